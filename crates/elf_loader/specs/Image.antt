@@ -1,0 +1,102 @@
+use Rattle.std.specs.Prelude.{◌≡◌, ℕ, ◌+◌, ◌-◌, ◌*◌, ◌&&◌, nat_lt, nat_le, Bool, true, List, [], ◌∷◌, map, fold, slice_index, Option, Some, None, Result, Ok, Err, if◌then◌else◌}
+use Rattle.std.specs.Option.{option_map_or}
+use Rattle.std.specs.List.{range_with_len, filter, list_any}
+use Rattle.std.specs.Int.RustNames.{bit_and, bit_or}
+use Rattle.ovl_io.specs.Permissions.{readable, writable, permits}
+use Rattle.ovl_io.specs.Memory.{Page}
+use Rattle.elf_loader.specs.Fields.{entry_of, loads_of}
+use Rattle.elf_loader.specs.Accepted.{refusal_of}
+use Rattle.elf_loader.specs.declared.header.ProgramHeader.{ProgramHeader}
+use Rattle.elf_loader.specs.declared.image.ImagePage.{ImagePage}
+use Rattle.elf_loader.specs.declared.image.ElfError.{ElfError}
+use Rattle.elf_loader.specs.declared.image.ElfError.TheVariants.{TooShort, NotYet, Memory}
+
+-- The image of a file (ELF-64, "Program Header" and "Process Image"). It is said address by address and
+-- page by page: which segment is the last to hold an address, and which segments touch a page.
+
+-- how many page numbers there are: user addresses are below 2^38, and a page has 4096 bytes. Both stand
+-- under names that don't unfold, so that no proof counts them out.
+unfoldable pub page_numbers : ℕ
+page_numbers = 67108864
+
+unfoldable pub page_length : ℕ
+page_length = 4096
+
+-- whether an address is in a header's file range
+abbrev pub holds : ProgramHeader → ℕ → Bool
+holds header address = nat_le header.address address && nat_lt address (header.address + header.file_size)
+
+-- the last of the headers whose file range holds an address
+abbrev pub last_holding : List ProgramHeader → ℕ → Option ProgramHeader
+last_holding [] address = None
+last_holding (header ∷ headers) address =
+    option_map_or Some (last_holding headers address) (if holds header address then Some header else None)
+
+-- the byte at an address: the file's byte of the last segment to hold it, else 0
+abbrev pub byte_in : List ProgramHeader → List ℕ → ℕ → ℕ
+byte_in headers file address =
+    option_map_or (λ header. slice_index file (header.offset + (address - header.address))) (last_holding headers address) 0
+
+-- whether a range of so many bytes from an address on has a byte in a page
+abbrev pub touches : ℕ → ℕ → ℕ → Bool
+touches address size page = nat_lt 0 size && nat_lt address (4096 * page + 4096) && nat_lt (4096 * page) (address + size)
+
+abbrev pub touches_memory : ℕ → ProgramHeader → Bool
+touches_memory page header = touches header.address header.memory_size page
+
+abbrev pub touches_file : ℕ → ProgramHeader → Bool
+touches_file page header = touches header.address header.file_size page
+
+-- a segment's permissions: the low three bits of its flags. What may be written may be read.
+abbrev pub perms_of : ProgramHeader → ℕ
+perms_of header =
+    let bits = bit_and header.flags 7 in
+    if permits bits writable then bit_or bits readable else bits
+
+-- a page's permissions: the union of those of the segments that touch it
+abbrev pub perms_in : List ProgramHeader → ℕ → ℕ
+perms_in headers page = fold (λ perms header. bit_or perms (perms_of header)) 0 (filter (touches_memory page) headers)
+
+-- the pages that some segment touches, ascending
+unfoldable pub pages_of : List ℕ → List ℕ
+pages_of file = filter (λ page. list_any (touches_memory page) (loads_of file)) (range_with_len 0 page_numbers)
+
+-- the 4096 bytes of a page
+unfoldable pub page_bytes : List ℕ → ℕ → List ℕ
+page_bytes file page = map (λ i. byte_in (loads_of file) file (4096 * page + i)) (range_with_len 0 page_length)
+
+-- a page of the image, as memory
+abbrev pub page_of : List ℕ → ℕ → Page
+page_of file page = record { perms = perms_in (loads_of file) page; bytes = page_bytes file page }
+
+-- whether a page is stored: some segment's file range touches it
+abbrev pub is_stored : List ℕ → ℕ → Bool
+is_stored file page = list_any (touches_file page) (loads_of file)
+
+-- What an `Image` keeps: the entry, the pages in ascending order with their permissions and marks, and
+-- the headers of the segments.
+pub record Kept : Type 0 where
+  pub entry : ℕ
+  pub pages : List ImagePage
+  pub loads : List ProgramHeader
+
+abbrev pub image_page : List ℕ → ℕ → ImagePage
+image_page file page = record { page = page; perms = record { 0 = perms_in (loads_of file) page }; stored = is_stored file page }
+
+-- a page that one segment alone touches, all of whose bytes are in the file
+abbrev pub stored_page : ProgramHeader → ℕ → ImagePage
+stored_page header page = record { page = page; perms = record { 0 = perms_of header }; stored = true }
+
+-- what is kept is the image of a file
+pub record IsImageOf (file : List ℕ) (image : Kept) : Type 0 where
+  pub taken : refusal_of file ≡ None
+  pub entry : image.entry ≡ entry_of file
+  pub pages : image.pages ≡ map (image_page file) (pages_of file)
+  pub loads : image.loads ≡ loads_of file
+
+-- What reading a file gives: its image where it is taken, else the reason, unless there is no memory.
+abbrev pub Reads : List ℕ → Result Kept ElfError → Type 0
+Reads file (Ok image) = IsImageOf file image
+Reads file (Err Memory) = Unit {0}
+Reads file (Err TooShort) = refusal_of file ≡ Some TooShort
+Reads file (Err NotYet) = refusal_of file ≡ Some NotYet

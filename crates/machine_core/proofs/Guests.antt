@@ -1,0 +1,53 @@
+use Rattle.std.proofs.Common.{◌≡◌, ℕ, true, false, cond, List, sym, ap, ◌∙◌, refl, Option, Some, None}
+use Rattle.std.specs.Option.{option_map, option_map_or, IsSome, is_some}
+use Rattle.std.specs.Ordering.{nat_cmp}
+use Rattle.std.specs.FinMap.{get, insert}
+use Rattle.std.specs.Map.{lookup}
+use Rattle.std.specs.BTreeMap.{is_at}
+use Rattle.ovl_io.specs.declared.process_state.ProcessState.{ProcessState}
+use Rattle.ovl_io.specs.declared.process_state.ProcessState.TheVariants.{Running, Exited, Faulted}
+use Rattle.ovl_io.specs.declared.turn.Turn.TheVariants.{Stepped}
+use Rattle.machine_core.specs.Process.{Process, runs}
+use Rattle.machine_core.specs.Machine.{Processes, is_running, turn_of, after_turn, step_of, process_after}
+use Rattle.machine_core.specs.Kept.{process_of, processes_of}
+use Rattle.machine_core.specs.declared.guest.Guest.{Guest}
+use Rattle.machine_core.proofs.Pages.{get_kept, changed_kept}
+
+-- What the kept processes say of those that they stand for.
+
+pub some_is : {X : Type 0} (o : Option X) (x : X) → Some x ≡ o → IsSome o
+some_is o x h = sym (ap is_some h)
+
+pub got : (processes : Processes) (kept : List (ℕ × Guest)) (p : ℕ) (found : Option Guest) → processes_of kept ≡ processes
+    → found ≡ lookup (is_at (nat_cmp p)) kept → get processes p ≡ option_map process_of found
+got processes kept p found same h = ap (λ ps. get ps p) (sym same) ∙ get_kept process_of kept p ∙ ap (option_map process_of) (sym h)
+
+running_is : (state : ProcessState) → runs state ≡ true → state ≡ Running
+running_is Running h = refl
+running_is (Exited code) h = cc
+running_is (Faulted kind address) h = cc
+
+-- one that is there and runs
+pub is_running_at : (processes : Processes) (p : ℕ) (process : Process) → get processes p ≡ Some process → is_running processes p ≡ runs process.state
+is_running_at processes p process there = ap (λ (o : Option Process). option_map_or (λ (q : Process). runs q.state) o false) there
+
+pub runs_at : (processes : Processes) (p : ℕ) (process : Process) → get processes p ≡ Some process → is_running processes p ≡ true → process.state ≡ Running
+runs_at processes p process there running = running_is process.state (sym (is_running_at processes p process there) ∙ running)
+
+pub not_running_at : (processes : Processes) (p : ℕ) → get processes p ≡ None → is_running processes p ≡ false
+not_running_at processes p absent = ap (λ (o : Option Process). option_map_or (λ (q : Process). runs q.state) o false) absent
+
+pub turn_at : (processes : Processes) (p : ℕ) (process : Process) → get processes p ≡ Some process → turn_of processes p ≡ (step_of p process).turn
+turn_at processes p process there = ap (λ (o : Option Process). option_map_or (λ (q : Process). (step_of p q).turn) o Stepped) there
+
+-- after a turn that left a kept process for another
+pub after_at : (processes : Processes) (kept new : List (ℕ × Guest)) (p : ℕ) (guest left : Guest) → processes_of kept ≡ processes
+    → Some guest ≡ lookup (is_at (nat_cmp p)) kept → process_of left ≡ process_after p (process_of guest)
+    → ((q : ℕ) → lookup (is_at (nat_cmp q)) new ≡ cond (is_at (nat_cmp p) q) (Some left) (lookup (is_at (nat_cmp q)) kept))
+    → processes_of new ≡ after_turn processes p
+after_at processes kept new p guest left same there turned changed =
+    let at = got processes kept p (Some guest) same there in
+    changed_kept process_of kept new p left changed
+    ∙ ap (λ (ps : Processes). insert ps p (process_of left)) same
+    ∙ ap (insert processes p) turned
+    ∙ sym (ap (λ (o : Option Process). option_map_or (λ (q : Process). insert processes p (process_after p q)) o processes) at)

@@ -1,0 +1,24 @@
+use Rattle.std.specs.Prelude.{ℕ, List, refl}
+use Rattle.std.specs.Coded.{Coded, code_by, coded×, coded_ℕ, coded_list}
+use Rattle.std.specs.FinMap.{code}
+use Rattle.ovl_io.specs.Memory.{Memory, Page}
+use Rattle.ovl_io.specs.declared.process_state.ProcessState.{ProcessState}
+use Rattle.ovl_io.specs.contracts.process_state.ProcessState as state
+use Rattle.machine_core.specs.Process.{Process}
+use Rattle.machine_core.specs.Machine.{Processes}
+
+-- How pages, memories and processes are told apart as values: by their parts.
+
+abbrev pub page_code : Coded Page
+page_code = code_by (ℕ × List ℕ) (coded× coded_ℕ (coded_list coded_ℕ)) (λ p. (p.perms, p.bytes)) (λ t. record { perms = t.0; bytes = t.1 }) (λ _. refl)
+
+abbrev pub memory_code : Coded Memory
+memory_code = code coded_ℕ page_code
+
+abbrev pub process_code : Coded Process
+process_code =
+    code_by (List ℕ × (ℕ × (ProcessState × Memory))) (coded× (coded_list coded_ℕ) (coded× coded_ℕ (coded× state.the_row.coded memory_code)))
+    (λ p. (p.regs, (p.pc, (p.state, p.memory)))) (λ t. record { regs = t.0; pc = t.1.0; state = t.1.1.0; memory = t.1.1.1 }) (λ _. refl)
+
+abbrev pub processes_code : Coded Processes
+processes_code = code coded_ℕ process_code

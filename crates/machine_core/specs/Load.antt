@@ -1,0 +1,40 @@
+use Rattle.std.specs.Prelude.{◌≡◌, ℕ, ◌+◌, ◌-◌, ◌^◌, List, ◌++◌, length, map, replicate, slice_set, Some, if◌then◌else◌}
+use Rattle.std.specs.List.{range_with_len, list_any}
+use Rattle.std.specs.Ordering.{nat_cmp, is_eq}
+use Rattle.std.specs.FinMap.{from_entries, get}
+use Rattle.ovl_io.specs.Memory.{Memory, Page}
+use Rattle.ovl_io.specs.declared.process_state.ProcessState.TheVariants.{Running}
+use Rattle.elf_loader.specs.Fields.{entry_of}
+use Rattle.elf_loader.specs.Image.{page_length, pages_of, page_of}
+use Rattle.machine_core.specs.Process.{Process}
+
+-- What a load makes of a file that is taken.
+
+-- the 16 pages below 2^38, which are the stack
+unfoldable pub stack_pages : List ℕ
+stack_pages = range_with_len 67108848 16
+
+-- a page of the stack: zero, to be read and written
+abbrev pub stack_page : Page
+stack_page = record { perms = 6; bytes = replicate page_length 0 }
+
+-- the pages of the image, and the stack
+abbrev pub memory_of : List ℕ → Memory
+memory_of file = from_entries (map (λ page. (page, page_of file page)) (pages_of file) ++ map (λ page. (page, stack_page)) stack_pages)
+
+-- a memory with the pages of an image over another's
+abbrev pub IsPlacedOver : List ℕ → Memory → Memory → Type 0
+IsPlacedOver file old new =
+    (page : ℕ) → get new page ≡ (if list_any (λ q. is_eq (nat_cmp page q)) (pages_of file) then Some (page_of file page) else get old page)
+
+-- how many pages that is
+abbrev pub page_count : List ℕ → ℕ
+page_count file = length (pages_of file) + 16
+
+-- x2, the stack pointer, is 2^38 - 16, and every other register is zero
+unfoldable pub first_registers : List ℕ
+first_registers = slice_set (replicate 32 0) 2 (2 ^ 38 - 16)
+
+-- the process, at its entry
+abbrev pub loaded : List ℕ → Process
+loaded file = record { regs = first_registers; pc = entry_of file; state = Running; memory = memory_of file }

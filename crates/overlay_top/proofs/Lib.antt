@@ -1,0 +1,10 @@
+pub mod Values
+pub mod Pieces
+pub mod Hexadecimal
+pub mod Fronts
+pub mod Texts
+pub mod TurnSteps
+pub mod Fresh
+pub mod Commands
+pub mod Runs
+pub mod Calls

@@ -1,0 +1,44 @@
+use Rattle.std.specs.Prelude.{ℕ, ◌+◌, ◌/◌, ◌%◌, suc, zero, Bool, false, List, [], ◌∷◌, Option, None, Some, slice_index, if◌then◌else◌}
+use Rattle.std.specs.Option.{option_map_or}
+use Rattle.std.specs.Ordering.{nat_cmp}
+use Rattle.std.specs.FinMap.{FinMap, get}
+use Rattle.ovl_io.specs.Permissions.{permits}
+
+-- A page: what may be done with it, and its 4096 bytes.
+pub record Page : Type 0 where
+  pub perms : ℕ
+  pub bytes : List ℕ
+
+-- A memory is a finite map from page numbers to pages. The byte at an address stands in the page of the
+-- address divided by 4096, at the place of the rest. Addresses are whole numbers and don't wrap.
+abbrev pub Memory : Type 0
+Memory = FinMap nat_cmp Page
+
+-- the byte at an address; 0 where its page isn't there
+abbrev pub byte_at : Memory → ℕ → ℕ
+byte_at memory address = option_map_or (λ page. slice_index page.bytes (address % 4096)) (get memory (address / 4096)) 0
+
+-- so many bytes from an address on
+abbrev pub bytes_at : Memory → ℕ → ℕ → List ℕ
+bytes_at memory address zero = []
+bytes_at memory address (suc more) = byte_at memory address ∷ bytes_at memory (address + 1) more
+
+-- An access is a need (a permission), an address and a length in bytes.
+pub record Access : Type 0 where
+  pub need : ℕ
+  pub address : ℕ
+  pub length : ℕ
+
+-- whether the byte at an address may be used so: its page is there and has the permission
+abbrev pub allows : Memory → ℕ → ℕ → Bool
+allows memory need address = option_map_or (λ page. permits page.perms need) (get memory (address / 4096)) false
+
+-- the least of so many addresses from one on that may not be used so
+abbrev pub first_denied : Memory → ℕ → ℕ → ℕ → Option ℕ
+first_denied memory need address zero = None
+first_denied memory need address (suc more) =
+    if allows memory need address then first_denied memory need (address + 1) more else Some address
+
+-- Where an access fails: the least of its addresses whose page isn't there or lacks the need.
+abbrev pub denied_at : Memory → Access → Option ℕ
+denied_at memory access = first_denied memory access.need access.address access.length

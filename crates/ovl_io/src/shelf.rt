@@ -1,0 +1,110 @@
+ghost use Rattle.std.specs.Prelude.{◌≡◌, ◌≢◌, ℕ, ◌≤◌, List, Option, length, IfOk, OnErr, vec_len};
+ghost use Rattle.std.specs.Option.{option_copied};
+ghost use Rattle.ovl_io.specs.Outside.{Rose, HasName, Answers, Refused, refusal_of, most_bytes};
+ghost use Rattle.ovl_io.specs.declared.shelf.ShelfError.TheVariants.{Failed, Missing};
+
+use arrayvec::ArrayVec;
+use std::alloc::Global;
+use std::marker::Model;
+
+/// The most bytes that a file may have: 16 MiB.
+pub const MOST_BYTES: usize = 16_777_216;
+
+/// Why a file wasn't given.
+#[derive(Clone, Copy, Debug, PartialEq, Eq)]
+pub enum ShelfError {
+    /// The fetch failed.
+    Failed,
+    /// No file has the name.
+    Missing,
+    /// The file has more than 16 MiB.
+    TooLong,
+    /// There is no memory for it.
+    Memory,
+}
+
+/// What a shelf's last fetch was refused: the name, and the answer.
+#[derive(Debug, Drop)]
+pub struct Refusal {
+    name: ArrayVec<u8, 255>,
+    answer: ShelfError,
+}
+
+impl Model for Refusal {
+    ghost use Rattle.ovl_io.specs.Outside.{Refused};
+
+    ghost Value = { Refused };
+
+    ghost view = { λ r. record { name = r.name.items; answer = r.answer } };
+}
+
+impl Refusal {
+    pub(crate) fn new(name: &[u8], answer: ShelfError) -> Refusal
+        requires { length name.now ≤ 255 }
+        ensures { result ≡ record { name = name.now; answer = answer } }
+    {
+        let mut kept = ArrayVec::new();
+        let _ = kept.try_extend_from_slice(name);
+        Refusal { name: kept, answer }
+    }
+
+    /// The name that was asked for, of 1 to 255 bytes.
+    pub fn name(&self) -> &[u8]
+        ensures { result.now ≡ self.now.name }
+    {
+        self.name.as_slice()
+    }
+
+    /// `Failed` or `Missing`.
+    pub fn answer(&self) -> ShelfError
+        ensures { result ≡ self.now.answer }
+    {
+        self.answer
+    }
+}
+
+/// Where files come from, by name.
+pub trait Shelf {
+    /// Holds where the object tells its files.
+    ghost tells: { Type 0 };
+
+    /// The file of a name, where there is one.
+    ghost files: { Self → List ℕ → Option (List ℕ) };
+
+    /// How many fetches have failed.
+    ghost faults: { Self → ℕ };
+
+    /// The name and the answer of the last fetch, where that answered `Failed` or `Missing`.
+    ghost refused: { Self → Option Refused };
+
+    /// The whole file of a name of 1 to 255 bytes. The files stay as they are.
+    fn fetch(&mut self, alloc: Global, name: &[u8]) -> Result<Vec<u8>, ShelfError>
+        requires { HasName name.now }
+        ensures answer { tells → Answers (λ file. file.items) (files self.old name.now) result }
+        ensures small { IfOk result (λ file. vec_len file ≤ most_bytes) }
+        ensures kept { tells → (other : List ℕ) → files self.new other ≡ files self.old other }
+        ensures cause { result ≡ Err Failed → Rose (faults self.old) (faults self.new) }
+        ensures missing { result ≡ Err Missing → faults self.new ≡ faults self.old }
+        ensures counted { faults self.old ≤ faults self.new }
+        ensures refused { refused self.new ≡ refusal_of name.now result };
+
+    /// What the last fetch was refused, if it failed or found no file.
+    fn refused(&self) -> Option<&Refusal>
+        ensures { option_copied result ≡ refused self.now };
+}
+
+/// A copy of a file that a shelf in memory has.
+pub(crate) fn copy_of(alloc: Global, file: &[u8]) -> Result<Vec<u8>, ShelfError>
+    ensures answer { Answers (λ copy. copy.items) (Some file.now) result }
+    ensures small { IfOk result (λ file. vec_len file ≤ most_bytes) }
+    ensures not_failed { result ≢ Err Failed }
+    ensures not_missing { result ≢ Err Missing }
+{
+    if file.len() > MOST_BYTES {
+        return Err(ShelfError::TooLong);
+    }
+    match Vec::from_slice(alloc, file) {
+        Ok(copy) => Ok(copy),
+        Err(_) => Err(ShelfError::Memory),
+    }
+}

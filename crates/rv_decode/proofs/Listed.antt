@@ -1,0 +1,114 @@
+-- Each name stands in the list of all names, and its row has that name.
+use Rattle.std.proofs.Common.{◌≡◌, Contains, refl, lit<}
+use Rattle.rv_decode.specs.declared.names.Name.{Name}
+use Rattle.rv_decode.specs.declared.names.Name.TheVariants.{Lui, Auipc, Jal, Jalr, Beq, Bne, Blt, Bge, Bltu, Bgeu, Lb, Lh, Lw, Ld, Lbu, Lhu, Lwu, Sb, Sh, Sw, Sd, Addi, Slti, Sltiu, Xori, Ori, Andi, Slli, Srli, Srai, Add, Sub, Sll, Slt, Sltu, Xor, Srl, Sra, Or, And, Addiw, Slliw, Srliw, Sraiw, Addw, Subw, Sllw, Srlw, Sraw, Fence, Ecall, Ebreak}
+use Rattle.rv_decode.specs.Table.{row_of, all_names}
+
+pub all_names-contains : (name : Name) → Contains all_names name
+all_names-contains Lui = (0, lit< tt, refl)
+all_names-contains Auipc = (1, lit< tt, refl)
+all_names-contains Jal = (2, lit< tt, refl)
+all_names-contains Jalr = (3, lit< tt, refl)
+all_names-contains Beq = (4, lit< tt, refl)
+all_names-contains Bne = (5, lit< tt, refl)
+all_names-contains Blt = (6, lit< tt, refl)
+all_names-contains Bge = (7, lit< tt, refl)
+all_names-contains Bltu = (8, lit< tt, refl)
+all_names-contains Bgeu = (9, lit< tt, refl)
+all_names-contains Lb = (10, lit< tt, refl)
+all_names-contains Lh = (11, lit< tt, refl)
+all_names-contains Lw = (12, lit< tt, refl)
+all_names-contains Ld = (13, lit< tt, refl)
+all_names-contains Lbu = (14, lit< tt, refl)
+all_names-contains Lhu = (15, lit< tt, refl)
+all_names-contains Lwu = (16, lit< tt, refl)
+all_names-contains Sb = (17, lit< tt, refl)
+all_names-contains Sh = (18, lit< tt, refl)
+all_names-contains Sw = (19, lit< tt, refl)
+all_names-contains Sd = (20, lit< tt, refl)
+all_names-contains Addi = (21, lit< tt, refl)
+all_names-contains Slti = (22, lit< tt, refl)
+all_names-contains Sltiu = (23, lit< tt, refl)
+all_names-contains Xori = (24, lit< tt, refl)
+all_names-contains Ori = (25, lit< tt, refl)
+all_names-contains Andi = (26, lit< tt, refl)
+all_names-contains Slli = (27, lit< tt, refl)
+all_names-contains Srli = (28, lit< tt, refl)
+all_names-contains Srai = (29, lit< tt, refl)
+all_names-contains Add = (30, lit< tt, refl)
+all_names-contains Sub = (31, lit< tt, refl)
+all_names-contains Sll = (32, lit< tt, refl)
+all_names-contains Slt = (33, lit< tt, refl)
+all_names-contains Sltu = (34, lit< tt, refl)
+all_names-contains Xor = (35, lit< tt, refl)
+all_names-contains Srl = (36, lit< tt, refl)
+all_names-contains Sra = (37, lit< tt, refl)
+all_names-contains Or = (38, lit< tt, refl)
+all_names-contains And = (39, lit< tt, refl)
+all_names-contains Addiw = (40, lit< tt, refl)
+all_names-contains Slliw = (41, lit< tt, refl)
+all_names-contains Srliw = (42, lit< tt, refl)
+all_names-contains Sraiw = (43, lit< tt, refl)
+all_names-contains Addw = (44, lit< tt, refl)
+all_names-contains Subw = (45, lit< tt, refl)
+all_names-contains Sllw = (46, lit< tt, refl)
+all_names-contains Srlw = (47, lit< tt, refl)
+all_names-contains Sraw = (48, lit< tt, refl)
+all_names-contains Fence = (49, lit< tt, refl)
+all_names-contains Ecall = (50, lit< tt, refl)
+all_names-contains Ebreak = (51, lit< tt, refl)
+
+-- the row of a name has that name
+pub name-row_of : (name : Name) → (row_of name).name ≡ name
+name-row_of Lui = refl
+name-row_of Auipc = refl
+name-row_of Jal = refl
+name-row_of Jalr = refl
+name-row_of Beq = refl
+name-row_of Bne = refl
+name-row_of Blt = refl
+name-row_of Bge = refl
+name-row_of Bltu = refl
+name-row_of Bgeu = refl
+name-row_of Lb = refl
+name-row_of Lh = refl
+name-row_of Lw = refl
+name-row_of Ld = refl
+name-row_of Lbu = refl
+name-row_of Lhu = refl
+name-row_of Lwu = refl
+name-row_of Sb = refl
+name-row_of Sh = refl
+name-row_of Sw = refl
+name-row_of Sd = refl
+name-row_of Addi = refl
+name-row_of Slti = refl
+name-row_of Sltiu = refl
+name-row_of Xori = refl
+name-row_of Ori = refl
+name-row_of Andi = refl
+name-row_of Slli = refl
+name-row_of Srli = refl
+name-row_of Srai = refl
+name-row_of Add = refl
+name-row_of Sub = refl
+name-row_of Sll = refl
+name-row_of Slt = refl
+name-row_of Sltu = refl
+name-row_of Xor = refl
+name-row_of Srl = refl
+name-row_of Sra = refl
+name-row_of Or = refl
+name-row_of And = refl
+name-row_of Addiw = refl
+name-row_of Slliw = refl
+name-row_of Srliw = refl
+name-row_of Sraiw = refl
+name-row_of Addw = refl
+name-row_of Subw = refl
+name-row_of Sllw = refl
+name-row_of Srlw = refl
+name-row_of Sraw = refl
+name-row_of Fence = refl
+name-row_of Ecall = refl
+name-row_of Ebreak = refl

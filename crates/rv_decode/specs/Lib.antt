@@ -1,0 +1,6 @@
+pub mod Table
+pub mod Fits
+pub mod Fields
+pub mod Meaning
+pub mod Encodable
+pub mod Encoding

@@ -1,0 +1,38 @@
+//! The decoder of RV64I: which instruction a word of 32 bits is, and which word an instruction has.
+//!
+//! The model is the instruction table: 52 rows, each with the bits that it fixes, what they are, a format and a name. A
+//! word means the one row whose fixed bits it has, with the fields and the immediate of that row's format, or nothing.
+//! The table and the formats are those of the RISC-V Unprivileged ISA manual.
+//!
+//! | Module | What it has |
+//! |---|---|
+//! | `names` | `Name` and `Format`: the instructions and the shapes of their words |
+//! | `rows` | `CaseRow`: one row of a table |
+//! | `table` | `CaseTable`: rows of which no word fits two, and the look-up by a word |
+//! | `base_table` | `rv64i`, the instruction table, and `Name::row` |
+//! | `instruction` | `Instr`: a name with its fields |
+//! | `decoder` | `decode`: from a word, by nested tests in place of a look-up |
+//! | `groups` | the decoder's parts, one for each major opcode |
+//! | `fields` | the registers and the immediate of a word, one function for each format |
+//! | `encoder` | `encode`: back to the word |
+#![tactic(auto)]
+
+mod base_table;
+mod decoder;
+mod encoder;
+mod fields;
+mod groups;
+mod instruction;
+mod names;
+mod rows;
+mod table;
+#[cfg(test)]
+mod tests;
+
+pub use base_table::rv64i;
+pub use decoder::decode;
+pub use encoder::encode;
+pub use instruction::Instr;
+pub use names::{Format, Name};
+pub use rows::CaseRow;
+pub use table::CaseTable;
