@@ -24,3 +24,6 @@ mod top;
 mod turns;
 
 pub use top::run_program;
+
+#[cfg(test)]
+mod tests;
