@@ -13,7 +13,8 @@ use Rattle.overlay_top.specs.declared.session.Answer.TheVariants.{Loaded, Refuse
 use Rattle.overlay_top.specs.declared.session.Stop.{Stop}
 use Rattle.overlay_top.specs.declared.session.Stop.TheVariants.{Limit, Ended}
 
--- The report: its lines as bytes, each with the byte 0A at its end. Numbers are decimal, addresses
+-- The report: its lines as bytes, each with the byte 0A at its end. Numbers are decimal; addresses are
+-- hexadecimal, in lower case and without leading zeros.
 
 abbrev pub hex_digit : ℕ → ℕ
 hex_digit d = if nat_lt d 10 then 48 + d else 87 + d

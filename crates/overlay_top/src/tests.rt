@@ -10,8 +10,17 @@ const ROOM: usize = 1_048_576;
 // addi x17, x0, 93; addi x10, x0, 7; ecall
 const EXIT_7: &[u32] = &[0x05D0_0893, 0x0070_0513, 0x0000_0073];
 
-// addi x5, x0, 1; then sb, which isn't in the table
-const STORES: &[u32] = &[0x0010_0293, 0x0051_0023];
+// addi x5, x0, 1; four times sb, which isn't in the table; addi x17, x0, 93; addi x10, x0, 0; ecall
+const STORES: &[u32] = &[
+    0x0010_0293,
+    0x0051_0023,
+    0xFC51_0023,
+    0xF851_0023,
+    0xF451_0023,
+    0x05D0_0893,
+    0x0000_0513,
+    0x0000_0073,
+];
 
 const EXITED: &[u8] = b"loaded 1 pages 17 entry 0x10078\nexited 1 7\nran 3 ended\n";
 
@@ -49,12 +58,38 @@ fn file_of(alloc: Global, words: &[u32]) -> Result<Vec<u8>, AllocError> {
     Ok(file)
 }
 
+// An ELF-64 file of 408 bytes with four program headers: two kinds that aren't loaded, text, and data with
+// bytes beyond the file's.
+fn file_of_two_segments(alloc: Global) -> Result<Vec<u8>, AllocError> {
+    let mut file = Vec::new(alloc);
+    file.extend_from_slice(b"\x7FELF\x02\x01\x01\0\0\0\0\0\0\0\0\0\x02\0\xF3\0\x01\0\0\0")?;
+    file.extend_from_slice(b"\x20\x01\x01\0\0\0\0\0\x40\0\0\0\0\0\0\0\0\0\0\0\0\0\0\0")?;
+    file.extend_from_slice(b"\0\0\0\0\x40\0\x38\0\x04\0\0\0\0\0\0\0")?;
+    // kind, permissions, then offset, address, size in the file and in memory
+    let headers: [(u32, u32, [u64; 4]); 4] = [
+        (0x7000_0003, 4, [0x198, 0, 0x20, 0]),
+        (1, 5, [0, 0x10000, 0x190, 0x190]),
+        (1, 6, [0x190, 0x11190, 8, 0x2000]),
+        (0x6474_E551, 6, [0, 0, 0, 0]),
+    ];
+    for (kind, permissions, [offset, address, size, memory]) in headers {
+        file.extend_from_slice(&kind.to_le_bytes())?;
+        file.extend_from_slice(&permissions.to_le_bytes())?;
+        for field in [offset, address, address, size, memory, 4096] {
+            file.extend_from_slice(&field.to_le_bytes())?;
+        }
+    }
+    file.extend_from_slice(&[0; 112])?;
+    file.extend_from_slice(&[1, 2, 3, 4, 5, 6, 7, 8])?;
+    Ok(file)
+}
+
 fn bytes_of(alloc: Global, bytes: &[u8]) -> Result<Bytes, AllocError> {
     Ok(Bytes::new(Vec::from_slice(alloc, bytes)?))
 }
 
-// The files of the tests: one that exits, one that faults, one whose kind isn't taken, one that is cut
-// short, and one that is too long.
+// The files of the tests: one that exits, one that faults, two that aren't taken, one that is cut short, and
+// one that is too long.
 fn shelf_of(alloc: Global, fails: &[u32]) -> Result<MemoryShelf, AllocError> {
     let exits = file_of(alloc, EXIT_7)?;
     let mut shared = file_of(alloc, EXIT_7)?;
@@ -72,6 +107,10 @@ fn shelf_of(alloc: Global, fails: &[u32]) -> Result<MemoryShelf, AllocError> {
         Bytes::new(file_of(alloc, STORES)?),
     ))?;
     files.push((bytes_of(alloc, b"shared.elf")?, Bytes::new(shared)))?;
+    files.push((
+        bytes_of(alloc, b"ld.elf")?,
+        Bytes::new(file_of_two_segments(alloc)?),
+    ))?;
     files.push((
         bytes_of(alloc, b"long.elf")?,
         Bytes::new(Vec::from_elem(alloc, 0u8, 16_777_217)?),
@@ -105,7 +144,7 @@ fn assert_call(
 
 #[test]
 fn a_script_is_reported(rt: HostRuntime) -> Result<(), Fail> {
-    let rows: [(&[u8], &[u8], u8); 16] = [
+    let rows: [(&[u8], &[u8], u8); 17] = [
         (b"", b"", 0),
         (b"exec a.elf 10", EXITED, 0),
         (b"exec a.elf 10\n", EXITED, 0),
@@ -122,6 +161,7 @@ fn a_script_is_reported(rt: HostRuntime) -> Result<(), Fail> {
             0,
         ),
         (b"exec shared.elf 1", b"refused E0 not-yet\n", 0),
+        (b"exec ld.elf 1", b"refused E0 not-yet\n", 0),
         (b"exec cut.elf 1", b"refused E1 too-short\n", 0),
         (b"exec none.elf 1", b"", 3),
         (b"exec long.elf 1", b"", 6),
