@@ -1,3 +1,5 @@
+ghost use Rattle.std.specs.Prelude.{◌≢◌};
+
 use crate::run_program;
 use ovl_io::{Bytes, CountSink, MemoryShelf, MemorySink, MemorySource, OneFileShelf, SureSource};
 use std::alloc::{AllocError, Global};
@@ -142,6 +144,20 @@ fn assert_call(
     Ok(())
 }
 
+// Over a source, a shelf and a sink that can't fail, no status says that one did.
+fn run_surely(
+    alloc: Global,
+    words: &[String],
+    script: &mut SureSource,
+    shelf: &mut OneFileShelf,
+    sink: &mut CountSink,
+) -> u8
+    ensures no_read_failed { result ≢ 3 }
+    ensures no_write_failed { result ≢ 4 }
+{
+    run_program(alloc, words, script, shelf, sink)
+}
+
 #[test]
 fn a_script_is_reported(rt: HostRuntime) -> Result<(), Fail> {
     let rows: [(&[u8], &[u8], u8); 17] = [
@@ -265,10 +281,10 @@ fn a_word_is_refused(rt: HostRuntime) -> Result<(), Fail> {
     let mut source = SureSource::new(Vec::from_slice(rt.alloc(), b"exec a.elf 10")?, 1);
     let mut shelf = OneFileShelf::new(file_of(rt.alloc(), EXIT_7)?);
     let mut sink = CountSink::new();
-    let status = run_program(rt.alloc(), &words, &mut source, &mut shelf, &mut sink);
+    let status = run_surely(rt.alloc(), &words, &mut source, &mut shelf, &mut sink);
     assert_eq!(rt; (status, sink.count()), (2, 0));
     // nothing was taken of the script: the same source gives all of it to the next call
-    let status = run_program(rt.alloc(), &[], &mut source, &mut shelf, &mut sink);
+    let status = run_surely(rt.alloc(), &[], &mut source, &mut shelf, &mut sink);
     assert_eq!(rt; (status, sink.count()), (0, 55));
     Ok(())
 }
