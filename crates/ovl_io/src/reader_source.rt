@@ -35,8 +35,8 @@ impl<R: Read> Source for ReaderSource<R> {
         ensures counted { read_faults self.old ≤ read_faults self.new }
 
         // Just a failed read is a fault, and where the reader's bytes are known it gives those.
-        ensures faults { OnErr result ((read_faults self.new) ≡ one_fault_more (read_faults self.old)) }
-        ensures no_fault { OnOk result ((read_faults self.new) ≡ (read_faults self.old)) }
+        ensures faults { OnErr result (read_faults self.new ≡ one_fault_more (read_faults self.old)) }
+        ensures no_fault { OnOk result (read_faults self.new ≡ read_faults self.old) }
         ensures bytes { ReadConsumes (R.remaining (reader_of self.old)) (R.remaining (reader_of self.new)) result into.new }
     {
         match self.reader.read(into) {
