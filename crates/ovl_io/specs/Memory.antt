@@ -1,7 +1,7 @@
-use Rattle.std.specs.Prelude.{ℕ, ◌+◌, ◌/◌, ◌%◌, suc, zero, Bool, false, List, [], ◌∷◌, Option, None, Some, slice_index, if◌then◌else◌}
+use Rattle.std.specs.Prelude.{ℕ, ◌+◌, ◌/◌, ◌%◌, suc, zero, Bool, false, List, [], ◌∷◌, Option, None, Some, slice_index, slice_set, if◌then◌else◌}
 use Rattle.std.specs.Option.{option_map_or}
 use Rattle.std.specs.Ordering.{nat_cmp}
-use Rattle.std.specs.FinMap.{FinMap, get}
+use Rattle.std.specs.FinMap.{FinMap, get, insert}
 use Rattle.ovl_io.specs.Permissions.{permits}
 
 -- A page: what may be done with it, and its 4096 bytes.
@@ -42,3 +42,17 @@ first_denied memory need address (suc more) =
 -- Where an access fails: the least of its addresses whose page isn't there or lacks the need.
 abbrev pub denied_at : Memory → Access → Option ℕ
 denied_at memory access = first_denied memory access.need access.address access.length
+
+-- a page after a byte of it was stored
+abbrev pub with_page_byte : ℕ → ℕ → Page → Page
+with_page_byte place value page = record { perms = page.perms; bytes = slice_set page.bytes place value }
+
+-- the memory after a byte was stored at an address; as it was where the page isn't there
+abbrev pub with_byte : Memory → ℕ → ℕ → Memory
+with_byte memory address value =
+    option_map_or (λ page. insert memory (address / 4096) (with_page_byte (address % 4096) value page)) (get memory (address / 4096)) memory
+
+-- the memory after bytes were stored from an address on, one by one
+abbrev pub with_bytes : Memory → ℕ → List ℕ → Memory
+with_bytes memory address [] = memory
+with_bytes memory address (b ∷ bytes) = with_bytes (with_byte memory address b) (address + 1) bytes

@@ -1,0 +1,3 @@
+pub mod Effects
+mod Examples
+pub mod CodePages

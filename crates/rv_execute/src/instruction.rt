@@ -1,0 +1,240 @@
+//! One instruction over registers and a memory.
+
+ghost use Rattle.std.specs.Prelude.{◌≡◌, ◌<◌, ◌≤◌, ℕ, IsTrue, None};
+ghost use Rattle.ovl_io.specs.Memory.{Memory};
+ghost use Rattle.rv_execute.specs.Registers.{next, with_register};
+ghost use Rattle.rv_execute.specs.Calls.{is_count, Performs};
+ghost use Rattle.rv_execute.specs.Execution.{action_on, count_of, effect, execution, Executes, extended, full_in, Reads};
+
+use crate::action::{Action, Extension, Size};
+use crate::arithmetic::extended_word;
+use crate::memory::{Denied, GuestMemory, Refused};
+use crate::outcome::Outcome;
+use crate::regs::Regs;
+use crate::rows::action_of;
+use byteorder::{ByteOrder, LittleEndian};
+use ovl_io::FaultKind;
+use rv_decode::{Instr, decode};
+
+impl Size {
+    /// How many bytes.
+    #[inline]
+    fn count(self) -> usize
+        ensures count { result ≡ count_of self }
+        ensures is_count { IsTrue (is_count result) }
+        ensures small { result ≤ 8 }
+    {
+        match self {
+            Size::Byte => 1,
+            Size::Half => 2,
+            Size::Word => 4,
+            Size::Double => 8,
+        }
+    }
+}
+
+/// A loaded number of so many bytes as 64 bits.
+#[inline]
+fn extended(extension: Extension, size: Size, n: u64) -> u64
+    ensures { result ≡ extended extension size n }
+{
+    match extension {
+        Extension::Zero => n,
+        Extension::Sign => match size {
+            Size::Byte => i64::from(((n % 256) as u8).cast_signed()).cast_unsigned(),
+            Size::Half => i64::from(((n % 65_536) as u16).cast_signed()).cast_unsigned(),
+            Size::Word => extended_word(n),
+            Size::Double => n,
+        },
+    }
+}
+
+/// Goes on behind the instruction.
+#[inline]
+fn next(regs: &mut Regs)
+    ensures { regs.new ≡ next regs.old }
+{
+    regs.set_pc(regs.pc().wrapping_add(4));
+}
+
+/// Writes a result and goes on behind the instruction.
+#[inline]
+fn write(regs: &mut Regs, rd: u8, value: u64) -> Outcome
+    requires { rd < 32 }
+    ensures value { regs.new ≡ next (with_register regs.old rd value) }
+    ensures outcome { result ≡ Outcome.Stepped }
+{
+    regs.set(rd, value);
+    next(regs);
+    Outcome::Stepped
+}
+
+/// The number of a load, with its extension.
+#[inline]
+fn read<M: GuestMemory>(
+    mem: &mut M,
+    address: u64,
+    size: Size,
+    extension: Extension,
+) -> Result<u64, Denied>
+    ensures answer { Reads (M.memory mem.old) address size extension result }
+    ensures kept { M.memory mem.new ≡ M.memory mem.old }
+    ensures made { M.loaded mem.old address (count_of size) mem.new }
+{
+    let count = size.count();
+    let mut buffer = [0; 8];
+    mem.load(address, &mut buffer[..count])?;
+    Ok(extended(
+        extension,
+        size,
+        LittleEndian::read_uint(&buffer[..count], count),
+    ))
+}
+
+/// Loads a number into a register.
+#[inline]
+fn load<M: GuestMemory>(
+    regs: &mut Regs,
+    mem: &mut M,
+    rd: u8,
+    address: u64,
+    size: Size,
+    extension: Extension,
+) -> Outcome
+    requires { rd < 32 }
+    ensures done { Executes (effect (Action.Load address size extension) rd regs.old (M.memory mem.old)) regs.old (M.memory mem.old) regs.new (M.memory mem.new) result }
+    ensures made { Performs M.fetched M.loaded M.stored (effect (Action.Load address size extension) rd regs.old (M.memory mem.old)).calls mem.old (full_in result) mem.new }
+{
+    match read(mem, address, size, extension) {
+        Ok(value) => write(regs, rd, value),
+        Err(denied) => Outcome::Fault(FaultKind::Load, denied.address),
+    }
+}
+
+/// Stores the low bytes of a value.
+#[inline]
+fn store<M: GuestMemory>(
+    regs: &mut Regs,
+    mem: &mut M,
+    address: u64,
+    size: Size,
+    value: u64,
+) -> Outcome
+    ensures done { (rd : ℕ) → Executes (effect (Action.Store address size value) rd regs.old (M.memory mem.old)) regs.old (M.memory mem.old) regs.new (M.memory mem.new) result }
+    ensures made { (rd : ℕ) → Performs M.fetched M.loaded M.stored (effect (Action.Store address size value) rd regs.old (M.memory mem.old)).calls mem.old (full_in result) mem.new }
+{
+    let bytes = value.to_le_bytes();
+    match mem.store(address, &bytes[..size.count()]) {
+        Ok(()) => {
+            next(regs);
+            Outcome::Stepped
+        }
+        Err(Refused::At(at)) => Outcome::Fault(FaultKind::Store, at),
+        Err(Refused::Full(units, limit)) => Outcome::Full(units, limit),
+    }
+}
+
+/// Jumps to a target, and writes the address behind the instruction to a register; nothing of this where the target
+/// isn't a multiple of 4.
+#[inline]
+fn link(regs: &mut Regs, rd: u8, target: u64) -> Outcome
+    requires { rd < 32 }
+    ensures done { (memory : Memory) → Executes (effect (Action.Link target) rd regs.old memory) regs.old memory regs.new memory result }
+    ensures not_full { full_in result ≡ None }
+{
+    let behind = regs.pc().wrapping_add(4);
+    if target % 4 != 0 {
+        return Outcome::Fault(FaultKind::Align, target);
+    }
+    regs.set(rd, behind);
+    regs.set_pc(target);
+    Outcome::Stepped
+}
+
+/// Jumps to a target, where that is a multiple of 4.
+#[inline]
+fn go_to(regs: &mut Regs, target: u64) -> Outcome
+    ensures done { (memory : Memory) (rd : ℕ) → Executes (effect (Action.Goto target) rd regs.old memory) regs.old memory regs.new memory result }
+    ensures not_full { full_in result ≡ None }
+{
+    if target % 4 != 0 {
+        return Outcome::Fault(FaultKind::Align, target);
+    }
+    regs.set_pc(target);
+    Outcome::Stepped
+}
+
+/// What an instruction does on these registers. `rs1` and `rs2` are below 32.
+#[inline]
+fn action_on(i: &Instr, regs: &Regs) -> Action
+    requires rs1 { i.now.rs1 < 32 }
+    requires rs2 { i.now.rs2 < 32 }
+    ensures { result ≡ action_on i.now regs.now }
+{
+    let a = regs.get(i.rs1);
+    let b = regs.get(i.rs2);
+    action_of(i.name, a, b, i.imm.cast_unsigned(), regs.pc())
+}
+
+/// Does an instruction. `rd`, `rs1` and `rs2` are below 32.
+#[inline]
+fn perform<M: GuestMemory>(i: &Instr, regs: &mut Regs, mem: &mut M) -> Outcome
+    requires rd { i.now.rd < 32 }
+    requires rs1 { i.now.rs1 < 32 }
+    requires rs2 { i.now.rs2 < 32 }
+    ensures done { Executes (effect (action_on i.now regs.old) i.now.rd regs.old (M.memory mem.old)) regs.old (M.memory mem.old) regs.new (M.memory mem.new) result }
+    ensures made { Performs M.fetched M.loaded M.stored (effect (action_on i.now regs.old) i.now.rd regs.old (M.memory mem.old)).calls mem.old (full_in result) mem.new }
+{
+    match action_on(i, regs) {
+        Action::Write(value) => write(regs, i.rd, value),
+        Action::Link(target) => link(regs, i.rd, target),
+        Action::Goto(target) => go_to(regs, target),
+        Action::Load(address, size, extension) => {
+            load(regs, mem, i.rd, address, size, extension)
+        }
+        Action::Store(address, size, value) => store(regs, mem, address, size, value),
+        Action::Next => {
+            next(regs);
+            Outcome::Stepped
+        }
+        Action::Ask => {
+            next(regs);
+            Outcome::Asked
+        }
+        Action::Stop => Outcome::Fault(FaultKind::Break, regs.pc()),
+    }
+}
+
+/// One instruction of a process: the word at its pc, decoded and done as RV64I has it (RISC-V Unprivileged ISA, chapters
+/// "RV32I Base Integer Instruction Set" and "RV64I Base Integer Instruction Set"). The faults, in the order in which they
+/// are looked for:
+///
+/// | Kind | Where | Address |
+/// |---|---|---|
+/// | `Align` | pc isn't a multiple of 4 | pc |
+/// | `Fetch` | the page of pc isn't there or may not be executed | pc |
+/// | `Illegal` | no row of the instruction table fits the word | pc |
+/// | `Align` | the target of a jump or a taken branch isn't a multiple of 4; rd is not written | the target |
+/// | `Load`, `Store` | a byte lies in a page that isn't there or may not be read, written | the first such byte |
+/// | `Break` | EBREAK | pc |
+///
+/// `Full` comes exactly where the memory's `store` answered it, with its two numbers. After `Fault` and `Full` registers
+/// and memory are as before; after `Asked` pc is behind the ECALL, and nothing else has changed. The memory is asked for
+/// the accesses of the instruction, each once and in order, and for nothing else. Takes no memory.
+pub fn execute<M: GuestMemory>(regs: &mut Regs, mem: &mut M) -> Outcome
+    ensures done { Executes (execution regs.old (M.memory mem.old)) regs.old (M.memory mem.old) regs.new (M.memory mem.new) result }
+    ensures made { Performs M.fetched M.loaded M.stored (execution regs.old (M.memory mem.old)).calls mem.old (full_in result) mem.new }
+{
+    let pc = regs.pc();
+    if pc % 4 != 0 {
+        return Outcome::Fault(FaultKind::Align, pc);
+    }
+    let word = match mem.fetch(pc) {
+        Ok(word) => word,
+        Err(denied) => return Outcome::Fault(FaultKind::Fetch, denied.address),
+    };
+    match decode(word) {
+        Some(i) => perform(&i, regs, mem),
+        None => Outcome::Fault(FaultKind::Illegal, pc),
+    }
+}
