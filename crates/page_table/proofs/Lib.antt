@@ -1,0 +1,4 @@
+pub mod Entries
+pub mod Runs
+pub mod Bounds
+pub mod Next

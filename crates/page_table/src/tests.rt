@@ -1,0 +1,184 @@
+ghost use Rattle.std.specs.Prelude.{◌+◌, ◌^◌, ◌≤◌, IsTrue};
+ghost use Rattle.page_table.specs.Table.{IsFree, IsThere};
+
+use crate::{PageEntry, PageTable};
+use ovl_io::Perms;
+use std::alloc::AllocError;
+use std::process::Abort;
+use std::test::Fail;
+
+// 2^36 - 1
+const LAST: u64 = 0xF_FFFF_FFFF;
+
+const CODE: PageEntry = PageEntry {
+    perms: Perms::X,
+    frame: 7,
+};
+
+const DATA: PageEntry = PageEntry {
+    perms: Perms::W,
+    frame: 4_294_967_295,
+};
+
+// Whether none of the n pages from `from` on is there.
+fn is_free(table: &PageTable, from: u64, n: u32) -> bool
+    requires { from + n ≤ 2 ^ 36 }
+    ensures { IsTrue result → IsFree table.now from n }
+{
+    match table.next_from(from) {
+        Some((found, _)) => from + u64::from(n) <= found,
+        None => true,
+    }
+}
+
+// Whether all n pages from `from` on are there.
+fn is_there(table: &PageTable, from: u64, n: u32) -> bool
+    requires { from + n ≤ 2 ^ 36 }
+    ensures { IsTrue result → IsThere table.now from n }
+{
+    'asking: for i in 0..n {
+        if table.get(from + u64::from(i)).is_none() {
+            return false;
+        }
+    }
+    true
+}
+
+// Maps a few pages, which have to be free.
+fn map_pages(
+    rt: &impl Abort,
+    table: &mut PageTable,
+    from: u64,
+    n: u32,
+    entry: PageEntry,
+) -> Result<(), AllocError> {
+    assert!(rt; n < 1000 && table.len() < 1000);
+    assert!(rt; from <= LAST + 1 - u64::from(n));
+    assert!(rt; is_free(table, from, n));
+    table.map_pages(from, n, entry.perms, entry.frame)
+}
+
+// Unmaps pages, which have to be there.
+fn unmap(rt: &impl Abort, table: &mut PageTable, from: u64, n: u32) {
+    assert!(rt; n < 1000 && from <= LAST + 1 - u64::from(n));
+    assert!(rt; is_there(table, from, n));
+    table.unmap(from, n);
+}
+
+// Gives a page, which has to be there, another entry.
+fn set(rt: &impl Abort, table: &mut PageTable, page: u64, entry: PageEntry) {
+    assert!(rt; table.get(page).is_some());
+    table.set(page, entry);
+}
+
+// Asserts how many pages there are, and what each of these has.
+fn assert_pages(rt: &impl Abort, table: &PageTable, len: u32, rows: &[(u64, Option<PageEntry>)]) {
+    assert_eq!(rt; table.len(), len);
+    for &(page, entry) in rows {
+        assert_eq!(rt; table.get(page), entry, "page {page}");
+    }
+}
+
+#[test]
+fn pages_are_mapped_changed_and_unmapped(rt: HostRuntime) -> Result<(), Fail> {
+    let mut table = PageTable::new(rt.alloc());
+    assert_pages(&rt, &table, 0, &[(0, None), (10, None)]);
+
+    map_pages(&rt, &mut table, 10, 10, CODE)?;
+    let rows = [(9, None), (10, Some(CODE)), (19, Some(CODE)), (20, None)];
+    assert_pages(&rt, &table, 10, &rows);
+
+    set(&rt, &mut table, 12, DATA);
+    let rows = [(11, Some(CODE)), (12, Some(DATA)), (13, Some(CODE))];
+    assert_pages(&rt, &table, 10, &rows);
+
+    unmap(&rt, &mut table, 13, 3);
+    let rows = [(12, Some(DATA)), (13, None), (15, None), (16, Some(CODE))];
+    assert_pages(&rt, &table, 7, &rows);
+
+    map_pages(&rt, &mut table, 14, 2, DATA)?;
+    let rows = [
+        (13, None),
+        (14, Some(DATA)),
+        (15, Some(DATA)),
+        (16, Some(CODE)),
+    ];
+    assert_pages(&rt, &table, 9, &rows);
+
+    // no pages at all
+    map_pages(&rt, &mut table, 10, 0, DATA)?;
+    unmap(&rt, &mut table, 13, 0);
+    assert_pages(&rt, &table, 9, &rows);
+    Ok(())
+}
+
+#[test]
+fn the_last_page_is_a_page(rt: HostRuntime) -> Result<(), Fail> {
+    let mut table = PageTable::new(rt.alloc());
+    map_pages(&rt, &mut table, LAST - 1, 2, CODE)?;
+    unmap(&rt, &mut table, LAST - 1, 1);
+    let rows = [
+        (LAST - 1, None),
+        (LAST, Some(CODE)),
+        (LAST + 1, None),
+        (0, None),
+    ];
+    assert_pages(&rt, &table, 1, &rows);
+    assert_eq!(rt; table.next_from(LAST), Some((LAST, CODE)));
+    assert_eq!(rt; table.next_from(LAST + 1), None);
+    Ok(())
+}
+
+#[test]
+fn the_next_page_is_found(rt: HostRuntime) -> Result<(), Fail> {
+    let mut table = PageTable::new(rt.alloc());
+    assert_eq!(rt; table.next_from(0), None);
+    map_pages(&rt, &mut table, 5, 2, CODE)?;
+    map_pages(&rt, &mut table, 512, 1, DATA)?;
+    let rows = [
+        (0, Some((5, CODE))),
+        (5, Some((5, CODE))),
+        (6, Some((6, CODE))),
+        (7, Some((512, DATA))),
+        (512, Some((512, DATA))),
+        (513, None),
+        (0xFFFF_FFFF_FFFF_FFFF, None),
+    ];
+    for (page, next) in rows {
+        assert_eq!(rt; table.next_from(page), next, "from {page}");
+    }
+    Ok(())
+}
+
+#[test]
+fn a_copy_is_independent_of_its_source(rt: HostRuntime) -> Result<(), Fail> {
+    let mut table = PageTable::new(rt.alloc());
+    map_pages(&rt, &mut table, 1, 3, CODE)?;
+    let copy = table.copy()?;
+    set(&rt, &mut table, 1, DATA);
+    unmap(&rt, &mut table, 2, 2);
+    map_pages(&rt, &mut table, 4, 1, DATA)?;
+    let rows = [(1, Some(CODE)), (2, Some(CODE)), (3, Some(CODE)), (4, None)];
+    assert_pages(&rt, &copy, 3, &rows);
+    let rows = [(1, Some(DATA)), (2, None), (3, None), (4, Some(DATA))];
+    assert_pages(&rt, &table, 2, &rows);
+    Ok(())
+}
+
+// Run with each allocation failing in turn (`rt try --test --fail-alloc N`), this goes the other way.
+#[test]
+fn a_mapping_is_whole_or_nothing(rt: HostRuntime) -> Result<(), Fail> {
+    let mut table = PageTable::new(rt.alloc());
+    map_pages(&rt, &mut table, 10, 1, CODE)?;
+    match map_pages(&rt, &mut table, 11, 100, DATA) {
+        Ok(()) => {
+            let rows = [(10, Some(CODE)), (11, Some(DATA)), (110, Some(DATA))];
+            assert_pages(&rt, &table, 101, &rows);
+        }
+        Err(_) => {
+            assert_pages(&rt, &table, 1, &[(10, Some(CODE)), (11, None), (60, None)]);
+            assert_eq!(rt; table.next_from(11), None);
+        }
+    }
+    Ok(())
+}
