@@ -1,7 +1,8 @@
-use Rattle.std.proofs.Common.{◌≡◌, ℕ, ◌+◌, ◌-◌, ◌*◌, ◌<◌, Bool, true, false, cond, List, [], ◌∷◌, ◌++◌, length, take, get_or, sym, ap, ◌∙◌, refl, Option, Some, None, slice_index}
-use Rattle.std.proofs.lemmas.List.{take_more}
+use Rattle.std.proofs.Common.{◌≡◌, ℕ, ◌+◌, ◌-◌, ◌*◌, ◌<◌, ◌≤◌, Bool, true, false, cond, ◌&&◌, leb, ltb, List, [], ◌∷◌, ◌++◌, length, take, drop, get_or, arith, sym, ap, ◌∙◌, refl, Option, Some, None, slice_index}
+use Rattle.std.proofs.lemmas.Bool.Decides.{nat_tests}
+use Rattle.std.proofs.lemmas.List.{take_more, drop_more, take-append-drop}
 use Rattle.std.specs.Option.{option_map_or}
-use Rattle.elf_loader.specs.Image.{holds, last_holding, byte_in}
+use Rattle.elf_loader.specs.Image.{holds, fills, last_holding, byte_in}
 use Rattle.elf_loader.specs.declared.header.ProgramHeader.{ProgramHeader}
 
 -- Which of some headers is the last to hold an address, after one more header.
@@ -30,6 +31,45 @@ byte_in-push headers header file address =
         ≡ cond b (slice_index file (header.offset + (address - header.address))) (option_map_or (λ h. slice_index file (h.offset + (address - h.address))) last 0)
     chosen true last = refl
     chosen false last = refl
+
+pub byte_in_by : (xs ys : List ProgramHeader) (file : List ℕ) (address : ℕ) → last_holding xs address ≡ last_holding ys address
+    → byte_in xs file address ≡ byte_in ys file address
+byte_in_by xs ys file address same = ap (λ last. option_map_or (λ h. slice_index file (h.offset + (address - h.address))) last 0) same
+
+later_wins : (headers rest : List ProgramHeader) (address : ℕ) (last : ProgramHeader) → last_holding rest address ≡ Some last
+    → last_holding (headers ++ rest) address ≡ Some last
+later_wins [] rest address last h = h
+later_wins (first ∷ headers) rest address last h =
+    ap (λ later. option_map_or Some later (cond (holds first address) (Some first) None)) (later_wins headers rest address last h)
+
+-- one of two, where the second is there
+there : (later : Option ProgramHeader) (header : ProgramHeader) → (last : ProgramHeader) × (option_map_or Some later (Some header) ≡ Some last)
+there (Some last) header = (last, refl)
+there None header = (header, refl)
+
+some_last : (header : ProgramHeader) (rest : List ProgramHeader) (address : ℕ) → holds header address ≡ true
+    → (last : ProgramHeader) × (last_holding (header ∷ rest) address ≡ Some last)
+some_last header rest address h =
+    let found = there (last_holding rest address) header in
+    (found.0, ap (λ b. option_map_or Some (last_holding rest address) (cond b (Some header) None)) h ∙ found.1)
+
+-- where a header holds an address, those before it don't count
+pub from_there : (headers : List ProgramHeader) (i : ℕ) (d : ProgramHeader) (address : ℕ) → i < length headers
+    → holds (get_or headers i d) address ≡ true → last_holding (drop i headers) address ≡ last_holding headers address
+from_there headers i d address within h =
+    let found = some_last (get_or headers i d) (drop (i + 1) headers) address h in
+    let rest : last_holding (drop i headers) address ≡ Some found.0 =
+    ap (λ hs. last_holding hs address) (drop_more headers i d within) ∙ found.1 in
+    rest ∙ sym (ap (λ hs. last_holding hs address) (sym (take-append-drop i headers)) ∙ later_wins (take i headers) (drop i headers) address found.0 rest)
+
+held : (page address start size : ℕ) → (leb start (4096 * page) && leb (4096 * page + 4096) (start + size)) ≡ true → 4096 * page ≤ address
+    → address < 4096 * page + 4096 → (leb start address && ltb address (start + size)) ≡ true
+held page address start size fills low high = grind (arith, nat_tests)
+
+-- a header that fills a page holds each address in it
+pub held_by : (header : ProgramHeader) (page address : ℕ) → fills page header ≡ true → 4096 * page ≤ address → address < 4096 * page + 4096
+    → holds header address ≡ true
+held_by header page address f low high = held page address header.address header.file_size f low high
 
 -- no header, where a list is read past its end
 abbrev pub no_header : ProgramHeader

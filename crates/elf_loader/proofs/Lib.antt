@@ -1,6 +1,10 @@
 pub mod Places
-pub mod Taken
+pub mod Tables
 pub mod Holding
 pub mod Pages
 pub mod Ranges
-pub mod Touched
+pub mod Reaching
+pub mod Unions
+pub mod Filling
+pub mod Sweeping
+pub mod Taken

@@ -1,75 +1,153 @@
-use Rattle.std.proofs.Common.{◌≡◌, ℕ, ◌+◌, ◌*◌, ◌<◌, ◌≤◌, Bool, true, false, cond, ◌&&◌, ◌==◌, List, [], ◌∷◌, length, map, sym, ap, subst, ◌∙◌, refl, arith, Some, None, All, get_or}
-use Rattle.std.proofs.lemmas.Bool.{eqb-true, leb-true}
-use Rattle.std.specs.List.{range_with_len, filter}
-use Rattle.elf_loader.specs.Fields.{table_offset, table_length, header_at, headers_of, loads_of}
-use Rattle.elf_loader.specs.Accepted.{refusal_of, is_taken, is_whole_segment, image_end}
+use Rattle.std.proofs.Common.{◌≡◌, ℕ, ◌+◌, ◌*◌, ◌<◌, ◌≤◌, Bool, true, false, cond, not, ◌&&◌, ◌||◌, ltb, ◌==◌, List, [], ◌∷◌, ◌++◌, length, get_or, sym, ap, subst, ◌∙◌, refl, arith, Option, Some, None, All, map, Result, Ok, Err, IsErr, IsErrAnd}
+use Rattle.std.specs.List.{list_any}
+use Rattle.std.proofs.lemmas.Bool.{ltb-false, false_from_ne_true, lt-ltb, le-ltb}
+use Rattle.std.proofs.lemmas.Bool.Decides.{nat_tests}
+use Rattle.std.proofs.lemmas.List.Folds.{list_any_at}
+use Rattle.std.proofs.lemmas.List.Elements.{All-nil, All-cons}
+use Rattle.elf_loader.specs.Fields.{table_offset, table_length, loads_of}
+use Rattle.elf_loader.specs.Accepted.{Refusal, first_of, refusal_of, header_refusals, table_refusals, page_refusals, has_table_outside, HasTable, is_larger_in_file, is_outside_file, is_too_high, image_end, most_pages}
+use Rattle.elf_loader.specs.Image.{pages_in, pages_of, page_in, image_page, Kept, Reads}
+use Rattle.elf_loader.specs.Reach.{IsBelowStack, IsTooMany}
 use Rattle.elf_loader.specs.declared.header.ProgramHeader.{ProgramHeader}
-use Rattle.elf_loader.specs.declared.image.ElfError.TheVariants.{TooShort, NotYet}
+use Rattle.elf_loader.specs.declared.image.ElfError.{ElfError}
+use Rattle.elf_loader.specs.declared.image.ElfError.TheVariants.{TooManyPages, Memory}
 
--- What is known of a file that is taken.
+-- Why a file is refused, and what is known of one that is taken.
 
-both : (a b : Bool) → (a && b) ≡ true → (a ≡ true) × (b ≡ true)
-both true b h = (refl, h)
-both false b h = cc
+-- The first refusal of two lists.
 
-only_none : (short taken : Bool) → cond short (Some TooShort) (cond taken None (Some NotYet)) ≡ None → taken ≡ true
-only_none true t h = cc
-only_none false true h = refl
-only_none false false h = cc
+past : (b : Bool) (e : ElfError) (r s t : Option ElfError) → (r ≡ None → s ≡ t) → cond b (Some e) r ≡ None → cond b (Some e) s ≡ t
+past true e r s t others h = cc
+past false e r s t others h = others h
 
-pub taken_of : (file : List ℕ) → refusal_of file ≡ None → is_taken file ≡ true
-taken_of file h = only_none _ (is_taken file) h
+then_of : (xs ys : List Refusal) → first_of xs ≡ None → first_of (xs ++ ys) ≡ first_of ys
+then_of [] ys h = refl
+then_of (x ∷ xs) ys h = past x.holds x.error (first_of xs) (first_of (xs ++ ys)) (first_of ys) (then_of xs ys) h
 
--- a segment that lies in the file, and below the stack
-pub record Lies (file : List ℕ) (header : ProgramHeader) : Type 0 where
-  pub is_load : (header.kind == 1) ≡ true
-  pub some : 0 < header.file_size
-  pub same : header.file_size ≡ header.memory_size
-  pub in_file : header.offset + header.file_size ≤ length file
-  pub in_memory : header.address + header.memory_size ≤ image_end
+found : (b : Bool) (x e : ElfError) (r s : Option ElfError) → (r ≡ Some e → s ≡ Some e) → cond b (Some x) r ≡ Some e → cond b (Some x) s ≡ Some e
+found true x e r s others h = h
+found false x e r s others h = others h
 
-pub lies_of : (file : List ℕ) (header : ProgramHeader) → is_whole_segment file header ≡ true → Lies file header
-lies_of file header h =
-    let a = both _ _ h in
-    let b = both _ _ a.0 in
-    let c = both _ _ b.0 in
-    let d = both _ _ c.0 in
+some_of : (xs ys : List Refusal) (e : ElfError) → first_of xs ≡ Some e → first_of (xs ++ ys) ≡ Some e
+some_of [] ys e h = cc
+some_of (x ∷ xs) ys e h = found x.holds x.error e (first_of xs) (first_of (xs ++ ys)) (some_of xs ys e) h
+
+before : (b : Bool) (e : ElfError) (r s : Option ElfError) → (s ≡ None → r ≡ None) → cond b (Some e) s ≡ None → cond b (Some e) r ≡ None
+before true e r s others h = h
+before false e r s others h = others h
+
+none_before : (xs ys : List Refusal) → first_of (xs ++ ys) ≡ None → first_of xs ≡ None
+none_before [] ys h = refl
+none_before (x ∷ xs) ys h = before x.holds x.error (first_of xs) (first_of (xs ++ ys)) (none_before xs ys) h
+
+pub by_header : (file : List ℕ) (e : ElfError) → first_of (header_refusals file) ≡ Some e → refusal_of file ≡ Some e
+unfolding refusal_of
+by_header file e h = some_of (header_refusals file ++ table_refusals file) (page_refusals file) e (some_of (header_refusals file) (table_refusals file) e h)
+
+pub by_table : (file : List ℕ) (e : ElfError) → first_of (header_refusals file) ≡ None → first_of (table_refusals file) ≡ Some e → refusal_of file ≡ Some e
+unfolding refusal_of
+by_table file e h t =
+    some_of (header_refusals file ++ table_refusals file) (page_refusals file) e (then_of (header_refusals file) (table_refusals file) h ∙ t)
+
+pub by_pages : (file : List ℕ) → first_of (header_refusals file) ≡ None → first_of (table_refusals file) ≡ None
+    → refusal_of file ≡ cond (ltb most_pages (length (pages_of file))) (Some TooManyPages) None
+unfolding refusal_of page_refusals
+by_pages file h t =
+    then_of (header_refusals file ++ table_refusals file) (page_refusals file) (then_of (header_refusals file) (table_refusals file) h ∙ t)
+
+passes : (b : Bool) (e : ElfError) (r : Option ElfError) → cond b (Some e) r ≡ None → (b ≡ false) × (r ≡ None)
+passes true e r h = cc
+passes false e r h = (refl, h)
+
+-- none holds of refusals of which there is no first
+none_holds : (refusals : List Refusal) → first_of refusals ≡ None → All (λ r. r.holds ≡ false) refusals
+none_holds [] h = All-nil (λ r. r.holds ≡ false)
+none_holds (r ∷ rs) h =
+    let it = passes r.holds r.error (first_of rs) h in All-cons (λ r. r.holds ≡ false) r rs it.0 (none_holds rs it.1)
+
+-- what is read past the end of a list of refusals
+none : Refusal
+none = record { holds = false; error = TooManyPages }
+
+within : (n size at : ℕ) → ((n == 65535) || (not (n == 0) && ltb size (at + 56 * n))) ≡ false → 0 < n → at + 56 * n ≤ size
+within n size at h some = grind (arith, nat_tests)
+
+-- a file whose header passes is long enough to have one, and its table is in it
+pub record HeaderPasses (file : List ℕ) : Type 0 where
+  pub long : 64 ≤ length file
+  pub table : HasTable file
+
+pub header_passes : (file : List ℕ) → first_of (header_refusals file) ≡ None → HeaderPasses file
+unfolding header_refusals has_table_outside
+header_passes file h =
+    let all = none_holds (header_refusals file) h in
     record {
-      is_load = d.0;
-      some = leb-true _ _ d.1;
-      same = eqb-true _ _ c.1;
-      in_file = leb-true _ _ b.1;
-      in_memory = leb-true _ _ a.1;
+      long = ltb-false (length file) 64 (all 0 none (omega arith));
+      table = within (table_length file) (length file) (table_offset file) (all 8 none (omega arith));
     }
 
-pub segment_of : (file : List ℕ) → is_taken file ≡ true → Lies file (header_at file (table_offset file))
-segment_of file h = lies_of file _ (both _ _ h).1
+-- what is said of each segment of a file that is taken
+pub record Lies (file : List ℕ) (header : ProgramHeader) : Type 0 where
+  pub part : header.file_size ≤ header.memory_size
+  pub in_file : 0 < header.file_size → header.offset + header.file_size ≤ length file
+  pub below : 0 < header.memory_size → header.address + header.memory_size ≤ image_end
 
-one_header : (file : List ℕ) → is_taken file ≡ true → table_length file ≡ 1
-one_header file h = let a = both _ _ h in let b = both _ _ a.0 in let c = both _ _ b.1 in let d = both _ _ c.0 in eqb-true _ _ d.1
+none_of : (test : ProgramHeader → Bool) (headers : List ProgramHeader) → list_any test headers ≡ false → All (λ h. test h ≡ false) headers
+none_of test headers none k d h =
+    false_from_ne_true (test (get_or headers k d)) (λ is. let some = list_any_at test headers k d h is in cc)
 
-loads_from : (file : List ℕ) (n : ℕ) → n ≡ 1 → (header_at file (table_offset file)).kind == 1 ≡ true
-    → filter (λ header. header.kind == 1) (map (λ k. header_at file (table_offset file + 56 * k)) (range_with_len 0 n)) ≡ header_at file (table_offset file) ∷ []
-loads_from file n e is_load =
-    let from : table_offset file + 56 * 0 ≡ table_offset file = omega arith in
-    ap (λ m. filter (λ header. header.kind == 1) (map (λ k. header_at file (table_offset file + 56 * k)) (range_with_len 0 m))) e
-    ∙ ap (λ at. filter (λ header. header.kind == 1) (header_at file at ∷ [])) from
-    ∙ ap (λ b. cond b (header_at file (table_offset file) ∷ []) []) is_load
+inside : (some size end : ℕ) → (ltb 0 some && ltb size end) ≡ false → 0 < some → end ≤ size
+inside some size end h is = grind (arith, nat_tests)
 
--- its one segment is what it loads
-pub one_load : (file : List ℕ) → is_taken file ≡ true → loads_of file ≡ header_at file (table_offset file) ∷ []
-unfolding loads_of headers_of
-one_load file h = loads_from file (table_length file) (one_header file h) (segment_of file h).is_load
+pub all_lie : (file : List ℕ) → first_of (table_refusals file) ≡ None → All (Lies file) (loads_of file)
+unfolding table_refusals
+all_lie file h k d below =
+    let all = none_holds (table_refusals file) h in
+    let header = get_or (loads_of file) k d in
+    record {
+      part = ltb-false header.memory_size header.file_size (none_of is_larger_in_file (loads_of file) (all 1 none (omega arith)) k d below);
+      in_file = inside header.file_size (length file) (header.offset + header.file_size) (none_of (is_outside_file (length file)) (loads_of file) (all 2 none (omega arith)) k d below);
+      below = inside header.memory_size image_end (header.address + header.memory_size) (none_of is_too_high (loads_of file) (all 3 none (omega arith)) k d below);
+    }
 
--- each segment that it loads lies so
-pub all_lie : (file : List ℕ) → refusal_of file ≡ None → All (Lies file) (loads_of file)
-all_lie file h =
-    let taken = taken_of file h in
-    subst (All (Lies file)) (sym (one_load file taken)) (λ k d below.
-    let first : k ≡ 0 = omega arith in subst (λ n. Lies file (get_or (header_at file (table_offset file) ∷ []) n d)) (sym first) (segment_of file taken))
+pub all_below : (file : List ℕ) → first_of (table_refusals file) ≡ None → All IsBelowStack (loads_of file)
+all_below file h k d below = let lies = all_lie file h k d below in record { part = lies.part; below = lies.below }
 
-pub lies_at : (file : List ℕ) (headers : List ProgramHeader) (k : ℕ) (d : ProgramHeader) → refusal_of file ≡ None → headers ≡ loads_of file
-    → k < length headers → Lies file (get_or headers k d)
-lies_at file headers k d taken same below =
-    let P : List ProgramHeader → Type 0 = λ hs. k < length hs → Lies file (get_or hs k d) in
-    subst P (sym same) (λ h. all_lie file taken k d h) below
+table_passes : (file : List ℕ) → refusal_of file ≡ None → first_of (table_refusals file) ≡ None
+unfolding refusal_of
+table_passes file h =
+    let both = none_before (header_refusals file ++ table_refusals file) (page_refusals file) h in
+    sym (then_of (header_refusals file) (table_refusals file) (none_before (header_refusals file) (table_refusals file) both)) ∙ both
+
+pub taken_lie : (file : List ℕ) (headers : List ProgramHeader) → refusal_of file ≡ None → headers ≡ loads_of file → All (Lies file) headers
+taken_lie file headers taken same = subst (All (Lies file)) (sym same) (all_lie file (table_passes file taken))
+
+-- What reading a file answers.
+
+pub reads_error : (file : List ℕ) (e : ElfError) → refusal_of file ≡ Some e → Reads file (Err e)
+reads_error file Memory h = tt
+reads_error file e h = h
+
+pub reads_err : (file : List ℕ) (r : Result Kept ElfError) (e : ElfError) → IsErr r × IsErrAnd r (λ x. x ≡ e) → Reads file (Err e) → Reads file r
+reads_err file (Ok image) e is reads = let no_error = is.0 in cc
+reads_err file (Err x) e is reads = subst (λ x. Reads file (Err x)) (sym is.1) reads
+
+-- the pages are the image's where it has so many
+pub reads_too_many : (file : List ℕ) (e : ElfError) → first_of (header_refusals file) ≡ None → first_of (table_refusals file) ≡ None
+    → IsTooMany (length (pages_in (loads_of file))) e → Reads file (Err e)
+unfolding pages_of
+reads_too_many file TooManyPages h t many =
+    by_pages file h t ∙ ap (λ b. cond b (Some TooManyPages) None) (lt-ltb most_pages (length (pages_in (loads_of file))) many)
+reads_too_many file Memory h t many = tt
+reads_too_many file e h t many = absurd many
+
+pub taken_by : (file : List ℕ) → first_of (header_refusals file) ≡ None → first_of (table_refusals file) ≡ None
+    → length (pages_in (loads_of file)) ≤ most_pages → refusal_of file ≡ None
+unfolding pages_of
+taken_by file h t few =
+    by_pages file h t ∙ ap (λ b. cond b (Some TooManyPages) None) (le-ltb most_pages (length (pages_in (loads_of file))) few)
+
+pub image_pages : (file : List ℕ) (headers : List ProgramHeader) → headers ≡ loads_of file
+    → map (page_in headers) (pages_in headers) ≡ map (image_page file) (pages_of file)
+unfolding pages_of
+image_pages file headers same = ap (λ hs. map (page_in hs) (pages_in hs)) same

@@ -1,39 +1,119 @@
-use Rattle.std.specs.Prelude.{ℕ, ◌+◌, ◌==◌, ◌&&◌, nat_lt, nat_le, Bool, List, length, slice_index, Option, Some, None, if◌then◌else◌}
-use Rattle.elf_loader.specs.Fields.{file_type, machine, version, table_offset, table_entry_size, table_length, header_at}
+use Rattle.std.specs.Prelude.{ℕ, ◌<◌, ◌≤◌, ◌+◌, ◌*◌, ◌==◌, ◌&&◌, ◌||◌, not, nat_lt, Bool, List, [], ◌∷◌, ◌++◌, length, slice_index, Option, Some, None, if◌then◌else◌}
+use Rattle.std.specs.List.{list_any}
+use Rattle.elf_loader.specs.Fields.{file_type, machine, version, table_offset, table_entry_size, table_length, headers_of, loads_of}
+use Rattle.elf_loader.specs.Touched.{pages_of}
 use Rattle.elf_loader.specs.declared.header.ProgramHeader.{ProgramHeader}
 use Rattle.elf_loader.specs.declared.image.ElfError.{ElfError}
-use Rattle.elf_loader.specs.declared.image.ElfError.TheVariants.{TooShort, NotYet}
+use Rattle.elf_loader.specs.declared.image.ElfError.TheVariants.{TooShort, BadMagic, NotClass64, NotLittle, BadVersion, NotExec, NotRiscv, BadEntrySize, TableOutside, NeedsInterpreter, FileLarger, SegmentOutside, AddressOutside, NothingToLoad, TooManyPages}
+
+-- Which files are taken: those at which no refusal holds. Sums are of whole numbers and don't wrap.
+
+-- ELF-64, "ELF Header" and "File identification": what a static executable's file header says
+
+abbrev pub is_too_short : List ℕ → Bool
+is_too_short file = nat_lt (length file) 64
+
+unfoldable pub has_bad_magic : List ℕ → Bool
+has_bad_magic file =
+    not ((slice_index file 0 == 0x7F) && (slice_index file 1 == 0x45) && (slice_index file 2 == 0x4C) && (slice_index file 3 == 0x46))
+
+-- ELFCLASS64 is 2
+unfoldable pub is_not_class_64 : List ℕ → Bool
+is_not_class_64 file = not (slice_index file 4 == 2)
+
+-- ELFDATA2LSB is 1
+unfoldable pub is_not_little : List ℕ → Bool
+is_not_little file = not (slice_index file 5 == 1)
+
+-- EV_CURRENT is 1, in the identification and in the header
+unfoldable pub has_bad_version : List ℕ → Bool
+has_bad_version file = not (slice_index file 6 == 1) || not (version file == 1)
+
+-- ET_EXEC is 2
+unfoldable pub is_not_executable : List ℕ → Bool
+is_not_executable file = not (file_type file == 2)
+
+-- EM_RISCV is 243
+unfoldable pub is_not_riscv : List ℕ → Bool
+is_not_riscv file = not (machine file == 243)
+
+-- a table of program headers of another size than 56 bytes each
+unfoldable pub has_bad_entry_size : List ℕ → Bool
+has_bad_entry_size file = not (table_length file == 0) && not (table_entry_size file == 56)
+
+-- a table that isn't all in the file. 65,535 says that the number of headers stands elsewhere.
+unfoldable pub has_table_outside : List ℕ → Bool
+has_table_outside file =
+    (table_length file == 65535)
+    || (not (table_length file == 0) && nat_lt (length file) (table_offset file + 56 * table_length file))
+
+-- a table that is all in the file, where there are program headers
+abbrev pub HasTable : List ℕ → Type 0
+HasTable file = 0 < table_length file → table_offset file + 56 * table_length file ≤ length file
+
+-- ELF-64, "Program Header": what each header and each segment to load says
+
+-- PT_INTERP is 3
+abbrev pub names_interpreter : ProgramHeader → Bool
+names_interpreter header = header.kind == 3
+
+abbrev pub is_larger_in_file : ProgramHeader → Bool
+is_larger_in_file header = nat_lt header.memory_size header.file_size
+
+-- some of the segment's bytes would lie behind the end of the file
+abbrev pub is_outside_file : ℕ → ProgramHeader → Bool
+is_outside_file size header = nat_lt 0 header.file_size && nat_lt size (header.offset + header.file_size)
 
 -- the first address above what an image may use: the 16 pages of the stack lie above it
 abbrev pub image_end : ℕ
 image_end = 274877841408
 
--- ELF-64, "File identification": the magic bytes, 64-bit, little-endian, and the current version
-abbrev pub is_elf_64 : List ℕ → Bool
-is_elf_64 file =
-    (slice_index file 0 == 0x7F) && (slice_index file 1 == 0x45) && (slice_index file 2 == 0x4C) && (slice_index file 3 == 0x46)
-    && (slice_index file 4 == 2) && (slice_index file 5 == 1) && (slice_index file 6 == 1)
+abbrev pub is_too_high : ProgramHeader → Bool
+is_too_high header = nat_lt 0 header.memory_size && nat_lt image_end (header.address + header.memory_size)
 
--- a static executable (ET_EXEC is 2) for RISC-V (EM_RISCV is 243) of the current version
-abbrev pub is_for_riscv : List ℕ → Bool
-is_for_riscv file = (file_type file == 2) && (machine file == 243) && (version file == 1)
+abbrev pub has_memory : ProgramHeader → Bool
+has_memory header = nat_lt 0 header.memory_size
 
--- a table of one program header, inside the file
-abbrev pub has_one_header : List ℕ → Bool
-has_one_header file =
-    (table_entry_size file == 56) && (table_length file == 1) && nat_le (table_offset file + 56) (length file)
+-- how many pages an image may have
+abbrev pub most_pages : ℕ
+most_pages = 65536
 
--- a segment to load whose bytes are all in the file, and whose addresses are below the stack
-abbrev pub is_whole_segment : List ℕ → ProgramHeader → Bool
-is_whole_segment file header =
-    (header.kind == 1) && nat_lt 0 header.file_size && (header.file_size == header.memory_size)
-    && nat_le (header.offset + header.file_size) (length file) && nat_le (header.address + header.memory_size) image_end
+-- a test with the error that it gives where it holds
+pub record Refusal : Type 0 where
+  pub holds : Bool
+  pub error : ElfError
 
--- a file that is taken: one segment, all of it in the file
-abbrev pub is_taken : List ℕ → Bool
-is_taken file =
-    is_elf_64 file && is_for_riscv file && has_one_header file && is_whole_segment file (header_at file (table_offset file))
+-- the refusals in their order: by the file header, by the program headers, by the pages
+unfoldable pub header_refusals : List ℕ → List Refusal
+header_refusals file =
+    record { holds = is_too_short file; error = TooShort }
+    ∷ record { holds = has_bad_magic file; error = BadMagic }
+    ∷ record { holds = is_not_class_64 file; error = NotClass64 }
+    ∷ record { holds = is_not_little file; error = NotLittle }
+    ∷ record { holds = has_bad_version file; error = BadVersion }
+    ∷ record { holds = is_not_executable file; error = NotExec }
+    ∷ record { holds = is_not_riscv file; error = NotRiscv }
+    ∷ record { holds = has_bad_entry_size file; error = BadEntrySize }
+    ∷ record { holds = has_table_outside file; error = TableOutside }
+    ∷ []
 
--- why a file isn't taken: the first reason that holds
-abbrev pub refusal_of : List ℕ → Option ElfError
-refusal_of file = if nat_lt (length file) 64 then Some TooShort else (if is_taken file then None else Some NotYet)
+unfoldable pub table_refusals : List ℕ → List Refusal
+table_refusals file =
+    record { holds = list_any names_interpreter (headers_of file); error = NeedsInterpreter }
+    ∷ record { holds = list_any is_larger_in_file (loads_of file); error = FileLarger }
+    ∷ record { holds = list_any (is_outside_file (length file)) (loads_of file); error = SegmentOutside }
+    ∷ record { holds = list_any is_too_high (loads_of file); error = AddressOutside }
+    ∷ record { holds = not (list_any has_memory (loads_of file)); error = NothingToLoad }
+    ∷ []
+
+unfoldable pub page_refusals : List ℕ → List Refusal
+page_refusals file = record { holds = nat_lt most_pages (length (pages_of file)); error = TooManyPages } ∷ []
+
+-- the first refusal that holds
+abbrev pub first_of : List Refusal → Option ElfError
+first_of [] = None
+first_of (refusal ∷ refusals) = if refusal.holds then Some refusal.error else first_of refusals
+
+-- why a file isn't taken
+unfoldable pub refusal_of : List ℕ → Option ElfError
+refusal_of file = first_of (header_refusals file ++ table_refusals file ++ page_refusals file)

@@ -1,4 +1,4 @@
-use Rattle.std.specs.Prelude.{◌≡◌, ℕ, ◌+◌, ◌-◌, ◌*◌, ◌&&◌, nat_lt, nat_le, Bool, true, List, [], ◌∷◌, map, fold, slice_index, Option, Some, None, Result, Ok, Err, if◌then◌else◌}
+use Rattle.std.specs.Prelude.{◌≡◌, ℕ, ◌+◌, ◌-◌, ◌*◌, ◌&&◌, nat_lt, nat_le, Bool, List, [], ◌∷◌, map, fold, slice_index, Option, Some, None, Result, Ok, Err, if◌then◌else◌}
 use Rattle.std.specs.Option.{option_map_or}
 use Rattle.std.specs.List.{range_with_len, filter, list_any}
 use Rattle.std.specs.Int.RustNames.{bit_and, bit_or}
@@ -6,25 +6,26 @@ use Rattle.ovl_io.specs.Permissions.{readable, writable, permits}
 use Rattle.ovl_io.specs.Memory.{Page}
 use Rattle.elf_loader.specs.Fields.{entry_of, loads_of}
 use Rattle.elf_loader.specs.Accepted.{refusal_of}
+unfoldable pub use Rattle.elf_loader.specs.Touched.{page_numbers, touches, touches_memory, touches_file, pages_in, pages_of}
 use Rattle.elf_loader.specs.declared.header.ProgramHeader.{ProgramHeader}
 use Rattle.elf_loader.specs.declared.image.ImagePage.{ImagePage}
 use Rattle.elf_loader.specs.declared.image.ElfError.{ElfError}
-use Rattle.elf_loader.specs.declared.image.ElfError.TheVariants.{TooShort, NotYet, Memory}
+use Rattle.elf_loader.specs.declared.image.ElfError.TheVariants.{Memory}
 
 -- The image of a file (ELF-64, "Program Header" and "Process Image"). It is said address by address and
 -- page by page: which segment is the last to hold an address, and which segments touch a page.
 
--- how many page numbers there are: user addresses are below 2^38, and a page has 4096 bytes. Both stand
--- under names that don't unfold, so that no proof counts them out.
-unfoldable pub page_numbers : ℕ
-page_numbers = 67108864
-
+-- how many bytes a page has, under a name that doesn't unfold, so that no proof counts them out
 unfoldable pub page_length : ℕ
 page_length = 4096
 
 -- whether an address is in a header's file range
 abbrev pub holds : ProgramHeader → ℕ → Bool
 holds header address = nat_le header.address address && nat_lt address (header.address + header.file_size)
+
+-- whether all of a page is in a header's file range
+abbrev pub fills : ℕ → ProgramHeader → Bool
+fills page header = nat_le header.address (4096 * page) && nat_le (4096 * page + 4096) (header.address + header.file_size)
 
 -- the last of the headers whose file range holds an address
 abbrev pub last_holding : List ProgramHeader → ℕ → Option ProgramHeader
@@ -37,16 +38,6 @@ abbrev pub byte_in : List ProgramHeader → List ℕ → ℕ → ℕ
 byte_in headers file address =
     option_map_or (λ header. slice_index file (header.offset + (address - header.address))) (last_holding headers address) 0
 
--- whether a range of so many bytes from an address on has a byte in a page
-abbrev pub touches : ℕ → ℕ → ℕ → Bool
-touches address size page = nat_lt 0 size && nat_lt address (4096 * page + 4096) && nat_lt (4096 * page) (address + size)
-
-abbrev pub touches_memory : ℕ → ProgramHeader → Bool
-touches_memory page header = touches header.address header.memory_size page
-
-abbrev pub touches_file : ℕ → ProgramHeader → Bool
-touches_file page header = touches header.address header.file_size page
-
 -- a segment's permissions: the low three bits of its flags. What may be written may be read.
 abbrev pub perms_of : ProgramHeader → ℕ
 perms_of header =
@@ -56,10 +47,6 @@ perms_of header =
 -- a page's permissions: the union of those of the segments that touch it
 abbrev pub perms_in : List ProgramHeader → ℕ → ℕ
 perms_in headers page = fold (λ perms header. bit_or perms (perms_of header)) 0 (filter (touches_memory page) headers)
-
--- the pages that some segment touches, ascending
-unfoldable pub pages_of : List ℕ → List ℕ
-pages_of file = filter (λ page. list_any (touches_memory page) (loads_of file)) (range_with_len 0 page_numbers)
 
 -- the 4096 bytes of a page
 unfoldable pub page_bytes : List ℕ → ℕ → List ℕ
@@ -80,12 +67,16 @@ pub record Kept : Type 0 where
   pub pages : List ImagePage
   pub loads : List ProgramHeader
 
-abbrev pub image_page : List ℕ → ℕ → ImagePage
-image_page file page = record { page = page; perms = record { 0 = perms_in (loads_of file) page }; stored = is_stored file page }
+-- a page as some segments give it
+abbrev pub page_in : List ProgramHeader → ℕ → ImagePage
+page_in headers page = record {
+  page = page;
+  perms = record { 0 = perms_in headers page };
+  stored = list_any (touches_file page) headers;
+}
 
--- a page that one segment alone touches, all of whose bytes are in the file
-abbrev pub stored_page : ProgramHeader → ℕ → ImagePage
-stored_page header page = record { page = page; perms = record { 0 = perms_of header }; stored = true }
+abbrev pub image_page : List ℕ → ℕ → ImagePage
+image_page file page = page_in (loads_of file) page
 
 -- what is kept is the image of a file
 pub record IsImageOf (file : List ℕ) (image : Kept) : Type 0 where
@@ -94,9 +85,9 @@ pub record IsImageOf (file : List ℕ) (image : Kept) : Type 0 where
   pub pages : image.pages ≡ map (image_page file) (pages_of file)
   pub loads : image.loads ≡ loads_of file
 
--- What reading a file gives: its image where it is taken, else the reason, unless there is no memory.
+-- What reading a file gives: its image where it is taken, else the first refusal that holds, unless
+-- there is no memory.
 abbrev pub Reads : List ℕ → Result Kept ElfError → Type 0
 Reads file (Ok image) = IsImageOf file image
 Reads file (Err Memory) = Unit {0}
-Reads file (Err TooShort) = refusal_of file ≡ Some TooShort
-Reads file (Err NotYet) = refusal_of file ≡ Some NotYet
+Reads file (Err error) = refusal_of file ≡ Some error

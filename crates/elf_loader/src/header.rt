@@ -1,6 +1,7 @@
 ghost use Rattle.std.specs.Prelude.{◌≡◌, ℕ, ◌+◌, ◌-◌, ◌*◌, ◌^◌, ◌<◌, ◌≤◌, length, slice_index, if◌then◌else◌};
 ghost use Rattle.elf_loader.specs.Fields.{number_at, header_at};
-ghost use Rattle.elf_loader.specs.Image.{holds, perms_of};
+ghost use Rattle.elf_loader.specs.Accepted.{image_end, names_interpreter, is_larger_in_file, is_outside_file, is_too_high, has_memory};
+ghost use Rattle.elf_loader.specs.Image.{holds, fills, perms_of};
 
 use bitflags::Flags;
 use byteorder::{ByteOrder, LittleEndian};
@@ -8,6 +9,9 @@ use ovl_io::Perms;
 
 /// The bytes of a program header in the table.
 pub(crate) const HEADER_BYTES: usize = 56;
+
+/// The first address above what an image may use: the stack's 16 pages lie above it.
+const IMAGE_END: u64 = 274_877_841_408;
 
 /// A program header (ELF-64, "Program Header"): the fields that are read.
 #[derive(Clone, Copy, Debug, PartialEq, Eq)]
@@ -66,6 +70,35 @@ impl ProgramHeader {
         }
     }
 
+    /// Whether its part in the file is larger than it is in memory.
+    pub(crate) fn is_larger_in_file(&self) -> bool
+        ensures { result ≡ is_larger_in_file self.now }
+    {
+        self.memory_size < self.file_size
+    }
+
+    /// Whether some of its bytes would lie behind the end of a file of so many bytes.
+    pub(crate) fn is_outside_file(&self, size: u64) -> bool
+        ensures { result ≡ is_outside_file size self.now }
+    {
+        0 < self.file_size && (size < self.file_size || size - self.file_size < self.offset)
+    }
+
+    /// Whether it reaches above what an image may use.
+    pub(crate) fn is_too_high(&self) -> bool
+        ensures { result ≡ is_too_high self.now }
+    {
+        0 < self.memory_size
+            && (IMAGE_END < self.memory_size || IMAGE_END - self.memory_size < self.address)
+    }
+
+    /// Whether it has bytes in memory.
+    pub(crate) fn has_memory(&self) -> bool
+        ensures { result ≡ has_memory self.now }
+    {
+        0 < self.memory_size
+    }
+
     /// The segment's permissions: what may be written may be read.
     pub(crate) fn perms(&self) -> Perms
         ensures { result ≡ record { 0 = perms_of self.now } }
@@ -78,16 +111,30 @@ impl ProgramHeader {
         }
     }
 
+    /// Whether its bytes in the file fill a page.
+    pub(crate) fn fills(&self, page: u64) -> bool
+        requires { page < 2 ^ 26 }
+        ensures { result ≡ fills page self.now }
+    {
+        let base = page * 4096;
+        self.address <= base
+            && 4096 <= self.file_size
+            && base - self.address <= self.file_size - 4096
+    }
+
     /// Puts the bytes of the segment that lie in a page at their places in it. The other bytes stay.
     pub(crate) fn lay(&self, file: &[u8], page: u64, out: &mut [u8; 4096])
-        requires in_file { self.now.offset + self.now.file_size ≤ length file.now }
-        requires in_memory { self.now.address + self.now.file_size ≤ 2 ^ 38 }
+        requires in_file { 0 < self.now.file_size → self.now.offset + self.now.file_size ≤ length file.now }
+        requires in_memory { 0 < self.now.file_size → self.now.address + self.now.file_size ≤ 2 ^ 38 }
         requires is_page { page < 2 ^ 26 }
         ensures { (i : ℕ) → i < 4096 → slice_index out.new i
             ≡ (if holds self.now (4096 * page + i)
             then slice_index file.now (self.now.offset + (4096 * page + i - self.now.address))
             else slice_index out.old i) }
     {
+        if self.file_size == 0 {
+            return;
+        }
         let base = page * 4096;
         let start = base.max(self.address);
         let end = (base + 4096).min(self.address + self.file_size);

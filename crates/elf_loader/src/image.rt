@@ -1,27 +1,47 @@
-ghost use Rattle.std.specs.Prelude.{◌≡◌, ◌+◌, ◌-◌, ◌/◌, ◌^◌, ◌<◌, ◌≤◌, length, Contains, IfOk, Some, None, [], ◌∷◌, map, if◌then◌else◌};
-ghost use Rattle.std.specs.List.{range_with_len};
-ghost use Rattle.elf_loader.specs.Accepted.{is_elf_64, is_for_riscv, has_one_header, is_whole_segment, is_taken};
-ghost use Rattle.elf_loader.specs.Fields.{entry_of, header_at, table_offset};
-ghost use Rattle.elf_loader.specs.Image.{IsImageOf, Reads, page_bytes, stored_page};
+ghost use Rattle.std.specs.Prelude.{◌≡◌, ℕ, ◌+◌, ◌*◌, ◌^◌, ◌<◌, ◌≤◌, Contains, map, length, drop};
+ghost use Rattle.elf_loader.specs.Image.{IsImageOf, Reads, last_holding, page_bytes};
 
-use crate::header::{HEADER_BYTES, ProgramHeader, u16_at, u32_at, u64_at};
+use crate::header::{ProgramHeader, u64_at};
+use crate::refusals::{header_refusal, read_loads, table_refusal};
+use crate::sweep::touched_pages;
 use ovl_io::Perms;
 use std::alloc::{AllocError, Global};
 use std::marker::Model;
 
-/// The bytes of the file header.
-const FILE_HEADER_BYTES: usize = 64;
-
-/// The first address above what an image may use: the stack's 16 pages lie above it.
-const IMAGE_END: u64 = 274_877_841_408;
-
-/// Why a file isn't taken.
+/// Why a file isn't taken (ELF-64, "ELF Header" and "Program Header"). The first that holds is the answer;
+/// want of memory may come in its place. Sums don't wrap.
 #[derive(Clone, Copy, Debug, PartialEq, Eq)]
 pub enum ElfError {
     /// It has fewer than 64 bytes.
     TooShort,
-    /// It isn't a static executable for RISC-V with one segment, all of it in the file.
-    NotYet,
+    /// Bytes 0 to 3 aren't 7F 45 4C 46.
+    BadMagic,
+    /// Byte 4 isn't 2: the file isn't of the 64-bit class.
+    NotClass64,
+    /// Byte 5 isn't 1: its numbers aren't little-endian.
+    NotLittle,
+    /// Byte 6 isn't 1, or e_version isn't 1.
+    BadVersion,
+    /// e_type isn't 2: it isn't a static executable.
+    NotExec,
+    /// e_machine isn't 243.
+    NotRiscv,
+    /// It has program headers, and e_phentsize isn't 56.
+    BadEntrySize,
+    /// e_phnum is 65,535, or the table of program headers ends behind the file.
+    TableOutside,
+    /// Some program header has p_type 3: it asks for an interpreter.
+    NeedsInterpreter,
+    /// Some segment to load has more bytes in the file than in memory.
+    FileLarger,
+    /// Some segment to load has bytes in the file, and they end behind it.
+    SegmentOutside,
+    /// Some segment to load has bytes in memory, and they end above 2^38 - 65,536.
+    AddressOutside,
+    /// No segment to load has bytes in memory.
+    NothingToLoad,
+    /// The segments to load touch more than 65,536 different pages.
+    TooManyPages,
     /// There is no memory for its image.
     Memory,
 }
@@ -72,101 +92,28 @@ impl Image {
         ensures { out.new ≡ page_bytes file.now page }
     {
         out.fill(0);
-        for header in &self.loads {
+        let loads = self.loads.as_slice();
+        let first = last_to_fill(loads, page);
+        for header in &loads[first..] {
             header.lay(file, page, out);
         }
     }
 }
 
-/// Whether the first bytes are those of a 64-bit little-endian ELF file.
-fn is_elf_64(file: &[u8]) -> bool
-    requires { 64 ≤ length file.now }
-    ensures { result ≡ is_elf_64 file.now }
+/// The place of the last segment whose bytes fill a page, or 0 where none does: the segments before it give
+/// no byte of the page.
+fn last_to_fill(loads: &[ProgramHeader], page: u64) -> usize
+    requires { page < 2 ^ 26 }
+    ensures within { result ≤ length loads.now }
+    ensures rest { (a : ℕ) → 4096 * page ≤ a → a < 4096 * page + 4096 → last_holding (drop result loads.now) a ≡ last_holding loads.now a }
 {
-    file[0] == 0x7F
-        && file[1] == 0x45
-        && file[2] == 0x4C
-        && file[3] == 0x46
-        && file[4] == 2
-        && file[5] == 1
-        && file[6] == 1
-}
-
-/// Whether the file is a static executable for RISC-V.
-fn is_for_riscv(file: &[u8]) -> bool
-    requires { 64 ≤ length file.now }
-    ensures { result ≡ is_for_riscv file.now }
-{
-    u16_at(file, 16) == 2 && u16_at(file, 18) == 243 && u32_at(file, 20) == 1
-}
-
-/// Whether the file has one program header, inside it.
-fn has_one_header(file: &[u8]) -> bool
-    requires { 64 ≤ length file.now }
-    ensures { result ≡ has_one_header file.now }
-{
-    u16_at(file, 54) == 56
-        && u16_at(file, 56) == 1
-        && u64_at(file, 32) <= (file.len() - HEADER_BYTES) as u64
-}
-
-/// Whether the header is that of a segment to load, all of it in the file and below the stack.
-fn is_whole_segment(file: &[u8], header: &ProgramHeader) -> bool
-    ensures { result ≡ is_whole_segment file.now header.now }
-{
-    header.kind == 1
-        && 0 < header.file_size
-        && header.file_size == header.memory_size
-        && header.file_size <= file.len() as u64
-        && header.offset <= file.len() as u64 - header.file_size
-        && header.memory_size <= IMAGE_END
-        && header.address <= IMAGE_END - header.memory_size
-}
-
-/// The one program header of a file that is taken.
-fn taken_header(file: &[u8]) -> Option<ProgramHeader>
-    requires { 64 ≤ length file.now }
-    ensures { result ≡ (if is_taken file.now then Some (header_at file.now (table_offset file.now)) else None) }
-{
-    if !is_elf_64(file) || !is_for_riscv(file) || !has_one_header(file) {
-        return None;
+    let mut place = 0;
+    for (i, header) in loads.iter().enumerate() {
+        if header.fills(page) {
+            place = i;
+        }
     }
-    let header = ProgramHeader::read(file, u64_at(file, 32) as usize);
-    if is_whole_segment(file, &header) {
-        Some(header)
-    } else {
-        None
-    }
-}
-
-/// The pages that the segment touches.
-fn touched_pages(alloc: Global, header: &ProgramHeader) -> Result<Vec<ImagePage>, AllocError>
-    requires some { 0 < header.now.memory_size }
-    requires in_memory { header.now.address + header.now.memory_size ≤ 2 ^ 38 }
-    ensures { IfOk result (λ pages. let first = header.now.address / 4096 in pages.items
-        ≡ map (stored_page header.now)
-        (range_with_len first ((header.now.address + header.now.memory_size - 1) / 4096 + 1 - first))) }
-{
-    let first = header.address / 4096;
-    let end = (header.address + header.memory_size - 1) / 4096 + 1;
-    let perms = header.perms();
-    let mut pages = Vec::new(alloc);
-    for page in first..end {
-        pages.push(ImagePage {
-            page,
-            perms,
-            stored: true,
-        })?;
-    }
-    Ok(pages)
-}
-
-/// A list of one header.
-fn alone(alloc: Global, header: ProgramHeader) -> Result<Vec<ProgramHeader>, AllocError>
-    ensures { IfOk result (λ headers. headers.items ≡ header ∷ []) }
-{
-    let headers = vec![in alloc; header]?;
-    Ok(headers)
+    place
 }
 
 /// Reads the image of a file: where it is taken the image, else the first reason why it isn't. Takes
@@ -174,15 +121,14 @@ fn alone(alloc: Global, header: ProgramHeader) -> Result<Vec<ProgramHeader>, All
 pub fn read_image(alloc: Global, bytes: &[u8]) -> Result<Image, ElfError>
     ensures { Reads bytes.now result }
 {
-    if bytes.len() < FILE_HEADER_BYTES {
-        return Err(ElfError::TooShort);
+    if let Some(error) = header_refusal(bytes) {
+        return Err(error);
     }
-    let header = match taken_header(bytes) {
-        Some(header) => header,
-        None => return Err(ElfError::NotYet),
-    };
-    let pages = touched_pages(alloc, &header)?;
-    let loads = alone(alloc, header)?;
+    let loads = read_loads(alloc, bytes)?;
+    if let Some(error) = table_refusal(bytes, loads.as_slice()) {
+        return Err(error);
+    }
+    let pages = touched_pages(alloc, loads.as_slice())?;
     Ok(Image {
         entry: u64_at(bytes, 24),
         pages,

@@ -5,11 +5,15 @@
 //! segment to hold an address gives its byte); the code goes through the segments.
 //!
 //! - `header`: the numbers in a file, and a program header
+//! - `refusals`: the first reason by which a file isn't taken, and its segments to load
+//! - `sweep`: the pages that segments touch, with one way over the segments
 //! - `image`: `read_image`, `Image` with `entry`, `pages` and `fill_page`, `ImagePage`, `ElfError`
 #![tactic(auto)]
 
 mod header;
 mod image;
+mod refusals;
+mod sweep;
 
 pub use header::ProgramHeader;
 pub use image::{ElfError, Image, ImagePage, read_image};

@@ -1,4 +1,4 @@
-use Rattle.std.proofs.Common.{◌≡◌, ℕ, true, false, cond, List, sym, ap, ◌∙◌, refl, Option, Some, None}
+use Rattle.std.proofs.Common.{◌≡◌, ℕ, ◌==◌, ◌||◌, true, false, cond, List, sym, ap, ◌∙◌, refl, Option, Some, None}
 use Rattle.std.specs.Option.{option_map, option_map_or, IsSome, is_some}
 use Rattle.std.specs.Ordering.{nat_cmp}
 use Rattle.std.specs.FinMap.{get, insert}
@@ -7,11 +7,15 @@ use Rattle.std.specs.BTreeMap.{is_at}
 use Rattle.ovl_io.specs.declared.process_state.ProcessState.{ProcessState}
 use Rattle.ovl_io.specs.declared.process_state.ProcessState.TheVariants.{Running, Exited, Faulted}
 use Rattle.ovl_io.specs.declared.turn.Turn.TheVariants.{Stepped}
+use Rattle.ovl_io.specs.Memory.{Memory, Access}
+use Rattle.rv_execute.specs.declared.outcome.Outcome.TheVariants as outcome
+use Rattle.rv_execute.specs.Registers.{Registers, register}
+use Rattle.rv_execute.specs.Step.{write, exit, answered, request, no_such_request}
 use Rattle.machine_core.specs.Process.{Process, runs}
-use Rattle.machine_core.specs.Machine.{Processes, is_running, turn_of, after_turn, step_of, process_after}
+use Rattle.machine_core.specs.Machine.{Processes, is_running, execution_of, outcome_of, turn_asked}
 use Rattle.machine_core.specs.Kept.{process_of, processes_of}
 use Rattle.machine_core.specs.declared.guest.Guest.{Guest}
-use Rattle.machine_core.proofs.Pages.{get_kept, changed_kept}
+use Rattle.machine_core.proofs.Keys.{get_kept, changed_kept}
 
 -- What the kept processes say of those that they stand for.
 
@@ -37,17 +41,33 @@ runs_at processes p process there running = running_is process.state (sym (is_ru
 pub not_running_at : (processes : Processes) (p : ℕ) → get processes p ≡ None → is_running processes p ≡ false
 not_running_at processes p absent = ap (λ (o : Option Process). option_map_or (λ (q : Process). runs q.state) o false) absent
 
-pub turn_at : (processes : Processes) (p : ℕ) (process : Process) → get processes p ≡ Some process → turn_of processes p ≡ (step_of p process).turn
-turn_at processes p process there = ap (λ (o : Option Process). option_map_or (λ (q : Process). (step_of p q).turn) o Stepped) there
+pub outcome_at : (processes : Processes) (p : ℕ) (process : Process) → get processes p ≡ Some process → outcome_of processes p ≡ (execution_of process).outcome
+outcome_at processes p process there = ap (λ (o : Option Process). option_map_or (λ (q : Process). (execution_of q).outcome) o outcome.Stepped) there
 
--- after a turn that left a kept process for another
-pub after_at : (processes : Processes) (kept new : List (ℕ × Guest)) (p : ℕ) (guest left : Guest) → processes_of kept ≡ processes
-    → Some guest ≡ lookup (is_at (nat_cmp p)) kept → process_of left ≡ process_after p (process_of guest)
+pub asked_at : (accesses : List Access) (processes : Processes) (p : ℕ) (process : Process) → get processes p ≡ Some process
+    → turn_asked accesses processes p ≡ (request p process.registers process.memory accesses).turn
+asked_at accesses processes p process there =
+    ap (λ (o : Option Process). option_map_or (λ (q : Process). (request p q.registers q.memory accesses).turn) o Stepped) there
+
+-- a process was left for another
+pub left_at : (f : Process → Process) (processes : Processes) (kept new : List (ℕ × Guest)) (p : ℕ) (guest left : Guest) → processes_of kept ≡ processes
+    → Some guest ≡ lookup (is_at (nat_cmp p)) kept → process_of left ≡ f (process_of guest)
     → ((q : ℕ) → lookup (is_at (nat_cmp q)) new ≡ cond (is_at (nat_cmp p) q) (Some left) (lookup (is_at (nat_cmp q)) kept))
-    → processes_of new ≡ after_turn processes p
-after_at processes kept new p guest left same there turned changed =
+    → processes_of new ≡ option_map_or (λ (q : Process). insert processes p (f q)) (get processes p) processes
+left_at f processes kept new p guest left same there is changed =
     let at = got processes kept p (Some guest) same there in
     changed_kept process_of kept new p left changed
     ∙ ap (λ (ps : Processes). insert ps p (process_of left)) same
-    ∙ ap (insert processes p) turned
-    ∙ sym (ap (λ (o : Option Process). option_map_or (λ (q : Process). insert processes p (process_after p q)) o processes) at)
+    ∙ ap (insert processes p) is
+    ∙ sym (ap (λ (o : Option Process). option_map_or (λ (q : Process). insert processes p (f q)) o processes) at)
+
+-- what is asked for by a number
+pub request_of : (n p : ℕ) (regs : Registers) (memory : Memory) (accesses : List Access) → n ≡ register regs 17
+    → request p regs memory accesses
+    ≡ cond (n == 64) (write regs memory accesses)
+    (cond ((n == 93) || (n == 94)) (exit regs memory accesses)
+    (cond (n == 172) (answered p regs memory accesses) (answered no_such_request regs memory accesses)))
+request_of n p regs memory accesses is =
+    ap (λ (m : ℕ). cond (m == 64) (write regs memory accesses)
+    (cond ((m == 93) || (m == 94)) (exit regs memory accesses)
+    (cond (m == 172) (answered p regs memory accesses) (answered no_such_request regs memory accesses)))) (sym is)

@@ -1,4 +1,8 @@
-pub mod Pages
-pub mod Steps
-pub mod Guests
+pub mod Keys
+pub mod Results
+pub mod Accesses
+pub mod Pairs
+pub mod Frames
 pub mod Placing
+pub mod Images
+pub mod Guests

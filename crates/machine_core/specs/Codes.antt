@@ -4,6 +4,7 @@ use Rattle.std.specs.FinMap.{code}
 use Rattle.ovl_io.specs.Memory.{Memory, Page}
 use Rattle.ovl_io.specs.declared.process_state.ProcessState.{ProcessState}
 use Rattle.ovl_io.specs.contracts.process_state.ProcessState as state
+use Rattle.rv_execute.specs.Registers.{Registers}
 use Rattle.machine_core.specs.Process.{Process}
 use Rattle.machine_core.specs.Machine.{Processes}
 
@@ -15,10 +16,13 @@ page_code = code_by (ℕ × List ℕ) (coded× coded_ℕ (coded_list coded_ℕ))
 abbrev pub memory_code : Coded Memory
 memory_code = code coded_ℕ page_code
 
+abbrev pub registers_code : Coded Registers
+registers_code = code_by (ℕ × List ℕ) (coded× coded_ℕ (coded_list coded_ℕ)) (λ r. (r.pc, r.x)) (λ t. record { pc = t.0; x = t.1 }) (λ _. refl)
+
 abbrev pub process_code : Coded Process
 process_code =
-    code_by (List ℕ × (ℕ × (ProcessState × Memory))) (coded× (coded_list coded_ℕ) (coded× coded_ℕ (coded× state.the_row.coded memory_code)))
-    (λ p. (p.regs, (p.pc, (p.state, p.memory)))) (λ t. record { regs = t.0; pc = t.1.0; state = t.1.1.0; memory = t.1.1.1 }) (λ _. refl)
+    code_by (Registers × (ProcessState × Memory)) (coded× registers_code (coded× state.the_row.coded memory_code))
+    (λ p. (p.registers, (p.state, p.memory))) (λ t. record { registers = t.0; state = t.1.0; memory = t.1.1 }) (λ _. refl)
 
 abbrev pub processes_code : Coded Processes
 processes_code = code coded_ℕ process_code

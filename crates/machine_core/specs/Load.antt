@@ -1,4 +1,4 @@
-use Rattle.std.specs.Prelude.{◌≡◌, ℕ, ◌+◌, ◌-◌, ◌^◌, List, ◌++◌, length, map, replicate, slice_set, Some, if◌then◌else◌}
+use Rattle.std.specs.Prelude.{◌≡◌, ℕ, ◌+◌, ◌-◌, ◌^◌, List, ◌++◌, length, map, replicate, Some, if◌then◌else◌}
 use Rattle.std.specs.List.{range_with_len, list_any}
 use Rattle.std.specs.Ordering.{nat_cmp, is_eq}
 use Rattle.std.specs.FinMap.{from_entries, get}
@@ -6,6 +6,7 @@ use Rattle.ovl_io.specs.Memory.{Memory, Page}
 use Rattle.ovl_io.specs.declared.process_state.ProcessState.TheVariants.{Running}
 use Rattle.elf_loader.specs.Fields.{entry_of}
 use Rattle.elf_loader.specs.Image.{page_length, pages_of, page_of}
+use Rattle.rv_execute.specs.Registers.{first_registers}
 use Rattle.machine_core.specs.Process.{Process}
 
 -- What a load makes of a file that is taken.
@@ -31,10 +32,10 @@ IsPlacedOver file old new =
 abbrev pub page_count : List ℕ → ℕ
 page_count file = length (pages_of file) + 16
 
--- x2, the stack pointer, is 2^38 - 16, and every other register is zero
-unfoldable pub first_registers : List ℕ
-first_registers = slice_set (replicate 32 0) 2 (2 ^ 38 - 16)
+-- where the stack pointer begins: 16 below the first address above the stack
+abbrev pub stack_pointer : ℕ
+stack_pointer = 2 ^ 38 - 16
 
 -- the process, at its entry
 abbrev pub loaded : List ℕ → Process
-loaded file = record { regs = first_registers; pc = entry_of file; state = Running; memory = memory_of file }
+loaded file = record { registers = first_registers (entry_of file) stack_pointer; state = Running; memory = memory_of file }

@@ -1,5 +1,5 @@
-use Rattle.std.specs.Prelude.{ℕ, Bool, false}
-use Rattle.std.specs.Option.{option_map_or}
+use Rattle.std.specs.Prelude.{ℕ, Bool, false, List, Option}
+use Rattle.std.specs.Option.{option_map, option_map_or}
 use Rattle.std.specs.Ordering.{nat_cmp}
 use Rattle.std.specs.FinMap.{FinMap, get, insert}
 use Rattle.ovl_io.specs.declared.process_state.ProcessState.{ProcessState}
@@ -7,7 +7,12 @@ use Rattle.ovl_io.specs.declared.process_state.ProcessState.TheVariants as state
 use Rattle.ovl_io.specs.declared.turn.Turn.{Turn}
 use Rattle.ovl_io.specs.declared.turn.Turn.TheVariants.{Stepped, Wrote, Exited, Faulted, Full}
 use Rattle.machine_core.specs.Process.{Process, runs}
-use Rattle.machine_core.specs.Step.{Step, step}
+use Rattle.machine_core.specs.declared.process.Process as declared
+use Rattle.ovl_io.specs.Memory.{Access}
+use Rattle.rv_execute.specs.declared.outcome.Outcome.{Outcome}
+use Rattle.rv_execute.specs.declared.outcome.Outcome.TheVariants as outcome
+use Rattle.rv_execute.specs.Execution.{Execution, execution}
+use Rattle.rv_execute.specs.Step.{Step, request, step}
 
 -- The machine has processes by number. Each has a whole memory of its own.
 abbrev pub Processes : Type 0
@@ -16,6 +21,36 @@ Processes = FinMap nat_cmp Process
 -- whether there is a process of that number, and it runs
 abbrev pub is_running : Processes → ℕ → Bool
 is_running processes p = option_map_or (λ process. runs process.state) (get processes p) false
+
+-- what is shown of a process, without its memory
+abbrev pub shown : Process → declared.Process
+shown process = record { regs = process.registers; state = process.state }
+
+abbrev pub shown_at : Processes → ℕ → Option declared.Process
+shown_at processes p = option_map shown (get processes p)
+
+-- An instruction is done in two parts: its execution, and then what it asks for, where it is a request.
+
+-- what the execution of a process's next instruction does
+abbrev pub execution_of : Process → Execution
+execution_of process = execution process.registers process.memory
+
+abbrev pub state_executed : Outcome → ProcessState
+state_executed outcome.Stepped = state.Running
+state_executed outcome.Asked = state.Running
+state_executed (outcome.Fault kind address) = state.Faulted kind address
+state_executed (outcome.Full units limit) = state.Running
+
+abbrev pub executed : Process → Process
+executed process =
+    let e = execution_of process in
+    record { registers = e.registers; state = state_executed e.outcome; memory = e.memory }
+
+abbrev pub outcome_of : Processes → ℕ → Outcome
+outcome_of processes p = option_map_or (λ process. (execution_of process).outcome) (get processes p) outcome.Stepped
+
+abbrev pub after_execution : Processes → ℕ → Processes
+after_execution processes p = option_map_or (λ process. insert processes p (executed process)) (get processes p) processes
 
 -- the state of a running process after a turn
 abbrev pub state_after : Turn → ProcessState
@@ -27,11 +62,11 @@ state_after (Full units limit) = state.Running
 
 -- one instruction of a process
 abbrev pub step_of : ℕ → Process → Step
-step_of p process = step p process.regs process.pc process.memory
+step_of p process = step p process.registers process.memory
 
 -- the process after a step
 abbrev pub after_step : Step → Process
-after_step s = record { regs = s.regs; pc = s.pc; state = state_after s.turn; memory = s.memory }
+after_step s = record { registers = s.registers; state = state_after s.turn; memory = s.memory }
 
 -- the process afterwards
 abbrev pub process_after : ℕ → Process → Process
@@ -43,3 +78,11 @@ turn_of processes p = option_map_or (λ process. (step_of p process).turn) (get 
 
 abbrev pub after_turn : Processes → ℕ → Processes
 after_turn processes p = option_map_or (λ process. insert processes p (process_after p process)) (get processes p) processes
+
+-- what comes of a process's request, where these accesses were tried before
+abbrev pub turn_asked : List Access → Processes → ℕ → Turn
+turn_asked accesses processes p = option_map_or (λ process. (request p process.registers process.memory accesses).turn) (get processes p) Stepped
+
+abbrev pub after_asked : List Access → Processes → ℕ → Processes
+after_asked accesses processes p =
+    option_map_or (λ process. insert processes p (after_step (request p process.registers process.memory accesses))) (get processes p) processes

@@ -1,23 +1,14 @@
-use Rattle.std.specs.Prelude.{ℕ, ◌==◌, Bool, true, false, List, slice_index, slice_set, if◌then◌else◌}
+use Rattle.std.specs.Prelude.{Bool, true, false}
 use Rattle.ovl_io.specs.Memory.{Memory}
 use Rattle.ovl_io.specs.declared.process_state.ProcessState.{ProcessState}
 use Rattle.ovl_io.specs.declared.process_state.ProcessState.TheVariants.{Running, Exited, Faulted}
+use Rattle.rv_execute.specs.Registers.{Registers}
 
--- A process: its registers x0 to x31, its pc, its state and its whole memory (RISC-V Unprivileged ISA,
--- "Programmers' Model for Base Integer ISA").
+-- A process: its registers and pc, its state and its whole memory.
 pub record Process : Type 0 where
-  pub regs : List ℕ
-  pub pc : ℕ
+  pub registers : Registers
   pub state : ProcessState
   pub memory : Memory
-
--- the value of a register
-abbrev pub register : List ℕ → ℕ → ℕ
-register regs i = slice_index regs i
-
--- the registers after a result was written; one for x0, which stays zero, is dropped
-abbrev pub with_register : List ℕ → ℕ → ℕ → List ℕ
-with_register regs i value = if i == 0 then regs else slice_set regs i value
 
 -- whether a process that has this state still runs
 abbrev pub runs : ProcessState → Bool

@@ -1,109 +1,141 @@
-ghost use Rattle.std.specs.Prelude.{◌≡◌, ℕ, ◌<◌, List};
-ghost use Rattle.ovl_io.specs.Memory.{Access};
-ghost use Rattle.machine_core.specs.Process.{runs, with_register};
-ghost use Rattle.machine_core.specs.Step.{effect, request};
-ghost use Rattle.machine_core.specs.Machine.{after_step, process_after, step_of};
-ghost use Rattle.machine_core.specs.Kept.{process_of, memory_of};
+//! One process, and its turn.
 
-use crate::instruction::{Instruction, Name, decode};
-use crate::page::{Pages, fetch};
-use ovl_io::{FaultKind, ProcessState, Turn};
+ghost use Rattle.std.specs.Prelude.{◌≡◌, ℕ, ◌<◌, ◌≤◌, List, None, length};
+ghost use Rattle.rv_execute.specs.Registers.{with_register};
+ghost use Rattle.ovl_io.specs.Memory.{Access};
+ghost use Rattle.rv_execute.specs.Step.{exit, request, write};
+ghost use Rattle.rv_execute.specs.Execution.{execution};
+ghost use Rattle.machine_core.specs.Process.{runs};
+ghost use Rattle.machine_core.specs.Machine.{after_step, executed, execution_of};
+ghost use Rattle.machine_core.specs.Kept.{process_of};
+
+use crate::memory::PlainMemory;
+use crate::process::Process;
+use arrayvec::ArrayVec;
+use bitflags::Flags;
+use ovl_io::{Perms, ProcessState, Turn, Written};
+use rv_execute::{Outcome, execute};
+
+/// The requests that there are, by their numbers in a7: those of Linux for RISC-V.
+const WRITE: u64 = 64;
+
+const EXIT: u64 = 93;
+
+const EXIT_GROUP: u64 = 94;
+
+const PROCESS_NUMBER: u64 = 172;
+
+/// What a write to another descriptor than 1 and 2 answers: -9.
+const BAD_DESCRIPTOR: u64 = u64::MAX - 8;
+
+/// What a write of bytes that may not be read answers: -14.
+const BAD_ADDRESS: u64 = u64::MAX - 13;
+
+/// What a request that there is none of answers: -38.
+const NO_SUCH_REQUEST: u64 = u64::MAX - 37;
+
+/// The most bytes that one write prints.
+const MOST_WRITTEN: u64 = 4096;
 
 /// A process as it is kept.
 #[derive(Drop)]
 pub struct Guest {
-    pub(crate) regs: [u64; 32],
-    pub(crate) pc: u64,
-    pub(crate) state: ProcessState,
-    pub(crate) pages: Pages,
+    pub(crate) process: Process,
+    pub(crate) memory: PlainMemory,
 }
 
-/// Writes a register; a result for x0 is dropped.
-fn write_register(regs: &mut [u64; 32], i: u8, value: u64)
-    requires { i < 32 }
-    ensures { regs.new ≡ with_register regs.old i value }
+/// The line of bytes that a process writes to a port.
+fn written(port: u8, bytes: &[u8]) -> Written
+    requires { length bytes.now ≤ 4096 }
+    ensures { result ≡ (port, bytes.now) }
 {
-    if i != 0 {
-        regs[i as usize] = value;
-    }
+    let mut kept = ArrayVec::new();
+    let _ = kept.try_extend_from_slice(bytes);
+    Written { port, bytes: kept }
 }
 
 impl Guest {
     /// Whether it runs.
     pub(crate) fn is_running(&self) -> bool
-        ensures { result ≡ runs self.now.state }
+        ensures { result ≡ runs self.now.process.state }
     {
-        match self.state {
+        match self.process.state {
             ProcessState::Running => true,
             ProcessState::Exited(_) | ProcessState::Faulted(_, _) => false,
         }
     }
 
-    /// Ends with a fault.
-    fn fault(&mut self, kind: FaultKind) -> Turn
-        ensures turn { result ≡ Turn.Faulted kind self.old.pc }
-        ensures after { self.new ≡ record self.old { state = ProcessState.Faulted kind self.old.pc } }
+    /// Gives a request its answer, in a0.
+    fn answer(&mut self, value: u64) -> Turn
+        requires { self.old.process.state ≡ ProcessState.Running }
+        ensures turn { result ≡ Turn.Stepped }
+        ensures after { self.new ≡ record self.old { process = record self.old.process { regs = with_register self.old.process.regs 10 value } } }
     {
-        self.state = ProcessState::Faulted(kind, self.pc);
-        Turn::Faulted(kind, self.pc)
-    }
-
-    /// Asks what ECALL asks for: to exit, or something that there is none of.
-    fn request(&mut self) -> Turn
-        requires { self.old.state ≡ ProcessState.Running }
-        ensures turn { (accesses : List Access) →
-            result ≡ (request self.old.regs self.old.pc (memory_of self.old.pages.entries) accesses).turn }
-        ensures after { (accesses : List Access) → process_of self.new
-            ≡ after_step (request self.old.regs self.old.pc (memory_of self.old.pages.entries) accesses) }
-    {
-        self.pc = self.pc.wrapping_add(4);
-        if self.regs[17] == 93 || self.regs[17] == 94 {
-            let code = (self.regs[10] % 256) as u8;
-            self.state = ProcessState::Exited(code);
-            return Turn::Exited(code);
-        }
-        write_register(&mut self.regs, 10, u64::MAX - 37);
+        self.process.regs.set(10, value);
         Turn::Stepped
     }
 
-    /// Does an instruction.
-    fn apply(&mut self, i: &Instruction) -> Turn
-        requires running { self.old.state ≡ ProcessState.Running }
-        requires rd { i.now.rd < 32 }
-        requires rs1 { i.now.rs1 < 32 }
-        ensures turn { (p : ℕ) (accesses : List Access) →
-            result ≡ (effect p i.now self.old.regs self.old.pc (memory_of self.old.pages.entries) accesses).turn }
-        ensures after { (p : ℕ) (accesses : List Access) → process_of self.new
-            ≡ after_step (effect p i.now self.old.regs self.old.pc (memory_of self.old.pages.entries) accesses) }
+    /// Prints up to 4096 bytes.
+    fn write(&mut self) -> Turn
+        requires { self.old.process.state ≡ ProcessState.Running }
+        ensures turn { (accesses : List Access) → result ≡ (write self.old.process.regs self.old.memory accesses).turn }
+        ensures after { (accesses : List Access) → process_of self.new ≡ after_step (write self.old.process.regs self.old.memory accesses) }
     {
-        match i.name {
-            Name::Addi => {
-                let sum = self.regs[i.rs1 as usize].wrapping_add(i.immediate);
-                write_register(&mut self.regs, i.rd, sum);
-                self.pc = self.pc.wrapping_add(4);
-                Turn::Stepped
+        let descriptor = self.process.regs.get(10);
+        if descriptor != 1 && descriptor != 2 {
+            return self.answer(BAD_DESCRIPTOR);
+        }
+        let count = self.process.regs.get(12).min(MOST_WRITTEN);
+        if count == 0 {
+            return self.answer(0);
+        }
+        let mut buffer = [0; 4096];
+        let bytes = &mut buffer[..count as usize];
+        match self.memory.read(self.process.regs.get(11), bytes, Perms::R) {
+            Ok(()) => {
+                self.process.regs.set(10, count);
+                Turn::Wrote(written(descriptor as u8, bytes))
             }
-            Name::Ecall => self.request(),
+            Err(_) => self.answer(BAD_ADDRESS),
         }
     }
 
-    /// Takes one turn: the instruction at pc.
-    #[tactic(auto, unfolding(crate::specs::Step::Fetches))]
-    pub(crate) fn turn(&mut self) -> Turn
-        requires { self.old.state ≡ ProcessState.Running }
-        ensures turn { (p : ℕ) → result ≡ (step_of p (process_of self.old)).turn }
-        ensures after { (p : ℕ) → process_of self.new ≡ process_after p (process_of self.old) }
+    /// Exits with the low 8 bits of a0.
+    fn exit(&mut self) -> Turn
+        ensures turn { (accesses : List Access) → result ≡ (exit self.old.process.regs self.old.memory accesses).turn }
+        ensures after { (accesses : List Access) → process_of self.new ≡ after_step (exit self.old.process.regs self.old.memory accesses) }
     {
-        if self.pc % 4 != 0 {
-            return self.fault(FaultKind::Align);
+        let code = (self.process.regs.get(10) % 256) as u8;
+        self.process.state = ProcessState::Exited(code);
+        Turn::Exited(code)
+    }
+
+    /// Does what ECALL asked for, as process `p`.
+    pub(crate) fn answer_request(&mut self, p: u16) -> Turn
+        requires { self.old.process.state ≡ ProcessState.Running }
+        ensures turn { (accesses : List Access) → result ≡ (request p self.old.process.regs self.old.memory accesses).turn }
+        ensures after { (accesses : List Access) → process_of self.new ≡ after_step (request p self.old.process.regs self.old.memory accesses) }
+    {
+        match self.process.regs.get(17) {
+            WRITE => self.write(),
+            EXIT => self.exit(),
+            EXIT_GROUP => self.exit(),
+            PROCESS_NUMBER => self.answer(u64::from(p)),
+            _ => self.answer(NO_SUCH_REQUEST),
         }
-        let word = match fetch(&self.pages, self.pc) {
-            Some(word) => word,
-            None => return self.fault(FaultKind::Fetch),
-        };
-        match decode(word) {
-            Some(i) => self.apply(&i),
-            None => self.fault(FaultKind::Illegal),
+    }
+
+    /// Executes the instruction at its pc.
+    #[inline]
+    pub(crate) fn execute(&mut self) -> Outcome
+        requires { self.old.process.state ≡ ProcessState.Running }
+        ensures outcome { result ≡ (execution_of (process_of self.old)).outcome }
+        ensures after { process_of self.new ≡ executed (process_of self.old) }
+    {
+        let outcome = execute(&mut self.process.regs, &mut self.memory);
+        if let Outcome::Fault(kind, address) = outcome {
+            self.process.state = ProcessState::Faulted(kind, address);
         }
+        outcome
     }
 }

@@ -2,23 +2,24 @@
 //! what one instruction does to them.
 //!
 //! The model of a `Machine` is a finite map from numbers to processes, whose memories are whole: finite
-//! maps from page numbers to pages. `event` is the step over such a memory; the code keeps plain pages
-//! and looks up only the page of an access.
+//! maps from page numbers to pages. `event` is the step over such a memory; the code keeps a page table
+//! and a list of frames, and looks up only the pages of an access.
 //!
-//! - `instruction`: a decoded instruction, and `decode`
-//! - `page`: plain pages, and the fetch
-//! - `guest`: one process, and its turn
+//! - `process`: what is shown of a process
+//! - `memory`: memories of plain pages
+//! - `guest`: one process, its turn, and what it asks for
 //! - `load`: what a load makes of an image
-//! - `machine`: `Machine` with `new`, `load`, `is_running` and `event`
+//! - `machine`: `Machine` with `new`, `load`, `process`, `is_running` and `event`
 #![tactic(auto)]
 
 mod guest;
-mod instruction;
 mod load;
 mod machine;
-mod page;
+mod memory;
+mod process;
 
 pub use machine::Machine;
+pub use process::Process;
 
 #[cfg(test)]
 mod tests;

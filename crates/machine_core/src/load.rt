@@ -1,15 +1,19 @@
-ghost use Rattle.std.specs.Prelude.{◌≡◌, ◌++◌, map, IfOk, OnOk};
-ghost use Rattle.std.specs.FinMap.{from_entries};
-ghost use Rattle.elf_loader.specs.Image.{IsImageOf, page_of, pages_of};
-ghost use Rattle.machine_core.specs.Load.{stack_page, stack_pages, first_registers, memory_of as image_memory, IsPlacedOver};
-ghost use Rattle.machine_core.specs.Kept.{memory_of};
+//! What a load makes of an image: its pages, and the stack.
 
-use crate::page::{Pages, PlainPage};
+ghost use Rattle.std.specs.Prelude.{◌≡◌, ℕ, ◌+◌, ◌^◌, ◌<◌, ◌≤◌, length, map, Contains, cond, IfOk, OnOk, Some, None};
+ghost use Rattle.std.specs.FinMap as map;
+ghost use Rattle.std.specs.List.{list_any};
+ghost use Rattle.std.specs.Ordering.{nat_cmp, is_eq};
+ghost use Rattle.elf_loader.specs.Image.{IsImageOf, is_stored, page_bytes, pages_of};
+ghost use Rattle.machine_core.specs.Load.{stack_page, stack_pages, memory_of as image_memory, IsPlacedOver};
+ghost use Rattle.machine_core.specs.Kept.{IsPlaced, memory_of};
+
+use crate::memory::{Frame, PlainMemory, add_page};
 use bitflags::Flags;
-use elf_loader::Image;
+use elf_loader::{Image, ImagePage};
 use ovl_io::Perms;
+use page_table::PageTable;
 use std::alloc::{AllocError, Global};
-use std::collections::BTreeMap;
 
 /// The lowest page of the stack, and the first page number above it: user addresses are below 2^38.
 const STACK_START: u64 = 67_108_848;
@@ -19,49 +23,75 @@ const STACK_END: u64 = 67_108_864;
 /// How many pages the stack has.
 pub(crate) const STACK_PAGES: u32 = 16;
 
-/// The stack: zero pages.
-fn stack(alloc: Global) -> Result<Pages, AllocError>
-    ensures { IfOk result (λ pages. memory_of pages.entries
-        ≡ from_entries (map (λ page. (page, stack_page)) stack_pages)) }
+/// Where the stack pointer begins: 16 below the first address above the stack.
+pub(crate) const STACK_POINTER: u64 = 274_877_906_928;
+
+/// Adds the stack: zero pages.
+fn add_stack(table: &mut PageTable, frames: &mut Vec<Frame>) -> Result<(), AllocError>
+    requires table { table.old ≡ map.empty }
+    requires frames { length frames.old.items ≡ 0 }
+    ensures placed { OnOk result (IsPlaced table.new frames.new.items) }
+    ensures as_many { OnOk result (map.len table.new ≡ length frames.new.items) }
+    ensures count { OnOk result (map.len table.new ≡ 16) }
+    ensures stack { OnOk result ((q : ℕ) → map.get (memory_of table.new frames.new.items) q
+        ≡ cond (list_any (λ p. is_eq (nat_cmp q p)) stack_pages) (Some stack_page) None) }
 {
-    let mut pages = BTreeMap::new(alloc);
     for page in STACK_START..STACK_END {
-        let zero = PlainPage::new(alloc, Perms::R.union(Perms::W), [0; 4096])?;
-        pages.insert(page, zero)?;
+        add_page(table, frames, page, Perms::R.union(Perms::W), [0; 4096])?;
     }
-    Ok(pages)
+    Ok(())
 }
 
-/// Puts the pages of an image over those that are there.
-fn place(alloc: Global, pages: &mut Pages, image: &Image, file: &[u8]) -> Result<(), AllocError>
-    requires { IsImageOf file.now image.now }
-    ensures { OnOk result (IsPlacedOver file.now (memory_of pages.old.entries) (memory_of pages.new.entries)) }
+/// The bytes of a page of an image; a page that isn't stored is zero.
+fn page_bytes(image: &Image, file: &[u8], image_page: ImagePage) -> Frame
+    requires of_file { IsImageOf file.now image.now }
+    requires is_there { Contains (map (λ p. p.page) image.now.pages) image_page.page }
+    requires marked { image_page.stored ≡ is_stored file.now image_page.page }
+    ensures { result ≡ page_bytes file.now image_page.page }
+{
+    if !image_page.stored {
+        return [0; 4096];
+    }
+    let mut bytes = [0; 4096];
+    image.fill_page(file, image_page.page, &mut bytes);
+    bytes
+}
+
+/// Adds the pages of an image to those of the stack.
+fn add_image(
+    table: &mut PageTable,
+    frames: &mut Vec<Frame>,
+    image: &Image,
+    file: &[u8],
+) -> Result<(), AllocError>
+    requires of_file { IsImageOf file.now image.now }
+    requires placed { IsPlaced table.old frames.old.items }
+    requires as_many { map.len table.old ≡ length frames.old.items }
+    requires count { map.len table.old ≡ 16 }
+    requires stack { (q : ℕ) → map.get (memory_of table.old frames.old.items) q
+        ≡ cond (list_any (λ p. is_eq (nat_cmp q p)) stack_pages) (Some stack_page) None }
+    ensures placed { OnOk result (IsPlaced table.new frames.new.items) }
+    ensures image { OnOk result (IsPlacedOver file.now (memory_of table.old frames.old.items) (memory_of table.new frames.new.items)) }
 {
     for image_page in image.pages() {
-        let mut bytes = [0; 4096];
-        image.fill_page(file, image_page.page, &mut bytes);
-        let page = PlainPage::new(alloc, image_page.perms, bytes)?;
-        pages.insert(image_page.page, page)?;
+        let bytes = page_bytes(image, file, *image_page);
+        add_page(table, frames, image_page.page, image_page.perms, bytes)?;
     }
     Ok(())
 }
 
 /// The whole memory of a process that is loaded: the stack, and the image.
-pub(crate) fn load_memory(alloc: Global, image: &Image, file: &[u8]) -> Result<Pages, AllocError>
+pub(crate) fn load_memory(
+    alloc: Global,
+    image: &Image,
+    file: &[u8],
+) -> Result<PlainMemory, AllocError>
     requires { IsImageOf file.now image.now }
-    ensures { IfOk result (λ pages. memory_of pages.entries ≡ image_memory file.now) }
+    ensures { IfOk result (λ memory. memory ≡ image_memory file.now) }
 {
-    let mut pages = stack(alloc)?;
-    place(alloc, &mut pages, image, file)?;
-    Ok(pages)
-}
-
-/// The registers at the start: x2, the stack pointer, is 16 below the first address above the stack.
-#[tactic(auto, unfolding(crate::specs::Load::first_registers))]
-pub(crate) fn first_registers() -> [u64; 32]
-    ensures { result ≡ first_registers }
-{
-    let mut regs = [0; 32];
-    regs[2] = 274_877_906_928;
-    regs
+    let mut table = PageTable::new(alloc);
+    let mut frames = Vec::new(alloc);
+    add_stack(&mut table, &mut frames)?;
+    add_image(&mut table, &mut frames, image, file)?;
+    Ok(PlainMemory { table, frames })
 }

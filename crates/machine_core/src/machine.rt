@@ -1,13 +1,19 @@
-ghost use Rattle.std.specs.Prelude.{◌≡◌, ◌+◌, ◌<◌, ◌≤◌, true, IfOk, None, OnOk, OnErr};
+//! The machine: processes by number.
+
+ghost use Rattle.std.specs.Prelude.{◌≡◌, ◌+◌, ◌<◌, ◌≤◌, List, true, IfOk, None, OnOk, OnErr};
 ghost use Rattle.std.specs.FinMap as map;
+ghost use Rattle.std.specs.Option.{option_copied};
 ghost use Rattle.elf_loader.specs.Image.{IsImageOf};
-ghost use Rattle.machine_core.specs.Machine.{is_running, turn_of, after_turn};
+ghost use Rattle.machine_core.specs.Machine.{is_running, shown_at, turn_of, after_turn, outcome_of, after_execution, turn_asked, after_asked};
+ghost use Rattle.ovl_io.specs.Memory.{Access};
 ghost use Rattle.machine_core.specs.Load.{loaded, page_count};
 
 use crate::guest::Guest;
-use crate::load::{STACK_PAGES, first_registers, load_memory};
+use crate::load::{STACK_PAGES, STACK_POINTER, load_memory};
+use crate::process::Process;
 use elf_loader::Image;
 use ovl_io::{ProcessState, Turn};
+use rv_execute::{Outcome, Regs};
 use std::alloc::{AllocError, Global};
 use std::collections::BTreeMap;
 use std::marker::Model;
@@ -53,15 +59,24 @@ impl Machine {
         ensures ok { OnOk result (self.new ≡ map.insert self.old p (loaded file.now)) }
         ensures err { OnErr result (self.new ≡ self.old) }
     {
-        let guest = Guest {
-            regs: first_registers(),
-            pc: image.entry(),
+        let process = Process {
+            regs: Regs::new(image.entry(), STACK_POINTER),
             state: ProcessState::Running,
-            pages: load_memory(self.alloc, image, file)?,
         };
+        let memory = load_memory(self.alloc, image, file)?;
         let pages = image.pages().len() as u32 + STACK_PAGES;
-        self.guests.insert(p, guest)?;
+        self.guests.insert(p, Guest { process, memory })?;
         Ok(pages)
+    }
+
+    /// The registers and the state of a process; none exactly where there is no process of that number.
+    pub fn process(&self, p: u16) -> Option<&Process>
+        ensures { option_copied result ≡ shown_at self.now p }
+    {
+        match self.guests.get(&p) {
+            Some(guest) => Some(&guest.process),
+            None => None,
+        }
     }
 
     /// Whether there is a process of that number, and it runs.
@@ -74,16 +89,44 @@ impl Machine {
         }
     }
 
-    /// One instruction of a running process, and what came of it. Looks up the process and the page at
-    /// its pc, and takes no memory.
+    /// Executes one instruction of a running process, but not what it asks for where it is ECALL: that is left to
+    /// `answer`. Looks up the process and the pages of its accesses, and takes no memory.
+    #[inline]
+    pub fn execute(&mut self, p: u16) -> Outcome
+        requires { is_running self.old p ≡ true }
+        ensures outcome { result ≡ outcome_of self.old p }
+        ensures after { self.new ≡ after_execution self.old p }
+    {
+        match self.guests.get_mut(&p) {
+            Some(guest) => guest.execute(),
+            None => unreachable!(),
+        }
+    }
+
+    /// Does what a running process asked for by ECALL, and answers what came of it. Takes no memory.
+    pub fn answer(&mut self, p: u16) -> Turn
+        requires { is_running self.old p ≡ true }
+        ensures turn { (accesses : List Access) → result ≡ turn_asked accesses self.old p }
+        ensures after { (accesses : List Access) → self.new ≡ after_asked accesses self.old p }
+    {
+        match self.guests.get_mut(&p) {
+            Some(guest) => guest.answer_request(p),
+            None => unreachable!(),
+        }
+    }
+
+    /// One instruction of a running process, and what came of it: an execution, and then what it asked for. Takes no
+    /// memory.
     pub fn event(&mut self, p: u16) -> Turn
         requires { is_running self.old p ≡ true }
         ensures turn { result ≡ turn_of self.old p }
         ensures after { self.new ≡ after_turn self.old p }
     {
-        match self.guests.get_mut(&p) {
-            Some(guest) => guest.turn(),
-            None => unreachable!(),
+        match self.execute(p) {
+            Outcome::Stepped => Turn::Stepped,
+            Outcome::Asked => self.answer(p),
+            Outcome::Fault(kind, address) => Turn::Faulted(kind, address),
+            Outcome::Full(units, limit) => Turn::Full(units, limit),
         }
     }
 }

@@ -1,21 +1,17 @@
 use crate::Machine;
 use crate::guest::Guest;
-use crate::instruction::{Instruction, Name, decode};
-use crate::load::{first_registers, load_memory};
-use crate::page::PlainPage;
+use crate::load::load_memory;
+use crate::memory::PlainMemory;
 use bitflags::Flags;
 use elf_loader::read_image;
 use ovl_io::{FaultKind, Perms, ProcessState, Turn};
+use rv_execute::{Denied, GuestMemory, Outcome, Refused, Regs};
 use std::alloc::{AllocError, Global};
-use std::collections::BTreeMap;
 use std::process::Abort;
 use std::test::Fail;
 
 // Where the code of a file usually stands.
 const CODE: u64 = 0x10078;
-
-// p_flags R and X.
-const READ_EXECUTE: u32 = 5;
 
 // The stack's first address.
 const STACK: u64 = 0x3F_FFFF_0000;
@@ -26,29 +22,52 @@ const STACK_TOP: u64 = 0x40_0000_0000;
 // addi x17, x0, 93; addi x10, x0, 7; ecall
 const EXIT_7: &[u32] = &[0x05D0_0893, 0x0070_0513, 0x0000_0073];
 
-// An ELF-64 file of one segment: these words, to stand at an address.
+// A segment without bytes in the file: p_flags, its address, and how many bytes it has.
+type Empty = (u32, u64, u64);
+
+fn push_header(file: &mut Vec<u8>, flags: u32, fields: [u64; 6]) -> Result<(), AllocError> {
+    file.extend_from_slice(b"\x01\0\0\0")?;
+    file.extend_from_slice(&flags.to_le_bytes())?;
+    for field in fields {
+        file.extend_from_slice(&field.to_le_bytes())?;
+    }
+    Ok(())
+}
+
+// An ELF-64 file that begins at an entry: a segment with these words, and others without bytes.
 fn file_of(
     alloc: Global,
     entry: u64,
     flags: u32,
     address: u64,
     words: &[u32],
+    others: &[Empty],
 ) -> Result<Vec<u8>, AllocError> {
     let size = words.len() as u64 * 4;
+    let headers = (others.len() % 100 + 1) as u8;
     let mut file = Vec::new(alloc);
     file.extend_from_slice(b"\x7FELF\x02\x01\x01\0\0\0\0\0\0\0\0\0\x02\0\xF3\0\x01\0\0\0")?;
     file.extend_from_slice(&entry.to_le_bytes())?;
-    file.extend_from_slice(b"\x40\0\0\0\0\0\0\0\0\0\0\0\0\0\0\0")?;
-    file.extend_from_slice(b"\0\0\0\0\x40\0\x38\0\x01\0\0\0\0\0\0\0")?;
-    file.extend_from_slice(b"\x01\0\0\0")?;
-    file.extend_from_slice(&flags.to_le_bytes())?;
-    for field in [120, address, address, size, size, 4096] {
-        file.extend_from_slice(&field.to_le_bytes())?;
+    file.extend_from_slice(b"\x40\0\0\0\0\0\0\0\0\0\0\0\0\0\0\0\0\0\0\0\x40\0\x38\0")?;
+    file.extend_from_slice(&[headers, 0, 0, 0, 0, 0, 0, 0])?;
+    let start = 64 + 56 * u64::from(headers);
+    push_header(
+        &mut file,
+        flags,
+        [start, address, address, size, size, 4096],
+    )?;
+    for &(flags, address, size) in others {
+        push_header(&mut file, flags, [0, address, address, 0, size, 4096])?;
     }
     for word in words {
         file.extend_from_slice(&word.to_le_bytes())?;
     }
     Ok(file)
+}
+
+// A file whose code may be read and executed, with other segments.
+fn code_with(alloc: Global, words: &[u32], others: &[Empty]) -> Result<Vec<u8>, AllocError> {
+    file_of(alloc, CODE, 5, CODE, words, others)
 }
 
 // Runs a process until it ends, for at most 20 turns: how many stepped, and how it ended.
@@ -65,6 +84,14 @@ fn run(rt: &impl Abort, machine: &mut Machine, p: u16) -> (usize, ProcessState) 
     (20, ProcessState::Running)
 }
 
+// A machine in which a file is process 1, and how many pages that has.
+fn loaded(alloc: Global, file: &[u8]) -> Result<(Machine, u32), Fail> {
+    let image = read_image(alloc, file)?;
+    let mut machine = Machine::new(alloc)?;
+    let pages = machine.load(1, &image, file)?;
+    Ok((machine, pages))
+}
+
 // Loads a file as process 1, runs it, and asserts its pages, how many turns stepped, and how it ended.
 fn assert_run(
     rt: &impl Abort,
@@ -73,10 +100,8 @@ fn assert_run(
     pages: u32,
     end: (usize, ProcessState),
 ) -> Result<(), Fail> {
-    let image = read_image(alloc, file)?;
-    let mut machine = Machine::new(alloc)?;
-    assert!(rt; !machine.is_running(1));
-    assert_eq!(rt; machine.load(1, &image, file)?, pages);
+    let (mut machine, count) = loaded(alloc, file)?;
+    assert_eq!(rt; count, pages);
     assert!(rt; machine.is_running(1));
     assert!(rt; !machine.is_running(0) && !machine.is_running(2));
     assert_eq!(rt; run(rt, &mut machine, 1), end);
@@ -84,30 +109,10 @@ fn assert_run(
     Ok(())
 }
 
-// A running process with these registers and one page, of number 2, that has a word at its byte 4.
-fn guest_of(
-    alloc: Global,
-    perms: Perms,
-    pc: u64,
-    word: u32,
-    regs: [u64; 32],
-) -> Result<Guest, AllocError> {
-    let mut bytes = [0; 4096];
-    bytes[4..8].copy_from_slice(&word.to_le_bytes());
-    let mut pages = BTreeMap::new(alloc);
-    pages.insert(2, PlainPage::new(alloc, perms, bytes)?)?;
-    Ok(Guest {
-        regs,
-        pc,
-        state: ProcessState::Running,
-        pages,
-    })
-}
-
 #[test]
 fn a_program_exits(rt: HostRuntime) -> Result<(), Fail> {
-    // the words, of which the last is the request to exit, and the exit code: 218 is the low byte of -38
-    // and 240 that of 2^38 - 16
+    // the words, of which the last is the request to exit, and the exit code: 218 is the low byte of -38,
+    // 240 that of 2^38 - 16
     let rows: [(&[u32], u8); 8] = [
         (EXIT_7, 7),
         // addi x17, x0, 94; addi x10, x0, 0x107; ecall
@@ -116,24 +121,24 @@ fn a_program_exits(rt: HostRuntime) -> Result<(), Fail> {
         (&[0x05D0_0893, 0xFFF0_0513, 0x0000_0073], 255),
         // ecall with x17 = 0; addi x17, x0, 93; ecall
         (&[0x0000_0073, 0x05D0_0893, 0x0000_0073], 218),
-        // addi x17, x0, 95; ecall; addi x17, x17, -2; ecall
-        (&[0x05F0_0893, 0x0000_0073, 0xFFE8_8893, 0x0000_0073], 218),
         // addi x17, x0, -2048; addi x17, x17, 2047; addi x17, x17, 94; ecall
         (&[0x8000_0893, 0x7FF8_8893, 0x05E8_8893, 0x0000_0073], 0),
         // addi x0, x0, 5; addi x10, x0, 1; addi x17, x0, 93; ecall
         (&[0x0050_0013, 0x0010_0513, 0x05D0_0893, 0x0000_0073], 1),
         // addi x10, x2, 0; addi x17, x0, 93; ecall
         (&[0x0001_0513, 0x05D0_0893, 0x0000_0073], 240),
+        // addi x17, x0, 172; ecall: the number of the process, 1; addi x17, x0, 93; ecall
+        (&[0x0AC0_0893, 0x0000_0073, 0x05D0_0893, 0x0000_0073], 1),
     ];
     for (words, code) in rows {
-        let file = file_of(rt.alloc(), CODE, READ_EXECUTE, CODE, words)?;
+        let file = code_with(rt.alloc(), words, &[])?;
         let end = (words.len().saturating_sub(1), ProcessState::Exited(code));
         assert_run(&rt, rt.alloc(), file.as_slice(), 17, end)?;
     }
 
     // the permission to execute is enough, and the code may go over the end of a page
     for (flags, address, pages) in [(1, CODE, 17), (5, 0x10FF8, 18)] {
-        let file = file_of(rt.alloc(), address, flags, address, EXIT_7)?;
+        let file = file_of(rt.alloc(), address, flags, address, EXIT_7, &[])?;
         let end = (2, ProcessState::Exited(7));
         assert_run(&rt, rt.alloc(), file.as_slice(), pages, end)?;
     }
@@ -143,15 +148,17 @@ fn a_program_exits(rt: HostRuntime) -> Result<(), Fail> {
 #[test]
 fn a_word_that_is_no_instruction_faults(rt: HostRuntime) -> Result<(), Fail> {
     // the words, how many turns step, and where the fault is
-    let rows: [(&[u32], usize, u64); 3] = [
-        // addi x5, x0, 1; then sb, which isn't in the table
-        (&[0x0010_0293, 0x0051_0023, 0xFC51_0023], 1, 0x1007C),
+    let rows: [(&[u32], usize, u64); 4] = [
+        // addi x10, x0, 7; mul x10, x10, x10
+        (&[0x0070_0513, 0x02A5_0533], 1, 0x1007C),
         // addi x10, x0, 7; then the zero rest of the page
         (&[0x0070_0513], 1, 0x1007C),
+        // csrrw x0, 0x305, x5
+        (&[0x3052_9073], 0, 0x10078),
         (&[0xFFFF_FFFF], 0, 0x10078),
     ];
     for (words, steps, address) in rows {
-        let file = file_of(rt.alloc(), CODE, READ_EXECUTE, CODE, words)?;
+        let file = code_with(rt.alloc(), words, &[])?;
         let end = (steps, ProcessState::Faulted(FaultKind::Illegal, address));
         assert_run(&rt, rt.alloc(), file.as_slice(), 17, end)?;
     }
@@ -177,7 +184,7 @@ fn a_fetch_fails(rt: HostRuntime) -> Result<(), Fail> {
         (5, 0x10FF4, 0x10FF8, 2, FaultKind::Fetch, 0x11000),
         (5, STACK - 12, STACK - 8, 2, FaultKind::Fetch, STACK),
     ] {
-        let file = file_of(rt.alloc(), entry, flags, address, EXIT_7)?;
+        let file = file_of(rt.alloc(), entry, flags, address, EXIT_7, &[])?;
         let end = (steps, ProcessState::Faulted(kind, fault));
         assert_run(&rt, rt.alloc(), file.as_slice(), 17, end)?;
     }
@@ -185,10 +192,80 @@ fn a_fetch_fails(rt: HostRuntime) -> Result<(), Fail> {
 }
 
 #[test]
+fn accesses_go_by_the_permissions_of_each_page(rt: HostRuntime) -> Result<(), Fail> {
+    // lui x5, 0x12; addi x6, x0, -1; sd x6, -4(x5); ld x7, -4(x5); addi x10, x7, 0; addi x17, x0, 93; ecall
+    let over: &[u32] = &[
+        0x0001_22B7,
+        0xFFF0_0313,
+        0xFE62_BE23,
+        0xFFC2_B383,
+        0x0003_8513,
+        0x05D0_0893,
+        0x0000_0073,
+    ];
+    // lui x5, 0x11; lb x10, 0(x5); addi x17, x0, 93; ecall
+    let load: &[u32] = &[0x0001_12B7, 0x0002_8503, 0x05D0_0893, 0x0000_0073];
+    // lui x5, 0x11; jalr x1, 0(x5)
+    let jump: &[u32] = &[0x0001_12B7, 0x0002_80E7];
+    let faulted = |steps, kind, address| (steps, ProcessState::Faulted(kind, address));
+    let exited = |steps, code| (steps, ProcessState::Exited(code));
+    // the words, the segments beside the code, how many pages that is, and how it ends
+    let rows: [(&[u32], &[Empty], u32, (usize, ProcessState)); 9] = [
+        (over, &[(6, 0x11000, 0x2000)], 19, exited(6, 255)),
+        // a bit each from two segments that share both pages
+        (
+            over,
+            &[(2, 0x11000, 0x1800), (4, 0x11800, 0x1800)],
+            19,
+            exited(6, 255),
+        ),
+        // the fault is at the first byte that fails
+        (
+            over,
+            &[(6, 0x11000, 0x1000), (4, 0x12000, 0x1000)],
+            19,
+            faulted(2, FaultKind::Store, 0x12000),
+        ),
+        (
+            over,
+            &[(6, 0x11000, 0x1000)],
+            18,
+            faulted(2, FaultKind::Store, 0x12000),
+        ),
+        (
+            over,
+            &[(4, 0x11000, 0x1000), (6, 0x12000, 0x1000)],
+            19,
+            faulted(2, FaultKind::Store, 0x11FFC),
+        ),
+        (load, &[(4, 0x11000, 1)], 18, exited(3, 0)),
+        // what may be written may be read; what may be executed alone may not
+        (load, &[(2, 0x11000, 1)], 18, exited(3, 0)),
+        (
+            load,
+            &[(1, 0x11000, 1)],
+            18,
+            faulted(1, FaultKind::Load, 0x11000),
+        ),
+        (
+            jump,
+            &[(6, 0x11000, 1)],
+            18,
+            faulted(2, FaultKind::Fetch, 0x11000),
+        ),
+    ];
+    for (words, others, pages, end) in rows {
+        let file = code_with(rt.alloc(), words, others)?;
+        assert_run(&rt, rt.alloc(), file.as_slice(), pages, end)?;
+    }
+    Ok(())
+}
+
+#[test]
 fn processes_do_not_disturb_each_other(rt: HostRuntime) -> Result<(), Fail> {
-    let seven = file_of(rt.alloc(), CODE, READ_EXECUTE, CODE, EXIT_7)?;
+    let seven = code_with(rt.alloc(), EXIT_7, &[])?;
     // the same code at another entry: x17 stays 0, so the ECALL goes on into the zero rest
-    let illegal = file_of(rt.alloc(), CODE + 4, READ_EXECUTE, CODE, EXIT_7)?;
+    let illegal = file_of(rt.alloc(), CODE + 4, 5, CODE, EXIT_7, &[])?;
     let first = read_image(rt.alloc(), seven.as_slice())?;
     let last = read_image(rt.alloc(), illegal.as_slice())?;
     let mut machine = Machine::new(rt.alloc())?;
@@ -206,123 +283,131 @@ fn processes_do_not_disturb_each_other(rt: HostRuntime) -> Result<(), Fail> {
     Ok(())
 }
 
-#[test]
-fn a_turn_changes_one_register(rt: HostRuntime) -> Result<(), Fail> {
-    // the word, the value of x5 and of x10 before, and the register that changes with its value then
-    for (word, value, changed, then) in [
-        // addi x6, x5, 1
-        (0x0012_8313, u64::MAX, 6, 0),
-        (0x0012_8313, 41, 6, 42),
-        // addi x5, x5, -1
-        (0xFFF2_8293, 0, 5, u64::MAX),
-        // addi x31, x5, -2048
-        (0x8002_8F93, 0, 31, 0xFFFF_FFFF_FFFF_F800),
-        (0x8002_8F93, 2049, 31, 1),
-        // addi x1, x5, 2047
-        (0x7FF2_8093, 1, 1, 2048),
-        // addi x0, x5, 1, which leaves x0 zero
-        (0x0012_8013, 6, 0, 0),
-        // ecall, which asks for 0, gives -38
-        (0x0000_0073, 1, 10, 0xFFFF_FFFF_FFFF_FFDA),
-    ] {
-        let mut regs = [0; 32];
-        regs[5] = value;
-        regs[10] = value;
-        let mut guest = guest_of(rt.alloc(), Perms::X, 0x2004, word, regs)?;
-        regs[changed] = then;
-        assert!(rt; guest.is_running());
-        assert!(rt; matches!(guest.turn(), Turn::Stepped), "{word}");
-        assert!(rt; guest.is_running(), "{word}");
-        assert_eq!(rt; guest.pc, 0x2008, "{word}");
-        assert_eq!(rt; guest.regs, regs, "{word}");
+// A running process with a memory, at an address, with these values in a0, a1, a2 and a7.
+fn guest_of(memory: PlainMemory, pc: u64, [a0, a1, a2, a7]: [u64; 4]) -> Guest {
+    let mut regs = Regs::new(pc, 0);
+    regs.set(10, a0);
+    regs.set(11, a1);
+    regs.set(12, a2);
+    regs.set(17, a7);
+    Guest {
+        process: crate::Process {
+            regs,
+            state: ProcessState::Running,
+        },
+        memory,
     }
-    Ok(())
+}
+
+// The memory of a file with one ECALL, and 0x2004 bytes from 0x11000 on that may be written.
+fn ecall_memory(rt: &impl Abort, alloc: Global) -> Result<PlainMemory, Fail> {
+    let file = code_with(alloc, &[0x0000_0073], &[(6, 0x11000, 0x2004)])?;
+    let image = read_image(alloc, file.as_slice())?;
+    let mut memory = load_memory(alloc, &image, file.as_slice())?;
+    assert!(rt; memory.store(0x11FFE, b"over").is_ok());
+    Ok(memory)
 }
 
 #[test]
-fn a_fault_changes_only_the_state(rt: HostRuntime) -> Result<(), Fail> {
-    // the permissions of the page, the pc, and the kind of the fault there
-    for (perms, pc, kind) in [
-        (Perms::X, 0x2008, FaultKind::Illegal),
-        (Perms::R.union(Perms::W), 0x2004, FaultKind::Fetch),
-        (Perms::X, 0x3000, FaultKind::Fetch),
-        (Perms::X, 0x2006, FaultKind::Align),
-    ] {
-        let mut regs = [7; 32];
-        regs[0] = 0;
-        let mut guest = guest_of(rt.alloc(), perms, pc, 0x0012_8313, regs)?;
+fn a_write_prints_its_buffer(rt: HostRuntime) -> Result<(), Fail> {
+    // a0, a1, a2; then the answer in a0, and what is printed to which port
+    let rows: [([u64; 3], u64, Option<(u8, &[u8], usize)>); 9] = [
+        ([1, 0x11FFE, 4], 4, Some((1, b"over", 4))),
+        ([2, 0x12001, 2], 2, Some((2, b"r\0", 2))),
+        // more than 4096 bytes aren't printed at once
+        (
+            [1, 0x11FFE, 0xFFFF_FFFF_FFFF_FFFF],
+            4096,
+            Some((1, b"over\0", 4096)),
+        ),
+        ([1, 0, 0], 0, None),
+        // another descriptor is told before the buffer: -9
+        ([0, 0x11FFE, 4], 0xFFFF_FFFF_FFFF_FFF7, None),
+        ([3, 0, 4], 0xFFFF_FFFF_FFFF_FFF7, None),
+        ([0x1_0000_0001, 0x11FFE, 4], 0xFFFF_FFFF_FFFF_FFF7, None),
+        // a byte of the buffer that may not be read: -14
+        ([1, 0x13FFF, 2], 0xFFFF_FFFF_FFFF_FFF2, None),
+        ([1, 0xFFFF_FFFF_FFFF_FFFF, 1], 0xFFFF_FFFF_FFFF_FFF2, None),
+    ];
+    for ([a0, a1, a2], answer, printed) in rows {
+        let memory = ecall_memory(&rt, rt.alloc())?;
+        let mut guest = guest_of(memory, CODE, [a0, a1, a2, 64]);
         assert!(rt; guest.is_running());
-        match guest.turn() {
-            Turn::Faulted(met, address) => assert_eq!(rt; (met, address), (kind, pc)),
-            _ => panic!(rt; "no fault at {pc}"),
+        assert_eq!(rt; guest.execute(), Outcome::Asked);
+        assert!(rt; guest.is_running());
+        match (guest.answer_request(1), printed) {
+            (Turn::Wrote(written), Some((port, front, count))) => {
+                assert_eq!(rt; (written.port, written.bytes.len()), (port, count));
+                assert!(rt; written.bytes.as_slice().starts_with(front), "from {a1:#x}");
+            }
+            (Turn::Stepped, None) => (),
+            _ => panic!(rt; "another turn for {a0}, {a1:#x}, {a2}"),
         }
-        assert_eq!(rt; guest.state, ProcessState::Faulted(kind, pc));
-        assert_eq!(rt; guest.pc, pc);
-        assert_eq!(rt; guest.regs, regs, "at {pc}");
+        assert_eq!(rt;
+            guest.process.regs.get(10),
+            answer,
+            "for {a0}, {a1:#x}, {a2}"
+        );
+        assert_eq!(rt; guest.process.regs.pc(), CODE + 4);
     }
     Ok(())
 }
 
 #[test]
-fn a_load_makes_the_stack(rt: HostRuntime) -> Result<(), Fail> {
-    let regs = first_registers();
-    for i in 0..32 {
-        assert_eq!(rt; regs[i], if i == 2 { 0x3F_FFFF_FFF0 } else { 0 }, "x{i}");
-    }
-    let file = file_of(rt.alloc(), CODE, 3, CODE, EXIT_7)?;
+fn a_refused_store_changes_nothing(rt: HostRuntime) -> Result<(), Fail> {
+    let file = code_with(rt.alloc(), EXIT_7, &[(6, 0x11000, 1), (5, 0x12000, 1)])?;
     let image = read_image(rt.alloc(), file.as_slice())?;
-    let pages = load_memory(rt.alloc(), &image, file.as_slice())?;
-    // a page number, and the permissions of the page and its byte at 0x78 where it is there
-    for (number, want) in [
-        (0x0F, None),
-        (0x10, Some((7, 0x93))),
-        (0x11, None),
-        (0x3FF_FFEF, None),
-        (0x3FF_FFF0, Some((6, 0))),
-        (0x3FF_FFFF, Some((6, 0))),
-        (0x400_0000, None),
-    ] {
-        let found = pages
-            .get(&number)
-            .map(|page| (page.perms.bits(), page.bytes[0x78]));
-        assert_eq!(rt; found, want, "page {number}");
-    }
+    let mut memory = load_memory(rt.alloc(), &image, file.as_slice())?;
+    let mut word = [0xFF; 4];
+    assert_eq!(rt;
+        memory.store(0x11FFE, &[1, 2, 3, 4]),
+        Err(Refused::At(0x12000))
+    );
+    assert_eq!(rt; memory.load(0x11FFE, &mut word), Ok(()));
+    assert_eq!(rt; word, [0, 0, 0, 0]);
+    assert_eq!(rt; memory.store(0x11FFC, &[1, 2, 3, 4]), Ok(()));
+    assert_eq!(rt; memory.load(0x11FFD, &mut word), Ok(()));
+    assert_eq!(rt; word, [2, 3, 4, 0]);
+    // the code's bytes, as they are fetched
+    assert_eq!(rt; memory.fetch(CODE), Ok(0x05D0_0893));
+    assert_eq!(rt; memory.fetch(0x12000), Ok(0));
+    assert_eq!(rt; memory.fetch(0x11000), Err(Denied { address: 0x11000 }));
+    // over the end of the last page that is there
+    assert_eq!(rt;
+        memory.load(STACK_TOP - 1, &mut word),
+        Err(Denied { address: STACK_TOP })
+    );
+    assert_eq!(rt;
+        memory.read(0xFFFF_FFFF_FFFF_FFFF, &mut word, Perms::R),
+        Err(Denied {
+            address: 0xFFFF_FFFF_FFFF_FFFF
+        })
+    );
     Ok(())
 }
 
 #[test]
-fn words_are_decoded(rt: HostRuntime) {
-    // rd, rs1 and the immediate of ADDI
-    let addi = |rd, rs1, immediate| {
-        Some(Instruction {
-            name: Name::Addi,
-            rd,
-            rs1,
-            immediate,
-        })
-    };
-    let ecall = Some(Instruction {
-        name: Name::Ecall,
-        rd: 0,
-        rs1: 0,
-        immediate: 0,
-    });
-    for (word, want) in [
-        (0x0000_0000, None),
-        (0xFFFF_FFFF, None),
-        // EBREAK
-        (0x0010_0073, None),
-        // ECALL with a bit of rd
-        (0x0000_00F3, None),
-        (0x0000_0073, ecall),
-        (0x0000_0013, addi(0, 0, 0)),
-        (0x7FF0_8F93, addi(31, 1, 2047)),
-        (0x800F_8093, addi(1, 31, 0xFFFF_FFFF_FFFF_F800)),
-        (0xFFF5_0513, addi(10, 10, 0xFFFF_FFFF_FFFF_FFFF)),
-        // SLTI, and ADDI without the low bits
-        (0x0000_2013, None),
-        (0x0000_0010, None),
+fn a_process_is_shown(rt: HostRuntime) -> Result<(), Fail> {
+    let file = code_with(rt.alloc(), EXIT_7, &[])?;
+    let (mut machine, _) = loaded(rt.alloc(), file.as_slice())?;
+    assert!(rt; machine.process(2).is_none());
+    for (pc, x10, x17, outcome) in [
+        (CODE, 0, 0, Outcome::Stepped),
+        (CODE + 4, 0, 93, Outcome::Stepped),
+        (CODE + 8, 7, 93, Outcome::Asked),
     ] {
-        assert_eq!(rt; decode(word), want, "{word}");
+        let process = *machine.process(1).ok_or("no process")?;
+        assert_eq!(rt; process.state, ProcessState::Running);
+        let regs = process.regs;
+        assert_eq!(rt; (regs.pc(), regs.get(10), regs.get(17)), (pc, x10, x17));
+        assert_eq!(rt; (regs.get(0), regs.get(2)), (0, STACK_TOP - 16));
+        assert!(rt; machine.is_running(1));
+        assert_eq!(rt; machine.execute(1), outcome, "at {pc:#x}");
     }
+    assert!(rt; machine.is_running(1));
+    assert!(rt; matches!(machine.answer(1), Turn::Exited(7)));
+    let process = *machine.process(1).ok_or("no process")?;
+    assert_eq!(rt; process.state, ProcessState::Exited(7));
+    assert_eq!(rt; process.regs.pc(), CODE + 12);
+    Ok(())
 }

@@ -1,4 +1,4 @@
-use Rattle.std.specs.Prelude.{ℕ, zero, suc, ◌+◌, ◌==◌, nat_lt, map, List, [], ◌++◌, codes, if◌then◌else◌}
+use Rattle.std.specs.Prelude.{ℕ, zero, suc, ◌+◌, ◌/◌, ◌%◌, ◌==◌, ◌&&◌, not, nat_le, nat_lt, map, flat_map, Bool, List, [], ◌∷◌, ◌++◌, codes, if◌then◌else◌}
 use Rattle.std.specs.Fmt.{decimal}
 use Rattle.std.specs.Int.Digits.{digits_of}
 use Rattle.ovl_io.specs.declared.process_state.FaultKind.{FaultKind}
@@ -25,7 +25,20 @@ hexadecimal n = if n == 0 then codes "0" else map hex_digit (digits_of 16 n)
 
 abbrev pub elf_text : ElfError → List ℕ
 elf_text elf.TooShort = codes "E1 too-short"
-elf_text elf.NotYet = codes "E0 not-yet"
+elf_text elf.BadMagic = codes "E2 bad-magic"
+elf_text elf.NotClass64 = codes "E3 not-class-64"
+elf_text elf.NotLittle = codes "E4 not-little"
+elf_text elf.BadVersion = codes "E5 bad-version"
+elf_text elf.NotExec = codes "E6 not-exec"
+elf_text elf.NotRiscv = codes "E7 not-riscv"
+elf_text elf.BadEntrySize = codes "E8 bad-entry-size"
+elf_text elf.TableOutside = codes "E9 table-outside"
+elf_text elf.NeedsInterpreter = codes "E10 needs-interpreter"
+elf_text elf.FileLarger = codes "E11 file-larger"
+elf_text elf.SegmentOutside = codes "E12 segment-outside"
+elf_text elf.AddressOutside = codes "E13 address-outside"
+elf_text elf.NothingToLoad = codes "E14 nothing-to-load"
+elf_text elf.TooManyPages = codes "E15 too-many-pages"
 elf_text elf.Memory = []
 
 -- the line of a load's answer; want of memory has none
@@ -44,10 +57,24 @@ kind_text kind.Load = codes "load"
 kind_text kind.Store = codes "store"
 kind_text kind.Break = codes "break"
 
--- the line of a turn; a step has none, and no instruction writes or is refused units yet
+-- The text of a byte: itself from 20 to 7E, but for the backslash; else a backslash and two hexadecimal digits.
+abbrev pub is_plain : ℕ → Bool
+is_plain b = nat_le 32 b && nat_le b 126 && not (b == 92)
+
+abbrev pub byte_text : ℕ → List ℕ
+byte_text b = if is_plain b then b ∷ [] else 92 ∷ hex_digit (b / 16) ∷ hex_digit (b % 16) ∷ []
+
+abbrev pub bytes_text : List ℕ → List ℕ
+bytes_text bytes = flat_map byte_text bytes
+
+-- what is written to port 1 goes out, what is written to port 2 is an error
+abbrev pub port_text : ℕ → List ℕ
+port_text port = if port == 1 then codes "out " else codes "err "
+
+-- the line of a turn; a step has none, and no instruction is refused units yet
 abbrev pub turn_text : ℕ → Turn → List ℕ
 turn_text p Stepped = []
-turn_text p (Wrote written) = []
+turn_text p (Wrote written) = port_text written.0 ++ decimal p ++ codes " " ++ bytes_text written.1 ++ codes "\n"
 turn_text p (Exited code) = codes "exited " ++ decimal p ++ codes " " ++ decimal code ++ codes "\n"
 turn_text p (Faulted kind at) = codes "faulted " ++ decimal p ++ codes " " ++ kind_text kind ++ codes " 0x" ++ hexadecimal at ++ codes "\n"
 turn_text p (Full units limit) = []

@@ -1,8 +1,8 @@
-ghost use Rattle.std.specs.Prelude.{◌≡◌, ℕ, ◌+◌, ◌^◌, ◌<◌, ◌≤◌, ◌++◌, ◌∷◌, [], length, map};
+ghost use Rattle.std.specs.Prelude.{◌≡◌, ℕ, ◌+◌, ◌*◌, ◌^◌, ◌<◌, ◌≤◌, ◌++◌, ◌∷◌, [], length, map};
 ghost use Rattle.std.specs.Fmt.{decimal};
 ghost use Rattle.std.specs.Int.Digits.{digits_of};
 ghost use Rattle.arrayvec.specs.ArrayVec.{array_vec_len};
-ghost use Rattle.overlay_top.specs.Report.{hex_digit, hexadecimal, elf_text, answer_text, kind_text, turn_text, stop_word, stop_text, bad_line};
+ghost use Rattle.overlay_top.specs.Report.{hex_digit, hexadecimal, elf_text, answer_text, kind_text, is_plain, byte_text, bytes_text, port_text, turn_text, stop_word, stop_text, bad_line};
 
 use crate::session::{Answer, Stop};
 use arrayvec::ArrayVec;
@@ -72,7 +72,20 @@ fn elf_text(error: ElfError) -> &'static [u8]
 {
     match error {
         ElfError::TooShort => b"E1 too-short",
-        ElfError::NotYet => b"E0 not-yet",
+        ElfError::BadMagic => b"E2 bad-magic",
+        ElfError::NotClass64 => b"E3 not-class-64",
+        ElfError::NotLittle => b"E4 not-little",
+        ElfError::BadVersion => b"E5 bad-version",
+        ElfError::NotExec => b"E6 not-exec",
+        ElfError::NotRiscv => b"E7 not-riscv",
+        ElfError::BadEntrySize => b"E8 bad-entry-size",
+        ElfError::TableOutside => b"E9 table-outside",
+        ElfError::NeedsInterpreter => b"E10 needs-interpreter",
+        ElfError::FileLarger => b"E11 file-larger",
+        ElfError::SegmentOutside => b"E12 segment-outside",
+        ElfError::AddressOutside => b"E13 address-outside",
+        ElfError::NothingToLoad => b"E14 nothing-to-load",
+        ElfError::TooManyPages => b"E15 too-many-pages",
         ElfError::Memory => b"",
     }
 }
@@ -116,12 +129,74 @@ fn kind_text(kind: FaultKind) -> &'static [u8]
     }
 }
 
+/// Whether a byte stands for itself in a text.
+fn is_plain(b: u8) -> bool
+    ensures { result ≡ is_plain b }
+{
+    (32..=126).contains(&b) && b != b'\\'
+}
+
+/// One byte that a process wrote.
+fn push_byte(line: &mut Line, b: u8)
+    requires { array_vec_len line.old + 3 ≤ 16384 }
+    ensures text { line.new.items ≡ line.old.items ++ byte_text b }
+    ensures len { array_vec_len line.new ≤ array_vec_len line.old + 3 }
+{
+    if is_plain(b) {
+        line.push(b);
+    } else {
+        line.push(b'\\');
+        line.push(hex_digit(b / 16));
+        line.push(hex_digit(b % 16));
+    }
+}
+
+/// The bytes that a process wrote.
+fn push_bytes(line: &mut Line, bytes: &[u8])
+    requires { array_vec_len line.old + 3 * length bytes.now ≤ 16384 }
+    ensures text { line.new.items ≡ line.old.items ++ bytes_text bytes.now }
+    ensures len { array_vec_len line.new ≤ array_vec_len line.old + 3 * length bytes.now }
+{
+    for b in bytes {
+        push_byte(line, *b);
+    }
+}
+
+/// Where what a process writes to a port goes.
+fn port_text(port: u8) -> &'static [u8]
+    ensures text { result.now ≡ port_text port }
+    ensures short { length result.now ≤ 32 }
+{
+    if port == 1 { b"out " } else { b"err " }
+}
+
+/// Sets `out` to the line of a fault of process `p`.
+pub(crate) fn fault_line(p: u16, kind: FaultKind, address: u64, out: &mut Line)
+    ensures { out.new.items ≡ turn_text p (Turn.Faulted kind address) }
+{
+    out.clear();
+    push_text(out, b"faulted ");
+    push_decimal(out, u64::from(p));
+    push_text(out, b" ");
+    push_text(out, kind_text(kind));
+    push_text(out, b" 0x");
+    push_hexadecimal(out, address);
+    push_text(out, b"\n");
+}
+
 /// Sets `out` to the line of a turn of process `p`; it is empty where the turn has none.
 pub(crate) fn turn_line(p: u16, turn: &Turn, out: &mut Line)
     ensures { out.new.items ≡ turn_text p turn.now }
 {
     out.clear();
     match turn {
+        Turn::Wrote(written) => {
+            push_text(out, port_text(written.port));
+            push_decimal(out, u64::from(p));
+            push_text(out, b" ");
+            push_bytes(out, written.bytes.as_slice());
+            push_text(out, b"\n");
+        }
         Turn::Exited(code) => {
             push_text(out, b"exited ");
             push_decimal(out, u64::from(p));
@@ -129,16 +204,8 @@ pub(crate) fn turn_line(p: u16, turn: &Turn, out: &mut Line)
             push_decimal(out, u64::from(*code));
             push_text(out, b"\n");
         }
-        Turn::Faulted(kind, address) => {
-            push_text(out, b"faulted ");
-            push_decimal(out, u64::from(p));
-            push_text(out, b" ");
-            push_text(out, kind_text(*kind));
-            push_text(out, b" 0x");
-            push_hexadecimal(out, *address);
-            push_text(out, b"\n");
-        }
-        Turn::Stepped | Turn::Wrote(_) | Turn::Full(_, _) => {}
+        Turn::Faulted(kind, address) => fault_line(p, *kind, *address, out),
+        Turn::Stepped | Turn::Full(_, _) => {}
     }
 }
 

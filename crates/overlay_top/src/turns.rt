@@ -1,14 +1,17 @@
-ghost use Rattle.std.specs.Prelude.{◌≡◌, ◌<◌, ◌≤◌, OnOk, OnErr};
+ghost use Rattle.std.specs.Prelude.{◌≡◌, ◌<◌, ◌≤◌, List, true, OnOk, OnErr};
 ghost use Rattle.ovl_io.specs.Outside.{Rose};
 ghost use Rattle.overlay_top.specs.Sending.{IsSent, IsCut};
 ghost use Rattle.overlay_top.specs.Session.{after_turns};
-ghost use Rattle.overlay_top.specs.Report.{turns_text, stop_of};
+ghost use Rattle.overlay_top.specs.Report.{turn_text, turns_text, stop_of};
+ghost use Rattle.ovl_io.specs.Memory.{Access};
+ghost use Rattle.machine_core.specs.Machine.{is_running, turn_of, after_turn, turn_asked, after_asked};
 
-use crate::line::{Line, stop_line, turn_line};
+use crate::line::{Line, fault_line, stop_line, turn_line};
 use crate::sending::send;
 use crate::session::Stop;
 use machine_core::Machine;
 use ovl_io::{Failed, Sink};
+use rv_execute::Outcome;
 
 /// Why turns of a process end here.
 fn stop(machine: &Machine, p: u16) -> Stop
@@ -18,6 +21,30 @@ fn stop(machine: &Machine, p: u16) -> Stop
         Stop::Limit
     } else {
         Stop::Ended
+    }
+}
+
+/// Does what a process asked for, and sets the line of its turn.
+#[inline(never)]
+fn answer_request(machine: &mut Machine, p: u16, line: &mut Line)
+    requires { is_running machine.old p ≡ true }
+    ensures line { (accesses : List Access) → line.new.items ≡ turn_text p (turn_asked accesses machine.old p) }
+    ensures after { (accesses : List Access) → machine.new ≡ after_asked accesses machine.old p }
+{
+    turn_line(p, &machine.answer(p), line);
+}
+
+/// Takes a turn of a running process, and sets its line; a turn that has none leaves it empty. Only a request makes a
+/// `Turn`, which is large.
+fn take_turn(machine: &mut Machine, p: u16, line: &mut Line)
+    requires { is_running machine.old p ≡ true }
+    ensures line { line.new.items ≡ turn_text p (turn_of machine.old p) }
+    ensures after { machine.new ≡ after_turn machine.old p }
+{
+    match machine.execute(p) {
+        Outcome::Stepped | Outcome::Full(_, _) => line.clear(),
+        Outcome::Asked => answer_request(machine, p, line),
+        Outcome::Fault(kind, address) => fault_line(p, kind, address, line),
     }
 }
 
@@ -40,9 +67,8 @@ pub(crate) fn take_turns<K: Sink>(
         if !machine.is_running(p) {
             break;
         }
-        let turn = machine.event(p);
+        take_turn(machine, p, line);
         taken += 1;
-        turn_line(p, &turn, line);
         send(sink, line.as_slice())?;
     }
     stop_line(taken, stop(machine, p), line);

@@ -1,55 +1,55 @@
-use Rattle.std.proofs.Common.{◌≡◌, ℕ, ◌≤◌, Bool, true, false, cond, ap, subst, ◌∙◌, sym, refl, arith, Some, None, nat_lt, length, [], ◌∷◌}
-use Rattle.std.proofs.lemmas.Bool.Decides.{nat_tests}
-use Rattle.elf_loader.specs.Accepted.{is_taken}
-use Rattle.elf_loader.specs.Fields.{header_at, table_offset}
-use Rattle.elf_loader.specs.declared.header.ProgramHeader.{ProgramHeader}
-use Rattle.elf_loader.specs.declared.image.ElfError.TheVariants.{TooShort, NotYet}
-use Rattle.elf_loader.proofs.Taken.{Lies, segment_of, one_load}
-use Rattle.elf_loader.proofs.Touched.{pages_alone}
+use Rattle.std.proofs.Common.{◌≤◌, length, subst, sym, ◌∙◌, arith, All}
+use Rattle.elf_loader.specs.Accepted.{most_pages}
+use Rattle.elf_loader.specs.Image.{pages_in}
+use Rattle.elf_loader.specs.Reach.{IsBelowStack, IsTooMany}
+use Rattle.elf_loader.proofs.Taken.{by_header, by_table, header_passes, all_below, reads_error, reads_err, reads_too_many, taken_by, image_pages}
 use Rattle.elf_loader.proofs.image.read_image.Goals as goal
 
--- a choice that gives something was made
-some_if : (b : Bool) (x y : ProgramHeader) → Some y ≡ cond b (Some x) None → (b ≡ true) × (y ≡ x)
-some_if true x y h = (refl, cc)
-some_if false x y h = cc
-
-none_if : (b : Bool) (x : ProgramHeader) → None ≡ cond b (Some x) None → b ≡ false
-none_if true x h = cc
-none_if false x h = refl
-
--- a file of 64 bytes or more is refused exactly where it isn't taken
-refused : (n : ℕ) (b : Bool) (v : Bool) → 64 ≤ n → b ≡ v
-    → cond (nat_lt n 64) (Some TooShort) (cond b None (Some NotYet)) ≡ cond v None (Some NotYet)
-refused n b v long h = grind (arith, nat_tests)
-
-pub returns-in-None : goal.returns-in-None
-returns-in-None c =
+pub returns-in-Some : goal.returns-in-Some
+returns-in-Some c =
     let file = c.args.bytes.now in
-    refused (length file) (is_taken file) false c.if-bytes-lt-FILE_HEADER_BYTES.false (none_if (is_taken file) _ c.in-None.ensures)
+    reads_error file c.in-Some.error (by_header file c.in-Some.error (sym c.in-Some.ensures))
 
-pub touched_pages-requires-clause-some : goal.touched_pages-requires-clause-some
-touched_pages-requires-clause-some c =
-    let file = c.args.bytes.now in
-    let is = some_if (is_taken file) (header_at file (table_offset file)) c.in-Some.header c.in-Some.ensures in
-    let lies = subst (Lies file) (sym is.1) (segment_of file is.0) in
-    omega (arith, lies.some, lies.same)
+pub read_loads-requires-clause-long : goal.read_loads-requires-clause-long
+read_loads-requires-clause-long c = (header_passes c.args.bytes.now (sym c.in_default.ensures)).long
 
-pub touched_pages-requires-clause-in_memory : goal.touched_pages-requires-clause-in_memory
-touched_pages-requires-clause-in_memory c =
+pub read_loads-requires-clause-in_file : goal.read_loads-requires-clause-in_file
+read_loads-requires-clause-in_file c = (header_passes c.args.bytes.now (sym c.in_default.ensures)).table
+
+pub table_refusal-requires-clause-long : goal.table_refusal-requires-clause-long
+table_refusal-requires-clause-long c = (header_passes c.args.bytes.now (sym c.in_default.ensures)).long
+
+pub table_refusal-requires-clause-in_file : goal.table_refusal-requires-clause-in_file
+table_refusal-requires-clause-in_file c = (header_passes c.args.bytes.now (sym c.in_default.ensures)).table
+
+pub returns-in-Some-table_refusal : goal.returns-in-Some-table_refusal
+returns-in-Some-table_refusal c =
     let file = c.args.bytes.now in
-    let is = some_if (is_taken file) (header_at file (table_offset file)) c.in-Some.header c.in-Some.ensures in
-    let lies = subst (Lies file) (sym is.1) (segment_of file is.0) in
-    omega (arith, lies.in_memory)
+    let error = c.in-Some-table_refusal.error in
+    reads_error file error (by_table file error (sym c.in_default.ensures) (sym c.in-Some-table_refusal.ensures))
+
+pub touched_pages-requires : goal.touched_pages-requires
+touched_pages-requires c =
+    subst (All IsBelowStack) (sym (c.as_slice-2.ensures.value ∙ c.in_ok-loads.ensures)) (all_below c.args.bytes.now (sym c.in_default-table_refusal.ensures))
+
+pub returns-in_err-pages : goal.returns-in_err-pages
+returns-in_err-pages c =
+    let error = c.in_err-pages.field-0.0 in
+    reads_err c.args.bytes.now c.from_residual-in_err-pages.result error c.from_residual-in_err-pages.ensures
+    (reads_too_many c.args.bytes.now error (sym c.in_default.ensures) (sym c.in_default-table_refusal.ensures)
+    (subst (λ loads. IsTooMany (length (pages_in loads)) error) (c.as_slice-2.ensures.value ∙ c.in_ok-loads.ensures) c.in_err-pages.ensures.few))
+
+pub u64_at-requires : goal.u64_at-requires
+u64_at-requires c = let long = (header_passes c.args.bytes.now (sym c.in_default.ensures)).long in omega arith
 
 pub returns : goal.returns
 returns c =
     let file = c.args.bytes.now in
-    let is = some_if (is_taken file) (header_at file (table_offset file)) c.in-Some.header c.in-Some.ensures in
-    let lies = subst (Lies file) (sym is.1) (segment_of file is.0) in
-    let one = one_load file is.0 ∙ ap (λ h. h ∷ []) (sym is.1) in
+    let same = c.as_slice-2.ensures.value ∙ c.in_ok-loads.ensures in
     record {
-      taken = refused (length file) (is_taken file) true c.if-bytes-lt-FILE_HEADER_BYTES.false is.0;
+      taken = taken_by file (sym c.in_default.ensures) (sym c.in_default-table_refusal.ensures)
+          (subst (λ loads. length (pages_in loads) ≤ most_pages) same c.in_ok-pages.ensures.few);
       entry = c.u64_at.ensures;
-      pages = c.in_ok-pages.ensures ∙ pages_alone file c.in-Some.header one lies.same (omega (arith, lies.some, lies.same)) (omega (arith, lies.in_memory));
-      loads = c.in_ok-loads.ensures ∙ sym one;
+      pages = c.in_ok-pages.ensures.pages ∙ image_pages file c.as_slice-2.result.now same;
+      loads = c.in_ok-loads.ensures;
     }

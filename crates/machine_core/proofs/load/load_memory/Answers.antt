@@ -4,4 +4,5 @@ use Rattle.machine_core.proofs.load.load_memory.Goals as goal
 
 pub returns : goal.returns
 returns c =
-    placed_all c.args.file.now (memory_of c.in_ok-pages.pages.entries) (memory_of c.place.new.pages.entries) c.in_ok-pages.ensures c.in_ok-place.ensures
+    placed_all c.args.file.now (memory_of c.add_stack.new.table c.add_stack.new.frames.items) (memory_of c.add_image.new.table c.add_image.new.frames.items)
+    c.in_ok-add_stack.ensures.stack c.in_ok-add_image.ensures.image

@@ -1,5 +1,5 @@
-use Rattle.std.proofs.Common.{◌≡◌, ◌+◌, ◌-◌, sym, ap, ◌∙◌, arith, ◌⊎◌, inl, inr, false}
-use Rattle.machine_core.specs.Machine.{is_running}
+use Rattle.std.proofs.Common.{◌≡◌, ◌+◌, ◌-◌, sym, ap, ◌∙◌, refl, arith, ◌⊎◌, inl, inr, false}
+use Rattle.machine_core.specs.Machine.{is_running, turn_of}
 use Rattle.overlay_top.specs.Session.{after_turns}
 use Rattle.overlay_top.proofs.Texts.{more_done, cut_done, last_done, last_cut, on_ok, on_err, at_err}
 use Rattle.overlay_top.proofs.TurnSteps.{turns_step, after_step, stopped_text}
@@ -17,11 +17,11 @@ turns-preserved g c =
     record {
       within = omega (arith, below);
       counted = omega (arith, c.turns.invariant.counted, c.in_ok-send.ensures.counted);
-      after = ap (after_turns p (turns - (taken + 1))) c.event-turn.ensures.after ∙ sym (after_step p turns taken before below running) ∙ c.turns.invariant.after;
+      after = ap (after_turns p (turns - (taken + 1))) c.take_turn.ensures.after ∙ sym (after_step p turns taken before below running) ∙ c.turns.invariant.after;
       text = λ tells.
           more_done (g.K.Sink.taken c.args.sink.now) (g.K.Sink.taken c.turns.sink) (g.K.Sink.taken c.send.new.sink) _ c.as_slice.result.now _ _
-          (turns_step p turns taken before c.turn_line.new.out.items c.event-turn.new.self c.as_slice.result.now c.event-turn.result below running
-          c.event-turn.ensures.turn c.event-turn.ensures.after c.turn_line.ensures c.as_slice.ensures.value)
+          (turns_step p turns taken before c.take_turn.new.line.items c.take_turn.new.machine c.as_slice.result.now (turn_of before p) below running
+          refl c.take_turn.ensures.after c.take_turn.ensures.line c.as_slice.ensures.value)
           (c.in_ok-send.ensures.sent tells) (c.turns.invariant.text tells);
     }
 
@@ -35,8 +35,8 @@ returns-in_err-send-clause-cut g c tells =
     let running = sym c.is_running.ensures ∙ c.if-not-is_running.false in
     at_err c.from_residual.result
     (cut_done (g.K.Sink.taken c.args.sink.now) (g.K.Sink.taken c.turns.sink) (g.K.Sink.taken c.send.new.sink) _ c.as_slice.result.now _ _
-    (turns_step p turns taken before c.turn_line.new.out.items c.event-turn.new.self c.as_slice.result.now c.event-turn.result below running
-    c.event-turn.ensures.turn c.event-turn.ensures.after c.turn_line.ensures c.as_slice.ensures.value)
+    (turns_step p turns taken before c.take_turn.new.line.items c.take_turn.new.machine c.as_slice.result.now (turn_of before p) below running
+    refl c.take_turn.ensures.after c.take_turn.ensures.line c.as_slice.ensures.value)
     (c.in_err-send.ensures.cut tells) (c.turns.invariant.text tells))
 
 pub returns-clause-sent : goal.returns-clause-sent

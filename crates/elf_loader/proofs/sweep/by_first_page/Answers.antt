@@ -1,0 +1,7 @@
+use Rattle.std.proofs.Common.{rules}
+use Rattle.std.proofs.lemmas.List.Sorted.{IsNonDecreasingBy-from_sort_by_key}
+use Rattle.elf_loader.specs.Reach.{first_page}
+use Rattle.elf_loader.proofs.sweep.by_first_page.Goals as goal
+
+pub returns-clause-sorted : goal.returns-clause-sorted
+returns-clause-sorted c = IsNonDecreasingBy-from_sort_by_key first_page _ c.sort_unstable_by_key.ensures.sorted (λ a r q k. search rules)

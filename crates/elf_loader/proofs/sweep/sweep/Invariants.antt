@@ -1,0 +1,17 @@
+use Rattle.std.proofs.Common.{◌≡◌, ◌≤◌, length, map, take}
+use Rattle.elf_loader.specs.Accepted.{most_pages}
+use Rattle.elf_loader.specs.Image.{page_numbers, page_in}
+use Rattle.elf_loader.proofs.Reaching.{IsReachOf}
+use Rattle.elf_loader.proofs.Filling.{touched_below}
+use Rattle.elf_loader.proofs.Sweeping.{Stands}
+use Rattle.elf_loader.proofs.sweep.sweep.Given as goal
+
+-- the pages below the one where the last segment so far begins
+abbrev pub invariant-loop-header : goal.invariant-loop-header
+invariant-loop-header l = record {
+  few : length l.pages.items ≤ most_pages;
+  low : l.at ≤ page_numbers;
+  stands : Stands l.sorted l.header-index l.at;
+  is : IsReachOf (take l.header-index l.sorted) l.reach;
+  pages : l.pages.items ≡ map (page_in l.sorted) (touched_below l.sorted l.at);
+}

@@ -1,0 +1,7 @@
+use Rattle.std.specs.Prelude.{Result, Ok, Err, OnOk}
+
+-- What follows where a result is Ok.
+
+pub on_ok : {T E : Type 0} {P Q : Type 0} (r : Result T E) → (P → Q) → OnOk r P → OnOk r Q
+on_ok (Ok x) f h = f h
+on_ok (Err e) f h = tt
