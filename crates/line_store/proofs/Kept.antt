@@ -1,0 +1,178 @@
+use Rattle.std.proofs.Common.{◌≡◌, ℕ, ◌+◌, ◌-◌, ◌<◌, ◌≤◌, ◌⊎◌, inl, inr, List, ◌++◌, length, get_or, take, drop, set, replicate, sym, ap, ◌∙◌, refl, subst, arith, length-drop, length-set}
+use Rattle.std.proofs.lemmas.Bool.{cases_lt}
+use Rattle.std.proofs.lemmas.List.{length-append, length-replicate, length-take-le, get_or-replicate, get_or_append_left, get_or-append_right, get_or-take, get_or-drop, set-append_left, replicate-append-replicate, append_assoc, take-append-le, drop-append-le, same_lists, take_all}
+use Rattle.std.proofs.lemmas.List.Edits.{length-paste, drop-paste}
+use Rattle.std.specs.List.{copy_within}
+use Rattle.line_store.specs.Lines.{zero_lines, with_copied}
+use Rattle.line_store.specs.Kept.{lines_of, EndsInZero, IsKept}
+
+-- Lines of which the first are kept.
+
+length-zero_lines : (n : ℕ) → length (zero_lines n) ≡ n
+unfolding zero_lines
+length-zero_lines n = length-replicate n (replicate 64 0)
+
+get_or-zero_lines : (n at : ℕ) (d : List ℕ) → at < n → get_or (zero_lines n) at d ≡ replicate 64 0
+unfolding zero_lines
+get_or-zero_lines n at d h = get_or-replicate n at (replicate 64 0) d h
+
+zero_lines-append : (n m : ℕ) → zero_lines n ++ zero_lines m ≡ zero_lines (n + m)
+unfolding zero_lines
+zero_lines-append n m = replicate-append-replicate n m (replicate 64 0)
+
+pub length-lines_of : (first : List (List ℕ)) (count : ℕ) → length first ≤ count → length (lines_of first count) ≡ count
+length-lines_of first count below = omega (arith, length-append first (zero_lines (count - length first)), length-zero_lines (count - length first))
+
+-- a line that is kept, and one that isn't
+pub line_kept : (first : List (List ℕ)) (count at : ℕ) (d : List ℕ) → at < length first → get_or (lines_of first count) at d ≡ get_or first at d
+line_kept first count at d h = get_or_append_left first (zero_lines (count - length first)) d at h
+
+pub line_behind : (first : List (List ℕ)) (count at : ℕ) (d : List ℕ) → length first ≤ at → at < count → get_or (lines_of first count) at d ≡ replicate 64 0
+line_behind first count at d h k =
+    get_or-append_right first (zero_lines (count - length first)) (length first) at d refl h
+    ∙ get_or-zero_lines (count - length first) (at - length first) d (omega arith)
+
+-- a line near the end of those kept, or behind it
+line_near : (first : List (List ℕ)) (count at : ℕ) (d : List ℕ) → EndsInZero first → length first ≤ at + 64 → at < count → get_or (lines_of first count) at d ≡ replicate 64 0
+line_near first count at d ends near h = elim (cases_lt at (length first)) [
+  | inl low ↦ line_kept first count at d low ∙ ends at d near low
+  | inr high ↦ line_behind first count at d high h
+]
+
+-- a page that is kept, and one that isn't kept whole
+pub page_kept : (first : List (List ℕ)) (count at : ℕ) → at + 64 ≤ length first → take 64 (drop at first) ≡ take 64 (drop at (lines_of first count))
+page_kept first count at h =
+    let zeros = zero_lines (count - length first) in
+    let room : 64 ≤ length (drop at first) = omega (arith, length-drop at first) in
+    let low : at ≤ length first = omega arith in
+    sym (ap (take 64) (drop-append-le at first zeros low) ∙ take-append-le 64 (drop at first) zeros room)
+
+pub page_behind : (first : List (List ℕ)) (count at : ℕ) → EndsInZero first → length first ≤ count → length first < at + 64 → at + 64 ≤ count
+    → zero_lines 64 ≡ take 64 (drop at (lines_of first count))
+page_behind first count at ends below near h =
+    let all = lines_of first count in
+    let room : 64 ≤ length (drop at all) = omega (arith, length-drop at all, length-lines_of first count below) in
+    same_lists (zero_lines 64) (take 64 (drop at all)) (length-zero_lines 64 ∙ sym (length-take-le 64 (drop at all) room)) (λ k d low.
+    let short : k < 64 = omega (arith, low, length-zero_lines 64) in
+    let near_k : length first ≤ (at + k) + 64 = omega arith in
+    let low_k : at + k < count = omega arith in
+    get_or-zero_lines 64 k d short
+    ∙ sym (get_or-take 64 (drop at all) k d short ∙ get_or-drop at all k d ∙ line_near first count (at + k) d ends near_k low_k))
+
+-- what the callers know of a page that isn't kept whole
+pub page_of_zeros : (first : List (List ℕ)) (room count at : ℕ) → IsKept first room count → length first < at + 64 → at + 64 ≤ count
+    → zero_lines 64 ≡ take 64 (drop at (lines_of first count))
+page_of_zeros first room count at kept near h = elim kept.ends [
+  | inl whole ↦ absurd (omega (arith, whole))
+  | inr ends ↦ page_behind first count at ends kept.below near h
+]
+
+-- what is kept once so much was reached
+pub far : (len count end k : ℕ) → (len ≡ count) ⊎ (end + 64 ≤ len) → k ≤ end → end ≤ count → k ≤ len
+far len count end k reached h low = elim reached [ inl whole ↦ omega (arith, whole) | inr behind ↦ omega (arith, behind) ]
+
+-- more zero lines are kept
+pub more_same : (first : List (List ℕ)) (count more : ℕ) → length first + more ≤ count → lines_of (first ++ zero_lines more) count ≡ lines_of first count
+more_same first count more h =
+    let kept = first ++ zero_lines more in
+    let rest : more + (count - length kept) ≡ count - length first = omega (arith, length-append first (zero_lines more), length-zero_lines more) in
+    append_assoc first (zero_lines more) (zero_lines (count - length kept))
+    ∙ ap (λ l. first ++ l) (zero_lines-append more (count - length kept) ∙ ap zero_lines rest)
+
+pub more_ends : (first : List (List ℕ)) (more : ℕ) → EndsInZero first → EndsInZero (first ++ zero_lines more)
+more_ends first more ends at d near low =
+    let long : length (first ++ zero_lines more) ≡ length first + more = omega (arith, length-append first (zero_lines more), length-zero_lines more) in
+    elim (cases_lt at (length first)) [
+      | inl kept ↦ get_or_append_left first (zero_lines more) d at kept ∙ ends at d (omega arith) kept
+      | inr behind ↦ get_or-append_right first (zero_lines more) (length first) at d refl behind ∙ get_or-zero_lines more (at - length first) d (omega arith)
+    ]
+
+-- first after the Vec was filled up
+grown : (first new : List (List ℕ)) (wanted : ℕ) → new ≡ take wanted first ++ replicate (wanted - length first) (replicate 64 0) → length first < wanted
+    → new ≡ first ++ zero_lines (wanted - length first)
+unfolding zero_lines
+grown first new wanted is h = is ∙ ap (λ l. l ++ replicate (wanted - length first) (replicate 64 0)) (take_all wanted first (omega arith))
+
+pub grown_same : (first new : List (List ℕ)) (count wanted : ℕ) → new ≡ take wanted first ++ replicate (wanted - length first) (replicate 64 0) → length first < wanted
+    → wanted ≤ count → lines_of new count ≡ lines_of first count
+grown_same first new count wanted is h k = ap (λ l. lines_of l count) (grown first new wanted is h) ∙ more_same first count (wanted - length first) (omega arith)
+
+pub grown_kept : (first new : List (List ℕ)) (room larger count wanted : ℕ) → new ≡ take wanted first ++ replicate (wanted - length first) (replicate 64 0)
+    → length first < wanted → wanted ≤ count → room ≤ larger → IsKept first room count → IsKept new larger count
+grown_kept first new room larger count wanted is h k more kept =
+    let all = grown first new wanted is h in
+    let long : length new ≡ length first + (wanted - length first) =
+    ap length all ∙ length-append first (zero_lines (wanted - length first)) ∙ ap (λ (n : ℕ). length first + n) (length-zero_lines (wanted - length first)) in
+    let fits = kept.fits in
+    record {
+      few = kept.few;
+      below = omega (arith, long);
+      fits = omega (arith, fits);
+      ends = elim kept.ends [
+        | inl whole ↦ absurd (omega (arith, whole))
+        | inr ends ↦ inr (subst EndsInZero (sym all) (more_ends first (wanted - length first) ends))
+      ];
+    }
+
+-- a line is written
+pub set_same : (first : List (List ℕ)) (count at : ℕ) (w : List ℕ) → at < length first → lines_of (set first at w) count ≡ set (lines_of first count) at w
+set_same first count at w h =
+    ap (λ (n : ℕ). set first at w ++ zero_lines (count - n)) (length-set first at w)
+    ∙ sym (set-append_left first (zero_lines (count - length first)) at w h)
+
+-- lines are copied
+pub copied : (first new : List (List ℕ)) (from to n : ℕ) → new ≡ copy_within first from (from + n) to → new ≡ with_copied first from to n
+copied first new from to n is =
+    let many : (from + n) - from ≡ n = omega arith in
+    is ∙ ap (λ (k : ℕ). take to first ++ take k (drop from first) ++ drop (to + k) first) many
+
+length-with_copied : (first : List (List ℕ)) (from to n : ℕ) → from + n ≤ length first → to + n ≤ length first → length (with_copied first from to n) ≡ length first
+length-with_copied first from to n h k = length-paste first to (drop from first) n k (omega (arith, length-drop from first))
+
+pub copy_same : (first : List (List ℕ)) (count from to n : ℕ) → from + n ≤ length first → to + n ≤ length first
+    → lines_of (with_copied first from to n) count ≡ with_copied (lines_of first count) from to n
+copy_same first count from to n h k =
+    let zeros = zero_lines (count - length first) in
+    let to_low : to ≤ length first = omega arith in
+    let from_low : from ≤ length first = omega arith in
+    let room : n ≤ length (drop from first) = omega (arith, length-drop from first) in
+    ap (λ (m : ℕ). with_copied first from to n ++ zero_lines (count - m)) (length-with_copied first from to n h k)
+    ∙ append_assoc (take to first ++ take n (drop from first)) (drop (to + n) first) zeros
+    ∙ sym (ap (λ l. l ++ take n (drop from (first ++ zeros)) ++ drop (to + n) (first ++ zeros)) (take-append-le to first zeros to_low)
+    ∙ ap (λ l. take to first ++ l ++ drop (to + n) (first ++ zeros)) (ap (take n) (drop-append-le from first zeros from_low) ∙ take-append-le n (drop from first) zeros room)
+    ∙ ap (λ l. take to first ++ take n (drop from first) ++ l) (drop-append-le (to + n) first zeros k))
+
+pub copy_ends : (first : List (List ℕ)) (from to n : ℕ) → from + n ≤ length first → (to + n) + 64 ≤ length first → EndsInZero first
+    → EndsInZero (with_copied first from to n)
+copy_ends first from to n h k ends at d near low =
+    let target : to + n ≤ length first = omega arith in
+    let long = length-with_copied first from to n h target in
+    let to_low : to ≤ length first = omega arith in
+    let room : n ≤ length (drop from first) = omega (arith, length-drop from first) in
+    let behind : (to + n) + (at - (to + n)) ≡ at = omega (arith, long) in
+    let copied = with_copied first from to n in
+    ap (λ (i : ℕ). get_or copied i d) (sym behind)
+    ∙ sym (get_or-drop (to + n) copied (at - (to + n)) d)
+    ∙ ap (λ l. get_or l (at - (to + n)) d) (drop-paste first to (drop from first) n to_low room)
+    ∙ get_or-drop (to + n) first (at - (to + n)) d
+    ∙ ap (λ (i : ℕ). get_or first i d) behind
+    ∙ ends at d (omega (arith, long)) (omega (arith, long))
+
+pub copy_kept : (first new : List (List ℕ)) (room larger count from to n end : ℕ) → new ≡ with_copied first from to n → from + n ≤ length first → to + n ≤ length first
+    → (length first ≡ count) ⊎ (end + 64 ≤ length first) → to + n ≤ end → room ≤ larger → IsKept first room count → IsKept new larger count
+copy_kept first new room larger count from to n end is h k reached inside more kept =
+    let long = ap length is ∙ length-with_copied first from to n h k in
+    let below = kept.below in
+    let fits = kept.fits in
+    record {
+      few = kept.few;
+      below = omega (arith, long, below);
+      fits = omega (arith, fits);
+      ends = elim kept.ends [
+        | inl whole ↦ inl (long ∙ whole)
+        | inr ends ↦ elim reached [
+          | inl whole ↦ inl (long ∙ whole)
+          | inr behind ↦ inr (subst EndsInZero (sym is) (copy_ends first from to n h (omega (arith, behind)) ends))
+        ]
+      ];
+    }

@@ -1,0 +1,15 @@
+use Rattle.std.specs.Prelude.{ℕ, ◌+◌, List, [], ◌++◌, take, drop, replicate, slice_index_or}
+
+-- Lines of 64 bytes, as lists.
+
+-- n lines of zero bytes
+unfoldable pub zero_lines : ℕ → List (List ℕ)
+zero_lines n = replicate n (replicate 64 0)
+
+-- the line of a number, which is there
+abbrev pub line_of : List (List ℕ) → ℕ → List ℕ
+line_of lines at = slice_index_or lines at []
+
+-- the lines after the n from `from` on were copied over the n from `to` on
+abbrev pub with_copied : List (List ℕ) → ℕ → ℕ → ℕ → List (List ℕ)
+with_copied lines from to n = take to lines ++ take n (drop from lines) ++ drop (to + n) lines
