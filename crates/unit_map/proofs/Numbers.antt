@@ -1,0 +1,71 @@
+use Rattle.std.proofs.lemmas.Nat.{pow_pos}
+use Rattle.std.proofs.Math.Nat.{two-pow-succ}
+use Rattle.std.proofs.Common.{◌≡◌, ℕ, zero, suc, ◌+◌, ◌-◌, ◌^◌, ◌%◌, ◌<◌, ◌≤◌, ◌⊎◌, inl, inr, ap, sym, ◌∙◌, refl, arith, subst}
+
+-- Orders, which are at most 4.
+
+pub by_order : (P : ℕ → Type 0) → P 0 → P 1 → P 2 → P 3 → P 4 → (k : ℕ) → k ≤ 4 → P k
+by_order P a b c d e zero h = a
+by_order P a b c d e (suc zero) h = b
+by_order P a b c d e (suc (suc zero)) h = c
+by_order P a b c d e (suc (suc (suc zero))) h = d
+by_order P a b c d e (suc (suc (suc (suc zero)))) h = e
+by_order P a b c d e (suc (suc (suc (suc (suc k))))) h = absurd (omega arith)
+
+-- the middle of a block is the end of no smaller lower half
+pub no_middle : (x k o : ℕ) → k ≤ 4 → o < k → x % 2 ^ (o + 1) ≡ 0 → (x + 2 ^ o) % 2 ^ k ≡ 0 → ⊥
+no_middle x zero o h lt a b = omega arith
+no_middle x (suc zero) zero h lt a b = omega arith
+no_middle x (suc zero) (suc o) h lt a b = omega (arith, lt)
+no_middle x (suc (suc zero)) zero h lt a b = omega arith
+no_middle x (suc (suc zero)) (suc zero) h lt a b = omega arith
+no_middle x (suc (suc zero)) (suc (suc o)) h lt a b = omega (arith, lt)
+no_middle x (suc (suc (suc zero))) zero h lt a b = omega arith
+no_middle x (suc (suc (suc zero))) (suc zero) h lt a b = omega arith
+no_middle x (suc (suc (suc zero))) (suc (suc zero)) h lt a b = omega arith
+no_middle x (suc (suc (suc zero))) (suc (suc (suc o))) h lt a b = omega (arith, lt)
+no_middle x (suc (suc (suc (suc zero)))) zero h lt a b = omega arith
+no_middle x (suc (suc (suc (suc zero)))) (suc zero) h lt a b = omega arith
+no_middle x (suc (suc (suc (suc zero)))) (suc (suc zero)) h lt a b = omega arith
+no_middle x (suc (suc (suc (suc zero)))) (suc (suc (suc zero))) h lt a b = omega arith
+no_middle x (suc (suc (suc (suc zero)))) (suc (suc (suc (suc o)))) h lt a b = omega (arith, lt)
+no_middle x (suc (suc (suc (suc (suc k))))) o h lt a b = omega (arith, h)
+
+-- which of two orders is larger
+pub compare : (o k : ℕ) → (o < k) ⊎ ((o ≡ k) ⊎ (k < o))
+compare zero zero = inr (inl refl)
+compare zero (suc k) = inl (omega arith)
+compare (suc o) zero = inr (inr (omega arith))
+compare (suc o) (suc k) = elim (compare o k) [ inl h ↦ inl (omega arith) | inr g ↦ elim g [ inl e ↦ inr (inl (ap suc e)) | inr h ↦ inr (inr (omega arith)) ] ]
+
+pub twice : (k : ℕ) → 2 ^ (k + 1) ≡ 2 ^ k + 2 ^ k
+twice k = let e : k + 1 ≡ suc k = omega arith in ap (λ n. 2 ^ n) e ∙ two-pow-succ k
+
+grows : (k n : ℕ) → 2 ^ k ≤ 2 ^ (k + n)
+grows k zero = let e : k ≡ k + zero = omega arith in subst (λ n. 2 ^ k ≤ 2 ^ n) e (omega arith)
+grows k (suc n) =
+    let e : k + n + 1 ≡ k + suc n = omega arith in
+    let more : 2 ^ k ≤ 2 ^ (k + n + 1) = omega (arith, grows k n, twice (k + n)) in
+    subst (λ m. 2 ^ k ≤ 2 ^ m) e more
+
+-- a larger order has more units
+pub larger : (k o : ℕ) → k < o → 2 ^ o ≤ 2 ^ k → ⊥
+larger k o lt h =
+    let same : o ≡ k + 1 + (o - (k + 1)) = omega (arith, lt) in
+    let more : 2 ^ (k + 1) ≤ 2 ^ o = subst (λ n. 2 ^ (k + 1) ≤ 2 ^ n) (sym same) (grows (k + 1) (o - (k + 1))) in
+    omega (arith, more, twice k, pow_pos k, h)
+
+-- where the halves of a block start
+pub lower_aligned : (u k : ℕ) → k < 4 → u % 2 ^ (k + 1) ≡ 0 → u % 2 ^ k ≡ 0
+lower_aligned u zero lt h = omega arith
+lower_aligned u (suc zero) lt h = omega arith
+lower_aligned u (suc (suc zero)) lt h = omega arith
+lower_aligned u (suc (suc (suc zero))) lt h = omega arith
+lower_aligned u (suc (suc (suc (suc k)))) lt h = absurd (omega (arith, lt))
+
+pub upper_aligned : (u k : ℕ) → k < 4 → u % 2 ^ (k + 1) ≡ 0 → (u + 2 ^ k) % 2 ^ k ≡ 0
+upper_aligned u zero lt h = omega arith
+upper_aligned u (suc zero) lt h = omega arith
+upper_aligned u (suc (suc zero)) lt h = omega arith
+upper_aligned u (suc (suc (suc zero))) lt h = omega arith
+upper_aligned u (suc (suc (suc (suc k)))) lt h = absurd (omega (arith, lt))

@@ -1,0 +1,63 @@
+use Rattle.std.specs.Prelude.{◌≡◌, ℕ, zero, suc, ◌+◌, ◌-◌, ◌^◌, ◌<◌, ◌≤◌, true, false, List, [], ◌∷◌, ◌++◌, Option, Some, None}
+use Rattle.unit_map.specs.Pieces.{Piece, IsPiece, any, count, free_at, taken_at, AreFreeHalves}
+
+-- What a call does to the pieces.
+
+-- a free block is split: the lowest part, of this order, is taken, and the `times` upper halves are free
+abbrev pub split : ℕ → ℕ → ℕ → List Piece
+split unit order zero = taken_at unit order ∷ []
+split unit order (suc times) = split unit order times ++ (free_at (unit + 2 ^ (order + times)) (order + times) ∷ [])
+
+-- a block of this order at this unit is taken out of a free block of the order `from`
+pub record TakesFrom (old : List Piece) (order from unit : ℕ) (new : List Piece) : Type 0 where
+  pub front : List Piece
+  pub back : List Piece
+  pub was : old ≡ front ++ free_at unit from ∷ back
+  pub now : new ≡ front ++ (split unit order (from - order) ++ back)
+
+-- a block of this order at this unit is taken out of a free block of the least order that is enough
+pub record Takes (old : List Piece) (order unit : ℕ) (new : List Piece) : Type 0 where
+  pub from : ℕ
+  pub takes : TakesFrom old order from unit new
+  pub enough : order ≤ from
+  pub least : (p : Piece) → IsPiece old p → p.free ≡ true → order ≤ p.order → from ≤ p.order
+
+-- two free halves become one free block
+pub record Joins (old new : List Piece) : Type 0 where
+  pub front : List Piece
+  pub lower : Piece
+  pub upper : Piece
+  pub back : List Piece
+  pub halves : AreFreeHalves lower upper
+  pub was : old ≡ front ++ lower ∷ upper ∷ back
+  pub now : new ≡ front ++ free_at lower.unit (lower.order + 1) ∷ back
+
+-- any number of times
+pub data Merges : List Piece → List Piece → Type 0 where
+  Done : (ps : List Piece) → Merges ps ps
+  Step : (old mid new : List Piece) → Joins old mid → Merges mid new → Merges old new
+
+-- a taken block becomes free, and free halves are merged
+pub record Gives (old : List Piece) (unit order : ℕ) (new : List Piece) : Type 0 where
+  pub front : List Piece
+  pub back : List Piece
+  pub was : old ≡ front ++ taken_at unit order ∷ back
+  pub merges : Merges (front ++ free_at unit order ∷ back) new
+
+-- the least order from `order` on of which there is a free piece
+abbrev pub IsLeast : List Piece → ℕ → Option ℕ → Type 0
+IsLeast ps order None = (k : ℕ) → order ≤ k → k < 5 → any k ps ≡ false
+IsLeast ps order (Some from) = (order ≤ from) × (from ≤ 4) × (any from ps ≡ true) × ((k : ℕ) → order ≤ k → k < from → any k ps ≡ false)
+
+-- two different free blocks of an order, or that there are fewer than two
+abbrev pub AreTwoFree : List Piece → ℕ → Option (ℕ × ℕ) → Type 0
+AreTwoFree ps order None = count order ps < 2
+AreTwoFree ps order (Some both) = (2 ≤ count order ps) × (both.0 < both.1) × IsPiece ps (free_at both.0 order) × IsPiece ps (free_at both.1 order)
+
+-- no free block is of this order or above
+abbrev pub IsFull : List Piece → ℕ → Type 0
+IsFull ps order = (p : Piece) → IsPiece ps p → p.free ≡ true → order ≤ p.order → ⊥
+
+-- some is
+abbrev pub HasRoom : List Piece → ℕ → Type 0
+HasRoom ps order = (p : Piece) × (IsPiece ps p × (p.free ≡ true) × (order ≤ p.order))

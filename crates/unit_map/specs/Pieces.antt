@@ -1,0 +1,80 @@
+use Rattle.std.specs.Prelude.{◌≡◌, ℕ, zero, suc, ◌+◌, ◌*◌, ◌^◌, ◌%◌, ◌<◌, ◌≤◌, Bool, true, false, ◌&&◌, ◌||◌, ◌⊎◌, cond, nat_eq, List, [], ◌∷◌}
+
+-- The pieces of a memory, ascending.
+
+-- a block of the map: it covers 2^order units from `unit` on
+pub record Piece : Type 0 where
+  pub unit : ℕ
+  pub order : ℕ
+  pub free : Bool
+
+abbrev pub free_at : ℕ → ℕ → Piece
+free_at unit order = record { unit = unit; order = order; free = true }
+
+abbrev pub taken_at : ℕ → ℕ → Piece
+taken_at unit order = record { unit = unit; order = order; free = false }
+
+-- a piece is one of the pieces
+abbrev pub IsPiece : List Piece → Piece → Type 0
+IsPiece [] p = ⊥
+IsPiece (x ∷ ps) p = (x ≡ p) ⊎ IsPiece ps p
+
+-- the units that the pieces cover
+abbrev pub units_of : List Piece → ℕ
+units_of [] = 0
+units_of (p ∷ ps) = 2 ^ p.order + units_of ps
+
+-- the units of those that are free
+abbrev pub free_units : List Piece → ℕ
+free_units [] = 0
+free_units (p ∷ ps) = cond p.free (2 ^ p.order) 0 + free_units ps
+
+-- whether a piece is a free one of this order
+abbrev pub is_free_of : ℕ → Piece → Bool
+is_free_of order p = p.free && nat_eq p.order order
+
+-- how many free pieces there are of an order
+abbrev pub count : ℕ → List Piece → ℕ
+count order [] = 0
+count order (p ∷ ps) = cond (is_free_of order p) 1 0 + count order ps
+
+-- whether there is a free piece of an order
+abbrev pub any : ℕ → List Piece → Bool
+any order [] = false
+any order (p ∷ ps) = is_free_of order p || any order ps
+
+-- each piece starts where the one before ended, the first at `unit`
+abbrev pub Fills : ℕ → List Piece → Type 0
+Fills unit [] = Unit {0}
+Fills unit (p ∷ ps) = (p.unit ≡ unit) × Fills (unit + 2 ^ p.order) ps
+
+-- a piece starts at a multiple of its size, which is at most a frame
+pub record IsAligned (p : Piece) : Type 0 where
+  pub order : p.order ≤ 4
+  pub unit : p.unit % 2 ^ p.order ≡ 0
+
+-- two free pieces that are the lower and the upper half of one block
+pub record AreFreeHalves (p q : Piece) : Type 0 where
+  pub lower : p.free ≡ true
+  pub upper : q.free ≡ true
+  pub order : p.order < 4
+  pub same : q.order ≡ p.order
+  pub unit : p.unit % 2 ^ (p.order + 1) ≡ 0
+  pub beside : q.unit ≡ p.unit + 2 ^ p.order
+
+-- no two of the pieces are free halves of one block
+abbrev pub AreMerged : List Piece → Type 0
+AreMerged ps = (p q : Piece) → IsPiece ps p → IsPiece ps q → AreFreeHalves p q → ⊥
+
+-- what is true of the pieces of every map
+pub record ArePieces (ps : List Piece) : Type 0 where
+  pub fills : Fills 0 ps
+  pub frames : (n : ℕ) × (units_of ps ≡ 16 * n)
+  pub few : units_of ps ≤ 2 ^ 20
+  pub aligned : (p : Piece) → IsPiece ps p → IsAligned p
+  pub merged : AreMerged ps
+
+-- a free block of order 4 for each of the n frames from `unit` on
+abbrev pub free_frames : ℕ → ℕ → List Piece
+free_frames unit zero = []
+free_frames unit (suc n) = free_at unit 4 ∷ free_frames (unit + 16) n

@@ -1,0 +1,120 @@
+ghost use Rattle.std.specs.Prelude.{◌≡◌, ◌+◌, ◌-◌, ◌*◌, ◌^◌, ◌<◌, ◌≤◌, IfOk, IfSome, IsTrue, None, false};
+ghost use Rattle.unit_map.specs.Pieces.{ArePieces, IsPiece, count, free_frames, free_units, taken_at};
+ghost use Rattle.unit_map.specs.Changes.{HasRoom, IsFull, Takes, Gives};
+ghost use Rattle.unit_map.specs.Blocks.{AreTwoBlocks};
+
+use crate::tree::Tree;
+use std::alloc::{AllocError, Global};
+use std::marker::Model;
+
+/// A block of memory: 2^order units of 256 bytes from `unit` on, a multiple of its size.
+#[derive(Clone, Copy, Debug, PartialEq, Eq)]
+pub struct Block {
+    pub unit: u32,
+    pub order: u8,
+}
+
+/// Which blocks of a memory are free, and which are taken.
+#[derive(Drop)]
+pub struct UnitMap {
+    tree: Tree,
+    free: u32,
+}
+
+impl Model for UnitMap {
+    ghost use Rattle.std.specs.Prelude.{List};
+    ghost use Rattle.unit_map.specs.Pieces.{Piece};
+    ghost use Rattle.unit_map.specs.Maps.{IsMap};
+
+    ghost Value = { List Piece };
+
+    ghost view = { λ m. m.tree.pieces };
+
+    ghost invariant = { λ m. IsMap m.tree m.free };
+}
+
+impl UnitMap {
+    /// A map of 1 to 65,536 frames: one free block of order 4 for each. Takes all the memory that the map
+    /// ever needs, or answers the want of it.
+    pub fn new(alloc: Global, frames: u32) -> Result<UnitMap, AllocError>
+        requires some { 0 < frames }
+        requires few { frames ≤ 65536 }
+        ensures { IfOk result (λ map. map ≡ free_frames 0 frames) }
+    {
+        let tree = Tree::frames(alloc, 0, frames)?;
+        Ok(UnitMap {
+            tree,
+            free: 16 * frames,
+        })
+    }
+
+    /// Takes a block of an order from 0 to 4 out of a free block of the least order that is enough, which is
+    /// split as needed. None, and nothing changes, where no free block has that order or above.
+    /// Takes no memory. Costs a few steps for each level of a tree over the frames.
+    pub fn take(&mut self, order: u8) -> Option<Block>
+        requires { order ≤ 4 }
+        ensures none { result ≡ None → IsFull self.old order × (self.new ≡ self.old) }
+        ensures pieces { ArePieces self.new }
+        ensures some { IfSome result (λ block. (block.order ≡ order) × Takes self.old order block.unit self.new) }
+    {
+        match self.tree.least(order) {
+            None => None,
+            Some(from) => {
+                let unit = self.tree.take(order, from);
+                self.free -= 1u32 << order;
+                Some(Block { unit, order })
+            }
+        }
+    }
+
+    /// Frees a block that is taken, and merges free halves of one block until no two are left.
+    /// Takes no memory. Costs a few steps for each level of a tree over the frames.
+    pub fn give(&mut self, block: Block)
+        requires { IsPiece self.old (taken_at block.unit block.order) }
+        ensures gives { Gives self.old block.unit block.order self.new }
+        ensures pieces { ArePieces self.new }
+    {
+        self.tree.give(block.unit, block.order);
+        self.free += 1u32 << block.order;
+    }
+
+    /// How many units are free: at most 1,048,576. Costs a step.
+    pub fn free_units(&self) -> u32
+        ensures sum { result ≡ free_units self.now }
+        ensures orders { result ≡ count 0 self.now + 2 * count 1 self.now + 4 * count 2 self.now + 8 * count 3 self.now + 16 * count 4 self.now }
+        ensures pieces { ArePieces self.now }
+    {
+        self.free
+    }
+
+    /// Whether a block of an order from 0 to 4 can be taken. Costs a step for each order.
+    pub fn has_room(&self, order: u8) -> bool
+        requires { order ≤ 4 }
+        ensures room { IsTrue result → HasRoom self.now order }
+        ensures full { result ≡ false → IsFull self.now order }
+    {
+        self.tree.least(order).is_some()
+    }
+
+    /// Two different free blocks of an order from 0 to 4, the lower one first. None where there are fewer than two.
+    /// Costs a few steps for each level of a tree over the frames.
+    pub fn two_free(&self, order: u8) -> Option<(Block, Block)>
+        requires { order ≤ 4 }
+        ensures { AreTwoBlocks self.now order result }
+    {
+        match self.tree.two_free(order) {
+            None => None,
+            Some((lower, upper)) => Some((
+                Block { unit: lower, order },
+                Block { unit: upper, order },
+            )),
+        }
+    }
+
+    // Whether a block is taken, by a walk over all: for tests.
+    pub(crate) fn is_taken(&self, block: Block) -> bool
+        ensures { IsTrue result → IsPiece self.now (taken_at block.unit block.order) }
+    {
+        self.tree.is_taken(block.unit, block.order)
+    }
+}
