@@ -9,7 +9,8 @@
 //! - `memory`: memories of plain pages
 //! - `guest`: one process, its turn, and what it asks for
 //! - `load`: what a load makes of an image
-//! - `machine`: `Machine` with `new`, `load`, `process`, `is_running` and `event`
+//! - `machine`: `Machine` with `new`, `load`, `process`, `is_running`, and `event` with its two parts,
+//!   `execute` and `answer`
 #![tactic(auto)]
 
 mod guest;
