@@ -1,4 +1,4 @@
-use Rattle.std.proofs.Common.{◌≡◌, ℕ, zero, suc, ◌<◌, ◌≤◌, Bool, true, false, cond, ◌||◌, List, [], ◌∷◌, ◌++◌, length, map, replicate, slice_index, get_or, take, sym, ap, subst, ◌∙◌, refl, arith, Option, Some, None, ◌+◌, ◌-◌, ◌*◌, not}
+use Rattle.std.proofs.Common.{◌≡◌, ℕ, zero, suc, ◌<◌, ◌≤◌, Bool, true, false, cond, ◌||◌, List, [], ◌∷◌, ◌++◌, length, map, replicate, slice_index, get_or, take, sym, ap, subst, ◌∙◌, refl, arith, Option, Some, None, ◌+◌, ◌-◌, ◌*◌}
 use Rattle.std.specs.List.{list_any, filter, range_with_len}
 use Rattle.std.specs.FinMap.{get}
 use Rattle.std.specs.Option.{option_map_or}
@@ -132,7 +132,3 @@ zero_bytes file page untouched = zeros page_length refl
         all_zero (λ i. byte_in (loads_of file) file (4096 * page + i)) 0 n (λ q below.
         ap (λ (found : Option ProgramHeader). option_map_or (λ (header : ProgramHeader). slice_index file (header.offset + (4096 * page + q - header.address))) found 0)
         (none_holding (loads_of file) page q untouched (omega (arith, is))))
-
-pub not_true : (b : Bool) → not b ≡ true → b ≡ false
-not_true true h = cc
-not_true false h = refl

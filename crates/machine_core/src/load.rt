@@ -49,11 +49,10 @@ fn page_bytes(image: &Image, file: &[u8], image_page: ImagePage) -> Frame
     requires marked { image_page.stored ≡ is_stored file.now image_page.page }
     ensures { result ≡ page_bytes file.now image_page.page }
 {
-    if !image_page.stored {
-        return [0; 4096];
-    }
     let mut bytes = [0; 4096];
-    image.fill_page(file, image_page.page, &mut bytes);
+    if image_page.stored {
+        image.fill_page(file, image_page.page, &mut bytes);
+    }
     bytes
 }
 
