@@ -5,3 +5,5 @@ pub mod Splits
 pub mod Steps
 pub mod Trees
 pub mod Counts
+pub mod Moved
+pub mod Cuts

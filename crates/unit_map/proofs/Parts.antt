@@ -1,7 +1,7 @@
-use Rattle.std.proofs.Common.{◌≡◌, ℕ, ◌+◌, ◌^◌, ◌%◌, ◌<◌, ◌≤◌, true, ◌⊎◌, inl, inr, [], ◌∷◌, ◌++◌, sym, ap, subst, ◌∙◌, refl, arith}
+use Rattle.std.proofs.Common.{◌≡◌, ℕ, ◌+◌, ◌^◌, ◌%◌, ◌<◌, ◌≤◌, Bool, true, false, ◌⊎◌, inl, inr, [], ◌∷◌, ◌++◌, sym, ap, subst, ◌∙◌, refl, arith}
 use Rattle.std.proofs.lemmas.Nat.{pow_pos}
 use Rattle.unit_map.specs.Pieces.{Piece, IsPiece, IsAligned, AreFreeHalves, AreMerged, units_of, any, Fills, free_at}
-use Rattle.unit_map.specs.Spans.{Span, IsSpan, IsSamePlace, AreWithin, AreParts, AreNotBothFree}
+use Rattle.unit_map.specs.Spans.{Span, IsSpan, IsSamePlace, IsPlace, AreWithin, AreParts, AreNotBothFree}
 use Rattle.unit_map.proofs.Lists.{fills_front, fills_append, units_append, in_either, lies, covers, alone, any_piece, piece_any}
 use Rattle.unit_map.proofs.Numbers.{no_middle, compare, larger}
 
@@ -136,3 +136,30 @@ in_upper_part unit units order l r p parts right within h le = at (in_either l.p
     at : (IsPiece l.pieces p ⊎ IsPiece r.pieces p) → IsPiece r.pieces p
     at (inl a) = absurd (omega (arith, le, (lies unit l.pieces p (fills_front unit l.pieces r.pieces within.fills) a).1, units_append l.pieces r.pieces, within.total, right.within.total, parts.total, parts.upper, pow_pos p.order))
     at (inr b) = b
+
+-- a block that has a free piece of the place of another one
+pub same_block : (s p : Span) → IsSpan s → IsSpan p → IsPiece s.pieces (free_at p.unit p.order) → s.order ≡ p.order → IsSamePlace s p × (s.pieces ≡ free_at p.unit p.order ∷ [])
+same_block s p is ip there e =
+    let low : p.order ≤ 4 = (is.within.aligned _ there).order in
+    let was = whole s (free_at p.unit p.order) is (omega (arith, e, low)) there (sym e) in
+    let filled : Fills s.unit (free_at p.unit p.order ∷ []) = subst (λ ps. Fills s.unit ps) was is.within.fills in
+    (record { unit = filled.0; units = ip.place.block low ∙ ap (λ k. 2 ^ k) (sym e) ∙ sym (is.place.block (omega (arith, e, low))); order = sym e }, was)
+
+pub same_back : (s p : Span) → IsSamePlace s p → IsSamePlace p s
+same_back s p h = record { unit = sym h.unit; units = sym h.units; order = sym h.order }
+
+-- parts have no piece of the whole
+pub parts_less : (unit units order : ℕ) (l r : Span) → IsPlace unit units order → AreParts unit units order l r → IsSpan l → IsSpan r → any order (l.pieces ++ r.pieces) ≡ false
+parts_less unit units order l r place parts left right = at (any order (l.pieces ++ r.pieces)) refl
+  where
+    less : (p : Piece) → p.order ≡ order → (IsPiece l.pieces p ⊎ IsPiece r.pieces p) → ⊥
+    less p e (inl a) =
+        let low = (left.within.aligned p a).order in
+        omega (arith, covers l.pieces p a, left.within.total, parts.total, parts.some_upper, place.block (omega (arith, low, e)), ap (λ k. 2 ^ k) e)
+    less p e (inr b) =
+        let low = (right.within.aligned p b).order in
+        omega (arith, covers r.pieces p b, right.within.total, parts.total, parts.some_lower, place.block (omega (arith, low, e)), ap (λ k. 2 ^ k) e)
+
+    at : (b : Bool) → any order (l.pieces ++ r.pieces) ≡ b → b ≡ false
+    at false e = refl
+    at true e = let found = any_piece order (l.pieces ++ r.pieces) e in absurd (less found.0 found.1.2 (in_either l.pieces r.pieces found.0 found.1.0))

@@ -1,6 +1,6 @@
 use Rattle.std.proofs.Common.{◌≡◌, ℕ, zero, suc, ◌+◌, ◌-◌, true, false, inl, inr, List, [], ◌∷◌, ◌++◌, sym, ap, subst, ◌∙◌, refl, append_assoc}
 use Rattle.unit_map.specs.Pieces.{Piece, IsPiece, AreFreeHalves, free_at, taken_at}
-use Rattle.unit_map.specs.Changes.{Joins, Merges, Gives, TakesFrom, split}
+use Rattle.unit_map.specs.Changes.{Joins, Merges, Gives, TakesFrom, Puts, split}
 use Rattle.unit_map.proofs.Lists.{in_lower, in_upper}
 use Rattle.unit_map.specs.Changes.Merges.{Done, Step}
 
@@ -80,6 +80,14 @@ takes_upper rest old new order from unit g = record {
   back = g.back;
   was = ap (λ ps. rest ++ ps) g.was ∙ sym (append_assoc rest g.front (free_at unit from ∷ g.back));
   now = ap (λ ps. rest ++ ps) g.now ∙ sym (append_assoc rest g.front (split unit order (from - order) ++ g.back));
+}
+
+pub puts_upper : (rest old new part : List Piece) (unit order : ℕ) → Puts old unit order part new → Puts (rest ++ old) unit order part (rest ++ new)
+puts_upper rest old new part unit order g = record {
+  front = rest ++ g.front;
+  back = g.back;
+  was = ap (λ ps. rest ++ ps) g.was ∙ sym (append_assoc rest g.front (free_at unit order ∷ g.back));
+  now = ap (λ ps. rest ++ ps) g.now ∙ sym (append_assoc rest g.front (part ++ g.back));
 }
 
 split_taken : (unit order times : ℕ) → IsPiece (split unit order times) (taken_at unit order)

@@ -10,6 +10,7 @@ use Rattle.unit_map.specs.declared.tree.State.{State}
 use Rattle.unit_map.specs.declared.tree.State.TheVariants.{Free, Taken, Split}
 use Rattle.unit_map.specs.declared.tree.Halves.{Halves}
 use Rattle.unit_map.specs.declared.tree.Halves.TheVariants.{Two}
+use Rattle.unit_map.proofs.Lists.{piece_any}
 use Rattle.unit_map.proofs.Parts.{within_parts, within_one}
 use Rattle.unit_map.proofs.Steps.{gives_joined}
 
@@ -83,3 +84,7 @@ before_taken s state unit order u o h lb rb e i a differs = sym e ∙ parts_take
 pub before_split : (s : Span) (state : State) (unit order : ℕ) (h : Halves) (lb rb : Box Tree Global) → pieces_of state unit order h ≡ s.pieces → state ≡ Split → h ≡ Two lb rb
     → s.pieces ≡ lb.value.pieces ++ rb.value.pieces
 before_split s state unit order h lb rb e is i = sym e ∙ ap (λ (st : State). pieces_of st unit order h) is ∙ ap parts i
+
+pub before_free : (s : Span) (state : State) (unit order u o k : ℕ) (h : Halves) (lb rb : Box Tree Global) → pieces_of state unit order h ≡ s.pieces → h ≡ Two lb rb
+    → IsPiece s.pieces (free_at u o) → (order ≡ k → ⊥) → k ≡ o → s.pieces ≡ lb.value.pieces ++ rb.value.pieces
+before_free s state unit order u o k h lb rb e i a differs same = before_any s state unit order o h lb rb e i (piece_any o s.pieces (free_at u o) a refl refl) (λ x. differs (x ∙ sym same))

@@ -1,5 +1,5 @@
 use Rattle.std.specs.Prelude.{◌≡◌, ℕ, zero, suc, ◌+◌, ◌-◌, ◌^◌, ◌<◌, ◌≤◌, true, false, List, [], ◌∷◌, ◌++◌, Option, Some, None}
-use Rattle.unit_map.specs.Pieces.{Piece, IsPiece, any, count, free_at, taken_at, AreFreeHalves}
+use Rattle.unit_map.specs.Pieces.{moved, Piece, IsPiece, any, count, units_of, Fills, free_at, taken_at, AreFreeHalves}
 
 -- What a call does to the pieces.
 
@@ -61,3 +61,30 @@ IsFull ps order = (p : Piece) → IsPiece ps p → p.free ≡ true → order ≤
 -- some is
 abbrev pub HasRoom : List Piece → ℕ → Type 0
 HasRoom ps order = (p : Piece) × (IsPiece ps p × (p.free ≡ true) × (order ≤ p.order))
+
+-- the pieces of a range become one free block, and free halves are merged
+pub record Clears (old : List Piece) (unit order : ℕ) (part new : List Piece) : Type 0 where
+  pub front : List Piece
+  pub back : List Piece
+  pub was : old ≡ front ++ (part ++ back)
+  pub fills : Fills unit part
+  pub total : units_of part ≡ 2 ^ order
+  pub merges : Merges (front ++ free_at unit order ∷ back) new
+
+-- other free blocks of an order stay
+abbrev pub OthersStay : List Piece → ℕ → ℕ → List Piece → Type 0
+OthersStay old other order new = (v : ℕ) → IsPiece old (free_at v order) → (v ≡ other → ⊥) → IsPiece new (free_at v order)
+
+-- other pieces stand in place of a free block
+pub record Puts (old : List Piece) (unit order : ℕ) (part new : List Piece) : Type 0 where
+  pub front : List Piece
+  pub back : List Piece
+  pub was : old ≡ front ++ free_at unit order ∷ back
+  pub now : new ≡ front ++ (part ++ back)
+
+-- the pieces of one range go to another, which was one free block
+pub record Relocates (old : List Piece) (from to order : ℕ) (new : List Piece) : Type 0 where
+  pub part : List Piece
+  pub mid : List Piece
+  pub cleared : Clears old from order part mid
+  pub put : Puts mid to order (moved from to part) new

@@ -1,4 +1,4 @@
-use Rattle.std.specs.Prelude.{◌≡◌, ℕ, zero, suc, ◌+◌, ◌*◌, ◌^◌, ◌%◌, ◌<◌, ◌≤◌, Bool, true, false, ◌&&◌, ◌||◌, ◌⊎◌, cond, nat_eq, List, [], ◌∷◌}
+use Rattle.std.specs.Prelude.{◌≡◌, ℕ, zero, suc, ◌+◌, ◌-◌, ◌*◌, ◌^◌, ◌%◌, ◌<◌, ◌≤◌, Bool, true, false, ◌&&◌, ◌||◌, ◌⊎◌, cond, nat_eq, List, [], ◌∷◌}
 
 -- The pieces of a memory, ascending.
 
@@ -78,3 +78,8 @@ pub record ArePieces (ps : List Piece) : Type 0 where
 abbrev pub free_frames : ℕ → ℕ → List Piece
 free_frames unit zero = []
 free_frames unit (suc n) = free_at unit 4 ∷ free_frames (unit + 16) n
+
+-- pieces that lie elsewhere, by as much as `to` lies from `from`
+abbrev pub moved : ℕ → ℕ → List Piece → List Piece
+moved from to [] = []
+moved from to (p ∷ ps) = record { unit = to + (p.unit - from); order = p.order; free = p.free } ∷ moved from to ps

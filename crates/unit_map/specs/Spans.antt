@@ -1,5 +1,5 @@
-use Rattle.std.specs.Prelude.{◌≡◌, ℕ, ◌+◌, ◌^◌, ◌%◌, ◌<◌, ◌≤◌, Bool, true, List, [], ◌∷◌}
-use Rattle.unit_map.specs.Pieces.{Piece, free_at, IsPiece, units_of, any, Fills, IsAligned, AreMerged}
+use Rattle.std.specs.Prelude.{◌≡◌, ℕ, ◌+◌, ◌^◌, ◌%◌, ◌<◌, ◌≤◌, ◌⊎◌, false, Bool, true, List, [], ◌∷◌}
+use Rattle.unit_map.specs.Pieces.{moved, Piece, free_at, IsPiece, units_of, any, Fills, IsAligned, AreMerged}
 
 -- A range of units with its pieces.
 
@@ -61,3 +61,19 @@ pub record AreBothFree (order : ℕ) (l r : Span) : Type 0 where
 -- they aren't
 abbrev pub AreNotBothFree : ℕ → Span → Span → Type 0
 AreNotBothFree order l r = order ≤ 4 → any l.order l.pieces ≡ true → any r.order r.pieces ≡ true → ⊥
+
+-- a span that starts at another unit
+abbrev pub rebased : Span → ℕ → Span
+rebased s v = record { unit = v; units = s.units; order = s.order; pieces = moved s.unit v s.pieces }
+
+-- two blocks of an order are the halves of one block
+abbrev pub AreBeside : ℕ → ℕ → ℕ → Type 0
+AreBeside u v order = ((u % 2 ^ (order + 1) ≡ 0) × (v ≡ u + 2 ^ order)) ⊎ ((v % 2 ^ (order + 1) ≡ 0) × (u ≡ v + 2 ^ order))
+
+-- the range of an order at a unit, whose other half is free, can be cut out of a span
+pub record IsCut (s : Span) (unit other order : ℕ) : Type 0 where
+  pub low : order < 4
+  pub within : order ≤ s.order
+  pub beside : AreBeside unit other order
+  pub here : s.order ≡ order → (unit ≡ s.unit) × (any order s.pieces ≡ false)
+  pub there : order < s.order → IsPiece s.pieces (free_at other order)

@@ -1,11 +1,12 @@
 ghost use Rattle.std.specs.Prelude.{◌≡◌, ◌+◌, ◌-◌, ◌*◌, ◌^◌, ◌%◌, ◌<◌, ◌≤◌, ◌∷◌, ◌++◌, [], IfOk, IsTrue, slice_index, true, false};
 ghost use Rattle.unit_map.specs.Pieces.{IsPiece, any, free_frames, free_at, taken_at};
-ghost use Rattle.unit_map.specs.Changes.{IsLeast, AreTwoFree, split, TakesFrom, Gives};
-ghost use Rattle.unit_map.specs.Spans.{IsSpan, IsSamePlace, IsPlace, marks, AreParts, AreWithin};
+ghost use Rattle.unit_map.specs.Changes.{Relocates, Clears, OthersStay, Puts, IsLeast, AreTwoFree, split, TakesFrom, Gives};
+ghost use Rattle.unit_map.specs.Spans.{rebased, IsCut, AreBeside, IsSpan, IsSamePlace, IsPlace, marks, AreParts, AreWithin};
 ghost use Rattle.unit_map.specs.Together.{Joined};
 
 use std::alloc::{AllocError, Global};
 use std::marker::Model;
+use std::mem;
 
 // What has become of the range of a tree as one block.
 #[derive(Clone, Copy, Debug, PartialEq, Eq)]
@@ -286,6 +287,113 @@ impl Tree {
                 }
             },
         }
+    }
+
+    // Lets the whole start at another unit.
+    fn rebase(&mut self, unit: u32)
+        requires high { self.old.order ≤ 4 }
+        requires place { IsPlace unit self.old.units self.old.order }
+        ensures is { self.new ≡ rebased self.old unit }
+        ensures span { IsSpan self.new }
+    {
+        match &mut self.halves {
+            Halves::One => {
+                self.unit = unit;
+            }
+            Halves::Two(lower, upper) => {
+                let middle = unit + (upper.unit() - lower.unit());
+                lower.rebase(unit);
+                upper.rebase(middle);
+                self.unit = unit;
+            }
+        }
+    }
+
+    // Puts a tree in place of a free block, and answers that block in it.
+    fn put(&mut self, part: &mut Tree)
+        requires there { IsPiece self.old.pieces (free_at part.old.unit part.old.order) }
+        requires other { any part.old.order part.old.pieces ≡ false }
+        ensures place { IsSamePlace self.old self.new }
+        ensures part { IsSamePlace part.old part.new }
+        ensures free { part.new.pieces ≡ free_at part.old.unit part.old.order ∷ [] }
+        ensures split { any self.new.order self.new.pieces ≡ false }
+        ensures span { IsSpan self.new }
+        ensures puts { Puts self.old.pieces part.old.unit part.old.order part.old.pieces self.new.pieces }
+    {
+        if self.order == part.order {
+            mem::swap(self, part);
+            return;
+        }
+        match &mut self.halves {
+            Halves::One => unreachable!(),
+            Halves::Two(lower, upper) => {
+                self.state = State::Split;
+                if part.unit < upper.unit() {
+                    lower.put(part);
+                    self.has = either(lower, upper);
+                } else {
+                    upper.put(part);
+                    self.has = either(lower, upper);
+                }
+            }
+        }
+    }
+
+    // Puts a free block in place of a range whose other half is free, hands the range out, and merges free halves.
+    fn cut(&mut self, part: &mut Tree, other: u32)
+        requires cut { IsCut self.old part.old.unit other part.old.order }
+        requires free { part.old.pieces ≡ free_at part.old.unit part.old.order ∷ [] }
+        ensures place { IsSamePlace self.old self.new }
+        ensures part { IsSamePlace part.old part.new }
+        ensures none { any part.old.order part.new.pieces ≡ false }
+        ensures span { IsSpan self.new }
+        ensures clears { Clears self.old.pieces part.old.unit part.old.order part.new.pieces self.new.pieces }
+        ensures others { OthersStay self.old.pieces other part.old.order self.new.pieces }
+    {
+        if self.order == part.order {
+            mem::swap(self, part);
+            return;
+        }
+        match &mut self.halves {
+            Halves::One => unreachable!(),
+            Halves::Two(lower, upper) => {
+                if part.unit < upper.unit() {
+                    lower.cut(part, other);
+                    let (state, has) = join(self.order, lower, upper);
+                    self.state = state;
+                    self.has = has;
+                } else {
+                    upper.cut(part, other);
+                    let (state, has) = join(self.order, lower, upper);
+                    self.state = state;
+                    self.has = has;
+                }
+            }
+        }
+    }
+
+    /// Lets the blocks of a range whose other half is free go to a free block, by a spare one, and merges free halves.
+    pub fn relocate(&mut self, spare: &mut Tree, from: u32, other: u32, to: u32)
+        requires low { spare.old.order < 4 }
+        requires high { spare.old.order < self.old.order }
+        requires spare { spare.old.pieces ≡ free_at spare.old.unit spare.old.order ∷ [] }
+        requires from { IsPlace from spare.old.units spare.old.order }
+        requires to { IsPlace to spare.old.units spare.old.order }
+        requires beside { AreBeside from other spare.old.order }
+        requires half { IsPiece self.old.pieces (free_at other spare.old.order) }
+        requires there { IsPiece self.old.pieces (free_at to spare.old.order) }
+        requires differ { to ≡ other → ⊥ }
+        ensures place { IsSamePlace self.old self.new }
+        ensures span { IsSpan self.new }
+        ensures order { spare.new.order ≡ spare.old.order }
+        ensures units { spare.new.units ≡ spare.old.units }
+        ensures spare { spare.new.pieces ≡ free_at spare.new.unit spare.new.order ∷ [] }
+        ensures relocates { Relocates self.old.pieces from to spare.old.order self.new.pieces }
+    {
+        spare.rebase(from);
+        self.cut(spare, other);
+        spare.rebase(to);
+        self.put(spare);
     }
 
     // Whether a block is one of the taken pieces, by a walk over all: for tests, which must know that before they give it.
