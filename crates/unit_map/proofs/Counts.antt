@@ -7,6 +7,7 @@ use Rattle.unit_map.specs.Changes.Merges.{Done, Step}
 use Rattle.unit_map.specs.Spans.{Span, IsSpan, AreParts}
 use Rattle.unit_map.proofs.Lists.{in_lower, in_upper, lies, free_append, any_piece, piece_any}
 use Rattle.unit_map.proofs.Numbers.{by_order, compare, twice}
+pub use Rattle.unit_map.specs.Laws.{free_merges}
 
 -- How many units are free, and how many pieces there are of an order.
 
@@ -67,17 +68,6 @@ free_takes old new o from u g le =
     let same : o + (from - o) ≡ from = omega (arith, le) in
     let e = ap (λ k. 2 ^ k) same in
     omega (arith, ap free_units g.was, ap free_units g.now, free_append g.front (free_at u from ∷ g.back), free_append g.front (split u o (from - o) ++ g.back), free_append (split u o (from - o)) g.back, free_split u o (from - o), e)
-
-free_joins : (old new : List Piece) → Joins old new → free_units new ≡ free_units old
-free_joins old new j =
-    let lower = ap (λ (b : Bool). cond b (2 ^ j.lower.order) 0) j.halves.lower in
-    let upper = ap (λ (b : Bool). cond b (2 ^ j.upper.order) 0) j.halves.upper in
-    let same = ap (λ k. 2 ^ k) j.halves.same in
-    omega (arith, ap free_units j.was, ap free_units j.now, free_append j.front (j.lower ∷ j.upper ∷ j.back), free_append j.front (free_at j.lower.unit (j.lower.order + 1) ∷ j.back), lower, upper, same, twice j.lower.order)
-
-pub free_merges : (old new : List Piece) → Merges old new → free_units new ≡ free_units old
-free_merges old new (Done ps) = refl
-free_merges old new (Step a mid b j m) = free_merges mid new m ∙ free_joins old mid j
 
 pub free_gives : (old new : List Piece) (u o : ℕ) → Gives old u o new → free_units new ≡ free_units old + 2 ^ o
 free_gives old new u o g =

@@ -1,8 +1,8 @@
 use Rattle.std.proofs.Common.{◌≡◌, ℕ, zero, suc, ◌+◌, ◌^◌, ◌%◌, ◌<◌, ◌≤◌, Bool, true, false, ◌⊎◌, inl, inr, List, [], ◌∷◌, ◌++◌, sym, ap, subst, ◌∙◌, refl, arith, Box, Global, append_assoc}
 use Rattle.std.proofs.lemmas.Nat.{pow_pos}
-use Rattle.unit_map.specs.Pieces.{Piece, IsPiece, Fills, any, free_at}
+use Rattle.unit_map.specs.Pieces.{Piece, IsPiece, Fills, AreBeside, any, free_at}
 use Rattle.unit_map.specs.Changes.{Clears, OthersStay, Merges}
-use Rattle.unit_map.specs.Spans.{Span, IsSpan, IsPlace, AreParts, AreWithin, AreBeside, IsCut}
+use Rattle.unit_map.specs.Spans.{Span, IsSpan, IsPlace, AreParts, AreWithin, IsCut}
 use Rattle.unit_map.specs.Together.{Joined}
 use Rattle.unit_map.specs.Trees.{pieces_of}
 use Rattle.unit_map.specs.declared.tree.Tree.{Tree}

@@ -7,3 +7,4 @@ pub mod Trees
 pub mod Counts
 pub mod Moved
 pub mod Cuts
+pub mod Spares

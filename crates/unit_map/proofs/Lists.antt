@@ -1,7 +1,9 @@
 use Rattle.std.proofs.Common.{◌≡◌, ℕ, zero, ◌+◌, ◌^◌, ◌≤◌, Bool, true, false, ◌||◌, ◌⊎◌, inl, inr, List, [], ◌∷◌, ◌++◌, sym, ap, subst, ◌∙◌, refl, arith}
 use Rattle.std.proofs.lemmas.Nat.{pow_pos}
 use Rattle.std.proofs.lemmas.Bool.Decides.{nat_tests}
-use Rattle.unit_map.specs.Pieces.{Piece, IsPiece, units_of, free_units, any, is_free_of, Fills}
+use Rattle.unit_map.specs.Pieces.{Piece, IsPiece, units_of, any, is_free_of, Fills}
+
+pub use Rattle.unit_map.specs.Laws.{free_append, in_either, in_lower, in_upper, lies}
 
 -- Pieces of two lists, one after the other.
 
@@ -17,35 +19,11 @@ pub units_append : (ps qs : List Piece) → units_of (ps ++ qs) ≡ units_of ps 
 units_append [] qs = omega arith
 units_append (p ∷ ps) qs = omega (arith, units_append ps qs)
 
-pub free_append : (ps qs : List Piece) → free_units (ps ++ qs) ≡ free_units ps + free_units qs
-free_append [] qs = omega arith
-free_append (p ∷ ps) qs = omega (arith, free_append ps qs)
-
 pub fills_append : (u : ℕ) (ps qs : List Piece) → Fills u ps → Fills (u + units_of ps) qs → Fills u (ps ++ qs)
 fills_append u [] qs h g = let same : u + zero ≡ u = omega arith in subst (λ n. Fills n qs) same g
 fills_append u (p ∷ ps) qs h g =
     let same : u + (2 ^ p.order + units_of ps) ≡ u + 2 ^ p.order + units_of ps = omega arith in
     (h.0, fills_append (u + 2 ^ p.order) ps qs h.1 (subst (λ n. Fills n qs) same g))
-
-pub in_either : (ps qs : List Piece) (p : Piece) → IsPiece (ps ++ qs) p → IsPiece ps p ⊎ IsPiece qs p
-in_either [] qs p h = inr h
-in_either (x ∷ ps) qs p (inl e) = inl (inl e)
-in_either (x ∷ ps) qs p (inr h) = elim (in_either ps qs p h) [ inl a ↦ inl (inr a) | inr b ↦ inr b ]
-
-pub in_lower : (ps qs : List Piece) (p : Piece) → IsPiece ps p → IsPiece (ps ++ qs) p
-in_lower [] qs p h = absurd h
-in_lower (x ∷ ps) qs p (inl e) = inl e
-in_lower (x ∷ ps) qs p (inr h) = inr (in_lower ps qs p h)
-
-pub in_upper : (ps qs : List Piece) (p : Piece) → IsPiece qs p → IsPiece (ps ++ qs) p
-in_upper [] qs p h = h
-in_upper (x ∷ ps) qs p h = inr (in_upper ps qs p h)
-
--- a piece lies within what the pieces fill
-pub lies : (u : ℕ) (ps : List Piece) (p : Piece) → Fills u ps → IsPiece ps p → (u ≤ p.unit) × (p.unit + 2 ^ p.order ≤ u + units_of ps)
-lies u [] p f h = absurd h
-lies u (x ∷ ps) p f (inl e) = let P : Piece → Type 0 = λ p. (u ≤ p.unit) × (p.unit + 2 ^ p.order ≤ u + (2 ^ x.order + units_of ps)) in subst P e (omega (arith, f.0), omega (arith, f.0))
-lies u (x ∷ ps) p f (inr h) = let r = lies (u + 2 ^ x.order) ps p f.1 h in (omega (arith, r.0), omega (arith, r.1))
 
 pub covers : (ps : List Piece) (p : Piece) → IsPiece ps p → 2 ^ p.order ≤ units_of ps
 covers [] p h = absurd h

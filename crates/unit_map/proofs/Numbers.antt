@@ -1,6 +1,7 @@
 use Rattle.std.proofs.lemmas.Nat.{pow_pos}
-use Rattle.std.proofs.Math.Nat.{two-pow-succ}
-use Rattle.std.proofs.Common.{◌≡◌, ℕ, zero, suc, ◌+◌, ◌-◌, ◌^◌, ◌%◌, ◌<◌, ◌≤◌, ◌⊎◌, inl, inr, ap, sym, ◌∙◌, refl, arith, subst}
+use Rattle.std.proofs.Common.{◌≡◌, ℕ, zero, suc, ◌+◌, ◌-◌, ◌*◌, ◌^◌, ◌%◌, ◌<◌, ◌≤◌, ◌⊎◌, inl, inr, ap, sym, ◌∙◌, refl, arith, subst}
+use Rattle.unit_map.specs.Pieces.{AreBeside}
+pub use Rattle.unit_map.specs.Laws.{twice}
 
 -- Orders, which are at most 4.
 
@@ -38,9 +39,6 @@ compare zero (suc k) = inl (omega arith)
 compare (suc o) zero = inr (inr (omega arith))
 compare (suc o) (suc k) = elim (compare o k) [ inl h ↦ inl (omega arith) | inr g ↦ elim g [ inl e ↦ inr (inl (ap suc e)) | inr h ↦ inr (inr (omega arith)) ] ]
 
-pub twice : (k : ℕ) → 2 ^ (k + 1) ≡ 2 ^ k + 2 ^ k
-twice k = let e : k + 1 ≡ suc k = omega arith in ap (λ n. 2 ^ n) e ∙ two-pow-succ k
-
 grows : (k n : ℕ) → 2 ^ k ≤ 2 ^ (k + n)
 grows k zero = let e : k ≡ k + zero = omega arith in subst (λ n. 2 ^ k ≤ 2 ^ n) e (omega arith)
 grows k (suc n) =
@@ -69,3 +67,11 @@ upper_aligned u (suc zero) lt h = omega arith
 upper_aligned u (suc (suc zero)) lt h = omega arith
 upper_aligned u (suc (suc (suc zero))) lt h = omega arith
 upper_aligned u (suc (suc (suc (suc k)))) lt h = absurd (omega (arith, lt))
+
+-- a block that is no lower half is the upper one
+pub upper_half : (u k : ℕ) → k < 4 → u % 2 ^ k ≡ 0 → (u % (2 * (1 * 2 ^ k % 4294967296)) ≡ 0 → ⊥) → AreBeside u (u - 1 * 2 ^ k % 4294967296) k
+upper_half u zero lt at h = inr (omega (arith, h), omega (arith, h))
+upper_half u (suc zero) lt at h = inr (omega (arith, at, h), omega (arith, at, h))
+upper_half u (suc (suc zero)) lt at h = inr (omega (arith, at, h), omega (arith, at, h))
+upper_half u (suc (suc (suc zero))) lt at h = inr (omega (arith, at, h), omega (arith, at, h))
+upper_half u (suc (suc (suc (suc k)))) lt at h = absurd (omega (arith, lt))

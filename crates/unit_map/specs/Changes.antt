@@ -1,5 +1,5 @@
 use Rattle.std.specs.Prelude.{◌≡◌, ℕ, zero, suc, ◌+◌, ◌-◌, ◌^◌, ◌<◌, ◌≤◌, true, false, List, [], ◌∷◌, ◌++◌, Option, Some, None}
-use Rattle.unit_map.specs.Pieces.{moved, Piece, IsPiece, any, count, units_of, Fills, free_at, taken_at, AreFreeHalves}
+use Rattle.unit_map.specs.Pieces.{moved, Piece, IsPiece, any, count, units_of, Fills, free_at, taken_at, AreFreeHalves, AreBeside, AreMerged}
 
 -- What a call does to the pieces.
 
@@ -82,9 +82,19 @@ pub record Puts (old : List Piece) (unit order : ℕ) (part new : List Piece) : 
   pub was : old ≡ front ++ free_at unit order ∷ back
   pub now : new ≡ front ++ (part ++ back)
 
+-- the blocks inside the block of an order at `from`, whose other half is free, can go to a free block of that order at `to`
+pub record CanMove (ps : List Piece) (from to order : ℕ) : Type 0 where
+  pub low : order < 4
+  pub other : ℕ
+  pub beside : AreBeside from other order
+  pub half : IsPiece ps (free_at other order)
+  pub there : IsPiece ps (free_at to order)
+  pub differ : to ≡ other → ⊥
+
 -- the pieces of one range go to another, which was one free block
 pub record Relocates (old : List Piece) (from to order : ℕ) (new : List Piece) : Type 0 where
   pub part : List Piece
   pub mid : List Piece
   pub cleared : Clears old from order part mid
+  pub merged : AreMerged mid
   pub put : Puts mid to order (moved from to part) new

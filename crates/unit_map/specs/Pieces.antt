@@ -29,6 +29,11 @@ abbrev pub free_units : List Piece → ℕ
 free_units [] = 0
 free_units (p ∷ ps) = cond p.free (2 ^ p.order) 0 + free_units ps
 
+-- how many of the pieces are free
+abbrev pub free_blocks : List Piece → ℕ
+free_blocks [] = 0
+free_blocks (p ∷ ps) = cond p.free 1 0 + free_blocks ps
+
 -- whether a piece is a free one of this order
 abbrev pub is_free_of : ℕ → Piece → Bool
 is_free_of order p = p.free && nat_eq p.order order
@@ -42,6 +47,10 @@ count order (p ∷ ps) = cond (is_free_of order p) 1 0 + count order ps
 abbrev pub any : ℕ → List Piece → Bool
 any order [] = false
 any order (p ∷ ps) = is_free_of order p || any order ps
+
+-- no two free pieces below a frame are equal in size
+abbrev pub AreSettled : List Piece → Type 0
+AreSettled ps = (order : ℕ) → order < 4 → count order ps < 2
 
 -- each piece starts where the one before ended, the first at `unit`
 abbrev pub Fills : ℕ → List Piece → Type 0
@@ -61,6 +70,10 @@ pub record AreFreeHalves (p q : Piece) : Type 0 where
   pub same : q.order ≡ p.order
   pub unit : p.unit % 2 ^ (p.order + 1) ≡ 0
   pub beside : q.unit ≡ p.unit + 2 ^ p.order
+
+-- two blocks of an order are the halves of one block
+abbrev pub AreBeside : ℕ → ℕ → ℕ → Type 0
+AreBeside u v order = ((u % 2 ^ (order + 1) ≡ 0) × (v ≡ u + 2 ^ order)) ⊎ ((v % 2 ^ (order + 1) ≡ 0) × (u ≡ v + 2 ^ order))
 
 -- no two of the pieces are free halves of one block
 abbrev pub AreMerged : List Piece → Type 0

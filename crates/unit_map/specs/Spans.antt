@@ -1,5 +1,5 @@
 use Rattle.std.specs.Prelude.{◌≡◌, ℕ, ◌+◌, ◌^◌, ◌%◌, ◌<◌, ◌≤◌, ◌⊎◌, false, Bool, true, List, [], ◌∷◌}
-use Rattle.unit_map.specs.Pieces.{moved, Piece, free_at, IsPiece, units_of, any, Fills, IsAligned, AreMerged}
+use Rattle.unit_map.specs.Pieces.{AreBeside, moved, Piece, free_at, IsPiece, units_of, any, Fills, IsAligned, AreMerged}
 
 -- A range of units with its pieces.
 
@@ -66,10 +66,6 @@ AreNotBothFree order l r = order ≤ 4 → any l.order l.pieces ≡ true → any
 abbrev pub rebased : Span → ℕ → Span
 rebased s v = record { unit = v; units = s.units; order = s.order; pieces = moved s.unit v s.pieces }
 
--- two blocks of an order are the halves of one block
-abbrev pub AreBeside : ℕ → ℕ → ℕ → Type 0
-AreBeside u v order = ((u % 2 ^ (order + 1) ≡ 0) × (v ≡ u + 2 ^ order)) ⊎ ((v % 2 ^ (order + 1) ≡ 0) × (u ≡ v + 2 ^ order))
-
 -- the range of an order at a unit, whose other half is free, can be cut out of a span
 pub record IsCut (s : Span) (unit other order : ℕ) : Type 0 where
   pub low : order < 4
@@ -77,3 +73,14 @@ pub record IsCut (s : Span) (unit other order : ℕ) : Type 0 where
   pub beside : AreBeside unit other order
   pub here : s.order ≡ order → (unit ≡ s.unit) × (any order s.pieces ≡ false)
   pub there : order < s.order → IsPiece s.pieces (free_at other order)
+
+-- a free block of an order that stands by, to move blocks
+pub record IsSpare (s : Span) (k : ℕ) : Type 0 where
+  pub order : s.order ≡ k
+  pub units : s.units ≡ 2 ^ k
+  pub free : s.pieces ≡ free_at s.unit s.order ∷ []
+
+-- one for each order from k on
+abbrev pub AreSpares : ℕ → List Span → Type 0
+AreSpares k [] = Unit {0}
+AreSpares k (s ∷ ss) = IsSpare s k × AreSpares (k + 1) ss

@@ -1,6 +1,6 @@
-ghost use Rattle.std.specs.Prelude.{◌≡◌, ◌+◌, ◌-◌, ◌*◌, ◌^◌, ◌<◌, ◌≤◌, IfOk, IfSome, IsTrue, None, false};
-ghost use Rattle.unit_map.specs.Pieces.{ArePieces, IsPiece, count, free_frames, free_units, taken_at};
-ghost use Rattle.unit_map.specs.Changes.{HasRoom, IsFull, Takes, Gives};
+ghost use Rattle.std.specs.Prelude.{◌≡◌, ◌+◌, ◌-◌, ◌*◌, ◌^◌, ◌%◌, ◌<◌, ◌≤◌, IfOk, IfSome, IsTrue, None, false};
+ghost use Rattle.unit_map.specs.Pieces.{ArePieces, IsPiece, AreBeside, count, free_blocks, free_frames, free_units, taken_at};
+ghost use Rattle.unit_map.specs.Changes.{HasRoom, IsFull, Takes, Gives, CanMove, Relocates};
 ghost use Rattle.unit_map.specs.Blocks.{AreTwoBlocks};
 
 use crate::tree::Tree;
@@ -14,11 +14,35 @@ pub struct Block {
     pub order: u8,
 }
 
+impl Block {
+    /// The other half of the block of twice the size that this one, of an order from 0 to 3, is a half of: its buddy.
+    pub fn buddy(self) -> Block
+        requires low { self.order < 4 }
+        requires aligned { self.unit % 2 ^ self.order ≡ 0 }
+        requires fits { self.unit < 2 ^ 20 }
+        ensures order { result.order ≡ self.order }
+        ensures beside { AreBeside self.unit result.unit self.order }
+    {
+        let size = 1u32 << self.order;
+        let unit = if self.unit % (2 * size) == 0 {
+            self.unit + size
+        } else {
+            self.unit - size
+        };
+        Block {
+            unit,
+            order: self.order,
+        }
+    }
+}
+
 /// Which blocks of a memory are free, and which are taken.
 #[derive(Drop)]
 pub struct UnitMap {
     tree: Tree,
     free: u32,
+    // by order, a block that the moves of that order go by
+    spares: [Tree; 4],
 }
 
 impl Model for UnitMap {
@@ -30,7 +54,7 @@ impl Model for UnitMap {
 
     ghost view = { λ m. m.tree.pieces };
 
-    ghost invariant = { λ m. IsMap m.tree m.free };
+    ghost invariant = { λ m. IsMap m.tree m.free m.spares };
 }
 
 impl UnitMap {
@@ -42,9 +66,16 @@ impl UnitMap {
         ensures { IfOk result (λ map. map ≡ free_frames 0 frames) }
     {
         let tree = Tree::frames(alloc, 0, frames)?;
+        let spares = [
+            Tree::block(alloc, 0, 0)?,
+            Tree::block(alloc, 0, 1)?,
+            Tree::block(alloc, 0, 2)?,
+            Tree::block(alloc, 0, 3)?,
+        ];
         Ok(UnitMap {
             tree,
             free: 16 * frames,
+            spares,
         })
     }
 
@@ -100,7 +131,8 @@ impl UnitMap {
     /// Costs a few steps for each level of a tree over the frames.
     pub fn two_free(&self, order: u8) -> Option<(Block, Block)>
         requires { order ≤ 4 }
-        ensures { AreTwoBlocks self.now order result }
+        ensures two { AreTwoBlocks self.now order result }
+        ensures pieces { ArePieces self.now }
     {
         match self.tree.two_free(order) {
             None => None,
@@ -109,6 +141,22 @@ impl UnitMap {
                 Block { unit: upper, order },
             )),
         }
+    }
+
+    /// Lets the blocks inside the block of an order at `from` go to the free block of that order at `to`, and merges
+    /// free halves until no two are left. The order is below 4. The other half of the block at `from` has to be free
+    /// too, and another block than that at `to`.
+    /// Takes no memory. Costs a few steps for each level of a tree over the frames, and for each unit that goes.
+    pub fn relocate(&mut self, from: u32, to: u32, order: u8)
+        requires { CanMove self.old from to order }
+        ensures relocates { Relocates self.old from to order self.new }
+        ensures pieces { ArePieces self.new }
+        ensures free { free_units self.new ≡ free_units self.old }
+        ensures fewer { free_blocks self.new < free_blocks self.old }
+    {
+        let spare = &mut self.spares[usize::from(order)];
+        let other = Block { unit: from, order }.buddy().unit;
+        self.tree.relocate(spare, from, other, to);
     }
 
     // Whether a block is taken, by a walk over all: for tests.

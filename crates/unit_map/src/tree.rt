@@ -1,7 +1,7 @@
 ghost use Rattle.std.specs.Prelude.{◌≡◌, ◌+◌, ◌-◌, ◌*◌, ◌^◌, ◌%◌, ◌<◌, ◌≤◌, ◌∷◌, ◌++◌, [], IfOk, IsTrue, slice_index, true, false};
-ghost use Rattle.unit_map.specs.Pieces.{IsPiece, any, free_frames, free_at, taken_at};
+ghost use Rattle.unit_map.specs.Pieces.{IsPiece, AreBeside, any, free_frames, free_at, taken_at};
 ghost use Rattle.unit_map.specs.Changes.{Relocates, Clears, OthersStay, Puts, IsLeast, AreTwoFree, split, TakesFrom, Gives};
-ghost use Rattle.unit_map.specs.Spans.{rebased, IsCut, AreBeside, IsSpan, IsSamePlace, IsPlace, marks, AreParts, AreWithin};
+ghost use Rattle.unit_map.specs.Spans.{rebased, IsCut, IsSpan, IsSamePlace, IsPlace, marks, AreParts, AreWithin};
 ghost use Rattle.unit_map.specs.Together.{Joined};
 
 use std::alloc::{AllocError, Global};
@@ -59,7 +59,7 @@ impl Model for Tree {
 
 impl Tree {
     // The free block of an order at a unit, with all that it can be split into.
-    fn block(alloc: Global, unit: u32, order: u8) -> Result<Tree, AllocError>
+    pub fn block(alloc: Global, unit: u32, order: u8) -> Result<Tree, AllocError>
         requires place { IsPlace unit (2 ^ order) order }
         requires high { order ≤ 4 }
         ensures { IfOk result (λ t. t ≡ record { unit = unit; units = 2 ^ order; order = order; pieces = free_at unit order ∷ [] }) }

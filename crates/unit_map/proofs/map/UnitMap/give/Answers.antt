@@ -21,6 +21,8 @@ invariant_of-self c =
       frames = frames;
       kept = omega (arith, size_is c.args.block.order low, free_gives _ _ _ _ c.give.ensures.gives, c.self.invariant.kept);
       pieces = are_pieces c.give.new.self c.give.ensures.span start frames;
+      spares = c.self.invariant.spares;
+      all = c.self.invariant.all;
     }
 
 pub returns-clause-pieces : goal.returns-clause-pieces

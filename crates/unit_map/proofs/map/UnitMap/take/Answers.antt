@@ -16,6 +16,8 @@ invariant_of-self c =
       frames = frames;
       kept = omega (arith, size_is c.args.order c.requires, free_takes _ _ _ _ _ c.take-unit.ensures.takes c.in-Some.ensures.0, c.self.invariant.kept);
       pieces = are_pieces c.take-unit.new.self c.take-unit.ensures.span start frames;
+      spares = c.self.invariant.spares;
+      all = c.self.invariant.all;
     }
 
 pub returns-in-None-clause-none : goal.returns-in-None-clause-none

@@ -60,6 +60,7 @@ returns-clause-relocates c =
     record {
       part = c.cut.new.part.pieces;
       mid = c.cut.new.self.pieces;
+      merged = c.cut.ensures.span.within.merged;
       cleared = subst (λ (s : Span). Clears c.args.self.now.pieces s.unit s.order c.cut.new.part.pieces c.cut.new.self.pieces) c.rebase.ensures.is c.cut.ensures.clears;
       put = subst (λ k. Puts c.cut.new.self.pieces c.args.to k (moved c.args.from c.args.to c.cut.new.part.pieces) c.put.new.self.pieces) order_is moves;
     }

@@ -1,0 +1,125 @@
+use Rattle.std.proofs.Common.{◌≡◌, ℕ, suc, ◌+◌, ◌-◌, ◌^◌, ◌%◌, ◌<◌, ◌≤◌, Bool, true, cond, ◌⊎◌, inl, inr, List, [], ◌∷◌, ◌++◌, sym, ap, subst, ◌∙◌, refl, arith}
+use Rattle.std.proofs.lemmas.Nat.{pow_pos}
+use Rattle.std.proofs.Math.Nat.{two-pow-succ}
+use Rattle.unit_map.specs.Pieces.{Piece, IsPiece, Fills, AreFreeHalves, AreBeside, AreMerged, units_of, free_units, free_blocks, free_at, moved}
+use Rattle.unit_map.specs.Changes.{Joins, Merges, Clears, Puts, Relocates, CanMove}
+use Rattle.unit_map.specs.Changes.Merges.{Done, Step}
+
+-- What holds of every move: free units stay, free blocks become fewer.
+
+pub twice : (k : ℕ) → 2 ^ (k + 1) ≡ 2 ^ k + 2 ^ k
+twice k = let e : k + 1 ≡ suc k = omega arith in ap (λ n. 2 ^ n) e ∙ two-pow-succ k
+
+-- Pieces of two lists, one after the other.
+
+pub in_either : (ps qs : List Piece) (p : Piece) → IsPiece (ps ++ qs) p → IsPiece ps p ⊎ IsPiece qs p
+in_either [] qs p h = inr h
+in_either (x ∷ ps) qs p (inl e) = inl (inl e)
+in_either (x ∷ ps) qs p (inr h) = elim (in_either ps qs p h) [ inl a ↦ inl (inr a) | inr b ↦ inr b ]
+
+pub in_lower : (ps qs : List Piece) (p : Piece) → IsPiece ps p → IsPiece (ps ++ qs) p
+in_lower [] qs p h = absurd h
+in_lower (x ∷ ps) qs p (inl e) = inl e
+in_lower (x ∷ ps) qs p (inr h) = inr (in_lower ps qs p h)
+
+pub in_upper : (ps qs : List Piece) (p : Piece) → IsPiece qs p → IsPiece (ps ++ qs) p
+in_upper [] qs p h = h
+in_upper (x ∷ ps) qs p h = inr (in_upper ps qs p h)
+
+-- a piece lies within what the pieces fill
+pub lies : (u : ℕ) (ps : List Piece) (p : Piece) → Fills u ps → IsPiece ps p → (u ≤ p.unit) × (p.unit + 2 ^ p.order ≤ u + units_of ps)
+lies u [] p f h = absurd h
+lies u (x ∷ ps) p f (inl e) = let P : Piece → Type 0 = λ p. (u ≤ p.unit) × (p.unit + 2 ^ p.order ≤ u + (2 ^ x.order + units_of ps)) in subst P e (omega (arith, f.0), omega (arith, f.0))
+lies u (x ∷ ps) p f (inr h) = let r = lies (u + 2 ^ x.order) ps p f.1 h in (omega (arith, r.0), omega (arith, r.1))
+
+pub free_append : (ps qs : List Piece) → free_units (ps ++ qs) ≡ free_units ps + free_units qs
+free_append [] qs = omega arith
+free_append (p ∷ ps) qs = omega (arith, free_append ps qs)
+
+blocks_append : (ps qs : List Piece) → free_blocks (ps ++ qs) ≡ free_blocks ps + free_blocks qs
+blocks_append [] qs = omega arith
+blocks_append (p ∷ ps) qs = omega (arith, blocks_append ps qs)
+
+-- Pieces that lie elsewhere.
+
+free_moved : (u v : ℕ) (ps : List Piece) → free_units (moved u v ps) ≡ free_units ps
+free_moved u v [] = refl
+free_moved u v (p ∷ ps) = ap (λ n. cond p.free (2 ^ p.order) 0 + n) (free_moved u v ps)
+
+blocks_moved : (u v : ℕ) (ps : List Piece) → free_blocks (moved u v ps) ≡ free_blocks ps
+blocks_moved u v [] = refl
+blocks_moved u v (p ∷ ps) = ap (λ n. cond p.free 1 0 + n) (blocks_moved u v ps)
+
+-- Halves that become one block.
+
+free_joins : (old new : List Piece) → Joins old new → free_units new ≡ free_units old
+free_joins old new j =
+    let lower = ap (λ (b : Bool). cond b (2 ^ j.lower.order) 0) j.halves.lower in
+    let upper = ap (λ (b : Bool). cond b (2 ^ j.upper.order) 0) j.halves.upper in
+    let same = ap (λ k. 2 ^ k) j.halves.same in
+    omega (arith, ap free_units j.was, ap free_units j.now, free_append j.front (j.lower ∷ j.upper ∷ j.back), free_append j.front (free_at j.lower.unit (j.lower.order + 1) ∷ j.back), lower, upper, same, twice j.lower.order)
+
+pub free_merges : (old new : List Piece) → Merges old new → free_units new ≡ free_units old
+free_merges old new (Done ps) = refl
+free_merges old new (Step a mid b j m) = free_merges mid new m ∙ free_joins old mid j
+
+one_if : Bool → ℕ
+one_if b = cond b 1 0
+
+blocks_joins : (old new : List Piece) → Joins old new → free_blocks new + 1 ≡ free_blocks old
+unfolding one_if
+blocks_joins old new j =
+    let lower = ap one_if j.halves.lower in
+    let upper = ap one_if j.halves.upper in
+    omega (arith, ap free_blocks j.was, ap free_blocks j.now, blocks_append j.front (j.lower ∷ j.upper ∷ j.back), blocks_append j.front (free_at j.lower.unit (j.lower.order + 1) ∷ j.back), lower, upper)
+
+blocks_merges : (old new : List Piece) → Merges old new → free_blocks new ≤ free_blocks old
+blocks_merges old new (Done ps) = omega arith
+blocks_merges old new (Step a mid b j m) = omega (arith, blocks_joins old mid j, blocks_merges mid new m)
+
+-- where there were free halves, and none are left
+fewer_merges : (old new : List Piece) (p q : Piece) → Merges old new → AreMerged new → IsPiece old p → IsPiece old q → AreFreeHalves p q → free_blocks new < free_blocks old
+fewer_merges old new p q (Done ps) merged a b halves = absurd (merged p q a b halves)
+fewer_merges old new p q (Step a mid b j m) merged _ _ halves = omega (arith, blocks_joins old mid j, blocks_merges mid new m)
+
+-- Moves.
+
+pub free_moves : (old new : List Piece) (from to order : ℕ) → Relocates old from to order new → free_units new ≡ free_units old
+free_moves old new from to order r =
+    let c = r.cleared in
+    let put = r.put in
+    omega (arith, ap free_units c.was, free_append c.front (r.part ++ c.back), free_append r.part c.back, free_merges _ r.mid c.merges, free_append c.front (free_at from order ∷ c.back),
+      ap free_units put.was, free_append put.front (free_at to order ∷ put.back), ap free_units put.now, free_append put.front (moved from to r.part ++ put.back), free_append (moved from to r.part) put.back, free_moved from to r.part)
+
+-- the other half is none of the pieces that go
+stays : (u v order : ℕ) (front part back : List Piece) → Fills u part → units_of part ≡ 2 ^ order → AreBeside u v order → IsPiece (front ++ (part ++ back)) (free_at v order) → IsPiece (front ++ free_at u order ∷ back) (free_at v order)
+stays u v order front part back fills total beside h = at (in_either front (part ++ back) (free_at v order) h)
+  where
+    outside : (v ≡ u + 2 ^ order) ⊎ (u ≡ v + 2 ^ order) → IsPiece part (free_at v order) → ⊥
+    outside (inl e) i = omega (arith, lies u part (free_at v order) fills i, total, e, pow_pos order)
+    outside (inr e) i = omega (arith, lies u part (free_at v order) fills i, total, e, pow_pos order)
+
+    apart : (v ≡ u + 2 ^ order) ⊎ (u ≡ v + 2 ^ order)
+    apart = elim beside [ inl b ↦ inl b.1 | inr b ↦ inr b.1 ]
+
+    rest : IsPiece part (free_at v order) ⊎ IsPiece back (free_at v order) → IsPiece (front ++ free_at u order ∷ back) (free_at v order)
+    rest (inl i) = absurd (outside apart i)
+    rest (inr i) = in_upper front (free_at u order ∷ back) _ (inr i)
+
+    at : IsPiece front (free_at v order) ⊎ IsPiece (part ++ back) (free_at v order) → IsPiece (front ++ free_at u order ∷ back) (free_at v order)
+    at (inl i) = in_lower front (free_at u order ∷ back) _ i
+    at (inr i) = rest (in_either part back (free_at v order) i)
+
+fewer_beside : (old new : List Piece) (u v order : ℕ) → order < 4 → Merges old new → AreMerged new → AreBeside u v order → IsPiece old (free_at u order) → IsPiece old (free_at v order) → free_blocks new < free_blocks old
+fewer_beside old new u v order low m merged (inl b) at other = fewer_merges old new (free_at u order) (free_at v order) m merged at other (record { lower = refl; upper = refl; order = low; same = refl; unit = b.0; beside = b.1 })
+fewer_beside old new u v order low m merged (inr b) at other = fewer_merges old new (free_at v order) (free_at u order) m merged other at (record { lower = refl; upper = refl; order = low; same = refl; unit = b.0; beside = b.1 })
+
+pub fewer_moves : (old new : List Piece) (from to order : ℕ) → CanMove old from to order → Relocates old from to order new → free_blocks new < free_blocks old
+fewer_moves old new from to order can r =
+    let c = r.cleared in
+    let put = r.put in
+    let half = stays from can.other order c.front r.part c.back c.fills c.total can.beside (subst (λ ps. IsPiece ps (free_at can.other order)) c.was can.half) in
+    let start = c.front ++ free_at from order ∷ c.back in
+    let fewer = fewer_beside start r.mid from can.other order can.low c.merges r.merged can.beside (in_upper c.front (free_at from order ∷ c.back) _ (inl refl)) half in
+    omega (arith, ap free_blocks c.was, blocks_append c.front (r.part ++ c.back), blocks_append r.part c.back, fewer, blocks_append c.front (free_at from order ∷ c.back),
+      ap free_blocks put.was, blocks_append put.front (free_at to order ∷ put.back), ap free_blocks put.now, blocks_append put.front (moved from to r.part ++ put.back), blocks_append (moved from to r.part) put.back, blocks_moved from to r.part)
