@@ -1,13 +1,12 @@
-use Rattle.std.proofs.Common.{◌≡◌, ℕ, zero, suc, ◌+◌, ◌-◌, ◌*◌, ◌/◌, ◌^◌, ◌%◌, ◌<◌, ◌≤◌, Bool, true, false, cond, ◌&&◌, ◌||◌, ◌⊎◌, inl, inr, List, [], ◌∷◌, ◌++◌, sym, ap, subst, ◌∙◌, refl, arith, nat_eq, Option, Some, None}
+use Rattle.std.proofs.Common.{◌≡◌, ℕ, zero, suc, ◌+◌, ◌-◌, ◌*◌, ◌/◌, ◌^◌, ◌%◌, ◌<◌, ◌≤◌, Bool, true, false, cond, ◌||◌, ◌⊎◌, inl, inr, List, [], ◌∷◌, ◌++◌, sym, ap, subst, refl, arith, Option, Some, None}
 use Rattle.std.proofs.lemmas.Nat.{pow_pos}
 use Rattle.unit_map.specs.Pieces.{Piece, IsPiece, ArePieces, IsAligned, Fills, units_of, free_units, count, any, is_free_of, free_at, taken_at, free_frames}
 use Rattle.std.specs.Option.{is_some}
-use Rattle.unit_map.specs.Changes.{split, TakesFrom, Takes, Joins, Merges, Gives, IsLeast, IsFull, HasRoom, AreTwoFree}
-use Rattle.unit_map.specs.Changes.Merges.{Done, Step}
+use Rattle.unit_map.specs.Changes.{split, TakesFrom, Takes, Gives, IsLeast, IsFull, HasRoom, AreTwoFree}
 use Rattle.unit_map.specs.Spans.{Span, IsSpan, AreParts}
 use Rattle.unit_map.proofs.Lists.{in_lower, in_upper, lies, free_append, any_piece, piece_any}
 use Rattle.unit_map.proofs.Numbers.{by_order, compare, twice}
-pub use Rattle.unit_map.specs.Laws.{free_merges}
+pub use Rattle.unit_map.specs.Laws.{free_counts, free_merges}
 
 -- How many units are free, and how many pieces there are of an order.
 
@@ -36,17 +35,6 @@ count_first k n false c rest h = omega (arith, rest h)
 pub count_some : (k : ℕ) (ps : List Piece) → any k ps ≡ true → 1 ≤ count k ps
 count_some k [] h = absurd (cc)
 count_some k (p ∷ ps) h = count_first k (count k ps) (is_free_of k p) (any k ps) (count_some k ps) h
-
-one_counts : (b : Bool) (k : ℕ) → k ≤ 4
-    → cond b (2 ^ k) 0 ≡ cond (b && nat_eq k 0) 1 0 + 2 * cond (b && nat_eq k 1) 1 0 + 4 * cond (b && nat_eq k 2) 1 0 + 8 * cond (b && nat_eq k 3) 1 0 + 16 * cond (b && nat_eq k 4) 1 0
-one_counts false k h = refl
-one_counts true k h =
-    by_order (λ k. 2 ^ k ≡ cond (nat_eq k 0) 1 0 + 2 * cond (nat_eq k 1) 1 0 + 4 * cond (nat_eq k 2) 1 0 + 8 * cond (nat_eq k 3) 1 0 + 16 * cond (nat_eq k 4) 1 0) refl refl refl refl refl k h
-
--- the free units are those of the free pieces by order
-pub free_counts : (ps : List Piece) → ((p : Piece) → IsPiece ps p → IsAligned p) → free_units ps ≡ count 0 ps + 2 * count 1 ps + 4 * count 2 ps + 8 * count 3 ps + 16 * count 4 ps
-free_counts [] h = refl
-free_counts (p ∷ ps) h = omega (arith, one_counts p.free p.order (h p (inl refl)).order, free_counts ps (λ q g. h q (inr g)))
 
 one_free : (b : Bool) (n : ℕ) → cond b n 0 ≤ n
 one_free true n = omega arith

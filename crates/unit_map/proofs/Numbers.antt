@@ -1,17 +1,9 @@
 use Rattle.std.proofs.lemmas.Nat.{pow_pos}
-use Rattle.std.proofs.Common.{◌≡◌, ℕ, zero, suc, ◌+◌, ◌-◌, ◌*◌, ◌^◌, ◌%◌, ◌<◌, ◌≤◌, ◌⊎◌, inl, inr, ap, sym, ◌∙◌, refl, arith, subst}
+use Rattle.std.proofs.Common.{◌≡◌, ℕ, zero, suc, ◌+◌, ◌-◌, ◌*◌, ◌^◌, ◌%◌, ◌<◌, ◌≤◌, ◌⊎◌, inl, inr, ap, sym, refl, arith, subst}
 use Rattle.unit_map.specs.Pieces.{AreBeside}
-pub use Rattle.unit_map.specs.Laws.{twice}
+pub use Rattle.unit_map.specs.Laws.{by_order, twice}
 
 -- Orders, which are at most 4.
-
-pub by_order : (P : ℕ → Type 0) → P 0 → P 1 → P 2 → P 3 → P 4 → (k : ℕ) → k ≤ 4 → P k
-by_order P a b c d e zero h = a
-by_order P a b c d e (suc zero) h = b
-by_order P a b c d e (suc (suc zero)) h = c
-by_order P a b c d e (suc (suc (suc zero))) h = d
-by_order P a b c d e (suc (suc (suc (suc zero)))) h = e
-by_order P a b c d e (suc (suc (suc (suc (suc k))))) h = absurd (omega arith)
 
 -- the middle of a block is the end of no smaller lower half
 pub no_middle : (x k o : ℕ) → k ≤ 4 → o < k → x % 2 ^ (o + 1) ≡ 0 → (x + 2 ^ o) % 2 ^ k ≡ 0 → ⊥

@@ -1,4 +1,4 @@
-use Rattle.std.proofs.Common.{◌≡◌, ℕ, zero, suc, ◌+◌, ◌^◌, ◌%◌, ◌<◌, ◌≤◌, ◌⊎◌, inl, inr, List, [], ◌∷◌, sym, ap, subst, ◌∙◌, refl, arith, length, slice_index_or, slice_set}
+use Rattle.std.proofs.Common.{◌≡◌, ℕ, zero, suc, ◌+◌, ◌^◌, ◌%◌, ◌<◌, ◌≤◌, inl, inr, List, [], ◌∷◌, sym, ap, subst, ◌∙◌, refl, arith, length, slice_index_or, slice_set}
 use Rattle.std.proofs.lemmas.Nat.{pow_pos}
 use Rattle.unit_map.specs.Pieces.{Piece, IsPiece, ArePieces, AreBeside, free_at}
 use Rattle.unit_map.specs.Changes.{CanMove}

@@ -1,11 +1,19 @@
-use Rattle.std.proofs.Common.{◌≡◌, ℕ, suc, ◌+◌, ◌-◌, ◌^◌, ◌%◌, ◌<◌, ◌≤◌, Bool, true, cond, ◌⊎◌, inl, inr, List, [], ◌∷◌, ◌++◌, sym, ap, subst, ◌∙◌, refl, arith}
+use Rattle.std.proofs.Common.{◌≡◌, ℕ, zero, suc, ◌+◌, ◌*◌, ◌^◌, ◌<◌, ◌≤◌, Bool, true, false, cond, ◌&&◌, nat_eq, ◌⊎◌, inl, inr, List, [], ◌∷◌, ◌++◌, ap, subst, ◌∙◌, refl, arith}
 use Rattle.std.proofs.lemmas.Nat.{pow_pos}
 use Rattle.std.proofs.Math.Nat.{two-pow-succ}
-use Rattle.unit_map.specs.Pieces.{Piece, IsPiece, Fills, AreFreeHalves, AreBeside, AreMerged, units_of, free_units, free_blocks, free_at, moved}
-use Rattle.unit_map.specs.Changes.{Joins, Merges, Clears, Puts, Relocates, CanMove}
+use Rattle.unit_map.specs.Pieces.{Piece, IsPiece, IsAligned, Fills, count, AreFreeHalves, AreBeside, AreMerged, units_of, free_units, free_blocks, free_at, moved}
+use Rattle.unit_map.specs.Changes.{Joins, Merges, Relocates, CanMove}
 use Rattle.unit_map.specs.Changes.Merges.{Done, Step}
 
--- What holds of every move: free units stay, free blocks become fewer.
+-- What holds of the pieces of every map, and of every move: free units stay, free blocks become fewer.
+
+pub by_order : (P : ℕ → Type 0) → P 0 → P 1 → P 2 → P 3 → P 4 → (k : ℕ) → k ≤ 4 → P k
+by_order P a b c d e zero h = a
+by_order P a b c d e (suc zero) h = b
+by_order P a b c d e (suc (suc zero)) h = c
+by_order P a b c d e (suc (suc (suc zero))) h = d
+by_order P a b c d e (suc (suc (suc (suc zero)))) h = e
+by_order P a b c d e (suc (suc (suc (suc (suc k))))) h = absurd (omega arith)
 
 pub twice : (k : ℕ) → 2 ^ (k + 1) ≡ 2 ^ k + 2 ^ k
 twice k = let e : k + 1 ≡ suc k = omega arith in ap (λ n. 2 ^ n) e ∙ two-pow-succ k
@@ -39,6 +47,19 @@ free_append (p ∷ ps) qs = omega (arith, free_append ps qs)
 blocks_append : (ps qs : List Piece) → free_blocks (ps ++ qs) ≡ free_blocks ps + free_blocks qs
 blocks_append [] qs = omega arith
 blocks_append (p ∷ ps) qs = omega (arith, blocks_append ps qs)
+
+-- Pieces by order.
+
+one_counts : (b : Bool) (k : ℕ) → k ≤ 4
+    → cond b (2 ^ k) 0 ≡ cond (b && nat_eq k 0) 1 0 + 2 * cond (b && nat_eq k 1) 1 0 + 4 * cond (b && nat_eq k 2) 1 0 + 8 * cond (b && nat_eq k 3) 1 0 + 16 * cond (b && nat_eq k 4) 1 0
+one_counts false k h = refl
+one_counts true k h =
+    by_order (λ k. 2 ^ k ≡ cond (nat_eq k 0) 1 0 + 2 * cond (nat_eq k 1) 1 0 + 4 * cond (nat_eq k 2) 1 0 + 8 * cond (nat_eq k 3) 1 0 + 16 * cond (nat_eq k 4) 1 0) refl refl refl refl refl k h
+
+-- the free units are those of the free pieces by order
+pub free_counts : (ps : List Piece) → ((p : Piece) → IsPiece ps p → IsAligned p) → free_units ps ≡ count 0 ps + 2 * count 1 ps + 4 * count 2 ps + 8 * count 3 ps + 16 * count 4 ps
+free_counts [] h = refl
+free_counts (p ∷ ps) h = omega (arith, one_counts p.free p.order (h p (inl refl)).order, free_counts ps (λ q g. h q (inr g)))
 
 -- Pieces that lie elsewhere.
 

@@ -1,4 +1,4 @@
-use Rattle.std.specs.Prelude.{◌≡◌, ℕ, ◌+◌, ◌^◌, ◌%◌, ◌<◌, ◌≤◌, ◌⊎◌, false, Bool, true, List, [], ◌∷◌}
+use Rattle.std.specs.Prelude.{◌≡◌, ℕ, ◌+◌, ◌^◌, ◌%◌, ◌<◌, ◌≤◌, false, Bool, true, List, [], ◌∷◌}
 use Rattle.unit_map.specs.Pieces.{AreBeside, moved, Piece, free_at, IsPiece, units_of, any, Fills, IsAligned, AreMerged}
 
 -- A range of units with its pieces.

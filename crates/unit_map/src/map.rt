@@ -123,6 +123,7 @@ impl UnitMap {
         requires { order ≤ 4 }
         ensures room { IsTrue result → HasRoom self.now order }
         ensures full { result ≡ false → IsFull self.now order }
+        ensures pieces { ArePieces self.now }
     {
         self.tree.least(order).is_some()
     }
@@ -159,9 +160,11 @@ impl UnitMap {
         self.tree.relocate(spare, from, other, to);
     }
 
-    // Whether a block is taken, by a walk over all: for tests.
-    pub(crate) fn is_taken(&self, block: Block) -> bool
-        ensures { IsTrue result → IsPiece self.now (taken_at block.unit block.order) }
+    /// Whether a block is one of those that are taken, so that it can be given.
+    /// Costs a few steps for each level of a tree over the frames.
+    pub fn is_taken(&self, block: Block) -> bool
+        ensures is { IsTrue result → IsPiece self.now (taken_at block.unit block.order) }
+        ensures other { result ≡ false → IsPiece self.now (taken_at block.unit block.order) → ⊥ }
     {
         self.tree.is_taken(block.unit, block.order)
     }

@@ -396,9 +396,10 @@ impl Tree {
         self.put(spare);
     }
 
-    // Whether a block is one of the taken pieces, by a walk over all: for tests, which must know that before they give it.
+    /// Whether a block is one of the taken pieces.
     pub fn is_taken(&self, unit: u32, order: u8) -> bool
-        ensures { IsTrue result → IsPiece self.now.pieces (taken_at unit order) }
+        ensures is { IsTrue result → IsPiece self.now.pieces (taken_at unit order) }
+        ensures other { result ≡ false → IsPiece self.now.pieces (taken_at unit order) → ⊥ }
     {
         match self.state {
             State::Free => false,
@@ -406,7 +407,11 @@ impl Tree {
             State::Split => match &self.halves {
                 Halves::One => false,
                 Halves::Two(lower, upper) => {
-                    lower.is_taken(unit, order) || upper.is_taken(unit, order)
+                    if unit < upper.unit() {
+                        lower.is_taken(unit, order)
+                    } else {
+                        upper.is_taken(unit, order)
+                    }
                 }
             },
         }

@@ -1,4 +1,3 @@
-use Rattle.std.proofs.Common.{arith}
 use Rattle.unit_map.proofs.Numbers.{upper_half}
 use Rattle.unit_map.proofs.map.Block.buddy.Goals as goal
 

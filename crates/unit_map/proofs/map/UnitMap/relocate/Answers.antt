@@ -1,8 +1,7 @@
-use Rattle.std.proofs.Common.{◌≡◌, ◌+◌, ◌^◌, ◌%◌, ◌<◌, ◌≤◌, sym, ap, subst, ◌∙◌, arith, slice_index_or}
+use Rattle.std.proofs.Common.{◌≤◌, sym, subst, ◌∙◌, arith}
 use Rattle.unit_map.specs.Pieces.{ArePieces, AreBeside, free_at}
-use Rattle.unit_map.specs.Changes.{CanMove, Relocates}
+use Rattle.unit_map.specs.Changes.{Relocates}
 use Rattle.unit_map.specs.Laws.{free_moves, fewer_moves}
-use Rattle.unit_map.specs.Spans.{IsPlace, IsSpare}
 use Rattle.unit_map.proofs.Counts.{are_pieces}
 use Rattle.unit_map.proofs.Spares.{spare_first, first_put, spare_count, piece_place, move_place, spare_place}
 use Rattle.unit_map.proofs.map.UnitMap.relocate.Goals as goal
