@@ -67,3 +67,11 @@ upper_half u (suc zero) lt at h = inr (omega (arith, at, h), omega (arith, at, h
 upper_half u (suc (suc zero)) lt at h = inr (omega (arith, at, h), omega (arith, at, h))
 upper_half u (suc (suc (suc zero))) lt at h = inr (omega (arith, at, h), omega (arith, at, h))
 upper_half u (suc (suc (suc (suc k)))) lt at h = absurd (omega (arith, lt))
+
+-- the upper half of a 32-bit block is a 32-bit one
+pub upper_fits : (u k : ℕ) → k < 4 → u < 4294967296 → u % (2 * (1 * 2 ^ k % 4294967296)) ≡ 0 → u + 1 * 2 ^ k % 4294967296 < 4294967296
+upper_fits u zero lt fits h = omega (arith, fits, h)
+upper_fits u (suc zero) lt fits h = omega (arith, fits, h)
+upper_fits u (suc (suc zero)) lt fits h = omega (arith, fits, h)
+upper_fits u (suc (suc (suc zero))) lt fits h = omega (arith, fits, h)
+upper_fits u (suc (suc (suc (suc k)))) lt fits h = absurd (omega (arith, lt))

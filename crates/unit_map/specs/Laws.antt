@@ -105,6 +105,14 @@ fewer_merges old new p q (Step a mid b j m) merged _ _ halves = omega (arith, bl
 
 -- Moves.
 
+beside_swap : (u v order : ℕ) → AreBeside u v order → AreBeside v u order
+beside_swap u v order (inl b) = inr b
+beside_swap u v order (inr b) = inl b
+
+-- the other half of one free block can go to another free block of the order
+pub can_move : (ps : List Piece) (u v from order : ℕ) → order < 4 → IsPiece ps (free_at u order) → IsPiece ps (free_at v order) → (v ≡ u → ⊥) → AreBeside u from order → CanMove ps from v order
+can_move ps u v from order low here there differ beside = record { low = low; other = u; beside = beside_swap u from order beside; half = here; there = there; differ = differ }
+
 pub free_moves : (old new : List Piece) (from to order : ℕ) → Relocates old from to order new → free_units new ≡ free_units old
 free_moves old new from to order r =
     let c = r.cleared in

@@ -19,7 +19,6 @@ impl Block {
     pub fn buddy(self) -> Block
         requires low { self.order < 4 }
         requires aligned { self.unit % 2 ^ self.order ≡ 0 }
-        requires fits { self.unit < 2 ^ 20 }
         ensures order { result.order ≡ self.order }
         ensures beside { AreBeside self.unit result.unit self.order }
     {

@@ -1,3 +1,6 @@
+ghost use Rattle.std.specs.Prelude.{◌<◌, IfSome};
+ghost use Rattle.unit_map.specs.Changes.{Relocates};
+
 use crate::{Block, UnitMap};
 use std::process::Abort;
 use std::test::Fail;
@@ -48,6 +51,40 @@ fn each_order_is_taken_from_one_frame(rt: HostRuntime) -> Result<(), Fail> {
     Ok(())
 }
 
+// The places of three things in every order.
+const ORDERS: [[usize; 3]; 6] = [
+    [0, 1, 2],
+    [0, 2, 1],
+    [1, 0, 2],
+    [1, 2, 0],
+    [2, 0, 1],
+    [2, 1, 0],
+];
+
+#[test]
+fn three_sizes_are_taken_and_given_in_every_order(rt: HostRuntime) -> Result<(), Fail> {
+    let mut map = UnitMap::new(rt.alloc(), 1)?;
+    let orders = [1, 2, 3];
+    for taking in ORDERS {
+        for giving in ORDERS {
+            let mut blocks = [Block { unit: 0, order: 0 }; 3];
+            for at in taking {
+                match map.take(orders[at]) {
+                    Some(block) => blocks[at] = block,
+                    None => panic!(rt; "no room for order {}", orders[at]),
+                }
+            }
+            assert_eq!(rt; map.free_units(), 2);
+            for at in giving {
+                give(&rt, &mut map, blocks[at].unit, orders[at]);
+            }
+            assert_eq!(rt; map.free_units(), 16);
+            assert!(rt; map.has_room(4));
+        }
+    }
+    Ok(())
+}
+
 #[test]
 fn a_map_is_filled_and_emptied(rt: HostRuntime) -> Result<(), Fail> {
     let mut map = UnitMap::new(rt.alloc(), 3)?;
@@ -66,4 +103,91 @@ fn a_map_is_filled_and_emptied(rt: HostRuntime) -> Result<(), Fail> {
         take_at(&rt, &mut map, 4, unit);
     }
     Ok(())
+}
+
+#[test]
+fn all_frames_are_taken_and_given_one_by_one(rt: HostRuntime) -> Result<(), Fail> {
+    let mut map = UnitMap::new(rt.alloc(), 65_536)?;
+    assert_eq!(rt; map.free_units(), 1_048_576);
+    for frame in 0..65_536u32 {
+        take_at(&rt, &mut map, 4, 16 * frame);
+    }
+    assert_eq!(rt; map.free_units(), 0);
+    assert_eq!(rt; map.take(0), None);
+    for frame in 0..65_536u32 {
+        give(&rt, &mut map, 16 * frame, 4);
+    }
+    assert_eq!(rt; map.free_units(), 1_048_576);
+    Ok(())
+}
+
+// Lets the other half of the lower of two free blocks go to the upper one, and answers its place before and after.
+fn move_up(map: &mut UnitMap, order: u8) -> Option<(u32, u32)>
+    requires { order < 4 }
+    ensures { IfSome result (λ places. Relocates map.old places.0 places.1 order map.new) }
+{
+    match map.two_free(order) {
+        None => None,
+        Some((lower, upper)) => {
+            let from = lower.buddy().unit;
+            map.relocate(from, upper.unit, order);
+            Some((from, upper.unit))
+        }
+    }
+}
+
+#[test]
+fn a_half_frame_is_freed_by_a_move(rt: HostRuntime) -> Result<(), Fail> {
+    let mut map = UnitMap::new(rt.alloc(), 1)?;
+    for unit in [0, 4, 8, 12] {
+        take_at(&rt, &mut map, 2, unit);
+    }
+    give(&rt, &mut map, 0, 2);
+    give(&rt, &mut map, 8, 2);
+    assert!(rt; !map.has_room(3));
+
+    assert_eq!(rt; move_up(&mut map, 2), Some((4, 8)));
+    assert_eq!(rt; map.free_units(), 8);
+    assert!(rt; map.has_room(3));
+    for (unit, taken) in [(0, false), (4, false), (8, true), (12, true)] {
+        assert_eq!(rt; map.is_taken(Block { unit, order: 2 }), taken, "unit {unit}");
+    }
+    take_at(&rt, &mut map, 3, 0);
+    Ok(())
+}
+
+// Blocks of several orders, and a free unit between them, go together.
+#[test]
+fn a_move_carries_all_inside(rt: HostRuntime) -> Result<(), Fail> {
+    let mut map = UnitMap::new(rt.alloc(), 2)?;
+    // unit 0 to 7: orders 2, 0, free, 1; then free; in the second frame free, then an order 3
+    take_at(&rt, &mut map, 2, 0);
+    take_at(&rt, &mut map, 0, 4);
+    take_at(&rt, &mut map, 0, 5);
+    take_at(&rt, &mut map, 1, 6);
+    take_at(&rt, &mut map, 3, 8);
+    take_at(&rt, &mut map, 3, 16);
+    take_at(&rt, &mut map, 3, 24);
+    give(&rt, &mut map, 5, 0);
+    give(&rt, &mut map, 8, 3);
+    give(&rt, &mut map, 16, 3);
+
+    assert_eq!(rt; move_up(&mut map, 3), Some((0, 16)));
+    assert_eq!(rt; map.free_units(), 17);
+    for (unit, order) in [(16, 2), (20, 0), (22, 1), (24, 3)] {
+        assert!(rt; map.is_taken(Block { unit, order }), "unit {unit}");
+    }
+    take_at(&rt, &mut map, 0, 21);
+    take_at(&rt, &mut map, 4, 0);
+    assert_eq!(rt; map.free_units(), 0);
+    Ok(())
+}
+
+// Run with each allocation failing in turn (`rt try --test --fail-alloc N`), this goes the other way.
+#[test]
+fn a_map_is_whole_or_nothing(rt: HostRuntime) {
+    match UnitMap::new(rt.alloc(), 3) {
+        Ok(map) => assert_eq!(rt; map.free_units(), 48),
+        Err(refused) => assert_eq!(rt; refused, std::alloc::AllocError),
+    }
 }

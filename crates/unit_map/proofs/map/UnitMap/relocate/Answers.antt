@@ -12,12 +12,6 @@ buddy-other-requires-clause-aligned c =
     let place = move_place c.args.self.now c.args.from c.args.to c.args.order are c.requires in
     place.aligned (omega (arith, c.requires.low))
 
-pub buddy-other-requires-clause-fits : goal.buddy-other-requires-clause-fits
-buddy-other-requires-clause-fits c =
-    let are = subst ArePieces c.self.view_is c.self.invariant.pieces in
-    let place = move_place c.args.self.now c.args.from c.args.to c.args.order are c.requires in
-    omega (arith, place.fits, place.some)
-
 pub relocate-requires-clause-from : goal.relocate-requires-clause-from
 relocate-requires-clause-from c =
     let are = subst ArePieces c.self.view_is c.self.invariant.pieces in
