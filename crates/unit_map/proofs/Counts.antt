@@ -6,7 +6,7 @@ use Rattle.unit_map.specs.Changes.{split, TakesFrom, Takes, Gives, IsLeast, IsFu
 use Rattle.unit_map.specs.Spans.{Span, IsSpan, AreParts}
 use Rattle.unit_map.proofs.Lists.{in_lower, in_upper, lies, free_append, any_piece, piece_any}
 use Rattle.unit_map.proofs.Numbers.{by_order, compare, twice}
-pub use Rattle.unit_map.specs.Laws.{free_counts, free_merges}
+pub use Rattle.unit_map.specs.Laws.{free_counts, free_le, free_merges}
 
 -- How many units are free, and how many pieces there are of an order.
 
@@ -35,14 +35,6 @@ count_first k n false c rest h = omega (arith, rest h)
 pub count_some : (k : ℕ) (ps : List Piece) → any k ps ≡ true → 1 ≤ count k ps
 count_some k [] h = absurd (cc)
 count_some k (p ∷ ps) h = count_first k (count k ps) (is_free_of k p) (any k ps) (count_some k ps) h
-
-one_free : (b : Bool) (n : ℕ) → cond b n 0 ≤ n
-one_free true n = omega arith
-one_free false n = omega arith
-
-pub free_le : (ps : List Piece) → free_units ps ≤ units_of ps
-free_le [] = omega arith
-free_le (p ∷ ps) = omega (arith, one_free p.free (2 ^ p.order), free_le ps)
 
 free_split : (u o n : ℕ) → free_units (split u o n) + 2 ^ o ≡ 2 ^ (o + n)
 free_split u o zero = let same : o ≡ o + zero = omega arith in let e = ap (λ k. 2 ^ k) same in omega (arith, e)

@@ -48,6 +48,24 @@ blocks_append : (ps qs : List Piece) → free_blocks (ps ++ qs) ≡ free_blocks 
 blocks_append [] qs = omega arith
 blocks_append (p ∷ ps) qs = omega (arith, blocks_append ps qs)
 
+-- How many are free.
+
+one_free : (b : Bool) (n : ℕ) → cond b n 0 ≤ n
+one_free true n = omega arith
+one_free false n = omega arith
+
+pub free_le : (ps : List Piece) → free_units ps ≤ units_of ps
+free_le [] = omega arith
+free_le (p ∷ ps) = omega (arith, one_free p.free (2 ^ p.order), free_le ps)
+
+one_block : (b : Bool) (n : ℕ) → 1 ≤ n → cond b 1 0 ≤ cond b n 0
+one_block true n h = omega (arith, h)
+one_block false n h = omega arith
+
+pub blocks_le : (ps : List Piece) → free_blocks ps ≤ free_units ps
+blocks_le [] = omega arith
+blocks_le (p ∷ ps) = omega (arith, one_block p.free (2 ^ p.order) (pow_pos p.order), blocks_le ps)
+
 -- Pieces by order.
 
 one_counts : (b : Bool) (k : ℕ) → k ≤ 4

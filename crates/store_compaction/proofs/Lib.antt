@@ -1,0 +1,2 @@
+-- Packing, and what moves lead to.
+pub mod Packing

@@ -1,0 +1,88 @@
+use Rattle.std.proofs.Common.{◌≡◌, ℕ, zero, suc, ◌+◌, ◌*◌, ◌^◌, ◌<◌, ◌≤◌, Bool, true, false, cond, ◌⊎◌, inl, inr, List, [], ◌∷◌, ap, ◌∙◌, refl, arith}
+use Rattle.std.proofs.lemmas.Nat.{pow_pos}
+use Rattle.std.proofs.lemmas.Bool.Decides.{nat_tests}
+use Rattle.unit_map.specs.Pieces.{Piece, ArePieces, is_free_of, count, free_blocks, free_units}
+use Rattle.unit_map.specs.Changes.{IsFull}
+use Rattle.unit_map.specs.Laws.{free_counts, free_moves, fewer_moves}
+use Rattle.store_compaction.specs.Runs.{HasPair, Moves}
+use Rattle.store_compaction.specs.Runs.Moves.{Still, Then}
+
+-- Where enough units are free and no free block is large enough, two smaller free blocks are equal in size.
+
+is_free : (k : ℕ) (p : Piece) → is_free_of k p ≡ true → p.free ≡ true
+is_free k p h = grind (arith, nat_tests)
+
+has_order : (k : ℕ) (p : Piece) → is_free_of k p ≡ true → p.order ≡ k
+has_order k p h = grind (arith, nat_tests)
+
+-- where no free block is of an order or above, there is none of it
+none_full : (order k : ℕ) (ps : List Piece) → order ≤ k → IsFull ps order → count k ps ≡ 0
+none_full order k [] le full = refl
+none_full order k (p ∷ ps) le full = at (is_free_of k p) (λ e. full p (inl refl) (is_free k p e) (omega (arith, has_order k p e, le))) (none_full order k ps le (λ q h. full q (inr h)))
+  where
+    at : (b : Bool) → (b ≡ true → ⊥) → count k ps ≡ 0 → cond b 1 0 + count k ps ≡ 0
+    at true h rest = absurd (h refl)
+    at false h rest = omega (arith, rest)
+
+-- there are two below an order, or fewer than two of each
+two_below : (order : ℕ) (ps : List Piece) → HasPair ps order ⊎ ((k : ℕ) → k < order → count k ps < 2)
+two_below zero ps = inr (λ k lt. absurd (omega (arith, lt)))
+two_below (suc n) ps = elim (two_below n ps) [ inl h ↦ inl (record { size = h.size; below = omega (arith, h.below); two = h.two }) | inr few ↦ at few (less (count n ps) 2) ]
+  where
+    less : (a b : ℕ) → (a < b) ⊎ (b ≤ a)
+    less a zero = inr (omega arith)
+    less zero (suc b) = inl (omega arith)
+    less (suc a) (suc b) = elim (less a b) [ inl h ↦ inl (omega arith) | inr h ↦ inr (omega arith) ]
+
+    here : (k : ℕ) → ((k : ℕ) → k < n → count k ps < 2) → count n ps < 2 → (k < n) ⊎ (n ≤ k) → k < suc n → count k ps < 2
+    here k few one (inl lt) h = few k lt
+    here k few one (inr le) h = let same : n ≡ k = omega (arith, le, h) in omega (arith, one, ap (λ j. count j ps) same)
+
+    at : ((k : ℕ) → k < n → count k ps < 2) → (count n ps < 2) ⊎ (2 ≤ count n ps) → HasPair ps (suc n) ⊎ ((k : ℕ) → k < suc n → count k ps < 2)
+    at few (inl lt) = inr (λ k h. here k few lt (less k n) h)
+    at few (inr le) = inl (record { size = n; below = omega arith; two = le })
+
+-- one free block of each order below k at most, and none above, are fewer units than one of order k
+pub too_few : (order : ℕ) (ps : List Piece) → order ≤ 4 → ArePieces ps → ((k : ℕ) → k < order → count k ps < 2) → IsFull ps order → 2 ^ order ≤ free_units ps → ⊥
+too_few order ps low are few full enough = at order low (λ k lt. few k lt) (λ k le. none_full order k ps le full) enough (free_counts ps are.aligned)
+  where
+    at : (j : ℕ) → j ≤ 4 → ((k : ℕ) → k < j → count k ps < 2) → ((k : ℕ) → j ≤ k → count k ps ≡ 0) → 2 ^ j ≤ free_units ps
+        → free_units ps ≡ count 0 ps + 2 * count 1 ps + 4 * count 2 ps + 8 * count 3 ps + 16 * count 4 ps → ⊥
+    at zero h few none enough sum = omega (arith, enough, sum, none 0 (omega arith), none 1 (omega arith), none 2 (omega arith), none 3 (omega arith), none 4 (omega arith))
+    at (suc zero) h few none enough sum = omega (arith, enough, sum, few 0 (omega arith), none 1 (omega arith), none 2 (omega arith), none 3 (omega arith), none 4 (omega arith))
+    at (suc (suc zero)) h few none enough sum = omega (arith, enough, sum, few 0 (omega arith), few 1 (omega arith), none 2 (omega arith), none 3 (omega arith), none 4 (omega arith))
+    at (suc (suc (suc zero))) h few none enough sum = omega (arith, enough, sum, few 0 (omega arith), few 1 (omega arith), few 2 (omega arith), none 3 (omega arith), none 4 (omega arith))
+    at (suc (suc (suc (suc zero)))) h few none enough sum = omega (arith, enough, sum, few 0 (omega arith), few 1 (omega arith), few 2 (omega arith), few 3 (omega arith), none 4 (omega arith))
+    at (suc (suc (suc (suc (suc j))))) h few none enough sum = absurd (omega (arith, h))
+
+pub packs : (order : ℕ) (ps : List Piece) → order ≤ 4 → ArePieces ps → 2 ^ order ≤ free_units ps → IsFull ps order → HasPair ps order
+packs order ps low are enough full = elim (two_below order ps) [ inl h ↦ h | inr few ↦ absurd (too_few order ps low are few full enough) ]
+
+-- Moves, one after the other.
+
+run_free : (n : ℕ) (old new : List Piece) → Moves n old new → free_units new ≡ free_units old
+run_free n old new (Still ps) = refl
+run_free n old new (Then m a mid b from to order can r are rest) = run_free m mid b rest ∙ free_moves a mid from to order r
+
+run_fewer : (n : ℕ) (old new : List Piece) → Moves n old new → n + free_blocks new ≤ free_blocks old
+run_fewer n old new (Still ps) = omega arith
+run_fewer n old new (Then m a mid b from to order can r are rest) = omega (arith, run_fewer m mid b rest, fewer_moves a mid from to order can r)
+
+run_are : (n : ℕ) (old new : List Piece) → ArePieces old → Moves n old new → ArePieces new
+run_are n old new was (Still ps) = was
+run_are n old new was (Then m a mid b from to order can r are rest) = run_are m mid b are rest
+
+-- free units are in free blocks
+none_free : (b : Bool) (n u k : ℕ) → (1 ≤ u → 1 ≤ k) → 1 ≤ cond b n 0 + u → 1 ≤ cond b 1 0 + k
+none_free true n u k h g = omega arith
+none_free false n u k h g = omega (arith, h (omega (arith, g)))
+
+pub some_free : (ps : List Piece) → 1 ≤ free_units ps → 1 ≤ free_blocks ps
+some_free [] h = absurd (omega (arith, h))
+some_free (p ∷ ps) h = none_free p.free (2 ^ p.order) (free_units ps) (free_blocks ps) (some_free ps) h
+
+-- what any moves leave
+pub runs : (order n : ℕ) (old new : List Piece) → order ≤ 4 → ArePieces old → 2 ^ order ≤ free_units old → Moves n old new → (n < free_blocks old) × (IsFull new order → HasPair new order)
+runs order n old new low are enough moves =
+    let kept : 2 ^ order ≤ free_units new = omega (arith, enough, run_free n old new moves) in
+    (omega (arith, run_fewer n old new moves, some_free new (omega (arith, kept, pow_pos order))), λ full. packs order new low (run_are n old new are moves) kept full)

@@ -1,0 +1,92 @@
+ghost use Rattle.std.specs.Prelude.{◌≡◌, ◌+◌, ◌^◌, ◌<◌, ◌≤◌, ℕ, List, IfSome, None};
+ghost use Rattle.unit_map.specs.Pieces.{Piece, ArePieces, AreSettled, count, free_blocks, free_units};
+ghost use Rattle.unit_map.specs.Changes.{HasRoom, IsFull, CanMove, Relocates};
+ghost use Rattle.store_compaction.specs.Runs.{HasPair, Moves};
+
+use unit_map::UnitMap;
+
+/// The blocks inside the block of 2^order units at `from` go to the free block of that order, 0 to 3, at `to`.
+#[derive(Clone, Copy, Debug, PartialEq, Eq)]
+pub struct Move {
+    pub from: u32,
+    pub to: u32,
+    pub order: u8,
+}
+
+/// A move on the way to a map in which no two free blocks below a frame are equal in size. None exactly where the
+/// map is so.
+/// Costs a few steps for each level of a tree over the frames.
+pub fn next_move(map: &UnitMap) -> Option<Move>
+    ensures none { result ≡ None → AreSettled map.now }
+    ensures some { IfSome result (λ m. CanMove map.now m.from m.to m.order × (2 ≤ count m.order map.now)) }
+    ensures pieces { ArePieces map.now }
+{
+    // the least order first
+    'asking: for order in 0..4u8 {
+        match move_of(map, order) {
+            None => {}
+            Some(m) => return Some(m),
+        }
+    }
+    None
+}
+
+/// A move on the way to room for a block of an order from 0 to 4. At least 2^order units have to be free. None
+/// exactly where there is room.
+///
+/// Where there is no room, two free blocks of an order below this one are equal in size. That holds after any
+/// moves too, and these are always fewer than the free blocks here: so that many moves make the room.
+/// Costs a few steps for each level of a tree over the frames.
+pub fn room_for(map: &UnitMap, order: u8) -> Option<Move>
+    requires order { order ≤ 4 }
+    requires enough { 2 ^ order ≤ free_units map.now }
+    ensures none { result ≡ None → HasRoom map.now order }
+    ensures some { IfSome result (λ m. IsFull map.now order × (m.order < order) × CanMove map.now m.from m.to m.order) }
+    ensures packing { IsFull map.now order → HasPair map.now order }
+    ensures run { (n : ℕ) (later : List Piece) → Moves n map.now later → (n < free_blocks map.now) × (IsFull later order → HasPair later order) }
+    ensures pieces { ArePieces map.now }
+{
+    if map.has_room(order) {
+        return None;
+    }
+    // the greatest order first
+    let mut below = order;
+    'asking: while below > 0 {
+        below -= 1;
+        match move_of(map, below) {
+            None => {}
+            Some(m) => return Some(m),
+        }
+    }
+    None
+}
+
+/// Makes a move. The order is below 4, and the block at `to` and the other half of the block at `from` are two different
+/// free blocks of it, as holds of what `next_move` and `room_for` answer. Free units stay, free blocks become fewer.
+/// Takes no memory.
+pub fn apply(map: &mut UnitMap, m: Move)
+    requires { CanMove map.old m.from m.to m.order }
+    ensures relocates { Relocates map.old m.from m.to m.order map.new }
+    ensures pieces { ArePieces map.new }
+    ensures free { free_units map.new ≡ free_units map.old }
+    ensures fewer { free_blocks map.new < free_blocks map.old }
+{
+    map.relocate(m.from, m.to, m.order);
+}
+
+// The move of an order that empties the other half of the upper of two free blocks into the lower one.
+fn move_of(map: &UnitMap, order: u8) -> Option<Move>
+    requires { order < 4 }
+    ensures none { result ≡ None → count order map.now < 2 }
+    ensures some { IfSome result (λ m. (m.order ≡ order) × CanMove map.now m.from m.to m.order × (2 ≤ count m.order map.now)) }
+    ensures pieces { ArePieces map.now }
+{
+    match map.two_free(order) {
+        None => None,
+        Some((lower, upper)) => Some(Move {
+            from: upper.buddy().unit,
+            to: lower.unit,
+            order,
+        }),
+    }
+}
