@@ -2,7 +2,6 @@ use Rattle.std.proofs.Common.{◌≡◌, ℕ, zero, ◌+◌, ◌^◌, ◌≤◌,
 use Rattle.std.proofs.lemmas.Nat.{pow_pos}
 use Rattle.std.proofs.lemmas.Bool.Decides.{nat_tests}
 use Rattle.unit_map.specs.Pieces.{Piece, IsPiece, units_of, any, is_free_of, Fills}
-
 pub use Rattle.unit_map.specs.Laws.{free_append, in_either, in_lower, in_upper, lies}
 
 -- Pieces of two lists, one after the other.

@@ -135,8 +135,20 @@ pub free_moves : (old new : List Piece) (from to order : ℕ) → Relocates old 
 free_moves old new from to order r =
     let c = r.cleared in
     let put = r.put in
-    omega (arith, ap free_units c.was, free_append c.front (r.part ++ c.back), free_append r.part c.back, free_merges _ r.mid c.merges, free_append c.front (free_at from order ∷ c.back),
-      ap free_units put.was, free_append put.front (free_at to order ∷ put.back), ap free_units put.now, free_append put.front (moved from to r.part ++ put.back), free_append (moved from to r.part) put.back, free_moved from to r.part)
+    omega (
+      arith,
+      ap free_units c.was,
+      free_append c.front (r.part ++ c.back),
+      free_append r.part c.back,
+      free_merges _ r.mid c.merges,
+      free_append c.front (free_at from order ∷ c.back),
+      ap free_units put.was,
+      free_append put.front (free_at to order ∷ put.back),
+      ap free_units put.now,
+      free_append put.front (moved from to r.part ++ put.back),
+      free_append (moved from to r.part) put.back,
+      free_moved from to r.part,
+    )
 
 -- the other half is none of the pieces that go
 stays : (u v order : ℕ) (front part back : List Piece) → Fills u part → units_of part ≡ 2 ^ order → AreBeside u v order → IsPiece (front ++ (part ++ back)) (free_at v order) → IsPiece (front ++ free_at u order ∷ back) (free_at v order)
@@ -168,5 +180,17 @@ fewer_moves old new from to order can r =
     let half = stays from can.other order c.front r.part c.back c.fills c.total can.beside (subst (λ ps. IsPiece ps (free_at can.other order)) c.was can.half) in
     let start = c.front ++ free_at from order ∷ c.back in
     let fewer = fewer_beside start r.mid from can.other order can.low c.merges r.merged can.beside (in_upper c.front (free_at from order ∷ c.back) _ (inl refl)) half in
-    omega (arith, ap free_blocks c.was, blocks_append c.front (r.part ++ c.back), blocks_append r.part c.back, fewer, blocks_append c.front (free_at from order ∷ c.back),
-      ap free_blocks put.was, blocks_append put.front (free_at to order ∷ put.back), ap free_blocks put.now, blocks_append put.front (moved from to r.part ++ put.back), blocks_append (moved from to r.part) put.back, blocks_moved from to r.part)
+    omega (
+      arith,
+      ap free_blocks c.was,
+      blocks_append c.front (r.part ++ c.back),
+      blocks_append r.part c.back,
+      fewer,
+      blocks_append c.front (free_at from order ∷ c.back),
+      ap free_blocks put.was,
+      blocks_append put.front (free_at to order ∷ put.back),
+      ap free_blocks put.now,
+      blocks_append put.front (moved from to r.part ++ put.back),
+      blocks_append (moved from to r.part) put.back,
+      blocks_moved from to r.part,
+    )

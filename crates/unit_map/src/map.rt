@@ -62,7 +62,8 @@ impl UnitMap {
     pub fn new(alloc: Global, frames: u32) -> Result<UnitMap, AllocError>
         requires some { 0 < frames }
         requires few { frames ≤ 65536 }
-        ensures { IfOk result (λ map. map ≡ free_frames 0 frames) }
+        ensures free { IfOk result (λ map. map ≡ free_frames 0 frames) }
+        ensures pieces { IfOk result (λ map. ArePieces map) }
     {
         let tree = Tree::frames(alloc, 0, frames)?;
         let spares = [

@@ -150,7 +150,11 @@ fn a_half_frame_is_freed_by_a_move(rt: HostRuntime) -> Result<(), Fail> {
     assert_eq!(rt; map.free_units(), 8);
     assert!(rt; map.has_room(3));
     for (unit, taken) in [(0, false), (4, false), (8, true), (12, true)] {
-        assert_eq!(rt; map.is_taken(Block { unit, order: 2 }), taken, "unit {unit}");
+        assert_eq!(rt;
+            map.is_taken(Block { unit, order: 2 }),
+            taken,
+            "unit {unit}"
+        );
     }
     take_at(&rt, &mut map, 3, 0);
     Ok(())
