@@ -7,6 +7,7 @@
 //! - `region`: the lines, read and written by number
 #![tactic(auto)]
 
+mod lines;
 mod region;
 
 pub use region::Region;

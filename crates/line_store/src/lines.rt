@@ -1,0 +1,36 @@
+//! Room for lines in one piece of raw memory. The first are made, and the rest is room that nothing has touched.
+ghost use Rattle.std.specs.Prelude.{◌≡◌, ◌+◌, ◌*◌, ◌<◌, ◌≤◌, ℕ, List, [], ◌∷◌, ◌++◌, length, IfOk};
+ghost use Rattle.std.specs.Borrow.{Lends, sem, Array, u8 as byte};
+ghost use denote.RawPtr.{Ptr};
+ghost use Rattle.line_store.specs.Memory.{lines_own, lines_lent};
+
+
+use std::marker::{Model};
+use std::slice;
+
+// Where a line begins on the host, so that no line lies across two of its own.
+const ALIGN: usize = 16;
+
+/// Room for lines, of which the first `made` are made.
+pub(crate) struct Lines {
+    at: *mut [u8; 64],
+    made: usize,
+    pub(crate) ghost items: { List (List ℕ) },
+    pub(crate) ghost room: { ℕ },
+    ghost fits: { (made ≡ length items) × (made ≤ room) × (room ≤ 4194368) },
+}
+
+impl Model for Lines {
+    ghost also_owns = { λ l. lines_own l.at l.made l.items l.room };
+
+    ghost also_shares = { λ l _ κ. lines_lent l.at l.made l.items κ };
+}
+
+impl Lines {
+    /// Lends the lines that are made.
+    pub(crate) fn as_slice(&self) -> &[[u8; 64]]
+        ensures { result.now ≡ self.now.items }
+    {
+        unsafe { slice::from_raw_parts(self.at, self.made) }
+    }
+}
