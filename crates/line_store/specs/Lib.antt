@@ -2,3 +2,4 @@
 pub mod Lines
 pub mod Kept
 pub mod Memory
+pub mod Lends

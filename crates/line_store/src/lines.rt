@@ -27,10 +27,20 @@ impl Model for Lines {
 }
 
 impl Lines {
+    ghost use Rattle.line_store.specs.Lends.{lends_items};
+
     /// Lends the lines that are made.
     pub(crate) fn as_slice(&self) -> &[[u8; 64]]
         ensures { result.now ≡ self.now.items }
     {
         unsafe { slice::from_raw_parts(self.at, self.made) }
+    }
+
+    /// Lends the lines that are made, for writing.
+    pub(crate) fn as_mut_slice(&mut self) -> &mut [[u8; 64]]
+        ensures* writes_back { sem 𝓛 (lends_items self.entry result) }
+        ensures value { result.now ≡ self.old.items }
+    {
+        unsafe { slice::from_raw_parts_mut(self.at, self.made) }
     }
 }
