@@ -43,4 +43,16 @@ impl Lines {
     {
         unsafe { slice::from_raw_parts_mut(self.at, self.made) }
     }
+
+    /// Makes one more line, for which there has to be room.
+    pub(crate) fn push(&mut self, line: [u8; 64])
+        requires room { length self.old.items < self.old.room }
+        ensures items { self.new.items ≡ self.old.items ++ line ∷ [] }
+        ensures piece { (self.new.at ≡ self.old.at) × (self.new.room ≡ self.old.room) }
+    {
+        unsafe {
+            self.at.add(self.made).write(line);
+        }
+        self.made += 1;
+    }
 }
