@@ -1,11 +1,12 @@
 //! Room for lines in one piece of raw memory. The first are made, and the rest is room that nothing has touched.
-ghost use Rattle.std.specs.Prelude.{◌≡◌, ◌+◌, ◌*◌, ◌<◌, ◌≤◌, ℕ, List, [], ◌∷◌, ◌++◌, length, IfOk};
-ghost use Rattle.std.specs.Borrow.{Lends, sem, Array, u8 as byte};
+ghost use Rattle.std.specs.Prelude.{◌≡◌, ◌<◌, ◌≤◌, ℕ, List, [], ◌∷◌, ◌++◌, length, IfOk};
+ghost use Rattle.std.specs.Borrow.{sem};
 ghost use denote.RawPtr.{Ptr};
-ghost use Rattle.line_store.specs.Memory.{lines_own, lines_lent};
+ghost use Rattle.line_store.specs.Memory.{lines_own, lines_lent, lease_owns};
 
+use std::alloc::{AllocError, Allocator};
 
-use std::marker::{Model};
+use std::marker::{Model, PhantomData};
 use std::slice;
 
 // Where a line begins on the host, so that no line lies across two of its own.
@@ -26,8 +27,47 @@ impl Model for Lines {
     ghost also_shares = { λ l _ κ. lines_lent l.at l.made l.items κ };
 }
 
+/// The right to give the memory back to `alloc`. It takes no space.
+pub(crate) struct Lease<A: Allocator> {
+    mark: PhantomData<A>,
+    pub(crate) ghost alloc: { A },
+    pub(crate) ghost at: { Ptr },
+    pub(crate) ghost room: { ℕ },
+}
+
+impl<A: Allocator> Model for Lease<A> {
+    ghost also_owns = { λ l. lease_owns (A.dealloc_token l.alloc) l.at l.room };
+}
+
 impl Lines {
     ghost use Rattle.line_store.specs.Lends.{lends_items};
+
+    /// Room for `room` lines, of which none is made.
+    pub(crate) fn new<A: Allocator>(
+        alloc: &A,
+        room: usize,
+    ) -> Result<(Lines, Lease<A>), AllocError>
+        requires { room ≤ 4194368 }
+        ensures { IfOk result (λ r. (r.0.items ≡ []) × (r.0.room ≡ room) × (r.1.alloc ≡ alloc.now) × (r.1.at ≡ r.0.at) × (r.1.room ≡ room)) }
+    {
+        match alloc.allocate(64 * room, ALIGN) {
+            Ok(block) => {
+                let at = block as *mut [u8; 64];
+                let mark = PhantomData;
+                Ok((Lines { at, made: 0 }, Lease { mark }))
+            }
+            Err(refused) => Err(refused),
+        }
+    }
+
+    /// Gives the memory back, with what lies in it.
+    pub(crate) fn free<A: Allocator>(self, room: usize, lease: Lease<A>, alloc: &A)
+        requires { (lease.alloc ≡ alloc.now) × (lease.at ≡ self.at) × (lease.room ≡ room) × (self.room ≡ room) }
+    {
+        let Lines { at, made: _ } = self;
+        let Lease { mark: _ } = lease;
+        unsafe { alloc.deallocate(at as *mut u8, 64 * room, ALIGN) }
+    }
 
     /// Lends the lines that are made.
     pub(crate) fn as_slice(&self) -> &[[u8; 64]]
