@@ -1,11 +1,10 @@
 //! Room for lines in one piece of raw memory. The first are made, and the rest is room that nothing has touched.
-ghost use Rattle.std.specs.Prelude.{◌≡◌, ◌<◌, ◌≤◌, ℕ, List, [], ◌∷◌, ◌++◌, length, IfOk};
+ghost use Rattle.std.specs.Prelude.{◌≡◌, ◌-◌, ◌<◌, ◌≤◌, ℕ, List, [], ◌∷◌, ◌++◌, length, replicate, IfOk};
 ghost use Rattle.std.specs.Borrow.{sem};
 ghost use denote.RawPtr.{Ptr};
 ghost use Rattle.line_store.specs.Memory.{lines_own, lines_lent, lease_owns};
 
 use std::alloc::{AllocError, Allocator};
-
 use std::marker::{Model, PhantomData};
 use std::slice;
 
@@ -14,7 +13,7 @@ const ALIGN: usize = 16;
 
 /// Room for lines, of which the first `made` are made.
 pub(crate) struct Lines {
-    at: *mut [u8; 64],
+    pub(crate) at: *mut [u8; 64],
     made: usize,
     pub(crate) ghost items: { List (List ℕ) },
     pub(crate) ghost room: { ℕ },
@@ -94,5 +93,16 @@ impl Lines {
             self.at.add(self.made).write(line);
         }
         self.made += 1;
+    }
+
+    /// Makes lines until there are `wanted`, for which there has to be room. They are zero.
+    pub(crate) fn grow(&mut self, wanted: usize)
+        requires room { wanted ≤ self.old.room }
+        ensures items { self.new.items ≡ self.old.items ++ replicate (wanted - length self.old.items) (replicate 64 0) }
+        ensures piece { (self.new.at ≡ self.old.at) × (self.new.room ≡ self.old.room) }
+    {
+        'making: while self.as_slice().len() < wanted {
+            self.push([0; 64]);
+        }
     }
 }
