@@ -60,9 +60,9 @@ page_behind first count at ends below near h =
     ∙ sym (get_or-take 64 (drop at all) k d short ∙ get_or-drop at all k d ∙ line_near first count (at + k) d ends near_k low_k))
 
 -- what the callers know of a page that isn't kept whole
-pub page_of_zeros : (first : List (List ℕ)) (room count at : ℕ) → IsKept first room count → length first < at + 64 → at + 64 ≤ count
+pub page_of_zeros : (first : List (List ℕ)) (count at : ℕ) → IsKept first count → length first < at + 64 → at + 64 ≤ count
     → zero_lines 64 ≡ take 64 (drop at (lines_of first count))
-page_of_zeros first room count at kept near h = elim kept.ends [
+page_of_zeros first count at kept near h = elim kept.ends [
   | inl whole ↦ absurd (omega (arith, whole))
   | inr ends ↦ page_behind first count at ends kept.below near h
 ]
@@ -87,30 +87,29 @@ more_ends first more ends at d near low =
       | inr behind ↦ get_or-append_right first (zero_lines more) (length first) at d refl behind ∙ get_or-zero_lines more (at - length first) d (omega arith)
     ]
 
--- first after the Vec was filled up
-grown : (first new : List (List ℕ)) (wanted : ℕ) → new ≡ take wanted first ++ replicate (wanted - length first) (replicate 64 0) → length first < wanted
-    → new ≡ first ++ zero_lines (wanted - length first)
+-- the lines kept, after zero lines were put behind them until there were so many
+grown : (first new : List (List ℕ)) (wanted : ℕ) → new ≡ first ++ replicate (wanted - length first) (replicate 64 0) → new ≡ first ++ zero_lines (wanted - length first)
 unfolding zero_lines
-grown first new wanted is h = is ∙ ap (λ l. l ++ replicate (wanted - length first) (replicate 64 0)) (take_all wanted first (omega arith))
+grown first new wanted is = is
 
-pub grown_same : (first new : List (List ℕ)) (count wanted : ℕ) → new ≡ take wanted first ++ replicate (wanted - length first) (replicate 64 0) → length first < wanted
+pub length-grown : (first new : List (List ℕ)) (wanted : ℕ) → new ≡ first ++ replicate (wanted - length first) (replicate 64 0) → length new ≡ length first + (wanted - length first)
+length-grown first new wanted is = omega (arith, ap length (grown first new wanted is), length-append first (zero_lines (wanted - length first)), length-zero_lines (wanted - length first))
+
+pub grown_same : (first new : List (List ℕ)) (count wanted : ℕ) → new ≡ first ++ replicate (wanted - length first) (replicate 64 0) → length first ≤ count
     → wanted ≤ count → lines_of new count ≡ lines_of first count
-grown_same first new count wanted is h k = ap (λ l. lines_of l count) (grown first new wanted is h) ∙ more_same first count (wanted - length first) (omega arith)
+grown_same first new count wanted is h k = ap (λ l. lines_of l count) (grown first new wanted is) ∙ more_same first count (wanted - length first) (omega arith)
 
-pub grown_kept : (first new : List (List ℕ)) (room larger count wanted : ℕ) → new ≡ take wanted first ++ replicate (wanted - length first) (replicate 64 0)
-    → length first < wanted → wanted ≤ count → room ≤ larger → IsKept first room count → IsKept new larger count
-grown_kept first new room larger count wanted is h k more kept =
-    let all = grown first new wanted is h in
-    let long : length new ≡ length first + (wanted - length first) =
-    ap length all ∙ length-append first (zero_lines (wanted - length first)) ∙ ap (λ (n : ℕ). length first + n) (length-zero_lines (wanted - length first)) in
-    let fits = kept.fits in
+pub grown_kept : (first new : List (List ℕ)) (count wanted : ℕ) → new ≡ first ++ replicate (wanted - length first) (replicate 64 0)
+    → wanted ≤ count → IsKept first count → IsKept new count
+grown_kept first new count wanted is k kept =
+    let long = length-grown first new wanted is in
+    let below = kept.below in
     record {
       few = kept.few;
-      below = omega (arith, long);
-      fits = omega (arith, fits);
+      below = omega (arith, long, below);
       ends = elim kept.ends [
-        | inl whole ↦ absurd (omega (arith, whole))
-        | inr ends ↦ inr (subst EndsInZero (sym all) (more_ends first (wanted - length first) ends))
+        | inl whole ↦ inl (omega (arith, long, whole, k))
+        | inr ends ↦ inr (subst EndsInZero (sym (grown first new wanted is)) (more_ends first (wanted - length first) ends))
       ];
     }
 
@@ -158,16 +157,14 @@ copy_ends first from to n h k ends at d near low =
     ∙ ap (λ (i : ℕ). get_or first i d) behind
     ∙ ends at d (omega (arith, long)) (omega (arith, long))
 
-pub copy_kept : (first new : List (List ℕ)) (room larger count from to n end : ℕ) → new ≡ with_copied first from to n → from + n ≤ length first → to + n ≤ length first
-    → (length first ≡ count) ⊎ (end + 64 ≤ length first) → to + n ≤ end → room ≤ larger → IsKept first room count → IsKept new larger count
-copy_kept first new room larger count from to n end is h k reached inside more kept =
+pub copy_kept : (first new : List (List ℕ)) (count from to n end : ℕ) → new ≡ with_copied first from to n → from + n ≤ length first → to + n ≤ length first
+    → (length first ≡ count) ⊎ (end + 64 ≤ length first) → to + n ≤ end → IsKept first count → IsKept new count
+copy_kept first new count from to n end is h k reached inside kept =
     let long = ap length is ∙ length-with_copied first from to n h k in
     let below = kept.below in
-    let fits = kept.fits in
     record {
       few = kept.few;
       below = omega (arith, long, below);
-      fits = omega (arith, fits);
       ends = elim kept.ends [
         | inl whole ↦ inl (long ∙ whole)
         | inr ends ↦ elim reached [

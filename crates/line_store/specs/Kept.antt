@@ -12,8 +12,7 @@ abbrev pub EndsInZero : List (List ℕ) → Type 0
 EndsInZero lines = (at : ℕ) (d : List ℕ) → length lines ≤ at + 64 → at < length lines → slice_index_or lines at d ≡ replicate 64 0
 
 -- All lines are kept, or the last 64 of those kept are zero. So a page that isn't kept whole is zero.
-pub record IsKept (first : List (List ℕ)) (room count : ℕ) : Type 0 where
+pub record IsKept (first : List (List ℕ)) (count : ℕ) : Type 0 where
   pub few : count ≤ 4194368
   pub below : length first ≤ count
-  pub fits : count ≤ room
   pub ends : (length first ≡ count) ⊎ EndsInZero first

@@ -2,6 +2,7 @@
 ghost use Rattle.std.specs.Prelude.{◌≡◌, ◌-◌, ◌<◌, ◌≤◌, ℕ, List, [], ◌∷◌, ◌++◌, length, replicate, IfOk};
 ghost use Rattle.std.specs.Borrow.{sem};
 ghost use denote.RawPtr.{Ptr};
+ghost use Rattle.line_store.specs.Lines.{line_of};
 ghost use Rattle.line_store.specs.Memory.{lines_own, lines_lent, lease_owns};
 
 use std::alloc::{AllocError, Allocator};
@@ -39,7 +40,7 @@ impl<A: Allocator> Model for Lease<A> {
 }
 
 impl Lines {
-    ghost use Rattle.line_store.specs.Lends.{lends_items};
+    ghost use Rattle.line_store.specs.Lends.{lends_item, lends_items};
 
     /// Room for `room` lines, of which none is made.
     pub(crate) fn new<A: Allocator>(
@@ -81,6 +82,15 @@ impl Lines {
         ensures value { result.now ≡ self.old.items }
     {
         unsafe { slice::from_raw_parts_mut(self.at, self.made) }
+    }
+
+    /// Lends line `at`, which has to be made, for writing.
+    pub(crate) fn line_mut(&mut self, at: usize) -> &mut [u8; 64]
+        requires made { at < length self.old.items }
+        ensures* writes_back { sem 𝓛 (lends_item self.entry at result) }
+        ensures value { result.now ≡ line_of self.old.items at }
+    {
+        unsafe { &mut *self.at.add(at) }
     }
 
     /// Makes one more line, for which there has to be room.

@@ -1,33 +1,47 @@
 ghost use Rattle.std.specs.Prelude.{◌≡◌, ◌+◌, ◌-◌, ◌*◌, ◌≤◌, ◌<◌, ◌⊎◌, ◌++◌, IfOk, take, drop, length, replicate, slice_set};
-ghost use Rattle.std.specs.Vec.{vec_capacity};
 ghost use Rattle.std.specs.Borrow.{Lends, sem, Array, u8 as byte};
 ghost use Rattle.line_store.specs.contracts.region.Region.{the_row};
 ghost use Rattle.line_store.specs.Lines.{zero_lines, line_of, with_copied};
 ghost use Rattle.line_store.specs.Kept.{lines_of, IsKept};
 
+use crate::lines::{Lease, Lines};
 use std::alloc::{AllocError, Global};
 use std::marker::Model;
 
 /// Lines of 64 bytes by number, from 0 on: 64 for each of 1 to 65,537 frames. All are zero at first. Room
 /// for all is allocated at once, but lines more than 64 behind the last one that was written, or copied,
 /// aren't touched: where the host gives memory on the first touch they cost none.
-#[derive(Drop)]
 pub struct Region {
     // the first lines; those behind them are zero, and there is room for them
-    first: Vec<[u8; 64]>,
+    lines: Lines,
     count: u32,
+    // where their memory goes back to
+    alloc: Global,
+    lease: Lease<Global>,
 }
 
 impl Model for Region {
-    ghost use Rattle.std.specs.Prelude.{List, ℕ};
-    ghost use Rattle.std.specs.Vec.{vec_capacity};
+    ghost use Rattle.std.specs.Prelude.{List, ℕ, ◌≡◌};
     ghost use Rattle.line_store.specs.Kept.{lines_of, IsKept};
 
     ghost Value = { List (List ℕ) };
 
-    ghost view = { λ region. lines_of region.first.items region.count };
+    ghost view = { λ region. lines_of region.lines.items region.count };
 
-    ghost invariant = { λ region. IsKept region.first.items (vec_capacity region.first) region.count };
+    ghost invariant = { λ region. IsKept region.lines.items region.count × (region.lines.room ≡ region.count) × (region.lease.at ≡ region.lines.at) × (region.lease.room ≡ region.count) × (region.lease.alloc ≡ region.alloc) };
+}
+
+// Gives the memory back.
+impl Drop for Region {
+    fn drop(self) {
+        let Region {
+            lines,
+            count,
+            alloc,
+            lease,
+        } = self;
+        lines.free(count as usize, lease, &alloc);
+    }
 }
 
 impl Region {
@@ -40,9 +54,12 @@ impl Region {
         ensures count { IfOk result (λ region. length region ≡ 64 * frames) }
     {
         let count = 64 * frames;
+        let (lines, lease) = Lines::new(&alloc, count as usize)?;
         Ok(Region {
-            first: Vec::with_capacity(alloc, count as usize)?,
+            lines,
             count,
+            alloc,
+            lease,
         })
     }
 
@@ -58,10 +75,11 @@ impl Region {
         requires there { at < length self.now }
         ensures value { result.now ≡ line_of self.now at }
     {
-        if self.first.len() <= at as usize {
+        let kept = self.lines.as_slice();
+        if kept.len() <= at as usize {
             return zero_line();
         }
-        &self.first[at as usize]
+        &kept[at as usize]
     }
 
     /// Lends the 64 lines from `at` on, which have to be there.
@@ -69,10 +87,11 @@ impl Region {
         requires there { at + 64 ≤ length self.now }
         ensures value { result.now ≡ take 64 (drop at self.now) }
     {
-        if self.first.len() < at as usize + 64 {
+        let kept = self.lines.as_slice();
+        if kept.len() < at as usize + 64 {
             return zero_page();
         }
-        match self.first[at as usize..].first_chunk() {
+        match kept[at as usize..].first_chunk() {
             Some(page) => page,
             None => unreachable!(),
         }
@@ -94,8 +113,8 @@ impl Region {
         ensures* writes_back { sem 𝓛 (Lends the_row (Array byte 0) self.entry result (slice_set self.old at)) }
         ensures value { result.now ≡ line_of self.old at }
     {
-        reach(&mut self.first, self.count, at + 1);
-        &mut self.first[at as usize]
+        reach(&mut self.lines, self.count, at + 1);
+        self.lines.line_mut(at as usize)
     }
 
     /// Makes the `n` lines from `to` on the `n` lines from `from` on. Both have to be there, and may not
@@ -107,9 +126,11 @@ impl Region {
         ensures copied { self.new ≡ with_copied self.old from to n }
         ensures count { length self.new ≡ length self.old }
     {
-        reach(&mut self.first, self.count, from.max(to) + n);
+        reach(&mut self.lines, self.count, from.max(to) + n);
         let (start, end) = (from as usize, from as usize + n as usize);
-        self.first.copy_within(start..end, to as usize);
+        self.lines
+            .as_mut_slice()
+            .copy_within(start..end, to as usize);
     }
 }
 
@@ -131,20 +152,14 @@ fn zero_page() -> &'static [[u8; 64]; 64]
 
 // Keeps the lines before `end` and 64 more, where there are so many. So a page that isn't kept whole
 // lies among those 64 and behind them, and is zero.
-fn reach(first: &mut Vec<[u8; 64]>, count: u32, end: u32)
+fn reach(lines: &mut Lines, count: u32, end: u32)
     requires few { count ≤ 4194368 }
     requires inside { end ≤ count }
-    requires room { count ≤ vec_capacity first.old }
-    requires below { length first.old.items ≤ count }
-    ensures same { lines_of first.new.items count ≡ lines_of first.old.items count }
-    ensures kept { IsKept first.old.items (vec_capacity first.old) count → IsKept first.new.items (vec_capacity first.new) count }
-    ensures reached { (length first.new.items ≡ count) ⊎ (end + 64 ≤ length first.new.items) }
+    requires room { lines.old.room ≡ count }
+    ensures same { lines_of lines.new.items count ≡ lines_of lines.old.items count }
+    ensures kept { IsKept lines.old.items count → IsKept lines.new.items count }
+    ensures reached { (length lines.new.items ≡ count) ⊎ (end + 64 ≤ length lines.new.items) }
+    ensures piece { (lines.new.at ≡ lines.old.at) × (lines.new.room ≡ lines.old.room) }
 {
-    let wanted = (end + 64).min(count) as usize;
-    if first.len() < wanted {
-        match first.resize(wanted, [0; 64]) {
-            Ok(()) => {}
-            Err(_) => unreachable!(),
-        }
-    }
+    lines.grow((end + 64).min(count) as usize);
 }

@@ -6,32 +6,32 @@ use Rattle.line_store.proofs.region.Region.copy_lines.Goals as goal
 
 pub overflow_add-max : goal.overflow_add-max
 overflow_add-max c =
-    let size = length-lines_of c.self.inside.first.items c.self.inside.count c.self.invariant.below in
-    record { fits = omega (arith, c.requires.source, c.requires.target, ap length c.self.view_is, size, c.self.invariant.few, c.max.ensures) }
+    let size = length-lines_of c.self.inside.lines.items c.self.inside.count c.self.invariant.0.below in
+    record { fits = omega (arith, c.requires.source, c.requires.target, ap length c.self.view_is, size, c.self.invariant.0.few, c.max.ensures) }
 
 pub reach-requires-clause-inside : goal.reach-requires-clause-inside
 reach-requires-clause-inside c =
-    let size = length-lines_of c.self.inside.first.items c.self.inside.count c.self.invariant.below in
+    let size = length-lines_of c.self.inside.lines.items c.self.inside.count c.self.invariant.0.below in
     omega (arith, c.requires.source, c.requires.target, ap length c.self.view_is, size, c.max.ensures)
 
 pub copy_within-requires-clause-in_bounds : goal.copy_within-requires-clause-in_bounds
 copy_within-requires-clause-in_bounds c =
-    let size = length-lines_of c.self.inside.first.items c.self.inside.count c.self.invariant.below in
+    let size = length-lines_of c.self.inside.lines.items c.self.inside.count c.self.invariant.0.below in
     let inside : c.max.result + c.args.n ≤ c.self.inside.count = omega (arith, c.requires.source, c.requires.target, ap length c.self.view_is, size, c.max.ensures) in
-    let kept = far (length c.reach.new.first.items) c.self.inside.count (c.max.result + c.args.n) (c.args.from + c.args.n) c.reach.ensures.reached (omega (arith, c.max.ensures)) inside in
-    omega (arith, kept, c.reach.new.first.ok.0)
+    let kept = far (length c.reach.new.lines.items) c.self.inside.count (c.max.result + c.args.n) (c.args.from + c.args.n) c.reach.ensures.reached (omega (arith, c.max.ensures)) inside in
+    omega (arith, kept, c.reach.new.lines.ok.0)
 
 pub copy_within-requires-clause-dest_in_bounds : goal.copy_within-requires-clause-dest_in_bounds
 copy_within-requires-clause-dest_in_bounds c =
-    let size = length-lines_of c.self.inside.first.items c.self.inside.count c.self.invariant.below in
+    let size = length-lines_of c.self.inside.lines.items c.self.inside.count c.self.invariant.0.below in
     let inside : c.max.result + c.args.n ≤ c.self.inside.count = omega (arith, c.requires.source, c.requires.target, ap length c.self.view_is, size, c.max.ensures) in
-    let kept = far (length c.reach.new.first.items) c.self.inside.count (c.max.result + c.args.n) (c.args.to + c.args.n) c.reach.ensures.reached (omega (arith, c.max.ensures)) inside in
-    omega (arith, kept, c.reach.new.first.ok.0)
+    let kept = far (length c.reach.new.lines.items) c.self.inside.count (c.max.result + c.args.n) (c.args.to + c.args.n) c.reach.ensures.reached (omega (arith, c.max.ensures)) inside in
+    omega (arith, kept, c.reach.new.lines.ok.0)
 
 pub invariant_of-self : goal.invariant_of-self
 invariant_of-self c =
-    let size = length-lines_of c.self.inside.first.items c.self.inside.count c.self.invariant.below in
-    let items = c.reach.new.first.items in
+    let size = length-lines_of c.self.inside.lines.items c.self.inside.count c.self.invariant.0.below in
+    let items = c.reach.new.lines.items in
     let end = c.max.result + c.args.n in
     let inside : end ≤ c.self.inside.count = omega (arith, c.requires.source, c.requires.target, ap length c.self.view_is, size, c.max.ensures) in
     let source = far (length items) c.self.inside.count end (c.args.from + c.args.n) c.reach.ensures.reached (omega (arith, c.max.ensures)) inside in
@@ -42,8 +42,8 @@ invariant_of-self c =
 
 pub returns-clause-copied : goal.returns-clause-copied
 returns-clause-copied c =
-    let size = length-lines_of c.self.inside.first.items c.self.inside.count c.self.invariant.below in
-    let items = c.reach.new.first.items in
+    let size = length-lines_of c.self.inside.lines.items c.self.inside.count c.self.invariant.0.below in
+    let items = c.reach.new.lines.items in
     let end = c.max.result + c.args.n in
     let inside : end ≤ c.self.inside.count = omega (arith, c.requires.source, c.requires.target, ap length c.self.view_is, size, c.max.ensures) in
     let source = far (length items) c.self.inside.count end (c.args.from + c.args.n) c.reach.ensures.reached (omega (arith, c.max.ensures)) inside in

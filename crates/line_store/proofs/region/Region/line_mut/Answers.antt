@@ -1,39 +1,23 @@
 use Rattle.std.proofs.Common.{◌+◌, ◌<◌, ◌≤◌, length, set, [], refl, ap, sym, ◌∙◌, arith}
-use Rattle.std.proofs.lemmas.List.{get_or_read_under}
 use Rattle.line_store.specs.Lines.{line_of}
 use Rattle.line_store.proofs.Kept.{length-lines_of, line_kept, far, set_same}
 use Rattle.line_store.proofs.region.Region.line_mut.Goals as goal
 
 pub overflow_add-at : goal.overflow_add-at
 overflow_add-at c =
-    let size = length-lines_of c.self.inside.first.items c.self.inside.count c.self.invariant.below in
-    record { fits = omega (arith, c.requires.there, ap length c.self.view_is, size, c.self.invariant.few) }
+    let size = length-lines_of c.self.inside.lines.items c.self.inside.count c.self.invariant.0.below in
+    record { fits = omega (arith, c.requires.there, ap length c.self.view_is, size, c.self.invariant.0.few) }
 
 pub reach-requires-clause-inside : goal.reach-requires-clause-inside
 reach-requires-clause-inside c =
-    let size = length-lines_of c.self.inside.first.items c.self.inside.count c.self.invariant.below in
+    let size = length-lines_of c.self.inside.lines.items c.self.inside.count c.self.invariant.0.below in
     omega (arith, c.requires.there, ap length c.self.view_is, size)
 
-pub index_mut-requires : goal.index_mut-requires
-index_mut-requires c =
-    let size = length-lines_of c.self.inside.first.items c.self.inside.count c.self.invariant.below in
-    let low : c.args.at + 1 ≤ c.self.inside.count = omega (arith, c.requires.there, ap length c.self.view_is, size) in
-    let kept : c.args.at + 1 ≤ length c.reach.new.first.items =
-    far (length c.reach.new.first.items) c.self.inside.count (c.args.at + 1) (c.args.at + 1) c.reach.ensures.reached (omega arith) low in
-    omega (arith, kept, c.reach.new.first.ok.0)
+pub slice_element_pass-result : goal.slice_element_pass-result
+slice_element_pass-result c = ?
+
+pub invariant_of-self-lent : goal.invariant_of-self-lent
+invariant_of-self-lent c = ?
 
 pub returns : goal.returns
-returns c =
-    let size = length-lines_of c.self.inside.first.items c.self.inside.count c.self.invariant.below in
-    let items = c.reach.new.first.items in
-    let whole = c.reach.ensures.same ∙ c.self.view_is in
-    let low : c.args.at + 1 ≤ c.self.inside.count = omega (arith, c.requires.there, ap length c.self.view_is, size) in
-    let kept : c.args.at + 1 ≤ length items = far (length items) c.self.inside.count (c.args.at + 1) (c.args.at + 1) c.reach.ensures.reached (omega arith) low in
-    let there : c.args.at < length items = omega (arith, kept) in (
-      (refl, λ w. set_same items c.self.inside.count c.args.at w there ∙ ap (λ l. set l c.args.at w) whole),
-      record {
-        writes_back = tt;
-        value = get_or_read_under items c.args.at _ c.index_mut.result.now [] c.index_mut.ensures.value there refl
-            ∙ sym (line_kept items c.self.inside.count c.args.at [] there) ∙ ap (λ l. line_of l c.args.at) whole;
-      },
-    )
+returns c = ?

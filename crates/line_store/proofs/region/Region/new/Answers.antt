@@ -3,4 +3,4 @@ use Rattle.line_store.proofs.Kept.{length-lines_of}
 use Rattle.line_store.proofs.region.Region.new.Goals as goal
 
 pub returns-clause-count : goal.returns-clause-count
-returns-clause-count c = length-lines_of c.in_ok-with_capacity.field-0.items (64 * c.args.frames) (omega (arith, ap length c.in_ok-with_capacity.ensures.items))
+returns-clause-count c = length-lines_of c.in_ok-lines.lines.items (64 * c.args.frames) (omega (arith, ap length c.in_ok-lines.ensures.0))

@@ -3,13 +3,13 @@ use Rattle.std.proofs.lemmas.List.{take_rest}
 use Rattle.line_store.proofs.Kept.{length-lines_of, page_kept, page_of_zeros}
 use Rattle.line_store.proofs.region.Region.page.Goals as goal
 
-pub returns-then-len-at : goal.returns-then-len-at
-returns-then-len-at c =
-    let size = length-lines_of c.self.inside.first.items c.self.inside.count c.self.invariant.below in
+pub returns-then-kept-at : goal.returns-then-kept-at
+returns-then-kept-at c =
+    let size = length-lines_of c.self.inside.lines.items c.self.inside.count c.self.invariant.0.below in
     record {
       value = c.zero_page.ensures
-          ∙ page_of_zeros c.self.inside.first.items _ c.self.inside.count c.args.at c.self.invariant
-          (omega (arith, c.if-len-at.true, c.len.ensures, c.self.inside.first.ok.0)) (omega (arith, c.requires.there, size, ap length c.self.view_is))
+          ∙ page_of_zeros c.self.inside.lines.items c.self.inside.count c.args.at c.self.invariant.0
+          (omega (arith, c.if-kept-at.true, ap length c.as_slice-kept.ensures)) (omega (arith, c.requires.there, size, ap length c.self.view_is))
           ∙ ap (λ l. take 64 (drop c.args.at l)) c.self.view_is;
     }
 
@@ -17,7 +17,7 @@ pub returns : goal.returns
 returns c =
     record {
       value = c.in-Some.ensures.cases.same
-          ∙ ap (take 64) (take_rest c.deref.result.now c.args.at ∙ ap (drop c.args.at) c.deref.ensures.value)
-          ∙ page_kept c.self.inside.first.items c.self.inside.count c.args.at (omega (arith, c.if-len-at.false, c.len.ensures, c.self.inside.first.ok.0))
+          ∙ ap (take 64) (take_rest c.as_slice-kept.result.now c.args.at ∙ ap (drop c.args.at) c.as_slice-kept.ensures)
+          ∙ page_kept c.self.inside.lines.items c.self.inside.count c.args.at (omega (arith, c.if-kept-at.false, ap length c.as_slice-kept.ensures))
           ∙ ap (λ l. take 64 (drop c.args.at l)) c.self.view_is;
     }
