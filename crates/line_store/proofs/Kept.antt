@@ -2,7 +2,8 @@ use Rattle.std.proofs.Common.{◌≡◌, ℕ, ◌+◌, ◌-◌, ◌<◌, ◌≤�
 use Rattle.std.proofs.lemmas.Bool.{cases_lt}
 use Rattle.std.proofs.lemmas.List.{length-append, length-replicate, length-take-le, get_or-replicate, get_or_append_left, get_or-append_right, get_or-take, get_or-drop, set-append_left, replicate-append-replicate, append_assoc, take-append-le, drop-append-le, same_lists, take_all}
 use Rattle.std.proofs.lemmas.List.Edits.{length-paste, drop-paste}
-use Rattle.std.specs.List.{copy_within}
+use Rattle.std.proofs.VecSteps.Gaps.{all_new}
+use Rattle.std.specs.List.{copy_within, refill}
 use Rattle.line_store.specs.Lines.{zero_lines, with_copied}
 use Rattle.line_store.specs.Kept.{lines_of, EndsInZero, IsKept}
 
@@ -119,11 +120,13 @@ set_same first count at w h =
     ap (λ (n : ℕ). set first at w ++ zero_lines (count - n)) (length-set first at w)
     ∙ sym (set-append_left first (zero_lines (count - length first)) at w h)
 
--- lines are copied
-pub copied : (first new : List (List ℕ)) (from to n : ℕ) → new ≡ copy_within first from (from + n) to → new ≡ with_copied first from to n
-copied first new from to n is =
+-- lines are copied, through a slice of those kept
+pub copied : (first seen written : List (List ℕ)) (made from to n : ℕ) → made ≡ length first → seen ≡ first → length written ≡ length seen
+    → written ≡ copy_within seen from (from + n) to → refill made first written ≡ with_copied first from to n
+copied first seen written made from to n count same long is =
     let many : (from + n) - from ≡ n = omega arith in
-    is ∙ ap (λ (k : ℕ). take to first ++ take k (drop from first) ++ drop (to + k) first) many
+    all_new made first written (omega (arith, count, ap length same, long))
+    ∙ is ∙ ap (λ l. copy_within l from (from + n) to) same ∙ ap (λ (k : ℕ). take to first ++ take k (drop from first) ++ drop (to + k) first) many
 
 length-with_copied : (first : List (List ℕ)) (from to n : ℕ) → from + n ≤ length first → to + n ≤ length first → length (with_copied first from to n) ≡ length first
 length-with_copied first from to n h k = length-paste first to (drop from first) n k (omega (arith, length-drop from first))

@@ -13,11 +13,25 @@ reach-requires-clause-inside c =
     let size = length-lines_of c.self.inside.lines.items c.self.inside.count c.self.invariant.0.below in
     omega (arith, c.requires.there, ap length c.self.view_is, size)
 
-pub slice_element_pass-result : goal.slice_element_pass-result
-slice_element_pass-result c = ?
-
-pub invariant_of-self-lent : goal.invariant_of-self-lent
-invariant_of-self-lent c = ?
+pub line_mut-requires : goal.line_mut-requires
+line_mut-requires c =
+    let size = length-lines_of c.self.inside.lines.items c.self.inside.count c.self.invariant.0.below in
+    let low : c.args.at + 1 ≤ c.self.inside.count = omega (arith, c.requires.there, ap length c.self.view_is, size) in
+    let kept : c.args.at + 1 ≤ length c.reach.new.lines.items =
+    far (length c.reach.new.lines.items) c.self.inside.count (c.args.at + 1) (c.args.at + 1) c.reach.ensures.reached (omega arith) low in
+    omega (arith, kept)
 
 pub returns : goal.returns
-returns c = ?
+returns c =
+    let size = length-lines_of c.self.inside.lines.items c.self.inside.count c.self.invariant.0.below in
+    let items = c.reach.new.lines.items in
+    let whole = c.reach.ensures.same ∙ c.self.view_is in
+    let low : c.args.at + 1 ≤ c.self.inside.count = omega (arith, c.requires.there, ap length c.self.view_is, size) in
+    let kept : c.args.at + 1 ≤ length items = far (length items) c.self.inside.count (c.args.at + 1) (c.args.at + 1) c.reach.ensures.reached (omega arith) low in
+    let there : c.args.at < length items = omega (arith, kept) in (
+      (refl, λ w. set_same items c.self.inside.count c.args.at w there ∙ ap (λ l. set l c.args.at w) whole),
+      record {
+        writes_back = tt;
+        value = c.line_mut.ensures.value ∙ sym (line_kept items c.self.inside.count c.args.at [] there) ∙ ap (λ l. line_of l c.args.at) whole;
+      },
+    )
