@@ -2,12 +2,12 @@
 use Rattle.std.proofs.Common.{◌≡◌, ℕ, ◌+◌, ◌-◌, ◌*◌, ◌^◌, ◌<◌, List, [], ◌∷◌, ◌++◌, refl, sym, ap, ◌∙◌, arith, w64}
 use base.Fraction.{full_share}
 use base.Stored.{Gv}
-use mir.Val.{Val, vint, vptr, vstruct, vcons, vnil, of_list}
+use mir.Val.{Val, vint, vstruct, vcons, vnil, of_list}
 use seplogic.Ra.Ura.{Ura}
 use base.Logic.{ent, sep, emp, id⊢, never}
-use base.Fml.{Lft, GName, Share, Fml, fsep, froom, flft, fobs, fauth, fbor, fobor}
+use base.Fml.{Lft, GName, Share, Fml, froom, flft, fobs, fauth, fbor, fobor}
 use types.Logic.{Logic, sem}
-use types.Kit.{Goal, Soaks, Step, step, Seq, Item, ‵, ◌$◌, ◌∵◌, !, qed, move, keep, drop, use0, rewrite, fsplit, fjoin, fpack, done}
+use types.Kit.{Goal, Soaks, Step, step, Seq, Item, ‵, ◌$◌, ◌∵◌, !, qed, move, keep, drop, use0, rewrite, fsplit, fjoin, done}
 use types.SemTy.{Body}
 use denote.Builtin.{usize}
 use denote.RattleType.{RattleType, RowLaws}

@@ -1,6 +1,6 @@
 use Rattle.std.proofs.Common.{◌≡◌, ℕ, ◌+◌, ◌-◌, ◌<◌, ◌≤◌, ◌⊎◌, inl, inr, List, ◌++◌, length, get_or, take, drop, set, replicate, sym, ap, ◌∙◌, refl, subst, arith, length-drop, length-set}
 use Rattle.std.proofs.lemmas.Bool.{cases_lt}
-use Rattle.std.proofs.lemmas.List.{length-append, length-replicate, length-take-le, get_or-replicate, get_or_append_left, get_or-append_right, get_or-take, get_or-drop, set-append_left, replicate-append-replicate, append_assoc, take-append-le, drop-append-le, same_lists, take_all}
+use Rattle.std.proofs.lemmas.List.{length-append, length-replicate, length-take-le, get_or-replicate, get_or_append_left, get_or-append_right, get_or-take, get_or-drop, set-append_left, replicate-append-replicate, append_assoc, take-append-le, drop-append-le, same_lists}
 use Rattle.std.proofs.lemmas.List.Edits.{length-paste, drop-paste}
 use Rattle.std.proofs.VecSteps.Gaps.{all_new}
 use Rattle.std.specs.List.{copy_within, refill}

@@ -43,10 +43,7 @@ impl Lines {
     ghost use Rattle.line_store.specs.Lends.{lends_item, lends_items};
 
     /// Room for `room` lines, of which none is made.
-    pub(crate) fn new<A: Allocator>(
-        alloc: &A,
-        room: usize,
-    ) -> Result<(Lines, Lease<A>), AllocError>
+    pub(crate) fn new<A: Allocator>(alloc: &A, room: usize) -> Result<(Lines, Lease<A>), AllocError>
         requires { room ≤ 4194368 }
         ensures { IfOk result (λ r. (r.0.items ≡ []) × (r.0.room ≡ room) × (r.1.alloc ≡ alloc.now) × (r.1.at ≡ r.0.at) × (r.1.room ≡ room)) }
     {

@@ -1,16 +1,14 @@
 -- A `&` to the memory reaches each line that is made. Assumes `Logic`.
-use mathlib.Core.List.{[], ◌++◌}
 use base.Fraction.{full_share}
-use base.Fml.{ftrue, fsep, froom}
+use base.Fml.{froom}
 use contract.BorrowLft.{⊑_static}
 use denote.Array.{Array, Array-row_laws}
-use denote.Memory.{lone}
 use denote.Param.Shared.{copy_shared}
 use denote.RawPtr.{Ptr, block_ptr, null_ptr, lies_at}
 use denote.Shares.{Shares-less, Shares-Array}
 use denote.Struct.Field.{RawPtr-field, usize-field}
 use denote.Struct.Laws.{RawPtr-copy, usize-copy}
-use denote.Struct.Lending.{Lends, Lends-false, Lends-lies, Lends-first, lent_at, lent_at_shr_laws, of_Lends}
+use denote.Struct.Lending.{Lends, Lends-false, Lends-lies, Lends-first, lent_at_shr_laws, of_Lends}
 use Prim.Native.Nat.{ℕ, ◌+◌, ◌-◌, ◌*◌}
 use mathlib.Core.List.{List}
 use seplogic.Ra.Ura.{Ura}

@@ -1,15 +1,15 @@
 -- `as_mut_slice` lends the lines made, and the memory follows them. Assumes `Logic`.
-use Rattle.std.proofs.Common.{◌≡◌, ℕ, ◌+◌, ◌-◌, ◌*◌, ◌<◌, ◌^◌, List, [], ◌∷◌, length, take, drop as drop_l, refl, sym, ap, subst, ◌∙◌, arith, w64}
+use Rattle.std.proofs.Common.{◌≡◌, ℕ, ◌+◌, ◌-◌, ◌*◌, ◌<◌, ◌^◌, List, [], ◌∷◌, length, refl, sym, ◌∙◌, arith}
 use Rattle.std.proofs.raw_atomic.Walks.{proved}
 use seplogic.Ra.Ura.{Ura}
 use base.Fraction.{full_share}
 use mir.Syntax.{named}
-use mir.Val.{Val, vptr, vint}
-use base.Logic.{ent, sep, id⊢}
-use base.Fml.{Lft, GName, Fml, ftrue, fsep, froom, flft}
+use mir.Val.{Val}
+use base.Logic.{ent, sep}
+use base.Fml.{GName, Fml, ftrue, fsep, froom, flft}
 use contract.Running.{tables}
 use types.Logic.{Logic, sem}
-use types.Kit.{‵, raw, ◌⊛◌, some, given, later, await, pick, learn, at_ret, ◌$◌, ◌∵◌, !, qed, by, move, keep, drop, use0, use1, use2, split, join, group, rewrite, fsplit, fsplit3, fjoin, fpack, feq_i, feq_l, suffices, frame, done}
+use types.Kit.{‵, ◌⊛◌, some, given, later, await, pick, learn, at_ret, ◌$◌, ◌∵◌, !, qed, move, keep, drop, use0, use1, split, join, group, rewrite, fsplit, fsplit3, fjoin, fpack, suffices, frame, done}
 use types.Part.{agg, whole, sub, look_in}
 use types.Run.{enter, of_opd, load, stop, fld, no_more, and_then, first, blocks, exec, returns}
 use types.SemTy.{cells}
@@ -17,7 +17,7 @@ use types.ByLocal.{alloc_all, pass_all, free_all, look_at, get, through, sets, s
 use denote.Array.{Array}
 use denote.Exit.{no}
 use denote.Follow.{follows}
-use denote.FollowSlice.{Elements, lends_Elements}
+use denote.FollowSlice.{lends_Elements}
 use denote.Index.{row, whole_in, whole_out}
 use denote.Memory.{part_at, part_of, cell_at, mem}
 use denote.RawPtr.{Ptr, block_ptr}

@@ -1,31 +1,27 @@
 -- `as_slice` reads both fields through the `&`, and lends the lines made. Assumes `Logic`.
-use Rattle.std.proofs.Common.{◌≡◌, ℕ, ◌+◌, ◌*◌, ◌<◌, ◌^◌, List, [], ◌∷◌, length, refl, sym, ap, subst, arith, w64}
+use Rattle.std.proofs.Common.{ℕ, ◌+◌, ◌*◌, ◌^◌, List, [], ◌∷◌, length, refl, ap, arith}
 use Rattle.std.proofs.raw_atomic.Walks.{proved}
 use mir.Syntax.{named}
-use mir.Val.{Val, vptr, vint}
-use base.Logic.{id⊢}
-use base.Fml.{Lft, ftrue, fhide, flft}
+use mir.Val.{Val, vptr}
+use base.Fml.{ftrue, fhide, flft}
 use contract.Monad.{fact}
 use contract.Running.{tables}
-use types.Logic.{Logic}
-use types.Kit.{‵, raw, ◌⊛◌, at_ret, ◌$◌, ◌∵◌, !, qed, move, keep, drop, use1, split, join, fsplit, fjoin, feq_i, feq_l, flt_i, suffices, frame, done}
+use types.Kit.{‵, raw, ◌⊛◌, at_ret, ◌$◌, ◌∵◌, !, qed, move, keep, drop, use1, split, join, fsplit, fjoin, feq_i, flt_i, suffices, frame, done}
 use types.Part.{agg}
 use types.Run.{enter, of_opd, load, look, stop, fld, no_more, and_then, first, blocks, exec, returns}
 use types.ByLocal.{alloc_all, pass_all, free_all, look_at, get, through, sets, sets_last, env}
 use denote.Exit.{yes}
-use denote.Builtin.{usize}
 use denote.Memory.{hidden_shr}
 use denote.Opens.{shr_dup, unhide, hide}
-use denote.RawPtr.{Ptr, RawPtr, block_of, count_of, InBlock}
+use denote.RawPtr.{block_of, count_of, InBlock}
 use denote.Ref.{ShrRef, shr_vals, shr_Tells}
 use denote.Signature.{plain}
-use denote.Slice.{slice_val, elements_shared}
+use denote.Slice.{slice_val}
 use denote.Steps.{heard, nothing}
 use denote.Struct.Lending.{in_block_says, lent_out}
 use denote.Triple.Walked.{Stays, walk_of, says, stay_none_ref, Goes-none_ref, ends_at}
 use Rattle.std.proofs.VecSteps.Shapes.{after}
 use Rattle.std.proofs.Words.{word_in, word_out, pointer_in, pointer_out}
-use Rattle.line_store.specs.Memory.{Line}
 use Rattle.line_store.proofs.Fields.{Words, shows_at, shows_made}
 use Rattle.line_store.specs.contracts.lines.Lines as L
 use Rattle.line_store.specs.contracts.lines.Lines.as_slice as f

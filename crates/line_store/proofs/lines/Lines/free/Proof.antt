@@ -14,9 +14,9 @@ use types.Kit.{‵, raw, ◌⊛◌, given, later, prop, settles, at_ret, ◌$◌
 use types.Part.{whole, sub}
 use types.Run.{stop, fld, lit, bin, unit_lit, of_opd, no_more, and_then, first, blocks, exec, returns, enter}
 use types.ByLocal.{alloc_all, pass_all, free_all, look_at, get, get_in, sets, lands_last, env}
-use denote.RattleType.{RattleType, owns}
+use denote.RattleType.{owns}
 use denote.RawPtr.{Ptr, block_ptr, in_a_block}
-use denote.Param.{param, bounded}
+use denote.Param.{bounded}
 use denote.Signature.{types_at}
 use denote.Steps.{nothing, heard}
 use denote.Triple.Entry.{alive}
@@ -46,8 +46,16 @@ free_spec 𝓤 𝓛 𝓜 𝓡 wired A L₀ g d dd met md =
     let stays : Stays T.signature.params T.kept = (stay_dropped (slot_at 0 T.signature.params) T.kept.0, (stay_dropped (slot_at 1 T.signature.params) T.kept.1.0, (stay_dropped (slot_at 2 T.signature.params) T.kept.1.1.0, (stay_dropped (slot_at 3 T.signature.params) T.kept.1.1.1.0, tt)))) in
     let C = (tables 𝓤 H 𝓜 𝓡 𝓡.env).C in
     let Λ = (tables 𝓤 H 𝓜 𝓡 𝓡.env).Λ in
-    proved_at 𝓛 T stays c 𝓜 𝓡 (Goes-blank 𝓛 2 (slot_at 0 T.signature.params) T.kept.0 (λ κs x f. tt), (Goes-dropped 𝓛 2 (slot_at 1 T.signature.params) T.kept.1.0 (λ κs x f. refl), (Goes-blank 𝓛 2 (slot_at 2 T.signature.params) T.kept.1.1.0 (λ κs x f. tt),
-    (Goes-dropped 𝓛 2 (slot_at 3 T.signature.params) T.kept.1.1.1.0 (λ κs x f. refl), tt)))) (#self args) fn (compiled.unfolded 𝓤 H 𝓜 𝓡 wired (A, tt) d dd) (λ z are.
+    proved_at 𝓛 T stays c 𝓜 𝓡 (
+      Goes-blank 𝓛 2 (slot_at 0 T.signature.params) T.kept.0 (λ κs x f. tt),
+      (
+        Goes-dropped 𝓛 2 (slot_at 1 T.signature.params) T.kept.1.0 (λ κs x f. refl),
+        (
+          Goes-blank 𝓛 2 (slot_at 2 T.signature.params) T.kept.1.1.0 (λ κs x f. tt),
+          (Goes-dropped 𝓛 2 (slot_at 3 T.signature.params) T.kept.1.1.1.0 (λ κs x f. refl), tt),
+        ),
+      ),
+    ) (#self args) fn (compiled.unfolded 𝓤 H 𝓜 𝓡 wired (A, tt) d dd) (λ z are.
     let Post : Val → SProp 𝓤 = (walk_of 𝓛 T stays c).post z in
     let a = z.0.3 in
     let vss = z.0.4 in

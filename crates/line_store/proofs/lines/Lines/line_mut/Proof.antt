@@ -6,11 +6,11 @@ use base.Fraction.{full_share}
 use mir.Syntax.{named}
 use mir.Val.{Val, vptr, vint}
 use base.Logic.{ent, sep}
-use base.Fml.{Lft, GName, Fml, ftrue, fsep, froom, flft}
+use base.Fml.{GName, Fml, ftrue, fsep, froom, flft}
 use contract.Monad.{fact}
 use contract.Running.{tables}
 use types.Logic.{Logic, sem}
-use types.Kit.{‵, raw, ◌⊛◌, some, given, later, await, pick, learn, at_ret, ◌$◌, ◌∵◌, !, qed, move, keep, drop, use0, use1, use2, split, join, group, rewrite, fsplit, fsplit3, fjoin, fjoin3, fpack, suffices, frame, done}
+use types.Kit.{‵, raw, ◌⊛◌, some, given, later, await, pick, learn, at_ret, ◌$◌, ◌∵◌, !, qed, move, keep, drop, use0, use1, use2, split, join, group, rewrite, fsplit3, fjoin, fjoin3, fpack, suffices, frame, done}
 use types.Part.{whole, sub, look_in}
 use types.Run.{enter, of_opd, lit, bin, addr, load, stop, fld, first, blocks, exec, returns}
 use types.ByLocal.{alloc_all, pass_all, free_all, look_at, get, through, sets, sets_last, env}

@@ -1,17 +1,17 @@
 -- `new` asks the allocator for units of 16 bytes, and sees them as room for lines. Assumes `Logic`.
-use Rattle.std.proofs.Common.{◌≡◌, ℕ, ◌+◌, ◌-◌, ◌*◌, ◌≤◌, ◌<◌, ◌^◌, List, [], ◌∷◌, ◌++◌, refl, ◌∙◌, arith, lit<, w64, Ok, Err, IfOk}
+use Rattle.std.proofs.Common.{◌≡◌, ℕ, ◌+◌, ◌-◌, ◌*◌, ◌≤◌, ◌<◌, ◌^◌, List, [], ◌∷◌, ◌++◌, refl, ◌∙◌, arith, lit<, w64, Ok, Err}
 use mir.Syntax.{Ty, Fn, Args, a_type, dcons, dnil}
 use mir.Val.{Val, vint, vptr, vcons, vnil, vstruct}
 use mir.MapTy.{inst_fn}
 use base.Fraction.{full_share}
 use base.Logic.{SProp, emp, id⊢}
-use base.Fml.{Lft, Share, ftrue, fsep, fwand, froom, flft}
+use base.Fml.{Lft, Share, ftrue, fwand, froom, flft}
 use prog.Capped.{capped_is}
 use prog.Wp.{Env, WpFn}
 use contract.BorrowLft.{◌⊑◌, ⊑_trans}
 use contract.Monad.{fact, fact_i}
 use contract.Running.{tables}
-use types.Kit.{‵, raw, ◌⊛◌, later, prop, at_ret, ◌$◌, ◌∵◌, !, qed, by, move, keep, drop, use0, use1, use2, split, join, regoal, rewrite, fsplit, fjoin, await}
+use types.Kit.{‵, raw, ◌⊛◌, later, prop, at_ret, ◌$◌, ◌∵◌, !, qed, by, move, drop, use0, use1, use2, split, join, regoal, rewrite, fsplit, fjoin, await}
 use types.Part.{whole, agg}
 use types.Match.{live, vrt, in_variant}
 use types.Run.{stop, fld, lit, bin, of_opd, no_more, and_then, first, switches_on, exec, returns, enter}
@@ -37,7 +37,7 @@ use Rattle.std.proofs.ResultValues.{ok_of, err_of}
 use Rattle.std.proofs.VecSteps.Rows.{empty}
 use Rattle.std.specs.contracts.alloc.AllocError as AE
 use Rattle.std.proofs.raw_atomic.Walks.{proved_at, leaves}
-use Rattle.line_store.specs.Memory.{Line, room_of, units_of, lines_own, lease_owns}
+use Rattle.line_store.specs.Memory.{Line, room_of, units_of}
 use Rattle.line_store.specs.contracts.lines.Lines as L
 use Rattle.line_store.specs.contracts.lines.Lease as D
 use Rattle.line_store.specs.contracts.lines.Lines.new.{ended, clauses}

@@ -1,15 +1,13 @@
 -- `push` writes a line into the first of the room. Assumes `Logic`.
-use Rattle.std.proofs.Common.{◌≡◌, ℕ, ◌+◌, ◌-◌, ◌*◌, ◌<◌, ◌^◌, List, [], ◌∷◌, ◌++◌, length, length-append, refl, sym, ap, ◌∙◌, arith, T, w8, w64}
+use Rattle.std.proofs.Common.{ℕ, ◌+◌, ◌-◌, ◌*◌, ◌<◌, ◌^◌, List, [], ◌∷◌, ◌++◌, length, length-append, refl, sym, ap, ◌∙◌, arith, w8}
 use Rattle.std.proofs.raw_atomic.Walks.{proved}
 use base.Fraction.{full_share}
-use mir.Syntax.{Ty, named, ty_array}
-use mir.Val.{Val, vptr, vint, vunit, has_ty, WT}
-use base.Logic.{id⊢}
-use base.Fml.{Lft, ftrue, froom, flft}
+use mir.Syntax.{named}
+use mir.Val.{Val, vptr, vunit}
+use base.Fml.{ftrue, froom, flft}
 use contract.Monad.{fact}
 use contract.Running.{tables}
-use types.Logic.{Logic}
-use types.Kit.{‵, raw, ◌⊛◌, at_ret, ◌$◌, ◌∵◌, !, qed, move, keep, drop, use1, use2, split, join, rewrite, fsplit, fsplit3, fjoin, fjoin3, feq_i, suffices, frame, done}
+use types.Kit.{‵, raw, ◌⊛◌, at_ret, ◌$◌, ◌∵◌, !, qed, move, keep, drop, use1, use2, split, join, fsplit3, fjoin, fjoin3, feq_i, suffices, frame, done}
 use types.Part.{whole, sub, look_in, store_in}
 use types.Run.{enter, of_opd, lit, unit_lit, bin, load, init, stop, fld, assigns, assigns_last, first, blocks, exec, returns}
 use types.ByLocal.{alloc_all, pass_all, free_all, look_at, get, through, sets, env}
@@ -18,8 +16,7 @@ use denote.Builtin.{u8, ArrayOf}
 use denote.Exit.{yes}
 use denote.Memory.{lone, part_at}
 use denote.Plain.{uint_vals, uint_Tells}
-use denote.RawPtr.{Ptr, block_ptr}
-use denote.Ref.{MutRef, MutBor, mut_vals, mut_Tells}
+use denote.Ref.{MutRef, mut_vals, mut_Tells}
 use denote.Signature.{Slot, plain}
 use denote.Steps.{heard, nothing}
 use denote.Triple.Walked.{Stays, walk_of, stay_ref, stay_dropped, Goes-ref, Goes-dropped, ends_at}
@@ -58,7 +55,7 @@ push_spec 𝓤 𝓛 𝓜 𝓡 wired =
     let typed = ((line_laws.lawful 𝓛).typed x vs are.1.0).0 in
     enter ! _ _ _ _ _ $ alloc_all ! (λ l. pass_all ! refl ((tt, tt), (typed, tt)) $
     fsplit3 ! $ drop ! $ lines_opens ! tt d rb ro (λ b o e fits.
-    let n = d.made in let new = more d x less in 
+    let n = d.made in let new = more d x less in
     let place : n * 64 < 2 ^ 64 = omega (arith, d.fits.1, d.fits.2) in let next : n + 1 < 2 ^ 64 = omega (arith, d.fits.1, d.fits.2) in
     move ! (1 ∷ []) $ use1 𝓛 (‵ (froom (lone Line.mir) b (n * 64 + o)) ⊛ ‵ (froom (room_of (d.room - (n + 1))) b (o + (n + 1) * 64))) (spare line 𝓛 b o n d.room (omega (arith, less, d.fits.0))) $ split ! $
     -- [the room of the line; that of the rest; the lines; the fields; the open borrow, in three entries; the new line]

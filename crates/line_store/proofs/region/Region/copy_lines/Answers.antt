@@ -39,7 +39,7 @@ invariant_of-self c =
     let is = copied lines.items c.as_mut_slice.result.now c.copy_within.new.self lines.made c.args.from c.args.to c.args.n lines.fits.0 c.as_mut_slice.ensures.value
     c.copy_within.ensures.len c.copy_within.ensures.after in (
       copy_kept lines.items _ c.self.inside.count c.args.from c.args.to c.args.n end is source target c.reach.ensures.reached
-      (omega (arith, c.max.ensures)) (c.reach.ensures.kept c.self.invariant.0),
+          (omega (arith, c.max.ensures)) (c.reach.ensures.kept c.self.invariant.0),
       c.reach.ensures.piece.1 ∙ c.self.invariant.1,
       c.self.invariant.2 ∙ sym c.reach.ensures.piece.0,
       c.self.invariant.3,
