@@ -5,6 +5,7 @@
 //! behind the last one written aren't touched.
 //!
 //! - `region`: the lines, read and written by number
+//! - `lines`: the raw memory behind them, private
 #![tactic(auto)]
 
 mod lines;

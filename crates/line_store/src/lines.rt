@@ -1,4 +1,6 @@
-//! Room for lines in one piece of raw memory. The first are made, and the rest is room that nothing has touched.
+//! Room for lines in one piece of raw memory. The first lines are made, and nothing has touched the room behind them.
+//!
+//! Only the functions of this module have a raw pointer, and each is proved by hand.
 ghost use Rattle.std.specs.Prelude.{◌≡◌, ◌-◌, ◌<◌, ◌≤◌, ℕ, List, [], ◌∷◌, ◌++◌, length, replicate, IfOk};
 ghost use Rattle.std.specs.Borrow.{sem};
 ghost use denote.RawPtr.{Ptr};
@@ -9,7 +11,7 @@ use std::alloc::{AllocError, Allocator};
 use std::marker::{Model, PhantomData};
 use std::slice;
 
-// Where a line begins on the host, so that no line lies across two of its own.
+// The largest alignment that `Global` gives.
 const ALIGN: usize = 16;
 
 /// Room for lines, of which the first `made` are made.
