@@ -67,10 +67,17 @@ module _ {M : Type 1} {𝓤 : Ura M} {𝓛 : Logic 𝓤} {K : Type 0} {Γ : List
       in_a_block t d.at (λ p. lines_own p d.made d.items d.room) (id⊢ 𝓤 (never 𝓤)) (λ b o e. fsplit t $ move t (2 ∷ []) $ drop t $
       rewrite t 2 (λ (ws : List Val). ‵ (cell_at full_share L.the_row.mir ws rb ro)) (lowers.val_is d us is ∙ ap (λ (p : Ptr). lines_val p d.made ∷ []) e) refl $ k b o e (omega (arith, d.fits.1, d.fits.2)))))
 
+  -- the fields' cell and what is owned, of those parts
+  pub lines_made : K → (d : Lines) (b o rb ro : ℕ) → d.at ≡ block_ptr b o
+      → Step K 𝓛 (‵ (cell_at full_share L.the_row.mir (lines_val d.at d.made ∷ []) rb ro) ∷ ‵ (L.the_row.own_val d (lines_val d.at d.made ∷ [])) ∷ Γ) G
+      (‵ (part_at (Array Line d.made) full_share d.items b o) ∷ ‵ (froom (room_of (d.room - d.made)) b (o + d.made * 64)) ∷ ‵ (cell_at full_share L.the_row.mir (lines_val (block_ptr b o) d.made ∷ []) rb ro) ∷ Γ) G
+  lines_made t d b o rb ro e = step (λ s. fjoin t $ rewrite t 0 (λ (p : Ptr). ‵ (lines_own p d.made d.items d.room)) (sym e) refl $
+      use0 𝓛 (‵ (words_own d.at d.made (lines_val d.at d.made ∷ []))) (words_made 𝓛 d.at d.made (omega (arith, d.fits.1, d.fits.2))) $ fjoin t $ move t (1 ∷ []) $
+      rewrite t 0 (λ (p : Ptr). ‵ (cell_at full_share L.the_row.mir (lines_val p d.made ∷ []) rb ro)) (sym e) refl $ s)
+
+module _ {M : Type 1} {𝓤 : Ura M} {𝓛 : Logic 𝓤} {K : Type 0} {Γ : List (Item 𝓤)} {G : Goal 𝓤 𝓛.H} where
   pub lines_closes : K → Soaks G → {κ : Lft} {q : Share} {u v : Gv} {γ : GName} (d : Lines) (b o rb ro : ℕ) → d.at ≡ block_ptr b o
       → Step K 𝓛 (‵ (fobs γ (L.the_row.coded.code d)) ∷ ‵ (fbor κ (Body (mem L.the_row) rb ro γ)) ∷ ‵ (flft κ q) ∷ Γ) G
       (‵ (part_at (Array Line d.made) full_share d.items b o) ∷ ‵ (froom (room_of (d.room - d.made)) b (o + d.made * 64)) ∷ ‵ (cell_at full_share L.the_row.mir (lines_val (block_ptr b o) d.made ∷ []) rb ro)
       ∷ ‵ (fobor κ q (Body (mem L.the_row) rb ro γ)) ∷ ‵ (fobs γ u) ∷ ‵ (fauth γ v) ∷ Γ) G
-  lines_closes t z d b o rb ro e = step (λ s. fjoin t $ rewrite t 0 (λ (p : Ptr). ‵ (lines_own p d.made d.items d.room)) (sym e) refl $
-      use0 𝓛 (‵ (words_own d.at d.made (lines_val d.at d.made ∷ []))) (words_made 𝓛 d.at d.made (omega (arith, d.fits.1, d.fits.2))) $ fjoin t $ move t (1 ∷ []) $
-      rewrite t 0 (λ (p : Ptr). ‵ (cell_at full_share L.the_row.mir (lines_val p d.made ∷ []) rb ro)) (sym e) refl $ closes t z L.the_row d (lines_val d.at d.made ∷ []) rb ro $ s)
+  lines_closes t z d b o rb ro e = step (λ s. lines_made t d b o rb ro e $ closes t z L.the_row d (lines_val d.at d.made ∷ []) rb ro $ s)

@@ -9,8 +9,9 @@ use std::alloc::{AllocError, Global};
 use std::marker::Model;
 
 /// Lines of 64 bytes by number, from 0 on: 64 for each of 1 to 65,537 frames. All are zero at first. Room
-/// for all is allocated at once, but lines more than 64 behind the last one that was written, or copied,
-/// aren't touched: where the host gives memory on the first touch they cost none.
+/// for all is one piece of raw memory, which is given back when the region is dropped, but lines more than
+/// 64 behind the last one that was written, or copied, aren't touched: where the host gives memory on the
+/// first touch they cost none.
 pub struct Region {
     // the first lines; those behind them are zero, and there is room for them
     lines: Lines,

@@ -9,7 +9,7 @@ use base.Logic.{ent, sep}
 use base.Fml.{GName, Fml, ftrue, fsep, froom, flft}
 use contract.Running.{tables}
 use types.Logic.{Logic, sem}
-use types.Kit.{‵, ◌⊛◌, some, given, later, await, pick, learn, at_ret, ◌$◌, ◌∵◌, !, qed, move, keep, drop, use0, use1, split, join, group, rewrite, fsplit, fsplit3, fjoin, fpack, suffices, frame, done}
+use types.Kit.{‵, ◌⊛◌, some, given, later, await, pick, learn, at_ret, ◌$◌, ◌∵◌, !, qed, move, keep, drop, use1, split, join, group, rewrite, fsplit, fsplit3, fjoin, fpack, suffices, frame, done}
 use types.Part.{agg, whole, sub, look_in}
 use types.Run.{enter, of_opd, load, stop, fld, no_more, and_then, first, blocks, exec, returns}
 use types.SemTy.{cells}
@@ -20,7 +20,7 @@ use denote.Follow.{follows}
 use denote.FollowSlice.{lends_Elements}
 use denote.Index.{row, whole_in, whole_out}
 use denote.Memory.{part_at, part_of, cell_at, mem}
-use denote.RawPtr.{Ptr, block_ptr}
+use denote.RawPtr.{block_ptr}
 use denote.Ref.{MutRef, MutBor, mut_vals, mut_Tells}
 use denote.Signature.{plain, mut_ref_to}
 use denote.Slice.{MutSlice, slice_val}
@@ -29,13 +29,13 @@ use denote.Triple.Walked.{Stays, walk_of, says, stay_dropped, Goes-spent_ref, en
 use Rattle.std.proofs.VecSteps.Gaps.{all_new}
 use Rattle.std.proofs.VecSteps.Rows.{apart, whole as whole_row}
 use Rattle.std.proofs.VecSteps.Shapes.{after}
-use Rattle.line_store.specs.Memory.{Line, room_of, lines_own}
+use Rattle.line_store.specs.Memory.{Line, room_of}
 use Rattle.line_store.specs.Lends.{with_items}
 use Rattle.line_store.specs.declared.lines.Lines.{Lines}
 use Rattle.line_store.specs.contracts.lines.Lines as L
 use Rattle.line_store.specs.contracts.lines.Lines.as_mut_slice as f
 use Rattle.line_store.proofs.Memory.{line}
-use Rattle.line_store.proofs.Fields.{lines_val, words_own, words_made, lines_opens}
+use Rattle.line_store.proofs.Fields.{lines_val, lines_opens, lines_made}
 use Rattle.line_store.proofs.lines.Lines.as_mut_slice.Statement.{statement}
 use Rattle.line_store.proofs.lines.Lines.as_mut_slice.Code as code
 
@@ -54,10 +54,7 @@ module _ {M : Type 1} {𝓤 : Ura M} (𝓛 : Logic 𝓤) (d : Lines) (b o rb ro 
       qed 𝓛 (‵ (cells (mem Line) ws b o) ∷ ‵ Rest ∷ []) ∵ use1 𝓛 (‵ (row Line full_share ws b o)) (whole_out 𝓛 Line ws b o) $
       use1 𝓛 (‵ (part_at (Array Line d.made) full_share ws b o)) (whole_row line 𝓛 full_share d.made ws b o count) $
       rewrite ! 0 (λ (zs : List (List ℕ)). ‵ (part_at (Array Line d.made) full_share zs b o)) (sym (all_new d.made d.items ws count)) refl $
-      move ! (1 ∷ []) $ fsplit ! $ move ! (2 ∷ 0 ∷ []) $ fjoin ! $
-      rewrite ! 0 (λ (p : Ptr). ‵ (lines_own p d.made (with_items d ws).items d.room)) (sym e) refl $
-      use0 𝓛 (‵ (words_own d.at d.made (lines_val d.at d.made ∷ []))) (words_made 𝓛 d.at d.made (omega (arith, d.fits.1, d.fits.2))) $ fjoin ! $ move ! (1 ∷ []) $
-      rewrite ! 0 (λ (p : Ptr). ‵ (cell_at full_share L.the_row.mir (lines_val p d.made ∷ []) rb ro)) (sym e) refl $ fjoin ! $
+      move ! (1 ∷ []) $ fsplit ! $ move ! (2 ∷ []) $ lines_made ! (with_items d ws) b o rb ro e $ fjoin ! $
       fpack ! (List Val) (λ us. fsep (cell_at full_share L.the_row.mir us rb ro) (L.the_row.own_val (with_items d ws) us)) (lines_val d.at d.made ∷ []) $ done !
 
 pub as_mut_slice_spec : {M : Type 1} → statement M

@@ -10,7 +10,7 @@ use base.Fml.{GName, Fml, ftrue, fsep, froom, flft}
 use contract.Monad.{fact}
 use contract.Running.{tables}
 use types.Logic.{Logic, sem}
-use types.Kit.{‵, raw, ◌⊛◌, some, given, later, await, pick, learn, at_ret, ◌$◌, ◌∵◌, !, qed, move, keep, drop, use0, use1, use2, split, join, group, rewrite, fsplit3, fjoin, fjoin3, fpack, suffices, frame, done}
+use types.Kit.{‵, raw, ◌⊛◌, some, given, later, await, pick, learn, at_ret, ◌$◌, ◌∵◌, !, qed, move, keep, drop, use1, use2, split, join, group, fsplit3, fjoin, fjoin3, fpack, suffices, frame, done}
 use types.Part.{whole, sub, look_in}
 use types.Run.{enter, of_opd, lit, bin, addr, load, stop, fld, first, blocks, exec, returns}
 use types.ByLocal.{alloc_all, pass_all, free_all, look_at, get, through, sets, sets_last, env}
@@ -21,20 +21,20 @@ use denote.Follow.{follows, lends_Part}
 use denote.Index.{others}
 use denote.Memory.{part_at, part_of, cell_at, mem, shares}
 use denote.Plain.{uint_vals, uint_Tells}
-use denote.RawPtr.{Ptr, block_ptr}
+use denote.RawPtr.{block_ptr}
 use denote.Ref.{MutRef, MutBor, mut_vals, mut_Tells}
 use denote.Signature.{plain, mut_ref_to}
 use denote.Steps.{heard, nothing}
 use denote.Triple.Walked.{Stays, walk_of, says, stay_dropped, Goes-dropped, Goes-spent_ref, ends_at}
 use Rattle.std.proofs.VecSteps.Rows.{take_out, put_in}
 use Rattle.std.proofs.VecSteps.Shapes.{after}
-use Rattle.line_store.specs.Memory.{Line, room_of, lines_own}
+use Rattle.line_store.specs.Memory.{Line, room_of}
 use Rattle.line_store.specs.Lends.{with_item}
 use Rattle.line_store.specs.declared.lines.Lines.{Lines}
 use Rattle.line_store.specs.contracts.lines.Lines as L
 use Rattle.line_store.specs.contracts.lines.Lines.line_mut as f
 use Rattle.line_store.proofs.Memory.{line}
-use Rattle.line_store.proofs.Fields.{lines_val, words_own, words_made, lines_opens}
+use Rattle.line_store.proofs.Fields.{lines_val, lines_opens, lines_made}
 use Rattle.line_store.proofs.lines.Lines.line_mut.Statement.{statement}
 use Rattle.line_store.proofs.lines.Lines.line_mut.Code as code
 
@@ -50,10 +50,8 @@ module _ {M : Type 1} {𝓤 : Ura M} (𝓛 : Logic 𝓤) (d : Lines) (i b o rb r
   unfolding part_of
   back e inside w =
       qed 𝓛 (‵ (part_at Line full_share w b (i * 64 + o)) ∷ ‵ Rest ∷ []) ∵ move ! (1 ∷ []) $ fsplit3 ! $ move ! (3 ∷ 0 ∷ []) $
-      use2 𝓛 (‵ (part_at (Array Line d.made) full_share (set d.items i w) b o)) (put_in line 𝓛 d.made d.items i w b o inside (sym d.fits.0)) $ fjoin ! $
-      rewrite ! 0 (λ (p : Ptr). ‵ (lines_own p d.made (set d.items i w) d.room)) (sym e) refl $
-      use0 𝓛 (‵ (words_own d.at d.made (lines_val d.at d.made ∷ []))) (words_made 𝓛 d.at d.made (omega (arith, d.fits.1, d.fits.2))) $ fjoin ! $ move ! (1 ∷ []) $
-      rewrite ! 0 (λ (p : Ptr). ‵ (cell_at full_share L.the_row.mir (lines_val p d.made ∷ []) rb ro)) (sym e) refl $ fjoin ! $
+      use2 𝓛 (‵ (part_at (Array Line d.made) full_share (set d.items i w) b o)) (put_in line 𝓛 d.made d.items i w b o inside (sym d.fits.0)) $
+      lines_made ! (with_item d i w) b o rb ro e $ fjoin ! $
       fpack ! (List Val) (λ us. fsep (cell_at full_share L.the_row.mir us rb ro) (L.the_row.own_val (with_item d i w) us)) (lines_val d.at d.made ∷ []) $ done !
 
 pub line_mut_spec : {M : Type 1} → statement M
