@@ -2,6 +2,8 @@ ghost use Rattle.std.specs.Prelude.{◌≡◌, ◌<◌, length, slice_set};
 ghost use Rattle.line_store.specs.Lines.{line_of};
 
 use crate::Region;
+use crate::lines::Lines;
+use linked_list_allocator::LocalHeap;
 use std::process::Abort;
 use std::test::Fail;
 
@@ -104,4 +106,29 @@ fn a_region_is_whole_or_nothing(rt: HostRuntime) {
         Ok(region) => assert_ends(&rt, &region, &[(0, 0), (191, 0)]),
         Err(refused) => assert_eq!(rt; refused, std::alloc::AllocError),
     }
+}
+
+#[test]
+fn refused_memory_makes_nothing(rt: HostRuntime) -> Result<(), Fail> {
+    let heap = LocalHeap::new(rt.alloc(), 63 * 64)?;
+    let alloc = &heap;
+    // one line more than there is memory for
+    match Lines::new(&alloc, 64) {
+        Ok((lines, lease)) => {
+            lines.free(64, lease, &alloc);
+            panic!(rt; "64 lines in the memory of 63");
+        }
+        Err(refused) => assert_eq!(rt; refused, std::alloc::AllocError),
+    }
+    assert_eq!(rt; heap.used(), 0);
+
+    match Lines::new(&alloc, 63) {
+        Ok((lines, lease)) => {
+            assert_eq!(rt; heap.used(), 63 * 64);
+            lines.free(63, lease, &alloc);
+        }
+        Err(_) => panic!(rt; "no memory for 63 lines"),
+    }
+    assert_eq!(rt; heap.used(), 0);
+    Ok(())
 }
