@@ -1,6 +1,6 @@
 use Rattle.std.proofs.Common.{◌≡◌, ℕ, zero, suc, ◌+◌, ◌-◌, ◌*◌, ◌/◌, ◌^◌, ◌%◌, ◌<◌, ◌≤◌, Bool, true, false, cond, ◌||◌, ◌⊎◌, inl, inr, List, [], ◌∷◌, ◌++◌, sym, ap, subst, refl, arith, Option, Some, None}
 use Rattle.std.proofs.lemmas.Nat.{pow_pos}
-use Rattle.unit_map.specs.Pieces.{Piece, IsPiece, ArePieces, IsAligned, Fills, units_of, free_units, count, any, is_free_of, free_at, taken_at, free_frames}
+use Rattle.unit_map.specs.Pieces.{Piece, IsPiece, ArePieces, IsAligned, Fills, free_units, count, any, is_free_of, free_at, taken_at, free_frames}
 use Rattle.std.specs.Option.{is_some}
 use Rattle.unit_map.specs.Changes.{split, TakesFrom, Takes, Gives, IsLeast, IsFull, HasRoom, AreTwoFree}
 use Rattle.unit_map.specs.Spans.{Span, IsSpan, AreParts}

@@ -8,3 +8,4 @@ pub mod Counts
 pub mod Moved
 pub mod Cuts
 pub mod Spares
+pub mod Taken

@@ -1,4 +1,4 @@
-use Rattle.std.specs.Prelude.{◌≡◌, ℕ, zero, suc, ◌+◌, ◌-◌, ◌^◌, ◌<◌, ◌≤◌, true, false, List, [], ◌∷◌, ◌++◌, Option, Some, None}
+use Rattle.std.specs.Prelude.{◌≡◌, ℕ, zero, suc, ◌+◌, ◌-◌, ◌^◌, ◌<◌, ◌≤◌, true, false, ◌⊎◌, List, [], ◌∷◌, ◌++◌, Option, Some, None}
 use Rattle.unit_map.specs.Pieces.{moved, Piece, IsPiece, any, count, units_of, Fills, free_at, taken_at, AreFreeHalves, AreBeside, AreMerged}
 
 -- What a call does to the pieces.
@@ -98,3 +98,21 @@ pub record Relocates (old : List Piece) (from to order : ℕ) (new : List Piece)
   pub cleared : Clears old from order part mid
   pub merged : AreMerged mid
   pub put : Puts mid to order (moved from to part) new
+
+-- What becomes of the blocks that are taken.
+
+-- each stays taken
+abbrev pub KeepsTaken : List Piece → List Piece → Type 0
+KeepsTaken old new = (v k : ℕ) → IsPiece old (taken_at v k) → IsPiece new (taken_at v k)
+
+-- but for that at a unit
+abbrev pub KeepsOthers : List Piece → ℕ → List Piece → Type 0
+KeepsOthers old unit new = (v k : ℕ) → IsPiece old (taken_at v k) → (v ≡ unit → ⊥) → IsPiece new (taken_at v k)
+
+-- those outside a range stay where they are
+abbrev pub KeepsOutside : List Piece → ℕ → ℕ → List Piece → Type 0
+KeepsOutside old from order new = (v k : ℕ) → IsPiece old (taken_at v k) → (v < from) ⊎ (from + 2 ^ order ≤ v) → IsPiece new (taken_at v k)
+
+-- those inside go along
+abbrev pub MovesInside : List Piece → ℕ → ℕ → ℕ → List Piece → Type 0
+MovesInside old from to order new = (v k : ℕ) → IsPiece old (taken_at v k) → from ≤ v → v < from + 2 ^ order → IsPiece new (taken_at (to + (v - from)) k)

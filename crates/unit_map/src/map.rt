@@ -1,6 +1,6 @@
 ghost use Rattle.std.specs.Prelude.{◌≡◌, ◌+◌, ◌-◌, ◌*◌, ◌^◌, ◌%◌, ◌<◌, ◌≤◌, IfOk, IfSome, IsTrue, None, false};
 ghost use Rattle.unit_map.specs.Pieces.{ArePieces, IsPiece, AreBeside, count, free_blocks, free_frames, free_units, taken_at};
-ghost use Rattle.unit_map.specs.Changes.{HasRoom, IsFull, Takes, Gives, CanMove, Relocates};
+ghost use Rattle.unit_map.specs.Changes.{HasRoom, IsFull, Takes, Gives, CanMove, Relocates, KeepsTaken, KeepsOthers, KeepsOutside, MovesInside};
 ghost use Rattle.unit_map.specs.Blocks.{AreTwoBlocks};
 
 use crate::tree::Tree;
@@ -87,6 +87,8 @@ impl UnitMap {
         ensures none { result ≡ None → IsFull self.old order × (self.new ≡ self.old) }
         ensures pieces { ArePieces self.new }
         ensures some { IfSome result (λ block. (block.order ≡ order) × Takes self.old order block.unit self.new) }
+        ensures taken { IfSome result (λ block. IsPiece self.new (taken_at block.unit block.order)) }
+        ensures others { KeepsTaken self.old self.new }
     {
         match self.tree.least(order) {
             None => None,
@@ -103,6 +105,7 @@ impl UnitMap {
     pub fn give(&mut self, block: Block)
         requires { IsPiece self.old (taken_at block.unit block.order) }
         ensures gives { Gives self.old block.unit block.order self.new }
+        ensures others { KeepsOthers self.old block.unit self.new }
         ensures pieces { ArePieces self.new }
     {
         self.tree.give(block.unit, block.order);
@@ -151,6 +154,8 @@ impl UnitMap {
     pub fn relocate(&mut self, from: u32, to: u32, order: u8)
         requires { CanMove self.old from to order }
         ensures relocates { Relocates self.old from to order self.new }
+        ensures inside { MovesInside self.old from to order self.new }
+        ensures outside { KeepsOutside self.old from order self.new }
         ensures pieces { ArePieces self.new }
         ensures free { free_units self.new ≡ free_units self.old }
         ensures fewer { free_blocks self.new < free_blocks self.old }

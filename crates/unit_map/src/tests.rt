@@ -1,4 +1,4 @@
-ghost use Rattle.std.specs.Prelude.{◌<◌, IfSome};
+ghost use Rattle.std.specs.Prelude.{◌<◌, ◌≤◌, IfSome};
 ghost use Rattle.unit_map.specs.Changes.{Relocates};
 
 use crate::{Block, UnitMap};
@@ -16,6 +16,32 @@ fn give(rt: &impl Abort, map: &mut UnitMap, unit: u32, order: u8) {
     let block = Block { unit, order };
     assert!(rt; map.is_taken(block));
     map.give(block);
+}
+
+// Takes two blocks and frees the first, which is taken still.
+fn free_the_first(map: &mut UnitMap, order: u8) -> Option<Block>
+    requires { order ≤ 4 }
+{
+    match map.take(order) {
+        None => None,
+        Some(first) => {
+            let second = map.take(order);
+            map.give(first);
+            second
+        }
+    }
+}
+
+#[test]
+fn a_taken_block_stays_taken(rt: HostRuntime) -> Result<(), Fail> {
+    let mut map = UnitMap::new(rt.alloc(), 1)?;
+    let second = Block { unit: 4, order: 2 };
+    assert_eq!(rt; free_the_first(&mut map, 2), Some(second));
+    assert_eq!(rt; map.free_units(), 12);
+    assert!(rt; map.is_taken(second));
+    assert!(rt; !map.is_taken(Block { unit: 0, order: 2 }));
+    assert!(rt; !map.is_taken(Block { unit: 4, order: 1 }));
+    Ok(())
 }
 
 #[test]

@@ -1,9 +1,10 @@
 use Rattle.std.proofs.Common.{◌≤◌, sym, subst, ◌∙◌, arith}
-use Rattle.unit_map.specs.Pieces.{ArePieces, AreBeside, free_at}
+use Rattle.unit_map.specs.Pieces.{ArePieces, AreBeside, Fills, free_at}
 use Rattle.unit_map.specs.Changes.{Relocates}
 use Rattle.unit_map.specs.Laws.{free_moves, fewer_moves}
 use Rattle.unit_map.proofs.Counts.{are_pieces}
 use Rattle.unit_map.proofs.Spares.{spare_first, first_put, spare_count, piece_place, move_place, spare_place}
+use Rattle.unit_map.proofs.Taken.{moves_inside, moves_outside}
 use Rattle.unit_map.proofs.map.UnitMap.relocate.Goals as goal
 
 pub buddy-other-requires-clause-aligned : goal.buddy-other-requires-clause-aligned
@@ -62,3 +63,11 @@ returns-clause-free c = free_moves _ _ _ _ _ (returns-clause-relocates c)
 
 pub returns-clause-fewer : goal.returns-clause-fewer
 returns-clause-fewer c = fewer_moves _ _ _ _ _ c.requires (returns-clause-relocates c)
+
+pub returns-clause-inside : goal.returns-clause-inside
+returns-clause-inside c =
+    let fills = subst (Fills 0) c.self.view_is c.self.invariant.pieces.fills in
+    moves_inside _ _ _ _ _ fills (returns-clause-relocates c)
+
+pub returns-clause-outside : goal.returns-clause-outside
+returns-clause-outside c = moves_outside _ _ _ _ _ (returns-clause-relocates c)

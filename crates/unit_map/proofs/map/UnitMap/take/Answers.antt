@@ -1,6 +1,8 @@
 use Rattle.std.proofs.Common.{◌≤◌, subst, ◌∙◌, refl, arith}
 use Rattle.unit_map.specs.Changes.{IsLeast, IsFull, Takes}
 use Rattle.unit_map.proofs.Counts.{are_pieces, free_takes, size_is, none_least, takes_least}
+use Rattle.unit_map.proofs.Steps.{takes_taken}
+use Rattle.unit_map.proofs.Taken.{takes_keep}
 use Rattle.unit_map.proofs.map.UnitMap.take.Goals as goal
 
 pub overflow_sub-self : goal.overflow_sub-self
@@ -31,3 +33,9 @@ returns-in-Some-clause-some c =
 
 pub returns-in-Some-clause-pieces : goal.returns-in-Some-clause-pieces
 returns-in-Some-clause-pieces c = (invariant_of-self c).pieces
+
+pub returns-in-Some-clause-taken : goal.returns-in-Some-clause-taken
+returns-in-Some-clause-taken c = takes_taken c.self.inside.tree.pieces c.take-unit.new.self.pieces c.args.order c.in-Some.from c.take-unit.result c.take-unit.ensures.takes
+
+pub returns-in-Some-clause-others : goal.returns-in-Some-clause-others
+returns-in-Some-clause-others c = takes_keep c.args.self.now c.take-unit.new.self.pieces c.args.order c.take-unit.result (returns-in-Some-clause-some c).1

@@ -1,0 +1,128 @@
+use Rattle.std.proofs.Common.{◌≡◌, ℕ, zero, ◌+◌, ◌-◌, ◌^◌, ◌<◌, ◌≤◌, true, false, ◌⊎◌, inl, inr, List, [], ◌∷◌, ◌++◌, sym, ap, subst, ◌∙◌, refl, arith}
+use Rattle.std.proofs.lemmas.Nat.{pow_pos}
+use Rattle.unit_map.specs.Pieces.{Piece, IsPiece, Fills, units_of, free_at, taken_at, moved}
+use Rattle.unit_map.specs.Changes.{Joins, Merges, Takes, Gives, Clears, Relocates, split, KeepsTaken, KeepsOthers, KeepsOutside, MovesInside}
+use Rattle.unit_map.specs.Changes.Merges.{Done, Step}
+use Rattle.unit_map.proofs.Lists.{in_either, in_lower, in_upper, lies, fills_front}
+
+-- What becomes of the blocks that are taken.
+
+-- a piece other than the one in the middle
+other : (front back : List Piece) (x p : Piece) → IsPiece (front ++ x ∷ back) p → (x ≡ p → ⊥) → IsPiece front p ⊎ IsPiece back p
+other front back x p h differs = at (in_either front (x ∷ back) p h)
+  where
+    at : IsPiece front p ⊎ IsPiece (x ∷ back) p → IsPiece front p ⊎ IsPiece back p
+    at (inl a) = inl a
+    at (inr (inl e)) = absurd (differs e)
+    at (inr (inr b)) = inr b
+
+-- it is there with others in the middle
+around : (front mid back : List Piece) (p : Piece) → IsPiece front p ⊎ IsPiece back p → IsPiece (front ++ (mid ++ back)) p
+around front mid back p (inl a) = in_lower front (mid ++ back) p a
+around front mid back p (inr b) = in_upper front (mid ++ back) p (in_upper mid back p b)
+
+not_taken : (p : Piece) (v k : ℕ) → p.free ≡ true → p ≡ taken_at v k → ⊥
+not_taken p v k free e = let f : true ≡ false = sym free ∙ ap (λ (q : Piece). q.free) e in cc
+
+joins_keep : (old new : List Piece) → Joins old new → KeepsTaken old new
+joins_keep old new j v k h =
+    let there = subst (λ ps. IsPiece ps (taken_at v k)) j.was h in
+    subst (λ ps. IsPiece ps (taken_at v k)) (sym j.now)
+    (around j.front (free_at j.lower.unit (j.lower.order + 1) ∷ []) j.back (taken_at v k) (both (other j.front (j.upper ∷ j.back) j.lower (taken_at v k) there (not_taken j.lower v k j.halves.lower))))
+  where
+    both : IsPiece j.front (taken_at v k) ⊎ IsPiece (j.upper ∷ j.back) (taken_at v k) → IsPiece j.front (taken_at v k) ⊎ IsPiece j.back (taken_at v k)
+    both (inl a) = inl a
+    both (inr (inl e)) = absurd (not_taken j.upper v k j.halves.upper e)
+    both (inr (inr b)) = inr b
+
+merges_keep : (old new : List Piece) → Merges old new → KeepsTaken old new
+merges_keep old new (Done ps) v k h = h
+merges_keep old new (Step a mid b j m) v k h = merges_keep mid new m v k (joins_keep old mid j v k h)
+
+pub takes_keep : (old new : List Piece) (order unit : ℕ) → Takes old order unit new → KeepsTaken old new
+takes_keep old new order unit t v k h =
+    let g = t.takes in
+    let there = subst (λ ps. IsPiece ps (taken_at v k)) g.was h in
+    subst (λ ps. IsPiece ps (taken_at v k)) (sym g.now)
+    (around g.front (split unit order (t.from - order)) g.back (taken_at v k) (other g.front g.back (free_at unit t.from) (taken_at v k) there (not_taken (free_at unit t.from) v k refl)))
+
+pub gives_keep : (old new : List Piece) (unit order : ℕ) → Gives old unit order new → KeepsOthers old unit new
+gives_keep old new unit order g v k h differs =
+    let there = subst (λ ps. IsPiece ps (taken_at v k)) g.was h in
+    merges_keep _ new g.merges v k
+    (around g.front (free_at unit order ∷ []) g.back (taken_at v k) (other g.front g.back (taken_at unit order) (taken_at v k) there (λ e. differs (sym (ap (λ (p : Piece). p.unit) e)))))
+
+-- what fills behind a front
+fills_back : (u : ℕ) (ps qs : List Piece) → Fills u (ps ++ qs) → Fills (u + units_of ps) qs
+fills_back u [] qs h = let same : u ≡ u + zero = omega arith in subst (λ n. Fills n qs) same h
+fills_back u (p ∷ ps) qs h = let same : u + 2 ^ p.order + units_of ps ≡ u + (2 ^ p.order + units_of ps) = omega arith in subst (λ n. Fills n qs) same (fills_back (u + 2 ^ p.order) ps qs h.1)
+
+-- a range that isn't empty starts where it fills from
+starts : (u w : ℕ) (ps qs : List Piece) → Fills u ps → Fills w (ps ++ qs) → 0 < units_of ps → u ≡ w
+starts u w [] qs f g some = absurd (omega (arith, some))
+starts u w (p ∷ ps) qs f g some = sym f.0 ∙ g.0
+
+-- what stays, and what goes, by a move
+in_moved : (u w : ℕ) (ps : List Piece) (p : Piece) → IsPiece ps p → IsPiece (moved u w ps) (record { unit = w + (p.unit - u); order = p.order; free = p.free })
+in_moved u w [] p h = absurd h
+in_moved u w (x ∷ ps) p (inl e) = inl (ap (λ (q : Piece). record { unit = w + (q.unit - u); order = q.order; free = q.free }) e)
+in_moved u w (x ∷ ps) p (inr h) = inr (in_moved u w ps p h)
+
+stays : (old new : List Piece) (from to order v k : ℕ) (r : Relocates old from to order new) → IsPiece r.cleared.front (taken_at v k) ⊎ IsPiece r.cleared.back (taken_at v k) → IsPiece new (taken_at v k)
+stays old new from to order v k r h =
+    let c = r.cleared in
+    let put = r.put in
+    let mid = merges_keep (c.front ++ free_at from order ∷ c.back) r.mid c.merges v k (around c.front (free_at from order ∷ []) c.back (taken_at v k) h) in
+    let there = subst (λ ps. IsPiece ps (taken_at v k)) put.was mid in
+    subst (λ ps. IsPiece ps (taken_at v k)) (sym put.now)
+    (around put.front (moved from to r.part) put.back (taken_at v k) (other put.front put.back (free_at to order) (taken_at v k) there (not_taken (free_at to order) v k refl)))
+
+goes : (old new : List Piece) (from to order v k : ℕ) (r : Relocates old from to order new) → IsPiece r.part (taken_at v k) → IsPiece new (taken_at (to + (v - from)) k)
+goes old new from to order v k r h =
+    let put = r.put in
+    subst (λ ps. IsPiece ps (taken_at (to + (v - from)) k)) (sym put.now)
+    (in_upper put.front (moved from to r.part ++ put.back) _ (in_lower (moved from to r.part) put.back _ (in_moved from to r.part (taken_at v k) h)))
+
+pub moves_outside : (old new : List Piece) (from to order : ℕ) → Relocates old from to order new → KeepsOutside old from order new
+moves_outside old new from to order r v k h out = at (in_either c.front (r.part ++ c.back) (taken_at v k) (subst (λ ps. IsPiece ps (taken_at v k)) c.was h))
+  where
+    c : Clears old from order r.part r.mid
+    c = r.cleared
+
+    inside : (v < from) ⊎ (from + 2 ^ order ≤ v) → IsPiece r.part (taken_at v k) → ⊥
+    inside (inl lt) a = omega (arith, lies from r.part (taken_at v k) c.fills a, lt)
+    inside (inr le) a = omega (arith, lies from r.part (taken_at v k) c.fills a, c.total, le, pow_pos k)
+
+    rest : IsPiece r.part (taken_at v k) ⊎ IsPiece c.back (taken_at v k) → IsPiece new (taken_at v k)
+    rest (inl a) = absurd (inside out a)
+    rest (inr b) = stays old new from to order v k r (inr b)
+
+    at : IsPiece c.front (taken_at v k) ⊎ IsPiece (r.part ++ c.back) (taken_at v k) → IsPiece new (taken_at v k)
+    at (inl a) = stays old new from to order v k r (inl a)
+    at (inr b) = rest (in_either r.part c.back (taken_at v k) b)
+
+pub moves_inside : (old new : List Piece) (from to order : ℕ) → Fills 0 old → Relocates old from to order new → MovesInside old from to order new
+moves_inside old new from to order fills r v k h low high = at (in_either c.front (r.part ++ c.back) (taken_at v k) (subst (λ ps. IsPiece ps (taken_at v k)) c.was h))
+  where
+    c : Clears old from order r.part r.mid
+    c = r.cleared
+
+    filled : Fills 0 (c.front ++ (r.part ++ c.back))
+    filled = subst (Fills 0) c.was fills
+
+    start : from ≡ 0 + units_of c.front
+    start = starts from (0 + units_of c.front) r.part c.back c.fills (fills_back 0 c.front (r.part ++ c.back) filled) (omega (arith, c.total, pow_pos order))
+
+    before : IsPiece c.front (taken_at v k) → ⊥
+    before a = omega (arith, lies 0 c.front (taken_at v k) (fills_front 0 c.front (r.part ++ c.back) filled) a, start, low, pow_pos k)
+
+    behind : IsPiece c.back (taken_at v k) → ⊥
+    behind b = omega (arith, lies (0 + units_of c.front + units_of r.part) c.back (taken_at v k) (fills_back (0 + units_of c.front) r.part c.back (fills_back 0 c.front (r.part ++ c.back) filled)) b, start, c.total, high)
+
+    rest : IsPiece r.part (taken_at v k) ⊎ IsPiece c.back (taken_at v k) → IsPiece new (taken_at (to + (v - from)) k)
+    rest (inl a) = goes old new from to order v k r a
+    rest (inr b) = absurd (behind b)
+
+    at : IsPiece c.front (taken_at v k) ⊎ IsPiece (r.part ++ c.back) (taken_at v k) → IsPiece new (taken_at (to + (v - from)) k)
+    at (inl a) = absurd (before a)
+    at (inr b) = rest (in_either r.part c.back (taken_at v k) b)
