@@ -34,8 +34,9 @@ pub fn next_move(map: &UnitMap) -> Option<Move>
 /// A move on the way to room for a block of an order from 0 to 4. At least 2^order units have to be free. None
 /// exactly where there is room.
 ///
-/// Where there is no room, two free blocks of an order below this one are equal in size. That holds after any
-/// moves too, and these are always fewer than the free blocks here: so that many moves make the room.
+/// Where there is no room, two free blocks below this order are equal in size, so that there is a move. That holds
+/// after any moves too, and no more moves can be made than there are free blocks here. So at most that many make
+/// the room.
 /// Costs a few steps for each level of a tree over the frames.
 pub fn room_for(map: &UnitMap, order: u8) -> Option<Move>
     requires order { order ≤ 4 }
