@@ -99,6 +99,22 @@ fn a_page_is_64_lines(rt: HostRuntime) -> Result<(), Fail> {
     Ok(())
 }
 
+#[test]
+fn the_largest_region_is_made(rt: HostRuntime) -> Result<(), Fail> {
+    let mut region = Region::new(rt.alloc(), 65_537)?;
+    assert_eq!(rt; region.lines(), 4_194_368);
+    assert_ends(&rt, &region, &[(0, 0), (2_097_184, 0), (4_194_367, 0)]);
+
+    assert!(rt; region.lines() == 4_194_368);
+    region.put_line(1000, &[1; 64]);
+    assert_ends(
+        &rt,
+        &region,
+        &[(999, 0), (1000, 1), (1001, 0), (4_194_367, 0)],
+    );
+    Ok(())
+}
+
 // Run with each allocation failing in turn (`rt try --test --fail-alloc N`), this goes the other way.
 #[test]
 fn a_region_is_whole_or_nothing(rt: HostRuntime) {
