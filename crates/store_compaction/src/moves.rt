@@ -1,6 +1,6 @@
 ghost use Rattle.std.specs.Prelude.{◌≡◌, ◌+◌, ◌^◌, ◌<◌, ◌≤◌, ℕ, List, IfSome, None};
 ghost use Rattle.unit_map.specs.Pieces.{Piece, ArePieces, AreSettled, count, free_blocks, free_units};
-ghost use Rattle.unit_map.specs.Changes.{HasRoom, IsFull, CanMove, Relocates, KeepsOutside, MovesInside};
+ghost use Rattle.unit_map.specs.Changes.{HasRoom, IsFull, CanMove, Relocates, KeepsOutside, MovesInside, OnlyMoves};
 ghost use Rattle.store_compaction.specs.Runs.{HasPair, Moves};
 
 use unit_map::UnitMap;
@@ -70,6 +70,7 @@ pub fn apply(map: &mut UnitMap, m: Move)
     ensures relocates { Relocates map.old m.from m.to m.order map.new }
     ensures inside { MovesInside map.old m.from m.to m.order map.new }
     ensures outside { KeepsOutside map.old m.from m.order map.new }
+    ensures only { OnlyMoves map.old m.from m.to m.order map.new }
     ensures pieces { ArePieces map.new }
     ensures free { free_units map.new ≡ free_units map.old }
     ensures fewer { free_blocks map.new < free_blocks map.old }

@@ -116,3 +116,20 @@ KeepsOutside old from order new = (v k : ℕ) → IsPiece old (taken_at v k) →
 -- those inside go along
 abbrev pub MovesInside : List Piece → ℕ → ℕ → ℕ → List Piece → Type 0
 MovesInside old from to order new = (v k : ℕ) → IsPiece old (taken_at v k) → from ≤ v → v < from + 2 ^ order → IsPiece new (taken_at (to + (v - from)) k)
+
+-- No other block is taken afterwards
+
+-- but the one that was taken
+abbrev pub OnlyTakes : List Piece → ℕ → ℕ → List Piece → Type 0
+OnlyTakes old unit order new = (v k : ℕ) → IsPiece new (taken_at v k) → ((v ≡ unit) × (k ≡ order)) ⊎ IsPiece old (taken_at v k)
+
+-- nor the one that was given
+abbrev pub OnlyGives : List Piece → ℕ → List Piece → Type 0
+OnlyGives old unit new = (v k : ℕ) → IsPiece new (taken_at v k) → (v ≡ unit → ⊥) × IsPiece old (taken_at v k)
+
+-- but those outside a range, and those that went along
+abbrev pub OnlyMoves : List Piece → ℕ → ℕ → ℕ → List Piece → Type 0
+OnlyMoves old from to order new =
+    (v k : ℕ) → IsPiece new (taken_at v k)
+    → (((v < from) ⊎ (from + 2 ^ order ≤ v)) × IsPiece old (taken_at v k))
+    ⊎ ((w : ℕ) × ((from ≤ w) × (w < from + 2 ^ order) × (v ≡ to + (w - from)) × IsPiece old (taken_at w k)))

@@ -1,6 +1,6 @@
 ghost use Rattle.std.specs.Prelude.{◌≡◌, ◌+◌, ◌-◌, ◌*◌, ◌^◌, ◌%◌, ◌<◌, ◌≤◌, IfOk, IfSome, IsTrue, None, false};
 ghost use Rattle.unit_map.specs.Pieces.{ArePieces, IsPiece, AreBeside, count, free_blocks, free_frames, free_units, taken_at};
-ghost use Rattle.unit_map.specs.Changes.{HasRoom, IsFull, Takes, Gives, CanMove, Relocates, KeepsTaken, KeepsOthers, KeepsOutside, MovesInside};
+ghost use Rattle.unit_map.specs.Changes.{HasRoom, IsFull, Takes, Gives, CanMove, Relocates, KeepsTaken, KeepsOthers, KeepsOutside, MovesInside, OnlyTakes, OnlyGives, OnlyMoves};
 ghost use Rattle.unit_map.specs.Blocks.{AreTwoBlocks};
 
 use crate::tree::Tree;
@@ -89,6 +89,7 @@ impl UnitMap {
         ensures some { IfSome result (λ block. (block.order ≡ order) × Takes self.old order block.unit self.new) }
         ensures taken { IfSome result (λ block. IsPiece self.new (taken_at block.unit block.order)) }
         ensures others { KeepsTaken self.old self.new }
+        ensures only { IfSome result (λ block. OnlyTakes self.old block.unit block.order self.new) }
     {
         match self.tree.least(order) {
             None => None,
@@ -106,6 +107,7 @@ impl UnitMap {
         requires { IsPiece self.old (taken_at block.unit block.order) }
         ensures gives { Gives self.old block.unit block.order self.new }
         ensures others { KeepsOthers self.old block.unit self.new }
+        ensures only { OnlyGives self.old block.unit self.new }
         ensures pieces { ArePieces self.new }
     {
         self.tree.give(block.unit, block.order);
@@ -156,6 +158,7 @@ impl UnitMap {
         ensures relocates { Relocates self.old from to order self.new }
         ensures inside { MovesInside self.old from to order self.new }
         ensures outside { KeepsOutside self.old from order self.new }
+        ensures only { OnlyMoves self.old from to order self.new }
         ensures pieces { ArePieces self.new }
         ensures free { free_units self.new ≡ free_units self.old }
         ensures fewer { free_blocks self.new < free_blocks self.old }

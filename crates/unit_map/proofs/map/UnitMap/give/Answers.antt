@@ -1,8 +1,8 @@
 use Rattle.std.proofs.Common.{◌^◌, ◌≤◌, subst, sym, ◌∙◌, arith}
 use Rattle.unit_map.specs.Pieces.{IsPiece, taken_at, free_units}
 use Rattle.unit_map.proofs.Counts.{are_pieces, free_gives, free_le, size_is}
-use Rattle.unit_map.specs.Changes.{KeepsOthers}
-use Rattle.unit_map.proofs.Taken.{gives_keep}
+use Rattle.unit_map.specs.Changes.{KeepsOthers, OnlyGives}
+use Rattle.unit_map.proofs.Taken.{gives_keep, gives_only}
 use Rattle.unit_map.proofs.map.UnitMap.give.Goals as goal
 
 pub overflow_add-self : goal.overflow_add-self
@@ -34,3 +34,8 @@ pub returns-clause-others : goal.returns-clause-others
 returns-clause-others c =
     subst (λ ps. KeepsOthers ps c.args.block.unit c.give.new.self.pieces) c.self.view_is
     (gives_keep c.self.inside.tree.pieces c.give.new.self.pieces c.args.block.unit c.args.block.order c.give.ensures.gives)
+
+pub returns-clause-only : goal.returns-clause-only
+returns-clause-only c =
+    subst (λ ps. OnlyGives ps c.args.block.unit c.give.new.self.pieces) c.self.view_is
+    (gives_only c.self.inside.tree.pieces c.give.new.self.pieces c.args.block.unit c.args.block.order c.self.invariant.pieces.fills c.give.ensures.gives)

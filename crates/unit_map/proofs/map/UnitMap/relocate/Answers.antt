@@ -4,7 +4,7 @@ use Rattle.unit_map.specs.Changes.{Relocates}
 use Rattle.unit_map.specs.Laws.{free_moves, fewer_moves}
 use Rattle.unit_map.proofs.Counts.{are_pieces}
 use Rattle.unit_map.proofs.Spares.{spare_first, first_put, spare_count, piece_place, move_place, spare_place}
-use Rattle.unit_map.proofs.Taken.{moves_inside, moves_outside}
+use Rattle.unit_map.proofs.Taken.{moves_inside, moves_only, moves_outside}
 use Rattle.unit_map.proofs.map.UnitMap.relocate.Goals as goal
 
 pub buddy-other-requires-clause-aligned : goal.buddy-other-requires-clause-aligned
@@ -71,3 +71,8 @@ returns-clause-inside c =
 
 pub returns-clause-outside : goal.returns-clause-outside
 returns-clause-outside c = moves_outside _ _ _ _ _ (returns-clause-relocates c)
+
+pub returns-clause-only : goal.returns-clause-only
+returns-clause-only c =
+    let fills = subst (Fills 0) c.self.view_is c.self.invariant.pieces.fills in
+    moves_only _ _ _ _ _ fills (returns-clause-relocates c)

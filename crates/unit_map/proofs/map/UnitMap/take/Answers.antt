@@ -2,7 +2,7 @@ use Rattle.std.proofs.Common.{◌≤◌, subst, ◌∙◌, refl, arith}
 use Rattle.unit_map.specs.Changes.{IsLeast, IsFull, Takes}
 use Rattle.unit_map.proofs.Counts.{are_pieces, free_takes, size_is, none_least, takes_least}
 use Rattle.unit_map.proofs.Steps.{takes_taken}
-use Rattle.unit_map.proofs.Taken.{takes_keep}
+use Rattle.unit_map.proofs.Taken.{takes_keep, takes_only}
 use Rattle.unit_map.proofs.map.UnitMap.take.Goals as goal
 
 pub overflow_sub-self : goal.overflow_sub-self
@@ -39,3 +39,6 @@ returns-in-Some-clause-taken c = takes_taken c.self.inside.tree.pieces c.take-un
 
 pub returns-in-Some-clause-others : goal.returns-in-Some-clause-others
 returns-in-Some-clause-others c = takes_keep c.args.self.now c.take-unit.new.self.pieces c.args.order c.take-unit.result (returns-in-Some-clause-some c).1
+
+pub returns-in-Some-clause-only : goal.returns-in-Some-clause-only
+returns-in-Some-clause-only c = takes_only c.args.self.now c.take-unit.new.self.pieces c.args.order c.take-unit.result (returns-in-Some-clause-some c).1
