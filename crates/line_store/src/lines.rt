@@ -1,6 +1,6 @@
 //! Room for lines in one piece of raw memory. The first lines are made, and nothing has touched the room behind them.
 //!
-//! Only the functions of this module have a raw pointer, and each is proved by hand.
+//! Only functions of this module use a raw pointer, and each of those is proved by hand.
 ghost use Rattle.std.specs.Prelude.{◌≡◌, ◌-◌, ◌<◌, ◌≤◌, ℕ, List, [], ◌∷◌, ◌++◌, length, replicate, IfOk};
 ghost use Rattle.std.specs.Borrow.{sem};
 ghost use denote.RawPtr.{Ptr};

@@ -1,24 +1,18 @@
 use Rattle.std.proofs.Common.{◌≡◌, ℕ, zero, suc, ◌+◌, ◌*◌, ◌^◌, ◌<◌, ◌≤◌, Bool, true, false, cond, ◌⊎◌, inl, inr, List, [], ◌∷◌, ap, ◌∙◌, refl, arith}
 use Rattle.std.proofs.lemmas.Nat.{pow_pos}
-use Rattle.std.proofs.lemmas.Bool.Decides.{nat_tests}
+use Rattle.std.proofs.lemmas.Bool.{cases_lt}
 use Rattle.unit_map.specs.Pieces.{Piece, ArePieces, is_free_of, count, free_blocks, free_units}
 use Rattle.unit_map.specs.Changes.{IsFull}
-use Rattle.unit_map.specs.Laws.{free_counts, free_moves, fewer_moves}
+use Rattle.unit_map.specs.Laws.{free_counts, free_of, free_moves, fewer_moves}
 use Rattle.store_compaction.specs.Runs.{HasPair, Moves}
 use Rattle.store_compaction.specs.Runs.Moves.{Still, Then}
 
 -- Where enough units are free and no free block is large enough, two smaller free blocks are equal in size.
 
-is_free : (k : ℕ) (p : Piece) → is_free_of k p ≡ true → p.free ≡ true
-is_free k p h = grind (arith, nat_tests)
-
-has_order : (k : ℕ) (p : Piece) → is_free_of k p ≡ true → p.order ≡ k
-has_order k p h = grind (arith, nat_tests)
-
 -- where no free block is of an order or above, there is none of it
 none_full : (order k : ℕ) (ps : List Piece) → order ≤ k → IsFull ps order → count k ps ≡ 0
 none_full order k [] le full = refl
-none_full order k (p ∷ ps) le full = at (is_free_of k p) (λ e. full p (inl refl) (is_free k p e) (omega (arith, has_order k p e, le))) (none_full order k ps le (λ q h. full q (inr h)))
+none_full order k (p ∷ ps) le full = at (is_free_of k p) (λ e. full p (inl refl) (free_of k p e).0 (omega (arith, (free_of k p e).1, le))) (none_full order k ps le (λ q h. full q (inr h)))
   where
     at : (b : Bool) → (b ≡ true → ⊥) → count k ps ≡ 0 → cond b 1 0 + count k ps ≡ 0
     at true h rest = absurd (h refl)
@@ -27,19 +21,14 @@ none_full order k (p ∷ ps) le full = at (is_free_of k p) (λ e. full p (inl re
 -- there are two below an order, or fewer than two of each
 two_below : (order : ℕ) (ps : List Piece) → HasPair ps order ⊎ ((k : ℕ) → k < order → count k ps < 2)
 two_below zero ps = inr (λ k lt. absurd (omega (arith, lt)))
-two_below (suc n) ps = elim (two_below n ps) [ inl h ↦ inl (record { size = h.size; below = omega (arith, h.below); two = h.two }) | inr few ↦ at few (less (count n ps) 2) ]
+two_below (suc n) ps = elim (two_below n ps) [ inl h ↦ inl (record { size = h.size; below = omega (arith, h.below); two = h.two }) | inr few ↦ at few (cases_lt (count n ps) 2) ]
   where
-    less : (a b : ℕ) → (a < b) ⊎ (b ≤ a)
-    less a zero = inr (omega arith)
-    less zero (suc b) = inl (omega arith)
-    less (suc a) (suc b) = elim (less a b) [ inl h ↦ inl (omega arith) | inr h ↦ inr (omega arith) ]
-
     here : (k : ℕ) → ((k : ℕ) → k < n → count k ps < 2) → count n ps < 2 → (k < n) ⊎ (n ≤ k) → k < suc n → count k ps < 2
     here k few one (inl lt) h = few k lt
     here k few one (inr le) h = let same : n ≡ k = omega (arith, le, h) in omega (arith, one, ap (λ j. count j ps) same)
 
     at : ((k : ℕ) → k < n → count k ps < 2) → (count n ps < 2) ⊎ (2 ≤ count n ps) → HasPair ps (suc n) ⊎ ((k : ℕ) → k < suc n → count k ps < 2)
-    at few (inl lt) = inr (λ k h. here k few lt (less k n) h)
+    at few (inl lt) = inr (λ k h. here k few lt (cases_lt k n) h)
     at few (inr le) = inl (record { size = n; below = omega arith; two = le })
 
 -- one free block of each order below k at most, and none above, are fewer units than one of order k

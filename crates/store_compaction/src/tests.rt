@@ -37,16 +37,21 @@ fn settle(map: &mut UnitMap) -> u32
     moves
 }
 
+// Frees a block, which has to be taken.
+fn give(rt: &impl Abort, map: &mut UnitMap, unit: u32, order: u8) {
+    let block = Block { unit, order };
+    assert!(rt; map.is_taken(block));
+    map.give(block);
+}
+
 // Takes all units one by one, and gives back each that is a multiple of `step`.
 fn scatter(rt: &impl Abort, map: &mut UnitMap, units: u32, step: u32) {
     for unit in 0..units {
         assert_eq!(rt; map.take(0), Some(Block { unit, order: 0 }));
     }
     for unit in 0..units {
-        let block = Block { unit, order: 0 };
         if unit.checked_rem(step) == Some(0) {
-            assert!(rt; map.is_taken(block));
-            map.give(block);
+            give(rt, map, unit, 0);
         }
     }
 }
@@ -57,11 +62,8 @@ fn two_quarters_become_a_half(rt: HostRuntime) -> Result<(), Fail> {
     for unit in [0, 4, 8, 12] {
         assert_eq!(rt; map.take(2), Some(Block { unit, order: 2 }));
     }
-    for unit in [0, 8] {
-        let block = Block { unit, order: 2 };
-        assert!(rt; map.is_taken(block));
-        map.give(block);
-    }
+    give(&rt, &mut map, 0, 2);
+    give(&rt, &mut map, 8, 2);
     assert_eq!(rt; map.free_units(), 8);
     assert!(rt; !map.has_room(3));
     assert_eq!(rt; room_for(&map, 2), None);

@@ -1,4 +1,5 @@
 use Rattle.std.proofs.Common.{◌≡◌, ℕ, zero, suc, ◌+◌, ◌-◌, ◌*◌, ◌/◌, ◌^◌, ◌%◌, ◌<◌, ◌≤◌, Bool, true, false, cond, ◌||◌, ◌⊎◌, inl, inr, List, [], ◌∷◌, ◌++◌, sym, ap, subst, refl, arith, Option, Some, None}
+use Rattle.std.proofs.lemmas.Bool.{or_parts}
 use Rattle.std.proofs.lemmas.Nat.{pow_pos}
 use Rattle.unit_map.specs.Pieces.{Piece, IsPiece, ArePieces, IsAligned, Fills, free_units, count, any, is_free_of, free_at, taken_at, free_frames}
 use Rattle.std.specs.Option.{is_some}
@@ -6,7 +7,7 @@ use Rattle.unit_map.specs.Changes.{split, TakesFrom, Takes, Gives, IsLeast, IsFu
 use Rattle.unit_map.specs.Spans.{Span, IsSpan, AreParts}
 use Rattle.unit_map.proofs.Lists.{in_lower, in_upper, lies, free_append, any_piece, piece_any}
 use Rattle.unit_map.proofs.Numbers.{by_order, compare, twice}
-pub use Rattle.unit_map.specs.Laws.{free_counts, free_le, free_merges}
+pub use Rattle.unit_map.specs.Laws.{free_counts, free_le, free_merges, one_if}
 
 -- How many units are free, and how many pieces there are of an order.
 
@@ -14,18 +15,11 @@ pub count_append : (k : ℕ) (ps qs : List Piece) → count k (ps ++ qs) ≡ cou
 count_append k [] qs = omega arith
 count_append k (p ∷ ps) qs = omega (arith, count_append k ps qs)
 
-or_false : (a b : Bool) → (a || b) ≡ false → (a ≡ false) × (b ≡ false)
-or_false true b h = absurd (cc)
-or_false false b h = (refl, h)
-
-one_if : Bool → ℕ
-one_if b = cond b 1 0
-
 pub count_none : (k : ℕ) (ps : List Piece) → any k ps ≡ false → count k ps ≡ 0
 unfolding one_if
 count_none k [] h = refl
 count_none k (p ∷ ps) h =
-    let both = or_false (is_free_of k p) (any k ps) h in
+    let both = or_parts (is_free_of k p) (any k ps) h in
     omega (arith, ap one_if both.0, count_none k ps both.1)
 
 count_first : (k n : ℕ) (b c : Bool) → (c ≡ true → 1 ≤ n) → (b || c) ≡ true → 1 ≤ cond b 1 0 + n

@@ -1,8 +1,9 @@
 use Rattle.std.proofs.Common.{◌≡◌, ℕ, zero, ◌+◌, ◌^◌, ◌≤◌, Bool, true, false, ◌||◌, inl, inr, List, [], ◌∷◌, ◌++◌, sym, ap, subst, ◌∙◌, refl, arith}
 use Rattle.std.proofs.lemmas.Nat.{pow_pos}
+use Rattle.std.proofs.Math.Bool.{or-true}
 use Rattle.std.proofs.lemmas.Bool.Decides.{nat_tests}
 use Rattle.unit_map.specs.Pieces.{Piece, IsPiece, units_of, any, is_free_of, Fills}
-pub use Rattle.unit_map.specs.Laws.{free_append, in_either, in_lower, in_upper, lies}
+pub use Rattle.unit_map.specs.Laws.{free_append, free_of, in_either, in_lower, in_upper, lies}
 
 -- Pieces of two lists, one after the other.
 
@@ -36,9 +37,6 @@ alone (x ∷ []) p e (inl i) = ap (λ q. q ∷ []) i
 alone (x ∷ y ∷ ps) p e (inl i) = absurd (omega (arith, pow_pos y.order, ap (λ (q : Piece). 2 ^ q.order) i, e))
 alone (x ∷ ps) p e (inr h) = absurd (omega (arith, pow_pos x.order, covers ps p h, e))
 
-free_of : (k : ℕ) (p : Piece) → is_free_of k p ≡ true → (p.free ≡ true) × (p.order ≡ k)
-free_of k p h = (grind (arith, nat_tests), grind (arith, nat_tests))
-
 is_free : (p : Piece) → p.free ≡ true → is_free_of p.order p ≡ true
 is_free p h = grind (arith, nat_tests)
 
@@ -52,17 +50,13 @@ pub any_piece : (k : ℕ) (ps : List Piece) → any k ps ≡ true → (p : Piece
 any_piece k [] h = absurd (cc)
 any_piece k (x ∷ ps) h = any_first k x ps (any_piece k ps) (is_free_of k x) refl h
 
-or_true : (a : Bool) → (a || true) ≡ true
-or_true true = refl
-or_true false = refl
-
 pub piece_any : (k : ℕ) (ps : List Piece) (p : Piece) → IsPiece ps p → p.free ≡ true → p.order ≡ k → any k ps ≡ true
 piece_any k [] p h f o = absurd h
 piece_any k (x ∷ ps) p (inl e) f o =
     let free : x.free ≡ true = ap (λ (q : Piece). q.free) e ∙ f in
     let order : x.order ≡ k = ap (λ (q : Piece). q.order) e ∙ o in
     ap (λ b. b || any k ps) (subst (λ n. is_free_of n x ≡ true) order (is_free x free))
-piece_any k (x ∷ ps) p (inr h) f o = ap (λ b. is_free_of k x || b) (piece_any k ps p h f o) ∙ or_true (is_free_of k x)
+piece_any k (x ∷ ps) p (inr h) f o = ap (λ b. is_free_of k x || b) (piece_any k ps p h f o) ∙ or-true (is_free_of k x)
 
 pub fills_front : (u : ℕ) (ps qs : List Piece) → Fills u (ps ++ qs) → Fills u ps
 fills_front u [] qs h = tt

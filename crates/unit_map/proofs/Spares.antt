@@ -1,9 +1,10 @@
-use Rattle.std.proofs.Common.{◌≡◌, ℕ, zero, suc, ◌+◌, ◌^◌, ◌%◌, ◌<◌, ◌≤◌, inl, inr, List, [], ◌∷◌, sym, ap, subst, ◌∙◌, refl, arith, length, slice_index_or, slice_set}
-use Rattle.std.proofs.lemmas.Nat.{pow_pos}
+use Rattle.std.proofs.Common.{◌≡◌, ℕ, zero, suc, ◌+◌, ◌^◌, ◌%◌, ◌<◌, ◌≤◌, inl, inr, List, [], ◌∷◌, sym, ap, subst, ◌∙◌, arith, length, slice_index_or, slice_set}
 use Rattle.unit_map.specs.Pieces.{Piece, IsPiece, ArePieces, AreBeside, free_at}
 use Rattle.unit_map.specs.Changes.{CanMove}
 use Rattle.unit_map.specs.Spans.{Span, IsPlace, IsSpare, AreSpares}
 use Rattle.unit_map.proofs.Lists.{lies}
+use Rattle.unit_map.proofs.Numbers.{lower_aligned, upper_aligned}
+use Rattle.unit_map.proofs.Splits.{block_place}
 
 -- Spare blocks, and the places of blocks that go.
 
@@ -30,33 +31,14 @@ spare_put j (suc k) (x ∷ ss) s h i = let e : j + suc k ≡ j + 1 + k = omega a
 pub first_put : (k : ℕ) (ss : List Span) (s : Span) → AreSpares 0 ss → IsSpare s k → AreSpares 0 (slice_set ss k s)
 first_put k ss s h i = let e : k ≡ 0 + k = omega arith in spare_put 0 k ss s h (subst (IsSpare s) e i)
 
-pub spare_count : (k : ℕ) (ss : List Span) (s : Span) → length (slice_set ss k s) ≡ length ss
-spare_count k [] s = refl
-spare_count zero (x ∷ ss) s = refl
-spare_count (suc k) (x ∷ ss) s = ap suc (spare_count k ss s)
-
 -- where a block lies
 pub piece_place : (ps : List Piece) (p : Piece) → ArePieces ps → p.order < 4 → IsPiece ps p → IsPlace p.unit (2 ^ p.order) p.order
-piece_place ps p are low h = record {
-  highest = omega (arith, low);
-  block = λ g. refl;
-  some = pow_pos p.order;
-  aligned = λ g. (are.aligned p h).unit;
-  framed = λ g. absurd (omega (arith, low, g));
-  whole = λ g. absurd (omega (arith, low, g));
-  fits = omega (arith, (lies 0 ps p are.fills h).1, are.few);
-}
+piece_place ps p are low h = block_place p.unit p.order low (are.aligned p h).unit (omega (arith, (lies 0 ps p are.fills h).1, are.few))
 
 -- and its other half
 half_aligned : (u v k : ℕ) → k < 4 → AreBeside u v k → u % 2 ^ k ≡ 0
-half_aligned u v zero low b = omega arith
-half_aligned u v (suc zero) low (inl b) = omega (arith, b.0)
-half_aligned u v (suc zero) low (inr b) = omega (arith, b.0, b.1)
-half_aligned u v (suc (suc zero)) low (inl b) = omega (arith, b.0)
-half_aligned u v (suc (suc zero)) low (inr b) = omega (arith, b.0, b.1)
-half_aligned u v (suc (suc (suc zero))) low (inl b) = omega (arith, b.0)
-half_aligned u v (suc (suc (suc zero))) low (inr b) = omega (arith, b.0, b.1)
-half_aligned u v (suc (suc (suc (suc k)))) low b = absurd (omega (arith, low))
+half_aligned u v k low (inl b) = lower_aligned u k low b.0
+half_aligned u v k low (inr b) = subst (λ x. x % 2 ^ k ≡ 0) (sym b.1) (upper_aligned v k low b.0)
 
 half_fits : (u v k : ℕ) → k < 4 → AreBeside u v k → v + 2 ^ k ≤ 2 ^ 20 → u + 2 ^ k ≤ 2 ^ 20
 half_fits u v k low (inl b) h = omega (arith, b.1, h)
@@ -66,16 +48,8 @@ half_fits u v (suc (suc zero)) low (inr b) h = omega (arith, b.0, b.1, h)
 half_fits u v (suc (suc (suc zero))) low (inr b) h = omega (arith, b.0, b.1, h)
 half_fits u v (suc (suc (suc (suc k)))) low (inr b) h = absurd (omega (arith, low))
 
-pub half_place : (u v k : ℕ) → k < 4 → AreBeside u v k → IsPlace v (2 ^ k) k → IsPlace u (2 ^ k) k
-half_place u v k low b place = record {
-  highest = omega (arith, low);
-  block = λ g. refl;
-  some = pow_pos k;
-  aligned = λ g. half_aligned u v k low b;
-  framed = λ g. absurd (omega (arith, low, g));
-  whole = λ g. absurd (omega (arith, low, g));
-  fits = half_fits u v k low b place.fits;
-}
+half_place : (u v k : ℕ) → k < 4 → AreBeside u v k → IsPlace v (2 ^ k) k → IsPlace u (2 ^ k) k
+half_place u v k low b place = block_place u k low (half_aligned u v k low b) (half_fits u v k low b place.fits)
 
 pub move_place : (ps : List Piece) (from to order : ℕ) → ArePieces ps → CanMove ps from to order → IsPlace from (2 ^ order) order
 move_place ps from to order are can = half_place from can.other order can.low can.beside (piece_place ps (free_at can.other order) are can.low can.half)

@@ -41,28 +41,23 @@ frames_append u (suc a) b =
     let same : suc (a + b) ≡ suc a + b = omega arith in
     ap (λ v. free_at u 4 ∷ (free_frames (u + 16) a ++ free_frames v b)) at ∙ ap (λ ps. free_at u 4 ∷ ps) (frames_append (u + 16) a b) ∙ ap (free_frames u) same
 
--- where the halves of a block lie
-pub lower_place : (u k : ℕ) → k < 4 → IsPlace u (2 ^ (k + 1)) (k + 1) → IsPlace u (2 ^ k) k
-lower_place u k lt p = record {
-  highest = omega arith;
+-- where a block below a frame may lie, and its halves
+pub block_place : (u k : ℕ) → k < 4 → u % 2 ^ k ≡ 0 → u + 2 ^ k ≤ 2 ^ 20 → IsPlace u (2 ^ k) k
+block_place u k low at fits = record {
+  highest = omega (arith, low);
   block = λ h. refl;
   some = pow_pos k;
-  aligned = λ h. lower_aligned u k lt (p.aligned (omega arith));
-  framed = λ h. absurd (omega arith);
-  whole = λ h. absurd (omega arith);
-  fits = omega (arith, p.fits, twice k);
+  aligned = λ h. at;
+  framed = λ h. absurd (omega (arith, low, h));
+  whole = λ h. absurd (omega (arith, low, h));
+  fits = fits;
 }
 
+pub lower_place : (u k : ℕ) → k < 4 → IsPlace u (2 ^ (k + 1)) (k + 1) → IsPlace u (2 ^ k) k
+lower_place u k lt p = block_place u k lt (lower_aligned u k lt (p.aligned (omega (arith, lt)))) (omega (arith, p.fits, twice k))
+
 pub upper_place : (u k : ℕ) → k < 4 → IsPlace u (2 ^ (k + 1)) (k + 1) → IsPlace (u + 2 ^ k) (2 ^ k) k
-upper_place u k lt p = record {
-  highest = omega arith;
-  block = λ h. refl;
-  some = pow_pos k;
-  aligned = λ h. upper_aligned u k lt (p.aligned (omega arith));
-  framed = λ h. absurd (omega arith);
-  whole = λ h. absurd (omega arith);
-  fits = omega (arith, p.fits, twice k);
-}
+upper_place u k lt p = block_place (u + 2 ^ k) k lt (upper_aligned u k lt (p.aligned (omega (arith, lt)))) (omega (arith, p.fits, twice k))
 
 pub frames_place : (u n : ℕ) → 0 < n → u % 16 ≡ 0 → u + 16 * n ≤ 2 ^ 20 → IsPlace u (16 * n) 5
 frames_place u n some at fits = record {

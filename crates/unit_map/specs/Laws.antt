@@ -1,7 +1,8 @@
 use Rattle.std.proofs.Common.{◌≡◌, ℕ, zero, suc, ◌+◌, ◌*◌, ◌^◌, ◌<◌, ◌≤◌, Bool, true, false, cond, ◌&&◌, nat_eq, ◌⊎◌, inl, inr, List, [], ◌∷◌, ◌++◌, ap, subst, ◌∙◌, refl, arith}
+use Rattle.std.proofs.lemmas.Bool.Decides.{nat_tests}
 use Rattle.std.proofs.lemmas.Nat.{pow_pos}
 use Rattle.std.proofs.Math.Nat.{two-pow-succ}
-use Rattle.unit_map.specs.Pieces.{Piece, IsPiece, IsAligned, Fills, count, AreFreeHalves, AreBeside, AreMerged, units_of, free_units, free_blocks, free_at, moved}
+use Rattle.unit_map.specs.Pieces.{Piece, IsPiece, IsAligned, Fills, count, is_free_of, AreFreeHalves, AreBeside, AreMerged, units_of, free_units, free_blocks, free_at, moved}
 use Rattle.unit_map.specs.Changes.{Joins, Merges, Relocates, CanMove}
 use Rattle.unit_map.specs.Changes.Merges.{Done, Step}
 
@@ -68,6 +69,12 @@ blocks_le (p ∷ ps) = omega (arith, one_block p.free (2 ^ p.order) (pow_pos p.o
 
 -- Pieces by order.
 
+pub free_of : (k : ℕ) (p : Piece) → is_free_of k p ≡ true → (p.free ≡ true) × (p.order ≡ k)
+free_of k p h = (grind (arith, nat_tests), grind (arith, nat_tests))
+
+unfoldable pub one_if : Bool → ℕ
+one_if b = cond b 1 0
+
 one_counts : (b : Bool) (k : ℕ) → k ≤ 4
     → cond b (2 ^ k) 0 ≡ cond (b && nat_eq k 0) 1 0 + 2 * cond (b && nat_eq k 1) 1 0 + 4 * cond (b && nat_eq k 2) 1 0 + 8 * cond (b && nat_eq k 3) 1 0 + 16 * cond (b && nat_eq k 4) 1 0
 one_counts false k h = refl
@@ -101,9 +108,6 @@ free_joins old new j =
 pub free_merges : (old new : List Piece) → Merges old new → free_units new ≡ free_units old
 free_merges old new (Done ps) = refl
 free_merges old new (Step a mid b j m) = free_merges mid new m ∙ free_joins old mid j
-
-one_if : Bool → ℕ
-one_if b = cond b 1 0
 
 blocks_joins : (old new : List Piece) → Joins old new → free_blocks new + 1 ≡ free_blocks old
 unfolding one_if

@@ -1,9 +1,10 @@
 use Rattle.std.proofs.Common.{◌≤◌, sym, subst, ◌∙◌, arith}
+use Rattle.std.proofs.lemmas.List.{length-set}
 use Rattle.unit_map.specs.Pieces.{ArePieces, AreBeside, Fills, free_at}
 use Rattle.unit_map.specs.Changes.{Relocates}
 use Rattle.unit_map.specs.Laws.{free_moves, fewer_moves}
 use Rattle.unit_map.proofs.Counts.{are_pieces}
-use Rattle.unit_map.proofs.Spares.{spare_first, first_put, spare_count, piece_place, move_place, spare_place}
+use Rattle.unit_map.proofs.Spares.{spare_first, first_put, piece_place, move_place, spare_place}
 use Rattle.unit_map.proofs.Taken.{moves_inside, moves_only, moves_outside}
 use Rattle.unit_map.proofs.map.UnitMap.relocate.Goals as goal
 
@@ -46,7 +47,7 @@ invariant_of-self c =
         units = c.relocate.ensures.units ∙ spare.units;
         free = c.relocate.ensures.spare;
       });
-      all = spare_count c.from.result c.self.inside.spares c.relocate.new.spare ∙ c.self.invariant.all;
+      all = length-set c.self.inside.spares c.from.result c.relocate.new.spare ∙ c.self.invariant.all;
     }
 
 pub returns-clause-relocates : goal.returns-clause-relocates
