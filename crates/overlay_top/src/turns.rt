@@ -1,5 +1,5 @@
 ghost use Rattle.std.specs.Prelude.{◌≡◌, ◌<◌, ◌≤◌, List, true, OnOk, OnErr};
-ghost use Rattle.ovl_io.specs.Outside.{Rose};
+ghost use Rattle.overlay_top.specs.Outside.{SinkRose, SinkSound};
 ghost use Rattle.overlay_top.specs.Sending.{IsSent, IsCut};
 ghost use Rattle.overlay_top.specs.Session.{after_turns};
 ghost use Rattle.overlay_top.specs.Report.{turn_text, turns_text, stop_of};
@@ -59,8 +59,8 @@ pub(crate) fn take_turns<K: Sink>(
     ensures sent { K.tells → OnOk result (IsSent (K.taken sink.old) (turns_text p 0 turns machine.old) (K.taken sink.new)) }
     ensures cut { K.tells → OnErr result (IsCut (K.taken sink.old) (turns_text p 0 turns machine.old) (K.taken sink.new)) }
     ensures after { OnOk result (machine.new ≡ after_turns p turns machine.old) }
-    ensures cause { OnErr result (Rose (K.faults sink.old) (K.faults sink.new)) }
-    ensures counted { K.faults sink.old ≤ K.faults sink.new }
+    ensures cause { OnErr result (SinkRose K.Sink sink.old sink.new) }
+    ensures no_fault { OnOk result (SinkSound K.Sink sink.old sink.new) }
 {
     let mut taken: u32 = 0;
     'turns: while taken < turns {
