@@ -7,7 +7,7 @@ use Rattle.std.proofs.lemmas.List.Elements.{All-nil, All-cons}
 use Rattle.elf_loader.specs.Fields.{table_offset, table_length, loads_of}
 use Rattle.elf_loader.specs.Accepted.{Refusal, first_of, refusal_of, header_refusals, table_refusals, page_refusals, has_table_outside, HasTable, is_larger_in_file, is_outside_file, is_too_high, image_end, most_pages}
 use Rattle.elf_loader.specs.Image.{pages_in, pages_of, page_in, image_page, Kept, Reads}
-use Rattle.elf_loader.specs.Reach.{IsBelowStack, IsTooMany}
+use Rattle.elf_loader.specs.Reach.{IsBelowStack, Lies, IsTooMany}
 use Rattle.elf_loader.specs.declared.header.ProgramHeader.{ProgramHeader}
 use Rattle.elf_loader.specs.declared.image.ElfError.{ElfError}
 use Rattle.elf_loader.specs.declared.image.ElfError.TheVariants.{TooManyPages, Memory}
@@ -85,12 +85,6 @@ header_passes file h =
       long = ltb-false (length file) 64 (all 0 none (omega arith));
       table = within (table_length file) (length file) (table_offset file) (all 8 none (omega arith));
     }
-
--- what is said of each segment of a file that is taken
-pub record Lies (file : List ℕ) (header : ProgramHeader) : Type 0 where
-  pub part : header.file_size ≤ header.memory_size
-  pub in_file : 0 < header.file_size → header.offset + header.file_size ≤ length file
-  pub below : 0 < header.memory_size → header.address + header.memory_size ≤ image_end
 
 none_of : (test : ProgramHeader → Bool) (headers : List ProgramHeader) → list_any test headers ≡ false → All (λ h. test h ≡ false) headers
 none_of test headers none k d h =

@@ -6,5 +6,6 @@ pub mod Accepted
 pub mod Image
 pub mod FewPages
 pub mod Reach
+pub mod Layers
 pub use Rattle.ovl_io.specs.Permissions
 pub use Rattle.ovl_io.specs.Memory

@@ -1,4 +1,4 @@
-use Rattle.std.specs.Prelude.{ℕ, ◌+◌, ◌-◌, ◌/◌, ◌≤◌, ◌<◌, nat_lt, Bool, if◌then◌else◌}
+use Rattle.std.specs.Prelude.{ℕ, ◌+◌, ◌-◌, ◌/◌, ◌≤◌, ◌<◌, nat_lt, Bool, List, length, if◌then◌else◌}
 use Rattle.std.specs.Int.RustNames.{bit_or}
 use Rattle.ovl_io.specs.Permissions.{readable, writable, executable, permits}
 use Rattle.elf_loader.specs.Accepted.{image_end, most_pages}
@@ -33,6 +33,12 @@ end_with need header = if permits (perms_of header) need then memory_end header 
 -- a segment of an image: the part in the file isn't larger than it, and it lies below the stack
 pub record IsBelowStack (header : ProgramHeader) : Type 0 where
   pub part : header.file_size ≤ header.memory_size
+  pub below : 0 < header.memory_size → header.address + header.memory_size ≤ image_end
+
+-- what is said of each segment of a file that is taken
+pub record Lies (file : List ℕ) (header : ProgramHeader) : Type 0 where
+  pub part : header.file_size ≤ header.memory_size
+  pub in_file : 0 < header.file_size → header.offset + header.file_size ≤ length file
   pub below : 0 < header.memory_size → header.address + header.memory_size ≤ image_end
 
 -- permissions by whether each is there

@@ -35,7 +35,7 @@ pub(crate) struct Reach {
 }
 
 /// The number of the page behind the last one that a range touches, or 0 for an empty range.
-fn pages_end(address: u64, size: u64) -> u64
+pub(crate) fn pages_end(address: u64, size: u64) -> u64
     requires { 0 < size → address + size ≤ 2 ^ 38 }
     ensures { result ≡ pages_end address size }
 {

@@ -2,6 +2,7 @@ use Rattle.std.proofs.Common.{◌≤◌, length, subst, sym, ◌∙◌, arith, A
 use Rattle.elf_loader.specs.Accepted.{most_pages}
 use Rattle.elf_loader.specs.Image.{pages_in}
 use Rattle.elf_loader.specs.Reach.{IsBelowStack, IsTooMany}
+use Rattle.elf_loader.proofs.Pages.{ascending}
 use Rattle.elf_loader.proofs.Taken.{by_header, by_table, header_passes, all_below, reads_error, reads_err, reads_too_many, taken_by, image_pages}
 use Rattle.elf_loader.proofs.image.read_image.Goals as goal
 
@@ -53,3 +54,11 @@ returns c =
       pages = c.in_ok-pages.ensures.pages ∙ image_pages file c.as_slice-2.result.now same;
       loads = c.in_ok-loads.ensures;
     }
+
+pub layers_of-requires-clause-sorted : goal.layers_of-requires-clause-sorted
+layers_of-requires-clause-sorted c =
+    ascending c.as_slice-2.result.now _ (c.as_slice-4.ensures.value ∙ c.in_ok-pages.ensures.pages)
+
+pub layers_of-requires-clause-below : goal.layers_of-requires-clause-below
+layers_of-requires-clause-below c =
+    subst (All IsBelowStack) (sym (c.as_slice-3.ensures.value ∙ c.in_ok-loads.ensures)) (all_below c.args.bytes.now (sym c.in_default-table_refusal.ensures))
