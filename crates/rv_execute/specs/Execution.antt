@@ -21,20 +21,27 @@ use Rattle.rv_execute.specs.Calls.{Call, Fetch, Load, Store, fetch_at, load_at, 
 
 -- What one instruction does to registers and a whole memory. A request to the machine (ECALL) is left to whoever asked.
 
--- the registers and the memory afterwards, what came of it, and the calls of the memory, in order
+-- What comes of an instruction: it is done, it is a request to the machine, or it can't be done. That a store was refused for
+-- want of units is no part of it: that comes from the memory alone.
+pub data Upshot : Type 0 where
+  Steps : Upshot
+  Asks : Upshot
+  Faults : FaultKind → ℕ → Upshot
+
+-- the registers and the memory afterwards, what comes of it, and the calls of the memory, in order
 pub record Execution : Type 0 where
   pub registers : Registers
   pub memory : Memory
-  pub outcome : Outcome
+  pub upshot : Upshot
   pub calls : List Call
 
 -- an instruction that is done
 abbrev pub completed : Registers → Memory → List Call → Execution
-completed regs memory calls = record { registers = regs; memory = memory; outcome = Stepped; calls = calls }
+completed regs memory calls = record { registers = regs; memory = memory; upshot = Steps; calls = calls }
 
 -- one that can't be done leaves everything as it was
 abbrev pub fault : Registers → Memory → FaultKind → ℕ → List Call → Execution
-fault regs memory kind address calls = record { registers = regs; memory = memory; outcome = Fault kind address; calls = calls }
+fault regs memory kind address calls = record { registers = regs; memory = memory; upshot = Faults kind address; calls = calls }
 
 -- how many bytes
 abbrev pub count_of : Size → ℕ
@@ -89,7 +96,7 @@ effect (action.Store address size value) rd regs memory =
     let bytes = little_bytes (count_of size) value in
     stored (denied_at memory (store_at address (count_of size))) address bytes regs memory (Store address bytes ∷ [])
 effect action.Next rd regs memory = completed (next regs) memory []
-effect action.Ask rd regs memory = record { registers = next regs; memory = memory; outcome = Asked; calls = [] }
+effect action.Ask rd regs memory = record { registers = next regs; memory = memory; upshot = Asks; calls = [] }
 effect action.Stop rd regs memory = fault regs memory kind.Break regs.pc []
 
 -- the action of an instruction on these registers
@@ -108,7 +115,7 @@ fetched None regs memory = decoded (meaning (word_at memory regs.pc)) regs memor
 
 -- with a call before the others
 abbrev pub after : Call → Execution → Execution
-after call e = record { registers = e.registers; memory = e.memory; outcome = e.outcome; calls = call ∷ e.calls }
+after call e = record { registers = e.registers; memory = e.memory; upshot = e.upshot; calls = call ∷ e.calls }
 
 -- In order: a pc that isn't a multiple of 4, the fetch, a word that means nothing, and then the row's effect.
 abbrev pub execution : Registers → Memory → Execution
@@ -124,10 +131,16 @@ full_in Asked = None
 full_in (Fault kind address) = None
 full_in (Full units limit) = Some (units, limit)
 
+-- the outcome of an instruction of which no store was refused for want of units
+abbrev pub outcome_by : Upshot → Outcome
+outcome_by Steps = Stepped
+outcome_by Asks = Asked
+outcome_by (Faults kind address) = Fault kind address
+
 -- What comes of executing an instruction: what it does, unless a store of it was refused for want of units; then nothing
 -- has changed.
 abbrev pub Executes : Execution → Registers → Memory → Registers → Memory → Outcome → Type 0
-Executes e old old_memory new new_memory (Full units limit) = (e.outcome ≡ Stepped) × (new ≡ old) × (new_memory ≡ old_memory)
-Executes e old old_memory new new_memory Stepped = (e.outcome ≡ Stepped) × (new ≡ e.registers) × (new_memory ≡ e.memory)
-Executes e old old_memory new new_memory Asked = (e.outcome ≡ Asked) × (new ≡ e.registers) × (new_memory ≡ e.memory)
-Executes e old old_memory new new_memory (Fault kind address) = (e.outcome ≡ Fault kind address) × (new ≡ e.registers) × (new_memory ≡ e.memory)
+Executes e old old_memory new new_memory (Full units limit) = (e.upshot ≡ Steps) × (new ≡ old) × (new_memory ≡ old_memory)
+Executes e old old_memory new new_memory Stepped = (e.upshot ≡ Steps) × (new ≡ e.registers) × (new_memory ≡ e.memory)
+Executes e old old_memory new new_memory Asked = (e.upshot ≡ Asks) × (new ≡ e.registers) × (new_memory ≡ e.memory)
+Executes e old old_memory new new_memory (Fault kind address) = (e.upshot ≡ Faults kind address) × (new ≡ e.registers) × (new_memory ≡ e.memory)
