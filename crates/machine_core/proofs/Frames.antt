@@ -1,5 +1,4 @@
-use Rattle.std.proofs.Common.{◌≡◌, ℕ, ◌+◌, ◌-◌, ◌*◌, ◌^◌, ◌<◌, ◌≤◌, Bool, true, false, cond, List, [], ◌∷◌, ◌++◌, length, take, drop, get_or, sym, ap, subst, ◌∙◌, refl, arith, length-append, length-drop, Option, Some, None}
-use Rattle.std.proofs.lemmas.Bool.Decides.{nat_tests}
+use Rattle.std.proofs.Common.{◌≡◌, ℕ, ◌+◌, ◌-◌, ◌*◌, ◌^◌, ◌<◌, ◌≤◌, true, false, List, [], ◌∷◌, ◌++◌, length, take, drop, get_or, sym, ap, subst, ◌∙◌, refl, arith, length-append, length-drop, Option, Some, None}
 use Rattle.std.proofs.Math.ListN.{set}
 use Rattle.std.proofs.Math.Seq.{get_or-append_right}
 use Rattle.std.proofs.lemmas.List.{get_or-set_same, get_or-set_other, get_or_append_left, length-set, length-take-le}
@@ -7,11 +6,13 @@ use Rattle.std.specs.Option.{option_map, option_map_or}
 use Rattle.std.specs.FinMap.{get, insert}
 use Rattle.ovl_io.specs.Permissions.{permits}
 use Rattle.ovl_io.specs.Memory.{Page, with_bytes}
-use Rattle.page_table.specs.Table.{Pages, is_within, IsMapped}
+use Rattle.page_table.specs.Table.{Pages}
 use Rattle.page_table.specs.declared.entry.PageEntry.{PageEntry}
-use Rattle.machine_core.specs.Kept.{page_of, memory_of, IsPlaced, overwritten}
-use Rattle.machine_core.proofs.Keys.{get_same, get_other, by_key, alike, get_viewed}
-use Rattle.machine_core.proofs.Accesses.{page_allows, stored_in}
+use Rattle.ovl_io.specs.KeyLaws.{get_same, get_other, by_key, alike}
+use Rattle.ovl_io.specs.MemoryLaws.{stored_in}
+use Rattle.ovl_io.specs.PageBytes.{overwritten, page_allows}
+use Rattle.machine_core.specs.Kept.{page_of, memory_of, IsPlaced}
+use Rattle.machine_core.proofs.Keys.{get_viewed}
 
 -- What a table and its frames say of the memory that they make.
 
@@ -74,20 +75,6 @@ placed_changed table frames k bytes placed whole = record {
 }
 
 -- a page was added, with a frame of its own at the end
-within_one : (page q : ℕ) (b : Bool) → is_within page 1 q ≡ b → (q ≡ page → b ≡ true) × ((q ≡ page → ⊥) → b ≡ false)
-within_one page q true h =
-    let is : q ≡ page = grind (arith, nat_tests) in
-    (λ same. refl, λ other. absurd (other is))
-within_one page q false h =
-    let is : q ≡ page → ⊥ = λ same. grind (arith, nat_tests) in
-    (λ same. absurd (is same), λ other. refl)
-
-pub one_mapped : (old new : Pages) (page : ℕ) (entry : PageEntry) → IsMapped old page 1 entry new → new ≡ insert old page entry
-one_mapped old new page entry mapped =
-    alike _ _ (λ q. by_key q page
-    (λ same. mapped q ∙ ap (λ (b : Bool). cond b (Some entry) (get old q)) ((within_one page q (is_within page 1 q) refl).0 same) ∙ sym (get_same old page q entry same))
-    (λ other. mapped q ∙ ap (λ (b : Bool). cond b (Some entry) (get old q)) ((within_one page q (is_within page 1 q) refl).1 other) ∙ sym (get_other old page q entry other)))
-
 pub page_added : (old : Pages) (frames : List (List ℕ)) (page frame : ℕ) (entry : PageEntry) (bytes : List ℕ) → IsPlaced old frames → entry.frame ≡ length frames
     → memory_of (insert old page entry) (frames ++ bytes ∷ []) ≡ insert (memory_of old frames) page (record { perms = entry.perms.0; bytes = bytes })
 page_added old frames page frame entry bytes placed is_frame =

@@ -10,9 +10,9 @@ use Rattle.elf_loader.specs.Image.{pages_of, page_of, page_bytes, page_length, i
 use Rattle.elf_loader.specs.declared.image.ImagePage.{ImagePage}
 use Rattle.page_table.specs.Table.{Pages}
 use Rattle.page_table.specs.declared.entry.PageEntry.{PageEntry}
+use Rattle.ovl_io.specs.KeyLaws.{tied, differs, alike}
 use Rattle.machine_core.specs.Load.{stack_page, stack_pages, memory_of as image_memory, IsPlacedOver}
 use Rattle.machine_core.specs.Kept.{page_of as kept_page, memory_of, IsPlaced}
-use Rattle.machine_core.proofs.Keys.{tied, differs, alike}
 use Rattle.machine_core.proofs.Frames.{get_page}
 
 -- Pages that a function of their numbers gives, put into a memory one after the other.

@@ -1,4 +1,4 @@
-use Rattle.std.specs.Prelude.{◌≡◌, ℕ, ◌+◌, ◌^◌, ◌<◌, List, [], ◌++◌, length, map, take, drop, get_or, Option, Some, None, Result, Ok, Err, false, true}
+use Rattle.std.specs.Prelude.{◌≡◌, ℕ, ◌^◌, ◌<◌, List, [], length, map, get_or, Option, Some, None, Result, Ok, Err, false, true}
 use Rattle.std.specs.Option.{option_map_or}
 use Rattle.std.specs.FinMap.{entries, from_entries, get}
 use Rattle.ovl_io.specs.Memory.{Memory, Page, denied_at}
@@ -38,10 +38,6 @@ abbrev pub Accesses : {Done : Type 0} → Memory → ℕ → ℕ → ℕ → Res
 Accesses memory need address count (Ok done) = denied_at memory (record { need = need; address = address; length = count }) ≡ None
 Accesses memory need address count (Err denied) =
     denied_at memory (record { need = need; address = address; length = count }) ≡ Some denied.address
-
--- bytes with others in their place from one on
-abbrev pub overwritten : List ℕ → ℕ → List ℕ → List ℕ
-overwritten old at bytes = take at old ++ (bytes ++ drop (at + length bytes) old)
 
 abbrev pub process_of : Guest → Process
 process_of guest = record { registers = guest.process.regs; state = guest.process.state; memory = guest.memory }

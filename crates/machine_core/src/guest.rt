@@ -2,11 +2,10 @@
 
 ghost use Rattle.std.specs.Prelude.{◌≡◌, ℕ, ◌<◌, ◌≤◌, List, None, length};
 ghost use Rattle.rv_execute.specs.Registers.{with_register};
-ghost use Rattle.ovl_io.specs.Memory.{Access};
 ghost use Rattle.rv_execute.specs.Step.{exit, request, write};
-ghost use Rattle.rv_execute.specs.Execution.{execution};
+ghost use Rattle.rv_execute.specs.Execution.{outcome_by};
 ghost use Rattle.machine_core.specs.Process.{runs};
-ghost use Rattle.machine_core.specs.Machine.{after_step, executed, execution_of};
+ghost use Rattle.machine_core.specs.Machine.{after_request, executed, execution_of};
 ghost use Rattle.machine_core.specs.Kept.{process_of};
 
 use crate::memory::PlainMemory;
@@ -78,8 +77,8 @@ impl Guest {
     /// Prints up to 4096 bytes.
     fn write(&mut self) -> Turn
         requires { self.old.process.state ≡ ProcessState.Running }
-        ensures turn { (accesses : List Access) → result ≡ (write self.old.process.regs self.old.memory accesses).turn }
-        ensures after { (accesses : List Access) → process_of self.new ≡ after_step (write self.old.process.regs self.old.memory accesses) }
+        ensures turn { result ≡ (write self.old.process.regs self.old.memory).turn }
+        ensures after { process_of self.new ≡ after_request self.old.memory (write self.old.process.regs self.old.memory) }
     {
         let descriptor = self.process.regs.get(10);
         if descriptor != 1 && descriptor != 2 {
@@ -102,8 +101,8 @@ impl Guest {
 
     /// Exits with the low 8 bits of a0.
     fn exit(&mut self) -> Turn
-        ensures turn { (accesses : List Access) → result ≡ (exit self.old.process.regs self.old.memory accesses).turn }
-        ensures after { (accesses : List Access) → process_of self.new ≡ after_step (exit self.old.process.regs self.old.memory accesses) }
+        ensures turn { result ≡ (exit self.old.process.regs).turn }
+        ensures after { process_of self.new ≡ after_request self.old.memory (exit self.old.process.regs) }
     {
         let code = (self.process.regs.get(10) % 256) as u8;
         self.process.state = ProcessState::Exited(code);
@@ -113,8 +112,8 @@ impl Guest {
     /// Does what ECALL asked for, as process `p`.
     pub(crate) fn answer_request(&mut self, p: u16) -> Turn
         requires { self.old.process.state ≡ ProcessState.Running }
-        ensures turn { (accesses : List Access) → result ≡ (request p self.old.process.regs self.old.memory accesses).turn }
-        ensures after { (accesses : List Access) → process_of self.new ≡ after_step (request p self.old.process.regs self.old.memory accesses) }
+        ensures turn { result ≡ (request p self.old.process.regs self.old.memory).turn }
+        ensures after { process_of self.new ≡ after_request self.old.memory (request p self.old.process.regs self.old.memory) }
     {
         match self.process.regs.get(17) {
             WRITE => self.write(),
@@ -129,7 +128,7 @@ impl Guest {
     #[inline]
     pub(crate) fn execute(&mut self) -> Outcome
         requires { self.old.process.state ≡ ProcessState.Running }
-        ensures outcome { result ≡ (execution_of (process_of self.old)).outcome }
+        ensures outcome { result ≡ outcome_by (execution_of (process_of self.old)).upshot }
         ensures after { process_of self.new ≡ executed (process_of self.old) }
     {
         let outcome = execute(&mut self.process.regs, &mut self.memory);

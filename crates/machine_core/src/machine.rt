@@ -4,8 +4,8 @@ ghost use Rattle.std.specs.Prelude.{◌≡◌, ◌+◌, ◌<◌, ◌≤◌, List
 ghost use Rattle.std.specs.FinMap as map;
 ghost use Rattle.std.specs.Option.{option_copied};
 ghost use Rattle.elf_loader.specs.Image.{IsImageOf};
-ghost use Rattle.machine_core.specs.Machine.{is_running, shown_at, turn_of, after_turn, outcome_of, after_execution, turn_asked, after_asked};
-ghost use Rattle.ovl_io.specs.Memory.{Access};
+ghost use Rattle.machine_core.specs.Machine.{is_running, shown_at, turn_of, after_turn, came_to, after_execution, turn_asked, after_asked};
+ghost use Rattle.rv_execute.specs.Execution.{outcome_by};
 ghost use Rattle.machine_core.specs.Load.{loaded, page_count};
 
 use crate::guest::Guest;
@@ -94,7 +94,7 @@ impl Machine {
     #[inline]
     pub fn execute(&mut self, p: u16) -> Outcome
         requires { is_running self.old p ≡ true }
-        ensures outcome { result ≡ outcome_of self.old p }
+        ensures outcome { result ≡ outcome_by (came_to self.old p) }
         ensures after { self.new ≡ after_execution self.old p }
     {
         match self.guests.get_mut(&p) {
@@ -106,8 +106,8 @@ impl Machine {
     /// Does what a running process asked for by ECALL, and answers what came of it. Takes no memory.
     pub fn answer(&mut self, p: u16) -> Turn
         requires { is_running self.old p ≡ true }
-        ensures turn { (accesses : List Access) → result ≡ turn_asked accesses self.old p }
-        ensures after { (accesses : List Access) → self.new ≡ after_asked accesses self.old p }
+        ensures turn { result ≡ turn_asked self.old p }
+        ensures after { self.new ≡ after_asked self.old p }
     {
         match self.guests.get_mut(&p) {
             Some(guest) => guest.answer_request(p),

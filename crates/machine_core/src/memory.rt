@@ -6,7 +6,8 @@ ghost use Rattle.ovl_io.specs.Memory.{bytes_at, with_bytes};
 ghost use Rattle.ovl_io.specs.Permissions.{writable, permits};
 ghost use Rattle.page_table.specs.declared.entry.PageEntry.{PageEntry};
 ghost use Rattle.rv_execute.specs.Calls.{full_of};
-ghost use Rattle.machine_core.specs.Kept.{Accesses, Finds, IsPlaced, memory_of, overwritten};
+ghost use Rattle.ovl_io.specs.PageBytes.{overwritten};
+ghost use Rattle.machine_core.specs.Kept.{Accesses, Finds, IsPlaced, memory_of};
 
 use bitflags::Flags;
 use byteorder::{ByteOrder, LittleEndian};
@@ -199,6 +200,8 @@ impl GuestMemory for PlainMemory {
     ghost use Rattle.rv_execute.specs.Calls.{full_of};
 
     ghost memory = { λ m. m };
+
+    ghost ready = { λ m. Unit {0} };
 
     ghost fetched = { λ old address new. new ≡ old };
 

@@ -4,7 +4,8 @@ use Rattle.std.specs.FinMap.{get}
 use Rattle.elf_loader.specs.Image.{pages_of, page_of, image_page, is_stored}
 use Rattle.machine_core.specs.Kept.{memory_of}
 use Rattle.machine_core.proofs.Placing.{no_page, page_at, placed_more, no_entry, is_among}
-use Rattle.machine_core.proofs.Images.{few_items, low_page, not_there}
+use Rattle.elf_loader.specs.TakenLaws.{low_page}
+use Rattle.machine_core.proofs.Images.{few_items, not_there}
 use Rattle.machine_core.proofs.load.add_image.Goals as goal
 
 pub add_page-requires-clause-few : goal.add_page-requires-clause-few

@@ -1,9 +1,10 @@
 use Rattle.std.proofs.Common.{sym, ap, subst, ◌∙◌, arith}
 use Rattle.std.specs.FinMap.{insert}
 use Rattle.page_table.specs.declared.entry.PageEntry.{PageEntry}
+use Rattle.page_table.specs.Laws.{one_mapped}
 use Rattle.machine_core.specs.Kept.{IsPlaced, memory_of}
 use Rattle.machine_core.proofs.Results.{on_ok}
-use Rattle.machine_core.proofs.Frames.{one_mapped, page_added, placed_added}
+use Rattle.machine_core.proofs.Frames.{page_added, placed_added}
 use Rattle.machine_core.proofs.memory.add_page.Goals as goal
 
 pub returns-clause-placed : goal.returns-clause-placed

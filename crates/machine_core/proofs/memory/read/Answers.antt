@@ -1,8 +1,9 @@
 use Rattle.std.proofs.Common.{◌≡◌, ◌+◌, ◌-◌, ◌%◌, length, arith}
 use Rattle.std.proofs.lemmas.List.{length-take-le}
+use Rattle.ovl_io.specs.MemoryLaws.{access_front, filled_both, rest_length}
 use Rattle.machine_core.specs.Kept.{memory_of}
 use Rattle.machine_core.proofs.Results.{on_ok}
-use Rattle.machine_core.proofs.Pairs.{access_front, access_back, filled_both, rest_length}
+use Rattle.machine_core.proofs.Pairs.{access_back}
 use Rattle.machine_core.proofs.memory.read.Goals as goal
 
 pub returns-in-Ok-clause-access : goal.returns-in-Ok-clause-access

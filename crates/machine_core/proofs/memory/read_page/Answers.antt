@@ -1,7 +1,7 @@
 use Rattle.std.proofs.Common.{◌≡◌, ◌+◌, ◌-◌, ◌*◌, ◌/◌, ◌%◌, [], length, take, drop, get_or, sym, ap, ◌∙◌, refl, arith}
+use Rattle.ovl_io.specs.MemoryLaws.{all_allowed, first_refused, bytes_in}
 use Rattle.machine_core.specs.Kept.{memory_of, page_of}
 use Rattle.machine_core.proofs.Frames.{allows_by, allowed_by, page_there}
-use Rattle.machine_core.proofs.Accesses.{all_allowed, first_refused, bytes_in}
 use Rattle.machine_core.proofs.memory.read_page.Goals as goal
 
 pub returns-in-Some-clause-access : goal.returns-in-Some-clause-access

@@ -2,10 +2,9 @@ use Rattle.std.proofs.Common.{◌+◌, ◌-◌, ◌/◌, ◌%◌, length, take, 
 use Rattle.std.proofs.lemmas.List.{length-take-le, take-append-drop}
 use Rattle.ovl_io.specs.Memory.{with_bytes}
 use Rattle.ovl_io.specs.Permissions.{writable}
+use Rattle.ovl_io.specs.MemoryLaws.{all_allowed, first_refused, stored_joined, both_allowed, back_refused, rest_is}
 use Rattle.machine_core.specs.Kept.{memory_of}
 use Rattle.machine_core.proofs.Frames.{allows_by, allowed_by, placed_stored, page_stored}
-use Rattle.machine_core.proofs.Accesses.{all_allowed, first_refused, stored_joined}
-use Rattle.machine_core.proofs.Pairs.{both_allowed, back_refused, rest_is}
 use Rattle.machine_core.proofs.memory.write.Goals as goal
 
 pub returns-in-None-clause-access : goal.returns-in-None-clause-access
