@@ -7,7 +7,7 @@ use Rattle.std.proofs.lemmas.List.Kept.{IsNonDecreasingBy-filter}
 use Rattle.std.proofs.lemmas.List.FromFn.{length-map-range_with_len, get_or-map-range_with_len, length-range_with_len, get_or-range_with_len}
 use Rattle.std.proofs.lemmas.List.Elements.{All-filter}
 use Rattle.elf_loader.specs.Fields.{loads_of}
-use Rattle.elf_loader.specs.Image.{page_numbers, page_length, pages_of, page_bytes, byte_in, image_page, page_in, pages_in, touches_memory, Kept, IsImageOf}
+use Rattle.elf_loader.specs.Image.{page_numbers, page_length, image_pages, page_bytes, byte_in, listed_page, page_in, pages_in, touches_memory, Kept, IsImageOf}
 use Rattle.elf_loader.specs.Layers.{AreAscending, page_number, number_of, no_page}
 use Rattle.elf_loader.specs.declared.header.ProgramHeader.{ProgramHeader}
 use Rattle.elf_loader.specs.declared.image.ImagePage.{ImagePage}
@@ -32,7 +32,7 @@ page_bytes_from file page out loads same len each =
     get_or_default out k d 0 below ∙ each k within ∙ ap (λ hs. byte_in hs file (4096 * page + k)) same
     ∙ sym (get_or-map-range_with_len (λ i. byte_in (loads_of file) file (4096 * page + i)) 0 page_length k k d within (omega arith)))
 
-numbers_of : (file : List ℕ) (pages : List ℕ) → map (λ p. p.page) (map (image_page file) pages) ≡ pages
+numbers_of : (file : List ℕ) (pages : List ℕ) → map (λ p. p.page) (map (listed_page file) pages) ≡ pages
 numbers_of file [] = refl
 numbers_of file (p ∷ pages) = ap (λ ps. p ∷ ps) (numbers_of file pages)
 
@@ -44,10 +44,10 @@ below_all k d below =
 
 -- a page of the image has a page number
 pub page_below : (file : List ℕ) (image : Kept) (page : ℕ) → IsImageOf file image → Contains (map (λ p. p.page) image.pages) page → page < page_numbers
-unfolding pages_of
+unfolding image_pages
 page_below file image page is there =
-    let same = ap (map (λ p. p.page)) is.pages ∙ numbers_of file (pages_of file) in
-    let among : Contains (pages_of file) page = subst (λ ps. Contains ps page) same there in
+    let same = ap (map (λ p. p.page)) is.pages ∙ numbers_of file (image_pages file) in
+    let among : Contains (image_pages file) page = subst (λ ps. Contains ps page) same there in
     let all = All-filter _ (λ p. p < page_numbers) (range_with_len 0 page_numbers) below_all in
     subst (λ p. p < page_numbers) among.2 (all among.0 page among.1)
 
@@ -79,7 +79,7 @@ pub ascending : (headers : List ProgramHeader) (pages : List ImagePage) → page
 ascending headers pages is = subst AreAscending (sym is) (ascending_in headers)
 
 pub ascending_of : (file : List ℕ) (image : Kept) → IsImageOf file image → AreAscending image.pages
-unfolding pages_of
+unfolding image_pages
 ascending_of file image is = ascending (loads_of file) image.pages is.pages
 
 -- the place of a page of the image: those before it are lower, and the others aren't

@@ -1,7 +1,7 @@
 use Rattle.std.specs.Prelude.{ℕ, ◌<◌, ◌≤◌, ◌+◌, ◌*◌, ◌==◌, ◌&&◌, ◌||◌, not, nat_lt, Bool, List, [], ◌∷◌, ◌++◌, length, slice_index, Option, Some, None, if◌then◌else◌}
 use Rattle.std.specs.List.{list_any}
 use Rattle.elf_loader.specs.Fields.{file_type, machine, version, table_offset, table_entry_size, table_length, headers_of, loads_of}
-use Rattle.elf_loader.specs.Touched.{pages_of}
+use Rattle.elf_loader.specs.Touched.{image_pages}
 use Rattle.elf_loader.specs.declared.header.ProgramHeader.{ProgramHeader}
 use Rattle.elf_loader.specs.declared.image.ElfError.{ElfError}
 use Rattle.elf_loader.specs.declared.image.ElfError.TheVariants.{TooShort, BadMagic, NotClass64, NotLittle, BadVersion, NotExec, NotRiscv, BadEntrySize, TableOutside, NeedsInterpreter, FileLarger, SegmentOutside, AddressOutside, NothingToLoad, TooManyPages}
@@ -107,7 +107,7 @@ table_refusals file =
     ∷ []
 
 unfoldable pub page_refusals : List ℕ → List Refusal
-page_refusals file = record { holds = nat_lt most_pages (length (pages_of file)); error = TooManyPages } ∷ []
+page_refusals file = record { holds = nat_lt most_pages (length (image_pages file)); error = TooManyPages } ∷ []
 
 -- the first refusal that holds
 abbrev pub first_of : List Refusal → Option ElfError
@@ -115,5 +115,5 @@ first_of [] = None
 first_of (refusal ∷ refusals) = if refusal.holds then Some refusal.error else first_of refusals
 
 -- why a file isn't taken
-unfoldable pub refusal_of : List ℕ → Option ElfError
-refusal_of file = first_of (header_refusals file ++ table_refusals file ++ page_refusals file)
+unfoldable pub file_refusal : List ℕ → Option ElfError
+file_refusal file = first_of (header_refusals file ++ table_refusals file ++ page_refusals file)

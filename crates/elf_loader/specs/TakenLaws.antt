@@ -5,8 +5,8 @@ use Rattle.std.proofs.lemmas.Bool.Decides.{nat_tests}
 use Rattle.std.specs.List.{list_any, filter, range_with_len}
 use Rattle.std.specs.Option.{option_map_or}
 use Rattle.elf_loader.specs.Fields.{loads_of}
-use Rattle.elf_loader.specs.Touched.{pages_of, page_numbers}
-use Rattle.elf_loader.specs.Accepted.{Refusal, first_of, refusal_of, header_refusals, table_refusals, page_refusals, is_too_high, most_pages}
+use Rattle.elf_loader.specs.Touched.{image_pages, page_numbers}
+use Rattle.elf_loader.specs.Accepted.{Refusal, first_of, file_refusal, header_refusals, table_refusals, page_refusals, is_too_high, most_pages}
 use Rattle.elf_loader.specs.Image.{touches_memory, touches_file, holds, last_holding, byte_in, is_stored, page_bytes, page_length}
 use Rattle.elf_loader.specs.declared.header.ProgramHeader.{ProgramHeader}
 use Rattle.elf_loader.specs.declared.image.ElfError.{ElfError}
@@ -25,21 +25,21 @@ none_holds (r ∷ refusals) zero d h below = (unless_first r.holds r.error (firs
 none_holds (r ∷ refusals) (suc k) d h below = none_holds refusals k d (unless_first r.holds r.error (first_of refusals) h).1 (omega arith)
 
 -- it has at most 65,536 pages: the last of the refusals doesn't hold
-pub few_pages : (file : List ℕ) → refusal_of file ≡ None → length (pages_of file) ≤ most_pages
-unfolding refusal_of header_refusals table_refusals page_refusals
+pub few_pages : (file : List ℕ) → file_refusal file ≡ None → length (image_pages file) ≤ most_pages
+unfolding file_refusal header_refusals table_refusals page_refusals
 few_pages file taken =
-    ltb-false most_pages (length (pages_of file))
+    ltb-false most_pages (length (image_pages file))
     (none_holds (header_refusals file ++ table_refusals file ++ page_refusals file) 14 (record { holds = true; error = TooManyPages }) taken (omega arith))
 
 -- no segment reaches the stack
-pub none_high : (file : List ℕ) → refusal_of file ≡ None → list_any is_too_high (loads_of file) ≡ false
-unfolding refusal_of header_refusals table_refusals page_refusals
+pub none_high : (file : List ℕ) → file_refusal file ≡ None → list_any is_too_high (loads_of file) ≡ false
+unfolding file_refusal header_refusals table_refusals page_refusals
 none_high file taken =
     none_holds (header_refusals file ++ table_refusals file ++ page_refusals file) 12 (record { holds = true; error = TooManyPages }) taken (omega arith)
 
 -- the pages are what a test keeps of all numbers
-pub kept_numbers : (file : List ℕ) → pages_of file ≡ filter (λ page. list_any (touches_memory page) (loads_of file)) (range_with_len 0 page_numbers)
-unfolding pages_of
+pub kept_numbers : (file : List ℕ) → image_pages file ≡ filter (λ page. list_any (touches_memory page) (loads_of file)) (range_with_len 0 page_numbers)
+unfolding image_pages
 kept_numbers file = refl
 
 -- what a filter keeps passes its test
@@ -74,12 +74,12 @@ low_any page (header ∷ headers) touched low =
     by_test false false is_t is_h any none others = others any none
 
 -- each of its pages lies below the stack
-pub low_page : (file : List ℕ) (i : ℕ) → refusal_of file ≡ None → i < length (pages_of file) → get_or (pages_of file) i 0 < 67108848
+pub low_page : (file : List ℕ) (i : ℕ) → file_refusal file ≡ None → i < length (image_pages file) → get_or (image_pages file) i 0 < 67108848
 low_page file i taken below =
     let test = λ (page : ℕ). list_any (touches_memory page) (loads_of file) in
-    let passes : test (get_or (pages_of file) i 0) ≡ true =
+    let passes : test (get_or (image_pages file) i 0) ≡ true =
     subst (λ ps. i < length ps → test (get_or ps i 0) ≡ true) (sym (kept_numbers file)) (kept_passes test (range_with_len 0 page_numbers) i) below in
-    low_any (get_or (pages_of file) i 0) (loads_of file) passes (none_high file taken)
+    low_any (get_or (image_pages file) i 0) (loads_of file) passes (none_high file taken)
 
 -- a page that no file range touches is zero
 holds_touches : (header : ProgramHeader) (page i : ℕ) → touches_file page header ≡ false → i < 4096 → holds header (4096 * page + i) ≡ false

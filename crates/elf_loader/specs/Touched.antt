@@ -24,5 +24,5 @@ touches_file page header = touches header.address header.file_size page
 abbrev pub pages_in : List ProgramHeader → List ℕ
 pages_in headers = filter (λ page. list_any (touches_memory page) headers) (range_with_len 0 page_numbers)
 
-unfoldable pub pages_of : List ℕ → List ℕ
-pages_of file = pages_in (loads_of file)
+unfoldable pub image_pages : List ℕ → List ℕ
+image_pages file = pages_in (loads_of file)

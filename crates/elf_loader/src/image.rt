@@ -1,5 +1,5 @@
 ghost use Rattle.std.specs.Prelude.{◌≡◌, ℕ, ◌+◌, ◌*◌, ◌^◌, ◌<◌, ◌≤◌, Contains, map, length, drop};
-ghost use Rattle.elf_loader.specs.Image.{IsImageOf, Reads, last_holding, page_bytes};
+ghost use Rattle.elf_loader.specs.Image.{IsImageOf, ReadsImage, last_holding, page_bytes};
 
 use crate::header::{ProgramHeader, u64_at};
 use crate::layers::{lay_all, layers_of, place_of};
@@ -104,10 +104,10 @@ impl Image {
     }
 }
 
-/// Reads the image of a file: where it is taken the image, else the first reason why it isn't. Takes
+/// ReadsImage the image of a file: where it is taken the image, else the first reason why it isn't. Takes
 /// memory for a few words a page and none for the bytes.
 pub fn read_image(alloc: Global, bytes: &[u8]) -> Result<Image, ElfError>
-    ensures { Reads bytes.now result }
+    ensures { ReadsImage bytes.now result }
 {
     if let Some(error) = header_refusal(bytes) {
         return Err(error);

@@ -13,12 +13,12 @@ use Rattle.machine_core.specs.declared.guest.Guest.{Guest}
 -- What the machine keeps, as the pages and processes that it stands for.
 
 -- the page of an entry: its permissions, and the bytes of its frame
-abbrev pub page_of : List (List ℕ) → PageEntry → Page
-page_of frames entry = record { perms = entry.perms.0; bytes = get_or frames entry.frame [] }
+abbrev pub kept_page : List (List ℕ) → PageEntry → Page
+kept_page frames entry = record { perms = entry.perms.0; bytes = get_or frames entry.frame [] }
 
 -- the memory that a table and the frames make
-abbrev pub memory_of : Pages → List (List ℕ) → Memory
-memory_of table frames = from_entries (map (λ e. (e.0, page_of frames e.1)) (entries table))
+abbrev pub kept_memory : Pages → List (List ℕ) → Memory
+kept_memory table frames = from_entries (map (λ e. (e.0, kept_page frames e.1)) (entries table))
 
 -- each page has a frame of its own, of 4096 bytes, and a number below 2^26
 pub record IsPlaced (table : Pages) (frames : List (List ℕ)) : Type 0 where
@@ -28,9 +28,9 @@ pub record IsPlaced (table : Pages) (frames : List (List ℕ)) : Type 0 where
   pub whole : (k : ℕ) → k < length frames → length (get_or frames k []) ≡ 4096
 
 -- the frame of the page of an address, where that page is there and has the permission
-abbrev pub Finds : Pages → ℕ → ℕ → Option ℕ → Type 0
-Finds table page need None = option_map_or (λ (entry : PageEntry). permits entry.perms.0 need) (get table page) false ≡ false
-Finds table page need (Some frame) =
+abbrev pub FindsFrame : Pages → ℕ → ℕ → Option ℕ → Type 0
+FindsFrame table page need None = option_map_or (λ (entry : PageEntry). permits entry.perms.0 need) (get table page) false ≡ false
+FindsFrame table page need (Some frame) =
     (entry : PageEntry) × (get table page ≡ Some entry) × (permits entry.perms.0 need ≡ true) × (entry.frame ≡ frame)
 
 -- what an access to a memory answers

@@ -20,12 +20,12 @@ Processes = FinMap nat_cmp Process
 abbrev pub is_running : Processes → ℕ → Bool
 is_running processes p = option_map_or (λ process. runs process.state) (get processes p) false
 
--- what is shown of a process, without its memory
-abbrev pub shown : Process → declared.Process
-shown process = record { regs = process.registers; state = process.state }
+-- what is shown_process of a process, without its memory
+abbrev pub shown_process : Process → declared.Process
+shown_process process = record { regs = process.registers; state = process.state }
 
 abbrev pub shown_at : Processes → ℕ → Option declared.Process
-shown_at processes p = option_map shown (get processes p)
+shown_at processes p = option_map shown_process (get processes p)
 
 -- An instruction is done in two parts: its execution, and then what it asks for, where it is a request.
 

@@ -4,9 +4,9 @@ ghost use Rattle.std.specs.Prelude.{◌≡◌, ℕ, ◌+◌, ◌^◌, ◌<◌, �
 ghost use Rattle.std.specs.FinMap as map;
 ghost use Rattle.std.specs.List.{list_any};
 ghost use Rattle.std.specs.Ordering.{nat_cmp, is_eq};
-ghost use Rattle.elf_loader.specs.Image.{IsImageOf, is_stored, page_bytes, pages_of};
-ghost use Rattle.machine_core.specs.Load.{stack_page, stack_pages, memory_of as image_memory, IsPlacedOver};
-ghost use Rattle.machine_core.specs.Kept.{IsPlaced, memory_of};
+ghost use Rattle.elf_loader.specs.Image.{IsImageOf, is_stored, page_bytes, image_pages};
+ghost use Rattle.machine_core.specs.Load.{stack_page, stack_pages, image_memory, IsPlacedOver};
+ghost use Rattle.machine_core.specs.Kept.{IsPlaced, kept_memory};
 
 use crate::memory::{Frame, PlainMemory, add_page};
 use bitflags::Flags;
@@ -33,7 +33,7 @@ fn add_stack(table: &mut PageTable, frames: &mut Vec<Frame>) -> Result<(), Alloc
     ensures placed { OnOk result (IsPlaced table.new frames.new.items) }
     ensures as_many { OnOk result (map.len table.new ≡ length frames.new.items) }
     ensures count { OnOk result (map.len table.new ≡ 16) }
-    ensures stack { OnOk result ((q : ℕ) → map.get (memory_of table.new frames.new.items) q
+    ensures stack { OnOk result ((q : ℕ) → map.get (kept_memory table.new frames.new.items) q
         ≡ cond (list_any (λ p. is_eq (nat_cmp q p)) stack_pages) (Some stack_page) None) }
 {
     for page in STACK_START..STACK_END {
@@ -67,10 +67,10 @@ fn add_image(
     requires placed { IsPlaced table.old frames.old.items }
     requires as_many { map.len table.old ≡ length frames.old.items }
     requires count { map.len table.old ≡ 16 }
-    requires stack { (q : ℕ) → map.get (memory_of table.old frames.old.items) q
+    requires stack { (q : ℕ) → map.get (kept_memory table.old frames.old.items) q
         ≡ cond (list_any (λ p. is_eq (nat_cmp q p)) stack_pages) (Some stack_page) None }
     ensures placed { OnOk result (IsPlaced table.new frames.new.items) }
-    ensures image { OnOk result (IsPlacedOver file.now (memory_of table.old frames.old.items) (memory_of table.new frames.new.items)) }
+    ensures image { OnOk result (IsPlacedOver file.now (kept_memory table.old frames.old.items) (kept_memory table.new frames.new.items)) }
 {
     for image_page in image.pages() {
         let bytes = page_bytes(image, file, *image_page);

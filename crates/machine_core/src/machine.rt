@@ -6,7 +6,7 @@ ghost use Rattle.std.specs.Option.{option_copied};
 ghost use Rattle.elf_loader.specs.Image.{IsImageOf};
 ghost use Rattle.machine_core.specs.Machine.{is_running, shown_at, turn_of, after_turn, came_to, after_execution, turn_asked, after_asked};
 ghost use Rattle.rv_execute.specs.Execution.{outcome_by};
-ghost use Rattle.machine_core.specs.Load.{loaded, page_count};
+ghost use Rattle.machine_core.specs.Load.{loaded_process, page_count};
 
 use crate::guest::Guest;
 use crate::load::{STACK_PAGES, STACK_POINTER, load_memory};
@@ -56,7 +56,7 @@ impl Machine {
         requires absent { map.get self.old p ≡ None }
         requires of_file { IsImageOf file.now image.now }
         ensures count { IfOk result (λ n. n ≡ page_count file.now) }
-        ensures ok { OnOk result (self.new ≡ map.insert self.old p (loaded file.now)) }
+        ensures ok { OnOk result (self.new ≡ map.insert self.old p (loaded_process file.now)) }
         ensures err { OnErr result (self.new ≡ self.old) }
     {
         let process = Process {

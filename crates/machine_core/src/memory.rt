@@ -7,7 +7,7 @@ ghost use Rattle.ovl_io.specs.Permissions.{writable, permits};
 ghost use Rattle.page_table.specs.declared.entry.PageEntry.{PageEntry};
 ghost use Rattle.rv_execute.specs.Calls.{full_of};
 ghost use Rattle.ovl_io.specs.PageBytes.{overwritten};
-ghost use Rattle.machine_core.specs.Kept.{Accesses, Finds, IsPlaced, memory_of};
+ghost use Rattle.machine_core.specs.Kept.{Accesses, FindsFrame, IsPlaced, kept_memory};
 
 use bitflags::Flags;
 use byteorder::{ByteOrder, LittleEndian};
@@ -35,9 +35,9 @@ impl Model for PlainMemory {
 
     ghost coded = { memory_code };
 
-    ghost use Rattle.machine_core.specs.Kept.{IsPlaced, memory_of};
+    ghost use Rattle.machine_core.specs.Kept.{IsPlaced, kept_memory};
 
-    ghost view = { λ m. memory_of m.table m.frames.items };
+    ghost view = { λ m. kept_memory m.table m.frames.items };
 
     ghost invariant = { λ m. IsPlaced m.table m.frames.items };
 }
@@ -58,8 +58,8 @@ pub(crate) fn add_page(
     ensures placed { OnOk result (IsPlaced table.new frames.new.items) }
     ensures as_many { OnOk result (map.len table.new ≡ length frames.new.items) }
     ensures one_more { OnOk result (map.len table.new ≡ map.len table.old + 1) }
-    ensures added { OnOk result (memory_of table.new frames.new.items
-        ≡ map.insert (memory_of table.old frames.old.items) page (record { perms = perms.0; bytes = bytes })) }
+    ensures added { OnOk result (kept_memory table.new frames.new.items
+        ≡ map.insert (kept_memory table.old frames.old.items) page (record { perms = perms.0; bytes = bytes })) }
 {
     let frame = table.len();
     frames.push(bytes)?;
@@ -69,7 +69,7 @@ pub(crate) fn add_page(
 /// The frame of a page that is there and has the permission.
 #[inline]
 fn find(table: &PageTable, page: u64, need: Perms) -> Option<u32>
-    ensures { Finds table.now page need.0 result }
+    ensures { FindsFrame table.now page need.0 result }
 {
     match table.get(page) {
         Some(entry) => {
@@ -95,8 +95,8 @@ fn read_page(
     requires placed { IsPlaced table.now frames.now }
     requires some { 0 < length into.old }
     requires one_page { address % 4096 + length into.old ≤ 4096 }
-    ensures access { Accesses (memory_of table.now frames.now) need.0 address (length into.old) result }
-    ensures bytes { OnOk result (into.new ≡ bytes_at (memory_of table.now frames.now) address (length into.old)) }
+    ensures access { Accesses (kept_memory table.now frames.now) need.0 address (length into.old) result }
+    ensures bytes { OnOk result (into.new ≡ bytes_at (kept_memory table.now frames.now) address (length into.old)) }
     ensures user { OnOk result (address < 2 ^ 38) }
 {
     match find(table, address / 4096, need) {
@@ -131,8 +131,8 @@ fn read(
     requires placed { IsPlaced table.now frames.now }
     requires some { 0 < length into.old }
     requires two_pages { length into.old ≤ 4096 }
-    ensures access { Accesses (memory_of table.now frames.now) need.0 address (length into.old) result }
-    ensures bytes { OnOk result (into.new ≡ bytes_at (memory_of table.now frames.now) address (length into.old)) }
+    ensures access { Accesses (kept_memory table.now frames.now) need.0 address (length into.old) result }
+    ensures bytes { OnOk result (into.new ≡ bytes_at (kept_memory table.now frames.now) address (length into.old)) }
 {
     let front = 4096 - (address % 4096) as usize;
     if into.len() <= front {
@@ -158,9 +158,9 @@ fn write(
     requires placed { IsPlaced table.now frames.old.items }
     requires some { 0 < length bytes.now }
     requires two_pages { length bytes.now ≤ 4096 }
-    ensures access { Accesses (memory_of table.now frames.old.items) writable address (length bytes.now) result }
+    ensures access { Accesses (kept_memory table.now frames.old.items) writable address (length bytes.now) result }
     ensures placed { IsPlaced table.now frames.new.items }
-    ensures stored { OnOk result (memory_of table.now frames.new.items ≡ with_bytes (memory_of table.now frames.old.items) address bytes.now) }
+    ensures stored { OnOk result (kept_memory table.now frames.new.items ≡ with_bytes (kept_memory table.now frames.old.items) address bytes.now) }
     ensures kept { OnErr result (frames.new.items ≡ frames.old.items) }
 {
     let at = (address % 4096) as usize;

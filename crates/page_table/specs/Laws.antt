@@ -4,7 +4,7 @@ use Rattle.std.proofs.lemmas.Bool.Decides.{nat_tests}
 use Rattle.std.specs.FinMap.{get, insert, remove}
 use Rattle.ovl_io.specs.KeyLaws.{by_key, alike, get_same, get_other, removed_same, removed_other}
 use Rattle.page_table.specs.declared.entry.PageEntry.{PageEntry}
-use Rattle.page_table.specs.Table.{Pages, is_within, IsFree, IsThere, IsMapped, IsUnmapped}
+use Rattle.page_table.specs.Table.{Pages, is_within, IsFree, AreThere, IsMapped, IsUnmapped}
 
 -- What a call that maps or unmaps a run of pages says of one page.
 
@@ -19,7 +19,7 @@ pub mapped_beside : (old new : Pages) (from n : ℕ) (entry : PageEntry) → IsM
 mapped_beside old new from n entry mapped page beside = mapped page ∙ ap (λ (b : Bool). cond b (Some entry) (get old page)) beside
 
 -- the run is there
-pub mapped_there : (old new : Pages) (from n : ℕ) (entry : PageEntry) → IsMapped old from n entry new → IsThere new from n
+pub mapped_there : (old new : Pages) (from n : ℕ) (entry : PageEntry) → IsMapped old from n entry new → AreThere new from n
 mapped_there old new from n entry mapped page within = ap is_some (mapped_at old new from n entry mapped page within)
 
 -- the run is free

@@ -4,7 +4,7 @@ ghost use Rattle.std.specs.Prelude.{◌≡◌, ◌<◌, ◌≤◌, ℕ, IsTrue, 
 ghost use Rattle.ovl_io.specs.Memory.{Memory};
 ghost use Rattle.rv_execute.specs.Registers.{next, with_register};
 ghost use Rattle.rv_execute.specs.Calls.{is_count, Performs};
-ghost use Rattle.rv_execute.specs.Execution.{action_on, count_of, effect, execution, Executes, extended, full_in, Reads};
+ghost use Rattle.rv_execute.specs.Execution.{action_on, count_of, effect, execution, Executes, extended, full_in, ReadsNumber};
 
 use crate::action::{Action, Extension, Size};
 use crate::arithmetic::extended_word;
@@ -79,7 +79,7 @@ fn read<M: GuestMemory>(
 ) -> Result<u64, Denied>
     requires { M.ready mem.old }
     ensures ready { M.ready mem.new }
-    ensures answer { Reads (M.memory mem.old) address size extension result }
+    ensures answer { ReadsNumber (M.memory mem.old) address size extension result }
     ensures kept { M.memory mem.new ≡ M.memory mem.old }
     ensures made { M.loaded mem.old address (count_of size) mem.new }
 {

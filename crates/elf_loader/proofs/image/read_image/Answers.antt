@@ -3,7 +3,7 @@ use Rattle.elf_loader.specs.Accepted.{most_pages}
 use Rattle.elf_loader.specs.Image.{pages_in}
 use Rattle.elf_loader.specs.Reach.{IsBelowStack, IsTooMany}
 use Rattle.elf_loader.proofs.Pages.{ascending}
-use Rattle.elf_loader.proofs.Taken.{by_header, by_table, header_passes, all_below, reads_error, reads_err, reads_too_many, taken_by, image_pages}
+use Rattle.elf_loader.proofs.Taken.{by_header, by_table, header_passes, all_below, reads_error, reads_err, reads_too_many, taken_by, image_pages_are}
 use Rattle.elf_loader.proofs.image.read_image.Goals as goal
 
 pub returns-in-Some : goal.returns-in-Some
@@ -51,7 +51,7 @@ returns c =
       taken = taken_by file (sym c.in_default.ensures) (sym c.in_default-table_refusal.ensures)
           (subst (λ loads. length (pages_in loads) ≤ most_pages) same c.in_ok-pages.ensures.few);
       entry = c.u64_at.ensures;
-      pages = c.in_ok-pages.ensures.pages ∙ image_pages file c.as_slice-2.result.now same;
+      pages = c.in_ok-pages.ensures.pages ∙ image_pages_are file c.as_slice-2.result.now same;
       loads = c.in_ok-loads.ensures;
     }
 
