@@ -4,8 +4,9 @@ use Rattle.std.proofs.lemmas.Bool.{ltb-false, false_from_ne_true, lt-ltb, le-ltb
 use Rattle.std.proofs.lemmas.Bool.Decides.{nat_tests}
 use Rattle.std.proofs.lemmas.List.Folds.{list_any_at}
 use Rattle.std.proofs.lemmas.List.Elements.{All-nil, All-cons}
+use Rattle.sizes.specs.declared.TheConstants.{MOST_IMAGE_PAGES, STACK_ADDRESS}
 use Rattle.elf_loader.specs.Fields.{table_offset, table_length, loads_of}
-use Rattle.elf_loader.specs.Accepted.{Refusal, first_of, file_refusal, header_refusals, table_refusals, page_refusals, has_table_outside, HasTable, is_larger_in_file, is_outside_file, is_too_high, image_end, most_pages}
+use Rattle.elf_loader.specs.Accepted.{Refusal, first_of, file_refusal, header_refusals, table_refusals, page_refusals, has_table_outside, HasTable, is_larger_in_file, is_outside_file, is_too_high}
 use Rattle.elf_loader.specs.Image.{pages_in, image_pages, page_in, listed_page, Kept, ReadsImage}
 use Rattle.elf_loader.specs.Reach.{IsBelowStack, Lies, IsTooMany}
 use Rattle.elf_loader.specs.declared.header.ProgramHeader.{ProgramHeader}
@@ -50,7 +51,7 @@ by_table file e h t =
     some_of (header_refusals file ++ table_refusals file) (page_refusals file) e (then_of (header_refusals file) (table_refusals file) h ∙ t)
 
 pub by_pages : (file : List ℕ) → first_of (header_refusals file) ≡ None → first_of (table_refusals file) ≡ None
-    → file_refusal file ≡ cond (ltb most_pages (length (image_pages file))) (Some TooManyPages) None
+    → file_refusal file ≡ cond (ltb MOST_IMAGE_PAGES (length (image_pages file))) (Some TooManyPages) None
 unfolding file_refusal page_refusals
 by_pages file h t =
     then_of (header_refusals file ++ table_refusals file) (page_refusals file) (then_of (header_refusals file) (table_refusals file) h ∙ t)
@@ -101,7 +102,7 @@ all_lie file h k d below =
     record {
       part = ltb-false header.memory_size header.file_size (none_of is_larger_in_file (loads_of file) (all 1 none (omega arith)) k d below);
       in_file = inside header.file_size (length file) (header.offset + header.file_size) (none_of (is_outside_file (length file)) (loads_of file) (all 2 none (omega arith)) k d below);
-      below = inside header.memory_size image_end (header.address + header.memory_size) (none_of is_too_high (loads_of file) (all 3 none (omega arith)) k d below);
+      below = inside header.memory_size STACK_ADDRESS (header.address + header.memory_size) (none_of is_too_high (loads_of file) (all 3 none (omega arith)) k d below);
     }
 
 pub all_below : (file : List ℕ) → first_of (table_refusals file) ≡ None → All IsBelowStack (loads_of file)
@@ -131,15 +132,15 @@ pub reads_too_many : (file : List ℕ) (e : ElfError) → first_of (header_refus
     → IsTooMany (length (pages_in (loads_of file))) e → ReadsImage file (Err e)
 unfolding image_pages
 reads_too_many file TooManyPages h t many =
-    by_pages file h t ∙ ap (λ b. cond b (Some TooManyPages) None) (lt-ltb most_pages (length (pages_in (loads_of file))) many)
+    by_pages file h t ∙ ap (λ b. cond b (Some TooManyPages) None) (lt-ltb MOST_IMAGE_PAGES (length (pages_in (loads_of file))) many)
 reads_too_many file Memory h t many = tt
 reads_too_many file e h t many = absurd many
 
 pub taken_by : (file : List ℕ) → first_of (header_refusals file) ≡ None → first_of (table_refusals file) ≡ None
-    → length (pages_in (loads_of file)) ≤ most_pages → file_refusal file ≡ None
+    → length (pages_in (loads_of file)) ≤ MOST_IMAGE_PAGES → file_refusal file ≡ None
 unfolding image_pages
 taken_by file h t few =
-    by_pages file h t ∙ ap (λ b. cond b (Some TooManyPages) None) (le-ltb most_pages (length (pages_in (loads_of file))) few)
+    by_pages file h t ∙ ap (λ b. cond b (Some TooManyPages) None) (le-ltb MOST_IMAGE_PAGES (length (pages_in (loads_of file))) few)
 
 pub image_pages_are : (file : List ℕ) (headers : List ProgramHeader) → headers ≡ loads_of file
     → map (page_in headers) (pages_in headers) ≡ map (listed_page file) (image_pages file)

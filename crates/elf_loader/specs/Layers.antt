@@ -1,6 +1,7 @@
 use Rattle.std.specs.Prelude.{◌≡◌, ℕ, ◌+◌, ◌*◌, ◌<◌, ◌≤◌, Bool, true, false, List, [], ◌∷◌, length, map, drop, get_or, Option, Some, None, IsSome, All, if◌then◌else◌}
 use Rattle.std.specs.List.Sorted.{IsNonDecreasingBy}
 use Rattle.std.specs.Global.{Vec}
+use Rattle.sizes.specs.declared.TheConstants.{PAGE_BYTES}
 use Rattle.elf_loader.specs.Image.{holds, last_holding}
 use Rattle.elf_loader.specs.Touched.{page_numbers}
 use Rattle.elf_loader.specs.declared.header.ProgramHeader.{ProgramHeader}
@@ -23,12 +24,12 @@ last_among loads (place ∷ places) address =
 -- each of its bytes.
 pub record Layered (loads : List ProgramHeader) (from page : ℕ) (places : List ℕ) (is_full : Bool) : Type 0 where
   pub there : All (λ place. place < length loads) places
-  pub same : (a : ℕ) → 4096 * page ≤ a → a < 4096 * page + 4096 → last_among loads places a ≡ last_holding (drop from loads) a
-  pub gives : is_full ≡ true → (a : ℕ) → 4096 * page ≤ a → a < 4096 * page + 4096 → IsSome (last_among loads places a)
+  pub same : (a : ℕ) → PAGE_BYTES * page ≤ a → a < PAGE_BYTES * page + PAGE_BYTES → last_among loads places a ≡ last_holding (drop from loads) a
+  pub gives : is_full ≡ true → (a : ℕ) → PAGE_BYTES * page ≤ a → a < PAGE_BYTES * page + PAGE_BYTES → IsSome (last_among loads places a)
 
 -- a segment holds no address of a page
 abbrev pub IsApart : ProgramHeader → ℕ → Type 0
-IsApart header page = (a : ℕ) → 4096 * page ≤ a → a < 4096 * page + 4096 → holds header a ≡ false
+IsApart header page = (a : ℕ) → PAGE_BYTES * page ≤ a → a < PAGE_BYTES * page + PAGE_BYTES → holds header a ≡ false
 
 -- no page, where a list is read past its end
 abbrev pub no_page : ImagePage

@@ -6,6 +6,7 @@ use crate::layers::{lay_all, layers_of, place_of};
 use crate::refusals::{header_refusal, read_loads, table_refusal};
 use crate::sweep::touched_pages;
 use ovl_io::Perms;
+use sizes::PAGE_BYTES;
 use std::alloc::{AllocError, Global};
 use std::marker::Model;
 
@@ -92,8 +93,8 @@ impl Image {
         self.pages.as_slice()
     }
 
-    /// The 4096 bytes of a page, from the file that the image was read from.
-    pub fn fill_page(&self, file: &[u8], page: u64, out: &mut [u8; 4096])
+    /// The bytes of a page, from the file that the image was read from.
+    pub fn fill_page(&self, file: &[u8], page: u64, out: &mut [u8; PAGE_BYTES])
         requires of_file { IsImageOf file.now self.now }
         requires is_there { Contains (map (λ p. p.page) self.now.pages) page }
         ensures { out.new ≡ page_bytes file.now page }

@@ -1,5 +1,6 @@
 ghost use Rattle.std.specs.Prelude.{◌≡◌, ℕ, ◌+◌, ◌*◌, ◌<◌, ◌≤◌, ◌⊎◌, ◌≢◌, true, false, List, [], ◌∷◌, ◌++◌, length, get_or, slice_index, slice_set, IfOk, OnOk, All};
 ghost use Rattle.std.specs.List.Sorted.{IsNonDecreasingBy};
+ghost use Rattle.sizes.specs.declared.TheConstants.{PAGE_BYTES};
 ghost use Rattle.elf_loader.specs.Image.{byte_in, page_length};
 ghost use Rattle.elf_loader.specs.Touched.{page_numbers};
 ghost use Rattle.elf_loader.specs.Reach.{IsBelowStack, Lies};
@@ -184,7 +185,7 @@ pub(crate) fn lay_all(
     requires layered { Layered loads.now 0 page layers.now false }
     requires lie { All (Lies file.now) loads.now }
     requires is_page { page < page_numbers }
-    ensures { (i : ℕ) → i < page_length → slice_index out.new i ≡ byte_in loads.now file.now (4096 * page + i) }
+    ensures { (i : ℕ) → i < page_length → slice_index out.new i ≡ byte_in loads.now file.now (PAGE_BYTES * page + i) }
 {
     out.fill(0);
     let mut left = layers.len();

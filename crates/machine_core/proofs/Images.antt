@@ -2,6 +2,7 @@ use Rattle.std.proofs.Common.{◌≡◌, ℕ, ◌<◌, ◌≤◌, Bool, cond, Li
 use Rattle.std.specs.List.{list_any}
 use Rattle.std.specs.FinMap.{get}
 use Rattle.std.proofs.lemmas.List.{length-map}
+use Rattle.sizes.specs.declared.TheConstants.{STACK_POINTER}
 use Rattle.ovl_io.specs.Memory.{Memory}
 use Rattle.elf_loader.specs.Accepted.{file_refusal}
 use Rattle.elf_loader.specs.TakenLaws.{few_pages, low_page, kept_numbers}
@@ -11,7 +12,7 @@ use Rattle.elf_loader.specs.declared.image.ImagePage.{ImagePage}
 use Rattle.rv_execute.specs.Registers.{Registers, first_registers}
 use Rattle.ovl_io.specs.declared.process_state.ProcessState.TheVariants.{Running}
 use Rattle.machine_core.specs.Process.{Process}
-use Rattle.machine_core.specs.Load.{stack_page, stack_pages, stack_pointer, loaded_process, image_memory}
+use Rattle.machine_core.specs.Load.{stack_page, stack_pages, loaded_process, image_memory}
 use Rattle.machine_core.proofs.Placing.{is_among, none_below, image_free}
 
 -- What is known of the pages of a file that is taken.
@@ -36,6 +37,6 @@ not_there file memory start i taken below stack so_far =
     (stack k ∙ ap (λ (b : Bool). cond b (Some stack_page) None) (none_below k 67108848 16 (low_page file i taken below))) so_far
 
 -- the process that a load makes, by its parts
-pub as_loaded : (file : List ℕ) (regs : Registers) (memory : Memory) → regs ≡ first_registers (entry_of file) stack_pointer → memory ≡ image_memory file
+pub as_loaded : (file : List ℕ) (regs : Registers) (memory : Memory) → regs ≡ first_registers (entry_of file) STACK_POINTER → memory ≡ image_memory file
     → ◌≡◌ {A = Process} (record { registers = regs; state = Running; memory = memory }) (loaded_process file)
 as_loaded file regs memory r m = λ i. record { registers = r i; state = Running; memory = m i }

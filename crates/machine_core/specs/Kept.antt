@@ -1,6 +1,7 @@
 use Rattle.std.specs.Prelude.{◌≡◌, ℕ, ◌^◌, ◌<◌, List, [], length, map, get_or, Option, Some, None, Result, Ok, Err, false, true}
 use Rattle.std.specs.Option.{option_map_or}
 use Rattle.std.specs.FinMap.{entries, from_entries, get}
+use Rattle.sizes.specs.declared.TheConstants.{PAGE_BYTES, PAGE_END}
 use Rattle.ovl_io.specs.Memory.{Memory, Page, denied_at}
 use Rattle.ovl_io.specs.Permissions.{permits}
 use Rattle.page_table.specs.Table.{Pages}
@@ -20,12 +21,12 @@ kept_page frames entry = record { perms = entry.perms.0; bytes = get_or frames e
 abbrev pub kept_memory : Pages → List (List ℕ) → Memory
 kept_memory table frames = from_entries (map (λ e. (e.0, kept_page frames e.1)) (entries table))
 
--- each page has a frame of its own, of 4096 bytes, and a number below 2^26
+-- each page has a page number, and a frame of its own with the bytes of a page
 pub record IsPlaced (table : Pages) (frames : List (List ℕ)) : Type 0 where
   pub within : (page : ℕ) (entry : PageEntry) → get table page ≡ Some entry → entry.frame < length frames
   pub apart : (p q : ℕ) (e f : PageEntry) → get table p ≡ Some e → get table q ≡ Some f → e.frame ≡ f.frame → p ≡ q
-  pub low : (page : ℕ) (entry : PageEntry) → get table page ≡ Some entry → page < 2 ^ 26
-  pub whole : (k : ℕ) → k < length frames → length (get_or frames k []) ≡ 4096
+  pub low : (page : ℕ) (entry : PageEntry) → get table page ≡ Some entry → page < PAGE_END
+  pub whole : (k : ℕ) → k < length frames → length (get_or frames k []) ≡ PAGE_BYTES
 
 -- the frame of the page of an address, where that page is there and has the permission
 abbrev pub FindsFrame : Pages → ℕ → ℕ → Option ℕ → Type 0

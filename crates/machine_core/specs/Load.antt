@@ -2,6 +2,7 @@ use Rattle.std.specs.Prelude.{◌≡◌, ℕ, ◌+◌, ◌-◌, ◌^◌, List, �
 use Rattle.std.specs.List.{range_with_len, list_any}
 use Rattle.std.specs.Ordering.{nat_cmp, is_eq}
 use Rattle.std.specs.FinMap.{from_entries, get}
+use Rattle.sizes.specs.declared.TheConstants.{STACK_PAGE, STACK_PAGES, STACK_POINTER}
 use Rattle.ovl_io.specs.Memory.{Memory, Page}
 use Rattle.ovl_io.specs.declared.process_state.ProcessState.TheVariants.{Running}
 use Rattle.elf_loader.specs.Fields.{entry_of}
@@ -11,9 +12,9 @@ use Rattle.machine_core.specs.Process.{Process}
 
 -- What a load makes of a file that is taken.
 
--- the 16 pages below 2^38, which are the stack
+-- the last pages of all, which are the stack
 unfoldable pub stack_pages : List ℕ
-stack_pages = range_with_len 67108848 16
+stack_pages = range_with_len STACK_PAGE STACK_PAGES
 
 -- a page of the stack: zero, to be read and written
 abbrev pub stack_page : Page
@@ -30,12 +31,8 @@ IsPlacedOver file old new =
 
 -- how many pages that is
 abbrev pub page_count : List ℕ → ℕ
-page_count file = length (image_pages file) + 16
-
--- where the stack pointer begins: 16 below the first address above the stack
-abbrev pub stack_pointer : ℕ
-stack_pointer = 2 ^ 38 - 16
+page_count file = length (image_pages file) + STACK_PAGES
 
 -- the process, at its entry
 abbrev pub loaded_process : List ℕ → Process
-loaded_process file = record { registers = first_registers (entry_of file) stack_pointer; state = Running; memory = image_memory file }
+loaded_process file = record { registers = first_registers (entry_of file) STACK_POINTER; state = Running; memory = image_memory file }

@@ -1,6 +1,7 @@
 //! One process, and its turn.
 
 ghost use Rattle.std.specs.Prelude.{◌≡◌, ℕ, ◌<◌, ◌≤◌, List, None, length};
+ghost use Rattle.sizes.specs.declared.TheConstants.{MOST_WRITTEN};
 ghost use Rattle.rv_execute.specs.Registers.{with_register};
 ghost use Rattle.rv_execute.specs.Step.{exit, request, write};
 ghost use Rattle.rv_execute.specs.Execution.{outcome_by};
@@ -14,6 +15,7 @@ use arrayvec::ArrayVec;
 use bitflags::Flags;
 use ovl_io::{Perms, ProcessState, Turn, Written};
 use rv_execute::{Outcome, execute};
+use sizes::MOST_WRITTEN;
 
 /// The requests that there are, by their numbers in a7: those of Linux for RISC-V.
 const WRITE: u64 = 64;
@@ -33,9 +35,6 @@ const BAD_ADDRESS: u64 = u64::MAX - 13;
 /// What a request that there is none of answers: -38.
 const NO_SUCH_REQUEST: u64 = u64::MAX - 37;
 
-/// The most bytes that one write prints.
-const MOST_WRITTEN: u64 = 4096;
-
 /// A process as it is kept.
 #[derive(Drop)]
 pub struct Guest {
@@ -45,7 +44,7 @@ pub struct Guest {
 
 /// The line of bytes that a process writes to a port.
 fn written(port: u8, bytes: &[u8]) -> Written
-    requires { length bytes.now ≤ 4096 }
+    requires { length bytes.now ≤ MOST_WRITTEN }
     ensures { result ≡ (port, bytes.now) }
 {
     let mut kept = ArrayVec::new();
@@ -74,7 +73,7 @@ impl Guest {
         Turn::Stepped
     }
 
-    /// Prints up to 4096 bytes.
+    /// Prints bytes, as many as one write prints at most.
     fn write(&mut self) -> Turn
         requires { self.old.process.state ≡ ProcessState.Running }
         ensures turn { result ≡ (write self.old.process.regs self.old.memory).turn }
@@ -84,11 +83,11 @@ impl Guest {
         if descriptor != 1 && descriptor != 2 {
             return self.answer(BAD_DESCRIPTOR);
         }
-        let count = self.process.regs.get(12).min(MOST_WRITTEN);
+        let count = self.process.regs.get(12).min(MOST_WRITTEN as u64);
         if count == 0 {
             return self.answer(0);
         }
-        let mut buffer = [0; 4096];
+        let mut buffer = [0; MOST_WRITTEN];
         let bytes = &mut buffer[..count as usize];
         match self.memory.read(self.process.regs.get(11), bytes, Perms::R) {
             Ok(()) => {

@@ -1,4 +1,5 @@
 use Rattle.std.specs.Prelude.{ℕ, ◌-◌, ◌%◌, ◌^◌, ◌==◌, ◌||◌, min, List, [], ◌∷◌, ◌++◌, map, Option, Some, None, if◌then◌else◌}
+use Rattle.sizes.specs.declared.TheConstants.{MOST_WRITTEN}
 use Rattle.ovl_io.specs.Memory.{Memory, Access, bytes_at, denied_at}
 use Rattle.ovl_io.specs.declared.turn.Turn.{Turn}
 use Rattle.ovl_io.specs.declared.turn.Turn.TheVariants.{Stepped, Wrote, Exited, Faulted}
@@ -37,7 +38,7 @@ no_such_request = 2 ^ 64 - 38
 
 -- how many bytes a write prints at most
 abbrev pub write_count : Registers → ℕ
-write_count regs = min (register regs 12) 4096
+write_count regs = min (register regs 12) MOST_WRITTEN
 
 -- a write of n bytes to descriptor 1 or 2 whose buffer fails there, or doesn't
 abbrev pub printed : ℕ → Registers → Memory → List Access → Request

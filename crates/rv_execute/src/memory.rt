@@ -22,7 +22,7 @@ pub enum Refused {
 }
 
 /// The memory of a running program, as an instruction sees it (RISC-V Unprivileged ISA, "Memory"): bytes by address, in
-/// pages of 4096 bytes with permissions. Multi-byte numbers are little-endian, and accesses need not be aligned. Each call
+/// pages with permissions. Multi-byte numbers are little-endian, and accesses need not be aligned. Each call
 /// may change what the object counts; only a store that is done changes the memory.
 pub trait GuestMemory {
     /// The memory that accesses see.

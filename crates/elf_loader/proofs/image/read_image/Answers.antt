@@ -1,5 +1,5 @@
 use Rattle.std.proofs.Common.{◌≤◌, length, subst, sym, ◌∙◌, arith, All}
-use Rattle.elf_loader.specs.Accepted.{most_pages}
+use Rattle.sizes.specs.declared.TheConstants.{MOST_IMAGE_PAGES}
 use Rattle.elf_loader.specs.Image.{pages_in}
 use Rattle.elf_loader.specs.Reach.{IsBelowStack, IsTooMany}
 use Rattle.elf_loader.proofs.Pages.{ascending}
@@ -49,7 +49,7 @@ returns c =
     let same = c.as_slice-2.ensures.value ∙ c.in_ok-loads.ensures in
     record {
       taken = taken_by file (sym c.in_default.ensures) (sym c.in_default-table_refusal.ensures)
-          (subst (λ loads. length (pages_in loads) ≤ most_pages) same c.in_ok-pages.ensures.few);
+          (subst (λ loads. length (pages_in loads) ≤ MOST_IMAGE_PAGES) same c.in_ok-pages.ensures.few);
       entry = c.u64_at.ensures;
       pages = c.in_ok-pages.ensures.pages ∙ image_pages_are file c.as_slice-2.result.now same;
       loads = c.in_ok-loads.ensures;
