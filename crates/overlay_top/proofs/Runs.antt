@@ -90,7 +90,7 @@ comes_at : (all : List Command) (index : ℕ) (command : Command) (files now_fil
     (start now : List ℕ) → index < length all → command ≡ get_or all index command → ((name : List ℕ) → now_files name ≡ files name)
     → (run : HasRun all index files state tells start now)
     → run_from all fresh files ≡ behind run.texts (with_asked (file_asked now_files command) (command_done now_files command state).text
-        (run_from (drop (index + 1) all) (command_done now_files command state).after files))
+    (run_from (drop (index + 1) all) (command_done now_files command state).after files))
 comes_at all index command files now_files state tells start now below is same run =
     run.comes ∙ ap (λ left. behind run.texts (run_from left state files)) (left_at all index command below is)
     ∙ ap (λ asked. behind run.texts (with_asked asked (performed asked command state).text (run_from (drop (index + 1) all) (performed asked command state).after files)))
@@ -136,7 +136,7 @@ all_done h k all index files state shelf_old shelf_new start now last none run a
     let comes = run.comes ∙ ap (λ left. behind run.texts (run_from left state files)) none in
     let many : length (map asks all) ≤ index = omega (arith, last, length-map all asks) in
     let enough : length (map asks all) ≤ length (run_from all fresh files).texts + 1 =
-        omega (arith, last, length-map all asks, run.as_many, as_long (run_from all fresh files) run.texts ending.Done comes) in (
+    omega (arith, last, length-map all asks, run.as_many, as_long (run_from all fresh files) run.texts ending.Done comes) in (
       ap (λ (o : RunOutcome). o.status) comes,
       fetches_all h.fetched (map asks all) index (length (run_from all fresh files).texts + 1) shelf_old shelf_new many enough asked,
       λ is_told. run.sent is_told ∙ ap (λ bs. k.taken start ++ bs) (sym (reported (run_from all fresh files) run.texts ending.Done comes)),
@@ -194,7 +194,7 @@ halted h k SendFailed all index command files now_files state shelf_old shelf_ne
     let left = run_from (drop (index + 1) all) (command_done now_files command state).after files in
     let out = run_from all fresh files in
     let comes = comes_at all index command files now_files state k.tells (k.taken start) (k.taken now) below is same run
-        ∙ ap (behind run.texts) (has_asked (file_asked now_files command) text left given) in
+    ∙ ap (behind run.texts) (has_asked (file_asked now_files command) text left given) in
     let first = ap (λ n. first_report n out) (sym run.as_many) ∙ first_texts out run.texts (done text left) comes in
     let next = ap (λ n. text_after n out) (sym run.as_many) ∙ text_next out run.texts text left comes in (
       index,

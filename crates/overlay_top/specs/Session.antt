@@ -2,10 +2,10 @@ use Rattle.std.specs.Prelude.{◌≡◌, ℕ, zero, suc, ◌+◌, ◌==◌, ◌<
 use Rattle.std.specs.Option.{option_map_or}
 use Rattle.std.specs.FinMap.{empty, insert, get}
 use Rattle.sizes.specs.declared.TheConstants.{LAST_SPACE}
-use Rattle.elf_loader.specs.Accepted.{refusal_of}
+use Rattle.elf_loader.specs.Accepted.{file_refusal}
 use Rattle.elf_loader.specs.Fields.{entry_of}
 use Rattle.machine_core.specs.Machine.{Processes, is_running, after_turn}
-use Rattle.machine_core.specs.Load.{loaded, page_count}
+use Rattle.machine_core.specs.Load.{loaded_process, page_count}
 use Rattle.overlay_top.specs.declared.session.Answer.{Answer}
 use Rattle.overlay_top.specs.declared.session.Answer.TheVariants.{Loaded, Refused, NumbersUsed, Memory}
 use Rattle.overlay_top.specs.declared.session.Session.{Session}
@@ -22,15 +22,15 @@ fresh = record { processes = empty; drawn = 0 }
 -- The load of a file: its refusals in their order, and else a process under the next number.
 abbrev pub load_answer : State → List ℕ → Answer
 load_answer state file =
-    option_map_or Refused (refusal_of file)
+    option_map_or Refused (file_refusal file)
     (if state.drawn == LAST_SPACE then NumbersUsed else Loaded (state.drawn + 1) (page_count file) (entry_of file))
 
 abbrev pub with_process : State → List ℕ → State
 with_process state file =
-    if state.drawn == LAST_SPACE then state else record { processes = insert state.processes (state.drawn + 1) (loaded file); drawn = state.drawn + 1 }
+    if state.drawn == LAST_SPACE then state else record { processes = insert state.processes (state.drawn + 1) (loaded_process file); drawn = state.drawn + 1 }
 
 abbrev pub after_load : State → List ℕ → State
-after_load state file = option_map_or (λ _. state) (refusal_of file) (with_process state file)
+after_load state file = option_map_or (λ _. state) (file_refusal file) (with_process state file)
 
 -- The processes after up to so many turns of one: no turn is taken once it has ended.
 abbrev pub after_turns : ℕ → ℕ → Processes → Processes

@@ -1,9 +1,8 @@
-ghost use Rattle.std.specs.Prelude.{◌≡◌, ◌<◌, ◌≤◌, List, true, OnOk, OnErr};
+ghost use Rattle.std.specs.Prelude.{◌≡◌, ◌<◌, ◌≤◌, true, OnOk, OnErr};
 ghost use Rattle.overlay_top.specs.Outside.{SinkRose, SinkSound};
 ghost use Rattle.overlay_top.specs.Sending.{IsSent, IsCut};
 ghost use Rattle.overlay_top.specs.Session.{after_turns};
 ghost use Rattle.overlay_top.specs.Report.{turn_text, turns_text, stop_of};
-ghost use Rattle.ovl_io.specs.Memory.{Access};
 ghost use Rattle.machine_core.specs.Machine.{is_running, turn_of, after_turn, turn_asked, after_asked};
 
 use crate::line::{Line, fault_line, stop_line, turn_line};
@@ -28,8 +27,8 @@ fn stop(machine: &Machine, p: u16) -> Stop
 #[inline(never)]
 fn answer_request(machine: &mut Machine, p: u16, line: &mut Line)
     requires { is_running machine.old p ≡ true }
-    ensures line { (accesses : List Access) → line.new.items ≡ turn_text p (turn_asked accesses machine.old p) }
-    ensures after { (accesses : List Access) → machine.new ≡ after_asked accesses machine.old p }
+    ensures line { line.new.items ≡ turn_text p (turn_asked machine.old p) }
+    ensures after { machine.new ≡ after_asked machine.old p }
 {
     turn_line(p, &machine.answer(p), line);
 }

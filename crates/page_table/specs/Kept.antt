@@ -5,8 +5,8 @@ use Rattle.page_table.specs.declared.entry.PageEntry.{PageEntry}
 
 -- What the table keeps, as the pages that it stands for.
 
-abbrev pub pages_of : List (ℕ × PageEntry) → Pages
-pages_of kept = from_entries kept
+abbrev pub table_pages : List (ℕ × PageEntry) → Pages
+table_pages kept = from_entries kept
 
 -- what is true of the pages of every table
 pub record IsBounded (pages : Pages) : Type 0 where

@@ -1,7 +1,7 @@
 ghost use Rattle.std.specs.Prelude.{◌≡◌, ◌+◌, ◌^◌, ◌<◌, ◌≤◌, IfOk, IfSome, IsSome, OnOk, OnErr};
 ghost use Rattle.std.specs.FinMap as map;
-ghost use Rattle.page_table.specs.Table.{IsFree, IsThere, IsMapped, IsUnmapped, IsNext};
-ghost use Rattle.page_table.specs.Kept.{pages_of};
+ghost use Rattle.page_table.specs.Table.{IsFree, AreThere, IsMapped, IsUnmapped, IsNext};
+ghost use Rattle.page_table.specs.Kept.{table_pages};
 
 use crate::entry::PageEntry;
 use ovl_io::Perms;
@@ -23,11 +23,11 @@ impl Model for PageTable {
 
     ghost coded = { pages_code };
 
-    ghost use Rattle.page_table.specs.Kept.{pages_of, IsBounded};
+    ghost use Rattle.page_table.specs.Kept.{table_pages, IsBounded};
 
-    ghost view = { λ t. pages_of t.pages.entries };
+    ghost view = { λ t. table_pages t.pages.entries };
 
-    ghost invariant = { λ t. IsBounded (pages_of t.pages.entries) };
+    ghost invariant = { λ t. IsBounded (table_pages t.pages.entries) };
 }
 
 impl PageTable {
@@ -74,7 +74,7 @@ impl PageTable {
     /// Takes away the `n` pages from `from` on, which are all there. Takes no memory, and costs a look-up
     /// for each of the pages.
     pub fn unmap(&mut self, from: u64, n: u32)
-        requires { IsThere self.old from n }
+        requires { AreThere self.old from n }
         ensures unmapped { IsUnmapped self.old from n self.new }
         ensures count { map.len self.new + n ≡ map.len self.old }
     {
@@ -124,10 +124,10 @@ fn fill_pages(
     entry: PageEntry,
 ) -> Result<(), AllocError>
     requires low { from + n ≤ 2 ^ 36 }
-    requires free { IsFree (pages_of pages.old.entries) from n }
-    ensures mapped { OnOk result (IsMapped (pages_of pages.old.entries) from n entry (pages_of pages.new.entries)) }
-    ensures count { OnOk result (map.len (pages_of pages.new.entries) ≡ map.len (pages_of pages.old.entries) + n) }
-    ensures kept { OnErr result (pages_of pages.new.entries ≡ pages_of pages.old.entries) }
+    requires free { IsFree (table_pages pages.old.entries) from n }
+    ensures mapped { OnOk result (IsMapped (table_pages pages.old.entries) from n entry (table_pages pages.new.entries)) }
+    ensures count { OnOk result (map.len (table_pages pages.new.entries) ≡ map.len (table_pages pages.old.entries) + n) }
+    ensures kept { OnErr result (table_pages pages.new.entries ≡ table_pages pages.old.entries) }
 {
     'filling: for i in 0..n {
         match pages.insert(from + u64::from(i), entry) {
@@ -144,9 +144,9 @@ fn fill_pages(
 // Takes away the n pages from `from` on.
 fn clear_pages(pages: &mut BTreeMap<u64, PageEntry>, from: u64, n: u32)
     requires fits { from + n < 2 ^ 64 }
-    requires there { IsThere (pages_of pages.old.entries) from n }
-    ensures unmapped { IsUnmapped (pages_of pages.old.entries) from n (pages_of pages.new.entries) }
-    ensures count { map.len (pages_of pages.new.entries) + n ≡ map.len (pages_of pages.old.entries) }
+    requires there { AreThere (table_pages pages.old.entries) from n }
+    ensures unmapped { IsUnmapped (table_pages pages.old.entries) from n (table_pages pages.new.entries) }
+    ensures count { map.len (table_pages pages.new.entries) + n ≡ map.len (table_pages pages.old.entries) }
 {
     'clearing: for i in 0..n {
         pages.remove(&(from + u64::from(i)));

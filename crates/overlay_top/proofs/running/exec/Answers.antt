@@ -11,7 +11,7 @@ returns-in-Ok g c =
     let loaded = state_of c.load-answer.new.self in
     let got = c.load-answer.result in
     let is = exec_is state c.args.file.now c.args.turns got loaded (is_answer _ got c.load-answer.ensures.answer c.in_default.not-Memory)
-        (left state c.args.file.now got loaded c.load-answer.ensures.after c.in_default.not-Memory) in
+    (left state c.args.file.now got loaded c.load-answer.ensures.after c.in_default.not-Memory) in
     let after : State = record { processes = c.report_load.new.machine; drawn = c.load-answer.new.self.drawn } in
     let is_after : after ≡ (answered got c.args.turns loaded).after = ap (λ m. record { processes = m; drawn = c.load-answer.new.self.drawn }) c.in-Ok.ensures.after in
     record {
@@ -30,7 +30,7 @@ returns-in-Err g c =
     let loaded = state_of c.load-answer.new.self in
     let got = c.load-answer.result in
     let is = exec_is state c.args.file.now c.args.turns got loaded (is_answer _ got c.load-answer.ensures.answer c.in_default.not-Memory)
-        (left state c.args.file.now got loaded c.load-answer.ensures.after c.in_default.not-Memory) in
+    (left state c.args.file.now got loaded c.load-answer.ensures.after c.in_default.not-Memory) in
     record {
       sends = λ tells.
           subst (λ text. IsCut (g.K.Sink.taken c.args.sink.now) text (g.K.Sink.taken c.report_load.new.sink))

@@ -43,7 +43,7 @@ returns-in_err-perform-clause-asked g c =
     let below : index < length (map asks all) = omega (arith, c.running-test.true, length-map all asks) in (
       index + 1,
       fetches_next g.H.Shelf.fetched (map asks all) index (asks command) c.args.shelf.now c.running.shelf c.perform.new.shelf below
-      (asked_at asks all index command c.running-test.true c.command-item.is) c.running.invariant.asked c.in_err-perform.ensures.fetched,
+          (asked_at asks all index command c.running-test.true c.command-item.is) c.running.invariant.asked c.in_err-perform.ensures.fetched,
     )
 
 pub running-preserved : goal.running-preserved

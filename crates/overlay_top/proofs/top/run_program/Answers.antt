@@ -12,6 +12,6 @@ returns-then-not-is_empty-clause-headline g c s h = (
   BadWords,
   c.code.ensures,
   ends_as g.S.Source g.H.Shelf g.K.Sink _ (ended [] BadWords) _ _ _ _ _
-  (with_words string_bytes c.args.words.now (g.S.Source.left c.args.script.now) (g.H.Shelf.files c.args.shelf.now) c.if-not-is_empty.ensures) refl
-  (Untouched refl refl refl),
+      (with_words string_bytes c.args.words.now (g.S.Source.left c.args.script.now) (g.H.Shelf.files c.args.shelf.now) c.if-not-is_empty.ensures) refl
+      (Untouched refl refl refl),
 )

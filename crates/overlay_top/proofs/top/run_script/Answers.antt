@@ -22,7 +22,7 @@ pub returns-in-Err-TooLong-clause-ends : goal.returns-in-Err-TooLong-clause-ends
 returns-in-Err-TooLong-clause-ends g c s h =
     let left = g.S.Source.left c.args.script.now in
     let unread = subst (λ e. IsUnread {Script = Vec ℕ Global} left (g.S.Source.left c.read_script.new.source) (Err e)) c.in-Err-TooLong.field-0-is
-        (c.in-Err-TooLong.ensures.unread s) in
+    (c.in-Err-TooLong.ensures.unread s) in
     let long = long_left left unread.0 _ unread.1 unread.2 in
     let says = said_long left long in
     ends_as g.S.Source g.H.Shelf g.K.Sink _ (ended [] TooLong) _ [] _ _ TooLong
@@ -75,6 +75,6 @@ returns-clause-ends g c s h =
     let says = said_small left bytes (Ok commands) is small (c.in-Ok-parse.ensures.parses ∙ ap Ok (sym c.as_slice-2.ensures.value)) in
     let none = (c.in-Ok.ensures.read s).1 in
     let ends = commands_halted g.S.Source g.H.Shelf g.K.Sink c.in-Err-run.halt _ _ _ _ (c.in-Ok.ensures.no_fault (read_it c.in-Ok.bytes)) (taken_whole left bytes _ is small none) none
-        c.in-Err-run.ensures.shelf c.in-Err-run.ensures.sink (c.in-Err-run.ensures.ends h) in
+    c.in-Err-run.ensures.shelf c.in-Err-run.ensures.sink (c.in-Err-run.ensures.ends h) in
     ends_as g.S.Source g.H.Shelf g.K.Sink _ (run_from commands fresh files) _ (map asks commands) _ _ c.status_of.result
     (ap (λ says. said_outcome says files) says) (ap names_said says) (subst (Ends _ _ _ _ _ _ _) (sym c.status_of.ensures) ends)
