@@ -3,7 +3,7 @@ use Rattle.std.proofs.lemmas.List.{take_more, take_all}
 use Rattle.std.proofs.lemmas.Option.{get_or_from_slice_get, slice_get-get_or, slice_get-map}
 use Rattle.std.specs.Prelude.{slice_get}
 use Rattle.std.specs.Option.{option_map}
-use Rattle.ovl_io.specs.Outside.{Fetches}
+use Rattle.ovl_io.specs.Outside.{AsksFor}
 use Rattle.overlay_top.specs.Outcome.{named}
 
 -- Which files are asked for.
@@ -14,8 +14,8 @@ named_append (None ∷ xs) ys = named_append xs ys
 named_append (Some name ∷ xs) ys = ap (λ names. name ∷ names) (named_append xs ys)
 
 fetches_append : {H : Type 0} (fetched : H → List ℕ → H → Type 0) (xs ys : List (List ℕ)) (a b c : H)
-    → Fetches fetched xs a b → Fetches fetched ys b c → Fetches fetched (xs ++ ys) a c
-fetches_append fetched [] ys a b c first second = subst (λ s. Fetches fetched ys s c) first second
+    → AsksFor fetched xs a b → AsksFor fetched ys b c → AsksFor fetched (xs ++ ys) a c
+fetches_append fetched [] ys a b c first second = subst (λ s. AsksFor fetched ys s c) first second
 fetches_append fetched (x ∷ xs) ys a b c first second = (first.0, first.1, fetches_append fetched xs ys first.0 b c first.2 second)
 
 -- what the command at an index asks for, in the names of all
@@ -33,19 +33,19 @@ names_more names index name below is =
 
 -- the next command's name was asked for too
 pub fetches_next : {H : Type 0} (fetched : H → List ℕ → H → Type 0) (names : List (Option (List ℕ))) (index : ℕ) (name : Option (List ℕ)) (a b c : H)
-    → index < length names → slice_get names index ≡ Some name → Fetches fetched (named (take index names)) a b
-    → Fetches fetched (named (name ∷ [])) b c → Fetches fetched (named (take (index + 1) names)) a c
+    → index < length names → slice_get names index ≡ Some name → AsksFor fetched (named (take index names)) a b
+    → AsksFor fetched (named (name ∷ [])) b c → AsksFor fetched (named (take (index + 1) names)) a c
 fetches_next fetched names index name a b c below is so_far next =
-    subst (λ ns. Fetches fetched ns a c) (sym (names_more names index name below is))
+    subst (λ ns. AsksFor fetched ns a c) (sym (names_more names index name below is))
     (fetches_append fetched (named (take index names)) (named (name ∷ [])) a b c so_far next)
 
 -- one name, asked for once
 pub fetches_one : {H : Type 0} (fetched : H → List ℕ → H → Type 0) (name : Option (List ℕ)) (one : List ℕ) (a b : H) → Some one ≡ name → fetched a one b
-    → Fetches fetched (named (name ∷ [])) a b
-fetches_one fetched name one a b is once = subst (λ n. Fetches fetched (named (n ∷ [])) a b) is (b, once, refl)
+    → AsksFor fetched (named (name ∷ [])) a b
+fetches_one fetched name one a b is once = subst (λ n. AsksFor fetched (named (n ∷ [])) a b) is (b, once, refl)
 
 -- all names, whatever number of them is taken beyond the last
 pub fetches_all : {H : Type 0} (fetched : H → List ℕ → H → Type 0) (names : List (Option (List ℕ))) (index many : ℕ) (a b : H)
-    → length names ≤ index → length names ≤ many → Fetches fetched (named (take index names)) a b → Fetches fetched (named (take many names)) a b
+    → length names ≤ index → length names ≤ many → AsksFor fetched (named (take index names)) a b → AsksFor fetched (named (take many names)) a b
 fetches_all fetched names index many a b all enough so_far =
-    subst (λ ns. Fetches fetched (named ns) a b) (take_all index names all ∙ sym (take_all many names enough)) so_far
+    subst (λ ns. AsksFor fetched (named ns) a b) (take_all index names all ∙ sym (take_all many names enough)) so_far

@@ -15,7 +15,7 @@ use Rattle.overlay_top.specs.declared.running.Halt.TheVariants as halt
 use Rattle.overlay_top.specs.Running.{FailedAt, FailedFor, GivesFile, WasGiven, HaltedAt, IsDoing, IsNamed}
 use Rattle.overlay_top.specs.Outside.{HaltedFor, ShelfBy, SinkBy}
 use Rattle.overlay_top.specs.Session.{State, IsFresh, load_answer, after_load, IsLoadAnswer, Leaves}
-use Rattle.overlay_top.specs.Outcome.{FileAsked, HasFile, IsMissing, IsTooLong, answered, asked_by, asks, command_done, exec_of, file_asked, has_all, performed, turns_in}
+use Rattle.overlay_top.specs.Outcome.{FileAsked, HasFile, IsMissing, IsTooLong, exec_answer, asked_by, asks, command_done, exec_of, file_asked, has_all, performed, turns_in}
 use Rattle.overlay_top.proofs.Fresh.{fresh_turns}
 
 -- `exec`, by the answer of the load.
@@ -34,11 +34,11 @@ left old file Memory new is other = absurd (other refl)
 
 -- what `exec` comes to, from what the load answered and left
 pub exec_is : (state : State) (file : List ℕ) (turns : ℕ) (got : Answer) (loaded : State) → got ≡ load_answer state file → loaded ≡ after_load state file
-    → answered got turns loaded ≡ exec_of file turns state
+    → exec_answer got turns loaded ≡ exec_of file turns state
 exec_is state file turns got loaded is_got is_loaded =
-    ap (λ answer. answered answer turns loaded) is_got ∙ ap (answered (load_answer state file) turns) is_loaded
+    ap (λ answer. exec_answer answer turns loaded) is_got ∙ ap (exec_answer (load_answer state file) turns) is_loaded
 
-pub fresh_answered : (got : Answer) (turns : ℕ) (loaded : State) → IsFresh loaded → IsFresh (answered got turns loaded).after
+pub fresh_answered : (got : Answer) (turns : ℕ) (loaded : State) → IsFresh loaded → IsFresh (exec_answer got turns loaded).after
 fresh_answered (Loaded p pages entry) turns loaded is = fresh_turns loaded p turns is
 fresh_answered (Refused error) turns loaded is = is
 fresh_answered NumbersUsed turns loaded is = is

@@ -3,7 +3,7 @@ use Rattle.std.proofs.Math.Seq.{take-append_seam, drop-cons}
 use Rattle.std.proofs.lemmas.Grind.{flat_map-append}
 use Rattle.std.proofs.lemmas.List.{length-map}
 use Rattle.std.specs.Prelude.{flat_map, map, slice_get}
-use Rattle.ovl_io.specs.Outside.{Fetches}
+use Rattle.ovl_io.specs.Outside.{AsksFor}
 use Rattle.ovl_io.specs.declared.shelf.Shelf.{Ghosts as ShelfOf}
 use Rattle.ovl_io.specs.declared.sink.Sink.{Ghosts as SinkOf}
 use Rattle.overlay_top.specs.declared.running.Halt.{Halt}
@@ -130,7 +130,7 @@ none_run all files state tells start is = record {
 pub all_done : {H K : Type 0} (h : ShelfOf H) (k : SinkOf K) (all : List Command) (index : ℕ) (files : List ℕ → Option (List ℕ)) (state : State)
     (shelf_old shelf_new : H) (start now : K) → length all ≤ index → drop index all ≡ []
     → HasRun all index files state k.tells (k.taken start) (k.taken now)
-    → Fetches h.fetched (named (take index (map asks all))) shelf_old shelf_new
+    → AsksFor h.fetched (named (take index (map asks all))) shelf_old shelf_new
     → RunEnds h k (run_from all fresh files) (map asks all) shelf_old shelf_new start now (Ok tt)
 all_done h k all index files state shelf_old shelf_new start now last none run asked =
     let comes = run.comes ∙ ap (λ left. behind run.texts (run_from left state files)) none in
@@ -149,7 +149,7 @@ halted : {H K : Type 0} (h : ShelfOf H) (k : SinkOf K) (halt : Halt) (all : List
     → HasRun all index files state k.tells (k.taken start) (k.taken now) → WasGiven (file_asked now_files command) (Err halt)
     → (k.tells → Sends (k.taken now) (command_done now_files command state).text (k.taken new) (Err halt))
     → FailedFor h shelf_new (asks command) (Err halt)
-    → Fetches h.fetched (named (take (index + 1) (map asks all))) shelf_old shelf_new
+    → AsksFor h.fetched (named (take (index + 1) (map asks all))) shelf_old shelf_new
     → RunEnds h k (run_from all fresh files) (map asks all) shelf_old shelf_new start new (Err halt)
 halted h k Missing all index command files now_files state shelf_old shelf_new start now new below is same run given sends failed asked =
     let text = (command_done now_files command state).text in
@@ -157,7 +157,7 @@ halted h k Missing all index command files now_files state shelf_old shelf_new s
     let comes = comes_at all index command files now_files state k.tells (k.taken start) (k.taken now) below is same run ∙ ap (λ a. behind run.texts (with_asked a text left)) given in
     let long : index + 1 ≡ length (run_from all fresh files).texts + 1 = ap (λ n. n + 1) (sym run.as_many ∙ sym (as_long (run_from all fresh files) run.texts ending.ReadFailed comes)) in (
       ap (λ (o : RunOutcome). o.status) comes,
-      subst (λ n. Fetches h.fetched (named (take n (map asks all))) shelf_old shelf_new) long asked,
+      subst (λ n. AsksFor h.fetched (named (take n (map asks all))) shelf_old shelf_new) long asked,
       λ is_told. sends is_told ∙ run.sent is_told ∙ ap (λ bs. k.taken start ++ bs) (sym (reported (run_from all fresh files) run.texts ending.ReadFailed comes)),
     )
 halted h k TooLong all index command files now_files state shelf_old shelf_new start now new below is same run given sends failed asked =
@@ -166,7 +166,7 @@ halted h k TooLong all index command files now_files state shelf_old shelf_new s
     let comes = comes_at all index command files now_files state k.tells (k.taken start) (k.taken now) below is same run ∙ ap (λ a. behind run.texts (with_asked a text left)) given in
     let long : index + 1 ≡ length (run_from all fresh files).texts + 1 = ap (λ n. n + 1) (sym run.as_many ∙ sym (as_long (run_from all fresh files) run.texts ending.TooLong comes)) in (
       ap (λ (o : RunOutcome). o.status) comes,
-      subst (λ n. Fetches h.fetched (named (take n (map asks all))) shelf_old shelf_new) long asked,
+      subst (λ n. AsksFor h.fetched (named (take n (map asks all))) shelf_old shelf_new) long asked,
       λ is_told. sends is_told ∙ run.sent is_told ∙ ap (λ bs. k.taken start ++ bs) (sym (reported (run_from all fresh files) run.texts ending.TooLong comes)),
     )
 halted h k FetchFailed all index (Exec name turns) files now_files state shelf_old shelf_new start now new below is same run given sends failed asked =
@@ -211,7 +211,7 @@ pub stop : {H K : Type 0} (h : ShelfOf H) (k : SinkOf K) (r : Result (Unit {0}) 
     → HasRun all index files state k.tells (k.taken start) (k.taken now) → WasGiven (file_asked now_files command) (Err halt)
     → (k.tells → Sends (k.taken now) (command_done now_files command state).text (k.taken new) (Err halt))
     → FailedFor h shelf_new (asks command) (Err halt)
-    → Fetches h.fetched (named (take (index + 1) (map asks all))) shelf_old shelf_new
+    → AsksFor h.fetched (named (take (index + 1) (map asks all))) shelf_old shelf_new
     → RunEnds h k (run_from all fresh files) (map asks all) shelf_old shelf_new start new r
 stop h k r halt all index command files now_files state shelf_old shelf_new start now new is_err below is same run given sends failed asked =
     subst (RunEnds h k (run_from all fresh files) (map asks all) shelf_old shelf_new start new) (sym is_err)

@@ -1,6 +1,6 @@
 use Rattle.std.specs.Prelude.{◌≡◌, ℕ, ◌+◌, ◌<◌, ◌≤◌, List, [], length, take, slice_get, Option, Some, Ok, Err, ◌⊎◌}
 use Rattle.sizes.specs.declared.TheConstants.{MOST_SCRIPT_BYTES}
-use Rattle.ovl_io.specs.Outside.{Fetches}
+use Rattle.ovl_io.specs.Outside.{AsksFor}
 use Rattle.ovl_io.specs.declared.shelf.ShelfError.TheVariants as shelf
 use Rattle.ovl_io.specs.declared.source.Source.{Ghosts as SourceOf}
 use Rattle.ovl_io.specs.declared.shelf.Shelf.{Ghosts as ShelfOf}
@@ -41,7 +41,7 @@ pub data Ends {S H K : Type 0} (s : SourceOf S) (h : ShelfOf H) (k : SinkOf K) (
   Untouched : outcome.status ≡ BadWords → report_of outcome ≡ [] → new ≡ old → Ends s h k outcome names old new BadWords
   -- the whole report, and the outcome's status: the files of the commands done were asked for, and of the one that ended the call
   Whole : SourceSound s old.script new.script → ShelfSound h old.files new.files → SinkSound k old.report new.report
-      → IsTaken (s.left old.script) (s.left new.script) → Fetches h.fetched (named (take (length outcome.texts + 1) names)) old.files new.files
+      → IsTaken (s.left old.script) (s.left new.script) → AsksFor h.fetched (named (take (length outcome.texts + 1) names)) old.files new.files
       → Reported k old.report (report_of outcome) new.report → Ends s h k outcome names old new outcome.status
   -- the source failed, no file was asked for, and nothing was reported
   SourceFailed : SourceRose s old.script new.script → new.files ≡ old.files → new.report ≡ old.report
@@ -49,18 +49,18 @@ pub data Ends {S H K : Type 0} (s : SourceOf S) (h : ShelfOf H) (k : SinkOf K) (
   -- the shelf failed to fetch the file of command j + 1, and the first j commands were reported
   ShelfFailed : (j : ℕ) (name : List ℕ) → j ≤ length outcome.texts → slice_get names j ≡ Some (Some name)
       → SourceSound s old.script new.script → ShelfRose h old.files new.files → SinkSound k old.report new.report
-      → s.left new.script ≡ [] → Fetches h.fetched (named (take (j + 1) names)) old.files new.files
+      → s.left new.script ≡ [] → AsksFor h.fetched (named (take (j + 1) names)) old.files new.files
       → RefusedFor h new.files name shelf.Failed
       → Reported k old.report (first_report j outcome) new.report → Ends s h k outcome names old new ReadFailed
   -- the sink failed in the text behind the first j commands, of which a front was taken that isn't the whole
   SinkFailed : (j : ℕ) → j ≤ length outcome.texts
       → SourceSound s old.script new.script → ShelfSound h old.files new.files → SinkRose k old.report new.report
-      → s.left new.script ≡ [] → Fetches h.fetched (named (take (j + 1) names)) old.files new.files
+      → s.left new.script ≡ [] → AsksFor h.fetched (named (take (j + 1) names)) old.files new.files
       → ReportedCut k old.report (first_report j outcome) (text_after j outcome) new.report → Ends s h k outcome names old new WriteFailed
   -- there was no memory, and the first j commands were reported
   OutOfMemory : (j begun : ℕ) → j ≤ length outcome.texts → begun ≤ j + 1
       → SourceSound s old.script new.script → ShelfSound h old.files new.files → SinkSound k old.report new.report
-      → Fetches h.fetched (named (take begun names)) old.files new.files
+      → AsksFor h.fetched (named (take begun names)) old.files new.files
       → Reported k old.report (first_report j outcome) new.report → Ends s h k outcome names old new NoMemory
 
 -- the same, of the number that the call answers

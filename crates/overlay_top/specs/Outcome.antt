@@ -83,15 +83,15 @@ processes_answered (Refused error) turns processes = processes
 processes_answered NumbersUsed turns processes = processes
 processes_answered Memory turns processes = processes
 
-abbrev pub answered : Answer → ℕ → State → Performed
-answered answer turns loaded = record {
+abbrev pub exec_answer : Answer → ℕ → State → Performed
+exec_answer answer turns loaded = record {
   text = answer_text answer ++ exec_answered answer turns loaded.processes;
   after = record { processes = processes_answered answer turns loaded.processes; drawn = loaded.drawn };
 }
 
 -- `exec` of a file: its load, and then the turns
 abbrev pub exec_of : List ℕ → ℕ → State → Performed
-exec_of file turns state = answered (load_answer state file) turns (after_load state file)
+exec_of file turns state = exec_answer (load_answer state file) turns (after_load state file)
 
 -- a command, with what it asked for; without that it does nothing
 abbrev pub performed : FileAsked → Command → State → Performed

@@ -1,5 +1,5 @@
 use Rattle.std.specs.Prelude.{◌≡◌, ℕ, ◌+◌, ◌≤◌, Bool, true, List, [], ◌∷◌, ◌++◌, length, map, take, slice_get, Option, Some, None, Result, Ok, Err}
-use Rattle.ovl_io.specs.Outside.{Fetches, HasName}
+use Rattle.ovl_io.specs.Outside.{AsksFor, HasName}
 use Rattle.ovl_io.specs.declared.shelf.ShelfError.TheVariants as shelf
 use Rattle.ovl_io.specs.declared.shelf.Shelf.{Ghosts as ShelfOf}
 use Rattle.ovl_io.specs.declared.sink.Sink.{Ghosts as SinkOf}
@@ -80,25 +80,25 @@ ReportedCut k old before text new = k.tells → IsCut (k.taken old ++ before) te
 -- How the commands of a script end, for their outcome: the files that were asked for, and the report.
 abbrev pub RunEnds : {H K : Type 0} → ShelfOf H → SinkOf K → RunOutcome → List (Option (List ℕ)) → H → H → K → K → Result (Unit {0}) Halt → Type 0
 RunEnds h k outcome names shelf_old shelf_new old new (Ok done) =
-    (outcome.status ≡ status.Done) × Fetches h.fetched (named (take (length outcome.texts + 1) names)) shelf_old shelf_new
+    (outcome.status ≡ status.Done) × AsksFor h.fetched (named (take (length outcome.texts + 1) names)) shelf_old shelf_new
     × Reported k old (report_of outcome) new
 RunEnds h k outcome names shelf_old shelf_new old new (Err Missing) =
-    (outcome.status ≡ status.ReadFailed) × Fetches h.fetched (named (take (length outcome.texts + 1) names)) shelf_old shelf_new
+    (outcome.status ≡ status.ReadFailed) × AsksFor h.fetched (named (take (length outcome.texts + 1) names)) shelf_old shelf_new
     × Reported k old (report_of outcome) new
 RunEnds h k outcome names shelf_old shelf_new old new (Err TooLong) =
-    (outcome.status ≡ status.TooLong) × Fetches h.fetched (named (take (length outcome.texts + 1) names)) shelf_old shelf_new
+    (outcome.status ≡ status.TooLong) × AsksFor h.fetched (named (take (length outcome.texts + 1) names)) shelf_old shelf_new
     × Reported k old (report_of outcome) new
 RunEnds h k outcome names shelf_old shelf_new old new (Err FetchFailed) =
     (j : ℕ) × (name : List ℕ) × (j ≤ length outcome.texts) × (slice_get names j ≡ Some (Some name))
-    × Fetches h.fetched (named (take (j + 1) names)) shelf_old shelf_new × RefusedFor h shelf_new name shelf.Failed
+    × AsksFor h.fetched (named (take (j + 1) names)) shelf_old shelf_new × RefusedFor h shelf_new name shelf.Failed
     × Reported k old (first_report j outcome) new
 RunEnds h k outcome names shelf_old shelf_new old new (Err Memory) =
-    (j : ℕ) × (begun : ℕ) × (j ≤ length outcome.texts) × (begun ≤ j + 1) × Fetches h.fetched (named (take begun names)) shelf_old shelf_new
+    (j : ℕ) × (begun : ℕ) × (j ≤ length outcome.texts) × (begun ≤ j + 1) × AsksFor h.fetched (named (take begun names)) shelf_old shelf_new
     × Reported k old (first_report j outcome) new
 RunEnds h k outcome names shelf_old shelf_new old new (Err SendFailed) =
-    (j : ℕ) × (j ≤ length outcome.texts) × Fetches h.fetched (named (take (j + 1) names)) shelf_old shelf_new
+    (j : ℕ) × (j ≤ length outcome.texts) × AsksFor h.fetched (named (take (j + 1) names)) shelf_old shelf_new
     × ReportedCut k old (first_report j outcome) (text_after j outcome) new
 
 -- the names of some commands of the script were asked for, from the first on, in order, and no others
 abbrev pub AsksInOrder : {H : Type 0} → ShelfOf H → List (Option (List ℕ)) → H → H → Type 0
-AsksInOrder h names old new = (begun : ℕ) × Fetches h.fetched (named (take begun names)) old new
+AsksInOrder h names old new = (begun : ℕ) × AsksFor h.fetched (named (take begun names)) old new

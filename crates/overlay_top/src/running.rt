@@ -1,6 +1,6 @@
 ghost use Rattle.std.specs.Prelude.{◌≡◌, ◌≢◌, ℕ, List, IfOk, OnErr, OnOk, Err, Some, [], ◌∷◌, ◌++◌, map};
 ghost use Rattle.std.specs.List.{All};
-ghost use Rattle.ovl_io.specs.Outside.{Fetches, HasName};
+ghost use Rattle.ovl_io.specs.Outside.{AsksFor, HasName};
 ghost use Rattle.overlay_top.specs.Session.{IsFresh, state_of, fresh};
 ghost use Rattle.overlay_top.specs.Outcome.{asked_by, asks, command_done, exec_answered, exec_of, file_asked, named, processes_answered, run_from};
 ghost use Rattle.overlay_top.specs.Report.{answer_text};
@@ -32,7 +32,7 @@ pub enum Halt {
     SendFailed,
 }
 
-/// Fetches the file that a command names.
+/// AsksFor the file that a command names.
 fn fetch<H: Shelf>(alloc: Global, name: &[u8], shelf: &mut H) -> Result<Vec<u8>, Halt>
     requires { HasName name.now }
     ensures gives { H.tells → GivesFile (λ file. file.items) (asked_by (H.files shelf.old name.now)) result }
@@ -139,7 +139,7 @@ fn perform<H: Shelf, K: Sink>(
     ensures sink { SinkBy K.Sink sink.old sink.new result }
     ensures failed { FailedFor H.Shelf shelf.new (asks command.now) result }
     ensures kept { H.tells → (other : List ℕ) → H.files shelf.new other ≡ H.files shelf.old other }
-    ensures fetched { Fetches H.fetched (named (asks command.now ∷ [])) shelf.old shelf.new }
+    ensures fetched { AsksFor H.fetched (named (asks command.now ∷ [])) shelf.old shelf.new }
 {
     let file = fetch(session.alloc, command.name().as_slice(), shelf)?;
     exec(session, file.as_slice(), command.turns(), line, sink)

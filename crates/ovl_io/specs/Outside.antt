@@ -1,5 +1,5 @@
 use Rattle.std.specs.Prelude.{◌≡◌, ℕ, ◌+◌, ◌-◌, ◌^◌, ◌<◌, ◌≤◌, min, List, [], ◌∷◌, length, Option, None, Some, Result, Ok, Err}
-use Rattle.sizes.specs.declared.TheConstants.{MOST_FILE_BYTES}
+use Rattle.sizes.specs.declared.TheConstants.{MOST_FILE_BYTES, MOST_FILE_NAME}
 use Rattle.ovl_io.specs.declared.shelf.ShelfError.{ShelfError}
 use Rattle.ovl_io.specs.declared.shelf.ShelfError.TheVariants.{Failed, Missing, TooLong, Memory}
 
@@ -10,7 +10,7 @@ Rose old new = min (old + 1) (2 ^ 64 - 1) ≤ new
 
 -- a name of a file: 1 to 255 bytes
 abbrev pub HasName : List ℕ → Type 0
-HasName name = (0 < length name) × (length name ≤ 255)
+HasName name = (0 < length name) × (length name ≤ MOST_FILE_NAME)
 
 -- What a shelf tells of its last fetch: the name and the answer, where that was Failed or Missing.
 pub record FetchRefused : Type 0 where
@@ -41,7 +41,7 @@ IsFetched view (Some whole) (Ok given) = (view given ≡ whole) × (length whole
 
 -- What fetches of these names make of a shelf, one after the other, each once and no others, by what the
 -- shelf tells of a fetch.
-abbrev pub Fetches : {Shelf : Type 0} → (Shelf → List ℕ → Shelf → Type 0) → List (List ℕ) → Shelf → Shelf → Type 0
-Fetches fetched [] old new = new ≡ old
-Fetches {Shelf = Shelf} fetched (name ∷ names) old new =
-    (next : Shelf) × fetched old name next × Fetches fetched names next new
+abbrev pub AsksFor : {Shelf : Type 0} → (Shelf → List ℕ → Shelf → Type 0) → List (List ℕ) → Shelf → Shelf → Type 0
+AsksFor fetched [] old new = new ≡ old
+AsksFor {Shelf = Shelf} fetched (name ∷ names) old new =
+    (next : Shelf) × fetched old name next × AsksFor fetched names next new

@@ -2,10 +2,10 @@ ghost use Rattle.std.specs.Prelude.{◌≡◌, ◌≢◌, ℕ, ◌≤◌, List, 
 ghost use Rattle.std.specs.Option.{option_copied};
 ghost use Rattle.ovl_io.specs.Outside.{Rose, HasName, IsFetched, FetchRefused, fetch_refused_by};
 ghost use Rattle.ovl_io.specs.declared.shelf.ShelfError.TheVariants.{Failed, Missing};
-ghost use Rattle.sizes.specs.declared.TheConstants.{MOST_FILE_BYTES};
+ghost use Rattle.sizes.specs.declared.TheConstants.{MOST_FILE_BYTES, MOST_FILE_NAME};
 
 use arrayvec::ArrayVec;
-use sizes::MOST_FILE_BYTES;
+use sizes::{MOST_FILE_BYTES, MOST_FILE_NAME};
 use std::alloc::Global;
 use std::marker::Model;
 
@@ -25,7 +25,7 @@ pub enum ShelfError {
 /// What a shelf's last fetch was refused: the name, and the answer, which is `Failed` or `Missing`.
 #[derive(Debug, Drop)]
 pub struct Refusal {
-    name: ArrayVec<u8, 255>,
+    name: ArrayVec<u8, MOST_FILE_NAME>,
     answer: ShelfError,
 }
 
@@ -39,7 +39,7 @@ impl Model for Refusal {
 
 impl Refusal {
     pub(crate) fn new(name: &[u8], answer: ShelfError) -> Refusal
-        requires { length name.now ≤ 255 }
+        requires { length name.now ≤ MOST_FILE_NAME }
         ensures { result ≡ record { name = name.now; answer = answer } }
     {
         let mut kept = ArrayVec::new();

@@ -1,6 +1,6 @@
 use Rattle.std.proofs.Common.{◌≡◌, ap, subst, sym, ◌∙◌}
 use Rattle.overlay_top.specs.Session.{State, IsFresh, state_of}
-use Rattle.overlay_top.specs.Outcome.{Performed, answered, exec_of}
+use Rattle.overlay_top.specs.Outcome.{Performed, exec_answer, exec_of}
 use Rattle.overlay_top.specs.Sending.{IsSent, IsCut}
 use Rattle.overlay_top.proofs.Commands.{is_answer, left, exec_is, fresh_answered}
 use Rattle.overlay_top.proofs.running.exec.Goals as goal
@@ -13,7 +13,7 @@ returns-in-Ok g c =
     let is = exec_is state c.args.file.now c.args.turns got loaded (is_answer _ got c.load-answer.ensures.answer c.in_default.not-Memory)
     (left state c.args.file.now got loaded c.load-answer.ensures.after c.in_default.not-Memory) in
     let after : State = record { processes = c.report_load.new.machine; drawn = c.load-answer.new.self.drawn } in
-    let is_after : after ≡ (answered got c.args.turns loaded).after = ap (λ m. record { processes = m; drawn = c.load-answer.new.self.drawn }) c.in-Ok.ensures.after in
+    let is_after : after ≡ (exec_answer got c.args.turns loaded).after = ap (λ m. record { processes = m; drawn = c.load-answer.new.self.drawn }) c.in-Ok.ensures.after in
     record {
       sends = λ tells.
           subst (λ text. IsSent (g.K.Sink.taken c.args.sink.now) text (g.K.Sink.taken c.report_load.new.sink))

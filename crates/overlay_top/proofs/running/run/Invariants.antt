@@ -1,5 +1,5 @@
 use Rattle.std.proofs.Common.{◌≡◌, ℕ, List, take, map}
-use Rattle.ovl_io.specs.Outside.{Fetches}
+use Rattle.ovl_io.specs.Outside.{AsksFor}
 use Rattle.overlay_top.specs.Session.{IsFresh, state_of}
 use Rattle.overlay_top.specs.Outcome.{asks, named}
 use Rattle.overlay_top.proofs.Runs.{HasRun}
@@ -12,7 +12,7 @@ invariant-running g l = record {
   shelf : g.H.Shelf.faults l.shelf ≡ g.H.Shelf.faults l.fn.shelf;
   sink : g.K.Sink.faults l.sink ≡ g.K.Sink.faults l.fn.sink;
   kept : g.H.Shelf.tells → (other : List ℕ) → g.H.Shelf.files l.shelf other ≡ g.H.Shelf.files l.fn.shelf other;
-  asked : Fetches g.H.Shelf.fetched (named (take l.command-index (map asks l.commands))) l.fn.shelf l.shelf;
+  asked : AsksFor g.H.Shelf.fetched (named (take l.command-index (map asks l.commands))) l.fn.shelf l.shelf;
   runs : g.H.Shelf.tells →
       HasRun l.commands l.command-index (g.H.Shelf.files l.fn.shelf) (state_of l.session) g.K.Sink.tells (g.K.Sink.taken l.fn.sink) (g.K.Sink.taken l.sink);
 }
