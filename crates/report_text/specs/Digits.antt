@@ -1,0 +1,18 @@
+use Rattle.std.specs.Prelude.{ℕ, ◌+◌, ◌==◌, nat_lt, map, List, ◌++◌, codes, if◌then◌else◌}
+use Rattle.std.specs.Int.Digits.{digits_of}
+
+-- Numbers as characters, without leading zeros; zero is the one digit 0. A number's digits in a base are the
+-- remainders by it, the highest first.
+
+unfoldable pub in_decimal : ℕ → List ℕ
+in_decimal n = if n == 0 then codes "0" else map (λ d. 48 + d) (digits_of 10 n)
+
+-- a hexadecimal digit, in lower case
+abbrev pub hex_digit : ℕ → ℕ
+hex_digit d = if nat_lt d 10 then 48 + d else 87 + d
+
+unfoldable pub in_hexadecimal : ℕ → List ℕ
+in_hexadecimal n = if n == 0 then codes "0" else map hex_digit (digits_of 16 n)
+
+abbrev pub address_text : ℕ → List ℕ
+address_text at = codes "0x" ++ in_hexadecimal at

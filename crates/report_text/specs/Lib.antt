@@ -1,0 +1,6 @@
+-- In reading order: numbers and texts as characters, printed names, and then the lines, one by one.
+pub mod Digits
+pub mod Names
+pub mod Texts
+pub mod Lines
+pub mod Answers

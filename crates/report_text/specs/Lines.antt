@@ -1,0 +1,73 @@
+use Rattle.std.specs.Prelude.{ℕ, Bool, List, ◌++◌, codes}
+use Rattle.ovl_io.specs.declared.process_state.FaultKind.{FaultKind}
+use Rattle.ovl_io.specs.declared.process_state.ProcessState.{ProcessState}
+use Rattle.report_text.specs.declared.answer.Code.{Code}
+use Rattle.report_text.specs.declared.answer.Stop.{Stop}
+use Rattle.report_text.specs.Digits.{in_decimal, address_text}
+use Rattle.report_text.specs.Names.{kind_text, code_text, stop_word}
+use Rattle.report_text.specs.Texts.{bytes_text, port_text, state_text, pages_text}
+
+-- The lines of the report. Each ends with the byte 0A; its words are divided by one blank.
+
+-- a load: the process, its pages and its entry
+abbrev pub loaded_line : ℕ → ℕ → ℕ → List ℕ
+loaded_line p pages entry = codes "loaded " ++ in_decimal p ++ pages_text pages ++ codes " entry " ++ address_text entry ++ codes "\n"
+
+-- a fork: the process, and the new one
+abbrev pub forked_line : ℕ → ℕ → List ℕ
+forked_line p new = codes "forked " ++ in_decimal p ++ codes " " ++ in_decimal new ++ codes "\n"
+
+-- a checkpoint: the process, the name, and the new space
+abbrev pub saved_line : ℕ → List ℕ → ℕ → List ℕ
+saved_line p name space = codes "saved " ++ in_decimal p ++ codes " " ++ name ++ codes " " ++ in_decimal space ++ codes "\n"
+
+-- any other change
+abbrev pub done_line : List ℕ
+done_line = codes "ok\n"
+
+abbrev pub refused_line : Code → List ℕ
+refused_line code = codes "refused " ++ code_text code ++ codes "\n"
+
+-- a command that would need more units than there are: the units that it would come to, and the limit
+abbrev pub full_line : ℕ → ℕ → List ℕ
+full_line units limit = codes "full " ++ in_decimal units ++ codes " " ++ in_decimal limit ++ codes "\n"
+
+-- the first line of a script that is outside, from 1
+abbrev pub bad_line : ℕ → List ℕ
+bad_line k = codes "bad line " ++ in_decimal k ++ codes "\n"
+
+-- what a process wrote to a port
+abbrev pub wrote_line : ℕ → ℕ → List ℕ → List ℕ
+wrote_line p port bytes = port_text port ++ in_decimal p ++ codes " " ++ bytes_text bytes ++ codes "\n"
+
+abbrev pub exited_line : ℕ → ℕ → List ℕ
+exited_line p exit = codes "exited " ++ in_decimal p ++ codes " " ++ in_decimal exit ++ codes "\n"
+
+abbrev pub faulted_line : ℕ → FaultKind → ℕ → List ℕ
+faulted_line p kind at = codes "faulted " ++ in_decimal p ++ codes " " ++ kind_text kind ++ codes " " ++ address_text at ++ codes "\n"
+
+-- an instruction that would need more units than there are
+abbrev pub full_turn_line : ℕ → ℕ → ℕ → List ℕ
+full_turn_line p units limit =
+    codes "full " ++ in_decimal p ++ codes " " ++ in_decimal units ++ codes " " ++ in_decimal limit ++ codes "\n"
+
+-- a breakpoint that was reached
+abbrev pub break_line : ℕ → ℕ → List ℕ
+break_line p at = codes "break " ++ in_decimal p ++ codes " " ++ address_text at ++ codes "\n"
+
+-- the end of turns: how many were counted, and why they ended
+abbrev pub ran_line : ℕ → Stop → List ℕ
+ran_line taken stop = codes "ran " ++ in_decimal taken ++ codes " " ++ stop_word stop ++ codes "\n"
+
+-- the first line of a list: how many processes and checkpoints there are
+abbrev pub list_line : ℕ → ℕ → List ℕ
+list_line processes checkpoints = codes "list " ++ in_decimal processes ++ codes " " ++ in_decimal checkpoints ++ codes "\n"
+
+-- a process in a list, and its pages
+abbrev pub process_line : ℕ → ProcessState → Bool → ℕ → List ℕ
+process_line p state speculating pages =
+    codes "process " ++ in_decimal p ++ codes " " ++ state_text state speculating ++ pages_text pages ++ codes "\n"
+
+-- a checkpoint in a list, its space and its pages
+abbrev pub checkpoint_line : List ℕ → ℕ → ℕ → List ℕ
+checkpoint_line name space pages = codes "checkpoint " ++ name ++ codes " " ++ in_decimal space ++ pages_text pages ++ codes "\n"

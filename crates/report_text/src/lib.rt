@@ -1,0 +1,35 @@
+//! The lines of the report, as bytes with their end.
+//!
+//! Each call sets a `Line` to a text, whatever it held before, and takes no memory. The model is the text
+//! itself: `specs/Lines.antt` says each line as digits and characters, in the order in which `lines` makes
+//! them.
+//!
+//! - `answer`: what a command, a refusal and an ending are
+//! - `report`: the calls
+//! - `lines`: one function a line
+//! - `names`: the printed names of refusals, faults and endings
+//! - `push`: text, numbers and bytes at the end of a line
+#![tactic(auto)]
+
+mod answer;
+mod lines;
+mod names;
+mod push;
+mod report;
+
+pub use answer::{Answer, Code, Stop};
+pub use push::Line;
+pub use report::{
+    answer_line, bad_line, checkpoint_line, list_line, process_line, stop_line, turn_line,
+};
+use sizes::MOST_WRITTEN;
+
+/// Bytes that a line has room for: three for each byte that a process writes in one turn, and as many again
+/// as those bytes for all else.
+pub const LINE_ROOM: usize = 4 * MOST_WRITTEN;
+
+/// The most bytes of a checkpoint's name.
+pub const MOST_NAME: usize = 32;
+
+#[cfg(test)]
+mod tests;

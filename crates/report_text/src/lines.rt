@@ -1,0 +1,220 @@
+ghost use Rattle.std.specs.Prelude.{◌≡◌, ◌+◌, ◌*◌, ◌==◌, ◌||◌, ◌≤◌, ◌++◌, length, IsTrue};
+ghost use Rattle.arrayvec.specs.ArrayVec.{array_vec_len};
+ghost use Rattle.report_text.specs.Lines.{loaded_line, forked_line, saved_line, refused_line, full_line, bad_line, wrote_line, exited_line, faulted_line, full_turn_line, break_line, ran_line, list_line, process_line, checkpoint_line};
+ghost use Rattle.report_text.specs.Answers.{IsCheckpointName, HasCodeLine};
+
+use crate::names::{kind_text, port_text, push_code, push_pages, push_state, stop_word};
+use crate::push::{push_address, push_bytes, push_decimal, push_text};
+use crate::{Code, LINE_ROOM, Line, Stop};
+use ovl_io::{FaultKind, ProcessState};
+
+// One function a line, in the order of their definitions. Each puts its line at the end of `line`.
+
+/// A load.
+pub(crate) fn put_loaded(line: &mut Line, p: u16, pages: u32, entry: u64)
+    requires { array_vec_len line.old + 256 ≤ LINE_ROOM }
+    ensures text { line.new.items ≡ line.old.items ++ loaded_line p pages entry }
+    ensures len { array_vec_len line.new ≤ array_vec_len line.old + 256 }
+{
+    push_text(line, b"loaded ");
+    push_decimal(line, u64::from(p));
+    push_pages(line, pages);
+    push_text(line, b" entry ");
+    push_address(line, entry);
+    push_text(line, b"\n");
+}
+
+/// A fork.
+pub(crate) fn put_forked(line: &mut Line, p: u16, new: u16)
+    requires { array_vec_len line.old + 256 ≤ LINE_ROOM }
+    ensures text { line.new.items ≡ line.old.items ++ forked_line p new }
+    ensures len { array_vec_len line.new ≤ array_vec_len line.old + 256 }
+{
+    push_text(line, b"forked ");
+    push_decimal(line, u64::from(p));
+    push_text(line, b" ");
+    push_decimal(line, u64::from(new));
+    push_text(line, b"\n");
+}
+
+/// A checkpoint.
+pub(crate) fn put_saved(line: &mut Line, p: u16, name: &[u8], space: u16)
+    requires room { array_vec_len line.old + 256 ≤ LINE_ROOM }
+    requires named { IsCheckpointName name.now }
+    ensures text { line.new.items ≡ line.old.items ++ saved_line p name.now space }
+    ensures len { array_vec_len line.new ≤ array_vec_len line.old + 256 }
+{
+    push_text(line, b"saved ");
+    push_decimal(line, u64::from(p));
+    push_text(line, b" ");
+    push_text(line, name);
+    push_text(line, b" ");
+    push_decimal(line, u64::from(space));
+    push_text(line, b"\n");
+}
+
+/// A refusal.
+pub(crate) fn put_refused(line: &mut Line, code: Code)
+    requires room { array_vec_len line.old + 256 ≤ LINE_ROOM }
+    requires has { HasCodeLine code }
+    ensures text { line.new.items ≡ line.old.items ++ refused_line code }
+    ensures len { array_vec_len line.new ≤ array_vec_len line.old + 256 }
+{
+    push_text(line, b"refused ");
+    push_code(line, code);
+    push_text(line, b"\n");
+}
+
+/// A command that is refused units.
+pub(crate) fn put_full(line: &mut Line, units: u32, limit: u32)
+    requires { array_vec_len line.old + 256 ≤ LINE_ROOM }
+    ensures text { line.new.items ≡ line.old.items ++ full_line units limit }
+    ensures len { array_vec_len line.new ≤ array_vec_len line.old + 256 }
+{
+    push_text(line, b"full ");
+    push_decimal(line, u64::from(units));
+    push_text(line, b" ");
+    push_decimal(line, u64::from(limit));
+    push_text(line, b"\n");
+}
+
+/// The first line of a script that is outside.
+pub(crate) fn put_bad(line: &mut Line, k: u32)
+    requires { array_vec_len line.old + 256 ≤ LINE_ROOM }
+    ensures text { line.new.items ≡ line.old.items ++ bad_line k }
+    ensures len { array_vec_len line.new ≤ array_vec_len line.old + 256 }
+{
+    push_text(line, b"bad line ");
+    push_decimal(line, u64::from(k));
+    push_text(line, b"\n");
+}
+
+/// What a process wrote to a port.
+pub(crate) fn put_wrote(line: &mut Line, p: u16, port: u8, bytes: &[u8])
+    requires room { array_vec_len line.old + 3 * length bytes.now + 256 ≤ LINE_ROOM }
+    requires port { IsTrue (port == 1 || port == 2) }
+    ensures { line.new.items ≡ line.old.items ++ wrote_line p port bytes.now }
+{
+    push_text(line, port_text(port));
+    push_decimal(line, u64::from(p));
+    push_text(line, b" ");
+    push_bytes(line, bytes);
+    push_text(line, b"\n");
+}
+
+/// An exit.
+pub(crate) fn put_exited(line: &mut Line, p: u16, code: u8)
+    requires { array_vec_len line.old + 256 ≤ LINE_ROOM }
+    ensures text { line.new.items ≡ line.old.items ++ exited_line p code }
+    ensures len { array_vec_len line.new ≤ array_vec_len line.old + 256 }
+{
+    push_text(line, b"exited ");
+    push_decimal(line, u64::from(p));
+    push_text(line, b" ");
+    push_decimal(line, u64::from(code));
+    push_text(line, b"\n");
+}
+
+/// A fault.
+pub(crate) fn put_faulted(line: &mut Line, p: u16, kind: FaultKind, address: u64)
+    requires { array_vec_len line.old + 256 ≤ LINE_ROOM }
+    ensures text { line.new.items ≡ line.old.items ++ faulted_line p kind address }
+    ensures len { array_vec_len line.new ≤ array_vec_len line.old + 256 }
+{
+    push_text(line, b"faulted ");
+    push_decimal(line, u64::from(p));
+    push_text(line, b" ");
+    push_text(line, kind_text(kind));
+    push_text(line, b" ");
+    push_address(line, address);
+    push_text(line, b"\n");
+}
+
+/// An instruction that is refused units.
+pub(crate) fn put_full_turn(line: &mut Line, p: u16, units: u32, limit: u32)
+    requires { array_vec_len line.old + 256 ≤ LINE_ROOM }
+    ensures text { line.new.items ≡ line.old.items ++ full_turn_line p units limit }
+    ensures len { array_vec_len line.new ≤ array_vec_len line.old + 256 }
+{
+    push_text(line, b"full ");
+    push_decimal(line, u64::from(p));
+    push_text(line, b" ");
+    push_decimal(line, u64::from(units));
+    push_text(line, b" ");
+    push_decimal(line, u64::from(limit));
+    push_text(line, b"\n");
+}
+
+/// A breakpoint that was reached.
+pub(crate) fn put_break(line: &mut Line, p: u16, address: u64)
+    requires { array_vec_len line.old + 256 ≤ LINE_ROOM }
+    ensures text { line.new.items ≡ line.old.items ++ break_line p address }
+    ensures len { array_vec_len line.new ≤ array_vec_len line.old + 256 }
+{
+    push_text(line, b"break ");
+    push_decimal(line, u64::from(p));
+    push_text(line, b" ");
+    push_address(line, address);
+    push_text(line, b"\n");
+}
+
+/// The end of turns.
+pub(crate) fn put_ran(line: &mut Line, taken: u32, stop: &Stop)
+    requires { array_vec_len line.old + 256 ≤ LINE_ROOM }
+    ensures text { line.new.items ≡ line.old.items ++ ran_line taken stop.now }
+    ensures len { array_vec_len line.new ≤ array_vec_len line.old + 256 }
+{
+    push_text(line, b"ran ");
+    push_decimal(line, u64::from(taken));
+    push_text(line, b" ");
+    push_text(line, stop_word(stop));
+    push_text(line, b"\n");
+}
+
+/// The first line of a list.
+pub(crate) fn put_list(line: &mut Line, processes: u32, checkpoints: u32)
+    requires { array_vec_len line.old + 256 ≤ LINE_ROOM }
+    ensures text { line.new.items ≡ line.old.items ++ list_line processes checkpoints }
+    ensures len { array_vec_len line.new ≤ array_vec_len line.old + 256 }
+{
+    push_text(line, b"list ");
+    push_decimal(line, u64::from(processes));
+    push_text(line, b" ");
+    push_decimal(line, u64::from(checkpoints));
+    push_text(line, b"\n");
+}
+
+/// A process in a list.
+pub(crate) fn put_process(
+    line: &mut Line,
+    p: u16,
+    state: &ProcessState,
+    speculating: bool,
+    pages: u32,
+)
+    requires { array_vec_len line.old + 256 ≤ LINE_ROOM }
+    ensures text { line.new.items ≡ line.old.items ++ process_line p state.now speculating pages }
+    ensures len { array_vec_len line.new ≤ array_vec_len line.old + 256 }
+{
+    push_text(line, b"process ");
+    push_decimal(line, u64::from(p));
+    push_text(line, b" ");
+    push_state(line, state, speculating);
+    push_pages(line, pages);
+    push_text(line, b"\n");
+}
+
+/// A checkpoint in a list.
+pub(crate) fn put_checkpoint(line: &mut Line, name: &[u8], space: u16, pages: u32)
+    requires room { array_vec_len line.old + 256 ≤ LINE_ROOM }
+    requires named { IsCheckpointName name.now }
+    ensures text { line.new.items ≡ line.old.items ++ checkpoint_line name.now space pages }
+    ensures len { array_vec_len line.new ≤ array_vec_len line.old + 256 }
+{
+    push_text(line, b"checkpoint ");
+    push_text(line, name);
+    push_text(line, b" ");
+    push_decimal(line, u64::from(space));
+    push_pages(line, pages);
+    push_text(line, b"\n");
+}

@@ -1,0 +1,98 @@
+ghost use Rattle.std.specs.Prelude.{◌≡◌, ◌+◌, ◌*◌, ◌^◌, ◌<◌, ◌≤◌, ◌++◌, length, map};
+ghost use Rattle.std.specs.Int.Digits.{digits_of};
+ghost use Rattle.arrayvec.specs.ArrayVec.{array_vec_len};
+ghost use Rattle.report_text.specs.Digits.{hex_digit, in_decimal, in_hexadecimal, address_text};
+ghost use Rattle.report_text.specs.Texts.{is_plain, byte_text, bytes_text};
+
+use crate::LINE_ROOM;
+use arrayvec::ArrayVec;
+use itoa::Buffer;
+
+/// A line of the report, with its end; two lines at a breakpoint.
+pub type Line = ArrayVec<u8, LINE_ROOM>;
+
+pub(crate) fn push_text(line: &mut Line, text: &[u8])
+    requires { array_vec_len line.old + length text.now ≤ LINE_ROOM }
+    ensures text { line.new.items ≡ line.old.items ++ text.now }
+    ensures len { array_vec_len line.new ≡ array_vec_len line.old + length text.now }
+{
+    let _ = line.try_extend_from_slice(text);
+}
+
+/// A number in decimal digits, at most 20.
+pub(crate) fn push_decimal(line: &mut Line, n: u64)
+    requires { array_vec_len line.old + 20 ≤ LINE_ROOM }
+    ensures text { line.new.items ≡ line.old.items ++ in_decimal n }
+    ensures len { array_vec_len line.new ≤ array_vec_len line.old + 20 }
+{
+    let mut buffer = Buffer::new();
+    push_text(line, buffer.format(n).as_bytes());
+}
+
+fn hex_digit(d: u8) -> u8
+    requires { d < 16 }
+    ensures { result ≡ hex_digit d }
+{
+    if d < 10 { b'0' + d } else { b'a' + (d - 10) }
+}
+
+/// The hexadecimal digits of a number of at most so many places; none for zero.
+fn push_digits(line: &mut Line, n: u64, places: u32)
+    requires small { n < 16 ^ places }
+    requires room { array_vec_len line.old + places ≤ LINE_ROOM }
+    ensures text { line.new.items ≡ line.old.items ++ map hex_digit (digits_of 16 n) }
+    ensures len { array_vec_len line.new ≤ array_vec_len line.old + places }
+{
+    if n > 0 {
+        push_digits(line, n / 16, places - 1);
+        line.push(hex_digit((n % 16) as u8));
+    }
+}
+
+/// An address in hexadecimal digits, at most 16, behind `0x`.
+#[tactic(auto, unfolding(crate::specs::Digits::in_hexadecimal))]
+pub(crate) fn push_address(line: &mut Line, address: u64)
+    requires { array_vec_len line.old + 18 ≤ LINE_ROOM }
+    ensures text { line.new.items ≡ line.old.items ++ address_text address }
+    ensures len { array_vec_len line.new ≤ array_vec_len line.old + 18 }
+{
+    push_text(line, b"0x");
+    if address == 0 {
+        line.push(b'0');
+    } else {
+        push_digits(line, address, 16);
+    }
+}
+
+/// Whether a byte stands for itself in a text.
+fn is_plain(b: u8) -> bool
+    ensures { result ≡ is_plain b }
+{
+    (32..=126).contains(&b) && b != b'\\'
+}
+
+/// One byte that a process wrote.
+fn push_byte(line: &mut Line, b: u8)
+    requires { array_vec_len line.old + 3 ≤ LINE_ROOM }
+    ensures text { line.new.items ≡ line.old.items ++ byte_text b }
+    ensures len { array_vec_len line.new ≤ array_vec_len line.old + 3 }
+{
+    if is_plain(b) {
+        line.push(b);
+    } else {
+        line.push(b'\\');
+        line.push(hex_digit(b / 16));
+        line.push(hex_digit(b % 16));
+    }
+}
+
+/// The bytes that a process wrote.
+pub(crate) fn push_bytes(line: &mut Line, bytes: &[u8])
+    requires { array_vec_len line.old + 3 * length bytes.now ≤ LINE_ROOM }
+    ensures text { line.new.items ≡ line.old.items ++ bytes_text bytes.now }
+    ensures len { array_vec_len line.new ≤ array_vec_len line.old + 3 * length bytes.now }
+{
+    for b in bytes {
+        push_byte(line, *b);
+    }
+}

@@ -1,0 +1,91 @@
+ghost use Rattle.std.specs.Prelude.{◌≡◌};
+ghost use Rattle.report_text.specs.Lines.{bad_line, list_line, process_line, checkpoint_line};
+ghost use Rattle.report_text.specs.Answers.{HasAnswerLine, HasPort, IsCheckpointName, answer_text, turn_text, has_turn_line, stop_text};
+
+use crate::lines::{
+    put_bad, put_break, put_checkpoint, put_exited, put_faulted, put_forked, put_full,
+    put_full_turn, put_list, put_loaded, put_process, put_ran, put_refused, put_saved, put_wrote,
+};
+use crate::push::push_text;
+use crate::{Answer, Line, Stop};
+use ovl_io::{Bytes, ProcessState, Turn};
+
+/// The line of an answer. Want of memory has none, and a checkpoint's name has 1 to 32 bytes.
+pub fn answer_line(a: &Answer, out: &mut Line)
+    requires { HasAnswerLine a.now }
+    ensures { out.new.items ≡ answer_text a.now }
+{
+    out.clear();
+    match a {
+        Answer::Done => push_text(out, b"ok\n"),
+        Answer::Loaded(p, pages, entry) => put_loaded(out, *p, *pages, *entry),
+        Answer::Forked(p, new) => put_forked(out, *p, *new),
+        Answer::Saved(p, name, space) => put_saved(out, *p, name.as_slice(), *space),
+        Answer::Refused(code) => put_refused(out, *code),
+        Answer::Full(units, limit) => put_full(out, *units, *limit),
+        Answer::Memory => unreachable!(),
+    }
+}
+
+/// The line of a turn of process `p`, and whether it has one: a step has none. What was written went to
+/// port 1 or 2.
+pub fn turn_line(p: u16, t: &Turn, out: &mut Line) -> bool
+    requires { HasPort t.now }
+    ensures text { out.new.items ≡ turn_text p t.now }
+    ensures has { result ≡ has_turn_line t.now }
+{
+    out.clear();
+    match t {
+        Turn::Stepped => return false,
+        Turn::Wrote(written) => put_wrote(out, p, written.port, written.bytes.as_slice()),
+        Turn::Exited(code) => put_exited(out, p, *code),
+        Turn::Faulted(kind, address) => put_faulted(out, p, *kind, *address),
+        Turn::Full(units, limit) => put_full_turn(out, p, *units, *limit),
+    }
+    true
+}
+
+/// The line at the end of turns, of which so many were counted; at a breakpoint the line for it before that.
+pub fn stop_line(taken: u32, s: &Stop, out: &mut Line)
+    ensures { out.new.items ≡ stop_text taken s.now }
+{
+    out.clear();
+    match s {
+        Stop::Break(p, address) => put_break(out, *p, *address),
+        Stop::Limit | Stop::Idle | Stop::Ended | Stop::Full => {}
+    }
+    put_ran(out, taken, s);
+}
+
+/// The line that names the first line of a script that is outside, from 1.
+pub fn bad_line(k: u32, out: &mut Line)
+    ensures { out.new.items ≡ bad_line k }
+{
+    out.clear();
+    put_bad(out, k);
+}
+
+/// The first line of a list: how many processes and checkpoints there are.
+pub fn list_line(processes: u32, checkpoints: u32, out: &mut Line)
+    ensures { out.new.items ≡ list_line processes checkpoints }
+{
+    out.clear();
+    put_list(out, processes, checkpoints);
+}
+
+/// A process in a list, and its pages.
+pub fn process_line(p: u16, state: &ProcessState, speculating: bool, pages: u32, out: &mut Line)
+    ensures { out.new.items ≡ process_line p state.now speculating pages }
+{
+    out.clear();
+    put_process(out, p, state, speculating, pages);
+}
+
+/// A checkpoint in a list, its space and its pages. Its name has 1 to 32 bytes.
+pub fn checkpoint_line(name: &Bytes, space: u16, pages: u32, out: &mut Line)
+    requires { IsCheckpointName name.now }
+    ensures { out.new.items ≡ checkpoint_line name.now space pages }
+{
+    out.clear();
+    put_checkpoint(out, name.as_slice(), space, pages);
+}

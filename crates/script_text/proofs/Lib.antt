@@ -1,0 +1,7 @@
+pub mod Cuts
+pub mod Spaces
+pub mod Values
+pub mod Rows
+pub mod Meanings
+pub mod Ranges
+pub mod Scripts

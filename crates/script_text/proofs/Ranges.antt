@@ -1,0 +1,127 @@
+use Rattle.std.proofs.Common.{◌≡◌, ℕ, ◌≤◌, ◌&&◌, nat_le, nat_eq, refl, Bool, true, false, cond, List, [], ◌∷◌, length, subst, arith, Option, Some, None}
+use Rattle.std.specs.Option.{IfSome, option_or, option_map}
+use Rattle.std.specs.List.{list_all}
+use Rattle.std.proofs.lemmas.Bool.{and_parts}
+use Rattle.std.proofs.lemmas.Bool.Decides.{nat_tests}
+use lib.Pointwise.{pointwise}
+use Rattle.ovl_io.specs.Outside.{HasName}
+use Rattle.script_text.specs.declared.TheConstants.{MOST_FILE_NAME, MOST_TURNS}
+use Rattle.sizes.specs.declared.TheConstants.{LAST_SPACE}
+use Rattle.script_text.specs.declared.command.Command.{Command}
+use Rattle.script_text.specs.declared.command.Command.TheVariants.{Exec, Load, Run, Step, Drop}
+use Rattle.script_text.specs.declared.command.Meaning.TheVariants.{Does, Nothing}
+use Rattle.script_text.specs.Words.{words_of}
+use Rattle.script_text.specs.Lines.{without_return}
+use Rattle.script_text.specs.Numbers.{within, number_in}
+use Rattle.script_text.specs.Kinds.{Kind, is_file_name, file_word, turns_word, process_word}
+use Rattle.script_text.specs.Forms.{Form, forms, no_words, one_word, two_words, both, made_by, command_of}
+use Rattle.script_text.specs.Script.{is_comment, as_command, meaning_of_words, meaning_of}
+use Rattle.script_text.specs.Given.{IsGiven, IsTurns, IsProcess}
+
+-- Each command of a script has its values in the ranges of their kinds.
+
+-- what a kind gives
+
+where_true : {A : Type 0} (P : A → Type 0) (t : Bool) (a : A) → (t ≡ true → P a) → IfSome (cond t (Some a) None) P
+where_true P true a h = h refl
+where_true P false a h = tt
+
+named : (word : List ℕ) → is_file_name word ≡ true → HasName word
+named word h =
+    let lengths = and_parts (nat_le 1 (length word) && nat_le (length word) MOST_FILE_NAME) (list_all (λ b. nat_le 33 b && nat_le b 126) word) h in
+    let both = and_parts (nat_le 1 (length word)) (nat_le (length word) MOST_FILE_NAME) lengths.0 in
+    (grind (arith, nat_tests), grind (arith, nat_tests))
+
+file_given : (word : List ℕ) → IfSome (file_word word) HasName
+file_given word = where_true HasName (is_file_name word) word (named word)
+
+in_range : (least most : ℕ) (o : Option ℕ) → IfSome (within least most o) (λ n. (least ≤ n) × (n ≤ most))
+in_range least most None = tt
+in_range least most (Some n) =
+    where_true (λ m. (least ≤ m) × (m ≤ most)) (nat_le least n && nat_le n most) n
+    (λ h. let parts = and_parts (nat_le least n) (nat_le n most) h in (grind (arith, nat_tests), grind (arith, nat_tests)))
+
+turns_given : (word : List ℕ) → IfSome (turns_word word) IsTurns
+turns_given word = in_range 1 MOST_TURNS (number_in word)
+
+process_given : (word : List ℕ) → IfSome (process_word word) IsProcess
+process_given word = in_range 1 LAST_SPACE (number_in word)
+
+-- what a row gives
+
+mapped : {A : Type 0} (P : A → Type 0) (make : A → Command) (o : Option A) → IfSome o P → ((a : A) → P a → IsGiven (make a)) → IfSome (option_map make o) IsGiven
+mapped P make None h given = tt
+mapped P make (Some a) h given = given a h
+
+one_given : {A : Type 0} (P : A → Type 0) (kind : Kind A) (make : A → Command) → ((w : List ℕ) → IfSome (kind w) P) → ((a : A) → P a → IsGiven (make a))
+    → (ws : List (List ℕ)) → IfSome (one_word kind make ws) IsGiven
+one_given P kind make has given [] = tt
+one_given P kind make has given (w ∷ []) = mapped P make (kind w) (has w) given
+one_given P kind make has given (w ∷ x ∷ ws) = tt
+
+both_given : {A B : Type 0} (P : A → Type 0) (Q : B → Type 0) (o : Option A) (p : Option B) (make : A → B → Command) → IfSome o P → IfSome p Q
+    → ((a : A) (b : B) → P a → Q b → IsGiven (make a b)) → IfSome (both o p make) IsGiven
+both_given P Q None p make h k given = tt
+both_given P Q (Some a) p make h k given = mapped Q (make a) p k (λ b q. given a b h q)
+
+two_given : {A B : Type 0} (P : A → Type 0) (Q : B → Type 0) (kind : Kind A) (other : Kind B) (make : A → B → Command) → ((w : List ℕ) → IfSome (kind w) P)
+    → ((w : List ℕ) → IfSome (other w) Q) → ((a : A) (b : B) → P a → Q b → IsGiven (make a b)) → (ws : List (List ℕ)) → IfSome (two_words kind other make ws) IsGiven
+two_given P Q kind other make has also given [] = tt
+two_given P Q kind other make has also given (w ∷ []) = tt
+two_given P Q kind other make has also given (w ∷ x ∷ []) = both_given P Q (kind w) (other x) make (has w) (also x) given
+two_given P Q kind other make has also given (w ∷ x ∷ y ∷ ws) = tt
+
+none_given : (command : Command) → IsGiven command → (ws : List (List ℕ)) → IfSome (no_words command ws) IsGiven
+none_given command given [] = given
+none_given command given (w ∷ ws) = tt
+
+-- what the table gives
+
+abbrev AllGive : List Form → Type 0
+AllGive [] = Unit {0}
+AllGive (f ∷ fs) = ((ws : List (List ℕ)) → IfSome (f.makes ws) IsGiven) × AllGive fs
+
+either_given : (t : Bool) (o p : Option Command) → IfSome o IsGiven → IfSome p IsGiven → IfSome (option_or (cond t o None) p) IsGiven
+either_given true None p h k = k
+either_given true (Some c) p h k = h
+either_given false o p h k = k
+
+made_given : (fs : List Form) (first : List ℕ) (words : List (List ℕ)) → AllGive fs → IfSome (made_by fs first words) IsGiven
+made_given [] first words h = tt
+made_given (f ∷ fs) first words h =
+    either_given (pointwise nat_eq first f.first) (f.makes words) (made_by fs first words) (h.0 words) (made_given fs first words h.1)
+
+all_give : AllGive forms
+all_give = (
+  two_given HasName IsTurns file_word turns_word Exec file_given turns_given (λ a b h k. (h, k)),
+  (
+    one_given HasName file_word Load file_given (λ a h. h),
+    (
+      one_given IsTurns turns_word Run turns_given (λ a h. h),
+      (
+        two_given IsProcess IsTurns process_word turns_word Step process_given turns_given (λ a b h k. (h, k)),
+        (
+          one_given IsProcess process_word Drop process_given (λ a h. h),
+          (none_given _ tt, tt),
+        ),
+      ),
+    ),
+  ),
+)
+
+-- what a line gives
+
+from_option : (t : Bool) (o : Option Command) (command : Command) → IfSome o IsGiven → Does command ≡ cond t Nothing (as_command o) → IsGiven command
+from_option true o command h is = cc
+from_option false None command h is = cc
+from_option false (Some c) command h is = let same : c ≡ command = cc in subst IsGiven same h
+
+given_words : (words : List (List ℕ)) (command : Command) → Does command ≡ meaning_of_words words → IsGiven command
+unfolding meaning_of_words command_of
+given_words [] command is = cc
+given_words (first ∷ words) command is =
+    from_option (is_comment first) (command_of first words) command (made_given forms first words all_give) is
+
+pub command_given : (line : List ℕ) (command : Command) → Does command ≡ meaning_of line → IsGiven command
+unfolding meaning_of
+command_given line command is = given_words (words_of (without_return line)) command is

@@ -1,0 +1,43 @@
+use Rattle.std.proofs.Common.{◌≡◌, ℕ, Bool, true, false, cond, List, [], ◌∷◌, ap, sym, ◌∙◌, refl, nat_eq, Option, Some, None, Result, Ok, Err, IfOk}
+use Rattle.std.specs.Option.{option_or}
+use Rattle.std.specs.Cmp.Lexicographic.{same_text}
+use lib.Pointwise.{pointwise}
+use Rattle.script_text.specs.declared.command.Command.{Command}
+use Rattle.script_text.specs.Forms.{Form, forms, made_by, command_of}
+
+-- The rows of the table of forms.
+
+-- what the row of a first word makes, where no other row has that word
+pub at_row : (row text : List ℕ) (makes : List (List ℕ) → Option Command) (first : List ℕ) (words : List (List ℕ))
+    → ((ws : List (List ℕ)) → option_or (makes ws) None ≡ made_by forms row ws) → text ≡ row → true ≡ pointwise nat_eq first text
+    → makes words ≡ command_of first words
+unfolding command_of
+at_row row text makes first words alone same is =
+    or_none (makes words) ∙ alone words ∙ ap (λ (w : List ℕ). made_by forms w words) (sym (same_text first text is ∙ same))
+  where
+    or_none : (o : Option Command) → o ≡ option_or o None
+    or_none None = refl
+    or_none (Some command) = refl
+
+-- a first word that is none of a text
+pub not_text : (row text first : List ℕ) → text ≡ row → false ≡ pointwise nat_eq first text → false ≡ pointwise nat_eq first row
+not_text row text first same h = h ∙ ap (λ (t : List ℕ). pointwise nat_eq first t) same
+
+-- where it is answered with want of memory
+pub if_ok : {E : Type 0} (r : Result (Option Command) E) (x y : Option Command) → x ≡ y → IfOk r (λ c. c ≡ x) → IfOk r (λ c. c ≡ y)
+if_ok (Ok c) x y same h = h ∙ same
+if_ok (Err e) x y same h = tt
+
+-- a first word that no row has
+abbrev pub IsOther : List ℕ → List Form → Type 0
+IsOther first [] = Unit {0}
+IsOther first (f ∷ fs) = (false ≡ pointwise nat_eq first f.first) × IsOther first fs
+
+none_made : (fs : List Form) (first : List ℕ) (words : List (List ℕ)) → IsOther first fs → None ≡ made_by fs first words
+none_made [] first words h = refl
+none_made (f ∷ fs) first words h =
+    none_made fs first words h.1 ∙ ap (λ (t : Bool). option_or (cond t (f.makes words) None) (made_by fs first words)) h.0
+
+pub at_no_row : (first : List ℕ) (words : List (List ℕ)) → IsOther first forms → None ≡ command_of first words
+unfolding command_of
+at_no_row first words h = none_made forms first words h

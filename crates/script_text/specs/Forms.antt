@@ -1,0 +1,58 @@
+use Rattle.std.specs.Prelude.{ℕ, nat_eq, List, [], ◌∷◌, Option, Some, None, codes, if◌then◌else◌}
+use Rattle.std.specs.Option.{option_map, option_or}
+use lib.Pointwise.{pointwise}
+use Rattle.script_text.specs.declared.command.Command.{Command}
+use Rattle.script_text.specs.declared.command.Command.TheVariants.{Exec, Load, Run, Step, Drop}
+use Rattle.script_text.specs.declared.command.Command.TheVariants as command
+use Rattle.script_text.specs.Kinds.{Kind, file_word, turns_word, process_word}
+
+-- The forms of commands.
+
+-- A form: its first word, and the command that the words behind it make, if they are of its kinds.
+pub record Form : Type 0 where
+  pub first : List ℕ
+  pub makes : List (List ℕ) → Option Command
+
+abbrev pub form : List ℕ → (List (List ℕ) → Option Command) → Form
+form first makes = record { first = first; makes = makes }
+
+-- what no word, one word and two words of some kinds make
+abbrev pub no_words : Command → List (List ℕ) → Option Command
+no_words command [] = Some command
+no_words command (w ∷ ws) = None
+
+abbrev pub one_word : {A : Type 0} → Kind A → (A → Command) → List (List ℕ) → Option Command
+one_word kind make [] = None
+one_word kind make (w ∷ []) = option_map make (kind w)
+one_word kind make (w ∷ x ∷ ws) = None
+
+abbrev pub both : {A B : Type 0} → Option A → Option B → (A → B → Command) → Option Command
+both None b make = None
+both (Some a) b make = option_map (make a) b
+
+abbrev pub two_words : {A B : Type 0} → Kind A → Kind B → (A → B → Command) → List (List ℕ) → Option Command
+two_words kind other make [] = None
+two_words kind other make (w ∷ []) = None
+two_words kind other make (w ∷ x ∷ []) = both (kind w) (other x) make
+two_words kind other make (w ∷ x ∷ y ∷ ws) = None
+
+-- The table: a row a form, with its first word, the kinds of the words behind it, and the command.
+abbrev pub forms : List Form
+forms =
+    form (codes "exec") (two_words file_word turns_word Exec)
+    ∷ form (codes "load") (one_word file_word Load)
+    ∷ form (codes "run") (one_word turns_word Run)
+    ∷ form (codes "step") (two_words process_word turns_word Step)
+    ∷ form (codes "drop") (one_word process_word Drop)
+    ∷ form (codes "list") (no_words command.List)
+    ∷ []
+
+-- the command of the first of some forms that a first word and the words behind it fit
+abbrev pub made_by : List Form → List ℕ → List (List ℕ) → Option Command
+made_by [] first words = None
+made_by (f ∷ fs) first words =
+    option_or (if pointwise nat_eq first f.first then f.makes words else None) (made_by fs first words)
+
+-- the command that a first word and the words behind it are
+unfoldable pub command_of : List ℕ → List (List ℕ) → Option Command
+command_of first words = made_by forms first words

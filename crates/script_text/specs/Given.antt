@@ -1,0 +1,44 @@
+use Rattle.std.specs.Prelude.{ℕ, ◌≤◌}
+use Rattle.ovl_io.specs.Outside.{HasName}
+use Rattle.sizes.specs.declared.TheConstants.{LAST_SPACE}
+use Rattle.script_text.specs.declared.TheConstants.{MOST_TURNS}
+use Rattle.script_text.specs.declared.command.Command.{Command}
+use Rattle.script_text.specs.declared.command.Command.TheVariants.{Exec, Load, Run, Step, Drop}
+use Rattle.script_text.specs.declared.command.Command.TheVariants as command
+
+-- What holds of each command that a script gives.
+
+abbrev pub IsTurns : ℕ → Type 0
+IsTurns n = (1 ≤ n) × (n ≤ MOST_TURNS)
+
+abbrev pub IsProcess : ℕ → Type 0
+IsProcess p = (1 ≤ p) × (p ≤ LAST_SPACE)
+
+-- Each value lies in the range of its kind. No form makes one of the other commands yet.
+abbrev pub IsGiven : Command → Type 0
+IsGiven (Exec name turns) = HasName name × IsTurns turns
+IsGiven (Load name) = HasName name
+IsGiven (Run turns) = IsTurns turns
+IsGiven (Step p turns) = IsProcess p × IsTurns turns
+IsGiven (Drop p) = IsProcess p
+IsGiven command.List = Unit {0}
+IsGiven (command.Fork p) = ⊥
+IsGiven (command.Checkpoint p name) = ⊥
+IsGiven (command.Restore p name) = ⊥
+IsGiven (command.Forget name) = ⊥
+IsGiven (command.Speculate p) = ⊥
+IsGiven (command.Commit p) = ⊥
+IsGiven (command.Discard p) = ⊥
+IsGiven (command.Promote p address) = ⊥
+IsGiven (command.PromoteAll p) = ⊥
+IsGiven command.Compact = ⊥
+IsGiven (command.Map p address pages perms) = ⊥
+IsGiven (command.Unmap p address pages) = ⊥
+IsGiven (command.Regs p) = ⊥
+IsGiven (command.Dump p address count) = ⊥
+IsGiven (command.Poke p address bytes) = ⊥
+IsGiven (command.Set p register value) = ⊥
+IsGiven (command.Break p address) = ⊥
+IsGiven (command.Unbreak p address) = ⊥
+IsGiven (command.Disasm p address words) = ⊥
+IsGiven command.Stats = ⊥

@@ -1,0 +1,26 @@
+use Rattle.std.specs.Prelude.{ℕ, ◌&&◌, nat_le, Bool, List, length, Option, Some, None, if◌then◌else◌}
+use Rattle.std.specs.List.{list_all}
+use Rattle.sizes.specs.declared.TheConstants.{LAST_SPACE}
+use Rattle.script_text.specs.declared.TheConstants.{MOST_FILE_NAME, MOST_TURNS}
+use Rattle.script_text.specs.Numbers.{number_between}
+
+-- The kinds of words. A kind is what it makes of a word: what the word says, or nothing where it is none of
+-- the kind.
+abbrev pub Kind : Type 0 → Type 0
+Kind A = List ℕ → Option A
+
+-- FILE: 1 to 255 bytes, each from 21 to 7E
+abbrev pub is_file_name : List ℕ → Bool
+is_file_name word =
+    nat_le 1 (length word) && nat_le (length word) MOST_FILE_NAME && list_all (λ b. nat_le 33 b && nat_le b 126) word
+
+abbrev pub file_word : Kind (List ℕ)
+file_word word = if is_file_name word then Some word else None
+
+-- N: a number of turns
+abbrev pub turns_word : Kind ℕ
+turns_word word = number_between 1 MOST_TURNS word
+
+-- P: a process number
+abbrev pub process_word : Kind ℕ
+process_word word = number_between 1 LAST_SPACE word

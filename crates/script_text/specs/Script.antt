@@ -1,0 +1,57 @@
+use Rattle.std.specs.Prelude.{◌≡◌, ℕ, ◌+◌, ◌==◌, Bool, false, List, [], ◌∷◌, Option, Some, None, Result, Ok, Err, if◌then◌else◌}
+use Rattle.script_text.specs.declared.command.Command.{Command}
+use Rattle.script_text.specs.declared.command.Meaning.{Meaning}
+use Rattle.script_text.specs.declared.command.Meaning.TheVariants.{Does, Nothing, Outside}
+use Rattle.script_text.specs.declared.command.ScriptError.{ScriptError}
+use Rattle.script_text.specs.declared.command.ScriptError.TheVariants.{Line, Memory}
+use Rattle.script_text.specs.Lines.{script_lines, without_return}
+use Rattle.script_text.specs.Words.{words_of}
+use Rattle.script_text.specs.Forms.{command_of}
+
+-- What a script says.
+
+-- whether a word starts with `#`
+abbrev pub is_comment : List ℕ → Bool
+is_comment [] = false
+is_comment (b ∷ bs) = b == 35
+
+abbrev pub as_command : Option Command → Meaning
+as_command None = Outside
+as_command (Some command) = Does command
+
+-- what some words are: no command where there is none or where the first starts a comment, else a command
+-- where they are those of a form, else outside
+unfoldable pub meaning_of_words : List (List ℕ) → Meaning
+meaning_of_words [] = Nothing
+meaning_of_words (first ∷ words) = if is_comment first then Nothing else as_command (command_of first words)
+
+-- what a line is
+unfoldable pub meaning_of : List ℕ → Meaning
+meaning_of line = meaning_of_words (words_of (without_return line))
+
+-- commands, and then those that are told
+abbrev pub and_then : Command → Result (List Command) ℕ → Result (List Command) ℕ
+and_then command (Ok commands) = Ok (command ∷ commands)
+and_then command (Err line) = Err line
+
+-- line k, by what it is, and then what the lines behind it say
+abbrev pub said_by : ℕ → Meaning → Result (List Command) ℕ → Result (List Command) ℕ
+said_by k (Does command) behind = and_then command behind
+said_by k Nothing behind = behind
+said_by k Outside behind = Err k
+
+-- the commands of some lines in order, of which the first is line k; or the number of the first that is outside
+abbrev pub commands_from : ℕ → List (List ℕ) → Result (List Command) ℕ
+commands_from k [] = Ok []
+commands_from k (line ∷ lines) = said_by k (meaning_of line) (commands_from (k + 1) lines)
+
+-- the commands of a script, or the number from 1 of its first line that is outside
+unfoldable pub commands_of : List ℕ → Result (List Command) ℕ
+commands_of script = commands_from 1 (script_lines script)
+
+-- What parsing a script gives. With commands, each line is a command or no command, and those are the
+-- commands in order; with the number of a line, it is the first that is outside. Memory may be wanting.
+abbrev pub Parses : {Commands : Type 0} → (Commands → List Command) → List ℕ → Result Commands ScriptError → Type 0
+Parses view script (Ok commands) = commands_of script ≡ Ok (view commands)
+Parses view script (Err (Line k)) = commands_of script ≡ Err k
+Parses view script (Err Memory) = Unit {0}

@@ -1,0 +1,149 @@
+ghost use Rattle.std.specs.Prelude.{◌≡◌, IfOk};
+ghost use Rattle.script_text.specs.Words.{words_of};
+ghost use Rattle.script_text.specs.Kinds.{file_word, turns_word, process_word};
+ghost use Rattle.script_text.specs.Forms.{no_words, one_word, two_words, command_of};
+ghost use Rattle.script_text.specs.Script.{is_comment, meaning_of};
+ghost use Rattle.script_text.specs.declared.command.Command.TheVariants.{Exec, Load, Run, Step, Drop};
+ghost use Rattle.script_text.specs.declared.command.Command.TheVariants as command;
+
+use crate::command::{Command, Meaning};
+use crate::kinds::{file_word, process_word, turns_word};
+use crate::lines::without_return;
+use crate::words::{next_word, no_words, one_word, two_words};
+use std::alloc::{AllocError, Global};
+
+// The forms, each by the words behind its first.
+
+/// `exec FILE N`
+fn exec(alloc: Global, words: &[u8]) -> Result<Option<Command>, AllocError>
+    ensures { IfOk result (λ command. command ≡ two_words file_word turns_word Exec (words_of words.now)) }
+{
+    let (name, turns) = match two_words(words) {
+        Some(words) => words,
+        None => return Ok(None),
+    };
+    let turns = match turns_word(turns) {
+        Some(turns) => turns,
+        None => return Ok(None),
+    };
+    match file_word(alloc, name)? {
+        Some(name) => Ok(Some(Command::Exec(name, turns))),
+        None => Ok(None),
+    }
+}
+
+/// `load FILE`
+fn load(alloc: Global, words: &[u8]) -> Result<Option<Command>, AllocError>
+    ensures { IfOk result (λ command. command ≡ one_word file_word Load (words_of words.now)) }
+{
+    let name = match one_word(words) {
+        Some(name) => name,
+        None => return Ok(None),
+    };
+    match file_word(alloc, name)? {
+        Some(name) => Ok(Some(Command::Load(name))),
+        None => Ok(None),
+    }
+}
+
+/// `run N`
+fn run(words: &[u8]) -> Option<Command>
+    ensures { result ≡ one_word turns_word Run (words_of words.now) }
+{
+    let turns = match one_word(words) {
+        Some(turns) => turns,
+        None => return None,
+    };
+    match turns_word(turns) {
+        Some(turns) => Some(Command::Run(turns)),
+        None => None,
+    }
+}
+
+/// `step P N`
+fn step(words: &[u8]) -> Option<Command>
+    ensures { result ≡ two_words process_word turns_word Step (words_of words.now) }
+{
+    let (p, turns) = match two_words(words) {
+        Some(words) => words,
+        None => return None,
+    };
+    let p = match process_word(p) {
+        Some(p) => p,
+        None => return None,
+    };
+    match turns_word(turns) {
+        Some(turns) => Some(Command::Step(p, turns)),
+        None => None,
+    }
+}
+
+/// `drop P`
+fn give_up(words: &[u8]) -> Option<Command>
+    ensures { result ≡ one_word process_word Drop (words_of words.now) }
+{
+    let p = match one_word(words) {
+        Some(p) => p,
+        None => return None,
+    };
+    match process_word(p) {
+        Some(p) => Some(Command::Drop(p)),
+        None => None,
+    }
+}
+
+/// `list`
+fn list(words: &[u8]) -> Option<Command>
+    ensures { result ≡ no_words command.List (words_of words.now) }
+{
+    if no_words(words) {
+        Some(Command::List)
+    } else {
+        None
+    }
+}
+
+/// The command that a first word and the words behind it are, by the table of forms.
+fn command_of(alloc: Global, first: &[u8], words: &[u8]) -> Result<Option<Command>, AllocError>
+    ensures { IfOk result (λ command. command ≡ command_of first.now (words_of words.now)) }
+{
+    if first == b"exec".as_slice() {
+        exec(alloc, words)
+    } else if first == b"load".as_slice() {
+        load(alloc, words)
+    } else if first == b"run".as_slice() {
+        Ok(run(words))
+    } else if first == b"step".as_slice() {
+        Ok(step(words))
+    } else if first == b"drop".as_slice() {
+        Ok(give_up(words))
+    } else if first == b"list".as_slice() {
+        Ok(list(words))
+    } else {
+        Ok(None)
+    }
+}
+
+/// Whether a word starts a comment.
+fn is_comment(word: &[u8]) -> bool
+    ensures { result ≡ is_comment word.now }
+{
+    !word.is_empty() && word[0] == b'#'
+}
+
+/// What a line is.
+pub(crate) fn meaning_of(alloc: Global, line: &[u8]) -> Result<Meaning, AllocError>
+    ensures { IfOk result (λ meaning. meaning ≡ meaning_of line.now) }
+{
+    let (first, words) = match next_word(without_return(line)) {
+        Some(parts) => parts,
+        None => return Ok(Meaning::Nothing),
+    };
+    if is_comment(first) {
+        return Ok(Meaning::Nothing);
+    }
+    match command_of(alloc, first, words)? {
+        Some(command) => Ok(Meaning::Does(command)),
+        None => Ok(Meaning::Outside),
+    }
+}

@@ -1,0 +1,56 @@
+ghost use Rattle.std.specs.Prelude.{◌≡◌, ◌&&◌, nat_le, IfOk};
+ghost use Rattle.std.specs.List.{list_all};
+ghost use Rattle.script_text.specs.Kinds.{is_file_name, file_word, turns_word, process_word};
+
+use crate::numbers::number_between;
+use crate::{MOST_FILE_NAME, MOST_TURNS};
+use ovl_io::Bytes;
+use sizes::LAST_SPACE;
+use std::alloc::{AllocError, Global};
+
+/// Whether each byte is printable and no blank.
+fn all_printable(bytes: &[u8]) -> bool
+    ensures { result ≡ list_all (λ b. nat_le 33 b && nat_le b 126) bytes.now }
+{
+    bytes.iter().all(|b| 33 <= *b && *b <= 126)
+}
+
+/// Whether a word is a file's name.
+fn is_file_name(word: &[u8]) -> bool
+    ensures { result ≡ is_file_name word.now }
+{
+    if word.is_empty() || word.len() > MOST_FILE_NAME {
+        return false;
+    }
+    all_printable(word)
+}
+
+/// The file that a word names.
+pub(crate) fn file_word(alloc: Global, word: &[u8]) -> Result<Option<Bytes>, AllocError>
+    ensures { IfOk result (λ name. name ≡ file_word word.now) }
+{
+    if !is_file_name(word) {
+        return Ok(None);
+    }
+    Ok(Some(Bytes::new(Vec::from_slice(alloc, word)?)))
+}
+
+/// The number of turns that a word is.
+pub(crate) fn turns_word(word: &[u8]) -> Option<u32>
+    ensures { result ≡ turns_word word.now }
+{
+    match number_between(1, u64::from(MOST_TURNS), word) {
+        Some(n) => Some(n as u32),
+        None => None,
+    }
+}
+
+/// The process number that a word is.
+pub(crate) fn process_word(word: &[u8]) -> Option<u16>
+    ensures { result ≡ process_word word.now }
+{
+    match number_between(1, u64::from(LAST_SPACE), word) {
+        Some(n) => Some(n as u16),
+        None => None,
+    }
+}

@@ -1,0 +1,123 @@
+ghost use Rattle.std.specs.Prelude.{◌≤◌, length};
+ghost use Rattle.sizes.specs.declared.TheConstants.{MOST_SCRIPT_BYTES};
+
+mod long_rows;
+mod rows;
+
+use crate::{Command, ScriptError, line_count, parse};
+use long_rows::LONG_ROWS;
+use rows::ROWS;
+use sizes::{MOST_SCRIPT_BYTES, MOST_SCRIPT_LINES};
+use std::alloc::{AllocError, Global};
+use std::test::Fail;
+
+// What a command says, as a script spells it with decimal numbers. No form makes one of the others yet.
+fn show(alloc: Global, command: &Command, out: &mut Vec<u8>) -> Result<(), AllocError> {
+    match command {
+        Command::Exec(name, turns) => {
+            out.extend_from_slice(b"exec ")?;
+            out.extend_from_slice(name.as_slice())?;
+            out.extend_from_slice(format!(in alloc; " {turns}")?.as_bytes())?;
+        }
+        Command::Load(name) => {
+            out.extend_from_slice(b"load ")?;
+            out.extend_from_slice(name.as_slice())?;
+        }
+        Command::Run(turns) => {
+            out.extend_from_slice(format!(in alloc; "run {turns}")?.as_bytes())?;
+        }
+        Command::Step(p, turns) => {
+            out.extend_from_slice(format!(in alloc; "step {p} {turns}")?.as_bytes())?;
+        }
+        Command::Drop(p) => {
+            out.extend_from_slice(format!(in alloc; "drop {p}")?.as_bytes())?;
+        }
+        Command::List => out.extend_from_slice(b"list")?,
+        _ => out.extend_from_slice(b"another")?,
+    }
+    Ok(())
+}
+
+// What a script says: its commands, divided by `; `, or the first line that is outside.
+fn said(alloc: Global, script: &[u8]) -> Result<Vec<u8>, AllocError>
+    requires { length script.now ≤ MOST_SCRIPT_BYTES }
+{
+    let mut out = Vec::new(alloc);
+    match parse(alloc, script) {
+        Ok(commands) => {
+            for (i, command) in commands.iter().enumerate() {
+                if i > 0 {
+                    out.extend_from_slice(b"; ")?;
+                }
+                show(alloc, command, &mut out)?;
+            }
+        }
+        Err(ScriptError::Line(k)) => {
+            out.extend_from_slice(format!(in alloc; "bad {k}")?.as_bytes())?;
+        }
+        Err(ScriptError::Memory) => out.extend_from_slice(b"memory")?,
+    }
+    Ok(out)
+}
+
+// Puts the bytes of `HH` or `HH*N` behind others.
+fn push_bytes(alloc: Global, text: &str, out: &mut Vec<u8>) -> Result<(), AllocError> {
+    let (digits, times) = match text.split_once('*') {
+        Some((digits, times)) => (digits, times.parse::<usize>().unwrap_or(0)),
+        None => (text, 1),
+    };
+    let byte = u8::from_str_radix(digits, 16).unwrap_or(0);
+    let bytes = Vec::from_elem(alloc, byte, times)?;
+    out.extend_from_slice(bytes.as_slice())
+}
+
+// The bytes that a text of a row stands for.
+fn bytes_of(alloc: Global, text: &str) -> Result<Vec<u8>, AllocError> {
+    let mut out = Vec::new(alloc);
+    for piece in text.split('{') {
+        match piece.split_once('}') {
+            Some((bytes, plain)) => {
+                push_bytes(alloc, bytes, &mut out)?;
+                out.extend_from_slice(plain.as_bytes())?;
+            }
+            None => out.extend_from_slice(piece.as_bytes())?,
+        }
+    }
+    Ok(out)
+}
+
+#[test]
+fn scripts_say_what_the_grammar_says(rt: HostRuntime) -> Result<(), Fail> {
+    let mut rows: usize = 0;
+    for table in [ROWS, LONG_ROWS] {
+        for row in table.split('\n') {
+            let (script, want) = row.split_once(" => ").expect(&rt, "a row has two parts");
+            let script = bytes_of(rt.alloc(), script)?;
+            assert!(rt; script.len() <= MOST_SCRIPT_BYTES);
+            let want = bytes_of(rt.alloc(), want)?;
+            let got = said(rt.alloc(), script.as_slice())?;
+            assert!(rt; got == want, "{row}");
+            rows = rows.saturating_add(1);
+        }
+    }
+    assert_eq!(rt; rows, 686);
+    Ok(())
+}
+
+#[test]
+fn lines_are_counted(rt: HostRuntime) -> Result<(), Fail> {
+    let rows: [(&[u8], usize); 6] = [
+        (b"", 0),
+        (b"\r", 1),
+        (b"x\n", 1),
+        (b"x\n ", 2),
+        (b"# a\r\n\r\nlist", 3),
+        (b"\n\n\n", 3),
+    ];
+    for (script, lines) in rows {
+        assert_eq!(rt; line_count(script), lines);
+    }
+    let many = Vec::from_elem(rt.alloc(), b'\n', MOST_SCRIPT_LINES + 1)?;
+    assert_eq!(rt; line_count(many.as_slice()), MOST_SCRIPT_LINES + 1);
+    Ok(())
+}
