@@ -76,6 +76,10 @@ page_in headers page = record {
   stored = list_any (touches_file page) headers;
 }
 
+-- all pages that some segments touch
+abbrev pub all_pages : List ProgramHeader → List ImagePage
+all_pages headers = map (page_in headers) (pages_in headers)
+
 abbrev pub listed_page : List ℕ → ℕ → ImagePage
 listed_page file page = page_in (loads_of file) page
 

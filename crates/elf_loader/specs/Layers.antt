@@ -1,11 +1,12 @@
-use Rattle.std.specs.Prelude.{◌≡◌, ℕ, ◌+◌, ◌*◌, ◌<◌, ◌≤◌, Bool, true, false, List, [], ◌∷◌, length, map, drop, get_or, Option, Some, None, IsSome, All, if◌then◌else◌}
+use Rattle.std.specs.Prelude.{◌≡◌, ℕ, ◌+◌, ◌*◌, ◌<◌, ◌≤◌, Bool, true, false, List, [], ◌∷◌, ◌++◌, ◌⊎◌, ◌≢◌, length, map, drop, get_or, set, Option, Some, None, IsSome, All, if◌then◌else◌}
 use Rattle.std.specs.List.Sorted.{IsNonDecreasingBy}
 use Rattle.std.specs.Global.{Vec}
 use Rattle.sizes.specs.declared.TheConstants.{PAGE_BYTES}
-use Rattle.elf_loader.specs.Image.{holds, last_holding}
+use Rattle.elf_loader.specs.Image.{holds, last_holding, byte_in, page_length}
 use Rattle.elf_loader.specs.Touched.{page_numbers}
 use Rattle.elf_loader.specs.declared.header.ProgramHeader.{ProgramHeader}
 use Rattle.elf_loader.specs.declared.image.ImagePage.{ImagePage}
+use Rattle.elf_loader.specs.declared.layers.Stack.{Stack}
 
 -- Which segments a page takes its bytes from. The segments are gone through from the last to the first, and a page takes none
 -- any more once one has filled it.
@@ -77,3 +78,43 @@ pub record Starts (count : ℕ) (layers : List (Vec ℕ)) (full : List Bool) (ne
   pub none : (p : ℕ) → p < count → get_or (items_of layers) p [] ≡ []
   pub empty : (p : ℕ) → p < count → get_or full p false ≡ false
   pub on : (p : ℕ) → p < count → get_or next p 0 ≡ p + 1
+
+-- The same of a stack.
+
+abbrev pub HasStarted : ℕ → Stack → Type 0
+HasStarted count stack = Starts count stack.layers.items stack.full.items stack.next.items
+
+abbrev pub IsStack : List ProgramHeader → List ImagePage → ℕ → Stack → Type 0
+IsStack loads pages from stack = Stands loads pages from stack.layers.items stack.full.items stack.next.items
+
+-- one page of it has what the segments from one on give it
+abbrev pub IsLayeredAt : List ProgramHeader → List ImagePage → ℕ → ℕ → Stack → Type 0
+IsLayeredAt loads pages from at stack =
+    Layered loads from (number_of pages at) (get_or (items_of stack.layers.items) at []) (get_or stack.full.items at false)
+
+-- it has the lengths of its pages
+abbrev pub HasLengths : ℕ → Stack → Type 0
+HasLengths count stack = (length (items_of stack.layers.items) ≡ count) × (length stack.full.items ≡ count)
+
+-- the other pages are as before
+abbrev pub LeavesOthers : ℕ → Stack → Stack → Type 0
+LeavesOthers at old new =
+    (p : ℕ) → p ≢ at
+    → (get_or (items_of new.layers.items) p [] ≡ get_or (items_of old.layers.items) p [])
+    × (get_or new.full.items p false ≡ get_or old.full.items p false)
+
+-- what was full is full
+abbrev pub StaysFull : Stack → Stack → Type 0
+StaysFull old new = (p : ℕ) → get_or old.full.items p false ≡ true → get_or new.full.items p false ≡ true
+
+-- a segment holds no address of the pages outside these places
+abbrev pub IsWithin : ProgramHeader → List ImagePage → ℕ → ℕ → Type 0
+IsWithin header pages from to = (p : ℕ) → p < length pages → (p < from) ⊎ (to ≤ p) → IsApart header (number_of pages p)
+
+-- lists of places with one place more in one of them
+abbrev pub one_layer_more : List (List ℕ) → ℕ → ℕ → List (List ℕ)
+one_layer_more layers at load = set layers at (get_or layers at [] ++ load ∷ [])
+
+-- bytes that are a page's, by these segments
+abbrev pub AreBytesOf : List ProgramHeader → List ℕ → ℕ → List ℕ → Type 0
+AreBytesOf loads file page bytes = (i : ℕ) → i < page_length → get_or bytes i 0 ≡ byte_in loads file (PAGE_BYTES * page + i)

@@ -1,7 +1,8 @@
 ghost use Rattle.std.specs.Prelude.{◌≡◌, ℕ, ◌+◌, ◌-◌, ◌*◌, ◌^◌, ◌<◌, ◌≤◌, length, slice_index, if◌then◌else◌};
-ghost use Rattle.sizes.specs.declared.TheConstants.{PAGE_BYTES, PAGE_END, ADDRESS_END};
+ghost use Rattle.sizes.specs.declared.TheConstants.{PAGE_BYTES, PAGE_END};
 ghost use Rattle.elf_loader.specs.Fields.{number_at, header_at};
 ghost use Rattle.elf_loader.specs.Accepted.{names_interpreter, is_larger_in_file, is_outside_file, is_too_high, has_memory};
+ghost use Rattle.elf_loader.specs.Reach.{IsAddressed, IsInFile};
 ghost use Rattle.elf_loader.specs.Image.{holds, fills, perms_of};
 
 use bitflags::Flags;
@@ -123,8 +124,8 @@ impl ProgramHeader {
 
     /// Puts the bytes of the segment that lie in a page at their places in it. The other bytes stay.
     pub(crate) fn lay(&self, file: &[u8], page: u64, out: &mut [u8; PAGE_BYTES])
-        requires in_file { 0 < self.now.file_size → self.now.offset + self.now.file_size ≤ length file.now }
-        requires in_memory { 0 < self.now.file_size → self.now.address + self.now.file_size ≤ ADDRESS_END }
+        requires in_file { IsInFile file.now self.now }
+        requires in_memory { IsAddressed self.now }
         requires is_page { page < PAGE_END }
         ensures { (i : ℕ) → i < PAGE_BYTES → slice_index out.new i
             ≡ (if holds self.now (PAGE_BYTES * page + i)

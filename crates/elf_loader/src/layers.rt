@@ -1,10 +1,7 @@
-ghost use Rattle.std.specs.Prelude.{◌≡◌, ℕ, ◌+◌, ◌*◌, ◌<◌, ◌≤◌, ◌⊎◌, ◌≢◌, true, false, List, [], ◌∷◌, ◌++◌, length, get_or, slice_index, slice_set, IfOk, OnOk, All};
-ghost use Rattle.std.specs.List.Sorted.{IsNonDecreasingBy};
-ghost use Rattle.sizes.specs.declared.TheConstants.{PAGE_BYTES};
-ghost use Rattle.elf_loader.specs.Image.{byte_in, page_length};
+ghost use Rattle.std.specs.Prelude.{◌≡◌, ℕ, ◌+◌, ◌<◌, ◌≤◌, true, false, length, get_or, slice_set, IfOk, OnOk, All};
 ghost use Rattle.elf_loader.specs.Touched.{page_numbers};
 ghost use Rattle.elf_loader.specs.Reach.{IsBelowStack, Lies};
-ghost use Rattle.elf_loader.specs.Layers.{Layered, HasLayers, Skips, Starts, Stands, page_number, IsApart, AreAscending, number_of, items_of, no_header};
+ghost use Rattle.elf_loader.specs.Layers.{AreAscending, AreBytesOf, HasLayers, HasStarted, IsLayeredAt, IsStack, IsWithin, Layered, LeavesOthers, Skips, StaysFull, items_of, no_header, number_of, one_layer_more};
 
 use crate::header::ProgramHeader;
 use crate::image::ImagePage;
@@ -32,7 +29,8 @@ fn add_layer(
 ) -> Result<(), AllocError>
     requires at { at < length (items_of layers.old.items) }
     requires marked { at < length full.old.items }
-    ensures layers { OnOk result (items_of layers.new.items ≡ slice_set (items_of layers.old.items) at (get_or (items_of layers.old.items) at [] ++ load ∷ [])) }
+    ensures layers { OnOk result (items_of layers.new.items
+        ≡ one_layer_more (items_of layers.old.items) at load) }
     ensures full { OnOk result (full.new.items ≡ slice_set full.old.items at fills) }
 {
     layers[at].push(load)?;
@@ -70,7 +68,7 @@ struct Stack {
 impl Stack {
     /// So many pages without a segment.
     fn of_none(alloc: Global, count: usize) -> Result<Stack, AllocError>
-        ensures { IfOk result (λ stack. Starts count stack.layers.items stack.full.items stack.next.items) }
+        ensures { IfOk result (HasStarted count) }
     {
         let mut layers = Vec::new(alloc);
         let mut full = Vec::new(alloc);
@@ -96,13 +94,13 @@ impl Stack {
         requires is_page { number_of pages.now at < page_numbers }
         requires as_many { length (items_of self.old.layers.items) ≡ length pages.now }
         requires marked { length self.old.full.items ≡ length pages.now }
-        requires layered { Layered loads.now (load + 1) (number_of pages.now at) (get_or (items_of self.old.layers.items) at []) (get_or self.old.full.items at false) }
+        requires layered { IsLayeredAt loads.now pages.now (load + 1) at self.old }
         ensures next { OnOk result (self.new.next ≡ self.old.next) }
         ensures as_many { OnOk result (length (items_of self.new.layers.items) ≡ length pages.now) }
         ensures marked { OnOk result (length self.new.full.items ≡ length pages.now) }
-        ensures layered { OnOk result (Layered loads.now load (number_of pages.now at) (get_or (items_of self.new.layers.items) at []) (get_or self.new.full.items at false)) }
-        ensures others { OnOk result ((p : ℕ) → p ≢ at → (get_or (items_of self.new.layers.items) p [] ≡ get_or (items_of self.old.layers.items) p []) × (get_or self.new.full.items p false ≡ get_or self.old.full.items p false)) }
-        ensures stays { OnOk result ((p : ℕ) → get_or self.old.full.items p false ≡ true → get_or self.new.full.items p false ≡ true) }
+        ensures layered { OnOk result (IsLayeredAt loads.now pages.now load at self.new) }
+        ensures others { OnOk result (LeavesOthers at self.old self.new) }
+        ensures stays { OnOk result (StaysFull self.old self.new) }
     {
         if self.full[at] {
             return Ok(());
@@ -123,9 +121,9 @@ impl Stack {
         requires load { load < length loads.now }
         requires to { to ≤ length pages.now }
         requires sorted { AreAscending pages.now }
-        requires stands { Stands loads.now pages.now (load + 1) self.old.layers.items self.old.full.items self.old.next.items }
-        requires apart { (p : ℕ) → p < length pages.now → (p < from) ⊎ (to ≤ p) → IsApart (get_or loads.now load no_header) (number_of pages.now p) }
-        ensures { OnOk result (Stands loads.now pages.now load self.new.layers.items self.new.full.items self.new.next.items) }
+        requires stands { IsStack loads.now pages.now (load + 1) self.old }
+        requires apart { IsWithin (get_or loads.now load no_header) pages.now from to }
+        ensures { OnOk result (IsStack loads.now pages.now load self.new) }
     {
         let mut at = from;
         'laying: while at < to {
@@ -145,8 +143,8 @@ impl Stack {
         requires load { load < length loads.now }
         requires sorted { AreAscending pages.now }
         requires below { All IsBelowStack loads.now }
-        requires stands { Stands loads.now pages.now (load + 1) self.old.layers.items self.old.full.items self.old.next.items }
-        ensures { OnOk result (Stands loads.now pages.now load self.new.layers.items self.new.full.items self.new.next.items) }
+        requires stands { IsStack loads.now pages.now (load + 1) self.old }
+        ensures { OnOk result (IsStack loads.now pages.now load self.new) }
     {
         let header = loads[load];
         let from = place_of(pages, header.address / PAGE_BYTES as u64);
@@ -185,7 +183,7 @@ pub(crate) fn lay_all(
     requires layered { Layered loads.now 0 page layers.now false }
     requires lie { All (Lies file.now) loads.now }
     requires is_page { page < page_numbers }
-    ensures { (i : ℕ) → i < page_length → slice_index out.new i ≡ byte_in loads.now file.now (PAGE_BYTES * page + i) }
+    ensures { AreBytesOf loads.now file.now page out.new }
 {
     out.fill(0);
     let mut left = layers.len();

@@ -4,8 +4,8 @@ ghost use Rattle.std.specs.List.Sorted.{IsNonDecreasingBy, IsPermutation};
 ghost use Rattle.sizes.specs.declared.TheConstants.{ADDRESS_END, MOST_IMAGE_PAGES};
 ghost use Rattle.ovl_io.specs.Permissions.{readable, writable, executable};
 ghost use Rattle.elf_loader.specs.Touched.{pages_in};
-ghost use Rattle.elf_loader.specs.Image.{page_in};
-ghost use Rattle.elf_loader.specs.Reach.{pages_end, first_page, memory_end, file_end, end_with, page_at, perms_by, IsBelowStack, IsTooMany};
+ghost use Rattle.elf_loader.specs.Image.{all_pages};
+ghost use Rattle.elf_loader.specs.Reach.{pages_end, first_page, memory_end, file_end, end_with, page_at, perms_by, Adds, reached, AreCounted, IsBelowStack, IsTooMany};
 
 use crate::header::ProgramHeader;
 use crate::image::{ElfError, ImagePage};
@@ -119,7 +119,7 @@ impl Reach {
     /// Appends the pages from one number up to another.
     fn append(&self, pages: &mut Vec<ImagePage>, from: u64, end: u64) -> Result<(), AllocError>
         requires { from ≤ end }
-        ensures { IfOk result (λ _. pages.new.items ≡ pages.old.items ++ map (page_at self.now) (range_with_len from (end - from))) }
+        ensures { IfOk result (λ _. Adds self.now from (end - from) pages.old.items pages.new.items) }
     {
         for page in from..end {
             pages.push(self.page(page))?;
@@ -130,8 +130,10 @@ impl Reach {
     /// Appends the pages from one number up to another that the segments touch.
     fn fill(&self, pages: &mut Vec<ImagePage>, from: u64, to: u64) -> Result<(), ElfError>
         requires { length pages.old.items ≤ MOST_IMAGE_PAGES }
-        ensures pages { IfOk result (λ _. pages.new.items ≡ pages.old.items ++ map (page_at self.now) (range_with_len from (min to self.now.memory - from))) }
-        ensures few { MatchResult result (λ _. length pages.new.items ≤ MOST_IMAGE_PAGES) (IsTooMany (length pages.old.items + (min to self.now.memory - from))) }
+        ensures pages { IfOk result (λ _.
+            Adds self.now from (reached self.now from to) pages.old.items pages.new.items) }
+        ensures few { MatchResult result (λ _. length pages.new.items ≤ MOST_IMAGE_PAGES)
+            (IsTooMany (length pages.old.items + reached self.now from to)) }
     {
         let end = to.min(self.memory);
         if end <= from {
@@ -149,8 +151,8 @@ impl Reach {
 fn sweep(alloc: Global, sorted: &[ProgramHeader]) -> Result<Vec<ImagePage>, ElfError>
     requires sorted { IsNonDecreasingBy first_page sorted.now }
     requires below { All IsBelowStack sorted.now }
-    ensures pages { IfOk result (λ pages. pages.items ≡ map (page_in sorted.now) (pages_in sorted.now)) }
-    ensures few { MatchResult result (λ _. length (pages_in sorted.now) ≤ MOST_IMAGE_PAGES) (IsTooMany (length (pages_in sorted.now))) }
+    ensures pages { IfOk result (λ pages. pages.items ≡ all_pages sorted.now) }
+    ensures few { AreCounted result (length (pages_in sorted.now)) }
 {
     let mut pages = Vec::new(alloc);
     let mut reach = Reach::of_none();
@@ -181,8 +183,8 @@ pub(crate) fn touched_pages(
     loads: &[ProgramHeader],
 ) -> Result<Vec<ImagePage>, ElfError>
     requires { All IsBelowStack loads.now }
-    ensures pages { IfOk result (λ pages. pages.items ≡ map (page_in loads.now) (pages_in loads.now)) }
-    ensures few { MatchResult result (λ _. length (pages_in loads.now) ≤ MOST_IMAGE_PAGES) (IsTooMany (length (pages_in loads.now))) }
+    ensures pages { IfOk result (λ pages. pages.items ≡ all_pages loads.now) }
+    ensures few { AreCounted result (length (pages_in loads.now)) }
 {
     let sorted = by_first_page(alloc, loads)?;
     sweep(alloc, sorted.as_slice())

@@ -4,13 +4,14 @@ use Rattle.std.proofs.Math.Seq.{get_or-append_right}
 use Rattle.std.proofs.lemmas.List.{get_or-set_same, get_or-set_other, get_or_append_left, length-set, length-take-le}
 use Rattle.std.specs.Option.{option_map, option_map_or}
 use Rattle.std.specs.FinMap.{get, insert}
+use Rattle.sizes.specs.declared.TheConstants.{PAGE_BYTES, PAGE_END}
 use Rattle.ovl_io.specs.Permissions.{permits}
 use Rattle.ovl_io.specs.Memory.{Page, with_bytes}
 use Rattle.page_table.specs.Table.{Pages}
 use Rattle.page_table.specs.declared.entry.PageEntry.{PageEntry}
 use Rattle.ovl_io.specs.KeyLaws.{get_same, get_other, by_key, alike}
 use Rattle.ovl_io.specs.MemoryLaws.{stored_in}
-use Rattle.ovl_io.specs.PageBytes.{overwritten, page_allows}
+use Rattle.ovl_io.specs.PageBytes.{overwritten, page_allows, IsMemory}
 use Rattle.machine_core.specs.Kept.{kept_page, kept_memory, IsPlaced}
 use Rattle.machine_core.proofs.Keys.{get_viewed}
 
@@ -162,3 +163,25 @@ page_stored table frames new q frame address at entry bytes placed there is_fram
     ∙ ap (λ k. kept_memory table (set frames k (overwritten (get_or frames k []) at bytes))) (sym is_frame)
     ∙ frame_changed table frames q entry (overwritten (get_or frames entry.frame []) at bytes) placed there
     ∙ sym (stored_in (kept_memory table frames) q address at bytes (kept_page frames entry) (page_there table frames q entry there) whole place fits)
+
+-- a page of a memory
+pub record IsPage (number : ℕ) (page : Page) : Type 0 where
+  pub low : number < PAGE_END
+  pub whole : length page.bytes ≡ PAGE_BYTES
+
+-- pages that have a frame each make a memory
+pub placed_is_memory : (table : Pages) (frames : List (List ℕ)) → IsPlaced table frames → IsMemory (kept_memory table frames)
+placed_is_memory table frames placed = record {
+  low = λ number page found. (at number page found).low;
+  whole = λ number page found. (at number page found).whole;
+}
+  where
+    by_entry : (number : ℕ) (page : Page) (o : Option PageEntry) → get table number ≡ o → option_map (kept_page frames) o ≡ Some page → IsPage number page
+    by_entry number page None absent same = cc
+    by_entry number page (Some entry) there same = record {
+      low = placed.low number entry there;
+      whole = ap (λ (o : Option Page). option_map_or (λ (p : Page). length p.bytes) o 0) (sym same) ∙ placed.whole entry.frame (placed.within number entry there);
+    }
+
+    at : (number : ℕ) (page : Page) → get (kept_memory table frames) number ≡ Some page → IsPage number page
+    at number page found = by_entry number page (get table number) refl (sym (get_page table frames number) ∙ found)

@@ -1,4 +1,4 @@
-use Rattle.std.specs.Prelude.{◌≡◌, ℕ, ◌^◌, ◌<◌, List, [], length, map, get_or, Option, Some, None, Result, Ok, Err, false, true}
+use Rattle.std.specs.Prelude.{◌≡◌, ℕ, ◌<◌, List, [], length, map, get_or, set, Option, Some, None, Result, Ok, Err, false, true}
 use Rattle.std.specs.Option.{option_map_or}
 use Rattle.std.specs.FinMap.{entries, from_entries, get}
 use Rattle.sizes.specs.declared.TheConstants.{PAGE_BYTES, PAGE_END}
@@ -6,6 +6,8 @@ use Rattle.ovl_io.specs.Memory.{Memory, Page, denied_at}
 use Rattle.ovl_io.specs.Permissions.{permits}
 use Rattle.page_table.specs.Table.{Pages}
 use Rattle.page_table.specs.declared.entry.PageEntry.{PageEntry}
+use Rattle.ovl_io.specs.PageBytes.{overwritten}
+use Rattle.rv_execute.specs.Registers.{with_register}
 use Rattle.rv_execute.specs.declared.memory.Denied.{Denied}
 use Rattle.machine_core.specs.Process.{Process}
 use Rattle.machine_core.specs.Machine.{Processes}
@@ -39,6 +41,15 @@ abbrev pub Accesses : {Done : Type 0} → Memory → ℕ → ℕ → ℕ → Res
 Accesses memory need address count (Ok done) = denied_at memory (record { need = need; address = address; length = count }) ≡ None
 Accesses memory need address count (Err denied) =
     denied_at memory (record { need = need; address = address; length = count }) ≡ Some denied.address
+
+-- the bytes of one frame with others in their place from one on
+abbrev pub frame_put : List (List ℕ) → ℕ → ℕ → List ℕ → List (List ℕ)
+frame_put frames frame at bytes = set frames frame (overwritten (get_or frames frame []) at bytes)
+
+-- a kept process with an answer in a0
+abbrev pub with_answer : ℕ → Guest → Guest
+with_answer value guest =
+    record { process = record { regs = with_register guest.process.regs 10 value; state = guest.process.state }; memory = guest.memory }
 
 abbrev pub process_of : Guest → Process
 process_of guest = record { registers = guest.process.regs; state = guest.process.state; memory = guest.memory }

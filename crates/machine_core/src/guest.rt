@@ -2,12 +2,11 @@
 
 ghost use Rattle.std.specs.Prelude.{◌≡◌, ℕ, ◌<◌, ◌≤◌, List, None, length};
 ghost use Rattle.sizes.specs.declared.TheConstants.{MOST_WRITTEN};
-ghost use Rattle.rv_execute.specs.Registers.{with_register};
 ghost use Rattle.rv_execute.specs.Step.{exit, request, write};
 ghost use Rattle.rv_execute.specs.Execution.{outcome_by};
 ghost use Rattle.machine_core.specs.Process.{runs};
 ghost use Rattle.machine_core.specs.Machine.{after_request, executed, execution_of};
-ghost use Rattle.machine_core.specs.Kept.{process_of};
+ghost use Rattle.machine_core.specs.Kept.{process_of, with_answer};
 
 use crate::memory::PlainMemory;
 use crate::process::Process;
@@ -67,7 +66,7 @@ impl Guest {
     fn answer(&mut self, value: u64) -> Turn
         requires { self.old.process.state ≡ ProcessState.Running }
         ensures turn { result ≡ Turn.Stepped }
-        ensures after { self.new ≡ record self.old { process = record self.old.process { regs = with_register self.old.process.regs 10 value } } }
+        ensures after { self.new ≡ with_answer value self.old }
     {
         self.process.regs.set(10, value);
         Turn::Stepped
@@ -77,7 +76,8 @@ impl Guest {
     fn write(&mut self) -> Turn
         requires { self.old.process.state ≡ ProcessState.Running }
         ensures turn { result ≡ (write self.old.process.regs self.old.memory).turn }
-        ensures after { process_of self.new ≡ after_request self.old.memory (write self.old.process.regs self.old.memory) }
+        ensures after { process_of self.new
+            ≡ after_request self.old.memory (write self.old.process.regs self.old.memory) }
     {
         let descriptor = self.process.regs.get(10);
         if descriptor != 1 && descriptor != 2 {
@@ -101,7 +101,8 @@ impl Guest {
     /// Exits with the low 8 bits of a0.
     fn exit(&mut self) -> Turn
         ensures turn { result ≡ (exit self.old.process.regs).turn }
-        ensures after { process_of self.new ≡ after_request self.old.memory (exit self.old.process.regs) }
+        ensures after { process_of self.new
+            ≡ after_request self.old.memory (exit self.old.process.regs) }
     {
         let code = (self.process.regs.get(10) % 256) as u8;
         self.process.state = ProcessState::Exited(code);
@@ -112,7 +113,8 @@ impl Guest {
     pub(crate) fn answer_request(&mut self, p: u16) -> Turn
         requires { self.old.process.state ≡ ProcessState.Running }
         ensures turn { result ≡ (request p self.old.process.regs self.old.memory).turn }
-        ensures after { process_of self.new ≡ after_request self.old.memory (request p self.old.process.regs self.old.memory) }
+        ensures after { process_of self.new
+            ≡ after_request self.old.memory (request p self.old.process.regs self.old.memory) }
     {
         match self.process.regs.get(17) {
             WRITE => self.write(),

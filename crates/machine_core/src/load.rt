@@ -5,6 +5,7 @@ ghost use Rattle.std.specs.FinMap as map;
 ghost use Rattle.std.specs.List.{list_any};
 ghost use Rattle.std.specs.Ordering.{nat_cmp, is_eq};
 ghost use Rattle.sizes.specs.declared.TheConstants.{STACK_PAGES};
+ghost use Rattle.ovl_io.specs.PageBytes.{IsMemory};
 ghost use Rattle.elf_loader.specs.Image.{IsImageOf, is_stored, page_bytes, image_pages};
 ghost use Rattle.machine_core.specs.Load.{stack_page, stack_pages, image_memory, IsPlacedOver};
 ghost use Rattle.machine_core.specs.Kept.{IsPlaced, kept_memory};
@@ -28,7 +29,13 @@ fn add_stack(table: &mut PageTable, frames: &mut Vec<Frame>) -> Result<(), Alloc
         ≡ cond (list_any (λ p. is_eq (nat_cmp q p)) stack_pages) (Some stack_page) None) }
 {
     for page in STACK_PAGE..PAGE_END {
-        add_page(table, frames, page, Perms::R.union(Perms::W), [0; PAGE_BYTES])?;
+        add_page(
+            table,
+            frames,
+            page,
+            Perms::R.union(Perms::W),
+            [0; PAGE_BYTES],
+        )?;
     }
     Ok(())
 }
@@ -61,7 +68,8 @@ fn add_image(
     requires stack { (q : ℕ) → map.get (kept_memory table.old frames.old.items) q
         ≡ cond (list_any (λ p. is_eq (nat_cmp q p)) stack_pages) (Some stack_page) None }
     ensures placed { OnOk result (IsPlaced table.new frames.new.items) }
-    ensures image { OnOk result (IsPlacedOver file.now (kept_memory table.old frames.old.items) (kept_memory table.new frames.new.items)) }
+    ensures image { OnOk result (IsPlacedOver file.now
+        (kept_memory table.old frames.old.items) (kept_memory table.new frames.new.items)) }
 {
     for image_page in image.pages() {
         let bytes = page_bytes(image, file, *image_page);
@@ -77,7 +85,8 @@ pub(crate) fn load_memory(
     file: &[u8],
 ) -> Result<PlainMemory, AllocError>
     requires { IsImageOf file.now image.now }
-    ensures { IfOk result (λ memory. memory ≡ image_memory file.now) }
+    ensures memory { IfOk result (λ memory. memory ≡ image_memory file.now) }
+    ensures is_memory { IfOk result IsMemory }
 {
     let mut table = PageTable::new(alloc);
     let mut frames = Vec::new(alloc);

@@ -8,7 +8,7 @@ ghost use Rattle.ovl_io.specs.Permissions.{writable, permits};
 ghost use Rattle.page_table.specs.declared.entry.PageEntry.{PageEntry};
 ghost use Rattle.rv_execute.specs.Calls.{full_of};
 ghost use Rattle.ovl_io.specs.PageBytes.{overwritten};
-ghost use Rattle.machine_core.specs.Kept.{Accesses, FindsFrame, IsPlaced, kept_memory};
+ghost use Rattle.machine_core.specs.Kept.{Accesses, frame_put, FindsFrame, IsPlaced, kept_memory};
 
 use bitflags::Flags;
 use byteorder::{ByteOrder, LittleEndian};
@@ -97,8 +97,10 @@ fn read_page(
     requires placed { IsPlaced table.now frames.now }
     requires some { 0 < length into.old }
     requires one_page { address % PAGE_BYTES + length into.old ≤ PAGE_BYTES }
-    ensures access { Accesses (kept_memory table.now frames.now) need.0 address (length into.old) result }
-    ensures bytes { OnOk result (into.new ≡ bytes_at (kept_memory table.now frames.now) address (length into.old)) }
+    ensures access { Accesses (kept_memory table.now frames.now)
+        need.0 address (length into.old) result }
+    ensures bytes { OnOk result (into.new
+        ≡ bytes_at (kept_memory table.now frames.now) address (length into.old)) }
     ensures user { OnOk result (address < ADDRESS_END) }
 {
     match find(table, address / PAGE_BYTES as u64, need) {
@@ -116,7 +118,7 @@ fn read_page(
 fn put(frames: &mut Vec<Frame>, frame: u32, at: usize, bytes: &[u8])
     requires is_frame { frame < length frames.old.items }
     requires fits { at + length bytes.now ≤ PAGE_BYTES }
-    ensures { frames.new.items ≡ slice_set frames.old.items frame (overwritten (get_or frames.old.items frame []) at bytes.now) }
+    ensures { frames.new.items ≡ frame_put frames.old.items frame at bytes.now }
 {
     frames[frame as usize][at..at + bytes.len()].copy_from_slice(bytes);
 }
@@ -133,8 +135,10 @@ fn read(
     requires placed { IsPlaced table.now frames.now }
     requires some { 0 < length into.old }
     requires two_pages { length into.old ≤ PAGE_BYTES }
-    ensures access { Accesses (kept_memory table.now frames.now) need.0 address (length into.old) result }
-    ensures bytes { OnOk result (into.new ≡ bytes_at (kept_memory table.now frames.now) address (length into.old)) }
+    ensures access { Accesses (kept_memory table.now frames.now)
+        need.0 address (length into.old) result }
+    ensures bytes { OnOk result (into.new
+        ≡ bytes_at (kept_memory table.now frames.now) address (length into.old)) }
 {
     let front = PAGE_BYTES - (address % PAGE_BYTES as u64) as usize;
     if into.len() <= front {
@@ -160,9 +164,11 @@ fn write(
     requires placed { IsPlaced table.now frames.old.items }
     requires some { 0 < length bytes.now }
     requires two_pages { length bytes.now ≤ PAGE_BYTES }
-    ensures access { Accesses (kept_memory table.now frames.old.items) writable address (length bytes.now) result }
+    ensures access { Accesses (kept_memory table.now frames.old.items)
+        writable address (length bytes.now) result }
     ensures placed { IsPlaced table.now frames.new.items }
-    ensures stored { OnOk result (kept_memory table.now frames.new.items ≡ with_bytes (kept_memory table.now frames.old.items) address bytes.now) }
+    ensures stored { OnOk result (kept_memory table.now frames.new.items
+        ≡ with_bytes (kept_memory table.now frames.old.items) address bytes.now) }
     ensures kept { OnErr result (frames.new.items ≡ frames.old.items) }
 {
     let at = (address % PAGE_BYTES as u64) as usize;

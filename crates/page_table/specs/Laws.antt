@@ -1,5 +1,5 @@
 use Rattle.std.specs.Prelude.{◌≡◌, ℕ, Bool, true, false, cond, Some, None, is_some}
-use Rattle.std.proofs.Common.{ap, sym, refl, arith, ◌∙◌}
+use Rattle.std.proofs.Common.{ap, subst, sym, refl, arith, ◌∙◌}
 use Rattle.std.proofs.lemmas.Bool.Decides.{nat_tests}
 use Rattle.std.specs.FinMap.{get, insert, remove}
 use Rattle.ovl_io.specs.KeyLaws.{by_key, alike, get_same, get_other, removed_same, removed_other}
@@ -60,3 +60,10 @@ one_unmapped old new page unmapped =
     unmapped q ∙ ap (λ (b : Bool). cond b None (get old q)) ((within_one page q (is_within page 1 q) refl).0 same) ∙ sym (removed_same old page q same))
     (λ other.
     unmapped q ∙ ap (λ (b : Bool). cond b None (get old q)) ((within_one page q (is_within page 1 q) refl).1 other) ∙ sym (removed_other old page q other)))
+
+-- the same of runs that are said to be of one
+pub one_mapped_at : (old new : Pages) (page n : ℕ) (entry : PageEntry) → n ≡ 1 → IsMapped old page n entry new → new ≡ insert old page entry
+one_mapped_at old new page n entry is mapped = one_mapped old new page entry (subst (λ k. IsMapped old page k entry new) is mapped)
+
+pub one_unmapped_at : (old new : Pages) (page n : ℕ) → n ≡ 1 → IsUnmapped old page n new → new ≡ remove old page
+one_unmapped_at old new page n is unmapped = one_unmapped old new page (subst (λ k. IsUnmapped old page k new) is unmapped)

@@ -144,3 +144,7 @@ Executes e old old_memory new new_memory (Full units limit) = (e.upshot ≡ Step
 Executes e old old_memory new new_memory Stepped = (e.upshot ≡ Steps) × (new ≡ e.registers) × (new_memory ≡ e.memory)
 Executes e old old_memory new new_memory Asked = (e.upshot ≡ Asks) × (new ≡ e.registers) × (new_memory ≡ e.memory)
 Executes e old old_memory new new_memory (Fault kind address) = (e.upshot ≡ Faults kind address) × (new ≡ e.registers) × (new_memory ≡ e.memory)
+
+-- the same of what an execution of registers and a memory gives
+abbrev pub Executed : (Registers → Memory → Execution) → Registers → Memory → Registers → Memory → Outcome → Type 0
+Executed does old old_memory new new_memory outcome = Executes (does old old_memory) old old_memory new new_memory outcome

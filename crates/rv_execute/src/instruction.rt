@@ -4,7 +4,7 @@ ghost use Rattle.std.specs.Prelude.{◌≡◌, ◌<◌, ◌≤◌, ℕ, IsTrue, 
 ghost use Rattle.ovl_io.specs.Memory.{Memory};
 ghost use Rattle.rv_execute.specs.Registers.{next, with_register};
 ghost use Rattle.rv_execute.specs.Calls.{is_count, Performs};
-ghost use Rattle.rv_execute.specs.Execution.{action_on, count_of, effect, execution, Executes, extended, full_in, ReadsNumber};
+ghost use Rattle.rv_execute.specs.Execution.{action_on, count_of, effect, execution, Executed, extended, full_in, ReadsNumber};
 
 use crate::action::{Action, Extension, Size};
 use crate::arithmetic::extended_word;
@@ -106,8 +106,11 @@ fn load<M: GuestMemory>(
     requires rd { rd < 32 }
     requires ready { M.ready mem.old }
     ensures ready { M.ready mem.new }
-    ensures done { Executes (effect (Action.Load address size extension) rd regs.old (M.memory mem.old)) regs.old (M.memory mem.old) regs.new (M.memory mem.new) result }
-    ensures made { Performs M.fetched M.loaded M.stored (effect (Action.Load address size extension) rd regs.old (M.memory mem.old)).calls mem.old (full_in result) mem.new }
+    ensures done { Executed (effect (Action.Load address size extension) rd)
+        regs.old (M.memory mem.old) regs.new (M.memory mem.new) result }
+    ensures made { Performs M.fetched M.loaded M.stored
+        (effect (Action.Load address size extension) rd regs.old (M.memory mem.old)).calls
+        mem.old (full_in result) mem.new }
 {
     match read(mem, address, size, extension) {
         Ok(value) => write(regs, rd, value),
@@ -126,8 +129,11 @@ fn store<M: GuestMemory>(
 ) -> Outcome
     requires { M.ready mem.old }
     ensures ready { M.ready mem.new }
-    ensures done { (rd : ℕ) → Executes (effect (Action.Store address size value) rd regs.old (M.memory mem.old)) regs.old (M.memory mem.old) regs.new (M.memory mem.new) result }
-    ensures made { (rd : ℕ) → Performs M.fetched M.loaded M.stored (effect (Action.Store address size value) rd regs.old (M.memory mem.old)).calls mem.old (full_in result) mem.new }
+    ensures done { (rd : ℕ) → Executed (effect (Action.Store address size value) rd)
+        regs.old (M.memory mem.old) regs.new (M.memory mem.new) result }
+    ensures made { (rd : ℕ) → Performs M.fetched M.loaded M.stored
+        (effect (Action.Store address size value) rd regs.old (M.memory mem.old)).calls
+        mem.old (full_in result) mem.new }
 {
     let bytes = value.to_le_bytes();
     match mem.store(address, &bytes[..size.count()]) {
@@ -145,7 +151,8 @@ fn store<M: GuestMemory>(
 #[inline]
 fn link(regs: &mut Regs, rd: u8, target: u64) -> Outcome
     requires { rd < 32 }
-    ensures done { (memory : Memory) → Executes (effect (Action.Link target) rd regs.old memory) regs.old memory regs.new memory result }
+    ensures done { (memory : Memory) →
+        Executed (effect (Action.Link target) rd) regs.old memory regs.new memory result }
     ensures not_full { full_in result ≡ None }
 {
     let behind = regs.pc().wrapping_add(4);
@@ -160,7 +167,8 @@ fn link(regs: &mut Regs, rd: u8, target: u64) -> Outcome
 /// Jumps to a target, where that is a multiple of 4.
 #[inline]
 fn go_to(regs: &mut Regs, target: u64) -> Outcome
-    ensures done { (memory : Memory) (rd : ℕ) → Executes (effect (Action.Goto target) rd regs.old memory) regs.old memory regs.new memory result }
+    ensures done { (memory : Memory) (rd : ℕ) →
+        Executed (effect (Action.Goto target) rd) regs.old memory regs.new memory result }
     ensures not_full { full_in result ≡ None }
 {
     if target % 4 != 0 {
@@ -190,8 +198,11 @@ fn perform<M: GuestMemory>(i: &Instr, regs: &mut Regs, mem: &mut M) -> Outcome
     requires rs2 { i.now.rs2 < 32 }
     requires ready { M.ready mem.old }
     ensures ready { M.ready mem.new }
-    ensures done { Executes (effect (action_on i.now regs.old) i.now.rd regs.old (M.memory mem.old)) regs.old (M.memory mem.old) regs.new (M.memory mem.new) result }
-    ensures made { Performs M.fetched M.loaded M.stored (effect (action_on i.now regs.old) i.now.rd regs.old (M.memory mem.old)).calls mem.old (full_in result) mem.new }
+    ensures done { Executed (effect (action_on i.now regs.old) i.now.rd)
+        regs.old (M.memory mem.old) regs.new (M.memory mem.new) result }
+    ensures made { Performs M.fetched M.loaded M.stored
+        (effect (action_on i.now regs.old) i.now.rd regs.old (M.memory mem.old)).calls
+        mem.old (full_in result) mem.new }
 {
     match action_on(i, regs) {
         Action::Write(value) => write(regs, i.rd, value),
@@ -232,8 +243,10 @@ fn perform<M: GuestMemory>(i: &Instr, regs: &mut Regs, mem: &mut M) -> Outcome
 pub fn execute<M: GuestMemory>(regs: &mut Regs, mem: &mut M) -> Outcome
     requires { M.ready mem.old }
     ensures ready { M.ready mem.new }
-    ensures done { Executes (execution regs.old (M.memory mem.old)) regs.old (M.memory mem.old) regs.new (M.memory mem.new) result }
-    ensures made { Performs M.fetched M.loaded M.stored (execution regs.old (M.memory mem.old)).calls mem.old (full_in result) mem.new }
+    ensures done { Executed execution
+        regs.old (M.memory mem.old) regs.new (M.memory mem.new) result }
+    ensures made { Performs M.fetched M.loaded M.stored
+        (execution regs.old (M.memory mem.old)).calls mem.old (full_in result) mem.new }
 {
     let pc = regs.pc();
     if pc % 4 != 0 {

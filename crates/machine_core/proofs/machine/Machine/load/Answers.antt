@@ -26,4 +26,4 @@ returns-clause-ok c =
     changed_kept process_of c.self.inside.guests.entries c.insert.new.self.entries c.args.p guest c.in_ok-insert.ensures.updates.0
     ∙ ap (λ (ps : Processes). insert ps c.args.p (process_of guest)) c.self.view_is
     ∙ ap (insert c.args.self.now c.args.p)
-    (as_loaded file c.new.result c.in_ok-memory.memory (c.new.ensures ∙ ap (λ pc. first_registers pc STACK_POINTER) (c.entry.ensures ∙ c.requires.of_file.entry)) c.in_ok-memory.ensures)
+    (as_loaded file c.new.result c.in_ok-memory.memory (c.new.ensures ∙ ap (λ pc. first_registers pc STACK_POINTER) (c.entry.ensures ∙ c.requires.of_file.entry)) c.in_ok-memory.ensures.memory)
