@@ -6,7 +6,7 @@ use Rattle.std.proofs.lemmas.Bool.Decides.{nat_tests}
 use Rattle.std.proofs.lemmas.List.{drop_more, drop_all, map_push, length_push, get_or_push, get_or_append_left, map-set, get_or-map, get_or-set_same, length-map}
 use Rattle.std.proofs.lemmas.List.Elements.{All-cons, All-nil, All-append}
 use Rattle.elf_loader.specs.Image.{holds, fills, last_holding}
-use Rattle.elf_loader.specs.Layers.{last_among, no_header, Layered, IsApart, Skips, Starts, Stands, HasLayers, number_of, items_of}
+use Rattle.elf_loader.specs.Layers.{last_among, no_header, Layered, IsApart, Skips, Starts, IsLaid, HasLayers, number_of, items_of}
 use Rattle.elf_loader.specs.declared.header.ProgramHeader.{ProgramHeader}
 use Rattle.elf_loader.specs.declared.image.ImagePage.{ImagePage}
 use Rattle.elf_loader.proofs.Pages.{IsPlaceOf}
@@ -119,7 +119,7 @@ pub record Comes (loads : List ProgramHeader) (pages : List ImagePage) (load fro
   pub skips : Skips full next
 
 pub comes_first : (loads : List ProgramHeader) (pages : List ImagePage) (load from : ℕ) (layers : List (Vec ℕ)) (full : List Bool) (next : List ℕ)
-    → Stands loads pages (load + 1) layers full next → Comes loads pages load from from (items_of layers) full next
+    → IsLaid loads pages (load + 1) layers full next → Comes loads pages load from from (items_of layers) full next
 comes_first loads pages load from layers full next stands = record {
   begun = omega arith;
   as_many = stands.as_many;
@@ -174,7 +174,7 @@ comes_more loads pages load from at on old new was full next after is_load comes
 pub comes_last : (loads : List ProgramHeader) (pages : List ImagePage) (load from at to : ℕ) (layers : List (Vec ℕ)) (full : List Bool) (next : List ℕ)
     → load < length loads → to ≤ at
     → ((p : ℕ) → p < length pages → (p < from) ⊎ (to ≤ p) → IsApart (get_or loads load no_header) (number_of pages p))
-    → Comes loads pages load from at (items_of layers) full next → Stands loads pages load layers full next
+    → Comes loads pages load from at (items_of layers) full next → IsLaid loads pages load layers full next
 comes_last loads pages load from at to layers full next is_load past apart comes = record {
   as_many = comes.as_many;
   marked = comes.marked;
@@ -248,7 +248,7 @@ none_layered loads page = record {
 
 -- before the first segment
 pub stands_none : (loads : List ProgramHeader) (pages : List ImagePage) (layers : List (Vec ℕ)) (full : List Bool) (next : List ℕ)
-    → Starts (length pages) layers full next → Stands loads pages (length loads) layers full next
+    → Starts (length pages) layers full next → IsLaid loads pages (length loads) layers full next
 stands_none loads pages layers full next starts = record {
   as_many = starts.as_many;
   marked = starts.marked;
@@ -263,7 +263,7 @@ stands_none loads pages layers full next starts = record {
 
 -- behind the last
 pub stands_all : (loads : List ProgramHeader) (pages : List ImagePage) (layers : List (Vec ℕ)) (full : List Bool) (next : List ℕ)
-    → Stands loads pages 0 layers full next → HasLayers loads pages layers
+    → IsLaid loads pages 0 layers full next → HasLayers loads pages layers
 stands_all loads pages layers full next stands = record {
   as_many = stands.as_many;
   layered = λ p within. let it = stands.layered p within in record { there = it.there; same = it.same; gives = λ full a low high. cc };

@@ -64,7 +64,7 @@ pub record Skips (full : List Bool) (next : List ℕ) : Type 0 where
   pub between : (p q : ℕ) → p < length next → p < q → q < get_or next p 0 → get_or full q false ≡ true
 
 -- What the segments from one on leave: each page with the places of those that give it its bytes.
-pub record Stands (loads : List ProgramHeader) (pages : List ImagePage) (from : ℕ) (layers : List (Vec ℕ)) (full : List Bool) (next : List ℕ) : Type 0 where
+pub record IsLaid (loads : List ProgramHeader) (pages : List ImagePage) (from : ℕ) (layers : List (Vec ℕ)) (full : List Bool) (next : List ℕ) : Type 0 where
   pub as_many : length (items_of layers) ≡ length pages
   pub marked : length full ≡ length pages
   pub layered : (p : ℕ) → p < length pages → Layered loads from (number_of pages p) (get_or (items_of layers) p []) (get_or full p false)
@@ -85,7 +85,7 @@ abbrev pub HasStarted : ℕ → Stack → Type 0
 HasStarted count stack = Starts count stack.layers.items stack.full.items stack.next.items
 
 abbrev pub IsStack : List ProgramHeader → List ImagePage → ℕ → Stack → Type 0
-IsStack loads pages from stack = Stands loads pages from stack.layers.items stack.full.items stack.next.items
+IsStack loads pages from stack = IsLaid loads pages from stack.layers.items stack.full.items stack.next.items
 
 -- one page of it has what the segments from one on give it
 abbrev pub IsLayeredAt : List ProgramHeader → List ImagePage → ℕ → ℕ → Stack → Type 0

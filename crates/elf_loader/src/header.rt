@@ -1,7 +1,7 @@
-ghost use Rattle.std.specs.Prelude.{◌≡◌, ℕ, ◌+◌, ◌-◌, ◌*◌, ◌^◌, ◌<◌, ◌≤◌, length, slice_index, if◌then◌else◌};
+ghost use Rattle.std.specs.Prelude.{◌≡◌, ℕ, ◌+◌, ◌-◌, ◌*◌, ◌<◌, ◌≤◌, length, slice_index, if◌then◌else◌};
 ghost use Rattle.sizes.specs.declared.TheConstants.{PAGE_BYTES, PAGE_END};
 ghost use Rattle.elf_loader.specs.Fields.{number_at, header_at};
-ghost use Rattle.elf_loader.specs.Accepted.{names_interpreter, is_larger_in_file, is_outside_file, is_too_high, has_memory};
+ghost use Rattle.elf_loader.specs.Accepted.{is_larger_in_file, is_outside_file, is_too_high, has_memory};
 ghost use Rattle.elf_loader.specs.Reach.{IsAddressed, IsInFile};
 ghost use Rattle.elf_loader.specs.Image.{holds, fills, perms_of};
 

@@ -1,5 +1,5 @@
-ghost use Rattle.std.specs.Prelude.{◌≡◌, ℕ, ◌+◌, ◌*◌, ◌^◌, ◌<◌, ◌≤◌, Contains, map, length, drop};
-ghost use Rattle.elf_loader.specs.Image.{IsImageOf, ReadsImage, last_holding, page_bytes};
+ghost use Rattle.std.specs.Prelude.{◌≡◌, ◌^◌, ◌<◌, Contains, map};
+ghost use Rattle.elf_loader.specs.Image.{IsImageOf, ReadsImage, page_bytes};
 
 use crate::header::{ProgramHeader, u64_at};
 use crate::layers::{lay_all, layers_of, place_of};

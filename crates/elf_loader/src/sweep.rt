@@ -1,11 +1,10 @@
-ghost use Rattle.std.specs.Prelude.{◌≡◌, ◌+◌, ◌-◌, ◌^◌, ◌≤◌, ◌<◌, length, map, max, min, ◌++◌, All, IfOk, MatchResult, if◌then◌else◌};
-ghost use Rattle.std.specs.List.{range_with_len};
+ghost use Rattle.std.specs.Prelude.{◌≡◌, ◌+◌, ◌-◌, ◌≤◌, ◌<◌, length, max, min, All, IfOk, MatchResult, if◌then◌else◌};
 ghost use Rattle.std.specs.List.Sorted.{IsNonDecreasingBy, IsPermutation};
 ghost use Rattle.sizes.specs.declared.TheConstants.{ADDRESS_END, MOST_IMAGE_PAGES};
 ghost use Rattle.ovl_io.specs.Permissions.{readable, writable, executable};
 ghost use Rattle.elf_loader.specs.Touched.{pages_in};
 ghost use Rattle.elf_loader.specs.Image.{all_pages};
-ghost use Rattle.elf_loader.specs.Reach.{pages_end, first_page, memory_end, file_end, end_with, page_at, perms_by, Adds, reached, AreCounted, IsBelowStack, IsTooMany};
+ghost use Rattle.elf_loader.specs.Reach.{pages_end, first_page, memory_end, file_end, end_with, page_at, Adds, reached, AreCounted, IsBelowStack, IsTooMany};
 
 use crate::header::ProgramHeader;
 use crate::image::{ElfError, ImagePage};

@@ -1,12 +1,12 @@
 //! What a load makes of an image: its pages, and the stack.
 
-ghost use Rattle.std.specs.Prelude.{◌≡◌, ℕ, ◌+◌, ◌^◌, ◌<◌, ◌≤◌, length, map, Contains, cond, IfOk, OnOk, Some, None};
+ghost use Rattle.std.specs.Prelude.{◌≡◌, ℕ, ◌<◌, length, map, Contains, cond, IfOk, OnOk, Some, None};
 ghost use Rattle.std.specs.FinMap as map;
 ghost use Rattle.std.specs.List.{list_any};
 ghost use Rattle.std.specs.Ordering.{nat_cmp, is_eq};
 ghost use Rattle.sizes.specs.declared.TheConstants.{STACK_PAGES};
 ghost use Rattle.ovl_io.specs.PageBytes.{IsMemory};
-ghost use Rattle.elf_loader.specs.Image.{IsImageOf, is_stored, page_bytes, image_pages};
+ghost use Rattle.elf_loader.specs.Image.{IsImageOf, is_stored, page_bytes};
 ghost use Rattle.machine_core.specs.Load.{stack_page, stack_pages, image_memory, IsPlacedOver};
 ghost use Rattle.machine_core.specs.Kept.{IsPlaced, kept_memory};
 

@@ -1,13 +1,11 @@
 //! Memories of plain pages: a page table, and a list of frames in which an entry's frame is a place.
 
-ghost use Rattle.std.specs.Prelude.{◌≡◌, ℕ, ◌+◌, ◌-◌, ◌*◌, ◌/◌, ◌%◌, ◌^◌, ◌<◌, ◌≤◌, List, [], ◌∷◌, ◌++◌, length, map, get_or, OnOk, OnErr, IfOk, None, Some, slice_set, true};
+ghost use Rattle.std.specs.Prelude.{◌≡◌, ◌+◌, ◌-◌, ◌/◌, ◌%◌, ◌^◌, ◌<◌, ◌≤◌, length, map, OnOk, OnErr, None, Some};
 ghost use Rattle.std.specs.FinMap as map;
 ghost use Rattle.sizes.specs.declared.TheConstants.{ADDRESS_END, PAGE_BYTES, PAGE_END};
 ghost use Rattle.ovl_io.specs.Memory.{bytes_at, with_bytes};
-ghost use Rattle.ovl_io.specs.Permissions.{writable, permits};
-ghost use Rattle.page_table.specs.declared.entry.PageEntry.{PageEntry};
+ghost use Rattle.ovl_io.specs.Permissions.{writable};
 ghost use Rattle.rv_execute.specs.Calls.{full_of};
-ghost use Rattle.ovl_io.specs.PageBytes.{overwritten};
 ghost use Rattle.machine_core.specs.Kept.{Accesses, frame_put, FindsFrame, IsPlaced, kept_memory};
 
 use bitflags::Flags;
