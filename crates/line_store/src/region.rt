@@ -1,8 +1,9 @@
 ghost use Rattle.std.specs.Prelude.{◌≡◌, ◌+◌, ◌-◌, ◌*◌, ◌≤◌, ◌<◌, ◌⊎◌, ◌++◌, IfOk, take, drop, length, replicate, slice_set};
 ghost use Rattle.std.specs.Borrow.{Lends, sem, Array, u8 as byte};
+ghost use Rattle.sizes.specs.declared.TheConstants.{MOST_FRAMES};
 ghost use Rattle.line_store.specs.contracts.region.Region.{the_row};
 ghost use Rattle.line_store.specs.Lines.{zero_lines, line_of, with_copied};
-ghost use Rattle.line_store.specs.Kept.{lines_of, IsKept};
+ghost use Rattle.line_store.specs.Kept.{kept_lines, IsKept};
 
 use crate::lines::{Lease, Lines};
 use std::alloc::{AllocError, Global};
@@ -23,11 +24,11 @@ pub struct Region {
 
 impl Model for Region {
     ghost use Rattle.std.specs.Prelude.{List, ℕ, ◌≡◌};
-    ghost use Rattle.line_store.specs.Kept.{lines_of, IsKept};
+    ghost use Rattle.line_store.specs.Kept.{kept_lines, IsKept};
 
     ghost Value = { List (List ℕ) };
 
-    ghost view = { λ region. lines_of region.lines.items region.count };
+    ghost view = { λ region. kept_lines region.lines.items region.count };
 
     ghost invariant = { λ region. IsKept region.lines.items region.count × (region.lines.room ≡ region.count) × (region.lease.at ≡ region.lines.at) × (region.lease.room ≡ region.count) × (region.lease.alloc ≡ region.alloc) };
 }
@@ -50,7 +51,7 @@ impl Region {
     /// of which nothing is touched. Without memory for it nothing is made.
     pub fn new(alloc: Global, frames: u32) -> Result<Region, AllocError>
         requires some { 1 ≤ frames }
-        requires few { frames ≤ 65537 }
+        requires few { frames ≤ MOST_FRAMES + 1 }
         ensures zero { IfOk result (λ region. region ≡ zero_lines (64 * frames)) }
         ensures count { IfOk result (λ region. length region ≡ 64 * frames) }
     {
@@ -157,7 +158,7 @@ fn reach(lines: &mut Lines, count: u32, end: u32)
     requires few { count ≤ 4194368 }
     requires inside { end ≤ count }
     requires room { lines.old.room ≡ count }
-    ensures same { lines_of lines.new.items count ≡ lines_of lines.old.items count }
+    ensures same { kept_lines lines.new.items count ≡ kept_lines lines.old.items count }
     ensures kept { IsKept lines.old.items count → IsKept lines.new.items count }
     ensures reached { (length lines.new.items ≡ count) ⊎ (end + 64 ≤ length lines.new.items) }
     ensures piece { (lines.new.at ≡ lines.old.at) × (lines.new.room ≡ lines.old.room) }

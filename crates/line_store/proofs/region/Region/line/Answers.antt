@@ -1,11 +1,11 @@
 use Rattle.std.proofs.Common.{◌<◌, [], length, sym, ap, ◌∙◌, arith}
 use Rattle.line_store.specs.Lines.{line_of}
-use Rattle.line_store.proofs.Kept.{length-lines_of, line_kept, line_behind}
+use Rattle.line_store.proofs.Kept.{length-kept_lines, line_kept, line_behind}
 use Rattle.line_store.proofs.region.Region.line.Goals as goal
 
 pub returns-then-kept-at : goal.returns-then-kept-at
 returns-then-kept-at c =
-    let size = length-lines_of c.self.inside.lines.items c.self.inside.count c.self.invariant.0.below in
+    let size = length-kept_lines c.self.inside.lines.items c.self.inside.count c.self.invariant.0.below in
     record {
       value = c.zero_line.ensures
           ∙ sym (line_behind c.self.inside.lines.items c.self.inside.count c.args.at [] (omega (arith, c.if-kept-at.true, ap length c.as_slice-kept.ensures))
