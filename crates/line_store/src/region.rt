@@ -1,28 +1,28 @@
 ghost use Rattle.std.specs.Prelude.{◌≡◌, ◌+◌, ◌-◌, ◌*◌, ◌≤◌, ◌<◌, ◌⊎◌, ◌++◌, IfOk, take, drop, length, replicate, slice_set};
 ghost use Rattle.std.specs.Borrow.{Lends, sem, Array, u8 as byte};
-ghost use Rattle.sizes.specs.declared.TheConstants.{MOST_FRAMES};
+ghost use Rattle.sizes.specs.declared.TheConstants.{LINE_BYTES, MOST_FRAMES};
 ghost use Rattle.line_store.specs.contracts.region.Region.{the_row};
 ghost use Rattle.line_store.specs.Lines.{zero_lines, line_of, with_copied};
 ghost use Rattle.line_store.specs.Kept.{kept_lines, IsKept};
 
 use crate::lines::{Lease, Lines};
-use std::alloc::{AllocError, Global};
+use std::alloc::{AllocError, Allocator, Global};
 use std::marker::Model;
 
 /// Lines of 64 bytes by number, from 0 on: 64 for each of 1 to 65,537 frames. All are zero at first. Room
 /// for all is one piece of raw memory, which is given back when the region is dropped, but lines more than
 /// 64 behind the last one that was written, or copied, aren't touched: where the host gives memory on the
 /// first touch they cost none.
-pub struct Region {
+pub struct Region<A: Allocator = Global> {
     // the first lines; those behind them are zero, and there is room for them
     lines: Lines,
     count: u32,
     // where their memory goes back to
-    alloc: Global,
-    lease: Lease<Global>,
+    alloc: A,
+    lease: Lease<A>,
 }
 
-impl Model for Region {
+impl<A: Allocator> Model for Region<A> {
     ghost use Rattle.std.specs.Prelude.{List, ℕ, ◌≡◌};
     ghost use Rattle.line_store.specs.Kept.{kept_lines, IsKept};
 
@@ -34,7 +34,7 @@ impl Model for Region {
 }
 
 // Gives the memory back.
-impl Drop for Region {
+impl<A: Allocator> Drop for Region<A> {
     fn drop(self) {
         let Region {
             lines,
@@ -50,6 +50,18 @@ impl Region {
     /// 64 zero lines for each of `frames` frames: 1 to 65,537. Costs one allocation of 4096 bytes a frame,
     /// of which nothing is touched. Without memory for it nothing is made.
     pub fn new(alloc: Global, frames: u32) -> Result<Region, AllocError>
+        requires some { 1 ≤ frames }
+        requires few { frames ≤ MOST_FRAMES + 1 }
+        ensures zero { IfOk result (λ region. region ≡ zero_lines (64 * frames)) }
+        ensures count { IfOk result (λ region. length region ≡ 64 * frames) }
+    {
+        Region::made(alloc, frames)
+    }
+}
+
+impl<A: Allocator> Region<A> {
+    // The same over any allocator.
+    pub(crate) fn made(alloc: A, frames: u32) -> Result<Region<A>, AllocError>
         requires some { 1 ≤ frames }
         requires few { frames ≤ MOST_FRAMES + 1 }
         ensures zero { IfOk result (λ region. region ≡ zero_lines (64 * frames)) }
@@ -76,12 +88,16 @@ impl Region {
     pub fn line(&self, at: u32) -> &[u8; 64]
         requires there { at < length self.now }
         ensures value { result.now ≡ line_of self.now at }
+        ensures bytes { length (line_of self.now at) ≡ LINE_BYTES }
     {
         let kept = self.lines.as_slice();
         if kept.len() <= at as usize {
             return zero_line();
         }
-        &kept[at as usize]
+        let line = &kept[at as usize];
+        // a line that is read has the bytes of its type
+        let _first = line[0];
+        line
     }
 
     /// Lends the 64 lines from `at` on, which have to be there.
@@ -112,7 +128,7 @@ impl Region {
     /// other line changes. Takes no memory beyond the region's, but touches the lines before it.
     pub fn line_mut(&mut self, at: u32) -> &mut [u8; 64]
         requires there { at < length self.old }
-        ensures* writes_back { sem 𝓛 (Lends the_row (Array byte 0) self.entry result (slice_set self.old at)) }
+        ensures* writes_back { sem 𝓛 (Lends (the_row A.row A.Allocator) (Array byte 0) self.entry result (slice_set self.old at)) }
         ensures value { result.now ≡ line_of self.old at }
     {
         reach(&mut self.lines, self.count, at + 1);

@@ -5,31 +5,31 @@ use Rattle.line_store.proofs.Kept.{length-kept_lines, far, copied, copy_same, co
 use Rattle.line_store.proofs.region.Region.copy_lines.Goals as goal
 
 pub overflow_add-max : goal.overflow_add-max
-overflow_add-max c =
+overflow_add-max g c =
     let size = length-kept_lines c.self.inside.lines.items c.self.inside.count c.self.invariant.0.below in
     record { fits = omega (arith, c.requires.source, c.requires.target, ap length c.self.view_is, size, c.self.invariant.0.few, c.max.ensures) }
 
 pub reach-requires-clause-inside : goal.reach-requires-clause-inside
-reach-requires-clause-inside c =
+reach-requires-clause-inside g c =
     let size = length-kept_lines c.self.inside.lines.items c.self.inside.count c.self.invariant.0.below in
     omega (arith, c.requires.source, c.requires.target, ap length c.self.view_is, size, c.max.ensures)
 
 pub copy_within-requires-clause-in_bounds : goal.copy_within-requires-clause-in_bounds
-copy_within-requires-clause-in_bounds c =
+copy_within-requires-clause-in_bounds g c =
     let size = length-kept_lines c.self.inside.lines.items c.self.inside.count c.self.invariant.0.below in
     let inside : c.max.result + c.args.n ≤ c.self.inside.count = omega (arith, c.requires.source, c.requires.target, ap length c.self.view_is, size, c.max.ensures) in
     let kept = far (length c.reach.new.lines.items) c.self.inside.count (c.max.result + c.args.n) (c.args.from + c.args.n) c.reach.ensures.reached (omega (arith, c.max.ensures)) inside in
     omega (arith, kept, ap length c.as_mut_slice.ensures.value)
 
 pub copy_within-requires-clause-dest_in_bounds : goal.copy_within-requires-clause-dest_in_bounds
-copy_within-requires-clause-dest_in_bounds c =
+copy_within-requires-clause-dest_in_bounds g c =
     let size = length-kept_lines c.self.inside.lines.items c.self.inside.count c.self.invariant.0.below in
     let inside : c.max.result + c.args.n ≤ c.self.inside.count = omega (arith, c.requires.source, c.requires.target, ap length c.self.view_is, size, c.max.ensures) in
     let kept = far (length c.reach.new.lines.items) c.self.inside.count (c.max.result + c.args.n) (c.args.to + c.args.n) c.reach.ensures.reached (omega (arith, c.max.ensures)) inside in
     omega (arith, kept, ap length c.as_mut_slice.ensures.value)
 
 pub invariant_of-self : goal.invariant_of-self
-invariant_of-self c =
+invariant_of-self g c =
     let size = length-kept_lines c.self.inside.lines.items c.self.inside.count c.self.invariant.0.below in
     let lines = c.reach.new.lines in
     let end = c.max.result + c.args.n in
@@ -47,7 +47,7 @@ invariant_of-self c =
     )
 
 pub returns-clause-copied : goal.returns-clause-copied
-returns-clause-copied c =
+returns-clause-copied g c =
     let size = length-kept_lines c.self.inside.lines.items c.self.inside.count c.self.invariant.0.below in
     let lines = c.reach.new.lines in
     let end = c.max.result + c.args.n in

@@ -4,17 +4,17 @@ use Rattle.line_store.proofs.Kept.{length-kept_lines, line_kept, far, set_same}
 use Rattle.line_store.proofs.region.Region.line_mut.Goals as goal
 
 pub overflow_add-at : goal.overflow_add-at
-overflow_add-at c =
+overflow_add-at g c =
     let size = length-kept_lines c.self.inside.lines.items c.self.inside.count c.self.invariant.0.below in
     record { fits = omega (arith, c.requires.there, ap length c.self.view_is, size, c.self.invariant.0.few) }
 
 pub reach-requires-clause-inside : goal.reach-requires-clause-inside
-reach-requires-clause-inside c =
+reach-requires-clause-inside g c =
     let size = length-kept_lines c.self.inside.lines.items c.self.inside.count c.self.invariant.0.below in
     omega (arith, c.requires.there, ap length c.self.view_is, size)
 
 pub line_mut-requires : goal.line_mut-requires
-line_mut-requires c =
+line_mut-requires g c =
     let size = length-kept_lines c.self.inside.lines.items c.self.inside.count c.self.invariant.0.below in
     let low : c.args.at + 1 ≤ c.self.inside.count = omega (arith, c.requires.there, ap length c.self.view_is, size) in
     let kept : c.args.at + 1 ≤ length c.reach.new.lines.items =
@@ -22,7 +22,7 @@ line_mut-requires c =
     omega (arith, kept)
 
 pub returns : goal.returns
-returns c =
+returns g c =
     let size = length-kept_lines c.self.inside.lines.items c.self.inside.count c.self.invariant.0.below in
     let items = c.reach.new.lines.items in
     let whole = c.reach.ensures.same ∙ c.self.view_is in
