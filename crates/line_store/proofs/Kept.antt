@@ -5,7 +5,7 @@ use Rattle.std.proofs.lemmas.List.Edits.{length-paste, drop-paste}
 use Rattle.std.proofs.VecSteps.Gaps.{all_new}
 use Rattle.std.specs.List.{copy_within, refill}
 use Rattle.line_store.specs.Lines.{zero_lines, with_copied}
-use Rattle.line_store.specs.Kept.{lines_of, EndsInZero, IsKept}
+use Rattle.line_store.specs.Kept.{kept_lines, EndsInZero, IsKept}
 
 -- Lines of which the first are kept.
 
@@ -21,27 +21,27 @@ zero_lines-append : (n m : ℕ) → zero_lines n ++ zero_lines m ≡ zero_lines 
 unfolding zero_lines
 zero_lines-append n m = replicate-append-replicate n m (replicate 64 0)
 
-pub length-lines_of : (first : List (List ℕ)) (count : ℕ) → length first ≤ count → length (lines_of first count) ≡ count
-length-lines_of first count below = omega (arith, length-append first (zero_lines (count - length first)), length-zero_lines (count - length first))
+pub length-kept_lines : (first : List (List ℕ)) (count : ℕ) → length first ≤ count → length (kept_lines first count) ≡ count
+length-kept_lines first count below = omega (arith, length-append first (zero_lines (count - length first)), length-zero_lines (count - length first))
 
 -- a line that is kept, and one that isn't
-pub line_kept : (first : List (List ℕ)) (count at : ℕ) (d : List ℕ) → at < length first → get_or (lines_of first count) at d ≡ get_or first at d
+pub line_kept : (first : List (List ℕ)) (count at : ℕ) (d : List ℕ) → at < length first → get_or (kept_lines first count) at d ≡ get_or first at d
 line_kept first count at d h = get_or_append_left first (zero_lines (count - length first)) d at h
 
-pub line_behind : (first : List (List ℕ)) (count at : ℕ) (d : List ℕ) → length first ≤ at → at < count → get_or (lines_of first count) at d ≡ replicate 64 0
+pub line_behind : (first : List (List ℕ)) (count at : ℕ) (d : List ℕ) → length first ≤ at → at < count → get_or (kept_lines first count) at d ≡ replicate 64 0
 line_behind first count at d h k =
     get_or-append_right first (zero_lines (count - length first)) (length first) at d refl h
     ∙ get_or-zero_lines (count - length first) (at - length first) d (omega arith)
 
 -- a line near the end of those kept, or behind it
-line_near : (first : List (List ℕ)) (count at : ℕ) (d : List ℕ) → EndsInZero first → length first ≤ at + 64 → at < count → get_or (lines_of first count) at d ≡ replicate 64 0
+line_near : (first : List (List ℕ)) (count at : ℕ) (d : List ℕ) → EndsInZero first → length first ≤ at + 64 → at < count → get_or (kept_lines first count) at d ≡ replicate 64 0
 line_near first count at d ends near h = elim (cases_lt at (length first)) [
   | inl low ↦ line_kept first count at d low ∙ ends at d near low
   | inr high ↦ line_behind first count at d high h
 ]
 
 -- a page that is kept, and one that isn't kept whole
-pub page_kept : (first : List (List ℕ)) (count at : ℕ) → at + 64 ≤ length first → take 64 (drop at first) ≡ take 64 (drop at (lines_of first count))
+pub page_kept : (first : List (List ℕ)) (count at : ℕ) → at + 64 ≤ length first → take 64 (drop at first) ≡ take 64 (drop at (kept_lines first count))
 page_kept first count at h =
     let zeros = zero_lines (count - length first) in
     let room : 64 ≤ length (drop at first) = omega (arith, length-drop at first) in
@@ -49,10 +49,10 @@ page_kept first count at h =
     sym (ap (take 64) (drop-append-le at first zeros low) ∙ take-append-le 64 (drop at first) zeros room)
 
 pub page_behind : (first : List (List ℕ)) (count at : ℕ) → EndsInZero first → length first ≤ count → length first < at + 64 → at + 64 ≤ count
-    → zero_lines 64 ≡ take 64 (drop at (lines_of first count))
+    → zero_lines 64 ≡ take 64 (drop at (kept_lines first count))
 page_behind first count at ends below near h =
-    let all = lines_of first count in
-    let room : 64 ≤ length (drop at all) = omega (arith, length-drop at all, length-lines_of first count below) in
+    let all = kept_lines first count in
+    let room : 64 ≤ length (drop at all) = omega (arith, length-drop at all, length-kept_lines first count below) in
     same_lists (zero_lines 64) (take 64 (drop at all)) (length-zero_lines 64 ∙ sym (length-take-le 64 (drop at all) room)) (λ k d low.
     let short : k < 64 = omega (arith, low, length-zero_lines 64) in
     let near_k : length first ≤ (at + k) + 64 = omega arith in
@@ -62,7 +62,7 @@ page_behind first count at ends below near h =
 
 -- what the callers know of a page that isn't kept whole
 pub page_of_zeros : (first : List (List ℕ)) (count at : ℕ) → IsKept first count → length first < at + 64 → at + 64 ≤ count
-    → zero_lines 64 ≡ take 64 (drop at (lines_of first count))
+    → zero_lines 64 ≡ take 64 (drop at (kept_lines first count))
 page_of_zeros first count at kept near h = elim kept.ends [
   | inl whole ↦ absurd (omega (arith, whole))
   | inr ends ↦ page_behind first count at ends kept.below near h
@@ -73,7 +73,7 @@ pub far : (len count end k : ℕ) → (len ≡ count) ⊎ (end + 64 ≤ len) →
 far len count end k reached h low = elim reached [ inl whole ↦ omega (arith, whole) | inr behind ↦ omega (arith, behind) ]
 
 -- more zero lines are kept
-pub more_same : (first : List (List ℕ)) (count more : ℕ) → length first + more ≤ count → lines_of (first ++ zero_lines more) count ≡ lines_of first count
+pub more_same : (first : List (List ℕ)) (count more : ℕ) → length first + more ≤ count → kept_lines (first ++ zero_lines more) count ≡ kept_lines first count
 more_same first count more h =
     let kept = first ++ zero_lines more in
     let rest : more + (count - length kept) ≡ count - length first = omega (arith, length-append first (zero_lines more), length-zero_lines more) in
@@ -97,8 +97,8 @@ pub length-grown : (first new : List (List ℕ)) (wanted : ℕ) → new ≡ firs
 length-grown first new wanted is = omega (arith, ap length (grown first new wanted is), length-append first (zero_lines (wanted - length first)), length-zero_lines (wanted - length first))
 
 pub grown_same : (first new : List (List ℕ)) (count wanted : ℕ) → new ≡ first ++ replicate (wanted - length first) (replicate 64 0) → length first ≤ count
-    → wanted ≤ count → lines_of new count ≡ lines_of first count
-grown_same first new count wanted is h k = ap (λ l. lines_of l count) (grown first new wanted is) ∙ more_same first count (wanted - length first) (omega arith)
+    → wanted ≤ count → kept_lines new count ≡ kept_lines first count
+grown_same first new count wanted is h k = ap (λ l. kept_lines l count) (grown first new wanted is) ∙ more_same first count (wanted - length first) (omega arith)
 
 pub grown_kept : (first new : List (List ℕ)) (count wanted : ℕ) → new ≡ first ++ replicate (wanted - length first) (replicate 64 0)
     → wanted ≤ count → IsKept first count → IsKept new count
@@ -115,7 +115,7 @@ grown_kept first new count wanted is k kept =
     }
 
 -- a line is written
-pub set_same : (first : List (List ℕ)) (count at : ℕ) (w : List ℕ) → at < length first → lines_of (set first at w) count ≡ set (lines_of first count) at w
+pub set_same : (first : List (List ℕ)) (count at : ℕ) (w : List ℕ) → at < length first → kept_lines (set first at w) count ≡ set (kept_lines first count) at w
 set_same first count at w h =
     ap (λ (n : ℕ). set first at w ++ zero_lines (count - n)) (length-set first at w)
     ∙ sym (set-append_left first (zero_lines (count - length first)) at w h)
@@ -132,7 +132,7 @@ length-with_copied : (first : List (List ℕ)) (from to n : ℕ) → from + n �
 length-with_copied first from to n h k = length-paste first to (drop from first) n k (omega (arith, length-drop from first))
 
 pub copy_same : (first : List (List ℕ)) (count from to n : ℕ) → from + n ≤ length first → to + n ≤ length first
-    → lines_of (with_copied first from to n) count ≡ with_copied (lines_of first count) from to n
+    → kept_lines (with_copied first from to n) count ≡ with_copied (kept_lines first count) from to n
 copy_same first count from to n h k =
     let zeros = zero_lines (count - length first) in
     let to_low : to ≤ length first = omega arith in

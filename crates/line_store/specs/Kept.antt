@@ -4,8 +4,8 @@ use Rattle.line_store.specs.Lines.{zero_lines}
 -- What a region keeps of its lines: the first ones, behind which all are zero.
 
 -- all lines, of which the first are kept
-abbrev pub lines_of : List (List ℕ) → ℕ → List (List ℕ)
-lines_of first count = first ++ zero_lines (count - length first)
+abbrev pub kept_lines : List (List ℕ) → ℕ → List (List ℕ)
+kept_lines first count = first ++ zero_lines (count - length first)
 
 -- the last 64 lines are zero
 abbrev pub EndsInZero : List (List ℕ) → Type 0

@@ -28,9 +28,9 @@ abbrev pub lines_lent : Ptr → ℕ → List (List ℕ) → Lft → Fml
 lines_lent at made items = lent_at (Array Line made) at items
 
 -- the same number of bytes, as units that are aligned to 16
-abbrev pub units_of : ℕ → Ty
-units_of n = ty_array (ty_int w128) (4 * n)
+abbrev pub line_units : ℕ → Ty
+line_units n = ty_array (ty_int w128) (4 * n)
 
 -- the right to give n lines' room back as those units, from the allocator's token
 abbrev pub lease_owns : (Ty → Ptr → Fml) → Ptr → ℕ → Fml
-lease_owns token at n = fsep (token (units_of n) at) (fwand (room_for (room_of n) at) (room_for (units_of n) at))
+lease_owns token at n = fsep (token (line_units n) at) (fwand (room_for (room_of n) at) (room_for (line_units n) at))

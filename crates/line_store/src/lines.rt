@@ -14,7 +14,8 @@ use std::slice;
 // The largest alignment that `Global` gives.
 const ALIGN: usize = 16;
 
-/// Room for lines, of which the first `made` are made.
+/// Room for lines, of which the first `made` are made. It may never be dropped by a derive, which would lose the
+/// memory without a proof that fails: it ends by `free` alone.
 pub(crate) struct Lines {
     pub(crate) at: *mut [u8; 64],
     made: usize,
@@ -29,7 +30,8 @@ impl Model for Lines {
     ghost also_shares = { λ l _ κ. lines_lent l.at l.made l.items κ };
 }
 
-/// The right to give the memory back to `alloc`. It takes no space.
+/// The right to give the memory back to `alloc`. It takes no space. It may never be dropped by a derive either: it
+/// ends by `Lines::free` alone.
 pub(crate) struct Lease<A: Allocator> {
     mark: PhantomData<A>,
     pub(crate) ghost alloc: { A },

@@ -1,39 +1,40 @@
 ghost use Rattle.std.specs.Prelude.{◌≡◌, ◌+◌, ◌-◌, ◌*◌, ◌≤◌, ◌<◌, ◌⊎◌, ◌++◌, IfOk, take, drop, length, replicate, slice_set};
 ghost use Rattle.std.specs.Borrow.{Lends, sem, Array, u8 as byte};
+ghost use Rattle.sizes.specs.declared.TheConstants.{LINE_BYTES, MOST_FRAMES};
 ghost use Rattle.line_store.specs.contracts.region.Region.{the_row};
 ghost use Rattle.line_store.specs.Lines.{zero_lines, line_of, with_copied};
-ghost use Rattle.line_store.specs.Kept.{lines_of, IsKept};
+ghost use Rattle.line_store.specs.Kept.{kept_lines, IsKept};
 
 use crate::lines::{Lease, Lines};
-use std::alloc::{AllocError, Global};
+use std::alloc::{AllocError, Allocator, Global};
 use std::marker::Model;
 
 /// Lines of 64 bytes by number, from 0 on: 64 for each of 1 to 65,537 frames. All are zero at first. Room
 /// for all is one piece of raw memory, which is given back when the region is dropped, but lines more than
 /// 64 behind the last one that was written, or copied, aren't touched: where the host gives memory on the
 /// first touch they cost none.
-pub struct Region {
+pub struct Region<A: Allocator = Global> {
     // the first lines; those behind them are zero, and there is room for them
     lines: Lines,
     count: u32,
     // where their memory goes back to
-    alloc: Global,
-    lease: Lease<Global>,
+    alloc: A,
+    lease: Lease<A>,
 }
 
-impl Model for Region {
+impl<A: Allocator> Model for Region<A> {
     ghost use Rattle.std.specs.Prelude.{List, ℕ, ◌≡◌};
-    ghost use Rattle.line_store.specs.Kept.{lines_of, IsKept};
+    ghost use Rattle.line_store.specs.Kept.{kept_lines, IsKept};
 
     ghost Value = { List (List ℕ) };
 
-    ghost view = { λ region. lines_of region.lines.items region.count };
+    ghost view = { λ region. kept_lines region.lines.items region.count };
 
     ghost invariant = { λ region. IsKept region.lines.items region.count × (region.lines.room ≡ region.count) × (region.lease.at ≡ region.lines.at) × (region.lease.room ≡ region.count) × (region.lease.alloc ≡ region.alloc) };
 }
 
 // Gives the memory back.
-impl Drop for Region {
+impl<A: Allocator> Drop for Region<A> {
     fn drop(self) {
         let Region {
             lines,
@@ -50,7 +51,19 @@ impl Region {
     /// of which nothing is touched. Without memory for it nothing is made.
     pub fn new(alloc: Global, frames: u32) -> Result<Region, AllocError>
         requires some { 1 ≤ frames }
-        requires few { frames ≤ 65537 }
+        requires few { frames ≤ MOST_FRAMES + 1 }
+        ensures zero { IfOk result (λ region. region ≡ zero_lines (64 * frames)) }
+        ensures count { IfOk result (λ region. length region ≡ 64 * frames) }
+    {
+        Region::made(alloc, frames)
+    }
+}
+
+impl<A: Allocator> Region<A> {
+    // The same over any allocator.
+    pub(crate) fn made(alloc: A, frames: u32) -> Result<Region<A>, AllocError>
+        requires some { 1 ≤ frames }
+        requires few { frames ≤ MOST_FRAMES + 1 }
         ensures zero { IfOk result (λ region. region ≡ zero_lines (64 * frames)) }
         ensures count { IfOk result (λ region. length region ≡ 64 * frames) }
     {
@@ -75,12 +88,16 @@ impl Region {
     pub fn line(&self, at: u32) -> &[u8; 64]
         requires there { at < length self.now }
         ensures value { result.now ≡ line_of self.now at }
+        ensures bytes { length (line_of self.now at) ≡ LINE_BYTES }
     {
         let kept = self.lines.as_slice();
         if kept.len() <= at as usize {
             return zero_line();
         }
-        &kept[at as usize]
+        let line = &kept[at as usize];
+        // a line that is read has the bytes of its type
+        let _first = line[0];
+        line
     }
 
     /// Lends the 64 lines from `at` on, which have to be there.
@@ -111,7 +128,7 @@ impl Region {
     /// other line changes. Takes no memory beyond the region's, but touches the lines before it.
     pub fn line_mut(&mut self, at: u32) -> &mut [u8; 64]
         requires there { at < length self.old }
-        ensures* writes_back { sem 𝓛 (Lends the_row (Array byte 0) self.entry result (slice_set self.old at)) }
+        ensures* writes_back { sem 𝓛 (Lends (the_row A.row A.Allocator) (Array byte 0) self.entry result (slice_set self.old at)) }
         ensures value { result.now ≡ line_of self.old at }
     {
         reach(&mut self.lines, self.count, at + 1);
@@ -157,7 +174,7 @@ fn reach(lines: &mut Lines, count: u32, end: u32)
     requires few { count ≤ 4194368 }
     requires inside { end ≤ count }
     requires room { lines.old.room ≡ count }
-    ensures same { lines_of lines.new.items count ≡ lines_of lines.old.items count }
+    ensures same { kept_lines lines.new.items count ≡ kept_lines lines.old.items count }
     ensures kept { IsKept lines.old.items count → IsKept lines.new.items count }
     ensures reached { (length lines.new.items ≡ count) ⊎ (end + 64 ≤ length lines.new.items) }
     ensures piece { (lines.new.at ≡ lines.old.at) × (lines.new.room ≡ lines.old.room) }

@@ -148,3 +148,18 @@ fn refused_memory_makes_nothing(rt: HostRuntime) -> Result<(), Fail> {
     assert_eq!(rt; heap.used(), 0);
     Ok(())
 }
+
+#[test]
+fn a_dropped_region_gives_its_memory_back(rt: HostRuntime) -> Result<(), Fail> {
+    let heap = LocalHeap::new(rt.alloc(), 64 * 64)?;
+    let alloc = &heap;
+    for round in 0..3u8 {
+        let mut region = Region::made(alloc, 1)?;
+        assert_eq!(rt; heap.used(), 64 * 64, "round {round}");
+        region.put_line(63, &[round; 64]);
+        assert_eq!(rt; region.line(63)[0], round);
+        drop(region);
+        assert_eq!(rt; heap.used(), 0, "round {round}");
+    }
+    Ok(())
+}

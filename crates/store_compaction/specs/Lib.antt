@@ -1,2 +1,3 @@
--- Moves, one after the other, and what they lead to.
+-- Moves, one after the other, what they lead to, and which move comes next.
 pub mod Runs
+pub mod Next

@@ -1,7 +1,8 @@
-ghost use Rattle.std.specs.Prelude.{◌≡◌, ◌+◌, ◌^◌, ◌<◌, ◌≤◌, ℕ, List, IfSome, None};
-ghost use Rattle.unit_map.specs.Pieces.{Piece, ArePieces, AreSettled, count, free_blocks, free_units};
+ghost use Rattle.std.specs.Prelude.{◌≡◌, ◌+◌, ◌^◌, ◌<◌, ◌≤◌, IfSome, None};
+ghost use Rattle.unit_map.specs.Pieces.{ArePieces, AreBlocksApart, AreSettled, count, free_blocks, free_units, units_in};
 ghost use Rattle.unit_map.specs.Changes.{HasRoom, IsFull, CanMove, Relocates, KeepsOutside, MovesInside, OnlyMoves};
-ghost use Rattle.store_compaction.specs.Runs.{HasPair, Moves};
+ghost use Rattle.store_compaction.specs.Runs.{HasPair};
+ghost use Rattle.store_compaction.specs.Next.{IsPairMove, IsPairMoveOf, IsRoomMove, RunsShort};
 
 use unit_map::UnitMap;
 
@@ -15,10 +16,10 @@ pub struct Move {
 
 /// A move on the way to a map in which no two free blocks below a frame are equal in size. None exactly where the
 /// map is so.
-/// Costs a few steps for each level of a tree over the frames.
+/// Costs a few steps for each of five levels of marks over the frames.
 pub fn next_move(map: &UnitMap) -> Option<Move>
     ensures none { result ≡ None → AreSettled map.now }
-    ensures some { IfSome result (λ m. CanMove map.now m.from m.to m.order × (2 ≤ count m.order map.now)) }
+    ensures some { IfSome result (IsPairMove map.now) }
     ensures pieces { ArePieces map.now }
 {
     // the least order first
@@ -37,14 +38,14 @@ pub fn next_move(map: &UnitMap) -> Option<Move>
 /// Where there is no room, two free blocks below this order are equal in size, so that there is a move. That holds
 /// after any moves too, and no more moves can be made than there are free blocks here. So at most that many make
 /// the room.
-/// Costs a few steps for each level of a tree over the frames.
+/// Costs a few steps for each of five levels of marks over the frames.
 pub fn room_for(map: &UnitMap, order: u8) -> Option<Move>
     requires order { order ≤ 4 }
     requires enough { 2 ^ order ≤ free_units map.now }
     ensures none { result ≡ None → HasRoom map.now order }
-    ensures some { IfSome result (λ m. IsFull map.now order × (m.order < order) × CanMove map.now m.from m.to m.order) }
+    ensures some { IfSome result (IsRoomMove map.now order) }
     ensures packing { IsFull map.now order → HasPair map.now order }
-    ensures run { (n : ℕ) (later : List Piece) → Moves n map.now later → (n < free_blocks map.now) × (IsFull later order → HasPair later order) }
+    ensures run { RunsShort map.now order }
     ensures pieces { ArePieces map.now }
 {
     if map.has_room(order) {
@@ -74,6 +75,9 @@ pub fn apply(map: &mut UnitMap, m: Move)
     ensures pieces { ArePieces map.new }
     ensures free { free_units map.new ≡ free_units map.old }
     ensures fewer { free_blocks map.new < free_blocks map.old }
+    ensures units { units_in map.new ≡ units_in map.old }
+    ensures within { m.from + 2 ^ m.order ≤ units_in map.old }
+    ensures apart { AreBlocksApart m.from m.order m.to m.order }
 {
     map.relocate(m.from, m.to, m.order);
 }
@@ -82,7 +86,7 @@ pub fn apply(map: &mut UnitMap, m: Move)
 fn move_of(map: &UnitMap, order: u8) -> Option<Move>
     requires { order < 4 }
     ensures none { result ≡ None → count order map.now < 2 }
-    ensures some { IfSome result (λ m. (m.order ≡ order) × CanMove map.now m.from m.to m.order × (2 ≤ count m.order map.now)) }
+    ensures some { IfSome result (IsPairMoveOf map.now order) }
     ensures pieces { ArePieces map.now }
 {
     match map.two_free(order) {

@@ -1,71 +1,69 @@
-use Rattle.std.proofs.Common.{◌≡◌, ℕ, zero, suc, ◌+◌, ◌*◌, ◌^◌, ◌%◌, ◌<◌, ◌≤◌, true, false, ◌||◌, List, [], ◌∷◌, ◌++◌, sym, ap, ◌∙◌, refl, arith, nat_eq}
-use Rattle.std.proofs.lemmas.Bool.Decides.{nat_tests}
+use Rattle.std.proofs.Common.{◌≡◌, ℕ, zero, suc, ◌+◌, ◌^◌, ◌%◌, ◌<◌, ◌≤◌, true, false, ◌⊎◌, inl, inr, [], ◌∷◌, sym, ap, subst, ◌∙◌, refl, arith}
 use Rattle.std.proofs.lemmas.Nat.{pow_pos}
-use Rattle.unit_map.specs.Pieces.{Piece, any, free_at, free_frames}
+use Rattle.unit_map.specs.Pieces.{Piece, IsPiece, IsAligned, AreMerged, Fills, units_in, free_at, taken_at}
 use Rattle.unit_map.specs.Changes.{split}
-use Rattle.unit_map.specs.Spans.{IsPlace}
-use Rattle.unit_map.proofs.Lists.{any_append}
-use Rattle.unit_map.proofs.Numbers.{twice, lower_aligned, upper_aligned}
+use Rattle.unit_map.proofs.Lists.{in_either, in_lower, fills_append, units_append}
+use Rattle.unit_map.proofs.Numbers.{twice, less_aligned, next_aligned}
 
--- A block that is split, and frames one after the other.
+-- The parts of a block that is split.
 
-differ : (a b : ℕ) → a < b → (nat_eq a b || false) ≡ false
-differ a b h = grind (arith, nat_tests)
+pub split_units : (u o n : ℕ) → units_in (split u o n) ≡ 2 ^ (o + n)
+split_units u o zero = let e : o ≡ o + zero = omega arith in omega (arith, ap (λ k. 2 ^ k) e)
+split_units u o (suc n) =
+    let e : o + n + 1 ≡ o + suc n = omega arith in
+    omega (arith, units_append (split u o n) (free_at (u + 2 ^ (o + n)) (o + n) ∷ []), split_units u o n, twice (o + n), ap (λ k. 2 ^ k) e)
 
--- no part is free that is as large as the whole
-pub any_split : (k unit order times : ℕ) → order + times ≤ k → any k (split unit order times) ≡ false
-any_split k unit order zero h = refl
-any_split k unit order (suc times) h =
-    any_append k (split unit order times) (free_at (unit + 2 ^ (order + times)) (order + times) ∷ [])
-    ∙ ap (λ b. b || any k (free_at (unit + 2 ^ (order + times)) (order + times) ∷ [])) (any_split k unit order times (omega arith))
-    ∙ differ (order + times) k (omega arith)
+pub split_fills : (u o n : ℕ) → Fills u (split u o n)
+split_fills u o zero = (refl, tt)
+split_fills u o (suc n) =
+    let at : u + 2 ^ (o + n) ≡ u + units_in (split u o n) = omega (arith, split_units u o n) in
+    fills_append u (split u o n) (free_at (u + 2 ^ (o + n)) (o + n) ∷ []) (split_fills u o n) (at, tt)
 
--- one half more
-pub split_more : (unit order times n k v : ℕ) (ls rs : List Piece) → ls ≡ split unit order times → rs ≡ free_at v k ∷ [] → v ≡ unit + 2 ^ k → k ≡ order + times
-    → n ≡ suc times → ls ++ rs ≡ split unit order n
-split_more unit order times n k v ls rs el er ev ek en =
-    ap (λ ps. ps ++ rs) el
-    ∙ ap (λ ps. split unit order times ++ ps) (er ∙ ap (λ (p : Piece). p ∷ []) one)
-    ∙ ap (split unit order) (sym en)
+pub split_taken : (u o n : ℕ) → IsPiece (split u o n) (taken_at u o)
+split_taken u o zero = inl refl
+split_taken u o (suc n) = in_lower (split u o n) (free_at (u + 2 ^ (o + n)) (o + n) ∷ []) (taken_at u o) (split_taken u o n)
+
+-- one is taken, the others are free and of different orders
+pub record IsUpper (u o n : ℕ) (p : Piece) : Type 0 where
+  pub order : ℕ
+  pub from : o ≤ order
+  pub below : order < o + n
+  pub is : free_at (u + 2 ^ order) order ≡ p
+
+pub split_parts : (u o n : ℕ) (p : Piece) → IsPiece (split u o n) p → (taken_at u o ≡ p) ⊎ IsUpper u o n p
+split_parts u o zero p (inl e) = inl e
+split_parts u o zero p (inr h) = absurd h
+split_parts u o (suc n) p h = at (in_either (split u o n) (free_at (u + 2 ^ (o + n)) (o + n) ∷ []) p h) (split_parts u o n p)
   where
-    one : free_at v k ≡ free_at (unit + 2 ^ (order + times)) (order + times)
-    one = λ i. record { unit = (ev ∙ ap (λ (x : ℕ). unit + 2 ^ x) ek) i; order = ek i; free = true }
+    at : IsPiece (split u o n) p ⊎ IsPiece (free_at (u + 2 ^ (o + n)) (o + n) ∷ []) p → (IsPiece (split u o n) p → (taken_at u o ≡ p) ⊎ IsUpper u o n p) → (taken_at u o ≡ p) ⊎ IsUpper u o (suc n) p
+    at (inl a) rest = elim (rest a) [ inl e ↦ inl e | inr r ↦ inr (record { order = r.order; from = r.from; below = omega (arith, r.below); is = r.is }) ]
+    at (inr (inl e)) rest = inr (record { order = o + n; from = omega arith; below = omega arith; is = e })
+    at (inr (inr b)) rest = absurd b
 
-pub frames_append : (u a b : ℕ) → free_frames u a ++ free_frames (u + 16 * a) b ≡ free_frames u (a + b)
-frames_append u zero b =
-    let none : u + 16 * 0 ≡ u = omega arith in
-    let same : b ≡ zero + b = omega arith in
-    ap (λ v. free_frames v b) none ∙ ap (free_frames u) same
-frames_append u (suc a) b =
-    let at : u + 16 * suc a ≡ u + 16 + 16 * a = omega arith in
-    let same : suc (a + b) ≡ suc a + b = omega arith in
-    ap (λ v. free_at u 4 ∷ (free_frames (u + 16) a ++ free_frames v b)) at ∙ ap (λ ps. free_at u 4 ∷ ps) (frames_append (u + 16) a b) ∙ ap (free_frames u) same
+pub split_aligned : (u o n : ℕ) → o + n ≤ 4 → u % 2 ^ (o + n) ≡ 0 → (p : Piece) → IsPiece (split u o n) p → IsAligned p
+split_aligned u o n low aligned p h = at (split_parts u o n p h)
+  where
+    at : (taken_at u o ≡ p) ⊎ IsUpper u o n p → IsAligned p
+    at (inl e) = subst IsAligned e (record { order = omega (arith, low); unit = less_aligned o (o + n) u low (omega arith) aligned })
+    at (inr r) =
+        let le : r.order ≤ 4 = omega (arith, r.below, low) in
+        subst IsAligned r.is (record { order = le; unit = next_aligned r.order u le (less_aligned r.order (o + n) u low (omega (arith, r.below)) aligned) })
 
--- where a block below a frame may lie, and its halves
-pub block_place : (u k : ℕ) → k < 4 → u % 2 ^ k ≡ 0 → u + 2 ^ k ≤ 2 ^ 20 → IsPlace u (2 ^ k) k
-block_place u k low at fits = record {
-  highest = omega (arith, low);
-  block = λ h. refl;
-  some = pow_pos k;
-  aligned = λ h. at;
-  framed = λ h. absurd (omega (arith, low, h));
-  whole = λ h. absurd (omega (arith, low, h));
-  fits = fits;
-}
+pub split_small : (u o n : ℕ) (p : Piece) → IsPiece (split u o n) p → p.free ≡ true → p.order < o + n
+split_small u o n p h free = at (split_parts u o n p h)
+  where
+    at : (taken_at u o ≡ p) ⊎ IsUpper u o n p → p.order < o + n
+    at (inl e) = let f : false ≡ true = ap (λ (q : Piece). q.free) e ∙ free in absurd (cc)
+    at (inr r) = omega (arith, r.below, ap (λ (q : Piece). q.order) r.is)
 
-pub lower_place : (u k : ℕ) → k < 4 → IsPlace u (2 ^ (k + 1)) (k + 1) → IsPlace u (2 ^ k) k
-lower_place u k lt p = block_place u k lt (lower_aligned u k lt (p.aligned (omega (arith, lt)))) (omega (arith, p.fits, twice k))
-
-pub upper_place : (u k : ℕ) → k < 4 → IsPlace u (2 ^ (k + 1)) (k + 1) → IsPlace (u + 2 ^ k) (2 ^ k) k
-upper_place u k lt p = block_place (u + 2 ^ k) k lt (upper_aligned u k lt (p.aligned (omega (arith, lt)))) (omega (arith, p.fits, twice k))
-
-pub frames_place : (u n : ℕ) → 0 < n → u % 16 ≡ 0 → u + 16 * n ≤ 2 ^ 20 → IsPlace u (16 * n) 5
-frames_place u n some at fits = record {
-  highest = omega arith;
-  block = λ h. absurd (omega arith);
-  some = omega arith;
-  aligned = λ h. absurd (omega arith);
-  framed = λ h. at;
-  whole = λ h. omega arith;
-  fits = fits;
-}
+pub split_merged : (u o n : ℕ) → AreMerged (split u o n)
+split_merged u o n p q hp hq halves = at (split_parts u o n p hp) (split_parts u o n q hq)
+  where
+    at : (taken_at u o ≡ p) ⊎ IsUpper u o n p → (taken_at u o ≡ q) ⊎ IsUpper u o n q → ⊥
+    at (inl e) other = let f : false ≡ true = ap (λ (x : Piece). x.free) e ∙ halves.lower in cc
+    at (inr a) (inl e) = let f : false ≡ true = ap (λ (x : Piece). x.free) e ∙ halves.upper in cc
+    at (inr a) (inr b) =
+        let one = ap (λ (x : Piece). x.order) a.is in
+        let two = ap (λ (x : Piece). x.order) b.is in
+        let same : b.order ≡ a.order = two ∙ halves.same ∙ sym one in
+        omega (arith, ap (λ (x : Piece). x.unit) a.is, ap (λ (x : Piece). x.unit) b.is, halves.beside, pow_pos p.order, ap (λ k. 2 ^ k) same)

@@ -1,9 +1,9 @@
 use Rattle.std.proofs.Common.{◌≡◌, ℕ, zero, suc, ◌+◌, ◌-◌, ◌^◌, ◌<◌, ◌≤◌, true, false, ◌⊎◌, inl, inr, List, [], ◌∷◌, ◌++◌, sym, ap, subst, ◌∙◌, refl, arith}
 use Rattle.std.proofs.lemmas.Nat.{pow_pos}
-use Rattle.unit_map.specs.Pieces.{Piece, IsPiece, Fills, units_of, free_at, taken_at, moved}
-use Rattle.unit_map.specs.Changes.{Joins, Merges, TakesFrom, Takes, Gives, Clears, Puts, Relocates, split, KeepsTaken, KeepsOthers, KeepsOutside, MovesInside, OnlyTakes, OnlyGives, OnlyMoves}
+use Rattle.unit_map.specs.Pieces.{Piece, IsPiece, Fills, units_in, free_at, taken_at, moved}
+use Rattle.unit_map.specs.Changes.{Joins, Merges, TakesFrom, TakesBlock, Gives, Clears, Puts, Relocates, split, KeepsTaken, KeepsOthers, KeepsOutside, MovesInside, OnlyTakes, OnlyGives, OnlyMoves}
 use Rattle.unit_map.specs.Changes.Merges.{Done, Step}
-use Rattle.unit_map.proofs.Lists.{in_either, in_lower, in_upper, lies, fills_front}
+use Rattle.unit_map.proofs.Lists.{in_either, in_lower, in_upper, lies, fills_front, fills_back, starts}
 
 -- What becomes of the blocks that are taken.
 
@@ -39,7 +39,7 @@ merges_keep : (old new : List Piece) → Merges old new → KeepsTaken old new
 merges_keep old new (Done ps) v k h = h
 merges_keep old new (Step a mid b j m) v k h = merges_keep mid new m v k (joins_keep old mid j v k h)
 
-pub takes_keep : (old new : List Piece) (order unit : ℕ) → Takes old order unit new → KeepsTaken old new
+pub takes_keep : (old new : List Piece) (order unit : ℕ) → TakesBlock old order unit new → KeepsTaken old new
 takes_keep old new order unit t v k h =
     let g = t.takes in
     let there = subst (λ ps. IsPiece ps (taken_at v k)) g.was h in
@@ -51,16 +51,6 @@ gives_keep old new unit order g v k h differs =
     let there = subst (λ ps. IsPiece ps (taken_at v k)) g.was h in
     merges_keep _ new g.merges v k
     (around g.front (free_at unit order ∷ []) g.back (taken_at v k) (other g.front g.back (taken_at unit order) (taken_at v k) there (λ e. differs (sym (ap (λ (p : Piece). p.unit) e)))))
-
--- what fills behind a front
-fills_back : (u : ℕ) (ps qs : List Piece) → Fills u (ps ++ qs) → Fills (u + units_of ps) qs
-fills_back u [] qs h = let same : u ≡ u + zero = omega arith in subst (λ n. Fills n qs) same h
-fills_back u (p ∷ ps) qs h = let same : u + 2 ^ p.order + units_of ps ≡ u + (2 ^ p.order + units_of ps) = omega arith in subst (λ n. Fills n qs) same (fills_back (u + 2 ^ p.order) ps qs h.1)
-
--- a range that isn't empty starts where it fills from
-starts : (u w : ℕ) (ps qs : List Piece) → Fills u ps → Fills w (ps ++ qs) → 0 < units_of ps → u ≡ w
-starts u w [] qs f g some = absurd (omega (arith, some))
-starts u w (p ∷ ps) qs f g some = sym f.0 ∙ g.0
 
 -- what stays, and what goes, by a move
 in_moved : (u w : ℕ) (ps : List Piece) (p : Piece) → IsPiece ps p → IsPiece (moved u w ps) (record { unit = w + (p.unit - u); order = p.order; free = p.free })
@@ -110,14 +100,14 @@ moves_inside old new from to order fills r v k h low high = at (in_either c.fron
     filled : Fills 0 (c.front ++ (r.part ++ c.back))
     filled = subst (Fills 0) c.was fills
 
-    start : from ≡ 0 + units_of c.front
-    start = starts from (0 + units_of c.front) r.part c.back c.fills (fills_back 0 c.front (r.part ++ c.back) filled) (omega (arith, c.total, pow_pos order))
+    start : from ≡ 0 + units_in c.front
+    start = starts from (0 + units_in c.front) r.part c.back c.fills (fills_back 0 c.front (r.part ++ c.back) filled) (omega (arith, c.total, pow_pos order))
 
     before : IsPiece c.front (taken_at v k) → ⊥
     before a = omega (arith, lies 0 c.front (taken_at v k) (fills_front 0 c.front (r.part ++ c.back) filled) a, start, low, pow_pos k)
 
     behind : IsPiece c.back (taken_at v k) → ⊥
-    behind b = omega (arith, lies (0 + units_of c.front + units_of r.part) c.back (taken_at v k) (fills_back (0 + units_of c.front) r.part c.back (fills_back 0 c.front (r.part ++ c.back) filled)) b, start, c.total, high)
+    behind b = omega (arith, lies (0 + units_in c.front + units_in r.part) c.back (taken_at v k) (fills_back (0 + units_in c.front) r.part c.back (fills_back 0 c.front (r.part ++ c.back) filled)) b, start, c.total, high)
 
     rest : IsPiece r.part (taken_at v k) ⊎ IsPiece c.back (taken_at v k) → IsPiece new (taken_at (to + (v - from)) k)
     rest (inl a) = goes old new from to order v k r a
@@ -152,7 +142,7 @@ split_only unit order (suc times) v k h = at (split_only unit order times v k) (
     at rest (inr (inl e)) = absurd (not_taken upper v k refl e)
     at rest (inr (inr b)) = absurd b
 
-pub takes_only : (old new : List Piece) (order unit : ℕ) → Takes old order unit new → OnlyTakes old unit order new
+pub takes_only : (old new : List Piece) (order unit : ℕ) → TakesBlock old order unit new → OnlyTakes old unit order new
 takes_only old new order unit t v k h = at (in_either g.front (parts ++ g.back) (taken_at v k) (subst (λ ps. IsPiece ps (taken_at v k)) g.now h))
   where
     g : TakesFrom old order t.from unit new
@@ -181,12 +171,12 @@ gives_only old new unit order fills g v k h = (apart sides, subst (λ ps. IsPiec
     sides : IsPiece g.front (taken_at v k) ⊎ IsPiece g.back (taken_at v k)
     sides = other g.front g.back (free_at unit order) (taken_at v k) (merges_only (g.front ++ free_at unit order ∷ g.back) new g.merges v k h) (not_taken (free_at unit order) v k refl)
 
-    behind : Fills (0 + units_of g.front) (taken_at unit order ∷ g.back)
+    behind : Fills (0 + units_in g.front) (taken_at unit order ∷ g.back)
     behind = fills_back 0 g.front (taken_at unit order ∷ g.back) filled
 
     apart : IsPiece g.front (taken_at v k) ⊎ IsPiece g.back (taken_at v k) → v ≡ unit → ⊥
     apart (inl a) e = omega (arith, lies 0 g.front (taken_at v k) (fills_front 0 g.front (taken_at unit order ∷ g.back) filled) a, behind.0, e, pow_pos k)
-    apart (inr b) e = omega (arith, lies (0 + units_of g.front + 2 ^ order) g.back (taken_at v k) behind.1 b, behind.0, e, pow_pos order)
+    apart (inr b) e = omega (arith, lies (0 + units_in g.front + 2 ^ order) g.back (taken_at v k) behind.1 b, behind.0, e, pow_pos order)
 
 -- where a piece of the part that went had been
 from_moved : (u w : ℕ) (ps : List Piece) (v k : ℕ) → IsPiece (moved u w ps) (taken_at v k) → (x : ℕ) × ((v ≡ w + (x - u)) × IsPiece ps (taken_at x k))
@@ -209,12 +199,12 @@ moves_only old new from to order fills r v k h = at (in_either put.front (moved 
     filled : Fills 0 (c.front ++ (r.part ++ c.back))
     filled = subst (Fills 0) c.was fills
 
-    start : from ≡ 0 + units_of c.front
-    start = starts from (0 + units_of c.front) r.part c.back c.fills (fills_back 0 c.front (r.part ++ c.back) filled) (omega (arith, c.total, pow_pos order))
+    start : from ≡ 0 + units_in c.front
+    start = starts from (0 + units_in c.front) r.part c.back c.fills (fills_back 0 c.front (r.part ++ c.back) filled) (omega (arith, c.total, pow_pos order))
 
     outside : IsPiece c.front (taken_at v k) ⊎ IsPiece c.back (taken_at v k) → (v < from) ⊎ (from + 2 ^ order ≤ v)
     outside (inl a) = inl (omega (arith, lies 0 c.front (taken_at v k) (fills_front 0 c.front (r.part ++ c.back) filled) a, start, pow_pos k))
-    outside (inr b) = inr (omega (arith, lies (0 + units_of c.front + units_of r.part) c.back (taken_at v k) (fills_back (0 + units_of c.front) r.part c.back (fills_back 0 c.front (r.part ++ c.back) filled)) b, start, c.total))
+    outside (inr b) = inr (omega (arith, lies (0 + units_in c.front + units_in r.part) c.back (taken_at v k) (fills_back (0 + units_in c.front) r.part c.back (fills_back 0 c.front (r.part ++ c.back) filled)) b, start, c.total))
 
     stayed : IsPiece put.front (taken_at v k) ⊎ IsPiece put.back (taken_at v k) → Result
     stayed h =

@@ -1,5 +1,5 @@
-use Rattle.std.specs.Prelude.{◌≡◌, ℕ, zero, suc, ◌+◌, ◌-◌, ◌^◌, ◌<◌, ◌≤◌, true, false, ◌⊎◌, List, [], ◌∷◌, ◌++◌, Option, Some, None}
-use Rattle.unit_map.specs.Pieces.{moved, Piece, IsPiece, any, count, units_of, Fills, free_at, taken_at, AreFreeHalves, AreBeside, AreMerged}
+use Rattle.std.specs.Prelude.{◌≡◌, ℕ, zero, suc, ◌+◌, ◌-◌, ◌^◌, ◌<◌, ◌≤◌, true, ◌⊎◌, List, [], ◌∷◌, ◌++◌, Option, Some, None}
+use Rattle.unit_map.specs.Pieces.{moved, Piece, IsPiece, units_in, Fills, free_at, taken_at, AreFreeHalves, AreBeside, AreMerged}
 
 -- What a call does to the pieces.
 
@@ -16,7 +16,7 @@ pub record TakesFrom (old : List Piece) (order from unit : ℕ) (new : List Piec
   pub now : new ≡ front ++ (split unit order (from - order) ++ back)
 
 -- a block of this order at this unit is taken out of a free block of the least order that is enough
-pub record Takes (old : List Piece) (order unit : ℕ) (new : List Piece) : Type 0 where
+pub record TakesBlock (old : List Piece) (order unit : ℕ) (new : List Piece) : Type 0 where
   pub from : ℕ
   pub takes : TakesFrom old order from unit new
   pub enough : order ≤ from
@@ -44,16 +44,6 @@ pub record Gives (old : List Piece) (unit order : ℕ) (new : List Piece) : Type
   pub was : old ≡ front ++ taken_at unit order ∷ back
   pub merges : Merges (front ++ free_at unit order ∷ back) new
 
--- the least order from `order` on of which there is a free piece
-abbrev pub IsLeast : List Piece → ℕ → Option ℕ → Type 0
-IsLeast ps order None = (k : ℕ) → order ≤ k → k < 5 → any k ps ≡ false
-IsLeast ps order (Some from) = (order ≤ from) × (from ≤ 4) × (any from ps ≡ true) × ((k : ℕ) → order ≤ k → k < from → any k ps ≡ false)
-
--- two different free blocks of an order, or that there are fewer than two
-abbrev pub AreTwoFree : List Piece → ℕ → Option (ℕ × ℕ) → Type 0
-AreTwoFree ps order None = count order ps < 2
-AreTwoFree ps order (Some both) = (2 ≤ count order ps) × (both.0 < both.1) × IsPiece ps (free_at both.0 order) × IsPiece ps (free_at both.1 order)
-
 -- no free block is of this order or above
 abbrev pub IsFull : List Piece → ℕ → Type 0
 IsFull ps order = (p : Piece) → IsPiece ps p → p.free ≡ true → order ≤ p.order → ⊥
@@ -62,18 +52,21 @@ IsFull ps order = (p : Piece) → IsPiece ps p → p.free ≡ true → order ≤
 abbrev pub HasRoom : List Piece → ℕ → Type 0
 HasRoom ps order = (p : Piece) × (IsPiece ps p × (p.free ≡ true) × (order ≤ p.order))
 
+-- the least order from `order` on of which there is a free block, or that there is none
+abbrev pub IsLeast : List Piece → ℕ → Option ℕ → Type 0
+IsLeast ps order None = IsFull ps order
+IsLeast ps order (Some from) =
+    (order ≤ from) × (from ≤ 4) × ((x : ℕ) × IsPiece ps (free_at x from))
+    × ((p : Piece) → IsPiece ps p → p.free ≡ true → order ≤ p.order → from ≤ p.order)
+
 -- the pieces of a range become one free block, and free halves are merged
 pub record Clears (old : List Piece) (unit order : ℕ) (part new : List Piece) : Type 0 where
   pub front : List Piece
   pub back : List Piece
   pub was : old ≡ front ++ (part ++ back)
   pub fills : Fills unit part
-  pub total : units_of part ≡ 2 ^ order
+  pub total : units_in part ≡ 2 ^ order
   pub merges : Merges (front ++ free_at unit order ∷ back) new
-
--- other free blocks of an order stay
-abbrev pub OthersStay : List Piece → ℕ → ℕ → List Piece → Type 0
-OthersStay old other order new = (v : ℕ) → IsPiece old (free_at v order) → (v ≡ other → ⊥) → IsPiece new (free_at v order)
 
 -- other pieces stand in place of a free block
 pub record Puts (old : List Piece) (unit order : ℕ) (part new : List Piece) : Type 0 where

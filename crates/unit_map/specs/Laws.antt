@@ -1,8 +1,8 @@
-use Rattle.std.proofs.Common.{◌≡◌, ℕ, zero, suc, ◌+◌, ◌*◌, ◌^◌, ◌<◌, ◌≤◌, Bool, true, false, cond, ◌&&◌, nat_eq, ◌⊎◌, inl, inr, List, [], ◌∷◌, ◌++◌, ap, subst, ◌∙◌, refl, arith}
+use Rattle.std.proofs.Common.{◌≡◌, ℕ, zero, suc, ◌+◌, ◌*◌, ◌^◌, ◌<◌, ◌≤◌, Bool, true, false, cond, ◌&&◌, nat_eq, ◌⊎◌, inl, inr, List, [], ◌∷◌, ◌++◌, sym, ap, subst, ◌∙◌, refl, arith}
 use Rattle.std.proofs.lemmas.Bool.Decides.{nat_tests}
 use Rattle.std.proofs.lemmas.Nat.{pow_pos}
 use Rattle.std.proofs.Math.Nat.{two-pow-succ}
-use Rattle.unit_map.specs.Pieces.{Piece, IsPiece, IsAligned, Fills, count, is_free_of, AreFreeHalves, AreBeside, AreMerged, units_of, free_units, free_blocks, free_at, moved}
+use Rattle.unit_map.specs.Pieces.{Piece, IsPiece, IsAligned, Fills, is_free_of, AreFreeHalves, AreBeside, AreMerged, units_in, free_units, free_by_order, free_blocks, free_at, moved, AreBlocksApart, ArePieces}
 use Rattle.unit_map.specs.Changes.{Joins, Merges, Relocates, CanMove}
 use Rattle.unit_map.specs.Changes.Merges.{Done, Step}
 
@@ -36,10 +36,29 @@ in_upper [] qs p h = h
 in_upper (x ∷ ps) qs p h = inr (in_upper ps qs p h)
 
 -- a piece lies within what the pieces fill
-pub lies : (u : ℕ) (ps : List Piece) (p : Piece) → Fills u ps → IsPiece ps p → (u ≤ p.unit) × (p.unit + 2 ^ p.order ≤ u + units_of ps)
+pub lies : (u : ℕ) (ps : List Piece) (p : Piece) → Fills u ps → IsPiece ps p → (u ≤ p.unit) × (p.unit + 2 ^ p.order ≤ u + units_in ps)
 lies u [] p f h = absurd h
-lies u (x ∷ ps) p f (inl e) = let P : Piece → Type 0 = λ p. (u ≤ p.unit) × (p.unit + 2 ^ p.order ≤ u + (2 ^ x.order + units_of ps)) in subst P e (omega (arith, f.0), omega (arith, f.0))
+lies u (x ∷ ps) p f (inl e) = let P : Piece → Type 0 = λ p. (u ≤ p.unit) × (p.unit + 2 ^ p.order ≤ u + (2 ^ x.order + units_in ps)) in subst P e (omega (arith, f.0), omega (arith, f.0))
 lies u (x ∷ ps) p f (inr h) = let r = lies (u + 2 ^ x.order) ps p f.1 h in (omega (arith, r.0), omega (arith, r.1))
+
+-- two pieces are equal or apart
+two_fill : (u : ℕ) (ps : List Piece) (p q : Piece) → Fills u ps → IsPiece ps p → IsPiece ps q → (p ≡ q) ⊎ AreBlocksApart p.unit p.order q.unit q.order
+two_fill u [] p q f h g = absurd h
+two_fill u (x ∷ ps) p q f (inl e) (inl i) = inl (sym e ∙ i)
+two_fill u (x ∷ ps) p q f (inl e) (inr g) = inr (inl (omega (arith, ap (λ (y : Piece). y.unit + 2 ^ y.order) e, f.0, (lies (u + 2 ^ x.order) ps q f.1 g).0)))
+two_fill u (x ∷ ps) p q f (inr h) (inl i) = inr (inr (omega (arith, ap (λ (y : Piece). y.unit + 2 ^ y.order) i, f.0, (lies (u + 2 ^ x.order) ps p f.1 h).0)))
+two_fill u (x ∷ ps) p q f (inr h) (inr g) = two_fill (u + 2 ^ x.order) ps p q f.1 h g
+
+pub equal_or_apart : (ps : List Piece) → ArePieces ps → (p q : Piece) → IsPiece ps p → IsPiece ps q → (p ≡ q) ⊎ AreBlocksApart p.unit p.order q.unit q.order
+equal_or_apart ps are p q h g = two_fill 0 ps p q are.fills h g
+
+-- and inside
+pub within : (ps : List Piece) → ArePieces ps → (p : Piece) → IsPiece ps p → p.unit + 2 ^ p.order ≤ units_in ps
+within ps are p h = omega (arith, (lies 0 ps p are.fills h).1)
+
+pub units_append : (ps qs : List Piece) → units_in (ps ++ qs) ≡ units_in ps + units_in qs
+units_append [] qs = omega arith
+units_append (p ∷ ps) qs = omega (arith, units_append ps qs)
 
 pub free_append : (ps qs : List Piece) → free_units (ps ++ qs) ≡ free_units ps + free_units qs
 free_append [] qs = omega arith
@@ -55,7 +74,7 @@ one_free : (b : Bool) (n : ℕ) → cond b n 0 ≤ n
 one_free true n = omega arith
 one_free false n = omega arith
 
-pub free_le : (ps : List Piece) → free_units ps ≤ units_of ps
+pub free_le : (ps : List Piece) → free_units ps ≤ units_in ps
 free_le [] = omega arith
 free_le (p ∷ ps) = omega (arith, one_free p.free (2 ^ p.order), free_le ps)
 
@@ -82,7 +101,7 @@ one_counts true k h =
     by_order (λ k. 2 ^ k ≡ cond (nat_eq k 0) 1 0 + 2 * cond (nat_eq k 1) 1 0 + 4 * cond (nat_eq k 2) 1 0 + 8 * cond (nat_eq k 3) 1 0 + 16 * cond (nat_eq k 4) 1 0) refl refl refl refl refl k h
 
 -- the free units are those of the free pieces by order
-pub free_counts : (ps : List Piece) → ((p : Piece) → IsPiece ps p → IsAligned p) → free_units ps ≡ count 0 ps + 2 * count 1 ps + 4 * count 2 ps + 8 * count 3 ps + 16 * count 4 ps
+pub free_counts : (ps : List Piece) → ((p : Piece) → IsPiece ps p → IsAligned p) → free_units ps ≡ free_by_order ps
 free_counts [] h = refl
 free_counts (p ∷ ps) h = omega (arith, one_counts p.free p.order (h p (inl refl)).order, free_counts ps (λ q g. h q (inr g)))
 
@@ -155,7 +174,7 @@ free_moves old new from to order r =
     )
 
 -- the other half is none of the pieces that go
-stays : (u v order : ℕ) (front part back : List Piece) → Fills u part → units_of part ≡ 2 ^ order → AreBeside u v order → IsPiece (front ++ (part ++ back)) (free_at v order) → IsPiece (front ++ free_at u order ∷ back) (free_at v order)
+stays : (u v order : ℕ) (front part back : List Piece) → Fills u part → units_in part ≡ 2 ^ order → AreBeside u v order → IsPiece (front ++ (part ++ back)) (free_at v order) → IsPiece (front ++ free_at u order ∷ back) (free_at v order)
 stays u v order front part back fills total beside h = at (in_either front (part ++ back) (free_at v order) h)
   where
     outside : (v ≡ u + 2 ^ order) ⊎ (u ≡ v + 2 ^ order) → IsPiece part (free_at v order) → ⊥

@@ -1,4 +1,4 @@
-use Rattle.std.specs.Prelude.{◌≡◌, ℕ, zero, suc, ◌+◌, ◌-◌, ◌*◌, ◌^◌, ◌%◌, ◌<◌, ◌≤◌, Bool, true, false, ◌&&◌, ◌||◌, ◌⊎◌, cond, nat_eq, List, [], ◌∷◌}
+use Rattle.std.specs.Prelude.{◌≡◌, ℕ, zero, suc, ◌+◌, ◌-◌, ◌*◌, ◌^◌, ◌%◌, ◌<◌, ◌≤◌, Bool, true, false, ◌&&◌, ◌⊎◌, cond, nat_eq, List, [], ◌∷◌}
 
 -- The pieces of a memory, ascending.
 
@@ -20,9 +20,9 @@ IsPiece [] p = ⊥
 IsPiece (x ∷ ps) p = (x ≡ p) ⊎ IsPiece ps p
 
 -- the units that the pieces cover
-abbrev pub units_of : List Piece → ℕ
-units_of [] = 0
-units_of (p ∷ ps) = 2 ^ p.order + units_of ps
+abbrev pub units_in : List Piece → ℕ
+units_in [] = 0
+units_in (p ∷ ps) = 2 ^ p.order + units_in ps
 
 -- the units of those that are free
 abbrev pub free_units : List Piece → ℕ
@@ -43,10 +43,9 @@ abbrev pub count : ℕ → List Piece → ℕ
 count order [] = 0
 count order (p ∷ ps) = cond (is_free_of order p) 1 0 + count order ps
 
--- whether there is a free piece of an order
-abbrev pub any : ℕ → List Piece → Bool
-any order [] = false
-any order (p ∷ ps) = is_free_of order p || any order ps
+-- the free units, as a sum by orders
+abbrev pub free_by_order : List Piece → ℕ
+free_by_order ps = count 0 ps + 2 * count 1 ps + 4 * count 2 ps + 8 * count 3 ps + 16 * count 4 ps
 
 -- no two free pieces below a frame are equal in size
 abbrev pub AreSettled : List Piece → Type 0
@@ -75,6 +74,14 @@ pub record AreFreeHalves (p q : Piece) : Type 0 where
 abbrev pub AreBeside : ℕ → ℕ → ℕ → Type 0
 AreBeside u v order = ((u % 2 ^ (order + 1) ≡ 0) × (v ≡ u + 2 ^ order)) ⊎ ((v % 2 ^ (order + 1) ≡ 0) × (u ≡ v + 2 ^ order))
 
+-- two blocks have no unit in common
+abbrev pub AreBlocksApart : ℕ → ℕ → ℕ → ℕ → Type 0
+AreBlocksApart u k v j = (u + 2 ^ k ≤ v) ⊎ (v + 2 ^ j ≤ u)
+
+-- a block has no unit in common with any that is taken
+abbrev pub IsApartFromTaken : List Piece → ℕ → ℕ → Type 0
+IsApartFromTaken ps u k = (v j : ℕ) → IsPiece ps (taken_at v j) → AreBlocksApart u k v j
+
 -- no two of the pieces are free halves of one block
 abbrev pub AreMerged : List Piece → Type 0
 AreMerged ps = (p q : Piece) → IsPiece ps p → IsPiece ps q → AreFreeHalves p q → ⊥
@@ -82,8 +89,8 @@ AreMerged ps = (p q : Piece) → IsPiece ps p → IsPiece ps q → AreFreeHalves
 -- what is true of the pieces of every map
 pub record ArePieces (ps : List Piece) : Type 0 where
   pub fills : Fills 0 ps
-  pub frames : (n : ℕ) × (units_of ps ≡ 16 * n)
-  pub few : units_of ps ≤ 2 ^ 20
+  pub frames : (n : ℕ) × (units_in ps ≡ 16 * n)
+  pub few : units_in ps ≤ 2 ^ 20
   pub aligned : (p : Piece) → IsPiece ps p → IsAligned p
   pub merged : AreMerged ps
 

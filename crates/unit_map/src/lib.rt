@@ -5,12 +5,16 @@
 //! order (it covers 2^order units, order 0 to 4), and whether it is free. The pieces fill the frames, each is
 //! aligned to its size, and no two free ones are halves of one block. How they are kept doesn't show.
 //!
-//! - `tree`: the pieces of a range of units, as a tree of halves
-//! - `map`: the pieces of a memory
+//! - `cells`: a byte a unit, which tells the pieces
+//! - `index`: which frames have a free block of an order, with a summary above
+//! - `table`: both together
+//! - `map`: a table and the number of free units
 #![tactic(auto)]
 
+mod cells;
+mod index;
 mod map;
-mod tree;
+mod table;
 
 pub use map::{Block, UnitMap};
 

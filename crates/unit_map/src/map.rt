@@ -1,9 +1,10 @@
-ghost use Rattle.std.specs.Prelude.{◌≡◌, ◌+◌, ◌-◌, ◌*◌, ◌^◌, ◌%◌, ◌<◌, ◌≤◌, IfOk, IfSome, IsTrue, None, false};
-ghost use Rattle.unit_map.specs.Pieces.{ArePieces, IsPiece, AreBeside, count, free_blocks, free_frames, free_units, taken_at};
-ghost use Rattle.unit_map.specs.Changes.{HasRoom, IsFull, Takes, Gives, CanMove, Relocates, KeepsTaken, KeepsOthers, KeepsOutside, MovesInside, OnlyTakes, OnlyGives, OnlyMoves};
-ghost use Rattle.unit_map.specs.Blocks.{AreTwoBlocks};
+ghost use Rattle.std.specs.Prelude.{◌≡◌, ◌+◌, ◌*◌, ◌^◌, ◌%◌, ◌<◌, ◌≤◌, IfOk, IfSome, IsTrue, None, false};
+ghost use Rattle.sizes.specs.declared.TheConstants.{MOST_FRAMES};
+ghost use Rattle.unit_map.specs.Pieces.{ArePieces, IsPiece, AreBlocksApart, AreBeside, free_blocks, free_by_order, free_frames, free_units, taken_at, units_in};
+ghost use Rattle.unit_map.specs.Changes.{HasRoom, IsFull, Gives, CanMove, Relocates, KeepsTaken, KeepsOthers, KeepsOutside, MovesInside, OnlyTakes, OnlyGives, OnlyMoves};
+ghost use Rattle.unit_map.specs.Blocks.{AreTwoBlocks, IsTakenBlock, IsWithin, LosesUnits, OverlapsNone, TakesAsked};
 
-use crate::tree::Tree;
+use crate::table::Table;
 use std::alloc::{AllocError, Global};
 use std::marker::Model;
 
@@ -38,10 +39,8 @@ impl Block {
 /// Which blocks of a memory are free, and which are taken.
 #[derive(Drop)]
 pub struct UnitMap {
-    tree: Tree,
+    table: Table,
     free: u32,
-    // by order, a block that the moves of that order go by
-    spares: [Tree; 4],
 }
 
 impl Model for UnitMap {
@@ -51,9 +50,9 @@ impl Model for UnitMap {
 
     ghost Value = { List Piece };
 
-    ghost view = { λ m. m.tree.pieces };
+    ghost view = { λ m. m.table };
 
-    ghost invariant = { λ m. IsMap m.tree m.free m.spares };
+    ghost invariant = { λ m. IsMap m.table m.free };
 }
 
 impl UnitMap {
@@ -61,40 +60,37 @@ impl UnitMap {
     /// ever needs, or answers the want of it.
     pub fn new(alloc: Global, frames: u32) -> Result<UnitMap, AllocError>
         requires some { 0 < frames }
-        requires few { frames ≤ 65536 }
+        requires few { frames ≤ MOST_FRAMES }
         ensures free { IfOk result (λ map. map ≡ free_frames 0 frames) }
         ensures pieces { IfOk result (λ map. ArePieces map) }
     {
-        let tree = Tree::frames(alloc, 0, frames)?;
-        let spares = [
-            Tree::block(alloc, 0, 0)?,
-            Tree::block(alloc, 0, 1)?,
-            Tree::block(alloc, 0, 2)?,
-            Tree::block(alloc, 0, 3)?,
-        ];
+        let table = Table::new(alloc, frames)?;
         Ok(UnitMap {
-            tree,
+            table,
             free: 16 * frames,
-            spares,
         })
     }
 
     /// Takes a block of an order from 0 to 4 out of a free block of the least order that is enough, which is
     /// split as needed. None, and nothing changes, where no free block has that order or above.
-    /// Takes no memory. Costs a few steps for each level of a tree over the frames.
+    /// Takes no memory. Costs a few steps for each of five levels of marks over the frames.
     pub fn take(&mut self, order: u8) -> Option<Block>
         requires { order ≤ 4 }
         ensures none { result ≡ None → IsFull self.old order × (self.new ≡ self.old) }
         ensures pieces { ArePieces self.new }
-        ensures some { IfSome result (λ block. (block.order ≡ order) × Takes self.old order block.unit self.new) }
-        ensures taken { IfSome result (λ block. IsPiece self.new (taken_at block.unit block.order)) }
+        ensures some { IfSome result (TakesAsked self.old order self.new) }
+        ensures taken { IfSome result (IsTakenBlock self.new) }
         ensures others { KeepsTaken self.old self.new }
         ensures only { IfSome result (λ block. OnlyTakes self.old block.unit block.order self.new) }
+        ensures units { units_in self.new ≡ units_in self.old }
+        ensures free { IfSome result (LosesUnits self.old self.new) }
+        ensures within { IfSome result (IsWithin self.old) }
+        ensures apart { IfSome result (OverlapsNone self.old) }
     {
-        match self.tree.least(order) {
+        match self.table.least(order) {
             None => None,
             Some(from) => {
-                let unit = self.tree.take(order, from);
+                let unit = self.table.take(order, from);
                 self.free -= 1u32 << order;
                 Some(Block { unit, order })
             }
@@ -102,22 +98,24 @@ impl UnitMap {
     }
 
     /// Frees a block that is taken, and merges free halves of one block until no two are left.
-    /// Takes no memory. Costs a few steps for each level of a tree over the frames.
+    /// Takes no memory. Costs a few steps for each of five levels of marks over the frames.
     pub fn give(&mut self, block: Block)
         requires { IsPiece self.old (taken_at block.unit block.order) }
         ensures gives { Gives self.old block.unit block.order self.new }
         ensures others { KeepsOthers self.old block.unit self.new }
         ensures only { OnlyGives self.old block.unit self.new }
+        ensures units { units_in self.new ≡ units_in self.old }
+        ensures free { free_units self.new ≡ free_units self.old + 2 ^ block.order }
         ensures pieces { ArePieces self.new }
     {
-        self.tree.give(block.unit, block.order);
+        self.table.give(block.unit, block.order);
         self.free += 1u32 << block.order;
     }
 
     /// How many units are free: at most 1,048,576. Costs a step.
     pub fn free_units(&self) -> u32
         ensures sum { result ≡ free_units self.now }
-        ensures orders { result ≡ count 0 self.now + 2 * count 1 self.now + 4 * count 2 self.now + 8 * count 3 self.now + 16 * count 4 self.now }
+        ensures orders { result ≡ free_by_order self.now }
         ensures pieces { ArePieces self.now }
     {
         self.free
@@ -130,17 +128,17 @@ impl UnitMap {
         ensures full { result ≡ false → IsFull self.now order }
         ensures pieces { ArePieces self.now }
     {
-        self.tree.least(order).is_some()
+        self.table.least(order).is_some()
     }
 
     /// Two different free blocks of an order from 0 to 4, the lower one first. None where there are fewer than two.
-    /// Costs a few steps for each level of a tree over the frames.
+    /// Costs a few steps for each of five levels of marks over the frames.
     pub fn two_free(&self, order: u8) -> Option<(Block, Block)>
         requires { order ≤ 4 }
         ensures two { AreTwoBlocks self.now order result }
         ensures pieces { ArePieces self.now }
     {
-        match self.tree.two_free(order) {
+        match self.table.two_free(order) {
             None => None,
             Some((lower, upper)) => Some((
                 Block { unit: lower, order },
@@ -152,7 +150,7 @@ impl UnitMap {
     /// Lets the blocks inside the block of an order at `from` go to the free block of that order at `to`, and merges
     /// free halves until no two are left. The order is below 4. The other half of the block at `from` has to be free
     /// too, and another block than that at `to`.
-    /// Takes no memory. Costs a few steps for each level of a tree over the frames, and for each unit that goes.
+    /// Takes no memory. Costs a few steps for each unit that goes, and for each of five levels of marks over the frames.
     pub fn relocate(&mut self, from: u32, to: u32, order: u8)
         requires { CanMove self.old from to order }
         ensures relocates { Relocates self.old from to order self.new }
@@ -162,18 +160,19 @@ impl UnitMap {
         ensures pieces { ArePieces self.new }
         ensures free { free_units self.new ≡ free_units self.old }
         ensures fewer { free_blocks self.new < free_blocks self.old }
+        ensures units { units_in self.new ≡ units_in self.old }
+        ensures within { from + 2 ^ order ≤ units_in self.old }
+        ensures apart { AreBlocksApart from order to order }
     {
-        let spare = &mut self.spares[usize::from(order)];
-        let other = Block { unit: from, order }.buddy().unit;
-        self.tree.relocate(spare, from, other, to);
+        self.table.relocate(from, to, order);
     }
 
     /// Whether a block is one of those that are taken, so that it can be given.
-    /// Costs a few steps for each level of a tree over the frames.
+    /// Costs a few steps for each of five levels of marks over the frames.
     pub fn is_taken(&self, block: Block) -> bool
         ensures is { IsTrue result → IsPiece self.now (taken_at block.unit block.order) }
         ensures other { result ≡ false → IsPiece self.now (taken_at block.unit block.order) → ⊥ }
     {
-        self.tree.is_taken(block.unit, block.order)
+        self.table.is_taken(block.unit, block.order)
     }
 }

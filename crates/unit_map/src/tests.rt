@@ -2,6 +2,7 @@ ghost use Rattle.std.specs.Prelude.{◌<◌, ◌≤◌, IfSome};
 ghost use Rattle.unit_map.specs.Changes.{Relocates};
 
 use crate::{Block, UnitMap};
+use sizes::MOST_FRAMES;
 use std::process::Abort;
 use std::test::Fail;
 
@@ -133,14 +134,14 @@ fn a_map_is_filled_and_emptied(rt: HostRuntime) -> Result<(), Fail> {
 
 #[test]
 fn all_frames_are_taken_and_given_one_by_one(rt: HostRuntime) -> Result<(), Fail> {
-    let mut map = UnitMap::new(rt.alloc(), 65_536)?;
+    let mut map = UnitMap::new(rt.alloc(), MOST_FRAMES)?;
     assert_eq!(rt; map.free_units(), 1_048_576);
-    for frame in 0..65_536u32 {
+    for frame in 0..MOST_FRAMES {
         take_at(&rt, &mut map, 4, 16 * frame);
     }
     assert_eq!(rt; map.free_units(), 0);
     assert_eq!(rt; map.take(0), None);
-    for frame in 0..65_536u32 {
+    for frame in 0..MOST_FRAMES {
         give(&rt, &mut map, 16 * frame, 4);
     }
     assert_eq!(rt; map.free_units(), 1_048_576);

@@ -27,7 +27,7 @@ use Rattle.core.proofs.alloc.Shapes.{after}
 use Rattle.core.proofs.atomic.Steps.{fm}
 use Rattle.std.proofs.VecSteps.Rows.{all_room}
 use Rattle.std.proofs.raw_atomic.Walks.{proved_at, leaves}
-use Rattle.line_store.specs.Memory.{room_of, units_of, lines_own, lease_owns}
+use Rattle.line_store.specs.Memory.{room_of, line_units, lines_own, lease_owns}
 use Rattle.line_store.specs.contracts.lines.Lines.free.{ended, clauses}
 use Rattle.line_store.specs.contracts.lines.Lines.free.Key.{name as #self}
 use Rattle.line_store.proofs.Calls.{lease_val, lease_told, slot_at, then_runs, out_of_block}
@@ -68,7 +68,7 @@ free_spec 𝓤 𝓛 𝓜 𝓡 wired A L₀ g d dd met md =
     let h = a.1.1.1.0.now in
     let handle = a.1.1.1.0.ref_ptr in
     let told = words_told x.at x.made vss.0 are.0.0 in
-    let τ : Ty = units_of n in
+    let τ : Ty = line_units n in
     let Asked : Type 0 = (k.alloc ≡ h) × (k.at ≡ x.at) × (k.room ≡ n) × (x.room ≡ n) in
     qed 𝓛 ((raw (alive 𝓛 T.signature z.0.0 z.0.1) ⊛ ‵ (owns (types_at T.signature.params z.0.0) a vss)) ∷ (raw (fact 𝓤 (z.0.0.1.0 ⊑ A.lives)) ⊛ raw (fact 𝓤 Asked)) ∷ []) ∵
     move ! (1 ∷ []) $ split ! $ heard ! (z.0.0.1.0 ⊑ A.lives) (λ le. heard ! Asked (λ asked. split ! $ move ! (1 ∷ []) $

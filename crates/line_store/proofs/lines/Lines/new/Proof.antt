@@ -37,7 +37,7 @@ use Rattle.std.proofs.ResultValues.{ok_of, err_of}
 use Rattle.std.proofs.VecSteps.Rows.{empty}
 use Rattle.std.specs.contracts.alloc.AllocError as AE
 use Rattle.std.proofs.raw_atomic.Walks.{proved_at, leaves}
-use Rattle.line_store.specs.Memory.{Line, room_of, units_of}
+use Rattle.line_store.specs.Memory.{Line, room_of, line_units}
 use Rattle.line_store.specs.contracts.lines.Lines as L
 use Rattle.line_store.specs.contracts.lines.Lease as D
 use Rattle.line_store.specs.contracts.lines.Lines.new.{ended, clauses}
@@ -69,7 +69,7 @@ new_spec 𝓤 𝓛 𝓜 𝓡 wired A L₀ g d dd met md =
     let h = a.0.now in
     let at = a.0.ref_ptr in
     let n = a.1.0 in
-    let τ : Ty = units_of n in
+    let τ : Ty = line_units n in
     let y = at_takes Y 𝓛 𝓜.mem 𝓡.returns κ q at h (64 * n) 16 τ in
     let Asked : Type 0 = n ≤ 4194368 in
     let Pair : RattleType = Tuple (L.the_row ∷ D.the_row Z g ∷ []) in

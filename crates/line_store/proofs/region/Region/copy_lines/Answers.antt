@@ -1,36 +1,36 @@
 use Rattle.std.proofs.Common.{◌+◌, ◌≤◌, length, ap, sym, ◌∙◌, arith}
 use Rattle.line_store.specs.Lines.{with_copied}
-use Rattle.line_store.specs.Kept.{lines_of}
-use Rattle.line_store.proofs.Kept.{length-lines_of, far, copied, copy_same, copy_kept}
+use Rattle.line_store.specs.Kept.{kept_lines}
+use Rattle.line_store.proofs.Kept.{length-kept_lines, far, copied, copy_same, copy_kept}
 use Rattle.line_store.proofs.region.Region.copy_lines.Goals as goal
 
 pub overflow_add-max : goal.overflow_add-max
-overflow_add-max c =
-    let size = length-lines_of c.self.inside.lines.items c.self.inside.count c.self.invariant.0.below in
+overflow_add-max g c =
+    let size = length-kept_lines c.self.inside.lines.items c.self.inside.count c.self.invariant.0.below in
     record { fits = omega (arith, c.requires.source, c.requires.target, ap length c.self.view_is, size, c.self.invariant.0.few, c.max.ensures) }
 
 pub reach-requires-clause-inside : goal.reach-requires-clause-inside
-reach-requires-clause-inside c =
-    let size = length-lines_of c.self.inside.lines.items c.self.inside.count c.self.invariant.0.below in
+reach-requires-clause-inside g c =
+    let size = length-kept_lines c.self.inside.lines.items c.self.inside.count c.self.invariant.0.below in
     omega (arith, c.requires.source, c.requires.target, ap length c.self.view_is, size, c.max.ensures)
 
 pub copy_within-requires-clause-in_bounds : goal.copy_within-requires-clause-in_bounds
-copy_within-requires-clause-in_bounds c =
-    let size = length-lines_of c.self.inside.lines.items c.self.inside.count c.self.invariant.0.below in
+copy_within-requires-clause-in_bounds g c =
+    let size = length-kept_lines c.self.inside.lines.items c.self.inside.count c.self.invariant.0.below in
     let inside : c.max.result + c.args.n ≤ c.self.inside.count = omega (arith, c.requires.source, c.requires.target, ap length c.self.view_is, size, c.max.ensures) in
     let kept = far (length c.reach.new.lines.items) c.self.inside.count (c.max.result + c.args.n) (c.args.from + c.args.n) c.reach.ensures.reached (omega (arith, c.max.ensures)) inside in
     omega (arith, kept, ap length c.as_mut_slice.ensures.value)
 
 pub copy_within-requires-clause-dest_in_bounds : goal.copy_within-requires-clause-dest_in_bounds
-copy_within-requires-clause-dest_in_bounds c =
-    let size = length-lines_of c.self.inside.lines.items c.self.inside.count c.self.invariant.0.below in
+copy_within-requires-clause-dest_in_bounds g c =
+    let size = length-kept_lines c.self.inside.lines.items c.self.inside.count c.self.invariant.0.below in
     let inside : c.max.result + c.args.n ≤ c.self.inside.count = omega (arith, c.requires.source, c.requires.target, ap length c.self.view_is, size, c.max.ensures) in
     let kept = far (length c.reach.new.lines.items) c.self.inside.count (c.max.result + c.args.n) (c.args.to + c.args.n) c.reach.ensures.reached (omega (arith, c.max.ensures)) inside in
     omega (arith, kept, ap length c.as_mut_slice.ensures.value)
 
 pub invariant_of-self : goal.invariant_of-self
-invariant_of-self c =
-    let size = length-lines_of c.self.inside.lines.items c.self.inside.count c.self.invariant.0.below in
+invariant_of-self g c =
+    let size = length-kept_lines c.self.inside.lines.items c.self.inside.count c.self.invariant.0.below in
     let lines = c.reach.new.lines in
     let end = c.max.result + c.args.n in
     let inside : end ≤ c.self.inside.count = omega (arith, c.requires.source, c.requires.target, ap length c.self.view_is, size, c.max.ensures) in
@@ -47,8 +47,8 @@ invariant_of-self c =
     )
 
 pub returns-clause-copied : goal.returns-clause-copied
-returns-clause-copied c =
-    let size = length-lines_of c.self.inside.lines.items c.self.inside.count c.self.invariant.0.below in
+returns-clause-copied g c =
+    let size = length-kept_lines c.self.inside.lines.items c.self.inside.count c.self.invariant.0.below in
     let lines = c.reach.new.lines in
     let end = c.max.result + c.args.n in
     let inside : end ≤ c.self.inside.count = omega (arith, c.requires.source, c.requires.target, ap length c.self.view_is, size, c.max.ensures) in
@@ -56,6 +56,6 @@ returns-clause-copied c =
     let target = far (length lines.items) c.self.inside.count end (c.args.to + c.args.n) c.reach.ensures.reached (omega (arith, c.max.ensures)) inside in
     let is = copied lines.items c.as_mut_slice.result.now c.copy_within.new.self lines.made c.args.from c.args.to c.args.n lines.fits.0 c.as_mut_slice.ensures.value
     c.copy_within.ensures.len c.copy_within.ensures.after in
-    ap (λ l. lines_of l c.self.inside.count) is
+    ap (λ l. kept_lines l c.self.inside.count) is
     ∙ copy_same lines.items c.self.inside.count c.args.from c.args.to c.args.n source target
     ∙ ap (λ l. with_copied l c.args.from c.args.to c.args.n) (c.reach.ensures.same ∙ c.self.view_is)

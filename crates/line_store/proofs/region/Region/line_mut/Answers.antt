@@ -1,29 +1,29 @@
 use Rattle.std.proofs.Common.{◌+◌, ◌<◌, ◌≤◌, length, set, [], refl, ap, sym, ◌∙◌, arith}
 use Rattle.line_store.specs.Lines.{line_of}
-use Rattle.line_store.proofs.Kept.{length-lines_of, line_kept, far, set_same}
+use Rattle.line_store.proofs.Kept.{length-kept_lines, line_kept, far, set_same}
 use Rattle.line_store.proofs.region.Region.line_mut.Goals as goal
 
 pub overflow_add-at : goal.overflow_add-at
-overflow_add-at c =
-    let size = length-lines_of c.self.inside.lines.items c.self.inside.count c.self.invariant.0.below in
+overflow_add-at g c =
+    let size = length-kept_lines c.self.inside.lines.items c.self.inside.count c.self.invariant.0.below in
     record { fits = omega (arith, c.requires.there, ap length c.self.view_is, size, c.self.invariant.0.few) }
 
 pub reach-requires-clause-inside : goal.reach-requires-clause-inside
-reach-requires-clause-inside c =
-    let size = length-lines_of c.self.inside.lines.items c.self.inside.count c.self.invariant.0.below in
+reach-requires-clause-inside g c =
+    let size = length-kept_lines c.self.inside.lines.items c.self.inside.count c.self.invariant.0.below in
     omega (arith, c.requires.there, ap length c.self.view_is, size)
 
 pub line_mut-requires : goal.line_mut-requires
-line_mut-requires c =
-    let size = length-lines_of c.self.inside.lines.items c.self.inside.count c.self.invariant.0.below in
+line_mut-requires g c =
+    let size = length-kept_lines c.self.inside.lines.items c.self.inside.count c.self.invariant.0.below in
     let low : c.args.at + 1 ≤ c.self.inside.count = omega (arith, c.requires.there, ap length c.self.view_is, size) in
     let kept : c.args.at + 1 ≤ length c.reach.new.lines.items =
     far (length c.reach.new.lines.items) c.self.inside.count (c.args.at + 1) (c.args.at + 1) c.reach.ensures.reached (omega arith) low in
     omega (arith, kept)
 
 pub returns : goal.returns
-returns c =
-    let size = length-lines_of c.self.inside.lines.items c.self.inside.count c.self.invariant.0.below in
+returns g c =
+    let size = length-kept_lines c.self.inside.lines.items c.self.inside.count c.self.invariant.0.below in
     let items = c.reach.new.lines.items in
     let whole = c.reach.ensures.same ∙ c.self.view_is in
     let low : c.args.at + 1 ≤ c.self.inside.count = omega (arith, c.requires.there, ap length c.self.view_is, size) in

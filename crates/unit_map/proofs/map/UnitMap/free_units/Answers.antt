@@ -5,5 +5,5 @@ use Rattle.unit_map.proofs.map.UnitMap.free_units.Goals as goal
 
 pub returns-clause-orders : goal.returns-clause-orders
 returns-clause-orders c =
-    let pieces = subst ArePieces c.self.view_is c.self.invariant.pieces in
-    c.self.invariant.kept ∙ ap free_units c.self.view_is ∙ free_counts c.args.self.now pieces.aligned
+    let are = subst ArePieces c.self.view_is c.self.invariant.are in
+    c.self.invariant.kept ∙ ap free_units c.self.view_is ∙ free_counts c.args.self.now are.aligned
