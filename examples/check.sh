@@ -1,10 +1,11 @@
 #!/bin/sh
 # Runs each example and compares its report with the one that is expected.
 #
-#   examples/check.sh             with bin/overlay-run of this repository, which is built where it has to be
+#   examples/check.sh             with bin/overlay-run of this repository
 #   examples/check.sh PROGRAM     with another program
 #
-# Ends with 0 where every report is the expected one, 1 where some differ, 2 where the program can't be run.
+# An example is a folder with a file `script` and a file `report`. The last line counts them. Ends with 0
+# where every report is the expected one, 1 where some differ, 2 where the program can't be run.
 
 here=$(cd "$(dirname "$0")" && pwd)
 program=${1:-$here/../bin/overlay-run}
@@ -19,16 +20,19 @@ if ! "$program" < /dev/null; then
     exit 2
 fi
 
-differ=0
-for name in sort search matrix; do
+passed=0
+failed=0
+for script in "$here"/*/script; do
+    folder=$(dirname "$script")
     # An x behind the report keeps the shell from dropping the line ends at its end.
-    expected=$(cat "$here/$name/report" && echo x)
-    given=$(cd "$here/$name" && "$program" < script && echo x)
+    expected=$(cat "$folder/report" && echo x)
+    given=$(cd "$folder" && "$program" < script && echo x)
     if [ "$given" = "$expected" ]; then
-        echo "$name: as expected"
+        passed=$((passed + 1))
     else
-        echo "$name: differs"
-        differ=1
+        echo "$(basename "$folder"): differs"
+        failed=$((failed + 1))
     fi
 done
-exit $differ
+echo "examples: $passed passed, $failed failed"
+[ "$failed" = 0 ]

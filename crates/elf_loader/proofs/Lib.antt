@@ -8,3 +8,4 @@ pub mod Unions
 pub mod Filling
 pub mod Sweeping
 pub mod Taken
+pub mod Stacking

@@ -4,10 +4,11 @@ use Rattle.std.proofs.lemmas.Bool.{ltb-false, false_from_ne_true, lt-ltb, le-ltb
 use Rattle.std.proofs.lemmas.Bool.Decides.{nat_tests}
 use Rattle.std.proofs.lemmas.List.Folds.{list_any_at}
 use Rattle.std.proofs.lemmas.List.Elements.{All-nil, All-cons}
+use Rattle.sizes.specs.declared.TheConstants.{MOST_IMAGE_PAGES, STACK_ADDRESS}
 use Rattle.elf_loader.specs.Fields.{table_offset, table_length, loads_of}
-use Rattle.elf_loader.specs.Accepted.{Refusal, first_of, refusal_of, header_refusals, table_refusals, page_refusals, has_table_outside, HasTable, is_larger_in_file, is_outside_file, is_too_high, image_end, most_pages}
-use Rattle.elf_loader.specs.Image.{pages_in, pages_of, page_in, image_page, Kept, Reads}
-use Rattle.elf_loader.specs.Reach.{IsBelowStack, IsTooMany}
+use Rattle.elf_loader.specs.Accepted.{Refusal, first_of, file_refusal, header_refusals, table_refusals, page_refusals, has_table_outside, HasTable, is_larger_in_file, is_outside_file, is_too_high}
+use Rattle.elf_loader.specs.Image.{pages_in, image_pages, page_in, listed_page, Kept, ReadsImage}
+use Rattle.elf_loader.specs.Reach.{IsBelowStack, Lies, IsTooMany}
 use Rattle.elf_loader.specs.declared.header.ProgramHeader.{ProgramHeader}
 use Rattle.elf_loader.specs.declared.image.ElfError.{ElfError}
 use Rattle.elf_loader.specs.declared.image.ElfError.TheVariants.{TooManyPages, Memory}
@@ -40,18 +41,18 @@ none_before : (xs ys : List Refusal) → first_of (xs ++ ys) ≡ None → first_
 none_before [] ys h = refl
 none_before (x ∷ xs) ys h = before x.holds x.error (first_of xs) (first_of (xs ++ ys)) (none_before xs ys) h
 
-pub by_header : (file : List ℕ) (e : ElfError) → first_of (header_refusals file) ≡ Some e → refusal_of file ≡ Some e
-unfolding refusal_of
+pub by_header : (file : List ℕ) (e : ElfError) → first_of (header_refusals file) ≡ Some e → file_refusal file ≡ Some e
+unfolding file_refusal
 by_header file e h = some_of (header_refusals file ++ table_refusals file) (page_refusals file) e (some_of (header_refusals file) (table_refusals file) e h)
 
-pub by_table : (file : List ℕ) (e : ElfError) → first_of (header_refusals file) ≡ None → first_of (table_refusals file) ≡ Some e → refusal_of file ≡ Some e
-unfolding refusal_of
+pub by_table : (file : List ℕ) (e : ElfError) → first_of (header_refusals file) ≡ None → first_of (table_refusals file) ≡ Some e → file_refusal file ≡ Some e
+unfolding file_refusal
 by_table file e h t =
     some_of (header_refusals file ++ table_refusals file) (page_refusals file) e (then_of (header_refusals file) (table_refusals file) h ∙ t)
 
 pub by_pages : (file : List ℕ) → first_of (header_refusals file) ≡ None → first_of (table_refusals file) ≡ None
-    → refusal_of file ≡ cond (ltb most_pages (length (pages_of file))) (Some TooManyPages) None
-unfolding refusal_of page_refusals
+    → file_refusal file ≡ cond (ltb MOST_IMAGE_PAGES (length (image_pages file))) (Some TooManyPages) None
+unfolding file_refusal page_refusals
 by_pages file h t =
     then_of (header_refusals file ++ table_refusals file) (page_refusals file) (then_of (header_refusals file) (table_refusals file) h ∙ t)
 
@@ -86,12 +87,6 @@ header_passes file h =
       table = within (table_length file) (length file) (table_offset file) (all 8 none (omega arith));
     }
 
--- what is said of each segment of a file that is taken
-pub record Lies (file : List ℕ) (header : ProgramHeader) : Type 0 where
-  pub part : header.file_size ≤ header.memory_size
-  pub in_file : 0 < header.file_size → header.offset + header.file_size ≤ length file
-  pub below : 0 < header.memory_size → header.address + header.memory_size ≤ image_end
-
 none_of : (test : ProgramHeader → Bool) (headers : List ProgramHeader) → list_any test headers ≡ false → All (λ h. test h ≡ false) headers
 none_of test headers none k d h =
     false_from_ne_true (test (get_or headers k d)) (λ is. let some = list_any_at test headers k d h is in cc)
@@ -107,47 +102,47 @@ all_lie file h k d below =
     record {
       part = ltb-false header.memory_size header.file_size (none_of is_larger_in_file (loads_of file) (all 1 none (omega arith)) k d below);
       in_file = inside header.file_size (length file) (header.offset + header.file_size) (none_of (is_outside_file (length file)) (loads_of file) (all 2 none (omega arith)) k d below);
-      below = inside header.memory_size image_end (header.address + header.memory_size) (none_of is_too_high (loads_of file) (all 3 none (omega arith)) k d below);
+      below = inside header.memory_size STACK_ADDRESS (header.address + header.memory_size) (none_of is_too_high (loads_of file) (all 3 none (omega arith)) k d below);
     }
 
 pub all_below : (file : List ℕ) → first_of (table_refusals file) ≡ None → All IsBelowStack (loads_of file)
 all_below file h k d below = let lies = all_lie file h k d below in record { part = lies.part; below = lies.below }
 
-table_passes : (file : List ℕ) → refusal_of file ≡ None → first_of (table_refusals file) ≡ None
-unfolding refusal_of
+table_passes : (file : List ℕ) → file_refusal file ≡ None → first_of (table_refusals file) ≡ None
+unfolding file_refusal
 table_passes file h =
     let both = none_before (header_refusals file ++ table_refusals file) (page_refusals file) h in
     sym (then_of (header_refusals file) (table_refusals file) (none_before (header_refusals file) (table_refusals file) both)) ∙ both
 
-pub taken_lie : (file : List ℕ) (headers : List ProgramHeader) → refusal_of file ≡ None → headers ≡ loads_of file → All (Lies file) headers
+pub taken_lie : (file : List ℕ) (headers : List ProgramHeader) → file_refusal file ≡ None → headers ≡ loads_of file → All (Lies file) headers
 taken_lie file headers taken same = subst (All (Lies file)) (sym same) (all_lie file (table_passes file taken))
 
 -- What reading a file answers.
 
-pub reads_error : (file : List ℕ) (e : ElfError) → refusal_of file ≡ Some e → Reads file (Err e)
+pub reads_error : (file : List ℕ) (e : ElfError) → file_refusal file ≡ Some e → ReadsImage file (Err e)
 reads_error file Memory h = tt
 reads_error file e h = h
 
-pub reads_err : (file : List ℕ) (r : Result Kept ElfError) (e : ElfError) → IsErr r × IsErrAnd r (λ x. x ≡ e) → Reads file (Err e) → Reads file r
+pub reads_err : (file : List ℕ) (r : Result Kept ElfError) (e : ElfError) → IsErr r × IsErrAnd r (λ x. x ≡ e) → ReadsImage file (Err e) → ReadsImage file r
 reads_err file (Ok image) e is reads = let no_error = is.0 in cc
-reads_err file (Err x) e is reads = subst (λ x. Reads file (Err x)) (sym is.1) reads
+reads_err file (Err x) e is reads = subst (λ x. ReadsImage file (Err x)) (sym is.1) reads
 
 -- the pages are the image's where it has so many
 pub reads_too_many : (file : List ℕ) (e : ElfError) → first_of (header_refusals file) ≡ None → first_of (table_refusals file) ≡ None
-    → IsTooMany (length (pages_in (loads_of file))) e → Reads file (Err e)
-unfolding pages_of
+    → IsTooMany (length (pages_in (loads_of file))) e → ReadsImage file (Err e)
+unfolding image_pages
 reads_too_many file TooManyPages h t many =
-    by_pages file h t ∙ ap (λ b. cond b (Some TooManyPages) None) (lt-ltb most_pages (length (pages_in (loads_of file))) many)
+    by_pages file h t ∙ ap (λ b. cond b (Some TooManyPages) None) (lt-ltb MOST_IMAGE_PAGES (length (pages_in (loads_of file))) many)
 reads_too_many file Memory h t many = tt
 reads_too_many file e h t many = absurd many
 
 pub taken_by : (file : List ℕ) → first_of (header_refusals file) ≡ None → first_of (table_refusals file) ≡ None
-    → length (pages_in (loads_of file)) ≤ most_pages → refusal_of file ≡ None
-unfolding pages_of
+    → length (pages_in (loads_of file)) ≤ MOST_IMAGE_PAGES → file_refusal file ≡ None
+unfolding image_pages
 taken_by file h t few =
-    by_pages file h t ∙ ap (λ b. cond b (Some TooManyPages) None) (le-ltb most_pages (length (pages_in (loads_of file))) few)
+    by_pages file h t ∙ ap (λ b. cond b (Some TooManyPages) None) (le-ltb MOST_IMAGE_PAGES (length (pages_in (loads_of file))) few)
 
-pub image_pages : (file : List ℕ) (headers : List ProgramHeader) → headers ≡ loads_of file
-    → map (page_in headers) (pages_in headers) ≡ map (image_page file) (pages_of file)
-unfolding pages_of
-image_pages file headers same = ap (λ hs. map (page_in hs) (pages_in hs)) same
+pub image_pages_are : (file : List ℕ) (headers : List ProgramHeader) → headers ≡ loads_of file
+    → map (page_in headers) (pages_in headers) ≡ map (listed_page file) (image_pages file)
+unfolding image_pages
+image_pages_are file headers same = ap (λ hs. map (page_in hs) (pages_in hs)) same

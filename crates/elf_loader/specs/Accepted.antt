@@ -1,7 +1,8 @@
 use Rattle.std.specs.Prelude.{ℕ, ◌<◌, ◌≤◌, ◌+◌, ◌*◌, ◌==◌, ◌&&◌, ◌||◌, not, nat_lt, Bool, List, [], ◌∷◌, ◌++◌, length, slice_index, Option, Some, None, if◌then◌else◌}
 use Rattle.std.specs.List.{list_any}
+use Rattle.sizes.specs.declared.TheConstants.{STACK_ADDRESS, MOST_IMAGE_PAGES}
 use Rattle.elf_loader.specs.Fields.{file_type, machine, version, table_offset, table_entry_size, table_length, headers_of, loads_of}
-use Rattle.elf_loader.specs.Touched.{pages_of}
+use Rattle.elf_loader.specs.Touched.{image_pages}
 use Rattle.elf_loader.specs.declared.header.ProgramHeader.{ProgramHeader}
 use Rattle.elf_loader.specs.declared.image.ElfError.{ElfError}
 use Rattle.elf_loader.specs.declared.image.ElfError.TheVariants.{TooShort, BadMagic, NotClass64, NotLittle, BadVersion, NotExec, NotRiscv, BadEntrySize, TableOutside, NeedsInterpreter, FileLarger, SegmentOutside, AddressOutside, NothingToLoad, TooManyPages}
@@ -64,19 +65,12 @@ is_larger_in_file header = nat_lt header.memory_size header.file_size
 abbrev pub is_outside_file : ℕ → ProgramHeader → Bool
 is_outside_file size header = nat_lt 0 header.file_size && nat_lt size (header.offset + header.file_size)
 
--- the first address above what an image may use: the 16 pages of the stack lie above it
-abbrev pub image_end : ℕ
-image_end = 274877841408
-
+-- an image may use what lies below the stack
 abbrev pub is_too_high : ProgramHeader → Bool
-is_too_high header = nat_lt 0 header.memory_size && nat_lt image_end (header.address + header.memory_size)
+is_too_high header = nat_lt 0 header.memory_size && nat_lt STACK_ADDRESS (header.address + header.memory_size)
 
 abbrev pub has_memory : ProgramHeader → Bool
 has_memory header = nat_lt 0 header.memory_size
-
--- how many pages an image may have
-abbrev pub most_pages : ℕ
-most_pages = 65536
 
 -- a test with the error that it gives where it holds
 pub record Refusal : Type 0 where
@@ -107,7 +101,7 @@ table_refusals file =
     ∷ []
 
 unfoldable pub page_refusals : List ℕ → List Refusal
-page_refusals file = record { holds = nat_lt most_pages (length (pages_of file)); error = TooManyPages } ∷ []
+page_refusals file = record { holds = nat_lt MOST_IMAGE_PAGES (length (image_pages file)); error = TooManyPages } ∷ []
 
 -- the first refusal that holds
 abbrev pub first_of : List Refusal → Option ElfError
@@ -115,5 +109,5 @@ first_of [] = None
 first_of (refusal ∷ refusals) = if refusal.holds then Some refusal.error else first_of refusals
 
 -- why a file isn't taken
-unfoldable pub refusal_of : List ℕ → Option ElfError
-refusal_of file = first_of (header_refusals file ++ table_refusals file ++ page_refusals file)
+unfoldable pub file_refusal : List ℕ → Option ElfError
+file_refusal file = first_of (header_refusals file ++ table_refusals file ++ page_refusals file)

@@ -2,11 +2,12 @@ use Rattle.std.specs.Prelude.{◌≡◌, ℕ, ◌+◌, ◌-◌, ◌*◌, ◌&&�
 use Rattle.std.specs.Option.{option_map_or}
 use Rattle.std.specs.List.{range_with_len, filter, list_any}
 use Rattle.std.specs.Int.RustNames.{bit_and, bit_or}
+use Rattle.sizes.specs.declared.TheConstants.{PAGE_BYTES}
 use Rattle.ovl_io.specs.Permissions.{readable, writable, permits}
 use Rattle.ovl_io.specs.Memory.{Page}
 use Rattle.elf_loader.specs.Fields.{entry_of, loads_of}
-use Rattle.elf_loader.specs.Accepted.{refusal_of}
-unfoldable pub use Rattle.elf_loader.specs.Touched.{page_numbers, touches, touches_memory, touches_file, pages_in, pages_of}
+use Rattle.elf_loader.specs.Accepted.{file_refusal}
+unfoldable pub use Rattle.elf_loader.specs.Touched.{page_numbers, touches, touches_memory, touches_file, pages_in, image_pages}
 use Rattle.elf_loader.specs.declared.header.ProgramHeader.{ProgramHeader}
 use Rattle.elf_loader.specs.declared.image.ImagePage.{ImagePage}
 use Rattle.elf_loader.specs.declared.image.ElfError.{ElfError}
@@ -17,7 +18,7 @@ use Rattle.elf_loader.specs.declared.image.ElfError.TheVariants.{Memory}
 
 -- how many bytes a page has, under a name that doesn't unfold, so that no proof counts them out
 unfoldable pub page_length : ℕ
-page_length = 4096
+page_length = PAGE_BYTES
 
 -- whether an address is in a header's file range
 abbrev pub holds : ProgramHeader → ℕ → Bool
@@ -25,7 +26,7 @@ holds header address = nat_le header.address address && nat_lt address (header.a
 
 -- whether all of a page is in a header's file range
 abbrev pub fills : ℕ → ProgramHeader → Bool
-fills page header = nat_le header.address (4096 * page) && nat_le (4096 * page + 4096) (header.address + header.file_size)
+fills page header = nat_le header.address (PAGE_BYTES * page) && nat_le (PAGE_BYTES * page + PAGE_BYTES) (header.address + header.file_size)
 
 -- the last of the headers whose file range holds an address
 abbrev pub last_holding : List ProgramHeader → ℕ → Option ProgramHeader
@@ -48,13 +49,13 @@ perms_of header =
 abbrev pub perms_in : List ProgramHeader → ℕ → ℕ
 perms_in headers page = fold (λ perms header. bit_or perms (perms_of header)) 0 (filter (touches_memory page) headers)
 
--- the 4096 bytes of a page
+-- the bytes of a page
 unfoldable pub page_bytes : List ℕ → ℕ → List ℕ
-page_bytes file page = map (λ i. byte_in (loads_of file) file (4096 * page + i)) (range_with_len 0 page_length)
+page_bytes file page = map (λ i. byte_in (loads_of file) file (PAGE_BYTES * page + i)) (range_with_len 0 page_length)
 
 -- a page of the image, as memory
-abbrev pub page_of : List ℕ → ℕ → Page
-page_of file page = record { perms = perms_in (loads_of file) page; bytes = page_bytes file page }
+abbrev pub image_page : List ℕ → ℕ → Page
+image_page file page = record { perms = perms_in (loads_of file) page; bytes = page_bytes file page }
 
 -- whether a page is stored: some segment's file range touches it
 abbrev pub is_stored : List ℕ → ℕ → Bool
@@ -75,19 +76,23 @@ page_in headers page = record {
   stored = list_any (touches_file page) headers;
 }
 
-abbrev pub image_page : List ℕ → ℕ → ImagePage
-image_page file page = page_in (loads_of file) page
+-- all pages that some segments touch
+abbrev pub all_pages : List ProgramHeader → List ImagePage
+all_pages headers = map (page_in headers) (pages_in headers)
+
+abbrev pub listed_page : List ℕ → ℕ → ImagePage
+listed_page file page = page_in (loads_of file) page
 
 -- what is kept is the image of a file
 pub record IsImageOf (file : List ℕ) (image : Kept) : Type 0 where
-  pub taken : refusal_of file ≡ None
+  pub taken : file_refusal file ≡ None
   pub entry : image.entry ≡ entry_of file
-  pub pages : image.pages ≡ map (image_page file) (pages_of file)
+  pub pages : image.pages ≡ map (listed_page file) (image_pages file)
   pub loads : image.loads ≡ loads_of file
 
 -- What reading a file gives: its image where it is taken, else the first refusal that holds, unless
 -- there is no memory.
-abbrev pub Reads : List ℕ → Result Kept ElfError → Type 0
-Reads file (Ok image) = IsImageOf file image
-Reads file (Err Memory) = Unit {0}
-Reads file (Err error) = refusal_of file ≡ Some error
+abbrev pub ReadsImage : List ℕ → Result Kept ElfError → Type 0
+ReadsImage file (Ok image) = IsImageOf file image
+ReadsImage file (Err Memory) = Unit {0}
+ReadsImage file (Err error) = file_refusal file ≡ Some error

@@ -1,7 +1,8 @@
-use Rattle.std.specs.Prelude.{ℕ, ◌+◌, ◌-◌, ◌/◌, ◌≤◌, ◌<◌, nat_lt, Bool, if◌then◌else◌}
+use Rattle.std.specs.Prelude.{◌≡◌, ◌++◌, map, min, Result, MatchResult, ℕ, ◌+◌, ◌-◌, ◌/◌, ◌≤◌, ◌<◌, nat_lt, Bool, List, length, if◌then◌else◌}
+use Rattle.std.specs.List.{range_with_len}
 use Rattle.std.specs.Int.RustNames.{bit_or}
+use Rattle.sizes.specs.declared.TheConstants.{PAGE_BYTES, ADDRESS_END, STACK_ADDRESS, MOST_IMAGE_PAGES}
 use Rattle.ovl_io.specs.Permissions.{readable, writable, executable, permits}
-use Rattle.elf_loader.specs.Accepted.{image_end, most_pages}
 use Rattle.elf_loader.specs.Image.{perms_of}
 use Rattle.elf_loader.specs.declared.header.ProgramHeader.{ProgramHeader}
 use Rattle.elf_loader.specs.declared.image.ImagePage.{ImagePage}
@@ -14,11 +15,11 @@ use Rattle.elf_loader.specs.declared.sweep.Reach.{Reach}
 
 -- the number of the page behind the last one that a range touches, or 0 for an empty range
 abbrev pub pages_end : ℕ → ℕ → ℕ
-pages_end address size = if nat_lt 0 size then (address + size - 1) / 4096 + 1 else 0
+pages_end address size = if nat_lt 0 size then (address + size - 1) / PAGE_BYTES + 1 else 0
 
 -- the first page that a segment touches, or 0 where it touches none
 abbrev pub first_page : ProgramHeader → ℕ
-first_page header = if nat_lt 0 header.memory_size then header.address / 4096 else 0
+first_page header = if nat_lt 0 header.memory_size then header.address / PAGE_BYTES else 0
 
 abbrev pub memory_end : ProgramHeader → ℕ
 memory_end header = pages_end header.address header.memory_size
@@ -33,7 +34,20 @@ end_with need header = if permits (perms_of header) need then memory_end header 
 -- a segment of an image: the part in the file isn't larger than it, and it lies below the stack
 pub record IsBelowStack (header : ProgramHeader) : Type 0 where
   pub part : header.file_size ≤ header.memory_size
-  pub below : 0 < header.memory_size → header.address + header.memory_size ≤ image_end
+  pub below : 0 < header.memory_size → header.address + header.memory_size ≤ STACK_ADDRESS
+
+-- the segment's part in a file, where it has one, is in the file; and it lies below the end of addresses
+abbrev pub IsInFile : List ℕ → ProgramHeader → Type 0
+IsInFile file header = 0 < header.file_size → header.offset + header.file_size ≤ length file
+
+abbrev pub IsAddressed : ProgramHeader → Type 0
+IsAddressed header = 0 < header.file_size → header.address + header.file_size ≤ ADDRESS_END
+
+-- what is said of each segment of a file that is taken
+pub record Lies (file : List ℕ) (header : ProgramHeader) : Type 0 where
+  pub part : header.file_size ≤ header.memory_size
+  pub in_file : IsInFile file header
+  pub below : 0 < header.memory_size → header.address + header.memory_size ≤ STACK_ADDRESS
 
 -- permissions by whether each is there
 abbrev pub perms_by : Bool → Bool → Bool → ℕ
@@ -48,8 +62,20 @@ page_at reach page = record {
   stored = nat_lt page reach.file;
 }
 
+-- the pages from a number on, as a reach tells them, were added to others
+abbrev pub Adds : Reach → ℕ → ℕ → List ImagePage → List ImagePage → Type 0
+Adds reach from n old new = new ≡ old ++ map (page_at reach) (range_with_len from n)
+
+-- how many of the pages from one number up to another are reached, where all segments so far begin before them
+abbrev pub reached : Reach → ℕ → ℕ → ℕ
+reached reach from to = min to reach.memory - from
+
 -- what an error says where so many pages are wanted
 abbrev pub IsTooMany : ℕ → ElfError → Type 0
-IsTooMany n TooManyPages = most_pages < n
+IsTooMany n TooManyPages = MOST_IMAGE_PAGES < n
 IsTooMany n Memory = Unit {0}
 IsTooMany n error = ⊥
+
+-- the pages of an image are so many, or an error says that they are too many
+abbrev pub AreCounted : {T : Type 0} → Result T ElfError → ℕ → Type 0
+AreCounted result n = MatchResult result (λ _. n ≤ MOST_IMAGE_PAGES) (IsTooMany n)

@@ -1,17 +1,17 @@
-ghost use Rattle.std.specs.Prelude.{◌≡◌, ℕ, ◌+◌, ◌-◌, ◌*◌, ◌^◌, ◌<◌, ◌≤◌, length, slice_index, if◌then◌else◌};
+ghost use Rattle.std.specs.Prelude.{◌≡◌, ℕ, ◌+◌, ◌-◌, ◌*◌, ◌<◌, ◌≤◌, length, slice_index, if◌then◌else◌};
+ghost use Rattle.sizes.specs.declared.TheConstants.{PAGE_BYTES, PAGE_END};
 ghost use Rattle.elf_loader.specs.Fields.{number_at, header_at};
-ghost use Rattle.elf_loader.specs.Accepted.{image_end, names_interpreter, is_larger_in_file, is_outside_file, is_too_high, has_memory};
+ghost use Rattle.elf_loader.specs.Accepted.{is_larger_in_file, is_outside_file, is_too_high, has_memory};
+ghost use Rattle.elf_loader.specs.Reach.{IsAddressed, IsInFile};
 ghost use Rattle.elf_loader.specs.Image.{holds, fills, perms_of};
 
 use bitflags::Flags;
 use byteorder::{ByteOrder, LittleEndian};
 use ovl_io::Perms;
+use sizes::{PAGE_BYTES, STACK_ADDRESS};
 
 /// The bytes of a program header in the table.
 pub(crate) const HEADER_BYTES: usize = 56;
-
-/// The first address above what an image may use: the stack's 16 pages lie above it.
-const IMAGE_END: u64 = 274_877_841_408;
 
 /// A program header (ELF-64, "Program Header"): the fields that are read.
 #[derive(Clone, Copy, Debug, PartialEq, Eq)]
@@ -89,7 +89,7 @@ impl ProgramHeader {
         ensures { result ≡ is_too_high self.now }
     {
         0 < self.memory_size
-            && (IMAGE_END < self.memory_size || IMAGE_END - self.memory_size < self.address)
+            && (STACK_ADDRESS < self.memory_size || STACK_ADDRESS - self.memory_size < self.address)
     }
 
     /// Whether it has bytes in memory.
@@ -113,31 +113,31 @@ impl ProgramHeader {
 
     /// Whether its bytes in the file fill a page.
     pub(crate) fn fills(&self, page: u64) -> bool
-        requires { page < 2 ^ 26 }
+        requires { page < PAGE_END }
         ensures { result ≡ fills page self.now }
     {
-        let base = page * 4096;
+        let base = page * PAGE_BYTES as u64;
         self.address <= base
-            && 4096 <= self.file_size
-            && base - self.address <= self.file_size - 4096
+            && PAGE_BYTES as u64 <= self.file_size
+            && base - self.address <= self.file_size - PAGE_BYTES as u64
     }
 
     /// Puts the bytes of the segment that lie in a page at their places in it. The other bytes stay.
-    pub(crate) fn lay(&self, file: &[u8], page: u64, out: &mut [u8; 4096])
-        requires in_file { 0 < self.now.file_size → self.now.offset + self.now.file_size ≤ length file.now }
-        requires in_memory { 0 < self.now.file_size → self.now.address + self.now.file_size ≤ 2 ^ 38 }
-        requires is_page { page < 2 ^ 26 }
-        ensures { (i : ℕ) → i < 4096 → slice_index out.new i
-            ≡ (if holds self.now (4096 * page + i)
-            then slice_index file.now (self.now.offset + (4096 * page + i - self.now.address))
+    pub(crate) fn lay(&self, file: &[u8], page: u64, out: &mut [u8; PAGE_BYTES])
+        requires in_file { IsInFile file.now self.now }
+        requires in_memory { IsAddressed self.now }
+        requires is_page { page < PAGE_END }
+        ensures { (i : ℕ) → i < PAGE_BYTES → slice_index out.new i
+            ≡ (if holds self.now (PAGE_BYTES * page + i)
+            then slice_index file.now (self.now.offset + (PAGE_BYTES * page + i - self.now.address))
             else slice_index out.old i) }
     {
         if self.file_size == 0 {
             return;
         }
-        let base = page * 4096;
+        let base = page * PAGE_BYTES as u64;
         let start = base.max(self.address);
-        let end = (base + 4096).min(self.address + self.file_size);
+        let end = (base + PAGE_BYTES as u64).min(self.address + self.file_size);
         if start < end {
             let from = (self.offset + (start - self.address)) as usize;
             let at = (start - base) as usize;

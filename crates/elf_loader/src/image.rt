@@ -1,10 +1,12 @@
-ghost use Rattle.std.specs.Prelude.{◌≡◌, ℕ, ◌+◌, ◌*◌, ◌^◌, ◌<◌, ◌≤◌, Contains, map, length, drop};
-ghost use Rattle.elf_loader.specs.Image.{IsImageOf, Reads, last_holding, page_bytes};
+ghost use Rattle.std.specs.Prelude.{◌≡◌, ◌^◌, ◌<◌, Contains, map};
+ghost use Rattle.elf_loader.specs.Image.{IsImageOf, ReadsImage, page_bytes};
 
 use crate::header::{ProgramHeader, u64_at};
+use crate::layers::{lay_all, layers_of, place_of};
 use crate::refusals::{header_refusal, read_loads, table_refusal};
 use crate::sweep::touched_pages;
 use ovl_io::Perms;
+use sizes::PAGE_BYTES;
 use std::alloc::{AllocError, Global};
 use std::marker::Model;
 
@@ -60,6 +62,8 @@ pub struct Image {
     entry: u64,
     pages: Vec<ImagePage>,
     loads: Vec<ProgramHeader>,
+    /// For each page the places of the segments that it takes its bytes from, the last one first.
+    layers: Vec<Vec<usize>>,
 }
 
 impl Model for Image {
@@ -68,6 +72,10 @@ impl Model for Image {
     ghost Value = { Kept };
 
     ghost view = { λ i. record { entry = i.entry; pages = i.pages.items; loads = i.loads.items } };
+
+    ghost use Rattle.elf_loader.specs.Layers.{HasLayers};
+
+    ghost invariant = { λ i. HasLayers i.loads.items i.pages.items i.layers.items };
 }
 
 impl Image {
@@ -85,41 +93,22 @@ impl Image {
         self.pages.as_slice()
     }
 
-    /// The 4096 bytes of a page, from the file that the image was read from.
-    pub fn fill_page(&self, file: &[u8], page: u64, out: &mut [u8; 4096])
+    /// The bytes of a page, from the file that the image was read from.
+    pub fn fill_page(&self, file: &[u8], page: u64, out: &mut [u8; PAGE_BYTES])
         requires of_file { IsImageOf file.now self.now }
         requires is_there { Contains (map (λ p. p.page) self.now.pages) page }
         ensures { out.new ≡ page_bytes file.now page }
     {
-        out.fill(0);
-        let loads = self.loads.as_slice();
-        let first = last_to_fill(loads, page);
-        for header in &loads[first..] {
-            header.lay(file, page, out);
-        }
+        let place = place_of(self.pages.as_slice(), page);
+        let layers = self.layers[place].as_slice();
+        lay_all(self.loads.as_slice(), layers, file, page, out);
     }
 }
 
-/// The place of the last segment whose bytes fill a page, or 0 where none does: the segments before it give
-/// no byte of the page.
-fn last_to_fill(loads: &[ProgramHeader], page: u64) -> usize
-    requires { page < 2 ^ 26 }
-    ensures within { result ≤ length loads.now }
-    ensures rest { (a : ℕ) → 4096 * page ≤ a → a < 4096 * page + 4096 → last_holding (drop result loads.now) a ≡ last_holding loads.now a }
-{
-    let mut place = 0;
-    for (i, header) in loads.iter().enumerate() {
-        if header.fills(page) {
-            place = i;
-        }
-    }
-    place
-}
-
-/// Reads the image of a file: where it is taken the image, else the first reason why it isn't. Takes
+/// ReadsImage the image of a file: where it is taken the image, else the first reason why it isn't. Takes
 /// memory for a few words a page and none for the bytes.
 pub fn read_image(alloc: Global, bytes: &[u8]) -> Result<Image, ElfError>
-    ensures { Reads bytes.now result }
+    ensures { ReadsImage bytes.now result }
 {
     if let Some(error) = header_refusal(bytes) {
         return Err(error);
@@ -129,10 +118,12 @@ pub fn read_image(alloc: Global, bytes: &[u8]) -> Result<Image, ElfError>
         return Err(error);
     }
     let pages = touched_pages(alloc, loads.as_slice())?;
+    let layers = layers_of(alloc, loads.as_slice(), pages.as_slice())?;
     Ok(Image {
         entry: u64_at(bytes, 24),
         pages,
         loads,
+        layers,
     })
 }
 

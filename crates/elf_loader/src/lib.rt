@@ -7,11 +7,13 @@
 //! - `header`: the numbers in a file, and a program header
 //! - `refusals`: the first reason by which a file isn't taken, and its segments to load
 //! - `sweep`: the pages that segments touch, with one way over the segments
+//! - `layers`: which segments give each page its bytes
 //! - `image`: `read_image`, `Image` with `entry`, `pages` and `fill_page`, `ImagePage`, `ElfError`
 #![tactic(auto)]
 
 mod header;
 mod image;
+mod layers;
 mod refusals;
 mod sweep;
 

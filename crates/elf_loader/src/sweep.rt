@@ -1,26 +1,17 @@
-ghost use Rattle.std.specs.Prelude.{◌≡◌, ◌+◌, ◌-◌, ◌^◌, ◌≤◌, ◌<◌, length, map, max, min, ◌++◌, All, IfOk, MatchResult, if◌then◌else◌};
-ghost use Rattle.std.specs.List.{range_with_len};
+ghost use Rattle.std.specs.Prelude.{◌≡◌, ◌+◌, ◌-◌, ◌≤◌, ◌<◌, length, max, min, All, IfOk, MatchResult, if◌then◌else◌};
 ghost use Rattle.std.specs.List.Sorted.{IsNonDecreasingBy, IsPermutation};
+ghost use Rattle.sizes.specs.declared.TheConstants.{ADDRESS_END, MOST_IMAGE_PAGES};
 ghost use Rattle.ovl_io.specs.Permissions.{readable, writable, executable};
-ghost use Rattle.elf_loader.specs.Accepted.{most_pages};
 ghost use Rattle.elf_loader.specs.Touched.{pages_in};
-ghost use Rattle.elf_loader.specs.Image.{page_in};
-ghost use Rattle.elf_loader.specs.Reach.{pages_end, first_page, memory_end, file_end, end_with, page_at, perms_by, IsBelowStack, IsTooMany};
+ghost use Rattle.elf_loader.specs.Image.{all_pages};
+ghost use Rattle.elf_loader.specs.Reach.{pages_end, first_page, memory_end, file_end, end_with, page_at, Adds, reached, AreCounted, IsBelowStack, IsTooMany};
 
 use crate::header::ProgramHeader;
 use crate::image::{ElfError, ImagePage};
 use bitflags::Flags;
 use ovl_io::Perms;
+use sizes::{MOST_IMAGE_PAGES, PAGE_BYTES, PAGE_END};
 use std::alloc::{AllocError, Global};
-
-/// The bytes of a page.
-const PAGE_BYTES: u64 = 4096;
-
-/// The pages of all addresses that a program may use.
-const PAGE_NUMBERS: u64 = 67_108_864;
-
-/// The most pages that an image may have.
-const MOST_PAGES: u64 = 65_536;
 
 /// How far some segments reach: the number of the page behind the last one that they touch, and of those
 /// alone that may be read, written or executed, and that they touch by bytes of the file. Each is 0
@@ -35,14 +26,14 @@ pub(crate) struct Reach {
 }
 
 /// The number of the page behind the last one that a range touches, or 0 for an empty range.
-fn pages_end(address: u64, size: u64) -> u64
-    requires { 0 < size → address + size ≤ 2 ^ 38 }
+pub(crate) fn pages_end(address: u64, size: u64) -> u64
+    requires { 0 < size → address + size ≤ ADDRESS_END }
     ensures { result ≡ pages_end address size }
 {
     if size == 0 {
         0
     } else {
-        (address + size - 1) / PAGE_BYTES + 1
+        (address + size - 1) / PAGE_BYTES as u64 + 1
     }
 }
 
@@ -53,7 +44,7 @@ fn first_page(header: &ProgramHeader) -> u64
     if header.memory_size == 0 {
         0
     } else {
-        header.address / PAGE_BYTES
+        header.address / PAGE_BYTES as u64
     }
 }
 
@@ -127,7 +118,7 @@ impl Reach {
     /// Appends the pages from one number up to another.
     fn append(&self, pages: &mut Vec<ImagePage>, from: u64, end: u64) -> Result<(), AllocError>
         requires { from ≤ end }
-        ensures { IfOk result (λ _. pages.new.items ≡ pages.old.items ++ map (page_at self.now) (range_with_len from (end - from))) }
+        ensures { IfOk result (λ _. Adds self.now from (end - from) pages.old.items pages.new.items) }
     {
         for page in from..end {
             pages.push(self.page(page))?;
@@ -137,15 +128,17 @@ impl Reach {
 
     /// Appends the pages from one number up to another that the segments touch.
     fn fill(&self, pages: &mut Vec<ImagePage>, from: u64, to: u64) -> Result<(), ElfError>
-        requires { length pages.old.items ≤ most_pages }
-        ensures pages { IfOk result (λ _. pages.new.items ≡ pages.old.items ++ map (page_at self.now) (range_with_len from (min to self.now.memory - from))) }
-        ensures few { MatchResult result (λ _. length pages.new.items ≤ most_pages) (IsTooMany (length pages.old.items + (min to self.now.memory - from))) }
+        requires { length pages.old.items ≤ MOST_IMAGE_PAGES }
+        ensures pages { IfOk result (λ _.
+            Adds self.now from (reached self.now from to) pages.old.items pages.new.items) }
+        ensures few { MatchResult result (λ _. length pages.new.items ≤ MOST_IMAGE_PAGES)
+            (IsTooMany (length pages.old.items + reached self.now from to)) }
     {
         let end = to.min(self.memory);
         if end <= from {
             return Ok(());
         }
-        if MOST_PAGES - (pages.len() as u64) < end - from {
+        if MOST_IMAGE_PAGES as u64 - (pages.len() as u64) < end - from {
             return Err(ElfError::TooManyPages);
         }
         self.append(pages, from, end)?;
@@ -157,8 +150,8 @@ impl Reach {
 fn sweep(alloc: Global, sorted: &[ProgramHeader]) -> Result<Vec<ImagePage>, ElfError>
     requires sorted { IsNonDecreasingBy first_page sorted.now }
     requires below { All IsBelowStack sorted.now }
-    ensures pages { IfOk result (λ pages. pages.items ≡ map (page_in sorted.now) (pages_in sorted.now)) }
-    ensures few { MatchResult result (λ _. length (pages_in sorted.now) ≤ most_pages) (IsTooMany (length (pages_in sorted.now))) }
+    ensures pages { IfOk result (λ pages. pages.items ≡ all_pages sorted.now) }
+    ensures few { AreCounted result (length (pages_in sorted.now)) }
 {
     let mut pages = Vec::new(alloc);
     let mut reach = Reach::of_none();
@@ -169,7 +162,7 @@ fn sweep(alloc: Global, sorted: &[ProgramHeader]) -> Result<Vec<ImagePage>, ElfE
         reach = reach.with(header);
         at = first;
     }
-    reach.fill(&mut pages, at, PAGE_NUMBERS)?;
+    reach.fill(&mut pages, at, PAGE_END)?;
     Ok(pages)
 }
 
@@ -189,8 +182,8 @@ pub(crate) fn touched_pages(
     loads: &[ProgramHeader],
 ) -> Result<Vec<ImagePage>, ElfError>
     requires { All IsBelowStack loads.now }
-    ensures pages { IfOk result (λ pages. pages.items ≡ map (page_in loads.now) (pages_in loads.now)) }
-    ensures few { MatchResult result (λ _. length (pages_in loads.now) ≤ most_pages) (IsTooMany (length (pages_in loads.now))) }
+    ensures pages { IfOk result (λ pages. pages.items ≡ all_pages loads.now) }
+    ensures few { AreCounted result (length (pages_in loads.now)) }
 {
     let sorted = by_first_page(alloc, loads)?;
     sweep(alloc, sorted.as_slice())

@@ -1,4 +1,4 @@
-use Rattle.std.proofs.Common.{◌≡◌, ℕ, ◌==◌, ◌||◌, true, false, cond, List, sym, ap, ◌∙◌, refl, Option, Some, None}
+use Rattle.std.proofs.Common.{◌≡◌, ℕ, ◌==◌, ◌||◌, true, false, cond, List, [], sym, ap, ◌∙◌, refl, Option, Some, None}
 use Rattle.std.specs.Option.{option_map, option_map_or, IsSome, is_some}
 use Rattle.std.specs.Ordering.{nat_cmp}
 use Rattle.std.specs.FinMap.{get, insert}
@@ -7,12 +7,12 @@ use Rattle.std.specs.BTreeMap.{is_at}
 use Rattle.ovl_io.specs.declared.process_state.ProcessState.{ProcessState}
 use Rattle.ovl_io.specs.declared.process_state.ProcessState.TheVariants.{Running, Exited, Faulted}
 use Rattle.ovl_io.specs.declared.turn.Turn.TheVariants.{Stepped}
-use Rattle.ovl_io.specs.Memory.{Memory, Access}
-use Rattle.rv_execute.specs.declared.outcome.Outcome.TheVariants as outcome
+use Rattle.ovl_io.specs.Memory.{Memory}
+use Rattle.rv_execute.specs.Execution.{Steps}
 use Rattle.rv_execute.specs.Registers.{Registers, register}
 use Rattle.rv_execute.specs.Step.{write, exit, answered, request, no_such_request}
 use Rattle.machine_core.specs.Process.{Process, runs}
-use Rattle.machine_core.specs.Machine.{Processes, is_running, execution_of, outcome_of, turn_asked}
+use Rattle.machine_core.specs.Machine.{Processes, is_running, execution_of, came_to, request_of, turn_asked}
 use Rattle.machine_core.specs.Kept.{process_of, processes_of}
 use Rattle.machine_core.specs.declared.guest.Guest.{Guest}
 use Rattle.machine_core.proofs.Keys.{get_kept, changed_kept}
@@ -41,13 +41,11 @@ runs_at processes p process there running = running_is process.state (sym (is_ru
 pub not_running_at : (processes : Processes) (p : ℕ) → get processes p ≡ None → is_running processes p ≡ false
 not_running_at processes p absent = ap (λ (o : Option Process). option_map_or (λ (q : Process). runs q.state) o false) absent
 
-pub outcome_at : (processes : Processes) (p : ℕ) (process : Process) → get processes p ≡ Some process → outcome_of processes p ≡ (execution_of process).outcome
-outcome_at processes p process there = ap (λ (o : Option Process). option_map_or (λ (q : Process). (execution_of q).outcome) o outcome.Stepped) there
+pub upshot_at : (processes : Processes) (p : ℕ) (process : Process) → get processes p ≡ Some process → came_to processes p ≡ (execution_of process).upshot
+upshot_at processes p process there = ap (λ (o : Option Process). option_map_or (λ (q : Process). (execution_of q).upshot) o Steps) there
 
-pub asked_at : (accesses : List Access) (processes : Processes) (p : ℕ) (process : Process) → get processes p ≡ Some process
-    → turn_asked accesses processes p ≡ (request p process.registers process.memory accesses).turn
-asked_at accesses processes p process there =
-    ap (λ (o : Option Process). option_map_or (λ (q : Process). (request p q.registers q.memory accesses).turn) o Stepped) there
+pub asked_at : (processes : Processes) (p : ℕ) (process : Process) → get processes p ≡ Some process → turn_asked processes p ≡ (request_of p process).turn
+asked_at processes p process there = ap (λ (o : Option Process). option_map_or (λ (q : Process). (request_of p q).turn) o Stepped) there
 
 -- a process was left for another
 pub left_at : (f : Process → Process) (processes : Processes) (kept new : List (ℕ × Guest)) (p : ℕ) (guest left : Guest) → processes_of kept ≡ processes
@@ -62,12 +60,10 @@ left_at f processes kept new p guest left same there is changed =
     ∙ sym (ap (λ (o : Option Process). option_map_or (λ (q : Process). insert processes p (f q)) o processes) at)
 
 -- what is asked for by a number
-pub request_of : (n p : ℕ) (regs : Registers) (memory : Memory) (accesses : List Access) → n ≡ register regs 17
-    → request p regs memory accesses
-    ≡ cond (n == 64) (write regs memory accesses)
-    (cond ((n == 93) || (n == 94)) (exit regs memory accesses)
-    (cond (n == 172) (answered p regs memory accesses) (answered no_such_request regs memory accesses)))
-request_of n p regs memory accesses is =
-    ap (λ (m : ℕ). cond (m == 64) (write regs memory accesses)
-    (cond ((m == 93) || (m == 94)) (exit regs memory accesses)
-    (cond (m == 172) (answered p regs memory accesses) (answered no_such_request regs memory accesses)))) (sym is)
+pub asks_for : (n p : ℕ) (regs : Registers) (memory : Memory) → n ≡ register regs 17
+    → request p regs memory
+    ≡ cond (n == 64) (write regs memory)
+    (cond ((n == 93) || (n == 94)) (exit regs) (cond (n == 172) (answered p regs []) (answered no_such_request regs [])))
+asks_for n p regs memory is =
+    ap (λ (m : ℕ). cond (m == 64) (write regs memory)
+    (cond ((m == 93) || (m == 94)) (exit regs) (cond (m == 172) (answered p regs []) (answered no_such_request regs [])))) (sym is)

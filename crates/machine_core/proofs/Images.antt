@@ -1,22 +1,18 @@
-use Rattle.std.proofs.Common.{◌≡◌, ℕ, zero, suc, ◌<◌, ◌≤◌, Bool, true, false, cond, ◌||◌, List, [], ◌∷◌, ◌++◌, length, map, replicate, slice_index, get_or, take, sym, ap, subst, ◌∙◌, refl, arith, Option, Some, None, ◌+◌, ◌-◌, ◌*◌}
-use Rattle.std.specs.List.{list_any, filter, range_with_len}
+use Rattle.std.proofs.Common.{◌≡◌, ℕ, ◌<◌, ◌≤◌, Bool, cond, List, length, map, get_or, take, ap, ◌∙◌, refl, arith, Some, None}
+use Rattle.std.specs.List.{list_any}
 use Rattle.std.specs.FinMap.{get}
-use Rattle.std.specs.Option.{option_map_or}
 use Rattle.std.proofs.lemmas.List.{length-map}
+use Rattle.sizes.specs.declared.TheConstants.{STACK_POINTER}
 use Rattle.ovl_io.specs.Memory.{Memory}
-use Rattle.elf_loader.specs.Accepted.{refusal_of, Refusal, first_of, header_refusals, table_refusals, page_refusals, is_too_high}
-use Rattle.elf_loader.specs.declared.image.ElfError.{ElfError}
-use Rattle.elf_loader.specs.declared.image.ElfError.TheVariants.{TooManyPages}
-use Rattle.elf_loader.specs.FewPages.{few_pages}
+use Rattle.elf_loader.specs.Accepted.{file_refusal}
+use Rattle.elf_loader.specs.TakenLaws.{few_pages, low_page, kept_numbers}
 use Rattle.elf_loader.specs.Fields.{entry_of, loads_of}
-use Rattle.elf_loader.specs.Image.{pages_of, page_of, page_numbers, image_page, touches_memory, touches_file, holds, last_holding, byte_in, is_stored, page_bytes, page_length}
+use Rattle.elf_loader.specs.Image.{image_pages, image_page, page_numbers, listed_page, touches_memory}
 use Rattle.elf_loader.specs.declared.image.ImagePage.{ImagePage}
-use Rattle.elf_loader.specs.declared.header.ProgramHeader.{ProgramHeader}
-use Rattle.std.proofs.lemmas.Bool.Decides.{nat_tests}
 use Rattle.rv_execute.specs.Registers.{Registers, first_registers}
 use Rattle.ovl_io.specs.declared.process_state.ProcessState.TheVariants.{Running}
 use Rattle.machine_core.specs.Process.{Process}
-use Rattle.machine_core.specs.Load.{stack_page, stack_pages, stack_pointer, loaded, memory_of}
+use Rattle.machine_core.specs.Load.{stack_page, stack_pages, loaded_process, image_memory}
 use Rattle.machine_core.proofs.Placing.{is_among, none_below, image_free}
 
 -- What is known of the pages of a file that is taken.
@@ -25,110 +21,22 @@ page_numbers_is : page_numbers ≡ 67108864
 unfolding page_numbers
 page_numbers_is = refl
 
--- the pages are what a test keeps of all numbers
-kept_numbers : (file : List ℕ) → pages_of file ≡ filter (λ page. list_any (touches_memory page) (loads_of file)) (range_with_len 0 page_numbers)
-unfolding pages_of
-kept_numbers file = refl
-
 -- an image has at most 65,536 pages
-pub few_items : (file : List ℕ) (items : List ImagePage) → refusal_of file ≡ None → items ≡ map (image_page file) (pages_of file) → length items ≤ 65536
-few_items file items taken same = omega (arith, ap length same, length-map (pages_of file) (image_page file), few_pages file taken)
-
--- none of the refusals of a file that is taken holds
-unless_first : (b : Bool) (error : ElfError) (rest : Option ElfError) → cond b (Some error) rest ≡ None → (b ≡ false) × (rest ≡ None)
-unless_first true error rest h = cc
-unless_first false error rest h = (refl, h)
-
-none_holds : (refusals : List Refusal) (k : ℕ) (d : Refusal) → first_of refusals ≡ None → k < length refusals → (get_or refusals k d).holds ≡ false
-none_holds [] k d h below = absurd (omega arith)
-none_holds (r ∷ refusals) zero d h below = (unless_first r.holds r.error (first_of refusals) h).0
-none_holds (r ∷ refusals) (suc k) d h below = none_holds refusals k d (unless_first r.holds r.error (first_of refusals) h).1 (omega arith)
-
--- so no segment reaches the stack: that is the thirteenth
-none_high : (file : List ℕ) → refusal_of file ≡ None → list_any is_too_high (loads_of file) ≡ false
-unfolding refusal_of header_refusals table_refusals page_refusals
-none_high file taken =
-    none_holds (header_refusals file ++ table_refusals file ++ page_refusals file) 12 (record { holds = true; error = TooManyPages }) taken (omega arith)
-
--- what a filter keeps passes its test
-kept_step : (test : ℕ → Bool) (k i : ℕ) (b : Bool) (rest : List ℕ) → test k ≡ b → ((j : ℕ) → j < length rest → test (get_or rest j 0) ≡ true)
-    → i < length (cond b (k ∷ rest) rest) → test (get_or (cond b (k ∷ rest) rest) i 0) ≡ true
-kept_step test k zero true rest is others h = is
-kept_step test k (suc j) true rest is others h = others j (omega arith)
-kept_step test k j false rest is others h = others j h
-
-kept_passes : (test : ℕ → Bool) (ks : List ℕ) (i : ℕ) → i < length (filter test ks) → test (get_or (filter test ks) i 0) ≡ true
-kept_passes test [] i below = absurd (omega arith)
-kept_passes test (k ∷ ks) i below = kept_step test k i (test k) (filter test ks) refl (kept_passes test ks) below
-
--- a segment that touches a page, and doesn't reach the stack
-low_touch : (page : ℕ) (header : ProgramHeader) → touches_memory page header ≡ true → is_too_high header ≡ false → page < 67108848
-low_touch page header touched low = grind (arith, nat_tests, touched, low)
-
-neither : (a b : Bool) → (a || b) ≡ false → (a ≡ false) × (b ≡ false)
-neither true b h = cc
-neither false b h = (refl, h)
-
-low_any : (page : ℕ) (headers : List ProgramHeader) → list_any (touches_memory page) headers ≡ true → list_any is_too_high headers ≡ false → page < 67108848
-low_any page [] touched low = cc
-low_any page (header ∷ headers) touched low =
-    by_test (touches_memory page header) (is_too_high header) refl refl touched low (low_any page headers)
-  where
-    by_test : (t h : Bool) → touches_memory page header ≡ t → is_too_high header ≡ h → (t || list_any (touches_memory page) headers) ≡ true
-        → (h || list_any is_too_high headers) ≡ false
-        → (list_any (touches_memory page) headers ≡ true → list_any is_too_high headers ≡ false → page < 67108848) → page < 67108848
-    by_test t true is_t is_h any none others = cc
-    by_test true false is_t is_h any none others = low_touch page header is_t is_h
-    by_test false false is_t is_h any none others = others any none
-
--- each lies below the stack
-pub low_page : (file : List ℕ) (i : ℕ) → refusal_of file ≡ None → i < length (pages_of file) → get_or (pages_of file) i 0 < 67108848
-low_page file i taken below =
-    let test = λ (page : ℕ). list_any (touches_memory page) (loads_of file) in
-    let passes : test (get_or (pages_of file) i 0) ≡ true =
-    subst (λ ps. i < length ps → test (get_or ps i 0) ≡ true) (sym (kept_numbers file)) (kept_passes test (range_with_len 0 page_numbers) i) below in
-    low_any (get_or (pages_of file) i 0) (loads_of file) passes (none_high file taken)
+pub few_items : (file : List ℕ) (items : List ImagePage) → file_refusal file ≡ None → items ≡ map (listed_page file) (image_pages file) → length items ≤ 65536
+few_items file items taken same = omega (arith, ap length same, length-map (image_pages file) (listed_page file), few_pages file taken)
 
 -- and isn't there before it is put
-pub not_there : (file : List ℕ) (memory start : Memory) (i : ℕ) → refusal_of file ≡ None → i < length (pages_of file)
+pub not_there : (file : List ℕ) (memory start : Memory) (i : ℕ) → file_refusal file ≡ None → i < length (image_pages file)
     → ((q : ℕ) → get start q ≡ cond (is_among stack_pages q) (Some stack_page) None)
-    → ((q : ℕ) → get memory q ≡ cond (is_among (take i (pages_of file)) q) (Some (page_of file q)) (get start q))
-    → get memory (get_or (pages_of file) i 0) ≡ None
+    → ((q : ℕ) → get memory q ≡ cond (is_among (take i (image_pages file)) q) (Some (image_page file q)) (get start q))
+    → get memory (get_or (image_pages file) i 0) ≡ None
 unfolding stack_pages
 not_there file memory start i taken below stack so_far =
-    let k = get_or (pages_of file) i 0 in
+    let k = get_or (image_pages file) i 0 in
     image_free file memory start i (λ page. list_any (touches_memory page) (loads_of file)) page_numbers (kept_numbers file) below
     (stack k ∙ ap (λ (b : Bool). cond b (Some stack_page) None) (none_below k 67108848 16 (low_page file i taken below))) so_far
 
 -- the process that a load makes, by its parts
-pub as_loaded : (file : List ℕ) (regs : Registers) (memory : Memory) → regs ≡ first_registers (entry_of file) stack_pointer → memory ≡ memory_of file
-    → ◌≡◌ {A = Process} (record { registers = regs; state = Running; memory = memory }) (loaded file)
+pub as_loaded : (file : List ℕ) (regs : Registers) (memory : Memory) → regs ≡ first_registers (entry_of file) STACK_POINTER → memory ≡ image_memory file
+    → ◌≡◌ {A = Process} (record { registers = regs; state = Running; memory = memory }) (loaded_process file)
 as_loaded file regs memory r m = λ i. record { registers = r i; state = Running; memory = m i }
-
--- a page that no file range touches is zero
-holds_touches : (header : ProgramHeader) (page i : ℕ) → touches_file page header ≡ false → i < 4096 → holds header (4096 * page + i) ≡ false
-holds_touches header page i untouched within = grind (arith, nat_tests, untouched, within)
-
-none_holding : (headers : List ProgramHeader) (page i : ℕ) → list_any (touches_file page) headers ≡ false → i < 4096
-    → last_holding headers (4096 * page + i) ≡ None
-none_holding [] page i untouched within = refl
-none_holding (header ∷ headers) page i untouched within =
-    let parts = neither (touches_file page header) (list_any (touches_file page) headers) untouched in
-    ap (λ found. option_map_or Some found (cond (holds header (4096 * page + i)) (Some header) None)) (none_holding headers page i parts.1 within)
-    ∙ ap (λ (b : Bool). cond b (Some header) None) (holds_touches header page i parts.0 within)
-
-all_zero : (f : ℕ → ℕ) (a n : ℕ) → ((q : ℕ) → q < a + n → f q ≡ 0) → map f (range_with_len a n) ≡ replicate n 0
-all_zero f a zero h = refl
-all_zero f a (suc n) h =
-    ap (λ x. x ∷ map f (range_with_len (a + 1) n)) (h a (omega arith))
-    ∙ ap (λ xs. 0 ∷ xs) (all_zero f (a + 1) n (λ q below. h q (omega arith)))
-
-pub zero_bytes : (file : List ℕ) (page : ℕ) → is_stored file page ≡ false → page_bytes file page ≡ replicate 4096 0
-unfolding page_bytes page_length
-zero_bytes file page untouched = zeros page_length refl
-  where
-    zeros : (n : ℕ) → n ≡ 4096 → map (λ i. byte_in (loads_of file) file (4096 * page + i)) (range_with_len 0 n) ≡ replicate n 0
-    zeros n is =
-        all_zero (λ i. byte_in (loads_of file) file (4096 * page + i)) 0 n (λ q below.
-        ap (λ (found : Option ProgramHeader). option_map_or (λ (header : ProgramHeader). slice_index file (header.offset + (4096 * page + q - header.address))) found 0)
-        (none_holding (loads_of file) page q untouched (omega (arith, is))))

@@ -1,6 +1,5 @@
 pub mod Keys
 pub mod Results
-pub mod Accesses
 pub mod Pairs
 pub mod Frames
 pub mod Placing

@@ -6,13 +6,13 @@ use Rattle.std.specs.Cmp.{nat_cmp_total}
 use Rattle.std.specs.FinMap.{find, get, insert, empty, get-insert, get-empty, get-from_entries}
 use Rattle.std.proofs.lemmas.List.{take_more, length-map, get_or-map}
 use Rattle.ovl_io.specs.Memory.{Memory, Page}
-use Rattle.elf_loader.specs.Image.{pages_of, page_of, page_bytes, page_length, image_page}
+use Rattle.elf_loader.specs.Image.{image_pages, image_page, page_bytes, page_length, listed_page}
 use Rattle.elf_loader.specs.declared.image.ImagePage.{ImagePage}
 use Rattle.page_table.specs.Table.{Pages}
 use Rattle.page_table.specs.declared.entry.PageEntry.{PageEntry}
-use Rattle.machine_core.specs.Load.{stack_page, stack_pages, memory_of as image_memory, IsPlacedOver}
-use Rattle.machine_core.specs.Kept.{page_of as kept_page, memory_of, IsPlaced}
-use Rattle.machine_core.proofs.Keys.{tied, differs, alike}
+use Rattle.ovl_io.specs.KeyLaws.{tied, differs, alike}
+use Rattle.machine_core.specs.Load.{stack_page, stack_pages, image_memory, IsPlacedOver}
+use Rattle.machine_core.specs.Kept.{kept_page, kept_memory, IsPlaced}
 use Rattle.machine_core.proofs.Frames.{get_page}
 
 -- Pages that a function of their numbers gives, put into a memory one after the other.
@@ -112,7 +112,7 @@ first_of_its_number test a (suc n) i below =
     first_step a i (test a) (filter test (range_with_len (a + 1) n)) (low_among test (a + 1) n) (first_of_its_number test (a + 1) n) below
 
 -- a page that the memory lacks has no entry
-pub no_entry : (table : Pages) (frames : List (List ℕ)) (q : ℕ) → get (memory_of table frames) q ≡ None → get table q ≡ None
+pub no_entry : (table : Pages) (frames : List (List ℕ)) (q : ℕ) → get (kept_memory table frames) q ≡ None → get table q ≡ None
 no_entry table frames q absent = lacks (get table q) (sym (get_page table frames q) ∙ absent)
   where
     lacks : (o : Option PageEntry) → option_map (kept_page frames) o ≡ None → o ≡ None
@@ -120,34 +120,34 @@ no_entry table frames q absent = lacks (get table q) (sym (get_page table frames
     lacks (Some e) h = cc
 
 -- what stands at a place among the pages of an image
-pub page_at : (file : List ℕ) (items : List ImagePage) (i : ℕ) (d : ImagePage) → items ≡ map (image_page file) (pages_of file) → i < length items
-    → (i < length (pages_of file)) × (get_or items i d ≡ image_page file (get_or (pages_of file) i 0))
+pub page_at : (file : List ℕ) (items : List ImagePage) (i : ℕ) (d : ImagePage) → items ≡ map (listed_page file) (image_pages file) → i < length items
+    → (i < length (image_pages file)) × (get_or items i d ≡ listed_page file (get_or (image_pages file) i 0))
 page_at file items i d same below =
-    let within : i < length (pages_of file) = omega (arith, ap length same, length-map (pages_of file) (image_page file)) in
-    (within, ap (λ ps. get_or ps i d) same ∙ get_or-map (image_page file) (pages_of file) i 0 d within)
+    let within : i < length (image_pages file) = omega (arith, ap length same, length-map (image_pages file) (listed_page file)) in
+    (within, ap (λ ps. get_or ps i d) same ∙ get_or-map (listed_page file) (image_pages file) i 0 d within)
 
 -- no page, where a list is read past its end
 abbrev pub no_page : ImagePage
 no_page = record { page = 0; perms = record { 0 = 0 }; stored = false }
 
 -- a page that was filled is the image's
-filled : (file bytes : List ℕ) (item : ImagePage) (k : ℕ) → bytes ≡ page_bytes file item.page → item ≡ image_page file k
-    → ◌≡◌ {A = Page} (record { perms = item.perms.0; bytes = bytes }) (page_of file k)
+filled : (file bytes : List ℕ) (item : ImagePage) (k : ℕ) → bytes ≡ page_bytes file item.page → item ≡ listed_page file k
+    → ◌≡◌ {A = Page} (record { perms = item.perms.0; bytes = bytes }) (image_page file k)
 filled file bytes item k full same =
     ap (λ bs. record { perms = item.perms.0; bytes = bs }) full
     ∙ ap (λ (it : ImagePage). record { perms = it.perms.0; bytes = page_bytes file it.page }) same
 
 -- one page of the image was put to those that are there
-pub placed_more : (file : List ℕ) (old new start : Memory) (i : ℕ) (item : ImagePage) (bytes : List ℕ) → i < length (pages_of file)
-    → item ≡ image_page file (get_or (pages_of file) i 0) → bytes ≡ page_bytes file item.page
+pub placed_more : (file : List ℕ) (old new start : Memory) (i : ℕ) (item : ImagePage) (bytes : List ℕ) → i < length (image_pages file)
+    → item ≡ listed_page file (get_or (image_pages file) i 0) → bytes ≡ page_bytes file item.page
     → new ≡ insert old item.page (record { perms = item.perms.0; bytes = bytes })
-    → ((q : ℕ) → get old q ≡ cond (is_among (take i (pages_of file)) q) (Some (page_of file q)) (get start q))
-    → (q : ℕ) → get new q ≡ cond (is_among (take (i + 1) (pages_of file)) q) (Some (page_of file q)) (get start q)
+    → ((q : ℕ) → get old q ≡ cond (is_among (take i (image_pages file)) q) (Some (image_page file q)) (get start q))
+    → (q : ℕ) → get new q ≡ cond (is_among (take (i + 1) (image_pages file)) q) (Some (image_page file q)) (get start q)
 placed_more file old new start i item bytes below same full is so_far q =
-    let k = get_or (pages_of file) i 0 in
-    ap (λ (m : Memory). get m q) (is ∙ ap (insert old item.page) (filled file bytes item k full same) ∙ ap (λ (it : ImagePage). insert old it.page (page_of file k)) same)
-    ∙ one_more (page_of file) (take i (pages_of file)) k q old (get start q) (so_far q)
-    ∙ ap (λ ps. cond (is_among ps q) (Some (page_of file q)) (get start q)) (sym (take_more (pages_of file) i 0 below))
+    let k = get_or (image_pages file) i 0 in
+    ap (λ (m : Memory). get m q) (is ∙ ap (insert old item.page) (filled file bytes item k full same) ∙ ap (λ (it : ImagePage). insert old it.page (image_page file k)) same)
+    ∙ one_more (image_page file) (take i (image_pages file)) k q old (get start q) (so_far q)
+    ∙ ap (λ ps. cond (is_among ps q) (Some (image_page file q)) (get start q)) (sym (take_more (image_pages file) i 0 below))
 
 page_length_is : page_length ≡ 4096
 unfolding page_length
@@ -174,24 +174,24 @@ pub stack_free : (memory : Memory) (q n : ℕ) → ((p : ℕ) → get memory p �
     → is_among (range_with_len 67108848 n) q ≡ false → get memory q ≡ None
 stack_free memory q n so_far other = so_far q ∙ ap (λ (b : Bool). cond b (Some stack_page) None) other
 
-pub image_free : (file : List ℕ) (memory start : Memory) (i : ℕ) → (test : ℕ → Bool) (n : ℕ) → pages_of file ≡ filter test (range_with_len 0 n)
-    → i < length (pages_of file) → get start (get_or (pages_of file) i 0) ≡ None
-    → ((q : ℕ) → get memory q ≡ cond (is_among (take i (pages_of file)) q) (Some (page_of file q)) (get start q))
-    → get memory (get_or (pages_of file) i 0) ≡ None
+pub image_free : (file : List ℕ) (memory start : Memory) (i : ℕ) → (test : ℕ → Bool) (n : ℕ) → image_pages file ≡ filter test (range_with_len 0 n)
+    → i < length (image_pages file) → get start (get_or (image_pages file) i 0) ≡ None
+    → ((q : ℕ) → get memory q ≡ cond (is_among (take i (image_pages file)) q) (Some (image_page file q)) (get start q))
+    → get memory (get_or (image_pages file) i 0) ≡ None
 image_free file memory start i test n is below absent so_far =
-    let k = get_or (pages_of file) i 0 in
-    let first : is_among (take i (pages_of file)) k ≡ false =
+    let k = get_or (image_pages file) i 0 in
+    let first : is_among (take i (image_pages file)) k ≡ false =
     subst (λ ps. i < length ps → is_among (take i ps) (get_or ps i 0) ≡ false) (sym is) (first_of_its_number test 0 n i) below in
-    so_far k ∙ ap (λ (b : Bool). cond b (Some (page_of file k)) (get start k)) first ∙ absent
+    so_far k ∙ ap (λ (b : Bool). cond b (Some (image_page file k)) (get start k)) first ∙ absent
 
 -- the whole memory
 pub placed_all : (file : List ℕ) (old new : Memory) → ((q : ℕ) → get old q ≡ cond (is_among stack_pages q) (Some stack_page) None)
     → IsPlacedOver file old new → new ≡ image_memory file
 placed_all file old new is placed =
     alike _ _ (λ q.
-    placed q ∙ ap (cond (is_among (pages_of file) q) (Some (page_of file q))) (is q)
-    ∙ sym (get-from_entries nat_cmp_total _ q ∙ find_pages (page_of file) (pages_of file) (map (λ p. (p, stack_page)) stack_pages) q
-    ∙ ap (cond (is_among (pages_of file) q) (Some (page_of file q)))
+    placed q ∙ ap (cond (is_among (image_pages file) q) (Some (image_page file q))) (is q)
+    ∙ sym (get-from_entries nat_cmp_total _ q ∙ find_pages (image_page file) (image_pages file) (map (λ p. (p, stack_page)) stack_pages) q
+    ∙ ap (cond (is_among (image_pages file) q) (Some (image_page file q)))
     (ap (find nat_cmp q) (sym (append-nil (map (λ p. (p, stack_page)) stack_pages))) ∙ find_pages (λ _. stack_page) stack_pages [] q)))
 
 -- no page yet
@@ -206,5 +206,5 @@ placed_none table frames is none = record {
     lacks : (page : ℕ) (entry : PageEntry) → get table page ≡ Some entry → ⊥
     lacks page entry there = let absent : get table page ≡ None = ap (λ (t : Pages). get t page) is ∙ get-empty nat_cmp page in let both = sym there ∙ absent in cc
 
-pub none_there : (table : Pages) (frames : List (List ℕ)) (q : ℕ) → table ≡ empty → get (memory_of table frames) q ≡ None
+pub none_there : (table : Pages) (frames : List (List ℕ)) (q : ℕ) → table ≡ empty → get (kept_memory table frames) q ≡ None
 none_there table frames q is = get_page table frames q ∙ ap (option_map (kept_page frames)) (ap (λ (t : Pages). get t q) is ∙ get-empty nat_cmp q)

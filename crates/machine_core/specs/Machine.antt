@@ -1,4 +1,4 @@
-use Rattle.std.specs.Prelude.{ℕ, Bool, false, List, Option}
+use Rattle.std.specs.Prelude.{ℕ, Bool, false, Option}
 use Rattle.std.specs.Option.{option_map, option_map_or}
 use Rattle.std.specs.Ordering.{nat_cmp}
 use Rattle.std.specs.FinMap.{FinMap, get, insert}
@@ -8,11 +8,9 @@ use Rattle.ovl_io.specs.declared.turn.Turn.{Turn}
 use Rattle.ovl_io.specs.declared.turn.Turn.TheVariants.{Stepped, Wrote, Exited, Faulted, Full}
 use Rattle.machine_core.specs.Process.{Process, runs}
 use Rattle.machine_core.specs.declared.process.Process as declared
-use Rattle.ovl_io.specs.Memory.{Access}
-use Rattle.rv_execute.specs.declared.outcome.Outcome.{Outcome}
-use Rattle.rv_execute.specs.declared.outcome.Outcome.TheVariants as outcome
-use Rattle.rv_execute.specs.Execution.{Execution, execution}
-use Rattle.rv_execute.specs.Step.{Step, request, step}
+use Rattle.ovl_io.specs.Memory.{Memory}
+use Rattle.rv_execute.specs.Execution.{Execution, Upshot, Steps, Asks, Faults, execution}
+use Rattle.rv_execute.specs.Step.{Request, Step, request, step}
 
 -- The machine has processes by number. Each has a whole memory of its own.
 abbrev pub Processes : Type 0
@@ -22,12 +20,12 @@ Processes = FinMap nat_cmp Process
 abbrev pub is_running : Processes → ℕ → Bool
 is_running processes p = option_map_or (λ process. runs process.state) (get processes p) false
 
--- what is shown of a process, without its memory
-abbrev pub shown : Process → declared.Process
-shown process = record { regs = process.registers; state = process.state }
+-- what is shown_process of a process, without its memory
+abbrev pub shown_process : Process → declared.Process
+shown_process process = record { regs = process.registers; state = process.state }
 
 abbrev pub shown_at : Processes → ℕ → Option declared.Process
-shown_at processes p = option_map shown (get processes p)
+shown_at processes p = option_map shown_process (get processes p)
 
 -- An instruction is done in two parts: its execution, and then what it asks for, where it is a request.
 
@@ -35,19 +33,19 @@ shown_at processes p = option_map shown (get processes p)
 abbrev pub execution_of : Process → Execution
 execution_of process = execution process.registers process.memory
 
-abbrev pub state_executed : Outcome → ProcessState
-state_executed outcome.Stepped = state.Running
-state_executed outcome.Asked = state.Running
-state_executed (outcome.Fault kind address) = state.Faulted kind address
-state_executed (outcome.Full units limit) = state.Running
+abbrev pub state_executed : Upshot → ProcessState
+state_executed Steps = state.Running
+state_executed Asks = state.Running
+state_executed (Faults kind address) = state.Faulted kind address
 
 abbrev pub executed : Process → Process
 executed process =
     let e = execution_of process in
-    record { registers = e.registers; state = state_executed e.outcome; memory = e.memory }
+    record { registers = e.registers; state = state_executed e.upshot; memory = e.memory }
 
-abbrev pub outcome_of : Processes → ℕ → Outcome
-outcome_of processes p = option_map_or (λ process. (execution_of process).outcome) (get processes p) outcome.Stepped
+-- what the execution of a process's next instruction comes to
+abbrev pub came_to : Processes → ℕ → Upshot
+came_to processes p = option_map_or (λ process. (execution_of process).upshot) (get processes p) Steps
 
 abbrev pub after_execution : Processes → ℕ → Processes
 after_execution processes p = option_map_or (λ process. insert processes p (executed process)) (get processes p) processes
@@ -79,10 +77,17 @@ turn_of processes p = option_map_or (λ process. (step_of p process).turn) (get 
 abbrev pub after_turn : Processes → ℕ → Processes
 after_turn processes p = option_map_or (λ process. insert processes p (process_after p process)) (get processes p) processes
 
--- what comes of a process's request, where these accesses were tried before
-abbrev pub turn_asked : List Access → Processes → ℕ → Turn
-turn_asked accesses processes p = option_map_or (λ process. (request p process.registers process.memory accesses).turn) (get processes p) Stepped
+-- a process that has this memory, after what it asked for
+abbrev pub after_request : Memory → Request → Process
+after_request memory asked = record { registers = asked.registers; state = state_after asked.turn; memory = memory }
 
-abbrev pub after_asked : List Access → Processes → ℕ → Processes
-after_asked accesses processes p =
-    option_map_or (λ process. insert processes p (after_step (request p process.registers process.memory accesses))) (get processes p) processes
+abbrev pub request_of : ℕ → Process → Request
+request_of p process = request p process.registers process.memory
+
+-- what comes of a process's request
+abbrev pub turn_asked : Processes → ℕ → Turn
+turn_asked processes p = option_map_or (λ process. (request_of p process).turn) (get processes p) Stepped
+
+abbrev pub after_asked : Processes → ℕ → Processes
+after_asked processes p =
+    option_map_or (λ process. insert processes p (after_request process.memory (request_of p process))) (get processes p) processes

@@ -1,13 +1,12 @@
 //! One process, and its turn.
 
-ghost use Rattle.std.specs.Prelude.{◌≡◌, ℕ, ◌<◌, ◌≤◌, List, None, length};
-ghost use Rattle.rv_execute.specs.Registers.{with_register};
-ghost use Rattle.ovl_io.specs.Memory.{Access};
+ghost use Rattle.std.specs.Prelude.{◌≡◌, ◌≤◌, length};
+ghost use Rattle.sizes.specs.declared.TheConstants.{MOST_WRITTEN};
 ghost use Rattle.rv_execute.specs.Step.{exit, request, write};
-ghost use Rattle.rv_execute.specs.Execution.{execution};
+ghost use Rattle.rv_execute.specs.Execution.{outcome_by};
 ghost use Rattle.machine_core.specs.Process.{runs};
-ghost use Rattle.machine_core.specs.Machine.{after_step, executed, execution_of};
-ghost use Rattle.machine_core.specs.Kept.{process_of};
+ghost use Rattle.machine_core.specs.Machine.{after_request, executed, execution_of};
+ghost use Rattle.machine_core.specs.Kept.{process_of, with_answer};
 
 use crate::memory::PlainMemory;
 use crate::process::Process;
@@ -15,6 +14,7 @@ use arrayvec::ArrayVec;
 use bitflags::Flags;
 use ovl_io::{Perms, ProcessState, Turn, Written};
 use rv_execute::{Outcome, execute};
+use sizes::MOST_WRITTEN;
 
 /// The requests that there are, by their numbers in a7: those of Linux for RISC-V.
 const WRITE: u64 = 64;
@@ -34,9 +34,6 @@ const BAD_ADDRESS: u64 = u64::MAX - 13;
 /// What a request that there is none of answers: -38.
 const NO_SUCH_REQUEST: u64 = u64::MAX - 37;
 
-/// The most bytes that one write prints.
-const MOST_WRITTEN: u64 = 4096;
-
 /// A process as it is kept.
 #[derive(Drop)]
 pub struct Guest {
@@ -46,7 +43,7 @@ pub struct Guest {
 
 /// The line of bytes that a process writes to a port.
 fn written(port: u8, bytes: &[u8]) -> Written
-    requires { length bytes.now ≤ 4096 }
+    requires { length bytes.now ≤ MOST_WRITTEN }
     ensures { result ≡ (port, bytes.now) }
 {
     let mut kept = ArrayVec::new();
@@ -69,27 +66,28 @@ impl Guest {
     fn answer(&mut self, value: u64) -> Turn
         requires { self.old.process.state ≡ ProcessState.Running }
         ensures turn { result ≡ Turn.Stepped }
-        ensures after { self.new ≡ record self.old { process = record self.old.process { regs = with_register self.old.process.regs 10 value } } }
+        ensures after { self.new ≡ with_answer value self.old }
     {
         self.process.regs.set(10, value);
         Turn::Stepped
     }
 
-    /// Prints up to 4096 bytes.
+    /// Prints bytes, as many as one write prints at most.
     fn write(&mut self) -> Turn
         requires { self.old.process.state ≡ ProcessState.Running }
-        ensures turn { (accesses : List Access) → result ≡ (write self.old.process.regs self.old.memory accesses).turn }
-        ensures after { (accesses : List Access) → process_of self.new ≡ after_step (write self.old.process.regs self.old.memory accesses) }
+        ensures turn { result ≡ (write self.old.process.regs self.old.memory).turn }
+        ensures after { process_of self.new
+            ≡ after_request self.old.memory (write self.old.process.regs self.old.memory) }
     {
         let descriptor = self.process.regs.get(10);
         if descriptor != 1 && descriptor != 2 {
             return self.answer(BAD_DESCRIPTOR);
         }
-        let count = self.process.regs.get(12).min(MOST_WRITTEN);
+        let count = self.process.regs.get(12).min(MOST_WRITTEN as u64);
         if count == 0 {
             return self.answer(0);
         }
-        let mut buffer = [0; 4096];
+        let mut buffer = [0; MOST_WRITTEN];
         let bytes = &mut buffer[..count as usize];
         match self.memory.read(self.process.regs.get(11), bytes, Perms::R) {
             Ok(()) => {
@@ -102,8 +100,9 @@ impl Guest {
 
     /// Exits with the low 8 bits of a0.
     fn exit(&mut self) -> Turn
-        ensures turn { (accesses : List Access) → result ≡ (exit self.old.process.regs self.old.memory accesses).turn }
-        ensures after { (accesses : List Access) → process_of self.new ≡ after_step (exit self.old.process.regs self.old.memory accesses) }
+        ensures turn { result ≡ (exit self.old.process.regs).turn }
+        ensures after { process_of self.new
+            ≡ after_request self.old.memory (exit self.old.process.regs) }
     {
         let code = (self.process.regs.get(10) % 256) as u8;
         self.process.state = ProcessState::Exited(code);
@@ -113,8 +112,9 @@ impl Guest {
     /// Does what ECALL asked for, as process `p`.
     pub(crate) fn answer_request(&mut self, p: u16) -> Turn
         requires { self.old.process.state ≡ ProcessState.Running }
-        ensures turn { (accesses : List Access) → result ≡ (request p self.old.process.regs self.old.memory accesses).turn }
-        ensures after { (accesses : List Access) → process_of self.new ≡ after_step (request p self.old.process.regs self.old.memory accesses) }
+        ensures turn { result ≡ (request p self.old.process.regs self.old.memory).turn }
+        ensures after { process_of self.new
+            ≡ after_request self.old.memory (request p self.old.process.regs self.old.memory) }
     {
         match self.process.regs.get(17) {
             WRITE => self.write(),
@@ -129,7 +129,7 @@ impl Guest {
     #[inline]
     pub(crate) fn execute(&mut self) -> Outcome
         requires { self.old.process.state ≡ ProcessState.Running }
-        ensures outcome { result ≡ (execution_of (process_of self.old)).outcome }
+        ensures outcome { result ≡ outcome_by (execution_of (process_of self.old)).upshot }
         ensures after { process_of self.new ≡ executed (process_of self.old) }
     {
         let outcome = execute(&mut self.process.regs, &mut self.memory);

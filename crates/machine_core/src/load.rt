@@ -1,30 +1,22 @@
 //! What a load makes of an image: its pages, and the stack.
 
-ghost use Rattle.std.specs.Prelude.{◌≡◌, ℕ, ◌+◌, ◌^◌, ◌<◌, ◌≤◌, length, map, Contains, cond, IfOk, OnOk, Some, None};
+ghost use Rattle.std.specs.Prelude.{◌≡◌, ℕ, ◌<◌, length, map, Contains, cond, IfOk, OnOk, Some, None};
 ghost use Rattle.std.specs.FinMap as map;
 ghost use Rattle.std.specs.List.{list_any};
 ghost use Rattle.std.specs.Ordering.{nat_cmp, is_eq};
-ghost use Rattle.elf_loader.specs.Image.{IsImageOf, is_stored, page_bytes, pages_of};
-ghost use Rattle.machine_core.specs.Load.{stack_page, stack_pages, memory_of as image_memory, IsPlacedOver};
-ghost use Rattle.machine_core.specs.Kept.{IsPlaced, memory_of};
+ghost use Rattle.sizes.specs.declared.TheConstants.{STACK_PAGES};
+ghost use Rattle.ovl_io.specs.PageBytes.{IsMemory};
+ghost use Rattle.elf_loader.specs.Image.{IsImageOf, is_stored, page_bytes};
+ghost use Rattle.machine_core.specs.Load.{stack_page, stack_pages, image_memory, IsPlacedOver};
+ghost use Rattle.machine_core.specs.Kept.{IsPlaced, kept_memory};
 
 use crate::memory::{Frame, PlainMemory, add_page};
 use bitflags::Flags;
 use elf_loader::{Image, ImagePage};
 use ovl_io::Perms;
 use page_table::PageTable;
+use sizes::{PAGE_BYTES, PAGE_END, STACK_PAGE};
 use std::alloc::{AllocError, Global};
-
-/// The lowest page of the stack, and the first page number above it: user addresses are below 2^38.
-const STACK_START: u64 = 67_108_848;
-
-const STACK_END: u64 = 67_108_864;
-
-/// How many pages the stack has.
-pub(crate) const STACK_PAGES: u32 = 16;
-
-/// Where the stack pointer begins: 16 below the first address above the stack.
-pub(crate) const STACK_POINTER: u64 = 274_877_906_928;
 
 /// Adds the stack: zero pages.
 fn add_stack(table: &mut PageTable, frames: &mut Vec<Frame>) -> Result<(), AllocError>
@@ -32,12 +24,18 @@ fn add_stack(table: &mut PageTable, frames: &mut Vec<Frame>) -> Result<(), Alloc
     requires frames { length frames.old.items ≡ 0 }
     ensures placed { OnOk result (IsPlaced table.new frames.new.items) }
     ensures as_many { OnOk result (map.len table.new ≡ length frames.new.items) }
-    ensures count { OnOk result (map.len table.new ≡ 16) }
-    ensures stack { OnOk result ((q : ℕ) → map.get (memory_of table.new frames.new.items) q
+    ensures count { OnOk result (map.len table.new ≡ STACK_PAGES) }
+    ensures stack { OnOk result ((q : ℕ) → map.get (kept_memory table.new frames.new.items) q
         ≡ cond (list_any (λ p. is_eq (nat_cmp q p)) stack_pages) (Some stack_page) None) }
 {
-    for page in STACK_START..STACK_END {
-        add_page(table, frames, page, Perms::R.union(Perms::W), [0; 4096])?;
+    for page in STACK_PAGE..PAGE_END {
+        add_page(
+            table,
+            frames,
+            page,
+            Perms::R.union(Perms::W),
+            [0; PAGE_BYTES],
+        )?;
     }
     Ok(())
 }
@@ -49,7 +47,7 @@ fn page_bytes(image: &Image, file: &[u8], image_page: ImagePage) -> Frame
     requires marked { image_page.stored ≡ is_stored file.now image_page.page }
     ensures { result ≡ page_bytes file.now image_page.page }
 {
-    let mut bytes = [0; 4096];
+    let mut bytes = [0; PAGE_BYTES];
     if image_page.stored {
         image.fill_page(file, image_page.page, &mut bytes);
     }
@@ -66,11 +64,12 @@ fn add_image(
     requires of_file { IsImageOf file.now image.now }
     requires placed { IsPlaced table.old frames.old.items }
     requires as_many { map.len table.old ≡ length frames.old.items }
-    requires count { map.len table.old ≡ 16 }
-    requires stack { (q : ℕ) → map.get (memory_of table.old frames.old.items) q
+    requires count { map.len table.old ≡ STACK_PAGES }
+    requires stack { (q : ℕ) → map.get (kept_memory table.old frames.old.items) q
         ≡ cond (list_any (λ p. is_eq (nat_cmp q p)) stack_pages) (Some stack_page) None }
     ensures placed { OnOk result (IsPlaced table.new frames.new.items) }
-    ensures image { OnOk result (IsPlacedOver file.now (memory_of table.old frames.old.items) (memory_of table.new frames.new.items)) }
+    ensures image { OnOk result (IsPlacedOver file.now
+        (kept_memory table.old frames.old.items) (kept_memory table.new frames.new.items)) }
 {
     for image_page in image.pages() {
         let bytes = page_bytes(image, file, *image_page);
@@ -86,7 +85,8 @@ pub(crate) fn load_memory(
     file: &[u8],
 ) -> Result<PlainMemory, AllocError>
     requires { IsImageOf file.now image.now }
-    ensures { IfOk result (λ memory. memory ≡ image_memory file.now) }
+    ensures memory { IfOk result (λ memory. memory ≡ image_memory file.now) }
+    ensures is_memory { IfOk result IsMemory }
 {
     let mut table = PageTable::new(alloc);
     let mut frames = Vec::new(alloc);

@@ -1,19 +1,21 @@
 //! The machine: processes by number.
 
-ghost use Rattle.std.specs.Prelude.{◌≡◌, ◌+◌, ◌<◌, ◌≤◌, List, true, IfOk, None, OnOk, OnErr};
+ghost use Rattle.std.specs.Prelude.{◌≡◌, ◌+◌, ◌<◌, ◌≤◌, true, IfOk, None, OnOk, OnErr};
 ghost use Rattle.std.specs.FinMap as map;
 ghost use Rattle.std.specs.Option.{option_copied};
+ghost use Rattle.sizes.specs.declared.TheConstants.{LAST_SPACE};
 ghost use Rattle.elf_loader.specs.Image.{IsImageOf};
-ghost use Rattle.machine_core.specs.Machine.{is_running, shown_at, turn_of, after_turn, outcome_of, after_execution, turn_asked, after_asked};
-ghost use Rattle.ovl_io.specs.Memory.{Access};
-ghost use Rattle.machine_core.specs.Load.{loaded, page_count};
+ghost use Rattle.machine_core.specs.Machine.{is_running, shown_at, turn_of, after_turn, came_to, after_execution, turn_asked, after_asked};
+ghost use Rattle.rv_execute.specs.Execution.{outcome_by};
+ghost use Rattle.machine_core.specs.Load.{loaded_process, page_count};
 
 use crate::guest::Guest;
-use crate::load::{STACK_PAGES, STACK_POINTER, load_memory};
+use crate::load::load_memory;
 use crate::process::Process;
 use elf_loader::Image;
 use ovl_io::{ProcessState, Turn};
 use rv_execute::{Outcome, Regs};
+use sizes::{STACK_PAGES, STACK_POINTER};
 use std::alloc::{AllocError, Global};
 use std::collections::BTreeMap;
 use std::marker::Model;
@@ -52,11 +54,11 @@ impl Machine {
     /// Makes process `p`, from 1 to 32767, of the file that `image` was read from: running, at its entry.
     /// Answers how many pages it has. After want of memory the machine is as before.
     pub fn load(&mut self, p: u16, image: &Image, file: &[u8]) -> Result<u32, AllocError>
-        requires number { (0 < p) × (p ≤ 32767) }
+        requires number { (0 < p) × (p ≤ LAST_SPACE) }
         requires absent { map.get self.old p ≡ None }
         requires of_file { IsImageOf file.now image.now }
         ensures count { IfOk result (λ n. n ≡ page_count file.now) }
-        ensures ok { OnOk result (self.new ≡ map.insert self.old p (loaded file.now)) }
+        ensures ok { OnOk result (self.new ≡ map.insert self.old p (loaded_process file.now)) }
         ensures err { OnErr result (self.new ≡ self.old) }
     {
         let process = Process {
@@ -64,7 +66,7 @@ impl Machine {
             state: ProcessState::Running,
         };
         let memory = load_memory(self.alloc, image, file)?;
-        let pages = image.pages().len() as u32 + STACK_PAGES;
+        let pages = image.pages().len() as u32 + STACK_PAGES as u32;
         self.guests.insert(p, Guest { process, memory })?;
         Ok(pages)
     }
@@ -94,7 +96,7 @@ impl Machine {
     #[inline]
     pub fn execute(&mut self, p: u16) -> Outcome
         requires { is_running self.old p ≡ true }
-        ensures outcome { result ≡ outcome_of self.old p }
+        ensures outcome { result ≡ outcome_by (came_to self.old p) }
         ensures after { self.new ≡ after_execution self.old p }
     {
         match self.guests.get_mut(&p) {
@@ -106,8 +108,8 @@ impl Machine {
     /// Does what a running process asked for by ECALL, and answers what came of it. Takes no memory.
     pub fn answer(&mut self, p: u16) -> Turn
         requires { is_running self.old p ≡ true }
-        ensures turn { (accesses : List Access) → result ≡ turn_asked accesses self.old p }
-        ensures after { (accesses : List Access) → self.new ≡ after_asked accesses self.old p }
+        ensures turn { result ≡ turn_asked self.old p }
+        ensures after { self.new ≡ after_asked self.old p }
     {
         match self.guests.get_mut(&p) {
             Some(guest) => guest.answer_request(p),

@@ -1,23 +1,24 @@
 //! Memories of plain pages: a page table, and a list of frames in which an entry's frame is a place.
 
-ghost use Rattle.std.specs.Prelude.{◌≡◌, ℕ, ◌+◌, ◌-◌, ◌*◌, ◌/◌, ◌%◌, ◌^◌, ◌<◌, ◌≤◌, List, [], ◌∷◌, ◌++◌, length, map, get_or, OnOk, OnErr, IfOk, None, Some, slice_set, true};
+ghost use Rattle.std.specs.Prelude.{◌≡◌, ◌+◌, ◌-◌, ◌/◌, ◌%◌, ◌^◌, ◌<◌, ◌≤◌, length, map, OnOk, OnErr, None, Some};
 ghost use Rattle.std.specs.FinMap as map;
+ghost use Rattle.sizes.specs.declared.TheConstants.{ADDRESS_END, PAGE_BYTES, PAGE_END};
 ghost use Rattle.ovl_io.specs.Memory.{bytes_at, with_bytes};
-ghost use Rattle.ovl_io.specs.Permissions.{writable, permits};
-ghost use Rattle.page_table.specs.declared.entry.PageEntry.{PageEntry};
+ghost use Rattle.ovl_io.specs.Permissions.{writable};
 ghost use Rattle.rv_execute.specs.Calls.{full_of};
-ghost use Rattle.machine_core.specs.Kept.{Accesses, Finds, IsPlaced, memory_of, overwritten};
+ghost use Rattle.machine_core.specs.Kept.{Accesses, frame_put, FindsFrame, IsPlaced, kept_memory};
 
 use bitflags::Flags;
 use byteorder::{ByteOrder, LittleEndian};
 use ovl_io::Perms;
 use page_table::PageTable;
 use rv_execute::{Denied, GuestMemory, Refused};
+use sizes::PAGE_BYTES;
 use std::alloc::AllocError;
 use std::marker::Model;
 
 /// The bytes of a page.
-pub(crate) type Frame = [u8; 4096];
+pub(crate) type Frame = [u8; PAGE_BYTES];
 
 /// A memory. Each page has a frame of its own.
 #[derive(Drop)]
@@ -34,14 +35,14 @@ impl Model for PlainMemory {
 
     ghost coded = { memory_code };
 
-    ghost use Rattle.machine_core.specs.Kept.{IsPlaced, memory_of};
+    ghost use Rattle.machine_core.specs.Kept.{IsPlaced, kept_memory};
 
-    ghost view = { λ m. memory_of m.table m.frames.items };
+    ghost view = { λ m. kept_memory m.table m.frames.items };
 
     ghost invariant = { λ m. IsPlaced m.table m.frames.items };
 }
 
-/// Adds a page that isn't there, below 2^26, with a frame of its own.
+/// Adds a page that isn't there, with a frame of its own.
 pub(crate) fn add_page(
     table: &mut PageTable,
     frames: &mut Vec<Frame>,
@@ -52,13 +53,13 @@ pub(crate) fn add_page(
     requires placed { IsPlaced table.old frames.old.items }
     requires as_many { map.len table.old ≡ length frames.old.items }
     requires few { map.len table.old + 1 < 2 ^ 32 }
-    requires low { page < 2 ^ 26 }
+    requires low { page < PAGE_END }
     requires free { map.get table.old page ≡ None }
     ensures placed { OnOk result (IsPlaced table.new frames.new.items) }
     ensures as_many { OnOk result (map.len table.new ≡ length frames.new.items) }
     ensures one_more { OnOk result (map.len table.new ≡ map.len table.old + 1) }
-    ensures added { OnOk result (memory_of table.new frames.new.items
-        ≡ map.insert (memory_of table.old frames.old.items) page (record { perms = perms.0; bytes = bytes })) }
+    ensures added { OnOk result (kept_memory table.new frames.new.items
+        ≡ map.insert (kept_memory table.old frames.old.items) page (record { perms = perms.0; bytes = bytes })) }
 {
     let frame = table.len();
     frames.push(bytes)?;
@@ -68,7 +69,7 @@ pub(crate) fn add_page(
 /// The frame of a page that is there and has the permission.
 #[inline]
 fn find(table: &PageTable, page: u64, need: Perms) -> Option<u32>
-    ensures { Finds table.now page need.0 result }
+    ensures { FindsFrame table.now page need.0 result }
 {
     match table.get(page) {
         Some(entry) => {
@@ -93,14 +94,16 @@ fn read_page(
 ) -> Result<(), Denied>
     requires placed { IsPlaced table.now frames.now }
     requires some { 0 < length into.old }
-    requires one_page { address % 4096 + length into.old ≤ 4096 }
-    ensures access { Accesses (memory_of table.now frames.now) need.0 address (length into.old) result }
-    ensures bytes { OnOk result (into.new ≡ bytes_at (memory_of table.now frames.now) address (length into.old)) }
-    ensures user { OnOk result (address < 2 ^ 38) }
+    requires one_page { address % PAGE_BYTES + length into.old ≤ PAGE_BYTES }
+    ensures access { Accesses (kept_memory table.now frames.now)
+        need.0 address (length into.old) result }
+    ensures bytes { OnOk result (into.new
+        ≡ bytes_at (kept_memory table.now frames.now) address (length into.old)) }
+    ensures user { OnOk result (address < ADDRESS_END) }
 {
-    match find(table, address / 4096, need) {
+    match find(table, address / PAGE_BYTES as u64, need) {
         Some(frame) => {
-            let at = (address % 4096) as usize;
+            let at = (address % PAGE_BYTES as u64) as usize;
             into.copy_from_slice(&frames[frame as usize][at..at + into.len()]);
             Ok(())
         }
@@ -112,8 +115,8 @@ fn read_page(
 #[inline]
 fn put(frames: &mut Vec<Frame>, frame: u32, at: usize, bytes: &[u8])
     requires is_frame { frame < length frames.old.items }
-    requires fits { at + length bytes.now ≤ 4096 }
-    ensures { frames.new.items ≡ slice_set frames.old.items frame (overwritten (get_or frames.old.items frame []) at bytes.now) }
+    requires fits { at + length bytes.now ≤ PAGE_BYTES }
+    ensures { frames.new.items ≡ frame_put frames.old.items frame at bytes.now }
 {
     frames[frame as usize][at..at + bytes.len()].copy_from_slice(bytes);
 }
@@ -129,11 +132,13 @@ fn read(
 ) -> Result<(), Denied>
     requires placed { IsPlaced table.now frames.now }
     requires some { 0 < length into.old }
-    requires two_pages { length into.old ≤ 4096 }
-    ensures access { Accesses (memory_of table.now frames.now) need.0 address (length into.old) result }
-    ensures bytes { OnOk result (into.new ≡ bytes_at (memory_of table.now frames.now) address (length into.old)) }
+    requires two_pages { length into.old ≤ PAGE_BYTES }
+    ensures access { Accesses (kept_memory table.now frames.now)
+        need.0 address (length into.old) result }
+    ensures bytes { OnOk result (into.new
+        ≡ bytes_at (kept_memory table.now frames.now) address (length into.old)) }
 {
-    let front = 4096 - (address % 4096) as usize;
+    let front = PAGE_BYTES - (address % PAGE_BYTES as u64) as usize;
     if into.len() <= front {
         return read_page(table, frames, address, into, need);
     }
@@ -156,15 +161,17 @@ fn write(
 ) -> Result<(), Denied>
     requires placed { IsPlaced table.now frames.old.items }
     requires some { 0 < length bytes.now }
-    requires two_pages { length bytes.now ≤ 4096 }
-    ensures access { Accesses (memory_of table.now frames.old.items) writable address (length bytes.now) result }
+    requires two_pages { length bytes.now ≤ PAGE_BYTES }
+    ensures access { Accesses (kept_memory table.now frames.old.items)
+        writable address (length bytes.now) result }
     ensures placed { IsPlaced table.now frames.new.items }
-    ensures stored { OnOk result (memory_of table.now frames.new.items ≡ with_bytes (memory_of table.now frames.old.items) address bytes.now) }
+    ensures stored { OnOk result (kept_memory table.now frames.new.items
+        ≡ with_bytes (kept_memory table.now frames.old.items) address bytes.now) }
     ensures kept { OnErr result (frames.new.items ≡ frames.old.items) }
 {
-    let at = (address % 4096) as usize;
-    let front = 4096 - at;
-    let first = match find(table, address / 4096, Perms::W) {
+    let at = (address % PAGE_BYTES as u64) as usize;
+    let front = PAGE_BYTES - at;
+    let first = match find(table, address / PAGE_BYTES as u64, Perms::W) {
         Some(frame) => frame,
         None => return Err(Denied { address }),
     };
@@ -173,7 +180,7 @@ fn write(
         return Ok(());
     }
     let next = address + front as u64;
-    let second = match find(table, next / 4096, Perms::W) {
+    let second = match find(table, next / PAGE_BYTES as u64, Perms::W) {
         Some(frame) => frame,
         None => return Err(Denied { address: next }),
     };
@@ -183,10 +190,10 @@ fn write(
 }
 
 impl PlainMemory {
-    /// Fills `into`, of 1 to 4096 bytes, with the bytes from an address on.
+    /// Fills `into`, of some bytes, not more than a page has, with the bytes from an address on.
     pub(crate) fn read(&self, address: u64, into: &mut [u8], need: Perms) -> Result<(), Denied>
         requires some { 0 < length into.old }
-        requires two_pages { length into.old ≤ 4096 }
+        requires two_pages { length into.old ≤ PAGE_BYTES }
         ensures access { Accesses self.now need.0 address (length into.old) result }
         ensures bytes { OnOk result (into.new ≡ bytes_at self.now address (length into.old)) }
     {
@@ -199,6 +206,8 @@ impl GuestMemory for PlainMemory {
     ghost use Rattle.rv_execute.specs.Calls.{full_of};
 
     ghost memory = { λ m. m };
+
+    ghost ready = { λ m. Unit {0} };
 
     ghost fetched = { λ old address new. new ≡ old };
 

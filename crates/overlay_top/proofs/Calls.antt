@@ -1,112 +1,162 @@
-use Rattle.std.proofs.Common.{◌≡◌, ℕ, ◌+◌, ◌≤◌, Bool, true, false, cond, List, [], ◌∷◌, ◌++◌, length, map, sym, ap, subst, ◌∙◌, refl, arith, append-nil, length-append, Option, Result, Ok, Err, inl, inr, ◌==◌, eqb-true}
+use Rattle.std.proofs.Common.{◌≡◌, ℕ, ◌+◌, ◌<◌, ◌≤◌, Bool, true, false, cond, List, [], ◌∷◌, ◌++◌, length, map, sym, ap, subst, ◌∙◌, refl, arith, append-nil, length-append, Option, Result, Ok, Err, inl, inr, ◌==◌, eqb-true}
 use Rattle.std.proofs.lemmas.Bool.Decides.{nat_tests}
 use Rattle.std.specs.Prelude.{nat_lt}
+use Rattle.sizes.specs.declared.TheConstants.{MOST_SCRIPT_BYTES}
+use Rattle.ovl_io.specs.declared.source.Source.{Ghosts as SourceOf}
+use Rattle.ovl_io.specs.declared.shelf.Shelf.{Ghosts as ShelfOf}
+use Rattle.ovl_io.specs.declared.sink.Sink.{Ghosts as SinkOf}
 use Rattle.overlay_top.specs.declared.running.Halt.{Halt}
 use Rattle.overlay_top.specs.declared.running.Halt.TheVariants.{Missing, FetchFailed, TooLong, Memory, SendFailed}
 use Rattle.overlay_top.specs.declared.script.Command.{Command}
 use Rattle.overlay_top.specs.declared.script.ScriptError.{ScriptError}
 use Rattle.overlay_top.specs.declared.script.ScriptError.TheVariants.{Line}
 use Rattle.overlay_top.specs.declared.script.ScriptError.TheVariants as script
+use Rattle.overlay_top.specs.declared.reading.ReadError.{ReadError}
+use Rattle.overlay_top.specs.declared.reading.ReadError.TheVariants as read
+use Rattle.overlay_top.specs.declared.status.Status.{Status}
+use Rattle.overlay_top.specs.declared.status.Status.TheVariants as ending
 use Rattle.overlay_top.specs.Report.{bad_line}
 use Rattle.overlay_top.specs.Script.{commands_of, Parses}
-use Rattle.overlay_top.specs.Reading.{most_script}
-use Rattle.overlay_top.specs.Outcome.{Outcome, report_of, ended, names_of, names_in, outcome_of, read_outcome, script_outcome}
-use Rattle.overlay_top.specs.Running.{HaltCaused, Reported, RunEnds}
-use Rattle.overlay_top.specs.Ends.{Ends, Shown, status_of, IsComplete, NoFault, Refuses}
-use Rattle.overlay_top.specs.Ends.Ends.{Whole, SourceFailed, ShelfFailed, SinkFailed, NoMemory}
+use Rattle.overlay_top.specs.Outcome.{RunOutcome, ScriptSays, SaysTooMuch, SaysCommands, SaysOutside, report_of, ended, names_said, run_outcome, said, said_by, said_outcome}
+use Rattle.overlay_top.specs.Outside.{ShelfBy, SinkBy, SourceSound}
+use Rattle.overlay_top.specs.Running.{Reported, RunEnds}
+use Rattle.overlay_top.specs.Status.{code_of}
+use Rattle.overlay_top.specs.Ends.{Ends, IsTaken, IsCompleteWith, NoFault, Refuses, SaysAt, World, status_of}
+use Rattle.overlay_top.specs.Ends.Ends.{Untouched, Whole, SourceFailed, ShelfFailed, SinkFailed, OutOfMemory}
 
 -- How the whole call ends, from how its parts end.
 
-pub ends_whole : (tells : Type 0) (outcome : Outcome) (names : List (Option (List ℕ))) (shown : Shown) (old new : List ℕ) (status : ℕ) → outcome.status ≡ status
-    → Reported tells old (report_of outcome) new → Ends tells outcome names shown old new status
-ends_whole tells outcome names shown old new status is whole = subst (Ends tells outcome names shown old new) is (Whole whole)
+pub ends_whole : {S H K : Type 0} (s : SourceOf S) (h : ShelfOf H) (k : SinkOf K) (outcome : RunOutcome) (names : List (Option (List ℕ)))
+    (old new : World S H K) (status : Status) → outcome.status ≡ status → Ends s h k outcome names old new outcome.status → Ends s h k outcome names old new status
+ends_whole s h k outcome names old new status is ends = subst (Ends s h k outcome names old new) is ends
 
 -- the same, of an outcome and names that are these
-pub ends_as : (tells : Type 0) (outcome other : Outcome) (names others : List (Option (List ℕ))) (shown : Shown) (old new : List ℕ) (status : ℕ)
-    → outcome ≡ other → names ≡ others → Ends tells other others shown old new status → Ends tells outcome names shown old new status
-ends_as tells outcome other names others shown old new status is are ends =
-    subst (λ o. Ends tells o names shown old new status) (sym is) (subst (λ ns. Ends tells other ns shown old new status) (sym are) ends)
+pub ends_as : {S H K : Type 0} (s : SourceOf S) (h : ShelfOf H) (k : SinkOf K) (outcome other : RunOutcome) (names others : List (Option (List ℕ)))
+    (old new : World S H K) (status : Status) → outcome ≡ other → names ≡ others → Ends s h k other others old new status → Ends s h k outcome names old new status
+ends_as s h k outcome other names others old new status is are ends =
+    subst (λ o. Ends s h k o names old new status) (sym is) (subst (λ ns. Ends s h k other ns old new status) (sym are) ends)
 
--- a script within its limit
-pub small_outcome : (left script : List ℕ) (files : List ℕ → Option (List ℕ)) (read : Result (List Command) ℕ) → script ≡ left → length script ≤ most_script
-    → commands_of script ≡ read → script_outcome left files ≡ read_outcome read files
-small_outcome left script files read is small parsed =
-    let within : nat_lt most_script (length script) ≡ false = grind (arith, nat_tests, small) in
-    ap (λ s. script_outcome s files) (sym is)
-    ∙ ap (λ (b : Bool). cond b (ended [] 6) (read_outcome (commands_of script) files)) within
-    ∙ ap (λ r. read_outcome r files) parsed
+-- what a script says that is within its limit, or isn't
+pub said_small : (left script : List ℕ) (read : Result (List Command) ℕ) → script ≡ left → length script ≤ MOST_SCRIPT_BYTES → commands_of script ≡ read
+    → said left ≡ said_by read
+said_small left script read is small parsed =
+    let within : nat_lt MOST_SCRIPT_BYTES (length script) ≡ false = grind (arith, nat_tests, small) in
+    ap said (sym is) ∙ ap (λ (b : Bool). cond b SaysTooMuch (said_by (commands_of script))) within ∙ ap said_by parsed
 
-pub small_names : (left script : List ℕ) (read : Result (List Command) ℕ) → script ≡ left → length script ≤ most_script
-    → commands_of script ≡ read → names_in left ≡ names_of read
-small_names left script read is small parsed =
-    let within : nat_lt most_script (length script) ≡ false = grind (arith, nat_tests, small) in
-    ap names_in (sym is) ∙ ap (λ (b : Bool). cond b [] (names_of (commands_of script))) within ∙ ap names_of parsed
+pub long_left : (left taken after : List ℕ) → left ≡ taken ++ after → length taken ≡ MOST_SCRIPT_BYTES + 1 → MOST_SCRIPT_BYTES < length left
+long_left left taken after is long = omega (arith, ap (λ bs. length bs) is, length-append taken after, long)
 
--- a script that is too long
-pub long_outcome : (left taken after : List ℕ) (files : List ℕ → Option (List ℕ)) → left ≡ taken ++ after → length taken ≡ most_script + 1
-    → script_outcome left files ≡ ended [] 6
-long_outcome left taken after files is long =
-    let parts = ap (λ bs. length bs) is ∙ length-append taken after in
-    let above : nat_lt most_script (length left) ≡ true = grind (arith, nat_tests, parts, long) in
-    ap (λ (b : Bool). cond b (ended [] 6) (read_outcome (commands_of left) files)) above
+pub said_long : (left : List ℕ) → MOST_SCRIPT_BYTES < length left → said left ≡ SaysTooMuch
+said_long left long =
+    let above : nat_lt MOST_SCRIPT_BYTES (length left) ≡ true = grind (arith, nat_tests, long) in
+    ap (λ (b : Bool). cond b SaysTooMuch (said_by (commands_of left))) above
+
+pub taken_whole : (left script after : List ℕ) → script ≡ left → length script ≤ MOST_SCRIPT_BYTES → after ≡ [] → IsTaken left after
+taken_whole left script after is small none = inl (omega (arith, small, ap (λ bs. length bs) is), none)
+
+-- a read that gave a script, or that was too long or had no memory, didn't fail
+pub read_it : {T : Type 0} (script : T) → Ok script ≡ Err read.Failed → ⊥
+read_it script is = cc
+
+pub read_long : {T : Type 0} (error : ReadError) → error ≡ read.TooLong → ◌≡◌ {A = Result T ReadError} (Err error) (Err read.Failed) → ⊥
+read_long error is failed = cc
+
+pub read_none : {T : Type 0} (error : ReadError) → error ≡ read.Memory → ◌≡◌ {A = Result T ReadError} (Err error) (Err read.Failed) → ⊥
+read_none error is failed = cc
+
+-- what a script without commands says, where its line is reported
+pub refused_says : {K : Type 0} (k : SinkOf K) (error : ScriptError) (left bytes : List ℕ) (old new : K) (status : Status) → bytes ≡ left → length bytes ≤ MOST_SCRIPT_BYTES
+    → Parses (λ (commands : List Command). commands) bytes (Err error) → Refuses k error old new status → SaysAt k left old new status
+refused_says k (Line line) left bytes old new status is small parsed (inl whole) =
+    subst (SaysAt k left old new) (sym whole.0) (line, said_small left bytes (Err line) is small parsed, whole.2)
+refused_says k (Line line) left bytes old new status is small parsed (inr cut) = subst (SaysAt k left old new) (sym cut.0) tt
+refused_says k script.Memory left bytes old new status is small parsed none = subst (SaysAt k left old new) (sym none.0) tt
 
 -- nothing was reported
-pub nothing : (tells : Type 0) (old : List ℕ) → Reported tells old [] old
-nothing tells old is_told = sym (append-nil old)
+pub nothing : {K : Type 0} (k : SinkOf K) (old : K) → Reported k old [] old
+nothing k old is_told = sym (append-nil (k.taken old))
 
-pub no_memory : (tells : Type 0) (outcome : Outcome) (names : List (Option (List ℕ))) (shown : Shown) (old : List ℕ) → Ends tells outcome names shown old old 1
-no_memory tells outcome names shown old = NoMemory 0 (omega arith) (nothing tells old)
+done_not_bad : (st : Status) → st ≡ ending.Done → st ≡ ending.BadWords → ⊥
+done_not_bad st is_done is_bad = let both : ending.Done ≡ ending.BadWords = sym is_done ∙ is_bad in cc
+
+-- there was no memory before a command was done
+pub no_memory : {S H K : Type 0} (s : SourceOf S) (h : ShelfOf H) (k : SinkOf K) (outcome : RunOutcome) (names : List (Option (List ℕ))) (source_old source_new : S)
+    (files : H) (report : K) → SourceSound s source_old source_new
+    → Ends s h k outcome names (record { script = source_old; files = files; report = report }) (record { script = source_new; files = files; report = report }) ending.NoMemory
+no_memory s h k outcome names source_old source_new files report sound = OutOfMemory 0 0 (omega arith) (omega arith) sound refl refl refl (nothing k report)
 
 -- the commands, all done or not
-pub commands_done : (tells : Type 0) (outcome : Outcome) (names : List (Option (List ℕ))) (shown : Shown) (old new : List ℕ)
-    → RunEnds tells outcome names shown.refused old new (Ok tt) → Ends tells outcome names shown old new 0
-commands_done tells outcome names shown old new ends = ends_whole tells outcome names shown old new 0 ends.0 ends.1
+pub commands_ended : {S H K : Type 0} (s : SourceOf S) (h : ShelfOf H) (k : SinkOf K) (outcome : RunOutcome) (names : List (Option (List ℕ))) (old new : World S H K)
+    → SourceSound s old.script new.script → IsTaken (s.left old.script) (s.left new.script)
+    → ShelfBy {T = Unit {0}} h old.files new.files (Ok tt) → SinkBy k old.report new.report (Ok tt)
+    → RunEnds h k outcome names old.files new.files old.report new.report (Ok tt) → Ends s h k outcome names old new ending.Done
+commands_ended s h k outcome names old new sound taken shelf sink ends =
+    ends_whole s h k outcome names old new ending.Done ends.0 (Whole sound shelf sink taken ends.1 ends.2)
 
-pub commands_halted : (h : Halt) (tells : Type 0) (outcome : Outcome) (names : List (Option (List ℕ))) (shown : Shown) (old new : List ℕ)
-    → RunEnds tells outcome names shown.refused old new (Err h)
-    → HaltCaused h shown.shelf_before shown.shelf_after shown.refused shown.sink_before shown.sink_after
-    → Ends tells outcome names shown old new (status_of h)
-commands_halted Missing tells outcome names shown old new ends caused = ends_whole tells outcome names shown old new 3 ends.0 ends.1
-commands_halted TooLong tells outcome names shown old new ends caused = ends_whole tells outcome names shown old new 6 ends.0 ends.1
-commands_halted FetchFailed tells outcome names shown old new ends caused =
-    ShelfFailed ends.0 ends.1 ends.2 ends.3 caused.0 ends.4 ends.5
-commands_halted Memory tells outcome names shown old new ends caused = NoMemory ends.0 ends.1 ends.2
-commands_halted SendFailed tells outcome names shown old new ends caused = SinkFailed caused ends
-
--- a call for which the outcome has status 0, and in which no fault rose
-pub complete : (tells : Type 0) (outcome : Outcome) (names : List (Option (List ℕ))) (shown : Shown) (old new : List ℕ) (status : ℕ)
-    → Ends tells outcome names shown old new status → outcome.status ≡ 0 → NoFault shown → IsComplete tells outcome old new status
-complete tells outcome names shown old new _ (Whole whole) is none = inr (is, whole)
-complete tells outcome names shown old new _ (SourceFailed rose nothing) is none = absurd (none.0 rose)
-complete tells outcome names shown old new _ (ShelfFailed k name within at rose refused first) is none = absurd (none.1 rose)
-complete tells outcome names shown old new _ (SinkFailed rose cut) is none = absurd (none.2 rose)
-complete tells outcome names shown old new _ (NoMemory k within first) is none = inl refl
+pub commands_halted : {S H K : Type 0} (s : SourceOf S) (h : ShelfOf H) (k : SinkOf K) (halt : Halt) (outcome : RunOutcome) (names : List (Option (List ℕ)))
+    (old new : World S H K) → SourceSound s old.script new.script → IsTaken (s.left old.script) (s.left new.script) → s.left new.script ≡ []
+    → ShelfBy {T = Unit {0}} h old.files new.files (Err halt) → SinkBy k old.report new.report (Err halt)
+    → RunEnds h k outcome names old.files new.files old.report new.report (Err halt) → Ends s h k outcome names old new (status_of halt)
+commands_halted s h k Missing outcome names old new sound taken none shelf sink ends =
+    ends_whole s h k outcome names old new ending.ReadFailed ends.0 (Whole sound shelf.0 sink taken ends.1 ends.2)
+commands_halted s h k TooLong outcome names old new sound taken none shelf sink ends =
+    ends_whole s h k outcome names old new ending.TooLong ends.0 (Whole sound shelf sink taken ends.1 ends.2)
+commands_halted s h k FetchFailed outcome names old new sound taken none shelf sink ends =
+    ShelfFailed ends.0 ends.1 ends.2 ends.3 sound shelf.0 sink none ends.4 ends.5 ends.6
+commands_halted s h k Memory outcome names old new sound taken none shelf sink ends =
+    OutOfMemory ends.0 ends.1 ends.2 ends.3 sound shelf sink ends.4 ends.5
+commands_halted s h k SendFailed outcome names old new sound taken none shelf sink ends =
+    SinkFailed ends.0 ends.1 sound shelf sink none ends.2 ends.3
 
 -- a script without commands
-pub refused : (error : ScriptError) (tells : Type 0) (left bytes : List ℕ) (files : List ℕ → Option (List ℕ)) (shown : Shown) (old new : List ℕ) (status : ℕ)
-    → bytes ≡ left → length bytes ≤ most_script → Parses (λ (commands : List Command). commands) bytes (Err error)
-    → Refuses tells error shown.sink_before shown.sink_after old new status
-    → Ends tells (script_outcome left files) (names_in left) shown old new status
-refused (Line k) tells left bytes files shown old new status is small parsed (inl whole) =
-    ends_as tells (script_outcome left files) (ended (bad_line k) 5) (names_in left) [] shown old new status
-    (small_outcome left bytes files (Err k) is small parsed) (small_names left bytes (Err k) is small parsed)
-    (ends_whole tells (ended (bad_line k) 5) [] shown old new status (sym whole.0) whole.1)
-refused (Line k) tells left bytes files shown old new status is small parsed (inr cut) =
-    ends_as tells (script_outcome left files) (ended (bad_line k) 5) (names_in left) [] shown old new status
-    (small_outcome left bytes files (Err k) is small parsed) (small_names left bytes (Err k) is small parsed)
-    (subst (Ends tells (ended (bad_line k) 5) [] shown old new) (sym cut.0) (SinkFailed cut.1 cut.2))
-refused script.Memory tells left bytes files shown old new status is small parsed h =
-    subst (Ends tells (script_outcome left files) (names_in left) shown old new) (sym h.0)
-    (subst (λ held. Ends tells (script_outcome left files) (names_in left) shown old held 1) (sym h.1)
-    (no_memory tells (script_outcome left files) (names_in left) shown old))
+pub refused : {S H K : Type 0} (s : SourceOf S) (h : ShelfOf H) (k : SinkOf K) (error : ScriptError) (bytes : List ℕ) (files : List ℕ → Option (List ℕ))
+    (source_old source_new : S) (shelf : H) (report_old report_new : K) (status : Status)
+    → SourceSound s source_old source_new → s.left source_new ≡ [] → bytes ≡ s.left source_old → length bytes ≤ MOST_SCRIPT_BYTES
+    → Parses (λ (commands : List Command). commands) bytes (Err error) → Refuses k error report_old report_new status
+    → Ends s h k (said_outcome (said (s.left source_old)) files) (names_said (said (s.left source_old)))
+    (record { script = source_old; files = shelf; report = report_old }) (record { script = source_new; files = shelf; report = report_new }) status
+refused {S = S} {H = H} {K = K} s h k (Line line) bytes files source_old source_new shelf report_old report_new status sound none is small parsed (inl whole) =
+    let says = said_small (s.left source_old) bytes (Err line) is small parsed in
+    let old : World S H K = record { script = source_old; files = shelf; report = report_old } in
+    let new : World S H K = record { script = source_new; files = shelf; report = report_new } in
+    ends_as s h k _ (ended (bad_line line) ending.BadLine) _ [] old new status
+    (ap (λ says. said_outcome says files) says) (ap names_said says)
+    (ends_whole s h k (ended (bad_line line) ending.BadLine) [] old new status (sym whole.0)
+    (Whole sound refl whole.1 (taken_whole (s.left source_old) bytes (s.left source_new) is small none) refl whole.2))
+refused {S = S} {H = H} {K = K} s h k (Line line) bytes files source_old source_new shelf report_old report_new status sound none is small parsed (inr cut) =
+    let says = said_small (s.left source_old) bytes (Err line) is small parsed in
+    let old : World S H K = record { script = source_old; files = shelf; report = report_old } in
+    let new : World S H K = record { script = source_new; files = shelf; report = report_new } in
+    ends_as s h k _ (ended (bad_line line) ending.BadLine) _ [] old new status
+    (ap (λ says. said_outcome says files) says) (ap names_said says)
+    (subst (Ends s h k (ended (bad_line line) ending.BadLine) [] old new) (sym cut.0)
+    (SinkFailed 0 (omega arith) sound refl cut.1 none refl cut.2))
+refused {S = S} {H = H} {K = K} s h k script.Memory bytes files source_old source_new shelf report_old report_new status sound none is small parsed h0 =
+    let old : World S H K = record { script = source_old; files = shelf; report = report_old } in
+    let outcome = said_outcome (said (s.left source_old)) files in
+    let names = names_said (said (s.left source_old)) in
+    subst (Ends s h k outcome names old (record { script = source_new; files = shelf; report = report_new })) (sym h0.0)
+    (subst (λ held. Ends s h k outcome names old (record { script = source_new; files = shelf; report = held }) ending.NoMemory) (sym h0.1)
+    (no_memory s h k outcome names source_old source_new shelf report_old sound))
+
+-- a call for which the outcome has status 0, and in which no fault rose
+pub complete : {S H K : Type 0} (s : SourceOf S) (h : ShelfOf H) (k : SinkOf K) (outcome : RunOutcome) (names : List (Option (List ℕ))) (old new : World S H K)
+    (status : Status) → Ends s h k outcome names old new status → outcome.status ≡ ending.Done → NoFault s h k old new
+    → IsCompleteWith k outcome old.report new.report (code_of status)
+complete s h k outcome names old new _ (Untouched is_bad nothing same) is none = absurd (done_not_bad outcome.status is is_bad)
+complete s h k outcome names old new _ (Whole source shelf sink taken asked whole) is none = inr (ap code_of is, whole)
+complete s h k outcome names old new _ (SourceFailed rose files report taken) is none = absurd (none.0 rose)
+complete s h k outcome names old new _ (ShelfFailed j name within at source rose sink taken asked refused first) is none = absurd (none.1 rose)
+complete s h k outcome names old new _ (SinkFailed j within source shelf rose taken asked cut) is none = absurd (none.2 rose)
+complete s h k outcome names old new _ (OutOfMemory j begun within few source shelf sink asked first) is none = inl refl
 
 -- the words
 pub without_words : {Word : Type 0} (view : Word → List ℕ) (words : List Word) (left : List ℕ) (files : List ℕ → Option (List ℕ)) → true ≡ (length words == 0)
-    → outcome_of (map view words) left files ≡ script_outcome left files
+    → run_outcome (map view words) left files ≡ said_outcome (said left) files
 without_words view [] left files none = refl
 without_words view (word ∷ words) left files none = absurd (omega (arith, eqb-true (length (word ∷ words)) 0 (sym none)))
 
 pub with_words : {Word : Type 0} (view : Word → List ℕ) (words : List Word) (left : List ℕ) (files : List ℕ → Option (List ℕ)) → false ≡ (length words == 0)
-    → outcome_of (map view words) left files ≡ ended [] 2
+    → run_outcome (map view words) left files ≡ ended [] ending.BadWords
 with_words view [] left files some = cc
 with_words view (word ∷ words) left files some = refl

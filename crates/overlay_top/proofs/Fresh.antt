@@ -7,7 +7,7 @@ use Rattle.std.specs.Cmp.{nat_cmp_total}
 use Rattle.std.specs.FinMap.{get, insert, get-insert, get-empty, nat_cmp-IsAntisymmetric}
 use Rattle.machine_core.specs.Process.{Process}
 use Rattle.machine_core.specs.Machine.{Processes, is_running, after_turn, process_after}
-use Rattle.machine_core.specs.Load.{loaded}
+use Rattle.machine_core.specs.Load.{loaded_process}
 use Rattle.overlay_top.specs.Session.{State, IsFresh, after_turns, fresh}
 
 -- The numbers above those drawn stay free.
@@ -31,10 +31,10 @@ get_above processes p q process less =
 
 -- a load keeps them free
 pub fresh_load : (state : State) (file : List ℕ) → IsFresh state → state.drawn + 1 ≤ 32767
-    → IsFresh (record { processes = insert state.processes (state.drawn + 1) (loaded file); drawn = state.drawn + 1 })
+    → IsFresh (record { processes = insert state.processes (state.drawn + 1) (loaded_process file); drawn = state.drawn + 1 })
 fresh_load state file is below = record {
   few = below;
-  free = λ p above. get_above state.processes (state.drawn + 1) p (loaded file) above ∙ is.free p (omega arith);
+  free = λ p above. get_above state.processes (state.drawn + 1) p (loaded_process file) above ∙ is.free p (omega arith);
 }
 
 stays : (processes : Processes) (p q : ℕ) (found : Option Process) → get processes p ≡ found → get processes q ≡ None

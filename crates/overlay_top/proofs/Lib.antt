@@ -8,3 +8,5 @@ pub mod Fresh
 pub mod Commands
 pub mod Runs
 pub mod Calls
+pub mod Asks
+pub mod Codes

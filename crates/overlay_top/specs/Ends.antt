@@ -1,100 +1,124 @@
-use Rattle.std.specs.Prelude.{◌≡◌, ℕ, ◌+◌, ◌≤◌, List, [], ◌++◌, take, length, flat_map, slice_get, Option, Some, ◌⊎◌}
-use Rattle.ovl_io.specs.Outside.{Rose, Refused}
+use Rattle.std.specs.Prelude.{◌≡◌, ℕ, ◌+◌, ◌<◌, ◌≤◌, List, [], length, take, slice_get, Option, Some, Ok, Err, ◌⊎◌}
+use Rattle.sizes.specs.declared.TheConstants.{MOST_SCRIPT_BYTES}
+use Rattle.ovl_io.specs.Outside.{AsksFor}
 use Rattle.ovl_io.specs.declared.shelf.ShelfError.TheVariants as shelf
+use Rattle.ovl_io.specs.declared.source.Source.{Ghosts as SourceOf}
+use Rattle.ovl_io.specs.declared.shelf.Shelf.{Ghosts as ShelfOf}
+use Rattle.ovl_io.specs.declared.sink.Sink.{Ghosts as SinkOf}
 use Rattle.overlay_top.specs.declared.running.Halt.{Halt}
-use Rattle.overlay_top.specs.declared.running.Halt.TheVariants.{Missing, FetchFailed, TooLong, Memory, SendFailed}
-use Rattle.overlay_top.specs.Outcome.{Outcome, report_of}
+use Rattle.overlay_top.specs.declared.running.Halt.TheVariants as halt
+use Rattle.overlay_top.specs.declared.script.Command.{Command}
 use Rattle.overlay_top.specs.declared.script.ScriptError.{ScriptError}
-use Rattle.overlay_top.specs.declared.script.ScriptError.TheVariants.{Line}
 use Rattle.overlay_top.specs.declared.script.ScriptError.TheVariants as script
+use Rattle.overlay_top.specs.declared.status.Status.{Status}
+use Rattle.overlay_top.specs.declared.status.Status.TheVariants.{Done, NoMemory, BadWords, ReadFailed, WriteFailed, BadLine, TooLong}
 use Rattle.overlay_top.specs.Report.{bad_line}
-use Rattle.overlay_top.specs.Reading.{most_script}
-use Rattle.overlay_top.specs.Running.{Reported, IsRefused}
-use Rattle.overlay_top.specs.Sending.{IsCut}
+use Rattle.overlay_top.specs.Outcome.{RunOutcome, ScriptSays, SaysOutside, SaysCommands, SaysTooMuch, said, named, report_of, first_report, text_after}
+use Rattle.overlay_top.specs.Reading.{Took, TookAtMost}
+use Rattle.overlay_top.specs.Running.{Reported, ReportedCut}
+use Rattle.overlay_top.specs.Outside.{SourceRose, SourceSound, ShelfRose, ShelfSound, SinkRose, SinkSound, RefusedFor, WasRefused}
+use Rattle.overlay_top.specs.Status.{code_of}
 
--- What the outside shows of a call: how many faults source, shelf and sink had before it and after it, and
--- what the shelf's last fetch was refused.
-pub record Shown : Type 0 where
-  pub source_before : ℕ
-  pub source_after : ℕ
-  pub shelf_before : ℕ
-  pub shelf_after : ℕ
-  pub sink_before : ℕ
-  pub sink_after : ℕ
-  pub refused : Option Refused
+-- The outside of a call at one moment: the source of the script, the shelf of the files, the sink of the report.
+pub record World (S H K : Type 0) : Type 0 where
+  pub script : S
+  pub files : H
+  pub report : K
 
-abbrev pub shown : ℕ → ℕ → ℕ → ℕ → ℕ → ℕ → Option Refused → Shown
-shown source_before source_after shelf_before shelf_after sink_before sink_after refused = record {
-  source_before = source_before;
-  source_after = source_after;
-  shelf_before = shelf_before;
-  shelf_after = shelf_after;
-  sink_before = sink_before;
-  sink_after = sink_after;
-  refused = refused;
-}
+abbrev pub world_of : {S H K : Type 0} → S → H → K → World S H K
+world_of script files report = record { script = script; files = files; report = report }
 
--- the report of the first k commands
-abbrev pub first_report : ℕ → Outcome → List ℕ
-first_report k outcome = flat_map (λ text. text) (take k outcome.texts)
+-- what is taken of a script that is read: all of it, or, of one that is too long, one byte more than it may have
+abbrev pub IsTaken : List ℕ → List ℕ → Type 0
+IsTaken before after =
+    ((length before ≤ MOST_SCRIPT_BYTES) × (after ≡ [])) ⊎ ((MOST_SCRIPT_BYTES < length before) × Took (MOST_SCRIPT_BYTES + 1) before after)
 
--- How a call may end, by what the sink held before it and holds after it, and by the status: as the outcome
--- says, or cut short. What the sink holds is said where it tells its bytes.
-pub data Ends (tells : Type 0) (outcome : Outcome) (names : List (Option (List ℕ))) (shown : Shown) (old new : List ℕ) : ℕ → Type 0 where
-  -- the whole report, and the outcome's status
-  Whole : Reported tells old (report_of outcome) new → Ends tells outcome names shown old new outcome.status
-  -- the source failed, and nothing was reported
-  SourceFailed : Rose shown.source_before shown.source_after → Reported tells old [] new → Ends tells outcome names shown old new 3
-  -- the shelf failed to fetch the file of command k + 1, and the first k commands were reported
-  ShelfFailed : (k : ℕ) (name : List ℕ) → k ≤ length outcome.texts → slice_get names k ≡ Some (Some name)
-      → Rose shown.shelf_before shown.shelf_after → shown.refused ≡ Some (record { name = name; answer = shelf.Failed })
-      → Reported tells old (first_report k outcome) new → Ends tells outcome names shown old new 3
-  -- the sink failed, and a front of the report was taken that isn't the whole
-  SinkFailed : Rose shown.sink_before shown.sink_after → (tells → IsCut old (report_of outcome) new) → Ends tells outcome names shown old new 4
-  -- there was no memory, and the first k commands were reported
-  NoMemory : (k : ℕ) → k ≤ length outcome.texts → Reported tells old (first_report k outcome) new → Ends tells outcome names shown old new 1
+-- How a call may end: as the outcome says, or cut short. Each way says which faults rose, what was taken of the
+-- script, which files were asked for, and what was reported; that is said of the sink's bytes where it tells them.
+pub data Ends {S H K : Type 0} (s : SourceOf S) (h : ShelfOf H) (k : SinkOf K) (outcome : RunOutcome) (names : List (Option (List ℕ)))
+    (old new : World S H K) : Status → Type 0 where
+  -- the words weren't the command's, and nothing was done
+  Untouched : outcome.status ≡ BadWords → report_of outcome ≡ [] → new ≡ old → Ends s h k outcome names old new BadWords
+  -- the whole report, and the outcome's status: the files of the commands done were asked for, and of the one that ended the call
+  Whole : SourceSound s old.script new.script → ShelfSound h old.files new.files → SinkSound k old.report new.report
+      → IsTaken (s.left old.script) (s.left new.script) → AsksFor h.fetched (named (take (length outcome.texts + 1) names)) old.files new.files
+      → Reported k old.report (report_of outcome) new.report → Ends s h k outcome names old new outcome.status
+  -- the source failed, no file was asked for, and nothing was reported
+  SourceFailed : SourceRose s old.script new.script → new.files ≡ old.files → new.report ≡ old.report
+      → TookAtMost MOST_SCRIPT_BYTES (s.left old.script) (s.left new.script) → Ends s h k outcome names old new ReadFailed
+  -- the shelf failed to fetch the file of command j + 1, and the first j commands were reported
+  ShelfFailed : (j : ℕ) (name : List ℕ) → j ≤ length outcome.texts → slice_get names j ≡ Some (Some name)
+      → SourceSound s old.script new.script → ShelfRose h old.files new.files → SinkSound k old.report new.report
+      → s.left new.script ≡ [] → AsksFor h.fetched (named (take (j + 1) names)) old.files new.files
+      → RefusedFor h new.files name shelf.Failed
+      → Reported k old.report (first_report j outcome) new.report → Ends s h k outcome names old new ReadFailed
+  -- the sink failed in the text behind the first j commands, of which a front was taken that isn't the whole
+  SinkFailed : (j : ℕ) → j ≤ length outcome.texts
+      → SourceSound s old.script new.script → ShelfSound h old.files new.files → SinkRose k old.report new.report
+      → s.left new.script ≡ [] → AsksFor h.fetched (named (take (j + 1) names)) old.files new.files
+      → ReportedCut k old.report (first_report j outcome) (text_after j outcome) new.report → Ends s h k outcome names old new WriteFailed
+  -- there was no memory, and the first j commands were reported
+  OutOfMemory : (j begun : ℕ) → j ≤ length outcome.texts → begun ≤ j + 1
+      → SourceSound s old.script new.script → ShelfSound h old.files new.files → SinkSound k old.report new.report
+      → AsksFor h.fetched (named (take begun names)) old.files new.files
+      → Reported k old.report (first_report j outcome) new.report → Ends s h k outcome names old new NoMemory
 
--- How a call ends for which the outcome has status 0, and in which no fault rose.
-abbrev pub IsComplete : Type 0 → Outcome → List ℕ → List ℕ → ℕ → Type 0
-IsComplete tells outcome old new status = (status ≡ 1) ⊎ ((status ≡ 0) × Reported tells old (report_of outcome) new)
+-- the same, of the number that the call answers
+abbrev pub EndsWith : {S H K : Type 0} → SourceOf S → ShelfOf H → SinkOf K → RunOutcome → List (Option (List ℕ)) → World S H K → World S H K → ℕ → Type 0
+EndsWith s h k outcome names old new number = (status : Status) × (number ≡ code_of status) × Ends s h k outcome names old new status
 
-abbrev pub NoFault : Shown → Type 0
-NoFault shown =
-    (Rose shown.source_before shown.source_after → ⊥) × (Rose shown.shelf_before shown.shelf_after → ⊥)
-    × (Rose shown.sink_before shown.sink_after → ⊥)
+-- How a call ends for which the outcome's status is 0, and in which no fault rose.
+abbrev pub IsCompleteWith : {K : Type 0} → SinkOf K → RunOutcome → K → K → ℕ → Type 0
+IsCompleteWith k outcome old new number =
+    (number ≡ code_of NoMemory) ⊎ ((number ≡ code_of Done) × Reported k old (report_of outcome) new)
 
--- the cause of status 3: the source failed, or the last fetch failed, or its file isn't there
-abbrev pub Caused : Shown → Type 0
-Caused shown =
-    Rose shown.source_before shown.source_after ⊎ (Rose shown.shelf_before shown.shelf_after × IsRefused shown.refused shelf.Failed)
-    ⊎ IsRefused shown.refused shelf.Missing
+abbrev pub NoFault : {S H K : Type 0} → SourceOf S → ShelfOf H → SinkOf K → World S H K → World S H K → Type 0
+NoFault s h k old new =
+    (SourceRose s old.script new.script → ⊥) × (ShelfRose h old.files new.files → ⊥) × (SinkRose k old.report new.report → ⊥)
 
--- so many bytes, or at most so many, were taken of a source
-abbrev pub TookAtMost : ℕ → List ℕ → List ℕ → Type 0
-TookAtMost n before after = (taken : List ℕ) × (before ≡ taken ++ after) × (length taken ≤ n)
+-- the cause of a read that failed, and of no other: the source failed; or the last fetch failed; or its file isn't there
+abbrev pub ReadCaused : {S H K : Type 0} → SourceOf S → ShelfOf H → World S H K → World S H K → Type 0
+ReadCaused s h old new =
+    (SourceRose s old.script new.script × (new.files ≡ old.files))
+    ⊎ (SourceSound s old.script new.script × ShelfRose h old.files new.files × WasRefused h new.files shelf.Failed)
+    ⊎ (SourceSound s old.script new.script × ShelfSound h old.files new.files × WasRefused h new.files shelf.Missing)
 
-abbrev pub Took : ℕ → List ℕ → List ℕ → Type 0
-Took n before after = (taken : List ℕ) × (before ≡ taken ++ after) × (length taken ≡ n)
+-- What a call takes of the script, by its status, also where the shelf tells nothing.
+abbrev pub TakesAt : {S H K : Type 0} → SourceOf S → ShelfOf H → World S H K → World S H K → Status → Type 0
+TakesAt s h old new Done = s.left new.script ≡ []
+TakesAt s h old new WriteFailed = s.left new.script ≡ []
+TakesAt s h old new BadLine = s.left new.script ≡ []
+TakesAt s h old new TooLong = IsTaken (s.left old.script) (s.left new.script)
+TakesAt s h old new ReadFailed =
+    (SourceSound s old.script new.script × (s.left new.script ≡ []))
+    ⊎ (SourceRose s old.script new.script × (new.files ≡ old.files) × TookAtMost MOST_SCRIPT_BYTES (s.left old.script) (s.left new.script))
+TakesAt s h old new NoMemory = Unit {0}
+TakesAt s h old new BadWords = s.left new.script ≡ s.left old.script
 
--- What a call takes of the script, by its status: all of it, but where the source failed, where the script
--- has too many bytes, and where there was no memory.
-pub record Takes (shown : Shown) (before after : List ℕ) (status : ℕ) : Type 0 where
-  pub at0 : status ≡ 0 → after ≡ []
-  pub at4 : status ≡ 4 → after ≡ []
-  pub at5 : status ≡ 5 → after ≡ []
-  pub at3 : status ≡ 3 → (after ≡ []) ⊎ (Rose shown.source_before shown.source_after × TookAtMost most_script before after)
-  pub at6 : status ≡ 6 → ((after ≡ []) × (length before ≤ most_script)) ⊎ Took (most_script + 1) before after
+abbrev pub TakesWith : {S H K : Type 0} → SourceOf S → ShelfOf H → World S H K → World S H K → ℕ → Type 0
+TakesWith s h old new number = (status : Status) × (number ≡ code_of status) × TakesAt s h old new status
+
+-- What the script says where the status is one of its own, also where the shelf tells nothing: the first line
+-- outside is the one that is printed; and it is too long, or all of it are commands (and a file was too long).
+abbrev pub SaysAt : {K : Type 0} → SinkOf K → List ℕ → K → K → Status → Type 0
+SaysAt k script old new BadLine = (line : ℕ) × (said script ≡ SaysOutside line) × Reported k old (bad_line line) new
+SaysAt k script old new TooLong = (said script ≡ SaysTooMuch) ⊎ ((commands : List Command) × (said script ≡ SaysCommands commands))
+SaysAt k script old new status = Unit {0}
+
+abbrev pub SaysWith : {K : Type 0} → SinkOf K → List ℕ → K → K → ℕ → Type 0
+SaysWith k script old new number = (status : Status) × (number ≡ code_of status) × SaysAt k script old new status
 
 -- the status of a command that isn't done
-abbrev pub status_of : Halt → ℕ
-status_of Missing = 3
-status_of FetchFailed = 3
-status_of TooLong = 6
-status_of Memory = 1
-status_of SendFailed = 4
+abbrev pub status_of : Halt → Status
+status_of halt.Missing = ReadFailed
+status_of halt.FetchFailed = ReadFailed
+status_of halt.TooLong = TooLong
+status_of halt.Memory = NoMemory
+status_of halt.SendFailed = WriteFailed
 
 -- how a script without commands is reported
-abbrev pub Refuses : Type 0 → ScriptError → ℕ → ℕ → List ℕ → List ℕ → ℕ → Type 0
-Refuses tells (Line k) before after old new status =
-    ((status ≡ 5) × Reported tells old (bad_line k) new) ⊎ ((status ≡ 4) × Rose before after × (tells → IsCut old (bad_line k) new))
-Refuses tells script.Memory before after old new status = (status ≡ 1) × (new ≡ old)
+abbrev pub Refuses : {K : Type 0} → SinkOf K → ScriptError → K → K → Status → Type 0
+Refuses k (script.Line line) old new status =
+    ((status ≡ BadLine) × SinkSound k old new × Reported k old (bad_line line) new)
+    ⊎ ((status ≡ WriteFailed) × SinkRose k old new × ReportedCut k old [] (bad_line line) new)
+Refuses k script.Memory old new status = (status ≡ NoMemory) × (new ≡ old)

@@ -4,7 +4,9 @@ pub mod Script
 pub mod Session
 pub mod Report
 pub mod Reading
+pub mod Status
 pub mod Outcome
 pub mod Sending
+pub mod Outside
 pub mod Running
 pub mod Ends

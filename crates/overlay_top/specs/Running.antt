@@ -1,47 +1,36 @@
-use Rattle.std.specs.Prelude.{◌≡◌, ℕ, ◌<◌, ◌≤◌, List, length, take, flat_map, slice_get, Option, Some, None, Result, Ok, Err}
-use Rattle.ovl_io.specs.Outside.{Rose, Refused, HasName, most_bytes}
-use Rattle.ovl_io.specs.declared.shelf.ShelfError.{ShelfError}
+use Rattle.std.specs.Prelude.{◌≡◌, ℕ, ◌+◌, ◌≤◌, Bool, true, List, [], ◌∷◌, ◌++◌, length, map, take, slice_get, Option, Some, None, Result, Ok, Err}
+use Rattle.ovl_io.specs.Outside.{AsksFor, HasName}
 use Rattle.ovl_io.specs.declared.shelf.ShelfError.TheVariants as shelf
+use Rattle.ovl_io.specs.declared.shelf.Shelf.{Ghosts as ShelfOf}
+use Rattle.ovl_io.specs.declared.sink.Sink.{Ghosts as SinkOf}
 use Rattle.overlay_top.specs.declared.running.Halt.{Halt}
 use Rattle.overlay_top.specs.declared.running.Halt.TheVariants.{Missing, FetchFailed, TooLong, Memory, SendFailed}
 use Rattle.overlay_top.specs.declared.script.Command.{Command}
 use Rattle.overlay_top.specs.declared.script.Command.TheVariants.{Exec}
+use Rattle.overlay_top.specs.declared.status.Status.TheVariants as status
 use Rattle.overlay_top.specs.Sending.{IsSent, IsCut}
-use Rattle.overlay_top.specs.Outcome.{Outcome, report_of}
+use Rattle.overlay_top.specs.Outcome.{RunOutcome, FileAsked, HasFile, IsMissing, IsTooLong, asks, has_all, named, report_of, first_report, text_after}
+use Rattle.overlay_top.specs.Outside.{RefusedFor}
 
 -- How the parts of a call end, by what their part of the outcome is.
 
--- a fetch, by the file that the name has
-abbrev pub Fetched : {File : Type 0} → (File → List ℕ) → Option (List ℕ) → Result File Halt → Type 0
-Fetched view file (Err FetchFailed) = Unit {0}
-Fetched view file (Err Memory) = Unit {0}
-Fetched view file (Err SendFailed) = ⊥
-Fetched view None (Err Missing) = Unit {0}
-Fetched view None (Err TooLong) = ⊥
-Fetched view None (Ok given) = ⊥
-Fetched view (Some whole) (Err Missing) = ⊥
-Fetched view (Some whole) (Err TooLong) = most_bytes < length whole
-Fetched view (Some whole) (Ok given) = (view given ≡ whole) × (length whole ≤ most_bytes)
+-- a fetch, by what was asked of the shelf
+abbrev pub GivesFile : {File : Type 0} → (File → List ℕ) → FileAsked → Result File Halt → Type 0
+GivesFile view asked (Ok file) = asked ≡ HasFile (view file)
+GivesFile view asked (Err Missing) = asked ≡ IsMissing
+GivesFile view asked (Err TooLong) = asked ≡ IsTooLong
+GivesFile view asked (Err FetchFailed) = Unit {0}
+GivesFile view asked (Err Memory) = Unit {0}
+GivesFile view asked (Err SendFailed) = ⊥
 
--- the cause of a fetch that gave no file
-abbrev pub FetchCaused : Halt → List ℕ → ℕ → ℕ → Option Refused → Type 0
-FetchCaused Missing name before after refused = refused ≡ Some (record { name = name; answer = shelf.Missing })
-FetchCaused FetchFailed name before after refused = Rose before after × (refused ≡ Some (record { name = name; answer = shelf.Failed }))
-FetchCaused TooLong name before after refused = Unit {0}
-FetchCaused Memory name before after refused = Unit {0}
-FetchCaused SendFailed name before after refused = ⊥
-
--- what is known of a file that a command named, by how the command ended
-abbrev pub IsThere : Option (List ℕ) → Type 0
-IsThere found = (file : List ℕ) × (found ≡ Some file) × (length file ≤ most_bytes)
-
-abbrev pub Found : Option (List ℕ) → Result (Unit {0}) Halt → Type 0
-Found found (Ok done) = IsThere found
-Found found (Err Missing) = found ≡ None
-Found found (Err TooLong) = (file : List ℕ) × (found ≡ Some file) × (most_bytes < length file)
-Found found (Err FetchFailed) = Unit {0}
-Found found (Err Memory) = Unit {0}
-Found found (Err SendFailed) = IsThere found
+-- what is known of what a command asked for, by how the command ended
+abbrev pub WasGiven : FileAsked → Result (Unit {0}) Halt → Type 0
+WasGiven asked (Ok done) = has_all asked ≡ true
+WasGiven asked (Err Missing) = asked ≡ IsMissing
+WasGiven asked (Err TooLong) = asked ≡ IsTooLong
+WasGiven asked (Err FetchFailed) = Unit {0}
+WasGiven asked (Err Memory) = Unit {0}
+WasGiven asked (Err SendFailed) = has_all asked ≡ true
 
 -- what a sink holds after a text was to be sent to it: all of it, a front of it, or nothing more
 abbrev pub Sends : List ℕ → List ℕ → List ℕ → Result (Unit {0}) Halt → Type 0
@@ -52,49 +41,64 @@ Sends old text new (Err TooLong) = new ≡ old
 Sends old text new (Err FetchFailed) = new ≡ old
 Sends old text new (Err Memory) = new ≡ old
 
--- the cause of a halt where no file is fetched
-abbrev pub SendCaused : Halt → ℕ → ℕ → Type 0
-SendCaused Missing before after = ⊥
-SendCaused FetchFailed before after = ⊥
-SendCaused TooLong before after = ⊥
-SendCaused Memory before after = Unit {0}
-SendCaused SendFailed before after = Rose before after
+-- a command with a file is done, or there is no memory, or the sink failed: no other halt comes then
+abbrev pub IsDoing : Result (Unit {0}) Halt → Type 0
+IsDoing (Ok done) = Unit {0}
+IsDoing (Err SendFailed) = Unit {0}
+IsDoing (Err Memory) = Unit {0}
+IsDoing (Err Missing) = ⊥
+IsDoing (Err FetchFailed) = ⊥
+IsDoing (Err TooLong) = ⊥
 
--- the cause of a halt
-abbrev pub IsRefused : Option Refused → ShelfError → Type 0
-IsRefused refused answer = (name : List ℕ) × (refused ≡ Some (record { name = name; answer = answer }))
+-- a fetch that failed was one of the name that a command asked for
+abbrev pub FailedAt : {H : Type 0} → ShelfOf H → H → Option (List ℕ) → Type 0
+FailedAt h new None = ⊥
+FailedAt h new (Some name) = RefusedFor h new name shelf.Failed
 
-abbrev pub HaltCaused : Halt → ℕ → ℕ → Option Refused → ℕ → ℕ → Type 0
-HaltCaused Missing shelf_before shelf_after refused sink_before sink_after = IsRefused refused shelf.Missing
-HaltCaused FetchFailed shelf_before shelf_after refused sink_before sink_after = Rose shelf_before shelf_after × IsRefused refused shelf.Failed
-HaltCaused TooLong shelf_before shelf_after refused sink_before sink_after = Unit {0}
-HaltCaused Memory shelf_before shelf_after refused sink_before sink_after = Unit {0}
-HaltCaused SendFailed shelf_before shelf_after refused sink_before sink_after = Rose sink_before sink_after
+abbrev pub HaltedAt : {H : Type 0} → ShelfOf H → H → Option (List ℕ) → Halt → Type 0
+HaltedAt h new asked FetchFailed = FailedAt h new asked
+HaltedAt h new asked Missing = Unit {0}
+HaltedAt h new asked TooLong = Unit {0}
+HaltedAt h new asked Memory = Unit {0}
+HaltedAt h new asked SendFailed = Unit {0}
 
--- the name whose fetch failed
-abbrev pub FailedFor : Halt → Option (List ℕ) → Option Refused → Type 0
-FailedFor FetchFailed None refused = ⊥
-FailedFor FetchFailed (Some name) refused = refused ≡ Some (record { name = name; answer = shelf.Failed })
-FailedFor Missing asked refused = Unit {0}
-FailedFor TooLong asked refused = Unit {0}
-FailedFor Memory asked refused = Unit {0}
-FailedFor SendFailed asked refused = Unit {0}
+abbrev pub FailedFor : {H : Type 0} → ShelfOf H → H → Option (List ℕ) → Result (Unit {0}) Halt → Type 0
+FailedFor h new asked (Ok done) = Unit {0}
+FailedFor h new asked (Err halt) = HaltedAt h new asked halt
 
 -- a command whose file has a name
 abbrev pub IsNamed : Command → Type 0
 IsNamed (Exec name turns) = HasName name
 
--- How the commands of a script end, for their outcome. Where the sink tells no bytes, nothing is said of them.
-abbrev pub Reported : Type 0 → List ℕ → List ℕ → List ℕ → Type 0
-Reported tells old report new = tells → IsSent old report new
+-- What the sink holds, where it tells its bytes.
+abbrev pub Reported : {K : Type 0} → SinkOf K → K → List ℕ → K → Type 0
+Reported k old report new = k.tells → IsSent (k.taken old) report (k.taken new)
 
-abbrev pub RunEnds : Type 0 → Outcome → List (Option (List ℕ)) → Option Refused → List ℕ → List ℕ → Result (Unit {0}) Halt → Type 0
-RunEnds tells outcome names refused old new (Ok done) = (outcome.status ≡ 0) × Reported tells old (report_of outcome) new
-RunEnds tells outcome names refused old new (Err Missing) = (outcome.status ≡ 3) × Reported tells old (report_of outcome) new
-RunEnds tells outcome names refused old new (Err TooLong) = (outcome.status ≡ 6) × Reported tells old (report_of outcome) new
-RunEnds tells outcome names refused old new (Err FetchFailed) =
-    (k : ℕ) × (name : List ℕ) × (k ≤ length outcome.texts) × (slice_get names k ≡ Some (Some name))
-    × (refused ≡ Some (record { name = name; answer = shelf.Failed })) × Reported tells old (flat_map (λ text. text) (take k outcome.texts)) new
-RunEnds tells outcome names refused old new (Err Memory) =
-    (k : ℕ) × (k ≤ length outcome.texts) × Reported tells old (flat_map (λ text. text) (take k outcome.texts)) new
-RunEnds tells outcome names refused old new (Err SendFailed) = tells → IsCut old (report_of outcome) new
+abbrev pub ReportedCut : {K : Type 0} → SinkOf K → K → List ℕ → List ℕ → K → Type 0
+ReportedCut k old before text new = k.tells → IsCut (k.taken old ++ before) text (k.taken new)
+
+-- How the commands of a script end, for their outcome: the files that were asked for, and the report.
+abbrev pub RunEnds : {H K : Type 0} → ShelfOf H → SinkOf K → RunOutcome → List (Option (List ℕ)) → H → H → K → K → Result (Unit {0}) Halt → Type 0
+RunEnds h k outcome names shelf_old shelf_new old new (Ok done) =
+    (outcome.status ≡ status.Done) × AsksFor h.fetched (named (take (length outcome.texts + 1) names)) shelf_old shelf_new
+    × Reported k old (report_of outcome) new
+RunEnds h k outcome names shelf_old shelf_new old new (Err Missing) =
+    (outcome.status ≡ status.ReadFailed) × AsksFor h.fetched (named (take (length outcome.texts + 1) names)) shelf_old shelf_new
+    × Reported k old (report_of outcome) new
+RunEnds h k outcome names shelf_old shelf_new old new (Err TooLong) =
+    (outcome.status ≡ status.TooLong) × AsksFor h.fetched (named (take (length outcome.texts + 1) names)) shelf_old shelf_new
+    × Reported k old (report_of outcome) new
+RunEnds h k outcome names shelf_old shelf_new old new (Err FetchFailed) =
+    (j : ℕ) × (name : List ℕ) × (j ≤ length outcome.texts) × (slice_get names j ≡ Some (Some name))
+    × AsksFor h.fetched (named (take (j + 1) names)) shelf_old shelf_new × RefusedFor h shelf_new name shelf.Failed
+    × Reported k old (first_report j outcome) new
+RunEnds h k outcome names shelf_old shelf_new old new (Err Memory) =
+    (j : ℕ) × (begun : ℕ) × (j ≤ length outcome.texts) × (begun ≤ j + 1) × AsksFor h.fetched (named (take begun names)) shelf_old shelf_new
+    × Reported k old (first_report j outcome) new
+RunEnds h k outcome names shelf_old shelf_new old new (Err SendFailed) =
+    (j : ℕ) × (j ≤ length outcome.texts) × AsksFor h.fetched (named (take (j + 1) names)) shelf_old shelf_new
+    × ReportedCut k old (first_report j outcome) (text_after j outcome) new
+
+-- the names of some commands of the script were asked for, from the first on, in order, and no others
+abbrev pub AsksInOrder : {H : Type 0} → ShelfOf H → List (Option (List ℕ)) → H → H → Type 0
+AsksInOrder h names old new = (begun : ℕ) × AsksFor h.fetched (named (take begun names)) old new

@@ -10,6 +10,7 @@
 //! - `script`: what a script says
 //! - `running`: the commands of a script
 //! - `session`: the processes, and the load of a file
+//! - `status`: how a call ended
 //! - `turns`: the turns of a process
 //! - `top`: `run_program`
 #![tactic(auto)]
@@ -20,6 +21,7 @@ mod running;
 mod script;
 mod sending;
 mod session;
+mod status;
 mod top;
 mod turns;
 

@@ -1,11 +1,12 @@
-ghost use Rattle.std.specs.Prelude.{◌≡◌, ℕ, ◌≤◌, List, IfErr, IfOk, OnErr, OnOk, Err, Some, ◌++◌, map, vec_len};
+ghost use Rattle.std.specs.Prelude.{◌≡◌, ◌≢◌, ℕ, List, IfOk, OnErr, OnOk, Err, Some, [], ◌∷◌, ◌++◌, map};
 ghost use Rattle.std.specs.List.{All};
-ghost use Rattle.ovl_io.specs.Outside.{HasName, Rose};
+ghost use Rattle.ovl_io.specs.Outside.{AsksFor, HasName};
 ghost use Rattle.overlay_top.specs.Session.{IsFresh, state_of, fresh};
-ghost use Rattle.overlay_top.specs.Outcome.{after_command, after_exec, asks, command_text, exec_answered, exec_text, file_of, processes_answered, run_from};
+ghost use Rattle.overlay_top.specs.Outcome.{asked_by, asks, command_done, exec_answered, exec_of, file_asked, named, processes_answered, run_from};
 ghost use Rattle.overlay_top.specs.Report.{answer_text};
+ghost use Rattle.overlay_top.specs.Outside.{FetchedFor, ShelfBy, SinkBy, SinkRose, SinkSound};
 ghost use Rattle.overlay_top.specs.Sending.{IsCut, IsSent};
-ghost use Rattle.overlay_top.specs.Running.{Fetched, FetchCaused, FailedFor, Found, HaltCaused, IsNamed, RunEnds, Sends, SendCaused};
+ghost use Rattle.overlay_top.specs.Running.{AsksInOrder, FailedFor, GivesFile, IsDoing, IsNamed, RunEnds, Sends, WasGiven};
 
 use crate::line::{Line, answer_line};
 use crate::script::Command;
@@ -31,13 +32,14 @@ pub enum Halt {
     SendFailed,
 }
 
-/// Fetches the file that a command names.
+/// AsksFor the file that a command names.
 fn fetch<H: Shelf>(alloc: Global, name: &[u8], shelf: &mut H) -> Result<Vec<u8>, Halt>
     requires { HasName name.now }
-    ensures fetched { H.tells → Fetched (λ file. file.items) (H.files shelf.old name.now) result }
-    ensures caused { IfErr result (λ halt. FetchCaused halt name.now (H.faults shelf.old) (H.faults shelf.new) (H.refused shelf.new)) }
+    ensures gives { H.tells → GivesFile (λ file. file.items) (asked_by (H.files shelf.old name.now)) result }
+    ensures faults { ShelfBy H.Shelf shelf.old shelf.new result }
+    ensures refused { FetchedFor H.Shelf shelf.new name.now result }
     ensures kept { H.tells → (other : List ℕ) → H.files shelf.new other ≡ H.files shelf.old other }
-    ensures counted { H.faults shelf.old ≤ H.faults shelf.new }
+    ensures fetched { H.fetched shelf.old name.now shelf.new }
 {
     match shelf.fetch(alloc, name) {
         Ok(file) => Ok(file),
@@ -76,11 +78,13 @@ fn report_load<K: Sink>(
     line: &mut Line,
     sink: &mut K,
 ) -> Result<(), Failed>
-    ensures sent { K.tells → OnOk result (IsSent (K.taken sink.old) (answer_text answer.now ++ exec_answered answer.now turns machine.old) (K.taken sink.new)) }
-    ensures cut { K.tells → OnErr result (IsCut (K.taken sink.old) (answer_text answer.now ++ exec_answered answer.now turns machine.old) (K.taken sink.new)) }
+    ensures sent { K.tells → OnOk result (IsSent (K.taken sink.old)
+        (answer_text answer.now ++ exec_answered answer.now turns machine.old) (K.taken sink.new)) }
+    ensures cut { K.tells → OnErr result (IsCut (K.taken sink.old)
+        (answer_text answer.now ++ exec_answered answer.now turns machine.old) (K.taken sink.new)) }
     ensures after { OnOk result (machine.new ≡ processes_answered answer.now turns machine.old) }
-    ensures cause { OnErr result (Rose (K.faults sink.old) (K.faults sink.new)) }
-    ensures counted { K.faults sink.old ≤ K.faults sink.new }
+    ensures cause { OnErr result (SinkRose K.Sink sink.old sink.new) }
+    ensures no_fault { OnOk result (SinkSound K.Sink sink.old sink.new) }
 {
     answer_line(answer, line);
     send(sink, line.as_slice())?;
@@ -99,11 +103,11 @@ fn exec<K: Sink>(
     sink: &mut K,
 ) -> Result<(), Halt>
     requires { IsFresh (state_of session.old) }
-    ensures sends { K.tells → Sends (K.taken sink.old) (exec_text file.now turns (state_of session.old)) (K.taken sink.new) result }
-    ensures after { OnOk result (state_of session.new ≡ after_exec file.now turns (state_of session.old)) }
+    ensures sends { K.tells → Sends (K.taken sink.old) (exec_of file.now turns (state_of session.old)).text (K.taken sink.new) result }
+    ensures after { OnOk result (state_of session.new ≡ (exec_of file.now turns (state_of session.old)).after) }
     ensures fresh { OnOk result (IsFresh (state_of session.new)) }
-    ensures caused { IfErr result (λ halt. SendCaused halt (K.faults sink.old) (K.faults sink.new)) }
-    ensures counted { K.faults sink.old ≤ K.faults sink.new }
+    ensures doing { IsDoing result }
+    ensures faults { SinkBy K.Sink sink.old sink.new result }
 {
     let answer = session.load(file);
     if let Answer::Memory = answer {
@@ -125,15 +129,17 @@ fn perform<H: Shelf, K: Sink>(
 ) -> Result<(), Halt>
     requires is_fresh { IsFresh (state_of session.old) }
     requires has_name { IsNamed command.now }
-    ensures found { H.tells → Found (file_of (H.files shelf.old) command.now) result }
-    ensures sends { H.tells → K.tells → Sends (K.taken sink.old) (command_text (H.files shelf.old) command.now (state_of session.old)) (K.taken sink.new) result }
-    ensures after { H.tells → OnOk result (state_of session.new ≡ after_command (H.files shelf.old) command.now (state_of session.old)) }
+    ensures given { H.tells → WasGiven (file_asked (H.files shelf.old) command.now) result }
+    ensures sends { H.tells → K.tells → Sends (K.taken sink.old)
+        (command_done (H.files shelf.old) command.now (state_of session.old)).text (K.taken sink.new) result }
+    ensures after { H.tells → OnOk result (state_of session.new ≡
+        (command_done (H.files shelf.old) command.now (state_of session.old)).after) }
     ensures fresh { OnOk result (IsFresh (state_of session.new)) }
-    ensures caused { IfErr result (λ halt. HaltCaused halt (H.faults shelf.old) (H.faults shelf.new) (H.refused shelf.new) (K.faults sink.old) (K.faults sink.new)) }
-    ensures named { IfErr result (λ halt. FailedFor halt (asks command.now) (H.refused shelf.new)) }
+    ensures shelf { ShelfBy H.Shelf shelf.old shelf.new result }
+    ensures sink { SinkBy K.Sink sink.old sink.new result }
+    ensures failed { FailedFor H.Shelf shelf.new (asks command.now) result }
     ensures kept { H.tells → (other : List ℕ) → H.files shelf.new other ≡ H.files shelf.old other }
-    ensures shelf_counted { H.faults shelf.old ≤ H.faults shelf.new }
-    ensures sink_counted { K.faults sink.old ≤ K.faults sink.new }
+    ensures fetched { AsksFor H.fetched (named (asks command.now ∷ [])) shelf.old shelf.new }
 {
     let file = fetch(session.alloc, command.name().as_slice(), shelf)?;
     exec(session, file.as_slice(), command.turns(), line, sink)
@@ -147,10 +153,11 @@ pub(crate) fn run<H: Shelf, K: Sink>(
     sink: &mut K,
 ) -> Result<(), Halt>
     requires { All IsNamed commands.now }
-    ensures ends { H.tells → RunEnds K.tells (run_from commands.now fresh (H.files shelf.old)) (map asks commands.now) (H.refused shelf.new) (K.taken sink.old) (K.taken sink.new) result }
-    ensures caused { IfErr result (λ halt. HaltCaused halt (H.faults shelf.old) (H.faults shelf.new) (H.refused shelf.new) (K.faults sink.old) (K.faults sink.new)) }
-    ensures shelf_counted { H.faults shelf.old ≤ H.faults shelf.new }
-    ensures sink_counted { K.faults sink.old ≤ K.faults sink.new }
+    ensures ends { H.tells → RunEnds H.Shelf K.Sink (run_from commands.now fresh (H.files shelf.old)) (map asks commands.now)
+        shelf.old shelf.new sink.old sink.new result }
+    ensures asked { AsksInOrder H.Shelf (map asks commands.now) shelf.old shelf.new }
+    ensures shelf { ShelfBy H.Shelf shelf.old shelf.new result }
+    ensures sink { SinkBy K.Sink sink.old sink.new result }
 {
     let mut session = Session::new(alloc)?;
     let mut line = Line::new();

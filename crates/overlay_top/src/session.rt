@@ -1,8 +1,9 @@
 ghost use Rattle.std.specs.Prelude.{◌≡◌, IfOk};
-ghost use Rattle.overlay_top.specs.Session.{Answers, IsFresh, Leaves, fresh, load_answer, state_of};
+ghost use Rattle.overlay_top.specs.Session.{IsLoadAnswer, IsFresh, Leaves, fresh, load_answer, state_of};
 
 use elf_loader::{ElfError, read_image};
 use machine_core::Machine;
+use sizes::LAST_SPACE;
 use std::alloc::{AllocError, Global};
 
 /// What came of a load.
@@ -27,9 +28,6 @@ pub enum Stop {
     Ended,
 }
 
-/// How many numbers there are for processes.
-const NUMBERS: u16 = 32_767;
-
 /// The processes, and how many numbers were drawn for them.
 #[derive(Drop)]
 pub struct Session {
@@ -53,7 +51,7 @@ impl Session {
     /// Makes a process of a file, under the next number.
     pub(crate) fn load(&mut self, file: &[u8]) -> Answer
         requires { IsFresh (state_of self.old) }
-        ensures answer { Answers (load_answer (state_of self.old) file.now) result }
+        ensures answer { IsLoadAnswer (load_answer (state_of self.old) file.now) result }
         ensures after { Leaves (state_of self.old) file.now result (state_of self.new) }
         ensures fresh { IsFresh (state_of self.new) }
     {
@@ -62,7 +60,7 @@ impl Session {
             Err(ElfError::Memory) => return Answer::Memory,
             Err(error) => return Answer::Refused(error),
         };
-        if self.drawn == NUMBERS {
+        if self.drawn == LAST_SPACE {
             return Answer::NumbersUsed;
         }
         let p = self.drawn + 1;

@@ -1,43 +1,44 @@
-ghost use Rattle.std.specs.Prelude.{◌≡◌, ◌≢◌, ◌↔◌, ◌≤◌, ◌⊎◌, false, map, string_bytes};
-ghost use Rattle.overlay_top.specs.Outcome.{are_words, names_in, outcome_of, script_outcome};
-ghost use Rattle.overlay_top.specs.Ends.{Caused, Ends, IsComplete, NoFault, Refuses, Takes, shown, status_of};
-ghost use Rattle.ovl_io.specs.Outside.{Rose};
+ghost use Rattle.std.specs.Prelude.{◌≡◌, ◌≢◌, ◌↔◌, ◌≤◌, false, map, string_bytes};
+ghost use Rattle.overlay_top.specs.Outcome.{are_words, names_said, run_outcome, said, said_outcome};
+ghost use Rattle.overlay_top.specs.Status.{code_of};
+ghost use Rattle.overlay_top.specs.Running.{AsksInOrder};
+ghost use Rattle.overlay_top.specs.Outside.{ShelfSound, SinkRose, SinkSound, SourceSound};
+ghost use Rattle.overlay_top.specs.Ends.{Ends, EndsWith, IsCompleteWith, NoFault, ReadCaused, Refuses, SaysAt, SaysWith, TakesAt, TakesWith, status_of, world_of};
 
 use crate::line::{Line, bad_line};
 use crate::reading::{ReadError, read_script};
 use crate::running::{Halt, run};
 use crate::script::{ScriptError, parse};
 use crate::sending::send;
+use crate::status::Status;
 use ovl_io::{Shelf, Sink, Source};
 use std::alloc::Global;
 
 /// The status of a command that isn't done.
-fn status_of(halt: Halt) -> u8
+fn status_of(halt: Halt) -> Status
     ensures { result ≡ status_of halt }
 {
     match halt {
-        Halt::Missing | Halt::FetchFailed => 3,
-        Halt::TooLong => 6,
-        Halt::Memory => 1,
-        Halt::SendFailed => 4,
+        Halt::Missing | Halt::FetchFailed => Status::ReadFailed,
+        Halt::TooLong => Status::TooLong,
+        Halt::Memory => Status::NoMemory,
+        Halt::SendFailed => Status::WriteFailed,
     }
 }
 
-/// Reports why a script has no commands, and answers the status.
-fn refuse<K: Sink>(error: ScriptError, sink: &mut K) -> u8
-    ensures ends { Refuses K.tells error (K.faults sink.old) (K.faults sink.new) (K.taken sink.old) (K.taken sink.new) result }
-    ensures which { (result ≡ 1) ⊎ (result ≡ 4) ⊎ (result ≡ 5) }
-    ensures status4 { result ≡ 4 → Rose (K.faults sink.old) (K.faults sink.new) }
+/// Reports why a script has no commands.
+fn refuse<K: Sink>(error: ScriptError, sink: &mut K) -> Status
+    ensures { Refuses K.Sink error sink.old sink.new result }
 {
     let k = match error {
         ScriptError::Line(k) => k,
-        ScriptError::Memory => return 1,
+        ScriptError::Memory => return Status::NoMemory,
     };
     let mut line = Line::new();
     bad_line(k, &mut line);
     match send(sink, line.as_slice()) {
-        Ok(()) => 5,
-        Err(_) => 4,
+        Ok(()) => Status::BadLine,
+        Err(_) => Status::WriteFailed,
     }
 }
 
@@ -47,30 +48,35 @@ fn run_script<S: Source, H: Shelf, K: Sink>(
     script: &mut S,
     shelf: &mut H,
     sink: &mut K,
-) -> u8
-    ensures ends { S.tells → H.tells → Ends K.tells (script_outcome (S.left script.old) (H.files shelf.old)) (names_in (S.left script.old))
-        (shown (S.faults script.old) (S.faults script.new) (H.faults shelf.old) (H.faults shelf.new) (K.faults sink.old) (K.faults sink.new) (H.refused shelf.new))
-        (K.taken sink.old) (K.taken sink.new) result }
-    ensures takes { S.tells → Takes
-        (shown (S.faults script.old) (S.faults script.new) (H.faults shelf.old) (H.faults shelf.new) (K.faults sink.old) (K.faults sink.new) (H.refused shelf.new))
-        (S.left script.old) (S.left script.new) result }
-    ensures other { result ≢ 2 }
-    ensures status3 { result ≡ 3 → Caused (shown (S.faults script.old) (S.faults script.new) (H.faults shelf.old) (H.faults shelf.new) (K.faults sink.old) (K.faults sink.new) (H.refused shelf.new)) }
-    ensures status4 { result ≡ 4 → Rose (K.faults sink.old) (K.faults sink.new) }
-    ensures known { result ≤ 6 }
+) -> Status
+    ensures ends { S.tells → H.tells → Ends S.Source H.Shelf K.Sink
+        (said_outcome (said (S.left script.old)) (H.files shelf.old)) (names_said (said (S.left script.old)))
+        (world_of script.old shelf.old sink.old) (world_of script.new shelf.new sink.new) result }
+    ensures takes { S.tells → TakesAt S.Source H.Shelf
+        (world_of script.old shelf.old sink.old) (world_of script.new shelf.new sink.new) result }
+    ensures says { S.tells → SaysAt K.Sink (S.left script.old) sink.old sink.new result }
+    ensures asked { S.tells → AsksInOrder H.Shelf (names_said (said (S.left script.old))) shelf.old shelf.new }
+    ensures unasked { result ≡ Status.BadLine → shelf.new ≡ shelf.old }
+    ensures other { result ≢ Status.BadWords }
+    ensures read_caused { result ≡ Status.ReadFailed → ReadCaused S.Source H.Shelf
+        (world_of script.old shelf.old sink.old) (world_of script.new shelf.new sink.new) }
+    ensures write_caused { result ≡ Status.WriteFailed → SinkRose K.Sink sink.old sink.new }
+    ensures source_sound { result ≢ Status.ReadFailed → SourceSound S.Source script.old script.new }
+    ensures shelf_sound { result ≢ Status.ReadFailed → ShelfSound H.Shelf shelf.old shelf.new }
+    ensures sink_sound { result ≢ Status.WriteFailed → SinkSound K.Sink sink.old sink.new }
 {
     let bytes = match read_script(alloc, script) {
         Ok(bytes) => bytes,
-        Err(ReadError::Failed) => return 3,
-        Err(ReadError::TooLong) => return 6,
-        Err(ReadError::Memory) => return 1,
+        Err(ReadError::Failed) => return Status::ReadFailed,
+        Err(ReadError::TooLong) => return Status::TooLong,
+        Err(ReadError::Memory) => return Status::NoMemory,
     };
     let commands = match parse(alloc, bytes.as_slice()) {
         Ok(commands) => commands,
         Err(error) => return refuse(error, sink),
     };
     match run(alloc, commands.as_slice(), shelf, sink) {
-        Ok(()) => 0,
+        Ok(()) => Status::Done,
         Err(halt) => status_of(halt),
     }
 }
@@ -98,21 +104,30 @@ pub fn run_program<S: Source, H: Shelf, K: Sink>(
     shelf: &mut H,
     sink: &mut K,
 ) -> u8
-    ensures headline { S.tells → H.tells → Ends K.tells (outcome_of (map string_bytes words.now) (S.left script.old) (H.files shelf.old)) (names_in (S.left script.old))
-        (shown (S.faults script.old) (S.faults script.new) (H.faults shelf.old) (H.faults shelf.new) (K.faults sink.old) (K.faults sink.new) (H.refused shelf.new))
-        (K.taken sink.old) (K.taken sink.new) result }
+    ensures headline { S.tells → H.tells → EndsWith S.Source H.Shelf K.Sink
+        (run_outcome (map string_bytes words.now) (S.left script.old) (H.files shelf.old)) (names_said (said (S.left script.old)))
+        (world_of script.old shelf.old sink.old) (world_of script.new shelf.new sink.new) result }
     ensures words { (result ≡ 2) ↔ (are_words (map string_bytes words.now) ≡ false) }
-    ensures untouched { result ≡ 2 → (script.new ≡ script.old) × (shelf.new ≡ shelf.old) × (sink.new ≡ sink.old) }
-    ensures takes { S.tells → Takes (shown (S.faults script.old) (S.faults script.new) (H.faults shelf.old) (H.faults shelf.new) (K.faults sink.old) (K.faults sink.new) (H.refused shelf.new)) (S.left script.old) (S.left script.new) result }
-    ensures status3 { result ≡ 3 → Caused (shown (S.faults script.old) (S.faults script.new) (H.faults shelf.old) (H.faults shelf.new) (K.faults sink.old) (K.faults sink.new) (H.refused shelf.new)) }
-    ensures status4 { result ≡ 4 → Rose (K.faults sink.old) (K.faults sink.new) }
+    ensures untouched { result ≡ 2 → world_of script.new shelf.new sink.new ≡ world_of script.old shelf.old sink.old }
+    ensures takes { S.tells → TakesWith S.Source H.Shelf
+        (world_of script.old shelf.old sink.old) (world_of script.new shelf.new sink.new) result }
+    ensures says { S.tells → SaysWith K.Sink (S.left script.old) sink.old sink.new result }
+    ensures asked { S.tells → AsksInOrder H.Shelf (names_said (said (S.left script.old))) shelf.old shelf.new }
+    ensures unasked { result ≡ 5 → shelf.new ≡ shelf.old }
+    ensures status3 { result ≡ 3 → ReadCaused S.Source H.Shelf
+        (world_of script.old shelf.old sink.old) (world_of script.new shelf.new sink.new) }
+    ensures status4 { result ≡ 4 → SinkRose K.Sink sink.old sink.new }
+    ensures source_sound { result ≢ 3 → SourceSound S.Source script.old script.new }
+    ensures shelf_sound { result ≢ 3 → ShelfSound H.Shelf shelf.old shelf.new }
+    ensures sink_sound { result ≢ 4 → SinkSound K.Sink sink.old sink.new }
     ensures known { result ≤ 6 }
-    ensures complete { S.tells → H.tells → (outcome_of (map string_bytes words.now) (S.left script.old) (H.files shelf.old)).status ≡ 0
-        → NoFault (shown (S.faults script.old) (S.faults script.new) (H.faults shelf.old) (H.faults shelf.new) (K.faults sink.old) (K.faults sink.new) (H.refused shelf.new))
-        → IsComplete K.tells (outcome_of (map string_bytes words.now) (S.left script.old) (H.files shelf.old)) (K.taken sink.old) (K.taken sink.new) result }
+    ensures complete { S.tells → H.tells
+        → (run_outcome (map string_bytes words.now) (S.left script.old) (H.files shelf.old)).status ≡ Status.Done
+        → NoFault S.Source H.Shelf K.Sink (world_of script.old shelf.old sink.old) (world_of script.new shelf.new sink.new)
+        → IsCompleteWith K.Sink (run_outcome (map string_bytes words.now) (S.left script.old) (H.files shelf.old)) sink.old sink.new result }
 {
     if !words.is_empty() {
-        return 2;
+        return Status::BadWords.code();
     }
-    run_script(alloc, script, shelf, sink)
+    run_script(alloc, script, shelf, sink).code()
 }

@@ -1,9 +1,8 @@
-ghost use Rattle.std.specs.Prelude.{◌≡◌, ◌<◌, ◌≤◌, List, true, OnOk, OnErr};
-ghost use Rattle.ovl_io.specs.Outside.{Rose};
+ghost use Rattle.std.specs.Prelude.{◌≡◌, ◌<◌, ◌≤◌, true, OnOk, OnErr};
+ghost use Rattle.overlay_top.specs.Outside.{SinkRose, SinkSound};
 ghost use Rattle.overlay_top.specs.Sending.{IsSent, IsCut};
 ghost use Rattle.overlay_top.specs.Session.{after_turns};
 ghost use Rattle.overlay_top.specs.Report.{turn_text, turns_text, stop_of};
-ghost use Rattle.ovl_io.specs.Memory.{Access};
 ghost use Rattle.machine_core.specs.Machine.{is_running, turn_of, after_turn, turn_asked, after_asked};
 
 use crate::line::{Line, fault_line, stop_line, turn_line};
@@ -28,8 +27,8 @@ fn stop(machine: &Machine, p: u16) -> Stop
 #[inline(never)]
 fn answer_request(machine: &mut Machine, p: u16, line: &mut Line)
     requires { is_running machine.old p ≡ true }
-    ensures line { (accesses : List Access) → line.new.items ≡ turn_text p (turn_asked accesses machine.old p) }
-    ensures after { (accesses : List Access) → machine.new ≡ after_asked accesses machine.old p }
+    ensures line { line.new.items ≡ turn_text p (turn_asked machine.old p) }
+    ensures after { machine.new ≡ after_asked machine.old p }
 {
     turn_line(p, &machine.answer(p), line);
 }
@@ -59,8 +58,8 @@ pub(crate) fn take_turns<K: Sink>(
     ensures sent { K.tells → OnOk result (IsSent (K.taken sink.old) (turns_text p 0 turns machine.old) (K.taken sink.new)) }
     ensures cut { K.tells → OnErr result (IsCut (K.taken sink.old) (turns_text p 0 turns machine.old) (K.taken sink.new)) }
     ensures after { OnOk result (machine.new ≡ after_turns p turns machine.old) }
-    ensures cause { OnErr result (Rose (K.faults sink.old) (K.faults sink.new)) }
-    ensures counted { K.faults sink.old ≤ K.faults sink.new }
+    ensures cause { OnErr result (SinkRose K.Sink sink.old sink.new) }
+    ensures no_fault { OnOk result (SinkSound K.Sink sink.old sink.new) }
 {
     let mut taken: u32 = 0;
     'turns: while taken < turns {

@@ -1,7 +1,7 @@
 use Rattle.std.specs.Prelude.{ℕ, ◌+◌, ◌-◌, ◌^◌, ◌==◌, min, Bool, List, [], ◌∷◌, Option, None, Some, if◌then◌else◌, nat_eq}
 use Rattle.std.specs.List.{list_any}
 use lib.Pointwise.{pointwise}
-use Rattle.ovl_io.specs.Outside.{Refused}
+use Rattle.ovl_io.specs.Outside.{FetchRefused}
 
 -- The forms in memory, as contracts see them.
 
@@ -26,7 +26,7 @@ pub record ShelfInMemory : Type 0 where
   pub fails : List ℕ
   pub calls : ℕ
   pub faults : ℕ
-  pub refused : Option Refused
+  pub refused : Option FetchRefused
 
 -- A sink: the bytes that it took, for how many it has room in all, the most that a call takes, the
 -- numbers of the calls that fail, and how many calls and faults there were.
@@ -51,9 +51,9 @@ abbrev pub one_fault_more : ℕ → ℕ
 one_fault_more faults = min (faults + 1) (2 ^ 64 - 1)
 
 -- the file of a name: that of the first pair with the name
-abbrev pub file_of : List (List ℕ × List ℕ) → List ℕ → Option (List ℕ)
-file_of [] name = None
-file_of (pair ∷ pairs) name = if pointwise nat_eq pair.0 name then Some pair.1 else file_of pairs name
+abbrev pub file_named : List (List ℕ × List ℕ) → List ℕ → Option (List ℕ)
+file_named [] name = None
+file_named (pair ∷ pairs) name = if pointwise nat_eq pair.0 name then Some pair.1 else file_named pairs name
 
 -- what is said of the bytes of an object that tells none
 abbrev pub untold : List ℕ
@@ -64,5 +64,5 @@ abbrev pub no_faults : ℕ
 no_faults = 0
 
 -- what a shelf that is never refused tells
-abbrev pub never_refused : Option Refused
+abbrev pub never_refused : Option FetchRefused
 never_refused = None

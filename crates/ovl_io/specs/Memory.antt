@@ -2,21 +2,22 @@ use Rattle.std.specs.Prelude.{ℕ, ◌+◌, ◌/◌, ◌%◌, suc, zero, Bool, f
 use Rattle.std.specs.Option.{option_map_or}
 use Rattle.std.specs.Ordering.{nat_cmp}
 use Rattle.std.specs.FinMap.{FinMap, get, insert}
+use Rattle.sizes.specs.declared.TheConstants.{PAGE_BYTES}
 use Rattle.ovl_io.specs.Permissions.{permits}
 
--- A page: what may be done with it, and its 4096 bytes.
+-- A page: what may be done with it, and its PAGE_BYTES bytes.
 pub record Page : Type 0 where
   pub perms : ℕ
   pub bytes : List ℕ
 
 -- A memory is a finite map from page numbers to pages. The byte at an address stands in the page of the
--- address divided by 4096, at the place of the rest. Addresses are whole numbers and don't wrap.
+-- address divided by PAGE_BYTES, at the place of the rest. Addresses are whole numbers and don't wrap.
 abbrev pub Memory : Type 0
 Memory = FinMap nat_cmp Page
 
 -- the byte at an address; 0 where its page isn't there
 abbrev pub byte_at : Memory → ℕ → ℕ
-byte_at memory address = option_map_or (λ page. slice_index page.bytes (address % 4096)) (get memory (address / 4096)) 0
+byte_at memory address = option_map_or (λ page. slice_index page.bytes (address % PAGE_BYTES)) (get memory (address / PAGE_BYTES)) 0
 
 -- so many bytes from an address on
 abbrev pub bytes_at : Memory → ℕ → ℕ → List ℕ
@@ -31,7 +32,7 @@ pub record Access : Type 0 where
 
 -- whether the byte at an address may be used so: its page is there and has the permission
 abbrev pub allows : Memory → ℕ → ℕ → Bool
-allows memory need address = option_map_or (λ page. permits page.perms need) (get memory (address / 4096)) false
+allows memory need address = option_map_or (λ page. permits page.perms need) (get memory (address / PAGE_BYTES)) false
 
 -- the least of so many addresses from one on that may not be used so
 abbrev pub first_denied : Memory → ℕ → ℕ → ℕ → Option ℕ
@@ -50,7 +51,7 @@ with_page_byte place value page = record { perms = page.perms; bytes = slice_set
 -- the memory after a byte was stored at an address; as it was where the page isn't there
 abbrev pub with_byte : Memory → ℕ → ℕ → Memory
 with_byte memory address value =
-    option_map_or (λ page. insert memory (address / 4096) (with_page_byte (address % 4096) value page)) (get memory (address / 4096)) memory
+    option_map_or (λ page. insert memory (address / PAGE_BYTES) (with_page_byte (address % PAGE_BYTES) value page)) (get memory (address / PAGE_BYTES)) memory
 
 -- the memory after bytes were stored from an address on, one by one
 abbrev pub with_bytes : Memory → ℕ → List ℕ → Memory

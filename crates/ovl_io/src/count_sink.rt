@@ -1,4 +1,4 @@
-ghost use Rattle.std.specs.Prelude.{◌≡◌, ℕ, ◌+◌, ◌-◌, ◌^◌, ◌<◌, ◌≤◌, ◌++◌, take, min, length, IfOk, IsOk, OnErr};
+ghost use Rattle.std.specs.Prelude.{◌≡◌, ℕ, ◌+◌, ◌-◌, ◌^◌, ◌<◌, ◌≤◌, ◌++◌, take, min, length, IfOk, IsOk, OnErr, OnOk};
 ghost use Rattle.ovl_io.specs.Outside.{Rose};
 ghost use Rattle.ovl_io.specs.Forms.{no_faults, untold};
 
@@ -50,6 +50,7 @@ impl Sink for CountSink {
         ensures taken { ⊥ → IfOk result (λ n. untold ≡ untold ++ take n piece.now) }
         ensures kept { ⊥ → OnErr result (untold ≡ untold) }
         ensures cause { OnErr result (Rose no_faults no_faults) }
+        ensures no_fault { OnOk result (no_faults ≡ no_faults) }
         ensures counted { no_faults ≤ no_faults }
 
         // It always takes the whole piece.

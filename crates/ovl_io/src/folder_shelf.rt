@@ -1,12 +1,14 @@
-ghost use Rattle.std.specs.Prelude.{◌≡◌, ◌≢◌, ◌≤◌, Err, IfOk, None, vec_len};
+ghost use Rattle.std.specs.Prelude.{◌≡◌, ◌≢◌, ◌≤◌, Err, IfOk, IfSome, None, vec_len};
 ghost use Rattle.std.specs.Option.{option_copied};
 ghost use Rattle.std.specs.Str.{IsUtf8};
-ghost use Rattle.ovl_io.specs.Outside.{Rose, HasName, refusal_of, most_bytes};
+ghost use Rattle.ovl_io.specs.Outside.{Rose, HasName, fetch_refused_by};
 ghost use Rattle.ovl_io.specs.Forms.{one_fault_more};
 ghost use Rattle.ovl_io.specs.declared.shelf.ShelfError.TheVariants.{Failed, Missing};
-ghost use Rattle.ovl_io.specs.Adapters.{fetch_faults, fetch_refused};
+ghost use Rattle.ovl_io.specs.Adapters.{IsReadWhole, fetch_faults, fetch_refused, opening_answer, reading_answer};
+ghost use Rattle.sizes.specs.declared.TheConstants.{MOST_FILE_BYTES};
 
-use crate::shelf::{MOST_BYTES, Refusal, Shelf, ShelfError};
+use crate::shelf::{Refusal, Shelf, ShelfError};
+use sizes::MOST_FILE_BYTES;
 use std::alloc::Global;
 use std::fs::File;
 use std::io::{ErrorKind, Read};
@@ -35,8 +37,10 @@ impl<R> FolderShelf<R> {
     }
 }
 
-/// What a failure of the system says of a file.
-fn reason(kind: ErrorKind) -> ShelfError {
+/// What a failure to open a file says of it.
+fn opening(kind: ErrorKind) -> ShelfError
+    ensures { result ≡ opening_answer kind }
+{
     match kind {
         ErrorKind::NotFound => ShelfError::Missing,
         ErrorKind::OutOfMemory => ShelfError::Memory,
@@ -44,28 +48,46 @@ fn reason(kind: ErrorKind) -> ShelfError {
     }
 }
 
-/// The whole file of a name that is text.
-fn read_file<R: Files>(rt: &R, alloc: Global, name: &str) -> Result<Vec<u8>, ShelfError>
-    ensures { IfOk result (λ file. vec_len file ≤ most_bytes) }
+/// What a failure to read an open file says of it.
+fn reading(kind: ErrorKind) -> ShelfError
+    ensures { result ≡ reading_answer kind }
 {
-    let mut file = match File::open(rt, name) {
-        Ok(file) => file,
-        Err(error) => return Err(reason(error.kind())),
-    };
+    match kind {
+        ErrorKind::OutOfMemory => ShelfError::Memory,
+        _ => ShelfError::Failed,
+    }
+}
+
+/// All that a reader has left, of at most 16 MiB. Reads one byte more, to see that there is none.
+fn read_whole<R: Read + Drop>(alloc: Global, reader: R) -> Result<Vec<u8>, ShelfError>
+    ensures small { IfOk result (λ file. vec_len file ≤ MOST_FILE_BYTES) }
+    ensures whole { IfSome (R.remaining reader) (λ bytes. IsReadWhole (λ file. file.items) bytes result) }
+    ensures there { result ≢ Err Missing }
+{
     let mut bytes = Vec::new(alloc);
-    match (&mut file)
-        .take(MOST_BYTES as u64 + 1)
+    match reader
+        .take(MOST_FILE_BYTES as u64 + 1)
         .read_to_end(&mut bytes)
     {
-        Ok(_) if bytes.len() <= MOST_BYTES => Ok(bytes),
+        Ok(_) if bytes.len() <= MOST_FILE_BYTES => Ok(bytes),
         Ok(_) => Err(ShelfError::TooLong),
-        Err(error) => Err(reason(error.kind())),
+        Err(error) => Err(reading(error.kind())),
+    }
+}
+
+/// The whole file of a name that is text.
+fn read_file<R: Files>(rt: &R, alloc: Global, name: &str) -> Result<Vec<u8>, ShelfError>
+    ensures { IfOk result (λ file. vec_len file ≤ MOST_FILE_BYTES) }
+{
+    match File::open(rt, name) {
+        Ok(file) => read_whole(alloc, file),
+        Err(error) => Err(opening(error.kind())),
     }
 }
 
 impl<R: Files> FolderShelf<R> {
     fn read_named(&self, alloc: Global, name: &[u8]) -> Result<Vec<u8>, ShelfError>
-        ensures small { IfOk result (λ file. vec_len file ≤ most_bytes) }
+        ensures small { IfOk result (λ file. vec_len file ≤ MOST_FILE_BYTES) }
         ensures text { ¬ (IsUtf8 name.now) → result ≡ Err Failed }
     {
         match str::from_utf8(name) {
@@ -84,17 +106,19 @@ impl<R: Files> Shelf for FolderShelf<R> {
 
     ghost refused = { λ s. fetch_refused s };
 
+    ghost fetched = { λ old _ new. fetch_faults old ≤ fetch_faults new };
+
     fn fetch(&mut self, alloc: Global, name: &[u8]) -> Result<Vec<u8>, ShelfError>
         requires { HasName name.now }
-        ensures small { IfOk result (λ file. vec_len file ≤ most_bytes) }
+        ensures small { IfOk result (λ file. vec_len file ≤ MOST_FILE_BYTES) }
         ensures cause { result ≡ Err Failed → Rose (fetch_faults self.old) (fetch_faults self.new) }
-        ensures missing { result ≡ Err Missing → fetch_faults self.new ≡ fetch_faults self.old }
-        ensures counted { fetch_faults self.old ≤ fetch_faults self.new }
-        ensures refused { fetch_refused self.new ≡ refusal_of name.now result }
-
-        // Just a failed fetch is a fault, and a name that isn't text fails.
-        ensures faults { result ≡ Err Failed → fetch_faults self.new ≡ one_fault_more (fetch_faults self.old) }
         ensures no_fault { result ≢ Err Failed → fetch_faults self.new ≡ fetch_faults self.old }
+        ensures counted { fetch_faults self.old ≤ fetch_faults self.new }
+        ensures refused { fetch_refused self.new ≡ fetch_refused_by name.now result }
+        ensures fetched { fetch_faults self.old ≤ fetch_faults self.new }
+
+        // A failed answer is one fault more, and a name that isn't text fails.
+        ensures faults { result ≡ Err Failed → fetch_faults self.new ≡ one_fault_more (fetch_faults self.old) }
         ensures text { ¬ (IsUtf8 name.now) → result ≡ Err Failed }
     {
         let outcome = self.read_named(alloc, name);

@@ -1,7 +1,8 @@
 ghost use Rattle.std.specs.Prelude.{◌≡◌, ◌≢◌, ℕ, ◌≤◌, List, Option, length, IfOk, IsTrue, vec_len};
 ghost use Rattle.std.specs.Option.{option_copied};
-ghost use Rattle.ovl_io.specs.Outside.{Rose, HasName, Answers, refusal_of, most_bytes};
-ghost use Rattle.ovl_io.specs.Forms.{is_among, one_call_more, one_fault_more, file_of, never_refused};
+ghost use Rattle.ovl_io.specs.Outside.{Rose, HasName, IsFetched, fetch_refused_by};
+ghost use Rattle.ovl_io.specs.Forms.{is_among, one_call_more, one_fault_more, file_named, never_refused};
+ghost use Rattle.sizes.specs.declared.TheConstants.{MOST_FILE_BYTES};
 ghost use Rattle.ovl_io.specs.declared.shelf.ShelfError.TheVariants.{Failed, Missing};
 
 use crate::bytes::Bytes;
@@ -55,7 +56,7 @@ impl MemoryShelf {
 
 /// The file of a name.
 fn find<'a>(files: &'a [(Bytes, Bytes)], name: &[u8]) -> Option<&'a Bytes>
-    ensures { option_copied result ≡ file_of files.now name.now }
+    ensures { option_copied result ≡ file_named files.now name.now }
 {
     for (known, file) in files {
         if known.as_slice() == name {
@@ -68,28 +69,29 @@ fn find<'a>(files: &'a [(Bytes, Bytes)], name: &[u8]) -> Option<&'a Bytes>
 impl Shelf for MemoryShelf {
     ghost tells = { Unit {0} };
 
-    ghost files = { λ s name. file_of s.files name };
+    ghost files = { λ s name. file_named s.files name };
 
     ghost faults = { λ s. s.faults };
 
     ghost refused = { λ s. s.refused };
 
+    ghost fetched = { λ old _ new. new.calls ≡ one_call_more old.calls };
+
     fn fetch(&mut self, alloc: Global, name: &[u8]) -> Result<Vec<u8>, ShelfError>
         requires { HasName name.now }
-        ensures answer { Unit {0} → Answers (λ file. file.items) (file_of self.old.files name.now) result }
-        ensures small { IfOk result (λ file. vec_len file ≤ most_bytes) }
-        ensures kept { Unit {0} → (other : List ℕ) → file_of self.new.files other ≡ file_of self.old.files other }
+        ensures answer { Unit {0} → IsFetched (λ file. file.items) (file_named self.old.files name.now) result }
+        ensures small { IfOk result (λ file. vec_len file ≤ MOST_FILE_BYTES) }
+        ensures kept { Unit {0} → (other : List ℕ) → file_named self.new.files other ≡ file_named self.old.files other }
         ensures cause { result ≡ Err Failed → Rose self.old.faults self.new.faults }
-        ensures missing { result ≡ Err Missing → self.new.faults ≡ self.old.faults }
+        ensures no_fault { result ≢ Err Failed → self.new.faults ≡ self.old.faults }
         ensures counted { self.old.faults ≤ self.new.faults }
-        ensures refused { self.new.refused ≡ refusal_of name.now result }
+        ensures refused { self.new.refused ≡ fetch_refused_by name.now result }
+        ensures fetched { self.new.calls ≡ one_call_more self.old.calls }
 
         // A fetch fails exactly where its number is among those that fail.
         ensures listed { IsTrue (is_among self.old.fails self.old.calls) → result ≡ Err Failed }
         ensures fails { result ≡ Err Failed → IsTrue (is_among self.old.fails self.old.calls) }
-        ensures calls { self.new.calls ≡ one_call_more self.old.calls }
         ensures faults { result ≡ Err Failed → self.new.faults ≡ one_fault_more self.old.faults }
-        ensures no_fault { result ≢ Err Failed → self.new.faults ≡ self.old.faults }
         ensures settings { (self.new.files ≡ self.old.files) × (self.new.fails ≡ self.old.fails) }
     {
         let call = self.calls;

@@ -90,6 +90,7 @@ impl Sink for MemorySink {
         ensures taken { Unit {0} → IfOk result (λ n. self.new.taken ≡ self.old.taken ++ take n piece.now) }
         ensures kept { Unit {0} → OnErr result (self.new.taken ≡ self.old.taken) }
         ensures cause { OnErr result (Rose self.old.faults self.new.faults) }
+        ensures no_fault { OnOk result (self.new.faults ≡ self.old.faults) }
         ensures counted { self.old.faults ≤ self.new.faults }
 
         // A call fails exactly where its number is among those that fail, or the piece isn't empty and
@@ -100,7 +101,6 @@ impl Sink for MemorySink {
             ⊎ ((0 < length piece.now) × (self.old.room ≤ length self.old.taken))) }
         ensures calls { self.new.calls ≡ one_call_more self.old.calls }
         ensures faults { OnErr result (self.new.faults ≡ one_fault_more self.old.faults) }
-        ensures no_fault { OnOk result (self.new.faults ≡ self.old.faults) }
         ensures settings { (self.new.room ≡ self.old.room) × (self.new.most ≡ self.old.most) × (self.new.fails ≡ self.old.fails) }
         // Else it takes as much as the piece has, as fits and as one call may take.
         ensures amount { IfOk result (λ n.

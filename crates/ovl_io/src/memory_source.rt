@@ -67,13 +67,13 @@ impl Source for MemorySource {
         ensures ended { Unit {0} → 0 < length into.old → IfOk result (λ n. (n ≡ 0) ↔ (self.old.left ≡ [])) }
         ensures kept { Unit {0} → OnErr result (self.new.left ≡ self.old.left) }
         ensures cause { OnErr result (Rose self.old.faults self.new.faults) }
+        ensures no_fault { OnOk result (self.new.faults ≡ self.old.faults) }
         ensures counted { self.old.faults ≤ self.new.faults }
 
         // A call fails exactly where its number is among those that fail.
         ensures fails { IsErr result ↔ IsTrue (is_among self.old.fails self.old.calls) }
         ensures calls { self.new.calls ≡ one_call_more self.old.calls }
         ensures faults { OnErr result (self.new.faults ≡ one_fault_more self.old.faults) }
-        ensures no_fault { OnOk result (self.new.faults ≡ self.old.faults) }
         ensures settings { (self.new.most ≡ self.old.most) × (self.new.fails ≡ self.old.fails) }
         // Else it gives as much as there is, as fits and as one call may give.
         ensures amount { IfOk result (λ n.

@@ -32,11 +32,11 @@ impl<R: Read> Source for ReaderSource<R> {
     fn read(&mut self, into: &mut [u8]) -> Result<usize, Failed>
         ensures within { IfOk result (λ n. n ≤ length into.old) }
         ensures cause { OnErr result (Rose (read_faults self.old) (read_faults self.new)) }
+        ensures no_fault { OnOk result (read_faults self.new ≡ read_faults self.old) }
         ensures counted { read_faults self.old ≤ read_faults self.new }
 
-        // Just a failed read is a fault, and where the reader's bytes are known it gives those.
+        // A failed answer is one fault more, and where the reader's bytes are known it gives those.
         ensures faults { OnErr result (read_faults self.new ≡ one_fault_more (read_faults self.old)) }
-        ensures no_fault { OnOk result (read_faults self.new ≡ read_faults self.old) }
         ensures bytes { ReadConsumes (R.remaining (reader_of self.old)) (R.remaining (reader_of self.new)) result into.new }
     {
         match self.reader.read(into) {

@@ -1,14 +1,13 @@
 ghost use Rattle.std.specs.Prelude.{◌≡◌, ◌≢◌, ℕ, ◌≤◌, List, Option, length, IfOk, OnErr, vec_len};
 ghost use Rattle.std.specs.Option.{option_copied};
-ghost use Rattle.ovl_io.specs.Outside.{Rose, HasName, Answers, Refused, refusal_of, most_bytes};
+ghost use Rattle.ovl_io.specs.Outside.{Rose, HasName, IsFetched, FetchRefused, fetch_refused_by};
 ghost use Rattle.ovl_io.specs.declared.shelf.ShelfError.TheVariants.{Failed, Missing};
+ghost use Rattle.sizes.specs.declared.TheConstants.{MOST_FILE_BYTES, MOST_FILE_NAME};
 
 use arrayvec::ArrayVec;
+use sizes::{MOST_FILE_BYTES, MOST_FILE_NAME};
 use std::alloc::Global;
 use std::marker::Model;
-
-/// The most bytes that a file may have: 16 MiB.
-pub const MOST_BYTES: usize = 16_777_216;
 
 /// Why a file wasn't given.
 #[derive(Clone, Copy, Debug, PartialEq, Eq)]
@@ -23,24 +22,24 @@ pub enum ShelfError {
     Memory,
 }
 
-/// What a shelf's last fetch was refused: the name, and the answer.
+/// What a shelf's last fetch was refused: the name, and the answer, which is `Failed` or `Missing`.
 #[derive(Debug, Drop)]
 pub struct Refusal {
-    name: ArrayVec<u8, 255>,
+    name: ArrayVec<u8, MOST_FILE_NAME>,
     answer: ShelfError,
 }
 
 impl Model for Refusal {
-    ghost use Rattle.ovl_io.specs.Outside.{Refused};
+    ghost use Rattle.ovl_io.specs.Outside.{FetchRefused};
 
-    ghost Value = { Refused };
+    ghost Value = { FetchRefused };
 
     ghost view = { λ r. record { name = r.name.items; answer = r.answer } };
 }
 
 impl Refusal {
     pub(crate) fn new(name: &[u8], answer: ShelfError) -> Refusal
-        requires { length name.now ≤ 255 }
+        requires { length name.now ≤ MOST_FILE_NAME }
         ensures { result ≡ record { name = name.now; answer = answer } }
     {
         let mut kept = ArrayVec::new();
@@ -75,18 +74,23 @@ pub trait Shelf {
     ghost faults: { Self → ℕ };
 
     /// The name and the answer of the last fetch, where that answered `Failed` or `Missing`.
-    ghost refused: { Self → Option Refused };
+    ghost refused: { Self → Option FetchRefused };
+
+    /// What a fetch of a name makes of the shelf: from it to what it is afterwards. It holds of the calls
+    /// that were made and, as far as a caller over any shelf can show, of nothing else.
+    ghost fetched: { Self → List ℕ → Self → Type 0 };
 
     /// The whole file of a name of 1 to 255 bytes. The files stay as they are.
     fn fetch(&mut self, alloc: Global, name: &[u8]) -> Result<Vec<u8>, ShelfError>
         requires { HasName name.now }
-        ensures answer { tells → Answers (λ file. file.items) (files self.old name.now) result }
-        ensures small { IfOk result (λ file. vec_len file ≤ most_bytes) }
+        ensures answer { tells → IsFetched (λ file. file.items) (files self.old name.now) result }
+        ensures small { IfOk result (λ file. vec_len file ≤ MOST_FILE_BYTES) }
         ensures kept { tells → (other : List ℕ) → files self.new other ≡ files self.old other }
         ensures cause { result ≡ Err Failed → Rose (faults self.old) (faults self.new) }
-        ensures missing { result ≡ Err Missing → faults self.new ≡ faults self.old }
+        ensures no_fault { result ≢ Err Failed → faults self.new ≡ faults self.old }
         ensures counted { faults self.old ≤ faults self.new }
-        ensures refused { refused self.new ≡ refusal_of name.now result };
+        ensures refused { refused self.new ≡ fetch_refused_by name.now result }
+        ensures fetched { fetched self.old name.now self.new };
 
     /// What the last fetch was refused, if it failed or found no file.
     fn refused(&self) -> Option<&Refusal>
@@ -95,12 +99,12 @@ pub trait Shelf {
 
 /// A copy of a file that a shelf in memory has.
 pub(crate) fn copy_of(alloc: Global, file: &[u8]) -> Result<Vec<u8>, ShelfError>
-    ensures answer { Answers (λ copy. copy.items) (Some file.now) result }
-    ensures small { IfOk result (λ file. vec_len file ≤ most_bytes) }
+    ensures answer { IsFetched (λ copy. copy.items) (Some file.now) result }
+    ensures small { IfOk result (λ file. vec_len file ≤ MOST_FILE_BYTES) }
     ensures not_failed { result ≢ Err Failed }
     ensures not_missing { result ≢ Err Missing }
 {
-    if file.len() > MOST_BYTES {
+    if file.len() > MOST_FILE_BYTES {
         return Err(ShelfError::TooLong);
     }
     match Vec::from_slice(alloc, file) {

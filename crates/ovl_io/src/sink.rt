@@ -1,4 +1,4 @@
-ghost use Rattle.std.specs.Prelude.{◌≡◌, ℕ, ◌<◌, ◌≤◌, List, ◌++◌, take, length, IfOk, OnErr};
+ghost use Rattle.std.specs.Prelude.{◌≡◌, ℕ, ◌<◌, ◌≤◌, List, ◌++◌, take, length, IfOk, OnErr, OnOk};
 ghost use Rattle.ovl_io.specs.Outside.{Rose};
 
 use crate::source::Failed;
@@ -22,5 +22,6 @@ pub trait Sink {
         ensures taken { tells → IfOk result (λ n. taken self.new ≡ taken self.old ++ take n piece.now) }
         ensures kept { tells → OnErr result (taken self.new ≡ taken self.old) }
         ensures cause { OnErr result (Rose (faults self.old) (faults self.new)) }
+        ensures no_fault { OnOk result (faults self.new ≡ faults self.old) }
         ensures counted { faults self.old ≤ faults self.new };
 }

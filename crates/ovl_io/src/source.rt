@@ -1,4 +1,4 @@
-ghost use Rattle.std.specs.Prelude.{◌≡◌, ◌↔◌, ℕ, ◌<◌, ◌≤◌, List, [], ◌++◌, take, length, IfOk, OnErr};
+ghost use Rattle.std.specs.Prelude.{◌≡◌, ◌↔◌, ℕ, ◌<◌, ◌≤◌, List, [], ◌++◌, take, length, IfOk, OnErr, OnOk};
 ghost use Rattle.ovl_io.specs.Outside.{Rose};
 
 /// A read or a write failed.
@@ -24,5 +24,6 @@ pub trait Source {
         ensures ended { tells → 0 < length into.old → IfOk result (λ n. (n ≡ 0) ↔ (left self.old ≡ [])) }
         ensures kept { tells → OnErr result (left self.new ≡ left self.old) }
         ensures cause { OnErr result (Rose (faults self.old) (faults self.new)) }
+        ensures no_fault { OnOk result (faults self.new ≡ faults self.old) }
         ensures counted { faults self.old ≤ faults self.new };
 }

@@ -1,4 +1,4 @@
-ghost use Rattle.std.specs.Prelude.{◌≡◌, ◌↔◌, ℕ, ◌<◌, ◌≤◌, List, [], ◌++◌, take, drop, min, length, IfOk, IsOk, OnErr};
+ghost use Rattle.std.specs.Prelude.{◌≡◌, ◌↔◌, ℕ, ◌<◌, ◌≤◌, List, [], ◌++◌, take, drop, min, length, IfOk, IsOk, OnErr, OnOk};
 ghost use Rattle.ovl_io.specs.Outside.{Rose};
 ghost use Rattle.ovl_io.specs.Forms.{no_faults};
 
@@ -54,6 +54,7 @@ impl Source for SureSource {
         ensures ended { Unit {0} → 0 < length into.old → IfOk result (λ n. (n ≡ 0) ↔ (self.old.left ≡ [])) }
         ensures kept { Unit {0} → OnErr result (self.new.left ≡ self.old.left) }
         ensures cause { OnErr result (Rose no_faults no_faults) }
+        ensures no_fault { OnOk result (no_faults ≡ no_faults) }
         ensures counted { no_faults ≤ no_faults }
 
         // It always answers, and gives as much as there is, as fits and as one call may give.

@@ -2,13 +2,14 @@ ghost use Rattle.std.specs.Prelude.{◌≡◌, List, ℕ};
 
 use crate::FaultKind;
 use arrayvec::ArrayVec;
+use sizes::MOST_WRITTEN;
 use std::marker::Model;
 
-/// What a process wrote in one turn: to which port (1 is its output, 2 its errors), and up to 4096 bytes.
+/// What a process wrote in one turn: to which port (1 is its output, 2 its errors), and up to `MOST_WRITTEN` bytes.
 #[derive(Debug, Drop)]
 pub struct Written {
     pub port: u8,
-    pub bytes: ArrayVec<u8, 4096>,
+    pub bytes: ArrayVec<u8, MOST_WRITTEN>,
 }
 
 impl Model for Written {

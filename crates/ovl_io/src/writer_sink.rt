@@ -34,11 +34,11 @@ impl<W: Write> Sink for WriterSink<W> {
         ensures within { IfOk result (λ n. n ≤ length piece.now) }
         ensures moves { 0 < length piece.now → IfOk result (λ n. 0 < n) }
         ensures cause { OnErr result (Rose (write_faults self.old) (write_faults self.new)) }
+        ensures no_fault { OnOk result (write_faults self.new ≡ write_faults self.old) }
         ensures counted { write_faults self.old ≤ write_faults self.new }
 
-        // Just a failed write is a fault, and where the writer's bytes are known it gets those.
+        // A failed answer is one fault more, and where the writer's bytes are known it gets those.
         ensures faults { OnErr result (write_faults self.new ≡ one_fault_more (write_faults self.old)) }
-        ensures no_fault { OnOk result (write_faults self.new ≡ write_faults self.old) }
         ensures bytes { WriteAppends (W.contents (writer_of self.old)) (W.contents (writer_of self.new)) result piece.now }
     {
         match self.writer.write(piece) {

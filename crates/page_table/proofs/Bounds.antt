@@ -5,8 +5,8 @@ use Rattle.std.specs.Cmp.{nat_cmp_total, unsigned_tied}
 use Rattle.std.specs.FinMap.{get, insert, len, empty, get-empty, get-insert, len-empty, len-insert}
 use Rattle.std.proofs.lemmas.Bool.{eqb-true}
 use Rattle.page_table.specs.declared.entry.PageEntry.{PageEntry}
-use Rattle.page_table.specs.Table.{Pages, IsThere}
-use Rattle.page_table.specs.Kept.{pages_of, IsBounded}
+use Rattle.page_table.specs.Table.{Pages, AreThere}
+use Rattle.page_table.specs.Kept.{table_pages, IsBounded}
 use Rattle.page_table.proofs.Runs.{within_last}
 
 -- How many pages there are, and how far they go.
@@ -18,8 +18,8 @@ bounded_empty = record { few = subst (λ n. n < 2 ^ 32) (sym (len-empty nat_cmp 
     no_page q h = let none = ap is_some (get-empty {X = PageEntry} nat_cmp q) in cc
 
 -- no entries
-pub bounded_none : (kept : List (ℕ × PageEntry)) → kept ≡ [] → IsBounded (pages_of kept)
-bounded_none kept e = subst (λ es. IsBounded (pages_of es)) (sym e) bounded_empty
+pub bounded_none : (kept : List (ℕ × PageEntry)) → kept ≡ [] → IsBounded (table_pages kept)
+bounded_none kept e = subst (λ es. IsBounded (table_pages es)) (sym e) bounded_empty
 
 -- another entry at a page that is there
 pub bounded_set : (pages : Pages) (k : ℕ) (x : PageEntry) → IsBounded pages → IsSome (get pages k) → IsBounded (insert pages k x)
@@ -33,7 +33,7 @@ bounded_set pages k x bounded there =
         bounded.low q (ap is_some (sym (get-insert nat_cmp_total pages k x q ∙ ap (λ (b : Bool). cond b (Some x) (get pages q)) e)) ∙ h)
 
 -- a run of pages that are there does not wrap
-pub there_fits : (pages : Pages) (from n : ℕ) → IsBounded pages → IsThere pages from n → from < 2 ^ 64 → from + n < 2 ^ 64
+pub there_fits : (pages : Pages) (from n : ℕ) → IsBounded pages → AreThere pages from n → from < 2 ^ 64 → from + n < 2 ^ 64
 there_fits pages from zero bounded there low = omega (arith, low)
 there_fits pages from (suc n) bounded there low =
     let last : from + n < 2 ^ 36 = bounded.low (from + n) (there (from + n) (within_last from (suc n) n (omega arith))) in

@@ -11,7 +11,7 @@ use Rattle.std.specs.declared.ops.Bound.TheVariants.{Included, Unbounded}
 use Rattle.std.proofs.lemmas.Map.Keys.{le_from_not_gt}
 use Rattle.page_table.specs.declared.entry.PageEntry.{PageEntry}
 use Rattle.page_table.specs.Table.{Pages, IsNext}
-use Rattle.page_table.specs.Kept.{pages_of}
+use Rattle.page_table.specs.Kept.{table_pages}
 use Rattle.page_table.proofs.Entries.{got}
 
 -- What stands first among the entries from a page on.
@@ -42,7 +42,7 @@ least page m r rest found entry h e q from before (Some x) is =
     absurd (omega arith)
 
 -- the first is the next
-pub next_is : (pages : Pages) (m : BTreeMap ℕ PageEntry) (r rest : List (ℕ × PageEntry)) (page found : ℕ) (entry : PageEntry) → pages_of m.entries ≡ pages
+pub next_is : (pages : Pages) (m : BTreeMap ℕ PageEntry) (r rest : List (ℕ × PageEntry)) (page found : ℕ) (entry : PageEntry) → table_pages m.entries ≡ pages
     → IsRangeOf nat_cmp (Included page) Unbounded m r → r ≡ (found, entry) ∷ rest → IsNext pages page (Some (found, entry))
 unfolding IsFrom
 next_is pages m r rest page found entry same h e =
@@ -53,6 +53,6 @@ next_is pages m r rest page found entry same h e =
     )
 
 -- no first, no next
-pub no_next : (pages : Pages) (m : BTreeMap ℕ PageEntry) (r : List (ℕ × PageEntry)) (page : ℕ) → pages_of m.entries ≡ pages
+pub no_next : (pages : Pages) (m : BTreeMap ℕ PageEntry) (r : List (ℕ × PageEntry)) (page : ℕ) → table_pages m.entries ≡ pages
     → IsRangeOf nat_cmp (Included page) Unbounded m r → r ≡ [] → IsNext pages page None
 no_next pages m r page same h e q from = sym (got pages m.entries q _ same refl) ∙ h.5 e q (not_gt page q from, tt)

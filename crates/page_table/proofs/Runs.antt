@@ -5,7 +5,7 @@ use Rattle.std.specs.Ordering.{nat_cmp}
 use Rattle.std.specs.Cmp.{nat_cmp_total, unsigned_tied}
 use Rattle.std.specs.FinMap.{get, insert, remove, len, get-insert, get-remove, len-insert, len-remove, empty_of_len, get-empty, same_map, nat_cmp-IsAntisymmetric}
 use Rattle.page_table.specs.declared.entry.PageEntry.{PageEntry}
-use Rattle.page_table.specs.Table.{Pages, is_within, IsFree, IsThere, IsMapped, IsUnmapped}
+use Rattle.page_table.specs.Table.{Pages, is_within, IsFree, AreThere, IsMapped, IsUnmapped}
 use Rattle.page_table.specs.Laws.{mapped_beside, unmapped_beside, unmapped_free}
 
 -- What is mapped and unmapped page by page.
@@ -72,7 +72,7 @@ some_counts pages page some = at (len pages) refl
     at (suc n) e = omega arith
 
 -- or one page fewer
-pub counted_fewer : (old mid new : Pages) (from n i : ℕ) → IsThere old from n → i < n → IsUnmapped old from i mid
+pub counted_fewer : (old mid new : Pages) (from n i : ℕ) → AreThere old from n → i < n → IsUnmapped old from i mid
     → new ≡ remove mid (from + i) → len mid + i ≡ len old → len new + (i + 1) ≡ len old
 counted_fewer old mid new from n i there lt so_far is count =
     let some : is_some (get mid (from + i)) ≡ true = ap is_some (unmapped_next old mid from i so_far) ∙ there (from + i) (within_last from n i lt) in

@@ -18,8 +18,8 @@ abbrev pub IsFree : Pages → ℕ → ℕ → Type 0
 IsFree pages from n = (page : ℕ) → IsTrue (is_within from n page) → get pages page ≡ None
 
 -- all n pages from `from` on are there
-abbrev pub IsThere : Pages → ℕ → ℕ → Type 0
-IsThere pages from n = (page : ℕ) → IsTrue (is_within from n page) → IsSome (get pages page)
+abbrev pub AreThere : Pages → ℕ → ℕ → Type 0
+AreThere pages from n = (page : ℕ) → IsTrue (is_within from n page) → IsSome (get pages page)
 
 -- the n pages from `from` on have the entry, and every other page is as before
 abbrev pub IsMapped : Pages → ℕ → ℕ → PageEntry → Pages → Type 0

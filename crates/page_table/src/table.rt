@@ -1,7 +1,7 @@
 ghost use Rattle.std.specs.Prelude.{◌≡◌, ◌+◌, ◌^◌, ◌<◌, ◌≤◌, IfOk, IfSome, IsSome, OnOk, OnErr};
 ghost use Rattle.std.specs.FinMap as map;
-ghost use Rattle.page_table.specs.Table.{IsFree, IsThere, IsMapped, IsUnmapped, IsNext};
-ghost use Rattle.page_table.specs.Kept.{pages_of};
+ghost use Rattle.page_table.specs.Table.{IsFree, AreThere, IsMapped, IsUnmapped, IsNext};
+ghost use Rattle.page_table.specs.Kept.{AreMapped, AreUnmapped, count_kept, table_pages};
 
 use crate::entry::PageEntry;
 use ovl_io::Perms;
@@ -23,11 +23,11 @@ impl Model for PageTable {
 
     ghost coded = { pages_code };
 
-    ghost use Rattle.page_table.specs.Kept.{pages_of, IsBounded};
+    ghost use Rattle.page_table.specs.Kept.{table_pages, IsBounded};
 
-    ghost view = { λ t. pages_of t.pages.entries };
+    ghost view = { λ t. table_pages t.pages.entries };
 
-    ghost invariant = { λ t. IsBounded (pages_of t.pages.entries) };
+    ghost invariant = { λ t. IsBounded (table_pages t.pages.entries) };
 }
 
 impl PageTable {
@@ -53,7 +53,10 @@ impl PageTable {
         requires free { IsFree self.old from n }
         requires low { from + n ≤ 2 ^ 36 }
         requires few { map.len self.old + n < 2 ^ 32 }
-        ensures mapped { OnOk result (IsMapped self.old from n (record { perms = perms; frame = frame }) self.new) }
+        ensures mapped { OnOk result (IsMapped self.old from n
+            (record { perms = perms; frame = frame }) self.new) }
+        ensures one { n ≡ 1 → OnOk result (self.new
+            ≡ map.insert self.old from (record { perms = perms; frame = frame })) }
         ensures count { OnOk result (map.len self.new ≡ map.len self.old + n) }
         ensures kept { OnErr result (self.new ≡ self.old) }
     {
@@ -74,8 +77,9 @@ impl PageTable {
     /// Takes away the `n` pages from `from` on, which are all there. Takes no memory, and costs a look-up
     /// for each of the pages.
     pub fn unmap(&mut self, from: u64, n: u32)
-        requires { IsThere self.old from n }
+        requires { AreThere self.old from n }
         ensures unmapped { IsUnmapped self.old from n self.new }
+        ensures one { n ≡ 1 → self.new ≡ map.remove self.old from }
         ensures count { map.len self.new + n ≡ map.len self.old }
     {
         clear_pages(&mut self.pages, from, n);
@@ -124,10 +128,10 @@ fn fill_pages(
     entry: PageEntry,
 ) -> Result<(), AllocError>
     requires low { from + n ≤ 2 ^ 36 }
-    requires free { IsFree (pages_of pages.old.entries) from n }
-    ensures mapped { OnOk result (IsMapped (pages_of pages.old.entries) from n entry (pages_of pages.new.entries)) }
-    ensures count { OnOk result (map.len (pages_of pages.new.entries) ≡ map.len (pages_of pages.old.entries) + n) }
-    ensures kept { OnErr result (pages_of pages.new.entries ≡ pages_of pages.old.entries) }
+    requires free { IsFree (table_pages pages.old.entries) from n }
+    ensures mapped { OnOk result (AreMapped pages.old.entries from n entry pages.new.entries) }
+    ensures count { OnOk result (count_kept pages.new.entries ≡ count_kept pages.old.entries + n) }
+    ensures kept { OnErr result (table_pages pages.new.entries ≡ table_pages pages.old.entries) }
 {
     'filling: for i in 0..n {
         match pages.insert(from + u64::from(i), entry) {
@@ -144,9 +148,9 @@ fn fill_pages(
 // Takes away the n pages from `from` on.
 fn clear_pages(pages: &mut BTreeMap<u64, PageEntry>, from: u64, n: u32)
     requires fits { from + n < 2 ^ 64 }
-    requires there { IsThere (pages_of pages.old.entries) from n }
-    ensures unmapped { IsUnmapped (pages_of pages.old.entries) from n (pages_of pages.new.entries) }
-    ensures count { map.len (pages_of pages.new.entries) + n ≡ map.len (pages_of pages.old.entries) }
+    requires there { AreThere (table_pages pages.old.entries) from n }
+    ensures unmapped { AreUnmapped pages.old.entries from n pages.new.entries }
+    ensures count { count_kept pages.new.entries + n ≡ count_kept pages.old.entries }
 {
     'clearing: for i in 0..n {
         pages.remove(&(from + u64::from(i)));

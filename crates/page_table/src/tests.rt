@@ -1,5 +1,5 @@
 ghost use Rattle.std.specs.Prelude.{◌+◌, ◌^◌, ◌≤◌, IsTrue};
-ghost use Rattle.page_table.specs.Table.{IsFree, IsThere};
+ghost use Rattle.page_table.specs.Table.{IsFree, AreThere};
 
 use crate::{PageEntry, PageTable};
 use ovl_io::Perms;
@@ -34,7 +34,7 @@ fn is_free(table: &PageTable, from: u64, n: u32) -> bool
 // Whether all n pages from `from` on are there.
 fn is_there(table: &PageTable, from: u64, n: u32) -> bool
     requires { from + n ≤ 2 ^ 36 }
-    ensures { IsTrue result → IsThere table.now from n }
+    ensures { IsTrue result → AreThere table.now from n }
 {
     'asking: for i in 0..n {
         if table.get(from + u64::from(i)).is_none() {

@@ -9,7 +9,7 @@ use Rattle.std.proofs.lemmas.List.Sums.{AllPass-from_list_all, passes_at_first, 
 use Rattle.rv_decode.specs.declared.names.Name.{Name}
 use Rattle.rv_decode.specs.declared.rows.CaseRow.{CaseRow}
 use Rattle.rv_decode.specs.Table.{row_of, all_names, rv64i_rows}
-use Rattle.rv_decode.specs.Fits.{Fits, FitsAt, Finds, fits, IsWithinMask, AreApart}
+use Rattle.rv_decode.specs.Fits.{Fits, FitsAt, FindsRow, fits, IsWithinMask, AreApart}
 use Rattle.rv_decode.proofs.Listed.{all_names-contains}
 use Rattle.rv_decode.proofs.NoneFits.{known_bits}
 
@@ -95,7 +95,7 @@ one_name word a b fit_a fit_b =
     (one_place rv64i_rows rows_apart word ca.0 cb.0 (place_of_name word a fit_a) (place_of_name word b fit_b)) ca.2 cb.2
 
 -- a place that is found is the only one
-pub only_place : (rows : List CaseRow) → AllPairs AreApart rows → (word : ℕ) (o : Option ℕ) → Finds rows word o → (k : ℕ) → FitsAt rows word k → o ≡ Some k
+pub only_place : (rows : List CaseRow) → AllPairs AreApart rows → (word : ℕ) (o : Option ℕ) → FindsRow rows word o → (k : ℕ) → FitsAt rows word k → o ≡ Some k
 only_place rows apart word None none k fit = absurd (none k fit)
 only_place rows apart word (Some j) fit_j k fit = ap Some (one_place rows apart word j k fit_j fit)
 
@@ -109,14 +109,14 @@ no_place (r ∷ rs) word k past fit =
     eqb-false _ _ fails here.1
 
 -- the first place that passes the test is found
-Finds-cond : (rows : List CaseRow) (word n : ℕ) (b : Bool) → nat_lt n (length rows) ≡ b → n ≡ position_or_len (λ row. fits row word) rows → Finds rows word (cond b (Some n) None)
-Finds-cond [] word n true within e = absurd (omega (arith, ltb-true _ _ within))
-Finds-cond (r ∷ rs) word n true within e =
+FindsRow-cond : (rows : List CaseRow) (word n : ℕ) (b : Bool) → nat_lt n (length rows) ≡ b → n ≡ position_or_len (λ row. fits row word) rows → FindsRow rows word (cond b (Some n) None)
+FindsRow-cond [] word n true within e = absurd (omega (arith, ltb-true _ _ within))
+FindsRow-cond (r ∷ rs) word n true within e =
     let rows : List CaseRow = r ∷ rs in
     let inside : n < length rows = ltb-true _ _ within in
     let passes = passes_at_first (λ row. fits row word) rows r (subst (λ k. k < length rows) e inside) in
     place_of_fit rows word n r inside (subst (λ k. Fits (get_or rows k r) word) (sym e) (eqb-true _ _ passes))
-Finds-cond rows word n false past e = λ k fit. no_place rows word k (subst (λ m. length rows ≤ m) e (ltb-false _ _ past)) fit
+FindsRow-cond rows word n false past e = λ k fit. no_place rows word k (subst (λ m. length rows ≤ m) e (ltb-false _ _ past)) fit
 
-pub Finds-position : (rows : List CaseRow) (word : ℕ) → Finds rows word (position (λ row. fits row word) rows)
-Finds-position rows word = Finds-cond rows word (position_or_len (λ row. fits row word) rows) _ refl refl
+pub FindsRow-position : (rows : List CaseRow) (word : ℕ) → FindsRow rows word (position (λ row. fits row word) rows)
+FindsRow-position rows word = FindsRow-cond rows word (position_or_len (λ row. fits row word) rows) _ refl refl

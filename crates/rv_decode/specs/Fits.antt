@@ -15,9 +15,9 @@ abbrev pub FitsAt : List CaseRow → ℕ → ℕ → Type 0
 FitsAt rows word place = IsSomeAnd (slice_get rows place) (λ row. Fits row word)
 
 -- the place of a row that fits, or none where no row of the list fits
-abbrev pub Finds : List CaseRow → ℕ → Option ℕ → Type 0
-Finds rows word None = (place : ℕ) → ¬ FitsAt rows word place
-Finds rows word (Some place) = FitsAt rows word place
+abbrev pub FindsRow : List CaseRow → ℕ → Option ℕ → Type 0
+FindsRow rows word None = (place : ℕ) → ¬ FitsAt rows word place
+FindsRow rows word (Some place) = FitsAt rows word place
 
 -- the value has no bit outside the mask
 abbrev pub IsWithinMask : CaseRow → Type 0

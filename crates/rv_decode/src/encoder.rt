@@ -1,17 +1,19 @@
 //! The encoder: the word of an instruction.
 
 ghost use Rattle.std.specs.Prelude.{◌≡◌, ℕ, ◌-◌, ◌^◌, ◌<◌, ◌≤◌, Some};
-ghost use Rattle.rv_decode.specs.Meaning.{Means};
+ghost use Rattle.rv_decode.specs.Meaning.{Means, meaning};
 ghost use Rattle.rv_decode.specs.Encodable.{IsEncodable, IsSignedBelow, HasImmediate};
 ghost use Rattle.rv_decode.specs.Encoding.{bits_of, registers_of, immediate_of, store_bits, branch_bits, jump_bits};
 
 use crate::instruction::Instr;
 use crate::names::Format;
 
-/// The word of an instruction whose fields have a place in its format: the one word that means it.
+/// The word of an instruction whose fields have a place in its format: the one word that means it, which `decode` makes the
+/// instruction of again.
 pub fn encode(i: &Instr) -> u32
     requires { IsEncodable i.now }
     ensures meaning { Means result (Some i.now) }
+    ensures decoded { meaning result ≡ Some i.now }
     ensures only { (word : ℕ) → word < 2 ^ 32 → Means word (Some i.now) → result ≡ word }
 {
     let row = i.name.row();

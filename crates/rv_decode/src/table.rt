@@ -2,7 +2,7 @@
 
 ghost use Rattle.std.specs.Prelude.{◌≡◌, ℕ, Some, List, All, AllPairs, position};
 ghost use Rattle.rv_decode.specs.declared.rows.CaseRow.{CaseRow};
-ghost use Rattle.rv_decode.specs.Fits.{FitsAt, IsWithinMask, AreApart, IsCaseTable, Finds, fits};
+ghost use Rattle.rv_decode.specs.Fits.{FitsAt, IsWithinMask, AreApart, IsCaseTable, FindsRow, fits};
 
 use crate::rows::CaseRow;
 use std::marker::Model;
@@ -34,7 +34,7 @@ impl<const N: usize> CaseTable<N> {
 
     /// The place in the list of the one row that the word fits, if it fits any.
     pub fn find(&self, word: u32) -> Option<usize>
-        ensures place { Finds self.now word result }
+        ensures place { FindsRow self.now word result }
         ensures only { (k : ℕ) → FitsAt self.now word k → result ≡ Some k }
     {
         first_place(&self.rows, word)

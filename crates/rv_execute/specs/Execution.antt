@@ -21,20 +21,27 @@ use Rattle.rv_execute.specs.Calls.{Call, Fetch, Load, Store, fetch_at, load_at, 
 
 -- What one instruction does to registers and a whole memory. A request to the machine (ECALL) is left to whoever asked.
 
--- the registers and the memory afterwards, what came of it, and the calls of the memory, in order
+-- What comes of an instruction: it is done, it is a request to the machine, or it can't be done. That a store was refused for
+-- want of units is no part of it: that comes from the memory alone.
+pub data Upshot : Type 0 where
+  Steps : Upshot
+  Asks : Upshot
+  Faults : FaultKind → ℕ → Upshot
+
+-- the registers and the memory afterwards, what comes of it, and the calls of the memory, in order
 pub record Execution : Type 0 where
   pub registers : Registers
   pub memory : Memory
-  pub outcome : Outcome
+  pub upshot : Upshot
   pub calls : List Call
 
 -- an instruction that is done
 abbrev pub completed : Registers → Memory → List Call → Execution
-completed regs memory calls = record { registers = regs; memory = memory; outcome = Stepped; calls = calls }
+completed regs memory calls = record { registers = regs; memory = memory; upshot = Steps; calls = calls }
 
 -- one that can't be done leaves everything as it was
 abbrev pub fault : Registers → Memory → FaultKind → ℕ → List Call → Execution
-fault regs memory kind address calls = record { registers = regs; memory = memory; outcome = Fault kind address; calls = calls }
+fault regs memory kind address calls = record { registers = regs; memory = memory; upshot = Faults kind address; calls = calls }
 
 -- how many bytes
 abbrev pub count_of : Size → ℕ
@@ -50,28 +57,28 @@ signed Half n = cast_unsigned w64 (cast_signed w16 (n % 2 ^ 16))
 signed Word n = cast_unsigned w64 (cast_signed w32 (n % 2 ^ 32))
 signed Double n = n
 
--- the 64-bit number of a loaded one
+-- the 64-bit number of a load_effect one
 abbrev pub extended : Extension → Size → ℕ → ℕ
 extended Zero size n = n
 extended Sign size n = signed size n
 
 -- what a load answers, with the number that it gives
-abbrev pub Reads : Memory → ℕ → Size → Extension → Result ℕ Denied → Type 0
-Reads memory address size extension (Ok n) =
+abbrev pub ReadsNumber : Memory → ℕ → Size → Extension → Result ℕ Denied → Type 0
+ReadsNumber memory address size extension (Ok n) =
     (denied_at memory (load_at address (count_of size)) ≡ None)
     × (n ≡ extended extension size (little_number (count_of size) (bytes_at memory address (count_of size))))
-Reads memory address size extension (Err denied) = denied_at memory (load_at address (count_of size)) ≡ Some denied.address
+ReadsNumber memory address size extension (Err denied) = denied_at memory (load_at address (count_of size)) ≡ Some denied.address
 
 -- a load whose access fails there, or doesn't
-abbrev pub loaded : Option ℕ → ℕ → Size → Extension → ℕ → Registers → Memory → List Call → Execution
-loaded (Some at) address size extension rd regs memory calls = fault regs memory kind.Load at calls
-loaded None address size extension rd regs memory calls =
+abbrev pub load_effect : Option ℕ → ℕ → Size → Extension → ℕ → Registers → Memory → List Call → Execution
+load_effect (Some at) address size extension rd regs memory calls = fault regs memory kind.Load at calls
+load_effect None address size extension rd regs memory calls =
     completed (next (with_register regs rd (extended extension size (little_number (count_of size) (bytes_at memory address (count_of size)))))) memory calls
 
 -- a store of some bytes, likewise
-abbrev pub stored : Option ℕ → ℕ → List ℕ → Registers → Memory → List Call → Execution
-stored (Some at) address bytes regs memory calls = fault regs memory kind.Store at calls
-stored None address bytes regs memory calls = completed (next regs) (with_bytes memory address bytes) calls
+abbrev pub store_effect : Option ℕ → ℕ → List ℕ → Registers → Memory → List Call → Execution
+store_effect (Some at) address bytes regs memory calls = fault regs memory kind.Store at calls
+store_effect None address bytes regs memory calls = completed (next regs) (with_bytes memory address bytes) calls
 
 -- what an action does, where rd is the register that gets its result. A jump faults where its target isn't a multiple of 4,
 -- and then writes no register.
@@ -84,12 +91,12 @@ effect (action.Link target) rd regs memory =
 effect (action.Goto target) rd regs memory =
     if target % 4 == 0 then completed (with_pc regs target) memory [] else fault regs memory kind.Align target []
 effect (action.Load address size extension) rd regs memory =
-    loaded (denied_at memory (load_at address (count_of size))) address size extension rd regs memory (Load address (count_of size) ∷ [])
+    load_effect (denied_at memory (load_at address (count_of size))) address size extension rd regs memory (Load address (count_of size) ∷ [])
 effect (action.Store address size value) rd regs memory =
     let bytes = little_bytes (count_of size) value in
-    stored (denied_at memory (store_at address (count_of size))) address bytes regs memory (Store address bytes ∷ [])
+    store_effect (denied_at memory (store_at address (count_of size))) address bytes regs memory (Store address bytes ∷ [])
 effect action.Next rd regs memory = completed (next regs) memory []
-effect action.Ask rd regs memory = record { registers = next regs; memory = memory; outcome = Asked; calls = [] }
+effect action.Ask rd regs memory = record { registers = next regs; memory = memory; upshot = Asks; calls = [] }
 effect action.Stop rd regs memory = fault regs memory kind.Break regs.pc []
 
 -- the action of an instruction on these registers
@@ -102,19 +109,19 @@ decoded None regs memory = fault regs memory kind.Illegal regs.pc []
 decoded (Some i) regs memory = effect (action_on i regs) i.rd regs memory
 
 -- what follows where the fetch fails there
-abbrev pub fetched : Option ℕ → Registers → Memory → Execution
-fetched (Some address) regs memory = fault regs memory kind.Fetch address []
-fetched None regs memory = decoded (meaning (word_at memory regs.pc)) regs memory
+abbrev pub fetch_effect : Option ℕ → Registers → Memory → Execution
+fetch_effect (Some address) regs memory = fault regs memory kind.Fetch address []
+fetch_effect None regs memory = decoded (meaning (word_at memory regs.pc)) regs memory
 
 -- with a call before the others
 abbrev pub after : Call → Execution → Execution
-after call e = record { registers = e.registers; memory = e.memory; outcome = e.outcome; calls = call ∷ e.calls }
+after call e = record { registers = e.registers; memory = e.memory; upshot = e.upshot; calls = call ∷ e.calls }
 
 -- In order: a pc that isn't a multiple of 4, the fetch, a word that means nothing, and then the row's effect.
 abbrev pub execution : Registers → Memory → Execution
 execution regs memory =
     if regs.pc % 4 == 0
-    then after (Fetch regs.pc) (fetched (denied_at memory (fetch_at regs.pc)) regs memory)
+    then after (Fetch regs.pc) (fetch_effect (denied_at memory (fetch_at regs.pc)) regs memory)
     else fault regs memory kind.Align regs.pc []
 
 -- what an outcome names where it is for want of units
@@ -124,10 +131,20 @@ full_in Asked = None
 full_in (Fault kind address) = None
 full_in (Full units limit) = Some (units, limit)
 
+-- the outcome of an instruction of which no store was refused for want of units
+abbrev pub outcome_by : Upshot → Outcome
+outcome_by Steps = Stepped
+outcome_by Asks = Asked
+outcome_by (Faults kind address) = Fault kind address
+
 -- What comes of executing an instruction: what it does, unless a store of it was refused for want of units; then nothing
 -- has changed.
 abbrev pub Executes : Execution → Registers → Memory → Registers → Memory → Outcome → Type 0
-Executes e old old_memory new new_memory (Full units limit) = (e.outcome ≡ Stepped) × (new ≡ old) × (new_memory ≡ old_memory)
-Executes e old old_memory new new_memory Stepped = (e.outcome ≡ Stepped) × (new ≡ e.registers) × (new_memory ≡ e.memory)
-Executes e old old_memory new new_memory Asked = (e.outcome ≡ Asked) × (new ≡ e.registers) × (new_memory ≡ e.memory)
-Executes e old old_memory new new_memory (Fault kind address) = (e.outcome ≡ Fault kind address) × (new ≡ e.registers) × (new_memory ≡ e.memory)
+Executes e old old_memory new new_memory (Full units limit) = (e.upshot ≡ Steps) × (new ≡ old) × (new_memory ≡ old_memory)
+Executes e old old_memory new new_memory Stepped = (e.upshot ≡ Steps) × (new ≡ e.registers) × (new_memory ≡ e.memory)
+Executes e old old_memory new new_memory Asked = (e.upshot ≡ Asks) × (new ≡ e.registers) × (new_memory ≡ e.memory)
+Executes e old old_memory new new_memory (Fault kind address) = (e.upshot ≡ Faults kind address) × (new ≡ e.registers) × (new_memory ≡ e.memory)
+
+-- the same of what an execution of registers and a memory gives
+abbrev pub Executed : (Registers → Memory → Execution) → Registers → Memory → Registers → Memory → Outcome → Type 0
+Executed does old old_memory new new_memory outcome = Executes (does old old_memory) old old_memory new new_memory outcome

@@ -4,7 +4,7 @@ ghost use Rattle.std.specs.Prelude.{◌≡◌, ◌<◌, ◌≤◌, ℕ, IsTrue, 
 ghost use Rattle.ovl_io.specs.Memory.{Memory};
 ghost use Rattle.rv_execute.specs.Registers.{next, with_register};
 ghost use Rattle.rv_execute.specs.Calls.{is_count, Performs};
-ghost use Rattle.rv_execute.specs.Execution.{action_on, count_of, effect, execution, Executes, extended, full_in, Reads};
+ghost use Rattle.rv_execute.specs.Execution.{action_on, count_of, effect, execution, Executed, extended, full_in, ReadsNumber};
 
 use crate::action::{Action, Extension, Size};
 use crate::arithmetic::extended_word;
@@ -77,7 +77,9 @@ fn read<M: GuestMemory>(
     size: Size,
     extension: Extension,
 ) -> Result<u64, Denied>
-    ensures answer { Reads (M.memory mem.old) address size extension result }
+    requires { M.ready mem.old }
+    ensures ready { M.ready mem.new }
+    ensures answer { ReadsNumber (M.memory mem.old) address size extension result }
     ensures kept { M.memory mem.new ≡ M.memory mem.old }
     ensures made { M.loaded mem.old address (count_of size) mem.new }
 {
@@ -101,9 +103,14 @@ fn load<M: GuestMemory>(
     size: Size,
     extension: Extension,
 ) -> Outcome
-    requires { rd < 32 }
-    ensures done { Executes (effect (Action.Load address size extension) rd regs.old (M.memory mem.old)) regs.old (M.memory mem.old) regs.new (M.memory mem.new) result }
-    ensures made { Performs M.fetched M.loaded M.stored (effect (Action.Load address size extension) rd regs.old (M.memory mem.old)).calls mem.old (full_in result) mem.new }
+    requires rd { rd < 32 }
+    requires ready { M.ready mem.old }
+    ensures ready { M.ready mem.new }
+    ensures done { Executed (effect (Action.Load address size extension) rd)
+        regs.old (M.memory mem.old) regs.new (M.memory mem.new) result }
+    ensures made { Performs M.fetched M.loaded M.stored
+        (effect (Action.Load address size extension) rd regs.old (M.memory mem.old)).calls
+        mem.old (full_in result) mem.new }
 {
     match read(mem, address, size, extension) {
         Ok(value) => write(regs, rd, value),
@@ -120,8 +127,13 @@ fn store<M: GuestMemory>(
     size: Size,
     value: u64,
 ) -> Outcome
-    ensures done { (rd : ℕ) → Executes (effect (Action.Store address size value) rd regs.old (M.memory mem.old)) regs.old (M.memory mem.old) regs.new (M.memory mem.new) result }
-    ensures made { (rd : ℕ) → Performs M.fetched M.loaded M.stored (effect (Action.Store address size value) rd regs.old (M.memory mem.old)).calls mem.old (full_in result) mem.new }
+    requires { M.ready mem.old }
+    ensures ready { M.ready mem.new }
+    ensures done { (rd : ℕ) → Executed (effect (Action.Store address size value) rd)
+        regs.old (M.memory mem.old) regs.new (M.memory mem.new) result }
+    ensures made { (rd : ℕ) → Performs M.fetched M.loaded M.stored
+        (effect (Action.Store address size value) rd regs.old (M.memory mem.old)).calls
+        mem.old (full_in result) mem.new }
 {
     let bytes = value.to_le_bytes();
     match mem.store(address, &bytes[..size.count()]) {
@@ -139,7 +151,8 @@ fn store<M: GuestMemory>(
 #[inline]
 fn link(regs: &mut Regs, rd: u8, target: u64) -> Outcome
     requires { rd < 32 }
-    ensures done { (memory : Memory) → Executes (effect (Action.Link target) rd regs.old memory) regs.old memory regs.new memory result }
+    ensures done { (memory : Memory) →
+        Executed (effect (Action.Link target) rd) regs.old memory regs.new memory result }
     ensures not_full { full_in result ≡ None }
 {
     let behind = regs.pc().wrapping_add(4);
@@ -154,7 +167,8 @@ fn link(regs: &mut Regs, rd: u8, target: u64) -> Outcome
 /// Jumps to a target, where that is a multiple of 4.
 #[inline]
 fn go_to(regs: &mut Regs, target: u64) -> Outcome
-    ensures done { (memory : Memory) (rd : ℕ) → Executes (effect (Action.Goto target) rd regs.old memory) regs.old memory regs.new memory result }
+    ensures done { (memory : Memory) (rd : ℕ) →
+        Executed (effect (Action.Goto target) rd) regs.old memory regs.new memory result }
     ensures not_full { full_in result ≡ None }
 {
     if target % 4 != 0 {
@@ -182,8 +196,13 @@ fn perform<M: GuestMemory>(i: &Instr, regs: &mut Regs, mem: &mut M) -> Outcome
     requires rd { i.now.rd < 32 }
     requires rs1 { i.now.rs1 < 32 }
     requires rs2 { i.now.rs2 < 32 }
-    ensures done { Executes (effect (action_on i.now regs.old) i.now.rd regs.old (M.memory mem.old)) regs.old (M.memory mem.old) regs.new (M.memory mem.new) result }
-    ensures made { Performs M.fetched M.loaded M.stored (effect (action_on i.now regs.old) i.now.rd regs.old (M.memory mem.old)).calls mem.old (full_in result) mem.new }
+    requires ready { M.ready mem.old }
+    ensures ready { M.ready mem.new }
+    ensures done { Executed (effect (action_on i.now regs.old) i.now.rd)
+        regs.old (M.memory mem.old) regs.new (M.memory mem.new) result }
+    ensures made { Performs M.fetched M.loaded M.stored
+        (effect (action_on i.now regs.old) i.now.rd regs.old (M.memory mem.old)).calls
+        mem.old (full_in result) mem.new }
 {
     match action_on(i, regs) {
         Action::Write(value) => write(regs, i.rd, value),
@@ -222,8 +241,12 @@ fn perform<M: GuestMemory>(i: &Instr, regs: &mut Regs, mem: &mut M) -> Outcome
 /// and memory are as before; after `Asked` pc is behind the ECALL, and nothing else has changed. The memory is asked for
 /// the accesses of the instruction, each once and in order, and for nothing else. Takes no memory.
 pub fn execute<M: GuestMemory>(regs: &mut Regs, mem: &mut M) -> Outcome
-    ensures done { Executes (execution regs.old (M.memory mem.old)) regs.old (M.memory mem.old) regs.new (M.memory mem.new) result }
-    ensures made { Performs M.fetched M.loaded M.stored (execution regs.old (M.memory mem.old)).calls mem.old (full_in result) mem.new }
+    requires { M.ready mem.old }
+    ensures ready { M.ready mem.new }
+    ensures done { Executed execution
+        regs.old (M.memory mem.old) regs.new (M.memory mem.new) result }
+    ensures made { Performs M.fetched M.loaded M.stored
+        (execution regs.old (M.memory mem.old)).calls mem.old (full_in result) mem.new }
 {
     let pc = regs.pc();
     if pc % 4 != 0 {

@@ -22,11 +22,14 @@ pub enum Refused {
 }
 
 /// The memory of a running program, as an instruction sees it (RISC-V Unprivileged ISA, "Memory"): bytes by address, in
-/// pages of 4096 bytes with permissions. Multi-byte numbers are little-endian, and accesses need not be aligned. Each call
+/// pages with permissions. Multi-byte numbers are little-endian, and accesses need not be aligned. Each call
 /// may change what the object counts; only a store that is done changes the memory.
 pub trait GuestMemory {
     /// The memory that accesses see.
     ghost memory: { Self → Memory };
+
+    /// What has to hold of the object before each of its calls, and holds after it.
+    ghost ready: { Self → Type 0 };
 
     /// What a fetch at an address makes of the object.
     ghost fetched: { Self → ℕ → Self → Type 0 };
@@ -40,7 +43,9 @@ pub trait GuestMemory {
     /// The word at an address that is a multiple of 4, little-endian. Denied where its page isn't there or may not be
     /// executed.
     fn fetch(&mut self, address: u64) -> Result<u32, Denied>
-        requires { address % 4 ≡ 0 }
+        requires aligned { address % 4 ≡ 0 }
+        requires ready { ready self.old }
+        ensures ready { ready self.new }
         ensures answer { Fetches (memory self.old) address result }
         ensures kept { memory self.new ≡ memory self.old }
         ensures made { fetched self.old address self.new };
@@ -48,7 +53,9 @@ pub trait GuestMemory {
     /// Fills `into`, of 1, 2, 4 or 8 bytes, with the bytes from an address on. Denied where one of them lies in a page
     /// that isn't there or may not be read; nothing is said of `into` then.
     fn load(&mut self, address: u64, into: &mut [u8]) -> Result<(), Denied>
-        requires { IsTrue (is_count (length into.old)) }
+        requires count { IsTrue (is_count (length into.old)) }
+        requires ready { ready self.old }
+        ensures ready { ready self.new }
         ensures answer { Loads (memory self.old) address (length into.old) into.new result }
         ensures kept { memory self.new ≡ memory self.old }
         ensures made { loaded self.old address (length into.old) self.new };
@@ -56,7 +63,9 @@ pub trait GuestMemory {
     /// Makes `bytes`, of which there are 1, 2, 4 or 8, the bytes from an address on. Refused as a whole, with nothing
     /// changed, where one of them lies in a page that isn't there or may not be written, or for want of units.
     fn store(&mut self, address: u64, bytes: &[u8]) -> Result<(), Refused>
-        requires { IsTrue (is_count (length bytes.now)) }
+        requires count { IsTrue (is_count (length bytes.now)) }
+        requires ready { ready self.old }
+        ensures ready { ready self.new }
         ensures answer { Stores (memory self.old) address bytes.now result (memory self.new) }
         ensures made { stored self.old address bytes.now result self.new };
 }

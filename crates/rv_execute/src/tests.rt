@@ -23,6 +23,8 @@ impl GuestMemory for CodePage {
 
     ghost memory = { λ m. insert empty 16 (record { perms = 3; bytes = m.bytes }) };
 
+    ghost ready = { λ m. Unit {0} };
+
     ghost fetched = { λ old address new. new ≡ old };
 
     ghost loaded = { λ old address count new. new ≡ old };

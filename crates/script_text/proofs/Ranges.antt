@@ -5,8 +5,8 @@ use Rattle.std.proofs.lemmas.Bool.{and_parts}
 use Rattle.std.proofs.lemmas.Bool.Decides.{nat_tests}
 use lib.Pointwise.{pointwise}
 use Rattle.ovl_io.specs.Outside.{HasName}
-use Rattle.script_text.specs.declared.TheConstants.{MOST_FILE_NAME, MOST_TURNS}
-use Rattle.sizes.specs.declared.TheConstants.{LAST_SPACE}
+use Rattle.script_text.specs.declared.TheConstants.{MOST_TURNS}
+use Rattle.sizes.specs.declared.TheConstants.{LAST_SPACE, MOST_FILE_NAME}
 use Rattle.script_text.specs.declared.command.Command.{Command}
 use Rattle.script_text.specs.declared.command.Command.TheVariants.{Exec, Load, Run, Step, Drop}
 use Rattle.script_text.specs.declared.command.Meaning.TheVariants.{Does, Nothing}

@@ -1,7 +1,7 @@
 use Rattle.std.specs.Prelude.{ℕ, ◌&&◌, nat_le, Bool, List, length, Option, Some, None, if◌then◌else◌}
 use Rattle.std.specs.List.{list_all}
-use Rattle.sizes.specs.declared.TheConstants.{LAST_SPACE}
-use Rattle.script_text.specs.declared.TheConstants.{MOST_FILE_NAME, MOST_TURNS}
+use Rattle.script_text.specs.declared.TheConstants.{MOST_TURNS}
+use Rattle.sizes.specs.declared.TheConstants.{LAST_SPACE, MOST_FILE_NAME}
 use Rattle.script_text.specs.Numbers.{number_between}
 
 -- The kinds of words. A kind is what it makes of a word: what the word says, or nothing where it is none of

@@ -2,10 +2,10 @@ ghost use Rattle.std.specs.Prelude.{◌≡◌, ◌&&◌, nat_le, IfOk};
 ghost use Rattle.std.specs.List.{list_all};
 ghost use Rattle.script_text.specs.Kinds.{is_file_name, file_word, turns_word, process_word};
 
+use crate::MOST_TURNS;
 use crate::numbers::number_between;
-use crate::{MOST_FILE_NAME, MOST_TURNS};
 use ovl_io::Bytes;
-use sizes::LAST_SPACE;
+use sizes::{LAST_SPACE, MOST_FILE_NAME};
 use std::alloc::{AllocError, Global};
 
 /// Whether each byte is printable and no blank.

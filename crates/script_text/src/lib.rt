@@ -29,8 +29,5 @@ pub use script::parse;
 /// The most turns of a command.
 pub const MOST_TURNS: u32 = 10_000_000;
 
-/// The most bytes of a file's name.
-pub const MOST_FILE_NAME: usize = 255;
-
 #[cfg(test)]
 mod tests;

@@ -49,6 +49,9 @@ pub const MOST_SPACE_PAGES: u32 = 1 << 17;
 /// The greatest number of a space, and of a process.
 pub const LAST_SPACE: u16 = (1 << 15) - 1;
 
+/// The most bytes of a file's name.
+pub const MOST_FILE_NAME: usize = 255;
+
 /// The most bytes of a file.
 pub const MOST_FILE_BYTES: usize = 1 << 24;
 

@@ -1,8 +1,9 @@
 use Rattle.std.proofs.Common.{◌≤◌, length, subst, sym, ◌∙◌, arith, All}
-use Rattle.elf_loader.specs.Accepted.{most_pages}
+use Rattle.sizes.specs.declared.TheConstants.{MOST_IMAGE_PAGES}
 use Rattle.elf_loader.specs.Image.{pages_in}
 use Rattle.elf_loader.specs.Reach.{IsBelowStack, IsTooMany}
-use Rattle.elf_loader.proofs.Taken.{by_header, by_table, header_passes, all_below, reads_error, reads_err, reads_too_many, taken_by, image_pages}
+use Rattle.elf_loader.proofs.Pages.{ascending}
+use Rattle.elf_loader.proofs.Taken.{by_header, by_table, header_passes, all_below, reads_error, reads_err, reads_too_many, taken_by, image_pages_are}
 use Rattle.elf_loader.proofs.image.read_image.Goals as goal
 
 pub returns-in-Some : goal.returns-in-Some
@@ -48,8 +49,16 @@ returns c =
     let same = c.as_slice-2.ensures.value ∙ c.in_ok-loads.ensures in
     record {
       taken = taken_by file (sym c.in_default.ensures) (sym c.in_default-table_refusal.ensures)
-          (subst (λ loads. length (pages_in loads) ≤ most_pages) same c.in_ok-pages.ensures.few);
+          (subst (λ loads. length (pages_in loads) ≤ MOST_IMAGE_PAGES) same c.in_ok-pages.ensures.few);
       entry = c.u64_at.ensures;
-      pages = c.in_ok-pages.ensures.pages ∙ image_pages file c.as_slice-2.result.now same;
+      pages = c.in_ok-pages.ensures.pages ∙ image_pages_are file c.as_slice-2.result.now same;
       loads = c.in_ok-loads.ensures;
     }
+
+pub layers_of-requires-clause-sorted : goal.layers_of-requires-clause-sorted
+layers_of-requires-clause-sorted c =
+    ascending c.as_slice-2.result.now _ (c.as_slice-4.ensures.value ∙ c.in_ok-pages.ensures.pages)
+
+pub layers_of-requires-clause-below : goal.layers_of-requires-clause-below
+layers_of-requires-clause-below c =
+    subst (All IsBelowStack) (sym (c.as_slice-3.ensures.value ∙ c.in_ok-loads.ensures)) (all_below c.args.bytes.now (sym c.in_default-table_refusal.ensures))

@@ -3,7 +3,7 @@ use Rattle.std.specs.List.{range_with_len}
 use Rattle.std.proofs.lemmas.List.{length-map}
 use Rattle.elf_loader.specs.Image.{page_numbers, page_in, pages_in}
 use Rattle.elf_loader.specs.Reach.{page_at, IsTooMany}
-use Rattle.elf_loader.proofs.Holding.{no_header}
+use Rattle.elf_loader.specs.Layers.{no_header}
 use Rattle.elf_loader.proofs.Pages.{page_numbers_is}
 use Rattle.elf_loader.proofs.Reaching.{IsReachOf}
 use Rattle.elf_loader.proofs.Filling.{Gap, filled, fewer, too_many, refused}

@@ -1,7 +1,7 @@
 use Rattle.std.proofs.Common.{◌≡◌, ◌≤◌, subst, sym, All, IfOk, MatchResult}
 use Rattle.std.specs.List.Sorted.{IsPermutation}
 use Rattle.std.proofs.lemmas.List.Sorted.{All-permutation}
-use Rattle.elf_loader.specs.Accepted.{most_pages}
+use Rattle.sizes.specs.declared.TheConstants.{MOST_IMAGE_PAGES}
 use Rattle.elf_loader.specs.Reach.{IsBelowStack, IsTooMany}
 use Rattle.elf_loader.proofs.Filling.{same_image, same_count}
 use Rattle.elf_loader.proofs.sweep.touched_pages.Goals as goal
@@ -19,4 +19,4 @@ returns-clause-pages c =
 pub returns-clause-few : goal.returns-clause-few
 returns-clause-few c =
     let moved = subst (IsPermutation c.args.loads.now) (sym c.as_slice.ensures.value) c.in_ok-sorted.ensures.moved in
-    subst (λ n. MatchResult c.sweep.result (λ x. n ≤ most_pages) (IsTooMany n)) (same_count c.args.loads.now c.as_slice.result.now moved) c.sweep.ensures.few
+    subst (λ n. MatchResult c.sweep.result (λ x. n ≤ MOST_IMAGE_PAGES) (IsTooMany n)) (same_count c.args.loads.now c.as_slice.result.now moved) c.sweep.ensures.few

@@ -1,10 +1,11 @@
 use Rattle.std.proofs.Common.{sym, length, ap, ◌∙◌, cond, Some, arith}
 use Rattle.std.proofs.lemmas.List.{take_all, length-map}
 use Rattle.std.specs.FinMap.{get}
-use Rattle.elf_loader.specs.Image.{pages_of, page_of, image_page, is_stored}
-use Rattle.machine_core.specs.Kept.{memory_of}
+use Rattle.elf_loader.specs.Image.{image_pages, image_page, listed_page, is_stored}
+use Rattle.machine_core.specs.Kept.{kept_memory}
 use Rattle.machine_core.proofs.Placing.{no_page, page_at, placed_more, no_entry, is_among}
-use Rattle.machine_core.proofs.Images.{few_items, low_page, not_there}
+use Rattle.elf_loader.specs.TakenLaws.{low_page}
+use Rattle.machine_core.proofs.Images.{few_items, not_there}
 use Rattle.machine_core.proofs.load.add_image.Goals as goal
 
 pub add_page-requires-clause-few : goal.add_page-requires-clause-few
@@ -27,8 +28,8 @@ add_page-requires-clause-free c =
     let frames = c.loop-image_page.frames.items in
     let at = page_at file c.pages-image_page-items.result.now i no_page (c.pages-image_page-items.ensures ∙ c.requires.of_file.pages) c.loop-image_page-test.true in
     no_entry table frames _
-    (ap (get (memory_of table frames)) (ap (λ p. p.page) at.1)
-    ∙ not_there file (memory_of table frames) (memory_of c.args.table.now c.args.frames.now.items) i c.requires.of_file.taken at.0 c.requires.stack c.loop-image_page.invariant.image)
+    (ap (get (kept_memory table frames)) (ap (λ p. p.page) at.1)
+    ∙ not_there file (kept_memory table frames) (kept_memory c.args.table.now c.args.frames.now.items) i c.requires.of_file.taken at.0 c.requires.stack c.loop-image_page.invariant.image)
 
 pub page_bytes-bytes-requires-clause-marked : goal.page_bytes-bytes-requires-clause-marked
 page_bytes-bytes-requires-clause-marked c =
@@ -46,15 +47,15 @@ loop-image_page-preserved c =
       placed = c.in_ok-add_page.ensures.placed;
       as_many = c.in_ok-add_page.ensures.as_many;
       count = omega (arith, c.in_ok-add_page.ensures.one_more, c.loop-image_page.invariant.count);
-      image = placed_more file (memory_of c.loop-image_page.table c.loop-image_page.frames.items) (memory_of c.add_page.new.table c.add_page.new.frames.items)
-          (memory_of c.args.table.now c.args.frames.now.items) i _ c.page_bytes-bytes.result at.0 at.1 c.page_bytes-bytes.ensures c.in_ok-add_page.ensures.added c.loop-image_page.invariant.image;
+      image = placed_more file (kept_memory c.loop-image_page.table c.loop-image_page.frames.items) (kept_memory c.add_page.new.table c.add_page.new.frames.items)
+          (kept_memory c.args.table.now c.args.frames.now.items) i _ c.page_bytes-bytes.result at.0 at.1 c.page_bytes-bytes.ensures c.in_ok-add_page.ensures.added c.loop-image_page.invariant.image;
     }
 
 pub returns-clause-image : goal.returns-clause-image
 returns-clause-image c page =
     let file = c.args.file.now in
     let same = c.pages-image_page-items.ensures ∙ c.requires.of_file.pages in
-    let len = ap length same ∙ length-map (pages_of file) (image_page file) in
+    let len = ap length same ∙ length-map (image_pages file) (listed_page file) in
     c.loop-image_page.invariant.image page
-    ∙ ap (λ ps. cond (is_among ps page) (Some (page_of file page)) (get (memory_of c.args.table.now c.args.frames.now.items) page))
-    (take_all c.loop-image_page.image_page-index (pages_of file) (omega (arith, len)))
+    ∙ ap (λ ps. cond (is_among ps page) (Some (image_page file page)) (get (kept_memory c.args.table.now c.args.frames.now.items) page))
+    (take_all c.loop-image_page.image_page-index (image_pages file) (omega (arith, len)))

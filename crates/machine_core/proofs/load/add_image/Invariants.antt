@@ -1,7 +1,7 @@
 use Rattle.std.proofs.Common.{◌≡◌, ℕ, ◌+◌, length, take, cond, Some}
 use Rattle.std.specs.FinMap.{get, len}
-use Rattle.elf_loader.specs.Image.{page_of, pages_of}
-use Rattle.machine_core.specs.Kept.{IsPlaced, memory_of}
+use Rattle.elf_loader.specs.Image.{image_page, image_pages}
+use Rattle.machine_core.specs.Kept.{IsPlaced, kept_memory}
 use Rattle.machine_core.proofs.Placing.{is_among}
 use Rattle.machine_core.proofs.load.add_image.Given as goal
 
@@ -11,6 +11,6 @@ invariant-loop-image_page l = record {
   placed : IsPlaced l.table l.frames.items;
   as_many : len l.table ≡ length l.frames.items;
   count : len l.table ≡ 16 + l.image_page-index;
-  image : (q : ℕ) → get (memory_of l.table l.frames.items) q
-      ≡ cond (is_among (take l.image_page-index (pages_of l.file)) q) (Some (page_of l.file q)) (get (memory_of l.initial.table l.initial.frames.items) q);
+  image : (q : ℕ) → get (kept_memory l.table l.frames.items) q
+      ≡ cond (is_among (take l.image_page-index (image_pages l.file)) q) (Some (image_page l.file q)) (get (kept_memory l.initial.table l.initial.frames.items) q);
 }

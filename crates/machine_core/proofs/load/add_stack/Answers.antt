@@ -5,7 +5,7 @@ use Rattle.std.specs.FinMap.{len, len-empty}
 use Rattle.page_table.specs.Table.{Pages}
 use Rattle.page_table.specs.declared.entry.PageEntry.{PageEntry}
 use Rattle.machine_core.specs.Load.{stack_page, stack_pages}
-use Rattle.machine_core.specs.Kept.{memory_of}
+use Rattle.machine_core.specs.Kept.{kept_memory}
 use Rattle.machine_core.proofs.Placing.{placed_none, none_there, no_entry, stack_free, stack_more, none_above, is_among}
 use Rattle.machine_core.proofs.load.add_stack.Goals as goal
 
@@ -26,14 +26,14 @@ add_page-requires-clause-free c =
     let page = c.loop-page.page in
     let n = page - 67108848 in
     no_entry table frames page
-    (stack_free (memory_of table frames) page n c.loop-page.invariant.stack (none_above page 67108848 n (omega arith)))
+    (stack_free (kept_memory table frames) page n c.loop-page.invariant.stack (none_above page 67108848 n (omega arith)))
 
 pub loop-page-preserved : goal.loop-page-preserved
 loop-page-preserved c = record {
   placed = c.in_ok-add_page.ensures.placed;
   as_many = c.in_ok-add_page.ensures.as_many;
   count = omega (arith, c.in_ok-add_page.ensures.one_more, c.loop-page.invariant.count);
-  stack = stack_more (memory_of c.loop-page.table c.loop-page.frames.items) (memory_of c.add_page.new.table c.add_page.new.frames.items) c.loop-page.page
+  stack = stack_more (kept_memory c.loop-page.table c.loop-page.frames.items) (kept_memory c.add_page.new.table c.add_page.new.frames.items) c.loop-page.page
       c.union.result.0 (omega arith) (c.union.ensures tt) c.in_ok-add_page.ensures.added c.loop-page.invariant.stack;
 }
 

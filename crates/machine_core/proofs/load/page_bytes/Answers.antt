@@ -1,5 +1,5 @@
 use Rattle.std.proofs.Common.{sym, ◌∙◌}
-use Rattle.machine_core.proofs.Images.{zero_bytes}
+use Rattle.elf_loader.specs.TakenLaws.{zero_bytes}
 use Rattle.machine_core.proofs.load.page_bytes.Goals as goal
 
 pub returns-else-image_page : goal.returns-else-image_page

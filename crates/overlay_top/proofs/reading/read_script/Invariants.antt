@@ -5,7 +5,7 @@ use Rattle.overlay_top.proofs.reading.read_script.Given as goal
 abbrev pub invariant-reading : goal.invariant-reading
 invariant-reading g l = record {
   within : vec_len l.script ≤ 1048577;
-  counted : g.S.Source.faults l.fn.source ≤ g.S.Source.faults l.source;
+  sound : g.S.Source.faults l.source ≡ g.S.Source.faults l.fn.source;
   read : g.S.Source.tells → g.S.Source.left l.fn.source ≡ l.script.items ++ g.S.Source.left l.source;
 }
 

@@ -5,7 +5,7 @@ use Rattle.overlay_top.proofs.sending.send.Given as goal
 abbrev pub invariant-loop-at : goal.invariant-loop-at
 invariant-loop-at g l = record {
   within : l.at ≤ length l.text;
-  counted : g.K.Sink.faults l.fn.sink ≤ g.K.Sink.faults l.sink;
+  sound : g.K.Sink.faults l.sink ≡ g.K.Sink.faults l.fn.sink;
   sent : g.K.Sink.tells → g.K.Sink.taken l.sink ≡ g.K.Sink.taken l.fn.sink ++ take l.at l.text;
 }
 

@@ -1,25 +1,17 @@
 use Rattle.std.proofs.Common.{refl, []}
 use Rattle.std.specs.Prelude.{string_bytes}
-use Rattle.overlay_top.specs.Outcome.{ended, script_outcome}
-use Rattle.overlay_top.specs.Ends.Ends.{Whole}
-use Rattle.overlay_top.proofs.Calls.{ends_as, nothing, complete, without_words, with_words}
+use Rattle.overlay_top.specs.declared.status.Status.TheVariants.{BadWords, BadLine, ReadFailed, WriteFailed}
+use Rattle.overlay_top.specs.Outcome.{ended, said, said_outcome}
+use Rattle.overlay_top.specs.Ends.Ends.{Untouched}
+use Rattle.overlay_top.proofs.Calls.{ends_as, complete, without_words, with_words}
+use Rattle.overlay_top.proofs.Codes.{same_status, other_status}
 use Rattle.overlay_top.proofs.top.run_program.Goals as goal
 
 pub returns-then-not-is_empty-clause-headline : goal.returns-then-not-is_empty-clause-headline
-returns-then-not-is_empty-clause-headline g c s h =
-    ends_as _ _ (ended [] 2) _ _ _ _ _ _
-    (with_words string_bytes c.args.words.now (g.S.Source.left c.args.script.now) (g.H.Shelf.files c.args.shelf.now) c.if-not-is_empty.ensures) refl
-    (Whole (nothing g.K.Sink.tells (g.K.Sink.taken c.args.sink.now)))
-
-pub returns-clause-headline : goal.returns-clause-headline
-returns-clause-headline g c s h =
-    ends_as _ _ (script_outcome (g.S.Source.left c.args.script.now) (g.H.Shelf.files c.args.shelf.now)) _ _ _ _ _ _
-    (without_words string_bytes c.args.words.now (g.S.Source.left c.args.script.now) (g.H.Shelf.files c.args.shelf.now) c.if-not-is_empty.ensures) refl
-    (c.run_script.ensures.ends s h)
-
-pub returns-clause-complete : goal.returns-clause-complete
-returns-clause-complete g c s h =
-    complete _ _ _ _ _ _ _
-    (ends_as _ _ (script_outcome (g.S.Source.left c.args.script.now) (g.H.Shelf.files c.args.shelf.now)) _ _ _ _ _ _
-    (without_words string_bytes c.args.words.now (g.S.Source.left c.args.script.now) (g.H.Shelf.files c.args.shelf.now) c.if-not-is_empty.ensures) refl
-    (c.run_script.ensures.ends s h))
+returns-then-not-is_empty-clause-headline g c s h = (
+  BadWords,
+  c.code.ensures,
+  ends_as g.S.Source g.H.Shelf g.K.Sink _ (ended [] BadWords) _ _ _ _ _
+      (with_words string_bytes c.args.words.now (g.S.Source.left c.args.script.now) (g.H.Shelf.files c.args.shelf.now) c.if-not-is_empty.ensures) refl
+      (Untouched refl refl refl),
+)

@@ -1,34 +1,53 @@
-use Rattle.std.proofs.Common.{◌≤◌, ◌∙◌, ap, sym, subst, refl, arith, Ok, Err, [], length, ℕ, Vec, Global}
-use Rattle.std.specs.Prelude.{map}
+use Rattle.std.proofs.Common.{◌≡◌, ◌≤◌, ◌∙◌, ap, sym, subst, refl, arith, Ok, Err, inr, [], length, ℕ, Vec, Global}
+use Rattle.std.specs.Prelude.{map, Result}
+use Rattle.sizes.specs.declared.TheConstants.{MOST_SCRIPT_BYTES}
+use Rattle.overlay_top.specs.declared.script.ScriptError.{ScriptError}
+use Rattle.overlay_top.specs.declared.script.ScriptError.TheVariants.{Line}
+use Rattle.overlay_top.specs.declared.status.Status.TheVariants.{TooLong, Done}
 use Rattle.overlay_top.specs.Session.{fresh}
-use Rattle.overlay_top.specs.Outcome.{ended, asks, run_from}
-use Rattle.overlay_top.specs.Reading.{most_script, IsUnread}
-use Rattle.overlay_top.specs.Ends.{Ends}
-use Rattle.overlay_top.specs.Ends.Ends.{SourceFailed}
-use Rattle.overlay_top.proofs.Calls.{ends_whole, ends_as, small_outcome, small_names, long_outcome, nothing, no_memory, commands_done, commands_halted, refused}
+use Rattle.overlay_top.specs.Outcome.{SaysCommands, ended, asks, run_from, names_said, said, said_outcome}
+use Rattle.overlay_top.specs.Reading.{IsUnread}
+use Rattle.overlay_top.specs.Ends.{Ends, World, world_of}
+use Rattle.overlay_top.specs.Ends.Ends.{SourceFailed, Whole}
+use Rattle.overlay_top.proofs.Calls.{commands_ended, commands_halted, ends_as, long_left, nothing, no_memory, read_it, read_long, read_none, refused, refused_says, said_long, said_small, taken_whole}
 use Rattle.overlay_top.proofs.top.run_script.Goals as goal
 
 pub returns-in-Err-Failed-clause-ends : goal.returns-in-Err-Failed-clause-ends
 returns-in-Err-Failed-clause-ends g c s h =
-    SourceFailed (c.in-Err-Failed.ensures.cause (ap Err c.in-Err-Failed.field-0-is)) (nothing g.K.Sink.tells (g.K.Sink.taken c.args.sink.now))
+    SourceFailed (c.in-Err-Failed.ensures.cause (ap Err c.in-Err-Failed.field-0-is)) refl refl
+    (subst (λ e. IsUnread {Script = Vec ℕ Global} (g.S.Source.left c.args.script.now) (g.S.Source.left c.read_script.new.source) (Err e)) c.in-Err-Failed.field-0-is
+    (c.in-Err-Failed.ensures.unread s))
 
 pub returns-in-Err-TooLong-clause-ends : goal.returns-in-Err-TooLong-clause-ends
 returns-in-Err-TooLong-clause-ends g c s h =
-    let unread = subst (λ e. IsUnread {Script = Vec ℕ Global} (g.S.Source.left c.args.script.now) (g.S.Source.left c.read_script.new.source) (Err e)) c.in-Err-TooLong.field-0-is
+    let left = g.S.Source.left c.args.script.now in
+    let unread = subst (λ e. IsUnread {Script = Vec ℕ Global} left (g.S.Source.left c.read_script.new.source) (Err e)) c.in-Err-TooLong.field-0-is
     (c.in-Err-TooLong.ensures.unread s) in
-    ends_as _ _ (ended [] 6) _ _ _ _ _ 6 (long_outcome _ unread.0 _ _ unread.1 unread.2) refl
-    (ends_whole _ (ended [] 6) _ _ _ _ 6 refl (nothing g.K.Sink.tells (g.K.Sink.taken c.args.sink.now)))
+    let long = long_left left unread.0 _ unread.1 unread.2 in
+    let says = said_long left long in
+    ends_as g.S.Source g.H.Shelf g.K.Sink _ (ended [] TooLong) _ [] _ _ TooLong
+    (ap (λ says. said_outcome says (g.H.Shelf.files c.args.shelf.now)) says) (ap names_said says)
+    (Whole (c.in-Err-TooLong.ensures.no_fault (read_long c.in-Err-TooLong.field-0 c.in-Err-TooLong.field-0-is)) refl refl (inr (long, unread)) refl (nothing g.K.Sink c.args.sink.now))
 
 pub returns-in-Err-Memory-clause-ends : goal.returns-in-Err-Memory-clause-ends
-returns-in-Err-Memory-clause-ends g c s h = no_memory _ _ _ _ _
+returns-in-Err-Memory-clause-ends g c s h = no_memory g.S.Source g.H.Shelf g.K.Sink _ _ c.args.script.now c.read_script.new.source c.args.shelf.now c.args.sink.now
+    (c.in-Err-Memory.ensures.no_fault (read_none c.in-Err-Memory.field-0 c.in-Err-Memory.field-0-is))
 
 pub returns-in-Err-clause-ends : goal.returns-in-Err-clause-ends
 returns-in-Err-clause-ends g c s h =
     let bytes = c.as_slice.result.now in
     let is = c.as_slice.ensures.value ∙ (c.in-Ok.ensures.read s).0 in
-    let small : length bytes ≤ most_script = omega (arith, c.as_slice.ensures.len, c.in-Ok.ensures.small) in
-    refused c.in-Err.error g.K.Sink.tells (g.S.Source.left c.args.script.now) bytes (g.H.Shelf.files c.args.shelf.now) _ (g.K.Sink.taken c.args.sink.now)
-    (g.K.Sink.taken c.refuse.new.sink) c.refuse.result is small c.in-Err.ensures.parses c.refuse.ensures.ends
+    let small : length bytes ≤ MOST_SCRIPT_BYTES = omega (arith, c.as_slice.ensures.len, c.in-Ok.ensures.small) in
+    refused g.S.Source g.H.Shelf g.K.Sink c.in-Err.error bytes (g.H.Shelf.files c.args.shelf.now) c.args.script.now c.read_script.new.source c.args.shelf.now
+    c.args.sink.now c.refuse.new.sink c.refuse.result (c.in-Ok.ensures.no_fault (read_it c.in-Ok.bytes)) (c.in-Ok.ensures.read s).1 is small c.in-Err.ensures.parses c.refuse.ensures
+
+pub returns-in-Err-clause-says : goal.returns-in-Err-clause-says
+returns-in-Err-clause-says g c s =
+    let bytes = c.as_slice.result.now in
+    let is = c.as_slice.ensures.value ∙ (c.in-Ok.ensures.read s).0 in
+    let small : length bytes ≤ MOST_SCRIPT_BYTES = omega (arith, c.as_slice.ensures.len, c.in-Ok.ensures.small) in
+    refused_says g.K.Sink c.in-Err.error (g.S.Source.left c.args.script.now) bytes c.args.sink.now c.refuse.new.sink c.refuse.result is small c.in-Err.ensures.parses
+    c.refuse.ensures
 
 pub returns-in-Ok-run-clause-ends : goal.returns-in-Ok-run-clause-ends
 returns-in-Ok-run-clause-ends g c s h =
@@ -37,10 +56,13 @@ returns-in-Ok-run-clause-ends g c s h =
     let bytes = c.as_slice.result.now in
     let commands = c.as_slice-2.result.now in
     let is = c.as_slice.ensures.value ∙ (c.in-Ok.ensures.read s).0 in
-    let small : length bytes ≤ most_script = omega (arith, c.as_slice.ensures.len, c.in-Ok.ensures.small) in
-    let parsed = c.in-Ok-parse.ensures.parses ∙ ap Ok (sym c.as_slice-2.ensures.value) in
-    ends_as _ _ (run_from commands fresh files) _ (map asks commands) _ _ _ 0 (small_outcome left bytes files (Ok commands) is small parsed)
-    (small_names left bytes (Ok commands) is small parsed) (commands_done _ _ _ _ _ _ (c.in-Ok-run.ensures.ends h))
+    let small : length bytes ≤ MOST_SCRIPT_BYTES = omega (arith, c.as_slice.ensures.len, c.in-Ok.ensures.small) in
+    let says = said_small left bytes (Ok commands) is small (c.in-Ok-parse.ensures.parses ∙ ap Ok (sym c.as_slice-2.ensures.value)) in
+    let none = (c.in-Ok.ensures.read s).1 in
+    ends_as g.S.Source g.H.Shelf g.K.Sink _ (run_from commands fresh files) _ (map asks commands) _ _ Done
+    (ap (λ says. said_outcome says files) says) (ap names_said says)
+    (commands_ended g.S.Source g.H.Shelf g.K.Sink _ _ _ _ (c.in-Ok.ensures.no_fault (read_it c.in-Ok.bytes)) (taken_whole left bytes _ is small none) c.in-Ok-run.ensures.shelf c.in-Ok-run.ensures.sink
+    (c.in-Ok-run.ensures.ends h))
 
 pub returns-clause-ends : goal.returns-clause-ends
 returns-clause-ends g c s h =
@@ -49,8 +71,10 @@ returns-clause-ends g c s h =
     let bytes = c.as_slice.result.now in
     let commands = c.as_slice-2.result.now in
     let is = c.as_slice.ensures.value ∙ (c.in-Ok.ensures.read s).0 in
-    let small : length bytes ≤ most_script = omega (arith, c.as_slice.ensures.len, c.in-Ok.ensures.small) in
-    let parsed = c.in-Ok-parse.ensures.parses ∙ ap Ok (sym c.as_slice-2.ensures.value) in
-    let ends = commands_halted c.in-Err-run.halt _ _ _ _ _ _ (c.in-Err-run.ensures.ends h) c.in-Err-run.ensures.caused in
-    ends_as _ _ (run_from commands fresh files) _ (map asks commands) _ _ _ c.status_of.result (small_outcome left bytes files (Ok commands) is small parsed)
-    (small_names left bytes (Ok commands) is small parsed) (subst (Ends _ _ _ _ _ _) (sym c.status_of.ensures) ends)
+    let small : length bytes ≤ MOST_SCRIPT_BYTES = omega (arith, c.as_slice.ensures.len, c.in-Ok.ensures.small) in
+    let says = said_small left bytes (Ok commands) is small (c.in-Ok-parse.ensures.parses ∙ ap Ok (sym c.as_slice-2.ensures.value)) in
+    let none = (c.in-Ok.ensures.read s).1 in
+    let ends = commands_halted g.S.Source g.H.Shelf g.K.Sink c.in-Err-run.halt _ _ _ _ (c.in-Ok.ensures.no_fault (read_it c.in-Ok.bytes)) (taken_whole left bytes _ is small none) none
+    c.in-Err-run.ensures.shelf c.in-Err-run.ensures.sink (c.in-Err-run.ensures.ends h) in
+    ends_as g.S.Source g.H.Shelf g.K.Sink _ (run_from commands fresh files) _ (map asks commands) _ _ c.status_of.result
+    (ap (λ says. said_outcome says files) says) (ap names_said says) (subst (Ends _ _ _ _ _ _ _) (sym c.status_of.ensures) ends)

@@ -13,10 +13,10 @@ answer_request-requires c =
 pub returns-in-Asked-clause-line : goal.returns-in-Asked-clause-line
 returns-in-Asked-clause-line c =
     let law = turn_law Asked c.args.machine.now c.args.p c.requires (sym c.in-Asked.ensures.outcome) in
-    c.answer_request.ensures.line law.accesses
-    ∙ ap (turn_text c.args.p) (ap (λ (ps : Processes). turn_asked law.accesses ps c.args.p) c.in-Asked.ensures.after ∙ sym law.turn_is)
+    c.answer_request.ensures.line
+    ∙ ap (turn_text c.args.p) (ap (λ (ps : Processes). turn_asked ps c.args.p) c.in-Asked.ensures.after ∙ sym law.turn_is)
 
 pub returns-in-Asked-clause-after : goal.returns-in-Asked-clause-after
 returns-in-Asked-clause-after c =
     let law = turn_law Asked c.args.machine.now c.args.p c.requires (sym c.in-Asked.ensures.outcome) in
-    c.answer_request.ensures.after law.accesses ∙ ap (λ (ps : Processes). after_asked law.accesses ps c.args.p) c.in-Asked.ensures.after ∙ sym law.after_is
+    c.answer_request.ensures.after ∙ ap (λ (ps : Processes). after_asked ps c.args.p) c.in-Asked.ensures.after ∙ sym law.after_is

@@ -16,7 +16,7 @@ turns-preserved g c =
     let running = sym c.is_running.ensures ∙ c.if-not-is_running.false in
     record {
       within = omega (arith, below);
-      counted = omega (arith, c.turns.invariant.counted, c.in_ok-send.ensures.counted);
+      sound = c.in_ok-send.ensures.no_fault ∙ c.turns.invariant.sound;
       after = ap (after_turns p (turns - (taken + 1))) c.take_turn.ensures.after ∙ sym (after_step p turns taken before below running) ∙ c.turns.invariant.after;
       text = λ tells.
           more_done (g.K.Sink.taken c.args.sink.now) (g.K.Sink.taken c.turns.sink) (g.K.Sink.taken c.send.new.sink) _ c.as_slice.result.now _ _

@@ -1,7 +1,8 @@
-use Rattle.std.proofs.Common.{ap, sym, subst, rules, arith, ◌∙◌, w64, FitsSigned}
+use Rattle.std.proofs.Common.{Some, ap, sym, subst, rules, arith, ◌∙◌, w64, FitsSigned}
 use Rattle.std.proofs.lemmas.Int.{to_z-of_z}
 use Rattle.rv_decode.specs.Encoding.{immediate_of}
 use Rattle.rv_decode.specs.Meaning.{MeansInstr}
+use Rattle.rv_decode.proofs.MeaningIs.{meaning_is}
 use Rattle.rv_decode.proofs.Encodes.{sum_below, means-sum, sum-means, sum-parts}
 use Rattle.rv_decode.proofs.encoder.encode.Goals as goal
 
@@ -25,6 +26,14 @@ returns-clause-meaning c =
     let placed = c.immediate.ensures ∙ ap (immediate_of c.row-row.result.format) (to_z-of_z w64 i.imm fits) in
     let sum = sum-parts i _ _ _ c.row-row.ensures c.registers.ensures placed in
     subst (λ word. MeansInstr word i) (sym sum) (means-sum i c.requires)
+
+pub returns-clause-decoded : goal.returns-clause-decoded
+returns-clause-decoded c =
+    let i = c.args.i.now in
+    let fits : FitsSigned w64 i.imm = search rules in
+    let placed = c.immediate.ensures ∙ ap (immediate_of c.row-row.result.format) (to_z-of_z w64 i.imm fits) in
+    let sum = sum-parts i _ _ _ c.row-row.ensures c.registers.ensures placed in
+    sym (meaning_is _ (Some i) (subst (λ word. MeansInstr word i) (sym sum) (means-sum i c.requires)))
 
 pub returns-clause-only : goal.returns-clause-only
 returns-clause-only c = λ word below means.

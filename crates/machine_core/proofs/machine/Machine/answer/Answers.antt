@@ -1,6 +1,5 @@
 use Rattle.std.proofs.Common.{sym, ◌∙◌}
-use Rattle.rv_execute.specs.Step.{request}
-use Rattle.machine_core.specs.Machine.{after_step}
+use Rattle.machine_core.specs.Machine.{after_request, request_of}
 use Rattle.machine_core.specs.Kept.{process_of}
 use Rattle.machine_core.proofs.Guests.{some_is, got, runs_at, not_running_at, asked_at, left_at}
 use Rattle.machine_core.proofs.machine.Machine.answer.Goals as goal
@@ -18,13 +17,13 @@ unreachable-requires c =
     cc
 
 pub returns-clause-turn : goal.returns-clause-turn
-returns-clause-turn c accesses =
+returns-clause-turn c =
     let there = got c.args.self.now c.self.inside.guests.entries c.args.p _ c.self.view_is c.in-Some.ensures.value in
-    c.answer_request.ensures.turn accesses ∙ sym (asked_at accesses c.args.self.now c.args.p (process_of c.in-Some.guest.now) there)
+    c.answer_request.ensures.turn ∙ sym (asked_at c.args.self.now c.args.p (process_of c.in-Some.guest.now) there)
 
 pub returns-clause-after : goal.returns-clause-after
-returns-clause-after c accesses =
+returns-clause-after c =
     let h = c.get_mut.follows.holds c.answer_request.new.self in
-    left_at (λ process. after_step (request c.args.p process.registers process.memory accesses)) c.args.self.now c.self.inside.guests.entries _ c.args.p
+    left_at (λ process. after_request process.memory (request_of c.args.p process)) c.args.self.now c.self.inside.guests.entries _ c.args.p
     c.in-Some.guest.now c.answer_request.new.self c.self.view_is c.in-Some.ensures.value
-    (c.answer_request.ensures.after accesses) (h.3 (some_is _ _ c.in-Some.ensures.value)).0
+    c.answer_request.ensures.after (h.3 (some_is _ _ c.in-Some.ensures.value)).0

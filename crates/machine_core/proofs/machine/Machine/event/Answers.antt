@@ -12,9 +12,9 @@ answer-requires c =
 pub returns-in-Asked-clause-turn : goal.returns-in-Asked-clause-turn
 returns-in-Asked-clause-turn c =
     let law = turn_law Asked c.args.self.now c.args.p c.requires (sym c.in-Asked.ensures.outcome) in
-    c.answer.ensures.turn law.accesses ∙ ap (λ (ps : Processes). turn_asked law.accesses ps c.args.p) c.in-Asked.ensures.after ∙ sym law.turn_is
+    c.answer.ensures.turn ∙ ap (λ (ps : Processes). turn_asked ps c.args.p) c.in-Asked.ensures.after ∙ sym law.turn_is
 
 pub returns-in-Asked-clause-after : goal.returns-in-Asked-clause-after
 returns-in-Asked-clause-after c =
     let law = turn_law Asked c.args.self.now c.args.p c.requires (sym c.in-Asked.ensures.outcome) in
-    c.answer.ensures.after law.accesses ∙ ap (λ (ps : Processes). after_asked law.accesses ps c.args.p) c.in-Asked.ensures.after ∙ sym law.after_is
+    c.answer.ensures.after ∙ ap (λ (ps : Processes). after_asked ps c.args.p) c.in-Asked.ensures.after ∙ sym law.after_is

@@ -1,7 +1,8 @@
-use Rattle.std.proofs.Common.{sym, ◌∙◌}
+use Rattle.std.proofs.Common.{sym, ap, ◌∙◌}
+use Rattle.rv_execute.specs.Execution.{outcome_by}
 use Rattle.machine_core.specs.Machine.{executed}
 use Rattle.machine_core.specs.Kept.{process_of}
-use Rattle.machine_core.proofs.Guests.{some_is, got, runs_at, not_running_at, outcome_at, left_at}
+use Rattle.machine_core.proofs.Guests.{some_is, got, runs_at, not_running_at, upshot_at, left_at}
 use Rattle.machine_core.proofs.machine.Machine.execute.Goals as goal
 
 pub execute-requires : goal.execute-requires
@@ -19,7 +20,7 @@ unreachable-requires c =
 pub returns-clause-outcome : goal.returns-clause-outcome
 returns-clause-outcome c =
     let there = got c.args.self.now c.self.inside.guests.entries c.args.p _ c.self.view_is c.in-Some.ensures.value in
-    c.execute.ensures.outcome ∙ sym (outcome_at c.args.self.now c.args.p (process_of c.in-Some.guest.now) there)
+    c.execute.ensures.outcome ∙ sym (ap outcome_by (upshot_at c.args.self.now c.args.p (process_of c.in-Some.guest.now) there))
 
 pub returns-clause-after : goal.returns-clause-after
 returns-clause-after c =

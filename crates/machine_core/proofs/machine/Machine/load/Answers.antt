@@ -1,8 +1,8 @@
 use Rattle.std.proofs.Common.{ap, ◌∙◌, arith}
 use Rattle.std.specs.FinMap.{insert}
+use Rattle.sizes.specs.declared.TheConstants.{STACK_POINTER}
 use Rattle.rv_execute.specs.Registers.{first_registers}
 use Rattle.ovl_io.specs.declared.process_state.ProcessState.TheVariants.{Running}
-use Rattle.machine_core.specs.Load.{stack_pointer}
 use Rattle.machine_core.specs.Machine.{Processes}
 use Rattle.machine_core.specs.Kept.{process_of}
 use Rattle.machine_core.specs.declared.guest.Guest.{Guest}
@@ -26,4 +26,4 @@ returns-clause-ok c =
     changed_kept process_of c.self.inside.guests.entries c.insert.new.self.entries c.args.p guest c.in_ok-insert.ensures.updates.0
     ∙ ap (λ (ps : Processes). insert ps c.args.p (process_of guest)) c.self.view_is
     ∙ ap (insert c.args.self.now c.args.p)
-    (as_loaded file c.new.result c.in_ok-memory.memory (c.new.ensures ∙ ap (λ pc. first_registers pc stack_pointer) (c.entry.ensures ∙ c.requires.of_file.entry)) c.in_ok-memory.ensures)
+    (as_loaded file c.new.result c.in_ok-memory.memory (c.new.ensures ∙ ap (λ pc. first_registers pc STACK_POINTER) (c.entry.ensures ∙ c.requires.of_file.entry)) c.in_ok-memory.ensures.memory)
