@@ -1,4 +1,5 @@
-use Rattle.std.specs.Prelude.{◌≡◌, ℕ, ◌+◌, ◌==◌, Bool, false, List, [], ◌∷◌, Option, Some, None, Result, Ok, Err, if◌then◌else◌}
+use Rattle.std.specs.Prelude.{◌≡◌, ℕ, ◌+◌, ◌==◌, Bool, false, true, List, [], ◌∷◌, ◌++◌, length, map, Option, Some, None, Result, Ok, Err, if◌then◌else◌}
+use Rattle.std.specs.List.{filter_map, list_any}
 use Rattle.script_text.specs.declared.command.Command.{Command}
 use Rattle.script_text.specs.declared.command.Meaning.{Meaning}
 use Rattle.script_text.specs.declared.command.Meaning.TheVariants.{Does, Nothing, Outside}
@@ -29,7 +30,11 @@ meaning_of_words (first ∷ words) = if is_comment first then Nothing else as_co
 unfoldable pub meaning_of : List ℕ → Meaning
 meaning_of line = meaning_of_words (words_of (without_return line))
 
--- commands, and then those that are told
+-- what each line of a script is
+abbrev pub meanings : List ℕ → List Meaning
+meanings script = map meaning_of (script_lines script)
+
+-- a command, and then those that are told
 abbrev pub and_then : Command → Result (List Command) ℕ → Result (List Command) ℕ
 and_then command (Ok commands) = Ok (command ∷ commands)
 and_then command (Err line) = Err line
@@ -41,17 +46,43 @@ said_by k Nothing behind = behind
 said_by k Outside behind = Err k
 
 -- the commands of some lines in order, of which the first is line k; or the number of the first that is outside
-abbrev pub commands_from : ℕ → List (List ℕ) → Result (List Command) ℕ
+abbrev pub commands_from : ℕ → List Meaning → Result (List Command) ℕ
 commands_from k [] = Ok []
-commands_from k (line ∷ lines) = said_by k (meaning_of line) (commands_from (k + 1) lines)
+commands_from k (meaning ∷ more) = said_by k meaning (commands_from (k + 1) more)
 
 -- the commands of a script, or the number from 1 of its first line that is outside
 unfoldable pub commands_of : List ℕ → Result (List Command) ℕ
-commands_of script = commands_from 1 (script_lines script)
+commands_of script = commands_from 1 (meanings script)
 
--- What parsing a script gives. With commands, each line is a command or no command, and those are the
--- commands in order; with the number of a line, it is the first that is outside. Memory may be wanting.
+-- What parsing a script gives, as that value. Memory may be wanting.
 abbrev pub Parses : {Commands : Type 0} → (Commands → List Command) → List ℕ → Result Commands ScriptError → Type 0
 Parses view script (Ok commands) = commands_of script ≡ Ok (view commands)
 Parses view script (Err (Line k)) = commands_of script ≡ Err k
 Parses view script (Err Memory) = Unit {0}
+
+-- The same line by line.
+
+abbrev pub is_outside : Meaning → Bool
+is_outside (Does command) = false
+is_outside Nothing = false
+is_outside Outside = true
+
+abbrev pub command_in : Meaning → Option Command
+command_in (Does command) = Some command
+command_in Nothing = None
+command_in Outside = None
+
+-- line k, from 1, is outside, and none before it
+pub record IsFirstOutside (lines : List Meaning) (k : ℕ) : Type 0 where
+  pub before : List Meaning
+  pub behind : List Meaning
+  pub are : lines ≡ before ++ Outside ∷ behind
+  pub place : length before + 1 ≡ k
+  pub none_before : list_any is_outside before ≡ false
+
+-- With commands, no line is outside, and they are those of the lines in order; with a number, that line is the
+-- first that is outside.
+abbrev pub Tells : {Commands : Type 0} → (Commands → List Command) → List Meaning → Result Commands ScriptError → Type 0
+Tells view lines (Ok commands) = (list_any is_outside lines ≡ false) × (view commands ≡ filter_map command_in lines)
+Tells view lines (Err (Line k)) = IsFirstOutside lines k
+Tells view lines (Err Memory) = Unit {0}

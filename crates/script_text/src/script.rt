@@ -1,7 +1,7 @@
 ghost use Rattle.std.specs.Prelude.{◌≤◌, IfOk, length};
 ghost use Rattle.std.specs.List.{All};
 ghost use Rattle.sizes.specs.declared.TheConstants.{MOST_SCRIPT_BYTES};
-ghost use Rattle.script_text.specs.Script.{Parses};
+ghost use Rattle.script_text.specs.Script.{Parses, Tells, meanings};
 ghost use Rattle.script_text.specs.Given.{IsGiven};
 
 use crate::command::{Command, Meaning, ScriptError};
@@ -9,9 +9,8 @@ use crate::forms::meaning_of;
 use crate::lines::first_line;
 use std::alloc::Global;
 
-/// The commands of a script in order; or, where a line is outside the grammar, the number of the first such
-/// line. A script has at most `MOST_SCRIPT_BYTES` bytes.
-pub fn parse(alloc: Global, bytes: &[u8]) -> Result<Vec<Command>, ScriptError>
+/// The commands of a script in order, line by line.
+fn parse_lines(alloc: Global, bytes: &[u8]) -> Result<Vec<Command>, ScriptError>
     requires { length bytes.now ≤ MOST_SCRIPT_BYTES }
     ensures parses { Parses (λ commands. commands.items) bytes.now result }
     ensures given { IfOk result (λ commands. All IsGiven commands.items) }
@@ -30,4 +29,15 @@ pub fn parse(alloc: Global, bytes: &[u8]) -> Result<Vec<Command>, ScriptError>
         k += 1;
     }
     Ok(commands)
+}
+
+/// The commands of a script in order; or, where a line is outside the grammar, the number of the first such
+/// line. A script has at most `MOST_SCRIPT_BYTES` bytes.
+pub fn parse(alloc: Global, bytes: &[u8]) -> Result<Vec<Command>, ScriptError>
+    requires { length bytes.now ≤ MOST_SCRIPT_BYTES }
+    ensures parses { Parses (λ commands. commands.items) bytes.now result }
+    ensures lines { Tells (λ commands. commands.items) (meanings bytes.now) result }
+    ensures given { IfOk result (λ commands. All IsGiven commands.items) }
+{
+    parse_lines(alloc, bytes)
 }
