@@ -4,7 +4,7 @@
 ghost use Rattle.std.specs.Prelude.{◌≡◌, ◌-◌, ◌<◌, ◌≤◌, ℕ, List, [], ◌∷◌, ◌++◌, length, replicate, IfOk};
 ghost use Rattle.std.specs.Borrow.{sem};
 ghost use denote.RawPtr.{Ptr};
-ghost use Rattle.line_store.specs.Lines.{line_of};
+ghost use Rattle.line_store.specs.Lines.{line_of, made_up_to};
 ghost use Rattle.line_store.specs.Memory.{lines_own, lines_lent, lease_owns};
 
 use std::alloc::{AllocError, Allocator};
@@ -109,7 +109,7 @@ impl Lines {
     /// Makes lines until there are `wanted`, for which there has to be room. They are zero.
     pub(crate) fn grow(&mut self, wanted: usize)
         requires room { wanted ≤ self.old.room }
-        ensures items { self.new.items ≡ self.old.items ++ replicate (wanted - length self.old.items) (replicate 64 0) }
+        ensures items { self.new.items ≡ made_up_to wanted self.old.items }
         ensures piece { (self.new.at ≡ self.old.at) × (self.new.room ≡ self.old.room) }
     {
         'making: while self.as_slice().len() < wanted {

@@ -11,7 +11,7 @@ use std::test::Fail;
 fn write_then_read(region: &mut Region, at: u32, byte: u8) -> u8
     requires { at < length region.old }
     ensures read { result ≡ byte }
-    ensures written { region.new ≡ slice_set region.old at (slice_set (line_of region.old at) 63 byte) }
+    ensures put { region.new ≡ slice_set region.old at (slice_set (line_of region.old at) 63 byte) }
 {
     let line = region.line_mut(at);
     line[63] = byte;

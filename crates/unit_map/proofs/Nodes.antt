@@ -209,12 +209,6 @@ last_ends nodes depth k at m way is lt = by (by_bit (get_or nodes m 0) k)
     by (inr e) = e
     by (inl bit) = let e : depth - depth ≡ 0 = omega arith in absurd (omega (arith, way m is bit, ap (λ h. above h m) e, above_none m, lt))
 
--- a mark of the list of marks is a node
-pub mark_bit : (nodes : List ℕ) (base depth k at : ℕ) → base ≡ level depth → IsMark depth at → bit_at (get_or nodes at 0) k ≡ 1 → bit_at (get_or (drop base nodes) (at - base) 0) k ≡ 1
-mark_bit nodes base depth k at start is bit =
-    let e : base + (at - base) ≡ at = omega (arith, is.from, start) in
-    ap (λ n. bit_at n k) (mark_is nodes base (at - base) ∙ ap (λ x. get_or nodes x 0) e) ∙ bit
-
 -- and one past all nodes has no bit
 pub mark_none : (nodes : List ℕ) (base depth k f : ℕ) → AreNodes nodes base depth → (IsMark depth (base + f) → bit_at (get_or nodes (base + f) 0) k ≡ 0) → bit_at (get_or (drop base nodes) f 0) k ≡ 0
 mark_none nodes base depth k f are none = by (by_bit (get_or (drop base nodes) f 0) k)
@@ -304,9 +298,6 @@ zero_nodes nodes base depth start few e = record {
       ap (λ ns. get_or ns node 0) e ∙ zero_at (16 * base + 1) node
       ∙ sym (ap (λ ns. or_of (λ x. get_or ns x 0) (16 * node + 1) 16) e ∙ none_or (16 * base + 1) (16 * node + 1) 16);
 }
-
-pub zero_marks : (nodes : List ℕ) (base f : ℕ) → nodes ≡ replicate (16 * base + 1) 0 → get_or (drop base nodes) f 0 ≡ 0
-zero_marks nodes base f e = mark_is nodes base f ∙ ap (λ ns. get_or ns (base + f) 0) e ∙ zero_at (16 * base + 1) (base + f)
 
 -- what the last node of marks can be
 pub depth_zero : 0 ≡ level 0

@@ -1,10 +1,9 @@
 use Rattle.std.proofs.Common.{◌≡◌, ℕ, ◌+◌, ◌-◌, ◌*◌, ◌/◌, ◌^◌, ◌%◌, ◌<◌, ◌≤◌, true, ◌⊎◌, inl, inr, List, [], ◌∷◌, ◌++◌, length, get_or, sym, ap, subst, ◌∙◌, refl, arith, false, Option, Some, None}
-use Rattle.std.specs.Option.{is_some}
 use Rattle.std.specs.Int.{bit_at}
 use Rattle.std.proofs.lemmas.Bool.{cases_lt}
 use Rattle.std.proofs.lemmas.Nat.{pow_pos}
 use Rattle.unit_map.specs.Pieces.{Piece, IsPiece, AreBlocksApart, IsApartFromTaken, AreMerged, ArePieces, Fills, count, units_in, free_at, taken_at}
-use Rattle.unit_map.specs.Changes.{split, TakesFrom, TakesBlock, IsFull, HasRoom, IsLeast}
+use Rattle.unit_map.specs.Changes.{split, TakesFrom, TakesBlock, IsLeast}
 use Rattle.unit_map.specs.Laws.{equal_or_apart, within}
 use Rattle.unit_map.specs.Cells.{piece_at, pieces_in, pieces_of, AreCells, AreSameBut, AreSameFrames, AreSameFramesBoth}
 use Rattle.unit_map.specs.Marks.{mark_of, AreMarks, IsMarked, HasBit, HasNoBit, IsLeastBit}
@@ -152,14 +151,6 @@ least_is cells marks order (Some from) are marked least =
     at p h free le (inl lt) = absurd (no_free cells marks p.order (omega (arith, lt, least.1)) marked (least.3 p.order le lt) p h free refl)
     at p h free le (inr ge) = ge
 
-pub least_room : (ps : List Piece) (order : ℕ) (o : Option ℕ) → IsLeast ps order o → is_some o ≡ true → HasRoom ps order
-least_room ps order None least h = absurd (cc)
-least_room ps order (Some from) least h = (free_at least.2.0 from, (least.2.1, refl, least.0))
-
-pub least_full : (ps : List Piece) (order : ℕ) (o : Option ℕ) → IsLeast ps order o → is_some o ≡ false → IsFull ps order
-least_full ps order None least h = least
-least_full ps order (Some from) least h = absurd (cc)
-
 -- A table is written in one frame or in two, and the marks of those are made anew.
 
 pub table_next : (old marks new anew : List ℕ) (f : ℕ) → IsTable old marks → AreCells new → AreMerged (pieces_of new) → AreSameFrames f old new → IsMarked marks f (mark_of new f) anew → IsTable new anew
@@ -181,9 +172,6 @@ table_twice old marks new mid anew f g is are merged same one two = record {
 
 pub table_pieces : (cells marks : List ℕ) → IsTable cells marks → ArePieces (pieces_of cells)
 table_pieces cells marks is = are_pieces cells is.are is.merged
-
-pub units_stay : (old new : List ℕ) → AreCells old → AreCells new → length new ≡ length old → units_in (pieces_of new) ≡ units_in (pieces_of old)
-units_stay old new a b e = omega (arith, a.total, b.total, e)
 
 -- the frame of a unit that is in the table
 pub frame_in : (cells : List ℕ) (x : ℕ) → AreCells cells → x < length cells → 16 * (x / 16) + 16 ≤ length cells

@@ -96,9 +96,10 @@ fn three_sizes_are_taken_and_given_in_every_order(rt: HostRuntime) -> Result<(),
         for giving in ORDERS {
             let mut blocks = [Block { unit: 0, order: 0 }; 3];
             for at in taking {
-                match map.take(orders[at]) {
+                let order = orders[at];
+                match map.take(order) {
                     Some(block) => blocks[at] = block,
-                    None => panic!(rt; "no room for order {}", orders[at]),
+                    None => panic!(rt; "no room for order {order}"),
                 }
             }
             assert_eq!(rt; map.free_units(), 2);
