@@ -7,7 +7,7 @@ pub returns-then-address-ne16-clause-answer : goal.returns-then-address-ne16-cla
 returns-then-address-ne16-clause-answer c =
     let bytes = c.args.self.now.bytes in
     let a = c.args.address in
-    (denied_first bytes writable a (length c.args.bytes.now) (allows_outside bytes writable a (λ e. omega (arith, e))) (is_some (length c.args.bytes.now) c.requires), refl)
+    (denied_first bytes writable a (length c.args.bytes.now) (allows_outside bytes writable a (λ e. omega (arith, e))) (is_some (length c.args.bytes.now) c.requires.count), refl)
 
 pub returns-then-bytes-address-clause-answer : goal.returns-then-bytes-address-clause-answer
 returns-then-bytes-address-clause-answer c =
