@@ -4,3 +4,4 @@ pub mod Codes
 pub mod Laws
 pub mod Load
 pub mod Kept
+pub mod Slots

@@ -14,10 +14,13 @@
 #![tactic(auto)]
 
 mod guest;
+mod keeping;
 mod load;
 mod machine;
 mod memory;
 mod process;
+mod running;
+mod slots;
 
 pub use machine::Machine;
 pub use process::Process;

@@ -2,6 +2,7 @@ use crate::Machine;
 use crate::guest::Guest;
 use crate::load::load_memory;
 use crate::memory::PlainMemory;
+use crate::process::is_running;
 use bitflags::Flags;
 use elf_loader::read_image;
 use ovl_io::{FaultKind, Perms, ProcessState, Turn};
@@ -332,9 +333,9 @@ fn a_write_prints_its_buffer(rt: HostRuntime) -> Result<(), Fail> {
     for ([a0, a1, a2], answer, printed) in rows {
         let memory = ecall_memory(&rt, rt.alloc())?;
         let mut guest = guest_of(memory, CODE, [a0, a1, a2, 64]);
-        assert!(rt; guest.is_running());
+        assert!(rt; is_running(&guest.process));
         assert_eq!(rt; guest.execute(), Outcome::Asked);
-        assert!(rt; guest.is_running());
+        assert!(rt; is_running(&guest.process));
         match (guest.answer_request(1), printed) {
             (Turn::Wrote(written), Some((port, front, count))) => {
                 assert_eq!(rt; (written.port, written.bytes.len()), (port, count));
