@@ -10,3 +10,4 @@ pub mod Rising
 pub mod Room
 pub mod Machines
 pub mod Counts
+pub mod Plays

@@ -5,3 +5,4 @@ pub mod Laws
 pub mod Load
 pub mod Kept
 pub mod Slots
+pub mod Play

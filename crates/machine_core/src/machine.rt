@@ -9,6 +9,7 @@ ghost use Rattle.sizes.specs.declared.TheConstants.{LAST_SPACE};
 ghost use Rattle.elf_loader.specs.Image.{IsImageOf};
 ghost use Rattle.machine_core.specs.Machine.{AnswersAs, LeadsTo, StaysBut, after_asked, after_execution, after_turn, came_to, is_running, keys_from, running_numbers, shown_at, turn_asked, turn_of, wholes, with_process, with_whole, without_process, without_space};
 ghost use Rattle.rv_execute.specs.Execution.{outcome_by};
+ghost use Rattle.machine_core.specs.Play.{AreOwnTurns, after_number, run_over};
 ghost use Rattle.machine_core.specs.Load.{loaded_process, page_count};
 
 use crate::guest::Guest;
@@ -212,6 +213,29 @@ impl Machine {
             Outcome::Asked => self.answer(p),
             Outcome::Fault(kind, address) => Turn::Faulted(kind, address),
             Outcome::Full(units, limit) => Turn::Full(units, limit),
+        }
+    }
+
+    /// A turn of a number: one instruction where its process is running, and else nothing.
+    fn turn(&mut self, p: u16)
+        ensures { wholes self.new ≡ after_number p (wholes self.old) }
+    {
+        if self.is_running(p) {
+            let _ = self.event(p);
+        }
+    }
+
+    /// Takes one turn of each number, in order, and passes over those that aren't running then. So each process is its
+    /// own turns: what as many turns of its own make of it, whatever others did between. Takes no memory.
+    pub fn play(&mut self, turns: &[u16])
+        ensures after { wholes self.new ≡ run_over turns.now (wholes self.old) }
+        ensures stands { LeadsTo (run_over turns.now) self.old self.new }
+        ensures own { AreOwnTurns turns.now (wholes self.old) (wholes self.new) }
+    {
+        let mut i = 0;
+        'playing: while i < turns.len() {
+            self.turn(turns[i]);
+            i += 1;
         }
     }
 }
