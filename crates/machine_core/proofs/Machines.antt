@@ -17,7 +17,7 @@ use Rattle.ovl_io.specs.Memory.{Memory}
 use Rattle.machine_core.specs.Process.{Process, runs}
 use Rattle.machine_core.specs.declared.process.Process as declared
 use Rattle.machine_core.specs.Machine.{Machine, Processes, StaysBut, wholes, is_running, shown_process, shown_at, running_numbers, keys_from}
-use Rattle.machine_core.specs.Slots.{Slots, slot_at, slot_space, slot_process, slot_whole, slot_runs, seen, is_in, IsChanged, IsKept, IsNext}
+use Rattle.machine_core.specs.Slots.{Slots, slot_at, slot_space, slot_process, slot_whole, slot_runs, seen, is_in, IsChanged, IsRunningList, IsNextProcess}
 use Rattle.machine_core.proofs.Rising.{Rises, rises, increases, lower, none_below, same_is, other_is, found_in, same_rising}
 use Rattle.machine_core.proofs.Seen.{space_at, process_at, whole_seen, runs_seen, shown_seen, wholes_changed, changed_stays}
 
@@ -105,12 +105,12 @@ numbers_are processes q =
     ∙ ap (λ (o : Option Process). option_map_or (λ (process : Process). runs process.state) o false) (sym (get-entries processes q))
 
 -- the list that is kept
-pub running_is : (self : Machine) (slots : Slots) (running : Vec ℕ) → seen slots ≡ self → IsKept slots running → running.items ≡ running_numbers (wholes self)
+pub running_is : (self : Machine) (slots : Slots) (running : Vec ℕ) → seen slots ≡ self → IsRunningList slots running → running.items ≡ running_numbers (wholes self)
 running_is self slots running view kept =
     same_rising 0 running.items (running_numbers (wholes self)) (rises running.items kept.ascending) (numbers_rise (wholes self))
     (λ q. kept.listed q ∙ sym (has_running self slots view q) ∙ sym (numbers_are (wholes self) q))
 
-pub each_runs : (self : Machine) (slots : Slots) (running : Vec ℕ) → seen slots ≡ self → IsKept slots running → All (λ p. is_running (wholes self) p ≡ true) running.items
+pub each_runs : (self : Machine) (slots : Slots) (running : Vec ℕ) → seen slots ≡ self → IsRunningList slots running → All (λ p. is_running (wholes self) p ≡ true) running.items
 each_runs self slots running view kept = λ k d below.
     let p = get_or running.items k d in
     let at : get_or running.items k 0 ≡ p = same_default running.items k d below in
@@ -167,7 +167,7 @@ module _ (self : Machine) (old : Slots) (view : seen old ≡ self) (from : ℕ) 
   lower_key : (q : ℕ) → q < from → is_in (keys_from from (wholes self)) q ≡ false
   lower_key q below = keys_are from (wholes self) q ∙ is_lower (get (wholes self) q) from q below
 
-  pub next_is : (r : Option ℕ) → IsNext old from r
+  pub next_is : (r : Option ℕ) → IsNextProcess old from r
       → MatchOption r (keys_from from (wholes self) ≡ []) (λ p. slice_get (keys_from from (wholes self)) 0 ≡ Some p)
   next_is None none = none_are _ (λ q. elim (cases_lt q from) [ inl below ↦ lower_key q below | inr le ↦ absent q (none q le) ])
   next_is (Some p) next =

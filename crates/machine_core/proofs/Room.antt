@@ -8,7 +8,7 @@ use Rattle.std.proofs.lemmas.List.{get_or_past}
 use Rattle.machine_core.specs.Process.{runs}
 use Rattle.machine_core.specs.declared.process.Process as declared
 use Rattle.machine_core.specs.declared.slots.Slot.{Slot}
-use Rattle.machine_core.specs.Slots.{Slots, slot_at, slot_process, slot_runs, is_in, IsKept}
+use Rattle.machine_core.specs.Slots.{Slots, slot_at, slot_process, slot_runs, is_in, IsRunningList}
 use Rattle.machine_core.proofs.Rising.{rises, fewer}
 
 -- Room in the list of running numbers.
@@ -27,7 +27,7 @@ runs_there slot h = by_process (slot_process slot) h
     by_process None h = h
     by_process (Some process) h = refl
 
-pub room_left : (slots : Slots) (running : Vec ℕ) (p : ℕ) → IsKept slots running → is_some (slot_process (slot_at slots p)) ≡ true → is_in running.items p ≡ false
+pub room_left : (slots : Slots) (running : Vec ℕ) (p : ℕ) → IsRunningList slots running → is_some (slot_process (slot_at slots p)) ≡ true → is_in running.items p ≡ false
     → length running.items < vec_capacity running
 room_left slots running p kept has absent =
     let fits = fewer 0 (length slots) p running.items (rises running.items kept.ascending) (omega arith) (has_place slots p has) absent
@@ -35,7 +35,7 @@ room_left slots running p kept has absent =
     omega (arith, fits, kept.room)
 
 -- so a number has a place there
-pub has_room : {E : Type 0} (slots : Slots) (running : Vec ℕ) (p : ℕ) (r : Result (Unit {0}) E) → IsKept slots running → is_some (slot_process (slot_at slots p)) ≡ true
+pub has_room : {E : Type 0} (slots : Slots) (running : Vec ℕ) (p : ℕ) (r : Result (Unit {0}) E) → IsRunningList slots running → is_some (slot_process (slot_at slots p)) ≡ true
     → (is_in running.items p ≡ true → IsOk r) → (length running.items < vec_capacity running → IsOk r) → IsOk r
 has_room slots running p r kept has already succeeds = by_test (is_in running.items p) refl
   where

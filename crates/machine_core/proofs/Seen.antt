@@ -10,7 +10,7 @@ use Rattle.ovl_io.specs.KeyLaws.{ties, differs, by_key, alike, get_same, get_oth
 use Rattle.ovl_io.specs.Memory.{Memory}
 use Rattle.machine_core.specs.Process.{Process, runs}
 use Rattle.machine_core.specs.Kept.{process_of}
-use Rattle.machine_core.specs.Machine.{Machine, StaysBut, is_running, shown_at, shown_process, whole, wholes, with_process, without_process, without_space, with_whole}
+use Rattle.machine_core.specs.Machine.{Machine, StaysBut, is_running, shown_at, shown_process, whole, wholes, with_process_at, without_process_at, without_space_at, with_whole_at}
 use Rattle.machine_core.specs.Laws.{wholes_at}
 use Rattle.machine_core.specs.Slots.{Slots, slot_at, slot_space, slot_process, slot_whole, slot_entries, slot_runs, seen, IsChanged, IsEdited}
 use Rattle.machine_core.specs.declared.process.Process as declared
@@ -185,32 +185,32 @@ module _ (old new : Slots) (p : ℕ) (space : Option Memory) (process : Option d
       (λ other. process_other q other ∙ sym (removed_other (seen old).processes p q other)))
 
 pub seen_put : (old new : Slots) (p : ℕ) (process : declared.Process) → IsEdited old new p (slot_space (slot_at old p)) (Some process)
-    → seen new ≡ with_process (seen old) p process
+    → seen new ≡ with_process_at (seen old) p process
 seen_put old new p process edited =
     let spaces = space_kept old new p _ _ edited refl in
     let processes = process_put old new p _ _ edited process refl in
     λ i. record { spaces = spaces i; processes = processes i }
 
-pub seen_removed : (old new : Slots) (p : ℕ) → IsEdited old new p (slot_space (slot_at old p)) None → seen new ≡ without_process (seen old) p
+pub seen_removed : (old new : Slots) (p : ℕ) → IsEdited old new p (slot_space (slot_at old p)) None → seen new ≡ without_process_at (seen old) p
 seen_removed old new p edited =
     let spaces = space_kept old new p _ _ edited refl in
     let processes = process_lost old new p _ _ edited refl in
     λ i. record { spaces = spaces i; processes = processes i }
 
-pub seen_dropped : (old new : Slots) (p : ℕ) → slot_process (slot_at old p) ≡ None → IsEdited old new p None None → seen new ≡ without_space (seen old) p
+pub seen_dropped : (old new : Slots) (p : ℕ) → slot_process (slot_at old p) ≡ None → IsEdited old new p None None → seen new ≡ without_space_at (seen old) p
 seen_dropped old new p none edited =
     let spaces = space_lost old new p _ _ edited refl in
     let processes = process_kept old new p _ _ edited (sym none) in
     λ i. record { spaces = spaces i; processes = processes i }
 
 pub seen_made : (old new : Slots) (p : ℕ) (process : declared.Process) (memory : Memory) → IsEdited old new p (Some memory) (Some process)
-    → seen new ≡ with_whole (seen old) p (whole process memory)
+    → seen new ≡ with_whole_at (seen old) p (whole process memory)
 seen_made old new p process memory edited =
     let spaces = space_put old new p _ _ edited memory refl in
     let processes = process_put old new p _ _ edited process refl in
     λ i. record { spaces = spaces i; processes = processes i }
 
-pub with_whole_stays : (old new : Machine) (p : ℕ) (process : Process) → new ≡ with_whole old p process → StaysBut p old new
+pub with_whole_stays : (old new : Machine) (p : ℕ) (process : Process) → new ≡ with_whole_at old p process → StaysBut p old new
 with_whole_stays old new p process is = record {
   spaces = λ q other. ap (λ (m : Machine). get m.spaces q) is ∙ get_other old.spaces p q process.memory other;
   processes = λ q other. ap (λ (m : Machine). get m.processes q) is ∙ get_other old.processes p q (shown_process process) other;

@@ -17,7 +17,7 @@ use Rattle.rv_execute.specs.Calls.{access_of}
 use Rattle.rv_execute.specs.Execution.{Upshot, Steps, Asks, Faults, outcome_by}
 use Rattle.rv_execute.specs.Step.{request, turned}
 use Rattle.machine_core.specs.Process.{Process, runs}
-use Rattle.machine_core.specs.Machine.{Machine, Processes, shown_process, with_process, without_process, without_space, with_whole, whole, whole_at, wholes, AnswersAs, LeadsTo, is_running, execution_of, executed, state_executed, came_to, after_execution, after_request, after_step, step_of, process_after, request_of, turn_of, after_turn, turn_asked, after_asked}
+use Rattle.machine_core.specs.Machine.{Machine, Processes, shown_process, with_process_at, without_process_at, without_space_at, with_whole_at, whole, whole_at, wholes, AnswersAs, LeadsTo, is_running, execution_of, executed, state_executed, came_to, after_execution, after_request, after_step, step_of, process_after, request_of, turn_of, after_turn, turn_asked, after_asked}
 
 -- What the wholes have, and a turn by its two parts.
 
@@ -74,40 +74,40 @@ wholes_at machine q =
 
 -- a process's whole, put, changed and taken away
 pub wholes_with_process : (machine : Machine) (p : ℕ) (process : declared.Process) (memory : Memory) → get machine.spaces p ≡ Some memory
-    → wholes (with_process machine p process) ≡ insert (wholes machine) p (whole process memory)
+    → wholes (with_process_at machine p process) ≡ insert (wholes machine) p (whole process memory)
 wholes_with_process machine p process memory there = alike _ _ (λ q. by_key q p
-    (λ same. wholes_at (with_process machine p process) q
+    (λ same. wholes_at (with_process_at machine p process) q
     ∙ ap (λ (o : Option declared.Process). option_and_then (λ process. option_map (whole process) (get machine.spaces q)) o) (get_same machine.processes p q process same)
     ∙ ap (λ (o : Option Memory). option_map (whole process) o) (ap (get machine.spaces) same ∙ there)
     ∙ sym (get_same (wholes machine) p q (whole process memory) same))
-    (λ other. wholes_at (with_process machine p process) q
+    (λ other. wholes_at (with_process_at machine p process) q
     ∙ ap (λ (o : Option declared.Process). option_and_then (λ process. option_map (whole process) (get machine.spaces q)) o) (get_other machine.processes p q process other)
     ∙ sym (wholes_at machine q) ∙ sym (get_other (wholes machine) p q (whole process memory) other)))
 
-pub wholes_without_process : (machine : Machine) (p : ℕ) → wholes (without_process machine p) ≡ remove (wholes machine) p
+pub wholes_without_process : (machine : Machine) (p : ℕ) → wholes (without_process_at machine p) ≡ remove (wholes machine) p
 wholes_without_process machine p = alike _ _ (λ q. by_key q p
-    (λ same. wholes_at (without_process machine p) q
+    (λ same. wholes_at (without_process_at machine p) q
     ∙ ap (λ (o : Option declared.Process). option_and_then (λ process. option_map (whole process) (get machine.spaces q)) o) (removed_same machine.processes p q same)
     ∙ sym (removed_same (wholes machine) p q same))
-    (λ other. wholes_at (without_process machine p) q
+    (λ other. wholes_at (without_process_at machine p) q
     ∙ ap (λ (o : Option declared.Process). option_and_then (λ process. option_map (whole process) (get machine.spaces q)) o) (removed_other machine.processes p q other)
     ∙ sym (wholes_at machine q) ∙ sym (removed_other (wholes machine) p q other)))
 
-pub wholes_without_space : (machine : Machine) (p : ℕ) → get machine.processes p ≡ None → wholes (without_space machine p) ≡ wholes machine
+pub wholes_without_space : (machine : Machine) (p : ℕ) → get machine.processes p ≡ None → wholes (without_space_at machine p) ≡ wholes machine
 wholes_without_space machine p absent = alike _ _ (λ q. by_key q p
     (λ same.
     let none : get machine.processes q ≡ None = ap (get machine.processes) same ∙ absent in
-    wholes_at (without_space machine p) q
-    ∙ ap (λ (o : Option declared.Process). option_and_then (λ process. option_map (whole process) (get (without_space machine p).spaces q)) o) none
+    wholes_at (without_space_at machine p) q
+    ∙ ap (λ (o : Option declared.Process). option_and_then (λ process. option_map (whole process) (get (without_space_at machine p).spaces q)) o) none
     ∙ sym (ap (λ (o : Option declared.Process). option_and_then (λ process. option_map (whole process) (get machine.spaces q)) o) none)
     ∙ sym (wholes_at machine q))
-    (λ other. wholes_at (without_space machine p) q
+    (λ other. wholes_at (without_space_at machine p) q
     ∙ ap (λ (o : Option Memory). option_and_then (λ process. option_map (whole process) o) (get machine.processes q)) (removed_other machine.spaces p q other)
     ∙ sym (wholes_at machine q)))
 
-pub wholes_with_whole : (machine : Machine) (p : ℕ) (w : Process) → wholes (with_whole machine p w) ≡ insert (wholes machine) p w
+pub wholes_with_whole : (machine : Machine) (p : ℕ) (w : Process) → wholes (with_whole_at machine p w) ≡ insert (wholes machine) p w
 wholes_with_whole machine p w =
-    let made : Machine = with_whole machine p w in
+    let made : Machine = with_whole_at machine p w in
     alike _ _ (λ q. by_key q p
     (λ same. wholes_at made q
     ∙ ap (λ (o : Option declared.Process). option_and_then (λ (process : declared.Process). option_map (whole process) (get made.spaces q)) o) (get_same machine.processes p q (shown_process w) same)

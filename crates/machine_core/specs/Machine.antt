@@ -58,20 +58,20 @@ pub record StaysBut (p : ℕ) (old new : Machine) : Type 0 where
   pub processes : (q : ℕ) → (q ≡ p → ⊥) → get new.processes q ≡ get old.processes q
 
 -- a process in its place, over the space that it has
-abbrev pub with_process : Machine → ℕ → declared.Process → Machine
-with_process machine p process = record { spaces = machine.spaces; processes = insert machine.processes p process }
+abbrev pub with_process_at : Machine → ℕ → declared.Process → Machine
+with_process_at machine p process = record { spaces = machine.spaces; processes = insert machine.processes p process }
 
 -- a process taken away, whose space stays
-abbrev pub without_process : Machine → ℕ → Machine
-without_process machine p = record { spaces = machine.spaces; processes = remove machine.processes p }
+abbrev pub without_process_at : Machine → ℕ → Machine
+without_process_at machine p = record { spaces = machine.spaces; processes = remove machine.processes p }
 
 -- a space taken away
-abbrev pub without_space : Machine → ℕ → Machine
-without_space machine p = record { spaces = remove machine.spaces p; processes = machine.processes }
+abbrev pub without_space_at : Machine → ℕ → Machine
+without_space_at machine p = record { spaces = remove machine.spaces p; processes = machine.processes }
 
 -- a whole process, and its space, made
-abbrev pub with_whole : Machine → ℕ → Process → Machine
-with_whole machine p process = record {
+abbrev pub with_whole_at : Machine → ℕ → Process → Machine
+with_whole_at machine p process = record {
   spaces = insert machine.spaces p process.memory;
   processes = insert machine.processes p (shown_process process);
 }

@@ -74,14 +74,14 @@ IsPlaceOf numbers p (Err i) =
 
 -- The list of running numbers: ascending, those whose slots have a process that runs, and with room for each slot. The slots
 -- are those of the numbers of spaces.
-pub record IsKept (slots : Slots) (running : Vec ℕ) : Type 0 where
+pub record IsRunningList (slots : Slots) (running : Vec ℕ) : Type 0 where
   pub ascending : IsStrictlyIncreasing running.items
   pub listed : (q : ℕ) → is_in running.items q ≡ slot_runs (slot_at slots q)
   pub room : length slots ≤ vec_capacity running
   pub few : length slots ≤ LAST_SPACE + 1
 
 -- the least number with a process, of those not below one
-abbrev pub IsNext : Slots → ℕ → Option ℕ → Type 0
-IsNext slots from None = (q : ℕ) → from ≤ q → slot_process (slot_at slots q) ≡ None
-IsNext slots from (Some p) =
+abbrev pub IsNextProcess : Slots → ℕ → Option ℕ → Type 0
+IsNextProcess slots from None = (q : ℕ) → from ≤ q → slot_process (slot_at slots q) ≡ None
+IsNextProcess slots from (Some p) =
     (from ≤ p) × (is_some (slot_process (slot_at slots p)) ≡ true) × ((q : ℕ) → from ≤ q → q < p → slot_process (slot_at slots q) ≡ None)

@@ -6,7 +6,7 @@ ghost use Rattle.sizes.specs.declared.TheConstants.{LAST_SPACE};
 ghost use Rattle.ovl_io.specs.declared.process_state.ProcessState.TheVariants.{Running};
 ghost use Rattle.rv_execute.specs.Execution.{outcome_by};
 ghost use Rattle.machine_core.specs.Machine.{executed, upshot_of, asked_of, answered_process};
-ghost use Rattle.machine_core.specs.Slots.{slot_at, slot_space, slot_process, slot_whole, slot_runs, IsChanged, IsEdited, IsKept};
+ghost use Rattle.machine_core.specs.Slots.{slot_at, slot_space, slot_process, slot_whole, slot_runs, IsChanged, IsEdited, IsRunningList};
 
 use crate::guest::Guest;
 use crate::process::{Process, is_running};
@@ -21,11 +21,11 @@ use std::alloc::{AllocError, Global};
 /// Executes one instruction of a running process. One that faults is taken out of the list.
 #[inline]
 pub(crate) fn execute_turn(slots: &mut Slots, running: &mut Vec<u16>, p: u16) -> Outcome
-    requires kept { IsKept slots.old.items running.old }
+    requires kept { IsRunningList slots.old.items running.old }
     requires runs { slot_runs (slot_at slots.old.items p) ≡ true }
     ensures outcome { result ≡ outcome_by (upshot_of (slot_whole (slot_at slots.old.items p))) }
     ensures changed { IsChanged executed slots.old.items slots.new.items p }
-    ensures kept { IsKept slots.new.items running.new }
+    ensures kept { IsRunningList slots.new.items running.new }
 {
     match execute_in(slots, p) {
         Outcome::Stepped => Outcome::Stepped,
@@ -40,11 +40,11 @@ pub(crate) fn execute_turn(slots: &mut Slots, running: &mut Vec<u16>, p: u16) ->
 
 /// Does what a running process asked for. One that exits is taken out of the list.
 pub(crate) fn answer_turn(slots: &mut Slots, running: &mut Vec<u16>, p: u16) -> Turn
-    requires kept { IsKept slots.old.items running.old }
+    requires kept { IsRunningList slots.old.items running.old }
     requires runs { slot_runs (slot_at slots.old.items p) ≡ true }
     ensures turn { result ≡ asked_of p (slot_whole (slot_at slots.old.items p)) }
     ensures changed { IsChanged (answered_process p) slots.old.items slots.new.items p }
-    ensures kept { IsKept slots.new.items running.new }
+    ensures kept { IsRunningList slots.new.items running.new }
 {
     let turn = answer_in(slots, p);
     if runs_in(slots, p) {
@@ -62,12 +62,12 @@ pub(crate) fn make(
     p: u16,
     guest: Guest,
 ) -> Result<(), AllocError>
-    requires kept { IsKept slots.old.items running.old }
+    requires kept { IsRunningList slots.old.items running.old }
     requires number { p ≤ LAST_SPACE }
     requires runs { guest.process.state ≡ Running }
     ensures made { OnOk result (IsEdited slots.old.items slots.new.items p (Some guest.memory) (Some guest.process)) }
     ensures err { OnErr result ((q : ℕ) → slot_at slots.new.items q ≡ slot_at slots.old.items q) }
-    ensures kept { IsKept slots.new.items running.new }
+    ensures kept { IsRunningList slots.new.items running.new }
 {
     let count = p as usize + 1;
     reserve(running, count)?;
@@ -85,13 +85,13 @@ pub(crate) fn adopt(
     p: u16,
     process: Process,
 ) -> Result<(), AllocError>
-    requires kept { IsKept slots.old.items running.old }
+    requires kept { IsRunningList slots.old.items running.old }
     requires space { is_some (slot_space (slot_at slots.old.items p)) ≡ true }
     requires absent { slot_process (slot_at slots.old.items p) ≡ None }
     ensures ok { OnOk result (IsEdited slots.old.items slots.new.items p
         (slot_space (slot_at slots.old.items p)) (Some process)) }
     ensures err { OnErr result (slots.new.items ≡ slots.old.items) }
-    ensures kept { IsKept slots.new.items running.new }
+    ensures kept { IsRunningList slots.new.items running.new }
 {
     if is_running(&process) {
         put_in(running, p)?;
@@ -102,11 +102,11 @@ pub(crate) fn adopt(
 
 /// Puts a process in the place of one. Takes no memory: there is room for each number.
 pub(crate) fn set(slots: &mut Slots, running: &mut Vec<u16>, p: u16, process: Process)
-    requires kept { IsKept slots.old.items running.old }
+    requires kept { IsRunningList slots.old.items running.old }
     requires there { is_some (slot_process (slot_at slots.old.items p)) ≡ true }
     ensures set { IsEdited slots.old.items slots.new.items p
         (slot_space (slot_at slots.old.items p)) (Some process) }
-    ensures kept { IsKept slots.new.items running.new }
+    ensures kept { IsRunningList slots.new.items running.new }
 {
     if is_running(&process) {
         match put_in(running, p) {
@@ -121,11 +121,11 @@ pub(crate) fn set(slots: &mut Slots, running: &mut Vec<u16>, p: u16, process: Pr
 
 /// Takes a process away. Its space stays.
 pub(crate) fn remove(slots: &mut Slots, running: &mut Vec<u16>, p: u16)
-    requires kept { IsKept slots.old.items running.old }
+    requires kept { IsRunningList slots.old.items running.old }
     requires there { is_some (slot_process (slot_at slots.old.items p)) ≡ true }
     ensures removed { IsEdited slots.old.items slots.new.items p
         (slot_space (slot_at slots.old.items p)) None }
-    ensures kept { IsKept slots.new.items running.new }
+    ensures kept { IsRunningList slots.new.items running.new }
 {
     take_out(running, p);
     remove_in(slots, p);
@@ -133,10 +133,10 @@ pub(crate) fn remove(slots: &mut Slots, running: &mut Vec<u16>, p: u16)
 
 /// Takes away a space that has no process.
 pub(crate) fn drop_space(slots: &mut Slots, running: &Vec<u16>, p: u16)
-    requires kept { IsKept slots.old.items running.now }
+    requires kept { IsRunningList slots.old.items running.now }
     requires absent { slot_process (slot_at slots.old.items p) ≡ None }
     ensures dropped { IsEdited slots.old.items slots.new.items p None None }
-    ensures kept { IsKept slots.new.items running.now }
+    ensures kept { IsRunningList slots.new.items running.now }
 {
     drop_in(slots, p);
 }

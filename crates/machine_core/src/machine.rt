@@ -7,7 +7,7 @@ ghost use Rattle.std.specs.List.Sorted.{IsStrictlyIncreasing};
 ghost use Rattle.std.specs.Option.{MatchOption, is_some, option_copied, option_map_or};
 ghost use Rattle.sizes.specs.declared.TheConstants.{LAST_SPACE};
 ghost use Rattle.elf_loader.specs.Image.{IsImageOf};
-ghost use Rattle.machine_core.specs.Machine.{AnswersAs, LeadsTo, StaysBut, after_asked, after_execution, after_turn, came_to, is_running, keys_from, running_numbers, shown_at, turn_asked, turn_of, wholes, with_process, with_whole, without_process, without_space};
+ghost use Rattle.machine_core.specs.Machine.{AnswersAs, LeadsTo, StaysBut, after_asked, after_execution, after_turn, came_to, is_running, keys_from, running_numbers, shown_at, turn_asked, turn_of, wholes, with_process_at, with_whole_at, without_process_at, without_space_at};
 ghost use Rattle.rv_execute.specs.Execution.{outcome_by};
 ghost use Rattle.machine_core.specs.Play.{AreOwnTurns, after_number, run_over};
 ghost use Rattle.machine_core.specs.Load.{loaded_process, page_count};
@@ -40,11 +40,11 @@ impl Model for Machine {
 
     ghost coded = { machine_code };
 
-    ghost use Rattle.machine_core.specs.Slots.{seen, IsKept};
+    ghost use Rattle.machine_core.specs.Slots.{seen, IsRunningList};
 
     ghost view = { λ m. seen m.slots.items };
 
-    ghost invariant = { λ m. IsKept m.slots.items m.running };
+    ghost invariant = { λ m. IsRunningList m.slots.items m.running };
 }
 
 impl Machine {
@@ -68,7 +68,7 @@ impl Machine {
         requires no_process { map.get self.old.processes p ≡ None }
         requires of_file { IsImageOf file.now image.now }
         ensures count { IfOk result (λ n. n ≡ page_count file.now) }
-        ensures made { OnOk result (self.new ≡ with_whole self.old p (loaded_process file.now)) }
+        ensures made { OnOk result (self.new ≡ with_whole_at self.old p (loaded_process file.now)) }
         ensures ok { OnOk result (wholes self.new ≡ map.insert (wholes self.old) p (loaded_process file.now)) }
         ensures stands { OnOk result (LeadsTo (λ state. map.insert state p (loaded_process file.now)) self.old self.new) }
         ensures others { OnOk result (StaysBut p self.old self.new) }
@@ -94,7 +94,7 @@ impl Machine {
     pub fn adopt(&mut self, p: u16, process: Process) -> Result<(), AllocError>
         requires space { is_some (map.get self.old.spaces p) ≡ true }
         requires absent { map.get self.old.processes p ≡ None }
-        ensures ok { OnOk result (self.new ≡ with_process self.old p process) }
+        ensures ok { OnOk result (self.new ≡ with_process_at self.old p process) }
         ensures err { OnErr result (self.new ≡ self.old) }
     {
         adopt(&mut self.slots, &mut self.running, p, process)
@@ -112,7 +112,7 @@ impl Machine {
     /// Puts a process in the place of process `p`, which is there. Takes no memory.
     pub fn set_process(&mut self, p: u16, process: Process)
         requires { is_some (map.get self.old.processes p) ≡ true }
-        ensures { self.new ≡ with_process self.old p process }
+        ensures { self.new ≡ with_process_at self.old p process }
     {
         set(&mut self.slots, &mut self.running, p, process);
     }
@@ -120,7 +120,7 @@ impl Machine {
     /// Takes away process `p`, which is there. Its space stays.
     pub fn remove(&mut self, p: u16)
         requires { is_some (map.get self.old.processes p) ≡ true }
-        ensures removed { self.new ≡ without_process self.old p }
+        ensures removed { self.new ≡ without_process_at self.old p }
         ensures after { wholes self.new ≡ map.remove (wholes self.old) p }
         ensures stands { LeadsTo (λ state. map.remove state p) self.old self.new }
     {
@@ -131,7 +131,7 @@ impl Machine {
     pub fn drop_space(&mut self, p: u16)
         requires space { is_some (map.get self.old.spaces p) ≡ true }
         requires no_process { map.get self.old.processes p ≡ None }
-        ensures dropped { self.new ≡ without_space self.old p }
+        ensures dropped { self.new ≡ without_space_at self.old p }
         ensures stands { LeadsTo (λ state. state) self.old self.new }
     {
         drop_space(&mut self.slots, &self.running, p);

@@ -6,7 +6,7 @@ ghost use Rattle.std.specs.FinMap as map;
 ghost use Rattle.sizes.specs.declared.TheConstants.{LAST_SPACE};
 ghost use Rattle.rv_execute.specs.Execution.{outcome_by};
 ghost use Rattle.machine_core.specs.Machine.{executed, upshot_of, asked_of, answered_process};
-ghost use Rattle.machine_core.specs.Slots.{slot_at, slot_space, slot_process, slot_whole, slot_runs, IsChanged, IsEdited, IsNext};
+ghost use Rattle.machine_core.specs.Slots.{slot_at, slot_space, slot_process, slot_whole, slot_runs, IsChanged, IsEdited, IsNextProcess};
 
 use crate::guest::Guest;
 use crate::process::{Process, is_running};
@@ -216,7 +216,7 @@ fn has_process(slots: &Slots, p: usize) -> bool
 /// The least number with a process, of those not below one.
 pub(crate) fn next_in(slots: &Slots, from: u16) -> Option<u16>
     requires { length slots.now.items ≤ LAST_SPACE + 1 }
-    ensures { IsNext slots.now.items from result }
+    ensures { IsNextProcess slots.now.items from result }
 {
     let mut p = from as usize;
     'looking: while p < slots.len() {

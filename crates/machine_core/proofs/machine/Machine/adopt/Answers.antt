@@ -1,7 +1,7 @@
 use Rattle.std.proofs.Common.{sym, ap, ◌∙◌, Option}
 use Rattle.std.specs.Option.{is_some}
 use Rattle.ovl_io.specs.Memory.{Memory}
-use Rattle.machine_core.specs.Machine.{Machine, with_process}
+use Rattle.machine_core.specs.Machine.{Machine, with_process_at}
 use Rattle.machine_core.proofs.Machines.{has_space, has_process}
 use Rattle.machine_core.proofs.Results.{on_ok}
 use Rattle.machine_core.proofs.Seen.{seen_put}
@@ -16,4 +16,4 @@ adopt-requires-clause-absent c = sym (has_process c.args.self.now c.self.inside.
 pub returns-clause-ok : goal.returns-clause-ok
 returns-clause-ok c = on_ok c.adopt.result (λ edited.
     seen_put c.self.inside.slots.items c.adopt.new.slots.items c.args.p c.args.process edited
-    ∙ ap (λ (m : Machine). with_process m c.args.p c.args.process) c.self.view_is) c.adopt.ensures.ok
+    ∙ ap (λ (m : Machine). with_process_at m c.args.p c.args.process) c.self.view_is) c.adopt.ensures.ok

@@ -1,5 +1,5 @@
 use Rattle.std.proofs.Common.{sym, ap, ◌∙◌}
-use Rattle.machine_core.specs.Machine.{Machine, wholes, without_space}
+use Rattle.machine_core.specs.Machine.{Machine, wholes, without_space_at}
 use Rattle.machine_core.specs.Slots.{seen}
 use Rattle.machine_core.specs.Laws.{wholes_without_space, leads}
 use Rattle.machine_core.proofs.Machines.{has_process}
@@ -12,7 +12,7 @@ drop_space-requires-clause-absent c = sym (has_process c.args.self.now c.self.in
 pub returns-clause-dropped : goal.returns-clause-dropped
 returns-clause-dropped c =
     seen_dropped c.self.inside.slots.items c.drop_space.new.slots.items c.args.p (sym (has_process c.args.self.now c.self.inside.slots.items c.self.view_is c.args.p) ∙ c.requires.no_process) c.drop_space.ensures.dropped
-    ∙ ap (λ (m : Machine). without_space m c.args.p) c.self.view_is
+    ∙ ap (λ (m : Machine). without_space_at m c.args.p) c.self.view_is
 
 pub returns-clause-stands : goal.returns-clause-stands
 returns-clause-stands c =

@@ -4,7 +4,7 @@ use Rattle.std.specs.FinMap.{insert}
 use Rattle.rv_execute.specs.Registers.{first_registers}
 use Rattle.ovl_io.specs.declared.process_state.ProcessState.TheVariants.{Running}
 use Rattle.machine_core.specs.declared.process.Process as declared
-use Rattle.machine_core.specs.Machine.{Machine, whole, wholes, with_whole}
+use Rattle.machine_core.specs.Machine.{Machine, whole, wholes, with_whole_at}
 use Rattle.machine_core.specs.Laws.{wholes_with_whole, leads}
 use Rattle.machine_core.specs.Load.{loaded_process}
 use Rattle.machine_core.specs.Slots.{seen}
@@ -27,8 +27,8 @@ returns-clause-made c =
     let process : declared.Process = record { regs = c.new.result; state = Running } in
     let file = c.args.file.now in
     seen_made c.self.inside.slots.items c.make.new.slots.items c.args.p process c.in_ok-memory.memory c.in_ok-make.ensures.made
-    ∙ ap (λ (m : Machine). with_whole m c.args.p (whole process c.in_ok-memory.memory)) c.self.view_is
-    ∙ ap (with_whole c.args.self.now c.args.p)
+    ∙ ap (λ (m : Machine). with_whole_at m c.args.p (whole process c.in_ok-memory.memory)) c.self.view_is
+    ∙ ap (with_whole_at c.args.self.now c.args.p)
     (as_loaded file c.new.result c.in_ok-memory.memory (c.new.ensures ∙ ap (λ pc. first_registers pc STACK_POINTER) (c.entry.ensures ∙ c.requires.of_file.entry)) c.in_ok-memory.ensures.memory)
 
 pub returns-clause-ok : goal.returns-clause-ok

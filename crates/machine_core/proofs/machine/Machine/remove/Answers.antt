@@ -2,7 +2,7 @@ use Rattle.std.proofs.Common.{sym, ap, ◌∙◌, Option}
 use Rattle.std.specs.Option.{is_some}
 use Rattle.std.specs.FinMap.{remove}
 use Rattle.machine_core.specs.declared.process.Process as declared
-use Rattle.machine_core.specs.Machine.{Machine, wholes, without_process}
+use Rattle.machine_core.specs.Machine.{Machine, wholes, without_process_at}
 use Rattle.machine_core.specs.Slots.{seen}
 use Rattle.machine_core.specs.Laws.{wholes_without_process, leads}
 use Rattle.machine_core.proofs.Machines.{has_process}
@@ -15,7 +15,7 @@ remove-requires-clause-there c = sym (ap (λ (o : Option declared.Process). is_s
 pub returns-clause-removed : goal.returns-clause-removed
 returns-clause-removed c =
     seen_removed c.self.inside.slots.items c.remove.new.slots.items c.args.p c.remove.ensures.removed
-    ∙ ap (λ (m : Machine). without_process m c.args.p) c.self.view_is
+    ∙ ap (λ (m : Machine). without_process_at m c.args.p) c.self.view_is
 
 pub returns-clause-after : goal.returns-clause-after
 returns-clause-after c = ap wholes (returns-clause-removed c) ∙ wholes_without_process c.args.self.now c.args.p
