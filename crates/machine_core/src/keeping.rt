@@ -120,15 +120,15 @@ pub(crate) fn set(slots: &mut Slots, running: &mut Vec<u16>, p: u16, process: Pr
 }
 
 /// Takes a process away. Its space stays.
-pub(crate) fn remove(slots: &mut Slots, running: &mut Vec<u16>, p: u16)
+pub(crate) fn remove(slots: &mut Slots, running: &mut Vec<u16>, number: u16)
     requires kept { IsRunningList slots.old.items running.old }
-    requires there { is_some (slot_process (slot_at slots.old.items p)) ≡ true }
-    ensures removed { IsEdited slots.old.items slots.new.items p
-        (slot_space (slot_at slots.old.items p)) None }
+    requires there { is_some (slot_process (slot_at slots.old.items number)) ≡ true }
+    ensures removed { IsEdited slots.old.items slots.new.items number
+        (slot_space (slot_at slots.old.items number)) None }
     ensures kept { IsRunningList slots.new.items running.new }
 {
-    take_out(running, p);
-    remove_in(slots, p);
+    take_out(running, number);
+    remove_in(slots, number);
 }
 
 /// Takes away a space that has no process.
