@@ -13,18 +13,11 @@ use Rattle.rv_execute.specs.Registers.{Registers, register}
 use Rattle.rv_execute.specs.Step.{write, exit, answered, request, no_such_request}
 use Rattle.machine_core.specs.Process.{Process, runs}
 use Rattle.machine_core.specs.Machine.{Processes, is_running, execution_of, came_to, request_of, turn_asked}
-use Rattle.machine_core.specs.Kept.{process_of, processes_of}
-use Rattle.machine_core.specs.declared.guest.Guest.{Guest}
-use Rattle.machine_core.proofs.Keys.{get_kept, changed_kept}
 
 -- What the kept processes say of those that they stand for.
 
 pub some_is : {X : Type 0} (o : Option X) (x : X) → Some x ≡ o → IsSome o
 some_is o x h = sym (ap is_some h)
-
-pub got : (processes : Processes) (kept : List (ℕ × Guest)) (p : ℕ) (found : Option Guest) → processes_of kept ≡ processes
-    → found ≡ lookup (is_at (nat_cmp p)) kept → get processes p ≡ option_map process_of found
-got processes kept p found same h = ap (λ ps. get ps p) (sym same) ∙ get_kept process_of kept p ∙ ap (option_map process_of) (sym h)
 
 running_is : (state : ProcessState) → runs state ≡ true → state ≡ Running
 running_is Running h = refl
@@ -46,18 +39,6 @@ upshot_at processes p process there = ap (λ (o : Option Process). option_map_or
 
 pub asked_at : (processes : Processes) (p : ℕ) (process : Process) → get processes p ≡ Some process → turn_asked processes p ≡ (request_of p process).turn
 asked_at processes p process there = ap (λ (o : Option Process). option_map_or (λ (q : Process). (request_of p q).turn) o Stepped) there
-
--- a process was left for another
-pub left_at : (f : Process → Process) (processes : Processes) (kept new : List (ℕ × Guest)) (p : ℕ) (guest left : Guest) → processes_of kept ≡ processes
-    → Some guest ≡ lookup (is_at (nat_cmp p)) kept → process_of left ≡ f (process_of guest)
-    → ((q : ℕ) → lookup (is_at (nat_cmp q)) new ≡ cond (is_at (nat_cmp p) q) (Some left) (lookup (is_at (nat_cmp q)) kept))
-    → processes_of new ≡ option_map_or (λ (q : Process). insert processes p (f q)) (get processes p) processes
-left_at f processes kept new p guest left same there is changed =
-    let at = got processes kept p (Some guest) same there in
-    changed_kept process_of kept new p left changed
-    ∙ ap (λ (ps : Processes). insert ps p (process_of left)) same
-    ∙ ap (insert processes p) is
-    ∙ sym (ap (λ (o : Option Process). option_map_or (λ (q : Process). insert processes p (f q)) o processes) at)
 
 -- what is asked for by a number
 pub asks_for : (n p : ℕ) (regs : Registers) (memory : Memory) → n ≡ register regs 17

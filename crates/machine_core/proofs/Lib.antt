@@ -5,3 +5,9 @@ pub mod Frames
 pub mod Placing
 pub mod Images
 pub mod Guests
+pub mod Seen
+pub mod Rising
+pub mod Room
+pub mod Machines
+pub mod Counts
+pub mod Plays

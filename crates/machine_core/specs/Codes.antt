@@ -1,12 +1,11 @@
 use Rattle.std.specs.Prelude.{ℕ, List, refl}
 use Rattle.std.specs.Coded.{Coded, code_by, coded×, coded_ℕ, coded_list}
-use Rattle.std.specs.FinMap.{code}
+use Rattle.std.specs.Ordering.{nat_cmp}
+use Rattle.std.specs.FinMap.{FinMap, code}
 use Rattle.ovl_io.specs.Memory.{Memory, Page}
-use Rattle.ovl_io.specs.declared.process_state.ProcessState.{ProcessState}
-use Rattle.ovl_io.specs.contracts.process_state.ProcessState as state
-use Rattle.rv_execute.specs.Registers.{Registers}
-use Rattle.machine_core.specs.Process.{Process}
-use Rattle.machine_core.specs.Machine.{Processes}
+use Rattle.machine_core.specs.Machine.{Machine}
+use Rattle.machine_core.specs.declared.process.Process as declared
+use Rattle.machine_core.specs.contracts.process.Process as process
 
 -- How pages, memories and processes are told apart as values: by their parts.
 
@@ -16,13 +15,8 @@ page_code = code_by (ℕ × List ℕ) (coded× coded_ℕ (coded_list coded_ℕ))
 abbrev pub memory_code : Coded Memory
 memory_code = code coded_ℕ page_code
 
-abbrev pub registers_code : Coded Registers
-registers_code = code_by (ℕ × List ℕ) (coded× coded_ℕ (coded_list coded_ℕ)) (λ r. (r.pc, r.x)) (λ t. record { pc = t.0; x = t.1 }) (λ _. refl)
-
-abbrev pub process_code : Coded Process
-process_code =
-    code_by (Registers × (ProcessState × Memory)) (coded× registers_code (coded× state.the_row.coded memory_code))
-    (λ p. (p.registers, (p.state, p.memory))) (λ t. record { registers = t.0; state = t.1.0; memory = t.1.1 }) (λ _. refl)
-
-abbrev pub processes_code : Coded Processes
-processes_code = code coded_ℕ process_code
+abbrev pub machine_code : Coded Machine
+machine_code =
+    code_by (FinMap nat_cmp Memory × FinMap nat_cmp declared.Process)
+    (coded× (code coded_ℕ memory_code) (code coded_ℕ process.the_row.coded))
+    (λ m. (m.spaces, m.processes)) (λ t. record { spaces = t.0; processes = t.1 }) (λ _. refl)

@@ -10,7 +10,6 @@ use Rattle.ovl_io.specs.PageBytes.{overwritten}
 use Rattle.rv_execute.specs.Registers.{with_register}
 use Rattle.rv_execute.specs.declared.memory.Denied.{Denied}
 use Rattle.machine_core.specs.Process.{Process}
-use Rattle.machine_core.specs.Machine.{Processes}
 use Rattle.machine_core.specs.declared.guest.Guest.{Guest}
 
 -- What the machine keeps, as the pages and processes that it stands for.
@@ -53,7 +52,3 @@ with_answer value guest =
 
 abbrev pub process_of : Guest → Process
 process_of guest = record { registers = guest.process.regs; state = guest.process.state; memory = guest.memory }
-
--- the processes
-abbrev pub processes_of : List (ℕ × Guest) → Processes
-processes_of kept = from_entries (map (λ e. (e.0, process_of e.1)) kept)

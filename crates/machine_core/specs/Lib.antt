@@ -4,3 +4,5 @@ pub mod Codes
 pub mod Laws
 pub mod Load
 pub mod Kept
+pub mod Slots
+pub mod Play

@@ -4,7 +4,6 @@ ghost use Rattle.std.specs.Prelude.{◌≡◌, ◌≤◌, length};
 ghost use Rattle.sizes.specs.declared.TheConstants.{MOST_WRITTEN};
 ghost use Rattle.rv_execute.specs.Step.{exit, request, write};
 ghost use Rattle.rv_execute.specs.Execution.{outcome_by};
-ghost use Rattle.machine_core.specs.Process.{runs};
 ghost use Rattle.machine_core.specs.Machine.{after_request, executed, execution_of};
 ghost use Rattle.machine_core.specs.Kept.{process_of, with_answer};
 
@@ -52,16 +51,6 @@ fn written(port: u8, bytes: &[u8]) -> Written
 }
 
 impl Guest {
-    /// Whether it runs.
-    pub(crate) fn is_running(&self) -> bool
-        ensures { result ≡ runs self.now.process.state }
-    {
-        match self.process.state {
-            ProcessState::Running => true,
-            ProcessState::Exited(_) | ProcessState::Faulted(_, _) => false,
-        }
-    }
-
     /// Gives a request its answer, in a0.
     fn answer(&mut self, value: u64) -> Turn
         requires { self.old.process.state ≡ ProcessState.Running }

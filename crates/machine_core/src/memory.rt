@@ -190,6 +190,13 @@ fn write(
 }
 
 impl PlainMemory {
+    /// How many pages it has.
+    pub(crate) fn pages(&self) -> u32
+        ensures { result ≡ map.len self.now }
+    {
+        self.table.len()
+    }
+
     /// Fills `into`, of some bytes, not more than a page has, with the bytes from an address on.
     pub(crate) fn read(&self, address: u64, into: &mut [u8], need: Perms) -> Result<(), Denied>
         requires some { 0 < length into.old }

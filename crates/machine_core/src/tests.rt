@@ -2,6 +2,7 @@ use crate::Machine;
 use crate::guest::Guest;
 use crate::load::load_memory;
 use crate::memory::PlainMemory;
+use crate::process::is_running;
 use bitflags::Flags;
 use elf_loader::read_image;
 use ovl_io::{FaultKind, Perms, ProcessState, Turn};
@@ -332,9 +333,9 @@ fn a_write_prints_its_buffer(rt: HostRuntime) -> Result<(), Fail> {
     for ([a0, a1, a2], answer, printed) in rows {
         let memory = ecall_memory(&rt, rt.alloc())?;
         let mut guest = guest_of(memory, CODE, [a0, a1, a2, 64]);
-        assert!(rt; guest.is_running());
+        assert!(rt; is_running(&guest.process));
         assert_eq!(rt; guest.execute(), Outcome::Asked);
-        assert!(rt; guest.is_running());
+        assert!(rt; is_running(&guest.process));
         match (guest.answer_request(1), printed) {
             (Turn::Wrote(written), Some((port, front, count))) => {
                 assert_eq!(rt; (written.port, written.bytes.len()), (port, count));
@@ -409,5 +410,49 @@ fn a_process_is_shown(rt: HostRuntime) -> Result<(), Fail> {
     let process = *machine.process(1).ok_or("no process")?;
     assert_eq!(rt; process.state, ProcessState::Exited(7));
     assert_eq!(rt; process.regs.pc(), CODE + 12);
+    Ok(())
+}
+
+#[test]
+fn processes_take_turns(rt: HostRuntime) -> Result<(), Fail> {
+    let file = code_with(rt.alloc(), EXIT_7, &[])?;
+    let image = read_image(rt.alloc(), file.as_slice())?;
+    let mut machine = Machine::new(rt.alloc())?;
+    machine.load(5, &image, file.as_slice())?;
+    machine.load(2, &image, file.as_slice())?;
+    assert!(rt; machine.running() == [2, 5].as_slice());
+    // 7 isn't there, and 2 has ended when its last turn comes
+    machine.play(&[2, 5, 7, 2, 2, 2]);
+    assert!(rt; machine.running() == [5].as_slice());
+    let first = *machine.process(2).ok_or("no process")?;
+    assert_eq!(rt; first.state, ProcessState::Exited(7));
+    let second = *machine.process(5).ok_or("no process")?;
+    assert_eq!(rt; second.regs.pc(), CODE + 4);
+    assert_eq!(rt; machine.next_process(3), Some(5));
+    assert_eq!(rt; machine.next_process(6), None);
+    Ok(())
+}
+
+#[test]
+fn a_process_changes_and_leaves(rt: HostRuntime) -> Result<(), Fail> {
+    let file = code_with(rt.alloc(), EXIT_7, &[])?;
+    let image = read_image(rt.alloc(), file.as_slice())?;
+    let mut machine = Machine::new(rt.alloc())?;
+    machine.load(5, &image, file.as_slice())?;
+    assert_eq!(rt; machine.pages(5), 17);
+    let running = *machine.process(5).ok_or("no process")?;
+    let mut ended = running;
+    ended.state = ProcessState::Exited(1);
+    machine.set_process(5, ended);
+    assert!(rt; machine.running().is_empty());
+    machine.set_process(5, running);
+    assert!(rt; machine.running() == [5].as_slice());
+    machine.remove(5);
+    assert!(rt; machine.running().is_empty());
+    machine.adopt(5, running)?;
+    assert!(rt; machine.running() == [5].as_slice());
+    machine.remove(5);
+    machine.drop_space(5);
+    assert_eq!(rt; machine.next_process(0), None);
     Ok(())
 }

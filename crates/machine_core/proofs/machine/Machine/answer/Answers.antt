@@ -1,29 +1,28 @@
-use Rattle.std.proofs.Common.{sym, ◌∙◌}
-use Rattle.machine_core.specs.Machine.{after_request, request_of}
-use Rattle.machine_core.specs.Kept.{process_of}
-use Rattle.machine_core.proofs.Guests.{some_is, got, runs_at, not_running_at, asked_at, left_at}
+use Rattle.std.proofs.Common.{sym, ap, ◌∙◌, Option}
+use Rattle.rv_execute.specs.Execution.{outcome_by}
+use Rattle.machine_core.specs.Process.{Process}
+use Rattle.machine_core.specs.Machine.{answered_process, asked_of, turn_asked, after_asked}
+use Rattle.machine_core.specs.Slots.{seen}
+use Rattle.machine_core.specs.Laws.{answers, leads}
+use Rattle.machine_core.proofs.Machines.{has_running, has_whole, after_change, stays}
 use Rattle.machine_core.proofs.machine.Machine.answer.Goals as goal
 
-pub answer_request-requires : goal.answer_request-requires
-answer_request-requires c =
-    let there = got c.args.self.now c.self.inside.guests.entries c.args.p _ c.self.view_is c.in-Some.ensures.value in
-    runs_at c.args.self.now c.args.p (process_of c.in-Some.guest.now) there c.requires
-
-pub unreachable-requires : goal.unreachable-requires
-unreachable-requires c =
-    let absent = got c.args.self.now c.self.inside.guests.entries c.args.p _ c.self.view_is c.in-None.ensures.value in
-    let stopped = not_running_at c.args.self.now c.args.p absent in
-    let running = c.requires in
-    cc
+pub answer_turn-requires-clause-runs : goal.answer_turn-requires-clause-runs
+answer_turn-requires-clause-runs c = sym (has_running c.args.self.now c.self.inside.slots.items c.self.view_is c.args.p) ∙ c.requires
 
 pub returns-clause-turn : goal.returns-clause-turn
 returns-clause-turn c =
-    let there = got c.args.self.now c.self.inside.guests.entries c.args.p _ c.self.view_is c.in-Some.ensures.value in
-    c.answer_request.ensures.turn ∙ sym (asked_at c.args.self.now c.args.p (process_of c.in-Some.guest.now) there)
+    c.answer_turn.ensures.turn
+    ∙ ap (λ (o : Option Process). asked_of c.args.p o) (sym (has_whole c.args.self.now c.self.inside.slots.items c.self.view_is c.args.p))
 
 pub returns-clause-after : goal.returns-clause-after
-returns-clause-after c =
-    let h = c.get_mut.follows.holds c.answer_request.new.self in
-    left_at (λ process. after_request process.memory (request_of c.args.p process)) c.args.self.now c.self.inside.guests.entries _ c.args.p
-    c.in-Some.guest.now c.answer_request.new.self c.self.view_is c.in-Some.ensures.value
-    c.answer_request.ensures.after (h.3 (some_is _ _ c.in-Some.ensures.value)).0
+returns-clause-after c = after_change c.args.self.now c.self.inside.slots.items c.self.view_is c.args.p (answered_process c.args.p) c.answer_turn.new.slots.items c.answer_turn.ensures.changed
+
+pub returns-clause-answers : goal.returns-clause-answers
+returns-clause-answers c = answers (λ state. turn_asked state c.args.p) c.args.self.now c.answer_turn.result (returns-clause-turn c)
+
+pub returns-clause-stands : goal.returns-clause-stands
+returns-clause-stands c = leads (λ state. after_asked state c.args.p) c.args.self.now (seen c.answer_turn.new.slots.items) (returns-clause-after c)
+
+pub returns-clause-others : goal.returns-clause-others
+returns-clause-others c = stays c.args.self.now c.self.inside.slots.items c.self.view_is c.args.p (answered_process c.args.p) c.answer_turn.new.slots.items c.answer_turn.ensures.changed

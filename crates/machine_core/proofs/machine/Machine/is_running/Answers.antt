@@ -1,13 +1,11 @@
 use Rattle.std.proofs.Common.{sym, ◌∙◌}
-use Rattle.machine_core.specs.Kept.{process_of}
-use Rattle.machine_core.proofs.Guests.{got, is_running_at, not_running_at}
+use Rattle.machine_core.specs.Machine.{is_running}
+use Rattle.machine_core.specs.Laws.{answers}
+use Rattle.machine_core.proofs.Machines.{has_running}
 use Rattle.machine_core.proofs.machine.Machine.is_running.Goals as goal
 
-pub returns-in-Some : goal.returns-in-Some
-returns-in-Some c =
-    let there = got c.args.self.now c.self.inside.guests.entries c.args.p _ c.self.view_is c.in-Some.ensures.value in
-    c.is_running.ensures ∙ sym (is_running_at c.args.self.now c.args.p (process_of c.in-Some.guest.now) there)
+pub returns-clause-running : goal.returns-clause-running
+returns-clause-running c = c.runs_in.ensures ∙ sym (has_running c.args.self.now c.self.inside.slots.items c.self.view_is c.args.p)
 
-pub returns-in-None : goal.returns-in-None
-returns-in-None c =
-    sym (not_running_at c.args.self.now c.args.p (got c.args.self.now c.self.inside.guests.entries c.args.p _ c.self.view_is c.in-None.ensures.value))
+pub returns-clause-stands : goal.returns-clause-stands
+returns-clause-stands c = answers (λ state. is_running state c.args.p) c.args.self.now c.runs_in.result (returns-clause-running c)
