@@ -1,12 +1,10 @@
-pub mod Values
-pub mod Pieces
-pub mod Hexadecimal
 pub mod Fronts
 pub mod Texts
-pub mod TurnSteps
-pub mod Fresh
-pub mod Commands
+pub mod Errors
+pub mod Asks
 pub mod Runs
 pub mod Calls
-pub mod Asks
 pub mod Codes
+pub mod Listing
+pub mod Given
+pub mod Endings

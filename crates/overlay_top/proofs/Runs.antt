@@ -1,21 +1,24 @@
-use Rattle.std.proofs.Common.{◌≡◌, ℕ, suc, ◌+◌, ◌<◌, ◌≤◌, true, List, [], ◌∷◌, ◌++◌, length, take, drop, get_or, sym, ap, subst, ◌∙◌, refl, arith, append_assoc, length-append, append-nil, Option, Some, Result, Ok, Err}
+use Rattle.std.proofs.Common.{◌≡◌, ℕ, suc, ◌+◌, ◌<◌, ◌≤◌, true, List, [], ◌∷◌, ◌++◌, length, take, drop, get_or, sym, ap, subst, ◌∙◌, refl, arith, append_assoc, length-append, append-nil, Option, Some, None, Result, Ok, Err}
 use Rattle.std.proofs.Math.Seq.{take-append_seam, drop-cons}
 use Rattle.std.proofs.lemmas.Grind.{flat_map-append}
 use Rattle.std.proofs.lemmas.List.{length-map}
-use Rattle.std.specs.Prelude.{flat_map, map, slice_get}
+use Rattle.std.specs.Prelude.{flat_map, map}
 use Rattle.ovl_io.specs.Outside.{AsksFor}
+use Rattle.ovl_io.specs.declared.shelf.ShelfError.TheVariants as shelf
 use Rattle.ovl_io.specs.declared.shelf.Shelf.{Ghosts as ShelfOf}
 use Rattle.ovl_io.specs.declared.sink.Sink.{Ghosts as SinkOf}
 use Rattle.overlay_top.specs.declared.running.Halt.{Halt}
 use Rattle.overlay_top.specs.declared.running.Halt.TheVariants.{Missing, FetchFailed, TooLong, Memory, SendFailed}
-use Rattle.overlay_top.specs.declared.script.Command.{Command}
-use Rattle.overlay_top.specs.declared.script.Command.TheVariants.{Exec}
+use Rattle.script_text.specs.declared.command.Command.{Command}
 use Rattle.overlay_top.specs.declared.status.Status.{Status}
 use Rattle.overlay_top.specs.declared.status.Status.TheVariants as ending
-use Rattle.overlay_top.specs.Session.{State, fresh}
+use Rattle.command_core.specs.State.{State, fresh}
+use Rattle.command_core.specs.Commands.{FileAsked, AsksNothing, HasFile, IsMissing, IsTooLong, asked_by, asked_for, asks, file_asked, file_in, has_all, performed}
+use Rattle.overlay_top.specs.declared.running.TheConstants.{QUANTUM}
 use Rattle.overlay_top.specs.Sending.{IsSent, IsCut}
-use Rattle.overlay_top.specs.Outcome.{RunOutcome, FileAsked, AsksNothing, HasFile, IsMissing, IsTooLong, report_of, text_after, first_report, ended, done, with_asked, run_from, asks, asked_by, file_asked, has_all, named, command_done, performed}
-use Rattle.overlay_top.specs.Running.{FailedFor, WasGiven, RunEnds, Sends}
+use Rattle.overlay_top.specs.Outcome.{RunOutcome, report_of, text_after, first_report, ended, done, with_asked, run_from, named, command_done}
+use Rattle.overlay_top.specs.Running.{FailedAt, FailedFor, WasGiven, RunEnds, Sends}
+use Rattle.overlay_top.specs.Outside.{RefusedFor}
 use Rattle.overlay_top.proofs.Asks.{asked_at, fetches_all}
 
 -- The commands of a script, one after the other.
@@ -81,9 +84,20 @@ left_at all index command below is =
     drop-cons all index command below ∙ ap (λ c. c ∷ drop (suc index) all) (sym is) ∙ ap (λ n. command ∷ drop n all) next
 
 -- The same, where the shelf has the same files before the command.
+same_file : (asked : Option (List ℕ)) (files now : List ℕ → Option (List ℕ)) → ((name : List ℕ) → now name ≡ files name)
+    → asked_for asked now ≡ asked_for asked files
+same_file None files now same = refl
+same_file (Some name) files now same = ap asked_by (same name)
+
 same_asked : (files now : List ℕ → Option (List ℕ)) (command : Command) → ((name : List ℕ) → now name ≡ files name)
     → file_asked now command ≡ file_asked files command
-same_asked files now (Exec name turns) same = ap asked_by (same name)
+same_asked files now command same = same_file (asks command) files now same
+
+-- the name of a fetch that failed
+failed_name : {H : Type 0} (h : ShelfOf H) (new : H) (asked : Option (List ℕ)) → FailedAt h new asked
+    → (name : List ℕ) × (asked ≡ Some name) × RefusedFor h new name shelf.Failed
+failed_name h new None failed = absurd failed
+failed_name h new (Some name) failed = (name, refl, failed)
 
 -- the outcome, with the command at an index
 comes_at : (all : List Command) (index : ℕ) (command : Command) (files now_files : List ℕ → Option (List ℕ)) (state : State) (tells : Type 0)
@@ -93,7 +107,8 @@ comes_at : (all : List Command) (index : ℕ) (command : Command) (files now_fil
     (run_from (drop (index + 1) all) (command_done now_files command state).after files))
 comes_at all index command files now_files state tells start now below is same run =
     run.comes ∙ ap (λ left. behind run.texts (run_from left state files)) (left_at all index command below is)
-    ∙ ap (λ asked. behind run.texts (with_asked asked (performed asked command state).text (run_from (drop (index + 1) all) (performed asked command state).after files)))
+    ∙ ap (λ asked. behind run.texts (with_asked asked (performed QUANTUM (file_in asked) command state).text
+    (run_from (drop (index + 1) all) (performed QUANTUM (file_in asked) command state).after files)))
     (sym (same_asked files now_files command same))
 
 -- one command more is done
@@ -169,15 +184,16 @@ halted h k TooLong all index command files now_files state shelf_old shelf_new s
       subst (λ n. AsksFor h.fetched (named (take n (map asks all))) shelf_old shelf_new) long asked,
       λ is_told. sends is_told ∙ run.sent is_told ∙ ap (λ bs. k.taken start ++ bs) (sym (reported (run_from all fresh files) run.texts ending.TooLong comes)),
     )
-halted h k FetchFailed all index (Exec name turns) files now_files state shelf_old shelf_new start now new below is same run given sends failed asked =
+halted h k FetchFailed all index command files now_files state shelf_old shelf_new start now new below is same run given sends failed asked =
     let left = run_from (drop index all) state files in
+    let named_by = failed_name h shelf_new (asks command) failed in
     let at : ◌≡◌ {A = ℕ} index (length run.texts) = sym run.as_many in (
       index,
-      name,
+      named_by.0,
       subst (λ n. n ≤ length (run_from all fresh files).texts) run.as_many (within _ run.texts left run.comes),
-      asked_at asks all index (Exec name turns) below is,
+      asked_at asks all index command below is ∙ ap Some named_by.1,
       asked,
-      failed,
+      named_by.2,
       λ is_told. sends is_told ∙ run.sent is_told ∙ ap (λ bs. k.taken start ++ bs) (sym (ap (λ n. first_report n (run_from all fresh files)) at ∙ first_texts _ run.texts left run.comes)),
     )
 halted h k Memory all index command files now_files state shelf_old shelf_new start now new below is same run given sends failed asked =

@@ -1,4 +1,4 @@
-use Rattle.std.specs.Prelude.{◌≡◌, ℕ, ◌+◌, ◌<◌, ◌≤◌, List, [], length, take, slice_get, Option, Some, Ok, Err, ◌⊎◌}
+use Rattle.std.specs.Prelude.{◌≡◌, ℕ, ◌+◌, ◌<◌, ◌≤◌, List, [], length, take, slice_get, Option, Some, ◌⊎◌}
 use Rattle.sizes.specs.declared.TheConstants.{MOST_SCRIPT_BYTES}
 use Rattle.ovl_io.specs.Outside.{AsksFor}
 use Rattle.ovl_io.specs.declared.shelf.ShelfError.TheVariants as shelf
@@ -7,13 +7,13 @@ use Rattle.ovl_io.specs.declared.shelf.Shelf.{Ghosts as ShelfOf}
 use Rattle.ovl_io.specs.declared.sink.Sink.{Ghosts as SinkOf}
 use Rattle.overlay_top.specs.declared.running.Halt.{Halt}
 use Rattle.overlay_top.specs.declared.running.Halt.TheVariants as halt
-use Rattle.overlay_top.specs.declared.script.Command.{Command}
-use Rattle.overlay_top.specs.declared.script.ScriptError.{ScriptError}
-use Rattle.overlay_top.specs.declared.script.ScriptError.TheVariants as script
+use Rattle.script_text.specs.declared.command.Command.{Command}
+use Rattle.script_text.specs.declared.command.ScriptError.{ScriptError}
+use Rattle.script_text.specs.declared.command.ScriptError.TheVariants as script
 use Rattle.overlay_top.specs.declared.status.Status.{Status}
 use Rattle.overlay_top.specs.declared.status.Status.TheVariants.{Done, NoMemory, BadWords, ReadFailed, WriteFailed, BadLine, TooLong}
-use Rattle.overlay_top.specs.Report.{bad_line}
-use Rattle.overlay_top.specs.Outcome.{RunOutcome, ScriptSays, SaysOutside, SaysCommands, SaysTooMuch, said, named, report_of, first_report, text_after}
+use Rattle.report_text.specs.Lines.{bad_line}
+use Rattle.overlay_top.specs.Outcome.{RunOutcome, SaysOutside, SaysCommands, SaysTooMuch, said, named, report_of, first_report, text_after}
 use Rattle.overlay_top.specs.Reading.{Took, TookAtMost}
 use Rattle.overlay_top.specs.Running.{Reported, ReportedCut}
 use Rattle.overlay_top.specs.Outside.{SourceRose, SourceSound, ShelfRose, ShelfSound, SinkRose, SinkSound, RefusedFor, WasRefused}

@@ -1,8 +1,4 @@
--- In reading order: what a script says, the state of a session, what its commands do, the report, what a
--- whole call comes to, and how a call may end.
-pub mod Script
-pub mod Session
-pub mod Report
+-- In reading order: how a call ends, what it comes to, and what its parts read, send and ask for.
 pub mod Reading
 pub mod Status
 pub mod Outcome

@@ -1,15 +1,14 @@
-use Rattle.std.specs.Prelude.{ℕ, nat_lt, Bool, true, false, List, [], ◌∷◌, ◌++◌, length, map, flat_map, get_or, take, Option, Some, None, Result, Ok, Err, if◌then◌else◌}
-use Rattle.sizes.specs.declared.TheConstants.{MOST_FILE_BYTES, MOST_SCRIPT_BYTES}
-use Rattle.overlay_top.specs.declared.script.Command.{Command}
-use Rattle.overlay_top.specs.declared.script.Command.TheVariants.{Exec}
-use Rattle.overlay_top.specs.declared.session.Answer.{Answer}
-use Rattle.overlay_top.specs.declared.session.Answer.TheVariants.{Loaded, Refused, NumbersUsed, Memory}
+use Rattle.std.specs.Prelude.{ℕ, ◌||◌, nat_lt, Bool, true, false, List, [], ◌∷◌, ◌++◌, length, map, flat_map, get_or, take, Option, Some, None, Result, Ok, Err, if◌then◌else◌}
+use Rattle.sizes.specs.declared.TheConstants.{MOST_SCRIPT_BYTES, MOST_SCRIPT_LINES}
+use Rattle.script_text.specs.declared.command.Command.{Command}
+use Rattle.script_text.specs.Lines.{line_count}
+use Rattle.script_text.specs.Script.{commands_of}
+use Rattle.report_text.specs.Lines.{bad_line}
+use Rattle.command_core.specs.State.{State, fresh}
+use Rattle.command_core.specs.Commands.{FileAsked, AsksNothing, HasFile, IsMissing, IsTooLong, Performed, asks, file_asked, file_in, performed}
+use Rattle.overlay_top.specs.declared.running.TheConstants.{QUANTUM}
 use Rattle.overlay_top.specs.declared.status.Status.{Status}
 use Rattle.overlay_top.specs.declared.status.Status.TheVariants.{Done, BadWords, ReadFailed, BadLine, TooLong}
-use Rattle.machine_core.specs.Machine.{Processes}
-use Rattle.overlay_top.specs.Script.{commands_of}
-use Rattle.overlay_top.specs.Session.{State, fresh, load_answer, after_load, after_turns}
-use Rattle.overlay_top.specs.Report.{answer_text, turns_text, bad_line}
 
 -- What a call comes to: the text of each command that is done, in order, what follows them, and the status.
 pub record RunOutcome : Type 0 where
@@ -35,71 +34,9 @@ ended last status = record { texts = []; last = last; status = status }
 abbrev pub done : List ℕ → RunOutcome → RunOutcome
 done text outcome = record { texts = text ∷ outcome.texts; last = outcome.last; status = outcome.status }
 
--- What a command asks of the shelf, by the file that it names: nothing; or the file is there, isn't there, or
--- has more bytes than a file may have.
-pub data FileAsked : Type 0 where
-  AsksNothing : FileAsked
-  HasFile : List ℕ → FileAsked
-  IsMissing : FileAsked
-  IsTooLong : FileAsked
-
-abbrev pub asked_by : Option (List ℕ) → FileAsked
-asked_by None = IsMissing
-asked_by (Some file) = if nat_lt MOST_FILE_BYTES (length file) then IsTooLong else HasFile file
-
--- the name of the file that a command asks for
-abbrev pub asks : Command → Option (List ℕ)
-asks (Exec name turns) = Some name
-
--- how many turns it gives
-abbrev pub turns_in : Command → ℕ
-turns_in (Exec name turns) = turns
-
-abbrev pub file_asked : (List ℕ → Option (List ℕ)) → Command → FileAsked
-file_asked files (Exec name turns) = asked_by (files name)
-
--- whether a command has what it asks for
-abbrev pub has_all : FileAsked → Bool
-has_all AsksNothing = true
-has_all (HasFile file) = true
-has_all IsMissing = false
-has_all IsTooLong = false
-
--- What a command comes to: its text, and the state after it.
-pub record Performed : Type 0 where
-  pub text : List ℕ
-  pub after : State
-
--- What follows a load that `exec` made: the turns of the new process.
-abbrev pub exec_answered : Answer → ℕ → Processes → List ℕ
-exec_answered (Loaded p pages entry) turns processes = turns_text p 0 turns processes
-exec_answered (Refused error) turns processes = []
-exec_answered NumbersUsed turns processes = []
-exec_answered Memory turns processes = []
-
-abbrev pub processes_answered : Answer → ℕ → Processes → Processes
-processes_answered (Loaded p pages entry) turns processes = after_turns p turns processes
-processes_answered (Refused error) turns processes = processes
-processes_answered NumbersUsed turns processes = processes
-processes_answered Memory turns processes = processes
-
-abbrev pub exec_answer : Answer → ℕ → State → Performed
-exec_answer answer turns loaded = record {
-  text = answer_text answer ++ exec_answered answer turns loaded.processes;
-  after = record { processes = processes_answered answer turns loaded.processes; drawn = loaded.drawn };
-}
-
--- `exec` of a file: its load, and then the turns
-abbrev pub exec_of : List ℕ → ℕ → State → Performed
-exec_of file turns state = exec_answer (load_answer state file) turns (after_load state file)
-
--- a command, with what it asked for; without that it does nothing
-abbrev pub performed : FileAsked → Command → State → Performed
-performed (HasFile file) (Exec name turns) state = exec_of file turns state
-performed asked (Exec name turns) state = record { text = []; after = state }
-
+-- a command on a state, over files by name
 abbrev pub command_done : (List ℕ → Option (List ℕ)) → Command → State → Performed
-command_done files command state = performed (file_asked files command) command state
+command_done files command state = performed QUANTUM (file_in (file_asked files command)) command state
 
 -- The commands of a script on a state, over files by name. One that asks for a file that isn't there, or that
 -- is too long, ends the call.
@@ -114,18 +51,22 @@ run_from [] state files = ended [] Done
 run_from (command ∷ commands) state files =
     with_asked (file_asked files command) (command_done files command state).text (run_from commands (command_done files command state).after files)
 
--- What a script says: it is too long, or its commands, or the number of its first line that is outside.
+-- What a script says: too much, or its commands, or the number of its first line that is outside.
 pub data ScriptSays : Type 0 where
   SaysTooMuch : ScriptSays
   SaysCommands : List Command → ScriptSays
   SaysOutside : ℕ → ScriptSays
 
-abbrev pub said_by : Result (List Command) ℕ → ScriptSays
-said_by (Ok commands) = SaysCommands commands
-said_by (Err line) = SaysOutside line
+abbrev pub read_by : Result (List Command) ℕ → ScriptSays
+read_by (Ok commands) = SaysCommands commands
+read_by (Err line) = SaysOutside line
+
+-- whether a script has more bytes or lines than it may have
+abbrev pub is_too_much : List ℕ → Bool
+is_too_much script = nat_lt MOST_SCRIPT_BYTES (length script) || nat_lt MOST_SCRIPT_LINES (line_count script)
 
 abbrev pub said : List ℕ → ScriptSays
-said script = if nat_lt MOST_SCRIPT_BYTES (length script) then SaysTooMuch else said_by (commands_of script)
+said script = if is_too_much script then SaysTooMuch else read_by (commands_of script)
 
 -- the outcome of a script, as it reads
 abbrev pub said_outcome : ScriptSays → (List ℕ → Option (List ℕ)) → RunOutcome

@@ -1,5 +1,5 @@
-use Rattle.std.specs.Prelude.{◌≡◌, ℕ, List, Option, Some, Result, Ok, Err}
-use Rattle.ovl_io.specs.Outside.{Rose, FetchRefused}
+use Rattle.std.specs.Prelude.{◌≡◌, ℕ, List, Some, Result, Ok, Err}
+use Rattle.ovl_io.specs.Outside.{Rose}
 use Rattle.ovl_io.specs.declared.shelf.ShelfError.{ShelfError}
 use Rattle.ovl_io.specs.declared.shelf.ShelfError.TheVariants as shelf
 use Rattle.ovl_io.specs.declared.source.Source.{Ghosts as SourceOf}

@@ -1,15 +1,14 @@
-use Rattle.std.specs.Prelude.{◌≡◌, ℕ, ◌+◌, ◌≤◌, Bool, true, List, [], ◌∷◌, ◌++◌, length, map, take, slice_get, Option, Some, None, Result, Ok, Err}
-use Rattle.ovl_io.specs.Outside.{AsksFor, HasName}
+use Rattle.std.specs.Prelude.{◌≡◌, ℕ, ◌+◌, ◌≤◌, true, List, ◌++◌, length, take, slice_get, Option, Some, None, Result, Ok, Err}
+use Rattle.ovl_io.specs.Outside.{AsksFor}
 use Rattle.ovl_io.specs.declared.shelf.ShelfError.TheVariants as shelf
 use Rattle.ovl_io.specs.declared.shelf.Shelf.{Ghosts as ShelfOf}
 use Rattle.ovl_io.specs.declared.sink.Sink.{Ghosts as SinkOf}
 use Rattle.overlay_top.specs.declared.running.Halt.{Halt}
 use Rattle.overlay_top.specs.declared.running.Halt.TheVariants.{Missing, FetchFailed, TooLong, Memory, SendFailed}
-use Rattle.overlay_top.specs.declared.script.Command.{Command}
-use Rattle.overlay_top.specs.declared.script.Command.TheVariants.{Exec}
 use Rattle.overlay_top.specs.declared.status.Status.TheVariants as status
 use Rattle.overlay_top.specs.Sending.{IsSent, IsCut}
-use Rattle.overlay_top.specs.Outcome.{RunOutcome, FileAsked, HasFile, IsMissing, IsTooLong, asks, has_all, named, report_of, first_report, text_after}
+use Rattle.command_core.specs.Commands.{FileAsked, HasFile, IsMissing, IsTooLong, file_in, has_all}
+use Rattle.overlay_top.specs.Outcome.{RunOutcome, named, report_of, first_report, text_after}
 use Rattle.overlay_top.specs.Outside.{RefusedFor}
 
 -- How the parts of a call end, by what their part of the outcome is.
@@ -22,6 +21,15 @@ GivesFile view asked (Err TooLong) = asked ≡ IsTooLong
 GivesFile view asked (Err FetchFailed) = Unit {0}
 GivesFile view asked (Err Memory) = Unit {0}
 GivesFile view asked (Err SendFailed) = ⊥
+
+-- the same, of a command, which may ask for nothing
+abbrev pub GivesAll : {File : Type 0} → (File → List ℕ) → FileAsked → Result File Halt → Type 0
+GivesAll view asked (Ok file) = (has_all asked ≡ true) × (file_in asked ≡ view file)
+GivesAll view asked (Err Missing) = asked ≡ IsMissing
+GivesAll view asked (Err TooLong) = asked ≡ IsTooLong
+GivesAll view asked (Err FetchFailed) = Unit {0}
+GivesAll view asked (Err Memory) = Unit {0}
+GivesAll view asked (Err SendFailed) = ⊥
 
 -- what is known of what a command asked for, by how the command ended
 abbrev pub WasGiven : FileAsked → Result (Unit {0}) Halt → Type 0
@@ -62,13 +70,17 @@ HaltedAt h new asked TooLong = Unit {0}
 HaltedAt h new asked Memory = Unit {0}
 HaltedAt h new asked SendFailed = Unit {0}
 
+abbrev pub FetchesFor : {T H : Type 0} → ShelfOf H → H → Option (List ℕ) → Result T Halt → Type 0
+FetchesFor h new asked (Ok done) = Unit {0}
+FetchesFor h new asked (Err FetchFailed) = FailedAt h new asked
+FetchesFor h new asked (Err Missing) = Unit {0}
+FetchesFor h new asked (Err TooLong) = Unit {0}
+FetchesFor h new asked (Err Memory) = Unit {0}
+FetchesFor h new asked (Err SendFailed) = ⊥
+
 abbrev pub FailedFor : {H : Type 0} → ShelfOf H → H → Option (List ℕ) → Result (Unit {0}) Halt → Type 0
 FailedFor h new asked (Ok done) = Unit {0}
 FailedFor h new asked (Err halt) = HaltedAt h new asked halt
-
--- a command whose file has a name
-abbrev pub IsNamed : Command → Type 0
-IsNamed (Exec name turns) = HasName name
 
 -- What the sink holds, where it tells its bytes.
 abbrev pub Reported : {K : Type 0} → SinkOf K → K → List ℕ → K → Type 0

@@ -4,26 +4,20 @@
 //! report and a status, over a machine whose memories are whole. `run_program` says that what its sink
 //! took and what it answers end so.
 //!
-//! - `line`: the lines of the report
 //! - `reading`: the script, from the source
 //! - `sending`: texts, to the sink
-//! - `script`: what a script says
-//! - `running`: the commands of a script
-//! - `session`: the processes, and the load of a file
+//! - `commands`: one command, on the session
+//! - `running`: the commands of a script, and the files that they ask for
 //! - `status`: how a call ended
-//! - `turns`: the turns of a process
 //! - `top`: `run_program`
 #![tactic(auto)]
 
-mod line;
+mod commands;
 mod reading;
 mod running;
-mod script;
 mod sending;
-mod session;
 mod status;
 mod top;
-mod turns;
 
 pub use top::run_program;
 

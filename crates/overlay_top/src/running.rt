@@ -1,21 +1,22 @@
-ghost use Rattle.std.specs.Prelude.{◌≡◌, ◌≢◌, ℕ, List, IfOk, OnErr, OnOk, Err, Some, [], ◌∷◌, ◌++◌, map};
+ghost use Rattle.std.specs.Prelude.{◌≡◌, ℕ, List, Err, [], ◌∷◌, map, OnOk};
 ghost use Rattle.std.specs.List.{All};
+ghost use Rattle.std.specs.Option.{option_copied};
 ghost use Rattle.ovl_io.specs.Outside.{AsksFor, HasName};
-ghost use Rattle.overlay_top.specs.Session.{IsFresh, state_of, fresh};
-ghost use Rattle.overlay_top.specs.Outcome.{asked_by, asks, command_done, exec_answered, exec_of, file_asked, named, processes_answered, run_from};
-ghost use Rattle.overlay_top.specs.Report.{answer_text};
-ghost use Rattle.overlay_top.specs.Outside.{FetchedFor, ShelfBy, SinkBy, SinkRose, SinkSound};
-ghost use Rattle.overlay_top.specs.Sending.{IsCut, IsSent};
-ghost use Rattle.overlay_top.specs.Running.{AsksInOrder, FailedFor, GivesFile, IsDoing, IsNamed, RunEnds, Sends, WasGiven};
+ghost use Rattle.script_text.specs.Given.{IsGiven};
+ghost use Rattle.command_core.specs.State.{fresh};
+ghost use Rattle.command_core.specs.Commands.{asked_by, asks, file_asked};
+ghost use Rattle.overlay_top.specs.Outcome.{command_done, named, run_from};
+ghost use Rattle.overlay_top.specs.Outside.{FetchedFor, ShelfBy, SinkBy};
+ghost use Rattle.overlay_top.specs.Running.{AsksInOrder, FailedFor, FetchesFor, GivesAll, GivesFile, RunEnds, Sends, WasGiven};
 
-use crate::line::{Line, answer_line};
-use crate::script::Command;
-use crate::sending::send;
-use crate::session::{Answer, Session};
-use crate::turns::take_turns;
-use machine_core::Machine;
-use ovl_io::{Failed, Shelf, ShelfError, Sink};
+use crate::commands::do_command;
+use command_core::Session;
+use ovl_io::{Bytes, Failed, Shelf, ShelfError, Sink};
+use script_text::Command;
 use std::alloc::{AllocError, Global};
+
+/// How many turns a process takes before the next one does.
+pub const QUANTUM: u32 = 100;
 
 /// Why a command isn't done.
 #[derive(Clone, Copy, Debug, PartialEq, Eq)]
@@ -70,79 +71,79 @@ impl From<AllocError> for Halt {
     }
 }
 
-/// Sends the line of a load's answer, and gives the process that it made so many turns.
-fn report_load<K: Sink>(
-    machine: &mut Machine,
-    answer: &Answer,
-    turns: u32,
-    line: &mut Line,
-    sink: &mut K,
-) -> Result<(), Failed>
-    ensures sent { K.tells → OnOk result (IsSent (K.taken sink.old)
-        (answer_text answer.now ++ exec_answered answer.now turns machine.old) (K.taken sink.new)) }
-    ensures cut { K.tells → OnErr result (IsCut (K.taken sink.old)
-        (answer_text answer.now ++ exec_answered answer.now turns machine.old) (K.taken sink.new)) }
-    ensures after { OnOk result (machine.new ≡ processes_answered answer.now turns machine.old) }
-    ensures cause { OnErr result (SinkRose K.Sink sink.old sink.new) }
-    ensures no_fault { OnOk result (SinkSound K.Sink sink.old sink.new) }
+/// The file that a command asks for.
+fn file_of(command: &Command) -> Option<&Bytes>
+    requires { IsGiven command.now }
+    ensures { option_copied result ≡ asks command.now }
 {
-    answer_line(answer, line);
-    send(sink, line.as_slice())?;
-    match answer {
-        Answer::Loaded(p, _, _) => take_turns(machine, *p, turns, line, sink),
-        Answer::Refused(_) | Answer::NumbersUsed | Answer::Memory => Ok(()),
+    match command {
+        Command::Exec(name, _) => Some(name),
+        Command::Load(name) => Some(name),
+        Command::Run(_) => None,
+        Command::Step(_, _) => None,
+        Command::Drop(_) => None,
+        Command::List => None,
+        Command::Fork(_)
+        | Command::Checkpoint(_, _)
+        | Command::Restore(_, _)
+        | Command::Forget(_)
+        | Command::Speculate(_)
+        | Command::Commit(_)
+        | Command::Discard(_)
+        | Command::Promote(_, _)
+        | Command::PromoteAll(_)
+        | Command::Compact
+        | Command::Map(_, _, _, _)
+        | Command::Unmap(_, _, _)
+        | Command::Regs(_)
+        | Command::Dump(_, _, _)
+        | Command::Poke(_, _, _)
+        | Command::Set(_, _, _)
+        | Command::Break(_, _)
+        | Command::Unbreak(_, _)
+        | Command::Disasm(_, _, _)
+        | Command::Stats => unreachable!(),
     }
 }
 
-/// Loads a file and gives its process so many turns. Each line is sent as it arises.
-fn exec<K: Sink>(
-    session: &mut Session,
-    file: &[u8],
-    turns: u32,
-    line: &mut Line,
-    sink: &mut K,
-) -> Result<(), Halt>
-    requires { IsFresh (state_of session.old) }
-    ensures sends { K.tells → Sends (K.taken sink.old) (exec_of file.now turns (state_of session.old)).text (K.taken sink.new) result }
-    ensures after { OnOk result (state_of session.new ≡ (exec_of file.now turns (state_of session.old)).after) }
-    ensures fresh { OnOk result (IsFresh (state_of session.new)) }
-    ensures doing { IsDoing result }
-    ensures faults { SinkBy K.Sink sink.old sink.new result }
+/// Fetches the file that a command asks for; one that asks for none gets no bytes.
+fn fetch_for<H: Shelf>(alloc: Global, command: &Command, shelf: &mut H) -> Result<Vec<u8>, Halt>
+    requires { IsGiven command.now }
+    ensures given { H.tells → GivesAll (λ file. file.items) (file_asked (H.files shelf.old) command.now) result }
+    ensures faults { ShelfBy H.Shelf shelf.old shelf.new result }
+    ensures failed { FetchesFor H.Shelf shelf.new (asks command.now) result }
+    ensures kept { H.tells → (other : List ℕ) → H.files shelf.new other ≡ H.files shelf.old other }
+    ensures fetched { AsksFor H.fetched (named (asks command.now ∷ [])) shelf.old shelf.new }
 {
-    let answer = session.load(file);
-    if let Answer::Memory = answer {
-        return Err(Halt::Memory);
-    }
-    match report_load(&mut session.machine, &answer, turns, line, sink) {
-        Ok(()) => Ok(()),
-        Err(_) => Err(Halt::SendFailed),
+    match file_of(command) {
+        Some(name) => fetch(alloc, name.as_slice(), shelf),
+        None => Ok(Vec::new(alloc)),
     }
 }
 
 /// Does one command.
 fn perform<H: Shelf, K: Sink>(
+    alloc: Global,
     session: &mut Session,
     command: &Command,
     shelf: &mut H,
-    line: &mut Line,
     sink: &mut K,
 ) -> Result<(), Halt>
-    requires is_fresh { IsFresh (state_of session.old) }
-    requires has_name { IsNamed command.now }
+    requires given { IsGiven command.now }
+    requires quantum { session.old.quantum ≡ QUANTUM }
     ensures given { H.tells → WasGiven (file_asked (H.files shelf.old) command.now) result }
     ensures sends { H.tells → K.tells → Sends (K.taken sink.old)
-        (command_done (H.files shelf.old) command.now (state_of session.old)).text (K.taken sink.new) result }
-    ensures after { H.tells → OnOk result (state_of session.new ≡
-        (command_done (H.files shelf.old) command.now (state_of session.old)).after) }
-    ensures fresh { OnOk result (IsFresh (state_of session.new)) }
+        (command_done (H.files shelf.old) command.now session.old.state).text (K.taken sink.new) result }
+    ensures after { H.tells → OnOk result (session.new.state ≡ (command_done (H.files shelf.old) command.now session.old.state).after) }
+    ensures quantum { session.new.quantum ≡ QUANTUM }
     ensures shelf { ShelfBy H.Shelf shelf.old shelf.new result }
     ensures sink { SinkBy K.Sink sink.old sink.new result }
     ensures failed { FailedFor H.Shelf shelf.new (asks command.now) result }
     ensures kept { H.tells → (other : List ℕ) → H.files shelf.new other ≡ H.files shelf.old other }
     ensures fetched { AsksFor H.fetched (named (asks command.now ∷ [])) shelf.old shelf.new }
 {
-    let file = fetch(session.alloc, command.name().as_slice(), shelf)?;
-    exec(session, file.as_slice(), command.turns(), line, sink)
+    let file = fetch_for(alloc, command, shelf)?;
+    do_command(session, command, file.as_slice(), sink)
 }
 
 /// Does the commands in order, from a state without a process. Each line is sent as it arises.
@@ -152,17 +153,16 @@ pub(crate) fn run<H: Shelf, K: Sink>(
     shelf: &mut H,
     sink: &mut K,
 ) -> Result<(), Halt>
-    requires { All IsNamed commands.now }
+    requires { All IsGiven commands.now }
     ensures ends { H.tells → RunEnds H.Shelf K.Sink (run_from commands.now fresh (H.files shelf.old)) (map asks commands.now)
         shelf.old shelf.new sink.old sink.new result }
     ensures asked { AsksInOrder H.Shelf (map asks commands.now) shelf.old shelf.new }
     ensures shelf { ShelfBy H.Shelf shelf.old shelf.new result }
     ensures sink { SinkBy K.Sink sink.old sink.new result }
 {
-    let mut session = Session::new(alloc)?;
-    let mut line = Line::new();
+    let mut session = Session::new(alloc, QUANTUM)?;
     'running: for command in commands {
-        perform(&mut session, command, shelf, &mut line, sink)?;
+        perform(alloc, &mut session, command, shelf, sink)?;
     }
     Ok(())
 }

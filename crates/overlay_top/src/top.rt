@@ -5,13 +5,14 @@ ghost use Rattle.overlay_top.specs.Running.{AsksInOrder};
 ghost use Rattle.overlay_top.specs.Outside.{ShelfSound, SinkRose, SinkSound, SourceSound};
 ghost use Rattle.overlay_top.specs.Ends.{Ends, EndsWith, IsCompleteWith, NoFault, ReadCaused, Refuses, SaysAt, SaysWith, TakesAt, TakesWith, status_of, world_of};
 
-use crate::line::{Line, bad_line};
 use crate::reading::{ReadError, read_script};
 use crate::running::{Halt, run};
-use crate::script::{ScriptError, parse};
 use crate::sending::send;
 use crate::status::Status;
 use ovl_io::{Shelf, Sink, Source};
+use report_text::{Line, bad_line};
+use script_text::{ScriptError, line_count, parse};
+use sizes::MOST_SCRIPT_LINES;
 use std::alloc::Global;
 
 /// The status of a command that isn't done.
@@ -71,7 +72,11 @@ fn run_script<S: Source, H: Shelf, K: Sink>(
         Err(ReadError::TooLong) => return Status::TooLong,
         Err(ReadError::Memory) => return Status::NoMemory,
     };
-    let commands = match parse(alloc, bytes.as_slice()) {
+    let bytes = bytes.as_slice();
+    if line_count(bytes) > MOST_SCRIPT_LINES {
+        return Status::TooLong;
+    }
+    let commands = match parse(alloc, bytes) {
         Ok(commands) => commands,
         Err(error) => return refuse(error, sink),
     };
@@ -84,8 +89,8 @@ fn run_script<S: Source, H: Shelf, K: Sink>(
 /// All that the program does.
 ///
 /// `words` are the arguments without the program's name: there are none yet, and with one the status is 2.
-/// The script is read to its end, or to one byte above 1,048,576, and parsed whole before a command is
-/// done. A command's file is fetched by its name, of 1 to 255 bytes, and may have up to 16 MiB. Each line
+/// The script is read to its end, or to one byte above 1,048,576, may have 65,536 lines, and is parsed whole
+/// before a command is done. A command's file is fetched by its name, of 1 to 255 bytes, and may have up to 16 MiB. Each line
 /// is written as it arises. Answers the status:
 ///
 /// | Status | |

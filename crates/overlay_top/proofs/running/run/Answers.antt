@@ -1,23 +1,22 @@
-use Rattle.std.proofs.Common.{◌≡◌, ◌<◌, ◌+◌, ◌∙◌, sym, subst, refl, arith, length, map}
+use Rattle.std.proofs.Common.{◌<◌, ◌+◌, ◌∙◌, ap, refl, arith, length, map}
 use Rattle.std.proofs.lemmas.List.{length-map}
-use Rattle.overlay_top.specs.Session.{state_of, IsFresh}
-use Rattle.overlay_top.specs.Outcome.{asks}
+use Rattle.command_core.specs.State.{InSession}
+use Rattle.command_core.specs.Commands.{asks}
 use Rattle.overlay_top.proofs.Asks.{asked_at, fetches_next}
-use Rattle.overlay_top.proofs.Commands.{by_err}
-use Rattle.overlay_top.proofs.Fresh.{fresh_start}
-use Rattle.overlay_top.proofs.Runs.{all_done, none_run, step, stop}
+use Rattle.overlay_top.proofs.Errors.{by_err}
+use Rattle.overlay_top.proofs.Runs.{none_run, step, stop}
 use Rattle.overlay_top.proofs.running.run.Goals as goal
 
 pub running-init : goal.running-init
 running-init g c = record {
-  fresh = subst IsFresh (sym c.in_ok-session.ensures.state) fresh_start;
+  quantum = ap (λ (s : InSession). s.quantum) c.in_ok-session.ensures;
   shelf = refl;
   sink = refl;
   kept = λ tells other. refl;
   asked = refl;
   runs = λ tells.
-      none_run c.args.commands.now (g.H.Shelf.files c.args.shelf.now) (state_of c.in_ok-session.session) g.K.Sink.tells (g.K.Sink.taken c.args.sink.now)
-      c.in_ok-session.ensures.state;
+      none_run c.args.commands.now (g.H.Shelf.files c.args.shelf.now) c.in_ok-session.session.state g.K.Sink.tells (g.K.Sink.taken c.args.sink.now)
+      (ap (λ (s : InSession). s.state) c.in_ok-session.ensures);
 }
 
 pub returns-in_err-perform-clause-ends : goal.returns-in_err-perform-clause-ends
@@ -27,7 +26,7 @@ returns-in_err-perform-clause-ends g c tells =
     let command = c.command-item.result in
     let below : index < length (map asks all) = omega (arith, c.running-test.true, length-map all asks) in
     stop g.H.Shelf g.K.Sink c.from_residual-in_err-perform.result c.in_err-perform.field-0.0 all index command
-    (g.H.Shelf.files c.args.shelf.now) (g.H.Shelf.files c.running.shelf) (state_of c.running.session)
+    (g.H.Shelf.files c.args.shelf.now) (g.H.Shelf.files c.running.shelf) c.running.session.state
     c.args.shelf.now c.perform.new.shelf c.args.sink.now c.running.sink c.perform.new.sink
     (by_err c.from_residual-in_err-perform.result c.in_err-perform.field-0.0 c.from_residual-in_err-perform.ensures)
     c.running-test.true c.command-item.is (c.running.invariant.kept tells) (c.running.invariant.runs tells)
@@ -53,7 +52,7 @@ running-preserved g c =
     let command = c.command-item.result in
     let below : index < length (map asks all) = omega (arith, c.running-test.true, length-map all asks) in
     record {
-      fresh = c.in_ok-perform.ensures.fresh;
+      quantum = c.in_ok-perform.ensures.quantum;
       shelf = c.in_ok-perform.ensures.shelf ∙ c.running.invariant.shelf;
       sink = c.in_ok-perform.ensures.sink ∙ c.running.invariant.sink;
       kept = λ tells other. c.in_ok-perform.ensures.kept tells other ∙ c.running.invariant.kept tells other;
@@ -62,7 +61,7 @@ running-preserved g c =
           (asked_at asks all index command c.running-test.true c.command-item.is) c.running.invariant.asked c.in_ok-perform.ensures.fetched;
       runs = λ tells.
           step all index command (g.H.Shelf.files c.args.shelf.now) (g.H.Shelf.files c.running.shelf)
-          (state_of c.running.session) (state_of c.perform.new.session) g.K.Sink.tells (g.K.Sink.taken c.args.sink.now) (g.K.Sink.taken c.running.sink)
+          c.running.session.state c.perform.new.session.state g.K.Sink.tells (g.K.Sink.taken c.args.sink.now) (g.K.Sink.taken c.running.sink)
           (g.K.Sink.taken c.perform.new.sink) c.running-test.true c.command-item.is (c.running.invariant.kept tells) (c.running.invariant.runs tells)
           (c.in_ok-perform.ensures.given tells) (c.in_ok-perform.ensures.sends tells) (c.in_ok-perform.ensures.after tells);
     }

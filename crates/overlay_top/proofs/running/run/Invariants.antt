@@ -1,18 +1,19 @@
 use Rattle.std.proofs.Common.{◌≡◌, ℕ, List, take, map}
 use Rattle.ovl_io.specs.Outside.{AsksFor}
-use Rattle.overlay_top.specs.Session.{IsFresh, state_of}
-use Rattle.overlay_top.specs.Outcome.{asks, named}
+use Rattle.overlay_top.specs.declared.running.TheConstants.{QUANTUM}
+use Rattle.command_core.specs.Commands.{asks}
+use Rattle.overlay_top.specs.Outcome.{named}
 use Rattle.overlay_top.proofs.Runs.{HasRun}
 use Rattle.overlay_top.proofs.running.run.Given as goal
 
 -- the commands so far are done, and reported where the sink tells its bytes
 abbrev pub invariant-running : goal.invariant-running
 invariant-running g l = record {
-  fresh : IsFresh (state_of l.session);
+  quantum : l.session.quantum ≡ QUANTUM;
   shelf : g.H.Shelf.faults l.shelf ≡ g.H.Shelf.faults l.fn.shelf;
   sink : g.K.Sink.faults l.sink ≡ g.K.Sink.faults l.fn.sink;
   kept : g.H.Shelf.tells → (other : List ℕ) → g.H.Shelf.files l.shelf other ≡ g.H.Shelf.files l.fn.shelf other;
   asked : AsksFor g.H.Shelf.fetched (named (take l.command-index (map asks l.commands))) l.fn.shelf l.shelf;
   runs : g.H.Shelf.tells →
-      HasRun l.commands l.command-index (g.H.Shelf.files l.fn.shelf) (state_of l.session) g.K.Sink.tells (g.K.Sink.taken l.fn.sink) (g.K.Sink.taken l.sink);
+      HasRun l.commands l.command-index (g.H.Shelf.files l.fn.shelf) l.session.state g.K.Sink.tells (g.K.Sink.taken l.fn.sink) (g.K.Sink.taken l.sink);
 }

@@ -1,10 +1,9 @@
 use Rattle.std.proofs.Common.{refl, []}
 use Rattle.std.specs.Prelude.{string_bytes}
-use Rattle.overlay_top.specs.declared.status.Status.TheVariants.{BadWords, BadLine, ReadFailed, WriteFailed}
-use Rattle.overlay_top.specs.Outcome.{ended, said, said_outcome}
+use Rattle.overlay_top.specs.declared.status.Status.TheVariants.{BadWords}
+use Rattle.overlay_top.specs.Outcome.{ended}
 use Rattle.overlay_top.specs.Ends.Ends.{Untouched}
-use Rattle.overlay_top.proofs.Calls.{ends_as, complete, without_words, with_words}
-use Rattle.overlay_top.proofs.Codes.{same_status, other_status}
+use Rattle.overlay_top.proofs.Calls.{ends_as, with_words}
 use Rattle.overlay_top.proofs.top.run_program.Goals as goal
 
 pub returns-then-not-is_empty-clause-headline : goal.returns-then-not-is_empty-clause-headline

@@ -1,15 +1,14 @@
-use Rattle.std.proofs.Common.{◌≡◌, ◌≤◌, ◌∙◌, ap, sym, subst, refl, arith, Ok, Err, inr, [], length, ℕ, Vec, Global}
-use Rattle.std.specs.Prelude.{map, Result}
-use Rattle.sizes.specs.declared.TheConstants.{MOST_SCRIPT_BYTES}
-use Rattle.overlay_top.specs.declared.script.ScriptError.{ScriptError}
-use Rattle.overlay_top.specs.declared.script.ScriptError.TheVariants.{Line}
+use Rattle.std.proofs.Common.{◌<◌, ◌≤◌, ◌∙◌, ap, sym, subst, refl, arith, Ok, Err, inr, [], length, ℕ, Vec, Global}
+use Rattle.std.specs.Prelude.{map}
+use Rattle.sizes.specs.declared.TheConstants.{MOST_SCRIPT_BYTES, MOST_SCRIPT_LINES}
 use Rattle.overlay_top.specs.declared.status.Status.TheVariants.{TooLong, Done}
-use Rattle.overlay_top.specs.Session.{fresh}
-use Rattle.overlay_top.specs.Outcome.{SaysCommands, ended, asks, run_from, names_said, said, said_outcome}
+use Rattle.command_core.specs.State.{fresh}
+use Rattle.command_core.specs.Commands.{asks}
+use Rattle.overlay_top.specs.Outcome.{ended, run_from, names_said, said_outcome}
 use Rattle.overlay_top.specs.Reading.{IsUnread}
-use Rattle.overlay_top.specs.Ends.{Ends, World, world_of}
+use Rattle.overlay_top.specs.Ends.{Ends}
 use Rattle.overlay_top.specs.Ends.Ends.{SourceFailed, Whole}
-use Rattle.overlay_top.proofs.Calls.{commands_ended, commands_halted, ends_as, long_left, nothing, no_memory, read_it, read_long, read_none, refused, refused_says, said_long, said_small, taken_whole}
+use Rattle.overlay_top.proofs.Calls.{commands_ended, commands_halted, ends_as, long_left, nothing, no_memory, read_it, read_long, read_none, refused, refused_says, said_long, said_many, said_small, taken_whole}
 use Rattle.overlay_top.proofs.top.run_script.Goals as goal
 
 pub returns-in-Err-Failed-clause-ends : goal.returns-in-Err-Failed-clause-ends
@@ -29,35 +28,51 @@ returns-in-Err-TooLong-clause-ends g c s h =
     (ap (λ says. said_outcome says (g.H.Shelf.files c.args.shelf.now)) says) (ap names_said says)
     (Whole (c.in-Err-TooLong.ensures.no_fault (read_long c.in-Err-TooLong.field-0 c.in-Err-TooLong.field-0-is)) refl refl (inr (long, unread)) refl (nothing g.K.Sink c.args.sink.now))
 
+pub returns-then-line_count-gt-MOST_SCRIPT_LINES-clause-ends : goal.returns-then-line_count-gt-MOST_SCRIPT_LINES-clause-ends
+returns-then-line_count-gt-MOST_SCRIPT_LINES-clause-ends g c s h =
+    let left = g.S.Source.left c.args.script.now in
+    let bytes = c.as_slice-bytes.result.now in
+    let is = c.as_slice-bytes.ensures.value ∙ (c.in-Ok.ensures.read s).0 in
+    let small : length bytes ≤ MOST_SCRIPT_BYTES = omega (arith, c.as_slice-bytes.ensures.len, c.in-Ok.ensures.small) in
+    let many : MOST_SCRIPT_LINES < c.line_count.result = omega (arith, c.if-line_count-gt-MOST_SCRIPT_LINES.true) in
+    let says = said_many left bytes c.line_count.result is small c.line_count.ensures many in
+    ends_as g.S.Source g.H.Shelf g.K.Sink _ (ended [] TooLong) _ [] _ _ TooLong
+    (ap (λ says. said_outcome says (g.H.Shelf.files c.args.shelf.now)) says) (ap names_said says)
+    (Whole (c.in-Ok.ensures.no_fault (read_it c.in-Ok.bytes)) refl refl (taken_whole left bytes _ is small (c.in-Ok.ensures.read s).1) refl
+    (nothing g.K.Sink c.args.sink.now))
+
 pub returns-in-Err-Memory-clause-ends : goal.returns-in-Err-Memory-clause-ends
 returns-in-Err-Memory-clause-ends g c s h = no_memory g.S.Source g.H.Shelf g.K.Sink _ _ c.args.script.now c.read_script.new.source c.args.shelf.now c.args.sink.now
     (c.in-Err-Memory.ensures.no_fault (read_none c.in-Err-Memory.field-0 c.in-Err-Memory.field-0-is))
 
 pub returns-in-Err-clause-ends : goal.returns-in-Err-clause-ends
 returns-in-Err-clause-ends g c s h =
-    let bytes = c.as_slice.result.now in
-    let is = c.as_slice.ensures.value ∙ (c.in-Ok.ensures.read s).0 in
-    let small : length bytes ≤ MOST_SCRIPT_BYTES = omega (arith, c.as_slice.ensures.len, c.in-Ok.ensures.small) in
-    refused g.S.Source g.H.Shelf g.K.Sink c.in-Err.error bytes (g.H.Shelf.files c.args.shelf.now) c.args.script.now c.read_script.new.source c.args.shelf.now
-    c.args.sink.now c.refuse.new.sink c.refuse.result (c.in-Ok.ensures.no_fault (read_it c.in-Ok.bytes)) (c.in-Ok.ensures.read s).1 is small c.in-Err.ensures.parses c.refuse.ensures
+    let bytes = c.as_slice-bytes.result.now in
+    let is = c.as_slice-bytes.ensures.value ∙ (c.in-Ok.ensures.read s).0 in
+    let small : length bytes ≤ MOST_SCRIPT_BYTES = omega (arith, c.as_slice-bytes.ensures.len, c.in-Ok.ensures.small) in
+    let few : c.line_count.result ≤ MOST_SCRIPT_LINES = omega (arith, c.if-line_count-gt-MOST_SCRIPT_LINES.false) in
+    refused g.S.Source g.H.Shelf g.K.Sink c.in-Err.error bytes c.line_count.result (g.H.Shelf.files c.args.shelf.now) c.args.script.now c.read_script.new.source c.args.shelf.now
+    c.args.sink.now c.refuse.new.sink c.refuse.result (c.in-Ok.ensures.no_fault (read_it c.in-Ok.bytes)) (c.in-Ok.ensures.read s).1 is small c.line_count.ensures few c.in-Err.ensures.parses c.refuse.ensures
 
 pub returns-in-Err-clause-says : goal.returns-in-Err-clause-says
 returns-in-Err-clause-says g c s =
-    let bytes = c.as_slice.result.now in
-    let is = c.as_slice.ensures.value ∙ (c.in-Ok.ensures.read s).0 in
-    let small : length bytes ≤ MOST_SCRIPT_BYTES = omega (arith, c.as_slice.ensures.len, c.in-Ok.ensures.small) in
-    refused_says g.K.Sink c.in-Err.error (g.S.Source.left c.args.script.now) bytes c.args.sink.now c.refuse.new.sink c.refuse.result is small c.in-Err.ensures.parses
+    let bytes = c.as_slice-bytes.result.now in
+    let is = c.as_slice-bytes.ensures.value ∙ (c.in-Ok.ensures.read s).0 in
+    let small : length bytes ≤ MOST_SCRIPT_BYTES = omega (arith, c.as_slice-bytes.ensures.len, c.in-Ok.ensures.small) in
+    let few : c.line_count.result ≤ MOST_SCRIPT_LINES = omega (arith, c.if-line_count-gt-MOST_SCRIPT_LINES.false) in
+    refused_says g.K.Sink c.in-Err.error (g.S.Source.left c.args.script.now) bytes c.line_count.result c.args.sink.now c.refuse.new.sink c.refuse.result is small c.line_count.ensures few c.in-Err.ensures.parses
     c.refuse.ensures
 
 pub returns-in-Ok-run-clause-ends : goal.returns-in-Ok-run-clause-ends
 returns-in-Ok-run-clause-ends g c s h =
     let left = g.S.Source.left c.args.script.now in
     let files = g.H.Shelf.files c.args.shelf.now in
-    let bytes = c.as_slice.result.now in
-    let commands = c.as_slice-2.result.now in
-    let is = c.as_slice.ensures.value ∙ (c.in-Ok.ensures.read s).0 in
-    let small : length bytes ≤ MOST_SCRIPT_BYTES = omega (arith, c.as_slice.ensures.len, c.in-Ok.ensures.small) in
-    let says = said_small left bytes (Ok commands) is small (c.in-Ok-parse.ensures.parses ∙ ap Ok (sym c.as_slice-2.ensures.value)) in
+    let bytes = c.as_slice-bytes.result.now in
+    let commands = c.as_slice.result.now in
+    let is = c.as_slice-bytes.ensures.value ∙ (c.in-Ok.ensures.read s).0 in
+    let small : length bytes ≤ MOST_SCRIPT_BYTES = omega (arith, c.as_slice-bytes.ensures.len, c.in-Ok.ensures.small) in
+    let few : c.line_count.result ≤ MOST_SCRIPT_LINES = omega (arith, c.if-line_count-gt-MOST_SCRIPT_LINES.false) in
+    let says = said_small left bytes c.line_count.result (Ok commands) is small c.line_count.ensures few (c.in-Ok-parse.ensures.parses ∙ ap Ok (sym c.as_slice.ensures.value)) in
     let none = (c.in-Ok.ensures.read s).1 in
     ends_as g.S.Source g.H.Shelf g.K.Sink _ (run_from commands fresh files) _ (map asks commands) _ _ Done
     (ap (λ says. said_outcome says files) says) (ap names_said says)
@@ -68,11 +83,12 @@ pub returns-clause-ends : goal.returns-clause-ends
 returns-clause-ends g c s h =
     let left = g.S.Source.left c.args.script.now in
     let files = g.H.Shelf.files c.args.shelf.now in
-    let bytes = c.as_slice.result.now in
-    let commands = c.as_slice-2.result.now in
-    let is = c.as_slice.ensures.value ∙ (c.in-Ok.ensures.read s).0 in
-    let small : length bytes ≤ MOST_SCRIPT_BYTES = omega (arith, c.as_slice.ensures.len, c.in-Ok.ensures.small) in
-    let says = said_small left bytes (Ok commands) is small (c.in-Ok-parse.ensures.parses ∙ ap Ok (sym c.as_slice-2.ensures.value)) in
+    let bytes = c.as_slice-bytes.result.now in
+    let commands = c.as_slice.result.now in
+    let is = c.as_slice-bytes.ensures.value ∙ (c.in-Ok.ensures.read s).0 in
+    let small : length bytes ≤ MOST_SCRIPT_BYTES = omega (arith, c.as_slice-bytes.ensures.len, c.in-Ok.ensures.small) in
+    let few : c.line_count.result ≤ MOST_SCRIPT_LINES = omega (arith, c.if-line_count-gt-MOST_SCRIPT_LINES.false) in
+    let says = said_small left bytes c.line_count.result (Ok commands) is small c.line_count.ensures few (c.in-Ok-parse.ensures.parses ∙ ap Ok (sym c.as_slice.ensures.value)) in
     let none = (c.in-Ok.ensures.read s).1 in
     let ends = commands_halted g.S.Source g.H.Shelf g.K.Sink c.in-Err-run.halt _ _ _ _ (c.in-Ok.ensures.no_fault (read_it c.in-Ok.bytes)) (taken_whole left bytes _ is small none) none
     c.in-Err-run.ensures.shelf c.in-Err-run.ensures.sink (c.in-Err-run.ensures.ends h) in

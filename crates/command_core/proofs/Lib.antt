@@ -1,0 +1,4 @@
+mod Looking
+pub mod Among
+pub mod Places
+pub mod Rans

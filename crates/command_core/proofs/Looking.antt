@@ -1,0 +1,154 @@
+use Rattle.std.proofs.Common.{◌≡◌, ℕ, ◌+◌, ◌<◌, ◌≤◌, suc, Bool, true, false, cond, ◌&&◌, List, [], ◌∷◌, map, sym, ap, subst, ◌∙◌, refl, arith, inl, inr, Option, Some, None}
+use Rattle.std.specs.Prelude.{T, nat_le, slice_get, IfSome, Ok}
+use Rattle.std.specs.Option.{is_some, option_and_then, option_map, option_map_or, MatchOption}
+use Rattle.std.specs.List.{filter}
+use Rattle.std.specs.Ordering.{nat_cmp, is_lt, MatchOrdering}
+use Rattle.std.specs.declared.cmp.Ordering.{Ordering}
+use Rattle.std.specs.declared.cmp.Ordering.TheVariants.{Less, Equal, Greater}
+use Rattle.std.specs.Cmp.{ranks}
+use Rattle.std.specs.FinMap.{find, get, len, entries, get-entries, entries_sorted}
+use Rattle.std.specs.FinMap.Entries.{is_sorted}
+use Rattle.std.proofs.lemmas.Bool.{cases_lt}
+use Rattle.std.proofs.lemmas.Bool.Decides.{nat_tests}
+use Rattle.ovl_io.specs.KeyLaws.{ties, differs}
+use Rattle.ovl_io.specs.Memory.{Memory}
+use Rattle.machine_core.specs.Process.{Process}
+use Rattle.machine_core.specs.declared.process.Process as declared
+use Rattle.machine_core.specs.Machine.{Machine, Processes, keys_from, shown_at, shown_process, whole, wholes}
+use Rattle.machine_core.specs.Laws.{wholes_at}
+use Rattle.command_core.specs.declared.session.ProcessView.{ProcessView}
+use Rattle.sizes.specs.declared.TheConstants.{LAST_SPACE}
+use Rattle.command_core.specs.State.{IsSession}
+use Rattle.command_core.specs.Looks.{NextProcess, looked_at}
+
+-- Processes by number: the entries ascend, so those from a number on are the first of them and those behind it.
+
+less : (x y : ℕ) (r : Ordering) → nat_cmp x y ≡ r → T (is_lt r) → x < y
+less x y Less e h = subst (λ r. MatchOrdering r (x < y) (x ≡ y) (y < x)) e (ranks x y)
+less x y Equal e h = absurd h
+less x y Greater e h = absurd h
+
+first : (a b : Bool) → T (a && b) → T a
+first true b h = tt
+first false b h = h
+
+second : (a b : Bool) → T (a && b) → T b
+second true b h = h
+second false b h = absurd h
+
+-- entries of which each number is above the one before, and the first isn't below a number
+abbrev Ascend : {X : Type 0} → ℕ → List (ℕ × X) → Type 0
+Ascend k [] = Unit {0}
+Ascend k (e ∷ es) = (k ≤ e.0) × Ascend (suc e.0) es
+
+sorted_ascend : {X : Type 0} (k : ℕ) (e : ℕ × X) (es : List (ℕ × X)) → T (is_sorted nat_cmp (e ∷ es)) → k ≤ e.0 → Ascend k (e ∷ es)
+sorted_ascend k e [] h low = (low, tt)
+sorted_ascend k e (f ∷ es) h low =
+    (low, sorted_ascend (suc e.0) f es (second _ _ h) (less e.0 f.0 (nat_cmp e.0 f.0) refl (first _ _ (first _ _ h))))
+
+entries_ascend : {X : Type 0} (es : List (ℕ × X)) → T (is_sorted nat_cmp es) → Ascend 0 es
+entries_ascend [] h = tt
+entries_ascend (e ∷ es) h = sorted_ascend 0 e es h (omega arith)
+
+is_from : (k n : ℕ) → k ≤ n → nat_le k n ≡ true
+is_from k n h = grind (arith, nat_tests)
+
+not_from : (k n : ℕ) → n < k → nat_le k n ≡ false
+not_from k n h = by_test (nat_le k n) refl
+  where
+    by_test : (b : Bool) → nat_le k n ≡ b → b ≡ false
+    by_test true e = absurd (grind (arith, nat_tests))
+    by_test false e = refl
+
+-- those from a number on
+abbrev passing : {X : Type 0} → ℕ → List (ℕ × X) → List (ℕ × X)
+passing from es = filter (λ e. nat_le from e.0) es
+
+all_pass : {X : Type 0} (from k : ℕ) (es : List (ℕ × X)) → from ≤ k → Ascend k es → passing from es ≡ es
+all_pass from k [] le h = refl
+all_pass from k (e ∷ es) le h =
+    ap (λ b. cond b (e ∷ passing from es) (passing from es)) (is_from from e.0 (omega (arith, h.0)))
+    ∙ ap (λ more. e ∷ more) (all_pass from (suc e.0) es (omega (arith, h.0)) h.1)
+
+-- the first from a number on, and those behind it
+abbrev FirstFrom : {X : Type 0} → ℕ → List (ℕ × X) → ℕ → Type 0
+FirstFrom {X = X} from es p = (x : X) × (from ≤ p) × (find nat_cmp p es ≡ Some x) × (passing from es ≡ (p, x) ∷ passing (p + 1) es)
+
+first_from : {X : Type 0} (from k p : ℕ) (es : List (ℕ × X)) → Ascend k es → slice_get (map (λ e. e.0) (passing from es)) 0 ≡ Some p → FirstFrom from es p
+first_from from k p [] h starts = cc
+first_from {X = X} from k p (e ∷ es) h starts = by_test (nat_le from e.0) refl (λ more. first_from from (suc e.0) p es h.1 more) starts
+  where
+    by_test : (b : Bool) → nat_le from e.0 ≡ b → (slice_get (map (λ e. e.0) (passing from es)) 0 ≡ Some p → FirstFrom from es p)
+        → slice_get (map (λ e. e.0) (cond b (e ∷ passing from es) (passing from es))) 0 ≡ Some p → FirstFrom from (e ∷ es) p
+    by_test true is behind same =
+        let here : e.0 ≡ p = cc in
+        let from_here : from ≤ e.0 = grind (arith, nat_tests) in
+        subst (λ n. FirstFrom from (e ∷ es) n) here (
+          e.1,
+          from_here,
+          ap (λ b. cond b (Some e.1) (find nat_cmp e.0 es)) (ties e.0 e.0 refl),
+          ap (λ b. cond b (e ∷ passing from es) (passing from es)) is
+          ∙ ap (λ more. e ∷ more) (all_pass from (suc e.0) es (omega (arith, from_here)) h.1 ∙ sym (all_pass (e.0 + 1) (suc e.0) es (omega arith) h.1))
+          ∙ sym (ap (λ b. e ∷ cond b (e ∷ passing (e.0 + 1) es) (passing (e.0 + 1) es)) (not_from (e.0 + 1) e.0 (omega arith))),
+        )
+    by_test false is behind same =
+        let (x, not_below, found, splits) = behind same in
+        let below : e.0 < from = grind (arith, nat_tests) in
+        (
+          x,
+          not_below,
+          ap (λ b. cond b (Some e.1) (find nat_cmp p es)) (differs p e.0 (λ ties. omega (arith, ties, below, not_below))) ∙ found,
+          ap (λ b. cond b (e ∷ passing from es) (passing from es)) is ∙ splits
+          ∙ sym (ap (λ b. (p, x) ∷ cond b (e ∷ passing (p + 1) es) (passing (p + 1) es)) (not_from (p + 1) e.0 (omega (arith, below, not_below)))),
+        )
+
+no_key : {X : Type 0} (es : List (ℕ × X)) → map (λ e. e.0) es ≡ [] → es ≡ []
+no_key [] h = refl
+no_key (e ∷ es) h = cc
+
+pub next_is : (processes : Processes) (from : ℕ) (r : Option ℕ)
+    → MatchOption r (keys_from from processes ≡ []) (λ p. slice_get (keys_from from processes) 0 ≡ Some p) → NextProcess processes from r
+next_is processes from None none = no_key (passing from (entries processes)) none
+next_is processes from (Some p) starts =
+    let (process, not_below, found, splits) = first_from from 0 p (entries processes) (entries_ascend (entries processes) (entries_sorted processes)) starts in
+    (process, get-entries processes p ∙ found, splits)
+
+next_from : (processes : Processes) (from p : ℕ) → slice_get (keys_from from processes) 0 ≡ Some p → (from ≤ p) × (is_some (get processes p) ≡ true)
+next_from processes from p starts =
+    let (process, not_below, found, splits) = first_from from 0 p (entries processes) (entries_ascend (entries processes) (entries_sorted processes)) starts in
+    (not_below, ap is_some (get-entries processes p ∙ found))
+
+-- where a number is the next one, it isn't above those drawn
+few : (machine : Machine) (drawn p : ℕ) → IsSession machine drawn → is_some (get (wholes machine) p) ≡ true → p ≤ LAST_SPACE
+few machine drawn p is has = elim (cases_lt drawn p) [
+  | inl above ↦ absurd (let no = ap is_some (ap (λ process. option_and_then (λ q. option_map (whole q) (get machine.spaces p)) process) (is.no_process p above)) in
+      let both : false ≡ true = sym (ap is_some (wholes_at machine p) ∙ no) ∙ has in cc)
+  | inr le ↦ omega (arith, le, is.few)
+]
+
+pub next_within : (machine : Machine) (drawn from : ℕ) (r : Option ℕ) → IsSession machine drawn
+    → MatchOption r (keys_from from (wholes machine) ≡ []) (λ p. slice_get (keys_from from (wholes machine)) 0 ≡ Some p)
+    → IfSome r (λ p. (from ≤ p) × (p ≤ LAST_SPACE))
+next_within machine drawn from None is starts = tt
+next_within machine drawn from (Some p) is starts =
+    let (not_below, has) = next_from (wholes machine) from p starts in (not_below, few machine drawn p is has)
+
+-- A process as it is shown, of its parts: its registers and its state, and how many pages its space has.
+abbrev pub shown : declared.Process → ℕ → ProcessView
+shown process pages = record { regs = process.regs; state = process.state; speculating = false; pages = pages }
+
+by_parts : (space : Option Memory) (process : Option declared.Process) (found : Option Process) (there : declared.Process) (pages : ℕ)
+    → found ≡ option_and_then (λ p. option_map (whole p) space) process → Some there ≡ option_map shown_process found
+    → pages ≡ option_map_or len space 0 → Ok (shown there pages) ≡ looked_at found
+by_parts space process None there pages is shows count = cc
+by_parts space None (Some found) there pages is shows count = cc
+by_parts None (Some process) (Some found) there pages is shows count = cc
+by_parts (Some memory) (Some process) (Some found) there pages is shows count =
+    let whole_is : found ≡ whole process memory = cc in
+    let there_is : there ≡ shown_process found = cc in
+    ap Ok (ap (λ p. shown p pages) there_is ∙ ap (λ n. shown (shown_process found) n) (count ∙ sym (ap (λ (p : Process). len p.memory) whole_is)))
+
+pub looked_is : (machine : Machine) (p : ℕ) (there : declared.Process) (pages : ℕ) → Some there ≡ shown_at (wholes machine) p
+    → pages ≡ option_map_or len (get machine.spaces p) 0 → Ok (shown there pages) ≡ looked_at (get (wholes machine) p)
+looked_is machine p there pages shows count =
+    by_parts (get machine.spaces p) (get machine.processes p) (get (wholes machine) p) there pages (wholes_at machine p) shows count

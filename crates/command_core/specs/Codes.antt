@@ -1,0 +1,31 @@
+use Rattle.std.specs.Prelude.{ℕ, List, refl}
+use Rattle.std.specs.Coded.{Coded, code_by, coded×, coded_ℕ, coded_list}
+use Rattle.std.specs.FinMap.{code}
+use Rattle.ovl_io.specs.Memory.{Memory}
+use Rattle.ovl_io.specs.declared.process_state.ProcessState.{ProcessState}
+use Rattle.ovl_io.specs.contracts.process_state.ProcessState as state
+use Rattle.rv_execute.specs.Registers.{Registers}
+use Rattle.machine_core.specs.Process.{Process}
+use Rattle.machine_core.specs.Machine.{Processes}
+use Rattle.machine_core.specs.Codes.{memory_code}
+use Rattle.command_core.specs.State.{State, InSession}
+
+-- How sessions are told apart as values: by their parts.
+
+abbrev pub registers_code : Coded Registers
+registers_code = code_by (ℕ × List ℕ) (coded× coded_ℕ (coded_list coded_ℕ)) (λ r. (r.pc, r.x)) (λ t. record { pc = t.0; x = t.1 }) (λ _. refl)
+
+abbrev pub process_code : Coded Process
+process_code =
+    code_by (Registers × (ProcessState × Memory)) (coded× registers_code (coded× state.the_row.coded memory_code))
+    (λ p. (p.registers, (p.state, p.memory))) (λ t. record { registers = t.0; state = t.1.0; memory = t.1.1 }) (λ _. refl)
+
+abbrev pub processes_code : Coded Processes
+processes_code = code coded_ℕ process_code
+
+abbrev pub state_code : Coded State
+state_code =
+    code_by (Processes × ℕ) (coded× processes_code coded_ℕ) (λ s. (s.processes, s.drawn)) (λ t. record { processes = t.0; drawn = t.1 }) (λ _. refl)
+
+abbrev pub session_code : Coded InSession
+session_code = code_by (State × ℕ) (coded× state_code coded_ℕ) (λ s. (s.state, s.quantum)) (λ t. record { state = t.0; quantum = t.1 }) (λ _. refl)

@@ -1,0 +1,125 @@
+use Rattle.std.specs.Prelude.{◌≡◌, ℕ, nat_lt, Bool, true, false, List, [], ◌++◌, length, flat_map, Option, Some, None, if◌then◌else◌}
+use Rattle.std.specs.FinMap.{entries, get, len}
+use Rattle.sizes.specs.declared.TheConstants.{MOST_FILE_BYTES}
+use Rattle.machine_core.specs.Process.{Process, runs}
+use Rattle.script_text.specs.declared.command.Command.{Command}
+use Rattle.script_text.specs.declared.command.Command.TheVariants.{Exec, Load, Run, Step, Drop}
+use Rattle.script_text.specs.declared.command.Command.TheVariants as command
+use Rattle.report_text.specs.declared.answer.Answer.{Answer}
+use Rattle.report_text.specs.declared.answer.Answer.TheVariants.{Done, Loaded, Forked, Saved, Refused, Full, Memory}
+use Rattle.report_text.specs.declared.answer.Code.TheVariants.{NoProcess, Ended}
+use Rattle.report_text.specs.Answers.{answer_text}
+use Rattle.report_text.specs.Lines.{list_line, process_line}
+use Rattle.command_core.specs.State.{State, with_processes}
+use Rattle.command_core.specs.Changes.{Changed, load_done, drop_done, refuses}
+use Rattle.command_core.specs.Turns.{Progress, alone, by_turns, ran_from, ran_text}
+
+-- What a command asks of the shelf, by the file that it names: nothing; or the file is there, isn't there, or
+-- has more bytes than a file may have.
+pub data FileAsked : Type 0 where
+  AsksNothing : FileAsked
+  HasFile : List ℕ → FileAsked
+  IsMissing : FileAsked
+  IsTooLong : FileAsked
+
+abbrev pub asked_by : Option (List ℕ) → FileAsked
+asked_by None = IsMissing
+asked_by (Some file) = if nat_lt MOST_FILE_BYTES (length file) then IsTooLong else HasFile file
+
+-- the name of the file that a command asks for
+abbrev pub asks : Command → Option (List ℕ)
+asks (Exec name turns) = Some name
+asks (Load name) = Some name
+asks (Run turns) = None
+asks (Step p turns) = None
+asks (Drop p) = None
+asks command.List = None
+asks other = None
+
+abbrev pub asked_for : Option (List ℕ) → (List ℕ → Option (List ℕ)) → FileAsked
+asked_for None files = AsksNothing
+asked_for (Some name) files = asked_by (files name)
+
+abbrev pub file_asked : (List ℕ → Option (List ℕ)) → Command → FileAsked
+file_asked files command = asked_for (asks command) files
+
+-- whether a command has what it asks for, and the file that it then has; none where it asks for none
+abbrev pub has_all : FileAsked → Bool
+has_all AsksNothing = true
+has_all (HasFile file) = true
+has_all IsMissing = false
+has_all IsTooLong = false
+
+abbrev pub file_in : FileAsked → List ℕ
+file_in AsksNothing = []
+file_in (HasFile file) = file
+file_in IsMissing = []
+file_in IsTooLong = []
+
+-- What a command comes to: its text, and the state after it.
+pub record Performed : Type 0 where
+  pub text : List ℕ
+  pub after : State
+
+-- the line of an answer, and the state
+abbrev pub told : Changed → Performed
+told changed = record { text = answer_text changed.answer; after = changed.after }
+
+-- turns, with their lines
+abbrev pub takes_turns : Progress → State → Performed
+takes_turns run state = record {
+  text = ran_text (ran_from state.processes run);
+  after = with_processes (ran_from state.processes run).after state;
+}
+
+-- one thing after another
+abbrev pub then_performed : Performed → (State → Performed) → Performed
+then_performed first next = record { text = first.text ++ (next first.after).text; after = (next first.after).after }
+
+-- what follows the load of an `exec`: the turns of its process, where it made one
+abbrev pub exec_turns : ℕ → Answer → State → Performed
+exec_turns turns (Loaded p pages entry) state = takes_turns (alone p turns) state
+exec_turns turns Done state = record { text = []; after = state }
+exec_turns turns (Forked p q) state = record { text = []; after = state }
+exec_turns turns (Saved p name space) state = record { text = []; after = state }
+exec_turns turns (Refused code) state = record { text = []; after = state }
+exec_turns turns (Full units limit) state = record { text = []; after = state }
+exec_turns turns Memory state = record { text = []; after = state }
+
+abbrev pub exec_done : List ℕ → ℕ → State → Performed
+exec_done file turns state = then_performed (told (load_done file state)) (exec_turns turns (load_done file state).answer)
+
+-- a process that was just loaded is there, and runs
+abbrev pub RunsLoaded : Answer → State → Type 0
+RunsLoaded (Loaded p pages entry) state = (process : Process) × (get state.processes p ≡ Some process) × (runs process.state ≡ true)
+RunsLoaded Done state = Unit {0}
+RunsLoaded (Forked p q) state = Unit {0}
+RunsLoaded (Saved p name space) state = Unit {0}
+RunsLoaded (Refused code) state = Unit {0}
+RunsLoaded (Full units limit) state = Unit {0}
+RunsLoaded Memory state = Unit {0}
+
+-- the turns of one process, which has to be there and to run
+abbrev pub steps : ℕ → ℕ → Option Process → State → Performed
+steps p turns None state = told (refuses NoProcess state)
+steps p turns (Some process) state = if runs process.state then takes_turns (alone p turns) state else told (refuses Ended state)
+
+-- the lines of all processes, by number; none is speculating, and there are no checkpoints
+unfoldable pub process_text : ℕ × Process → List ℕ
+process_text entry = process_line entry.0 entry.1.state false (len entry.1.memory)
+
+unfoldable pub list_head : State → List ℕ
+list_head state = list_line (length (entries state.processes)) 0
+
+abbrev pub list_text : State → List ℕ
+list_text state = list_head state ++ flat_map process_text (entries state.processes)
+
+-- The commands, one row each: what it comes to, with the file that it has, in turns of a quantum.
+abbrev pub performed : ℕ → List ℕ → Command → State → Performed
+performed quantum file (Exec name turns) state = exec_done file turns state
+performed quantum file (Load name) state = told (load_done file state)
+performed quantum file (Run turns) state = takes_turns (by_turns quantum turns) state
+performed quantum file (Step p turns) state = steps p turns (get state.processes p) state
+performed quantum file (Drop p) state = told (drop_done p state)
+performed quantum file command.List state = record { text = list_text state; after = state }
+performed quantum file other state = record { text = []; after = state }

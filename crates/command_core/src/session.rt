@@ -1,0 +1,339 @@
+ghost use Rattle.std.specs.Prelude.{◌≡◌, ◌≢◌, ◌+◌, ◌≤◌, ◌<◌, [], Some, None, true, false, IfOk, IfSome, IsTrue};
+ghost use Rattle.report_text.specs.Answers.{HasAnswerLine, turn_text};
+ghost use Rattle.machine_core.specs.Machine.{StaysBut, is_running, turn_of, after_turn, turn_asked, after_asked, wholes};
+ghost use Rattle.sizes.specs.declared.TheConstants.{LAST_SPACE};
+ghost use Rattle.command_core.specs.State.{SamePlaces, fresh};
+ghost use Rattle.command_core.specs.Changes.{CanBeTold, GivesChange, change_done, drop_done, is_change, load_done};
+ghost use Rattle.command_core.specs.Commands.{RunsLoaded};
+ghost use Rattle.command_core.specs.Looks.{BeginsStep, LooksAt, NextProcess};
+ghost use Rattle.command_core.specs.Turns.{EndsRun, Speaks, TakesTurn, by_turns, ending, next_of, rest_of, run_found};
+
+use crate::turns::{Order, Running};
+use elf_loader::{ElfError, read_image};
+use machine_core::Machine;
+use ovl_io::{FaultKind, ProcessState, Turn};
+use report_text::{Answer, Code, Line, Stop, turn_line};
+use round_robin::RoundRobin;
+use rv_execute::{Outcome, Regs};
+use script_text::Command;
+use sizes::LAST_SPACE;
+use std::alloc::{AllocError, Global};
+use std::marker::Model;
+
+/// A process, as the commands that print it see it.
+#[derive(Clone, Copy, Debug)]
+pub struct ProcessView {
+    pub regs: Regs,
+    pub state: ProcessState,
+    /// Whether it is speculating.
+    pub speculating: bool,
+    /// How many pages it has.
+    pub pages: u32,
+}
+
+/// Processes by number, what commands do to them, and the quantum of their turns.
+#[derive(Drop)]
+pub struct Session {
+    alloc: Global,
+    machine: Machine,
+    drawn: u16,
+    quantum: u32,
+}
+
+impl Model for Session {
+    ghost use Rattle.std.specs.Prelude.{◌≤◌};
+    ghost use Rattle.machine_core.specs.Machine.{wholes};
+    ghost use Rattle.command_core.specs.State.{InSession, IsSession};
+    ghost use Rattle.command_core.specs.Codes.{session_code};
+
+    ghost Value = { InSession };
+
+    ghost coded = { session_code };
+
+    ghost view = { λ s. record {
+      state = record { processes = wholes s.machine; drawn = s.drawn };
+      quantum = s.quantum;
+    } };
+
+    ghost invariant = { λ s. IsSession s.machine s.drawn × (1 ≤ s.quantum) };
+}
+
+/// Does what a process asked for. Where that has a line, sets it and answers true.
+#[inline(never)]
+fn answer_request(machine: &mut Machine, p: u16, line: &mut Line) -> bool
+    requires { is_running (wholes machine.old) p ≡ true }
+    ensures says { result ≡ true → line.new.items ≡ turn_text p (turn_asked (wholes machine.old) p) }
+    ensures quiet { result ≡ false → turn_text p (turn_asked (wholes machine.old) p) ≡ [] }
+    ensures after { wholes machine.new ≡ after_asked (wholes machine.old) p }
+    ensures others { StaysBut p machine.old machine.new }
+{
+    turn_line(p, &machine.answer(p), line)
+}
+
+/// Sets the line of a fault.
+#[inline(never)]
+fn fault_line(p: u16, kind: FaultKind, address: u64, line: &mut Line)
+    ensures { line.new.items ≡ turn_text p (Turn.Faulted kind address) }
+{
+    turn_line(p, &Turn::Faulted(kind, address), line);
+}
+
+/// Takes a turn of a running process. Where it has a line, sets that and answers true.
+#[inline]
+fn take_turn(machine: &mut Machine, p: u16, line: &mut Line) -> bool
+    requires { is_running (wholes machine.old) p ≡ true }
+    ensures says { result ≡ true → line.new.items ≡ turn_text p (turn_of (wholes machine.old) p) }
+    ensures quiet { result ≡ false → turn_text p (turn_of (wholes machine.old) p) ≡ [] }
+    ensures after { wholes machine.new ≡ after_turn (wholes machine.old) p }
+    ensures others { StaysBut p machine.old machine.new }
+{
+    match machine.execute(p) {
+        Outcome::Stepped | Outcome::Full(_, _) => false,
+        Outcome::Asked => answer_request(machine, p, line),
+        Outcome::Fault(kind, address) => {
+            fault_line(p, kind, address, line);
+            true
+        }
+    }
+}
+
+/// The process whose turn is next.
+#[inline]
+fn next(machine: &Machine, order: &Order) -> Option<u16>
+    ensures number { result ≡ next_of (wholes machine.now) order.now }
+    ensures runs { IfSome result (λ p. is_running (wholes machine.now) p ≡ true) }
+{
+    match order {
+        Order::ByTurns(turns) => turns.next(machine.running()),
+        Order::Alone(p) => {
+            if machine.is_running(*p) {
+                Some(*p)
+            } else {
+                None
+            }
+        }
+    }
+}
+
+/// Why turns end where no process has the next one.
+fn rest(order: &Order) -> Stop
+    ensures { result ≡ rest_of order.now }
+{
+    match order {
+        Order::ByTurns(_) => Stop::Idle,
+        Order::Alone(_) => Stop::Ended,
+    }
+}
+
+/// The ending that holds, if one does.
+fn ending(machine: &Machine, running: &Running) -> Option<Stop>
+    ensures { result ≡ ending (wholes machine.now) running.now.run }
+{
+    match next(machine, running.order()) {
+        None => Some(rest(running.order())),
+        Some(_) => {
+            if running.has_left() {
+                None
+            } else {
+                Some(Stop::Limit)
+            }
+        }
+    }
+}
+
+/// Takes the next turn. None exactly where an ending was found before, or one holds; then no turn is taken.
+fn next_turn(machine: &mut Machine, running: &mut Running) -> Option<(u16, Turn)>
+    ensures turn { TakesTurn (wholes machine.old) running.old result (wholes machine.new) running.new }
+    ensures kept { SamePlaces machine.old machine.new }
+{
+    match running.stop() {
+        Some(_) => return None,
+        None => {}
+    }
+    match ending(machine, running) {
+        Some(stop) => {
+            running.set_stop(Some(stop));
+            return None;
+        }
+        None => {}
+    }
+    match next(machine, running.order()) {
+        None => None,
+        Some(p) => {
+            let turn = machine.event(p);
+            running.took(p);
+            let stop = ending(machine, running);
+            running.set_stop(stop);
+            Some((p, turn))
+        }
+    }
+}
+
+/// Takes turns until one has a line, which it sets, and answers true; or until the run has ended.
+fn turns_to_line(machine: &mut Machine, running: &mut Running, line: &mut Line) -> bool
+    ensures says { result ≡ true → Speaks (wholes machine.old) running.old line.new.items (wholes machine.new) running.new }
+    ensures ends { result ≡ false → EndsRun (wholes machine.old) running.old (wholes machine.new) running.new }
+    ensures further { result ≡ true → running.old.run.taken < running.new.run.taken }
+    ensures asked { running.new.run.turns ≡ running.old.run.turns }
+    ensures within { running.new.run.taken ≤ running.new.run.turns }
+    ensures kept { SamePlaces machine.old machine.new }
+{
+    'quiet: while running.has_left() {
+        match next(machine, running.order()) {
+            None => break,
+            Some(p) => {
+                let speaks = take_turn(machine, p, line);
+                running.took(p);
+                if speaks {
+                    return true;
+                }
+            }
+        }
+    }
+    let stop = ending(machine, running);
+    running.set_stop(stop);
+    false
+}
+
+impl Session {
+    /// A session without a process, whose turns have this quantum: 1 to 1,000,000.
+    pub fn new(alloc: Global, quantum: u32) -> Result<Session, AllocError>
+        requires { 1 ≤ quantum }
+        ensures { IfOk result (λ session. session ≡ record { state = fresh; quantum = quantum }) }
+    {
+        Ok(Session {
+            alloc,
+            machine: Machine::new(alloc)?,
+            drawn: 0,
+            quantum,
+        })
+    }
+
+    /// Makes a process of a file, under the next number: `Loaded`, or why not. After want of memory
+    /// everything is as before.
+    pub fn load(&mut self, file: &[u8]) -> Answer
+        ensures gives { GivesChange (load_done file.now self.old.state) self.old.state result self.new.state }
+        ensures told { CanBeTold result }
+        ensures runs { RunsLoaded result self.new.state }
+        ensures quantum { self.new.quantum ≡ self.old.quantum }
+    {
+        let image = match read_image(self.alloc, file) {
+            Ok(image) => image,
+            Err(ElfError::Memory) => return Answer::Memory,
+            Err(error) => return Answer::Refused(Code::Elf(error)),
+        };
+        if self.drawn == LAST_SPACE {
+            return Answer::Refused(Code::NumbersUsed);
+        }
+        let p = self.drawn + 1;
+        match self.machine.load(p, &image, file) {
+            Ok(pages) => {
+                self.drawn = p;
+                Answer::Loaded(p, pages, image.entry())
+            }
+            Err(_) => Answer::Memory,
+        }
+    }
+
+    /// Gives up a process.
+    fn drop_process(&mut self, p: u16) -> Answer
+        ensures changes { record { answer = result; after = self.new.state } ≡ drop_done p self.old.state }
+        ensures told { HasAnswerLine result }
+        ensures quantum { self.new.quantum ≡ self.old.quantum }
+    {
+        if self.machine.process(p).is_none() {
+            return Answer::Refused(Code::NoProcess);
+        }
+        self.machine.remove(p);
+        self.machine.drop_space(p);
+        Answer::Done
+    }
+
+    /// Does a change: a command that isn't `exec`, `load`, `run`, `step` or a printing one. Answers `Done`, or why not.
+    pub fn change(&mut self, command: &Command) -> Answer
+        requires { IsTrue (is_change command.now) }
+        ensures changes { record { answer = result; after = self.new.state } ≡ change_done command.now self.old.state }
+        ensures told { HasAnswerLine result }
+        ensures quantum { self.new.quantum ≡ self.old.quantum }
+    {
+        match command {
+            Command::Drop(p) => self.drop_process(*p),
+            _ => unreachable!(),
+        }
+    }
+
+    /// Begins so many turns, at least 1, by round robin.
+    pub fn begin_run(&self, turns: u32) -> Running
+        ensures { result ≡ run_found self.now.state.processes (by_turns self.now.quantum turns) }
+    {
+        self.begin(Order::ByTurns(RoundRobin::new(self.quantum)), turns)
+    }
+
+    /// Begins so many turns, at least 1, of one process. Refused where there is none, or where it has ended.
+    pub fn begin_step(&self, p: u16, turns: u32) -> Result<Running, Code>
+        ensures { BeginsStep self.now.state.processes p turns result }
+    {
+        match self.machine.process(p) {
+            None => Err(Code::NoProcess),
+            Some(process) => match process.state {
+                ProcessState::Running => Ok(self.begin(Order::Alone(p), turns)),
+                ProcessState::Exited(_) | ProcessState::Faulted(_, _) => Err(Code::Ended),
+            },
+        }
+    }
+
+    /// A run of which no turn was taken, with the ending that holds.
+    fn begin(&self, order: Order, turns: u32) -> Running
+        ensures { result ≡ run_found self.now.state.processes (record { order = order; turns = turns; taken = 0 }) }
+    {
+        let mut running = Running::new(order, turns);
+        let stop = ending(&self.machine, &running);
+        running.set_stop(stop);
+        running
+    }
+
+    /// Takes the next turn, and answers whose it was and what came of it. None exactly where an ending was found before,
+    /// or one holds; then nothing changes.
+    pub fn turn(&mut self, running: &mut Running) -> Option<(u16, Turn)>
+        ensures turn { TakesTurn self.old.state.processes running.old result self.new.state.processes running.new }
+        ensures others { (self.new.state.drawn ≡ self.old.state.drawn) × (self.new.quantum ≡ self.old.quantum) }
+    {
+        next_turn(&mut self.machine, running)
+    }
+
+    /// Takes turns until one has a line, which it sets, and answers true; or until the run has ended. It is `turn` again
+    /// and again, without a `Turn` where nothing is to be said.
+    pub fn turn_line(&mut self, running: &mut Running, line: &mut Line) -> bool
+        ensures says { result ≡ true → Speaks self.old.state.processes running.old line.new.items self.new.state.processes running.new }
+        ensures ends { result ≡ false → EndsRun self.old.state.processes running.old self.new.state.processes running.new }
+        ensures further { result ≡ true → running.old.run.taken < running.new.run.taken }
+        ensures asked { running.new.run.turns ≡ running.old.run.turns }
+        ensures within { running.new.run.taken ≤ running.new.run.turns }
+        ensures others { (self.new.state.drawn ≡ self.old.state.drawn) × (self.new.quantum ≡ self.old.quantum) }
+    {
+        turns_to_line(&mut self.machine, running, line)
+    }
+
+    /// A process, by its number; refused where there is none.
+    pub fn look_process(&self, p: u16) -> Result<ProcessView, Code>
+        ensures { LooksAt self.now.state.processes p result }
+    {
+        match self.machine.process(p) {
+            None => return Err(Code::NoProcess),
+            Some(process) => Ok(ProcessView {
+                regs: process.regs,
+                state: process.state,
+                speculating: false,
+                pages: self.machine.pages(p),
+            }),
+        }
+    }
+
+    /// The least process number from `from` on; none exactly where there is none.
+    pub fn next_process(&self, from: u16) -> Option<u16>
+        ensures next { NextProcess self.now.state.processes from result }
+        ensures within { IfSome result (λ p. (from ≤ p) × (p ≤ LAST_SPACE)) }
+    {
+        self.machine.next_process(from)
+    }
+}

@@ -1,0 +1,98 @@
+ghost use Rattle.std.specs.Prelude.{◌≡◌, ◌<◌, ◌≤◌, None, nat_lt};
+ghost use Rattle.command_core.specs.Turns.{run_after};
+
+use report_text::Stop;
+use round_robin::RoundRobin;
+use std::marker::Model;
+
+/// Whose turns they are.
+#[derive(Debug, Drop)]
+pub enum Order {
+    /// Those of all running processes, by round robin.
+    ByTurns(RoundRobin),
+    /// Those of one process.
+    Alone(u16),
+}
+
+/// A run in progress.
+#[derive(Debug, Drop)]
+pub struct Running {
+    order: Order,
+    turns: u32,
+    taken: u32,
+    stop: Option<Stop>,
+}
+
+impl Model for Running {
+    ghost use Rattle.std.specs.Prelude.{◌≤◌};
+    ghost use Rattle.command_core.specs.Turns.{InRun};
+
+    ghost Value = { InRun };
+
+    ghost view = { λ r. record {
+      run = record { order = r.order; turns = r.turns; taken = r.taken };
+      stop = r.stop;
+    } };
+
+    ghost invariant = { λ r. r.taken ≤ r.turns };
+}
+
+impl Running {
+    /// A run of so many turns, of which none was taken; no ending was looked for.
+    pub(crate) fn new(order: Order, turns: u32) -> Running
+        ensures { result ≡ record { run = record { order = order; turns = turns; taken = 0 }; stop = None } }
+    {
+        Running {
+            order,
+            turns,
+            taken: 0,
+            stop: None,
+        }
+    }
+
+    pub(crate) fn order(&self) -> &Order
+        ensures order { result.now ≡ self.now.run.order }
+        ensures within { self.now.run.taken ≤ self.now.run.turns }
+    {
+        &self.order
+    }
+
+    /// Whether a turn is left to be taken.
+    pub(crate) fn has_left(&self) -> bool
+        ensures left { result ≡ nat_lt self.now.run.taken self.now.run.turns }
+        ensures within { self.now.run.taken ≤ self.now.run.turns }
+    {
+        self.taken < self.turns
+    }
+
+    /// A turn of a process was taken.
+    pub(crate) fn took(&mut self, p: u16)
+        requires { self.old.run.taken < self.old.run.turns }
+        ensures { self.new ≡ record { run = run_after p self.old.run; stop = self.old.stop } }
+    {
+        if let Order::ByTurns(turns) = &mut self.order {
+            turns.took(p);
+        }
+        self.taken += 1;
+    }
+
+    pub(crate) fn set_stop(&mut self, stop: Option<Stop>)
+        ensures { self.new ≡ record { run = self.old.run; stop = stop } }
+    {
+        self.stop = stop;
+    }
+
+    /// How many turns were counted.
+    pub fn taken(&self) -> u32
+        ensures { result ≡ self.now.run.taken }
+    {
+        self.taken
+    }
+
+    /// Why it ended, where an ending was found.
+    pub fn stop(&self) -> Option<Stop>
+        ensures { result ≡ self.now.stop }
+    {
+        self.stop
+    }
+}

@@ -1,0 +1,20 @@
+use Rattle.std.proofs.Common.{◌≡◌, ◌+◌, ◌≤◌, length}
+use Rattle.std.specs.Prelude.{flat_map}
+use Rattle.std.specs.FinMap.{entries}
+use Rattle.sizes.specs.declared.TheConstants.{LAST_SPACE}
+use Rattle.command_core.specs.Commands.{process_text}
+use Rattle.command_core.specs.Looks.{from_number}
+use Rattle.overlay_top.proofs.Texts.{IsDone}
+use Rattle.overlay_top.proofs.commands.list_processes.Given as goal
+
+-- what was sent, and the lines of those from the number on, are the lines of all
+abbrev pub invariant-listing : goal.invariant-listing
+invariant-listing g l = record {
+  sound : g.K.Sink.faults l.sink ≡ g.K.Sink.faults l.fn.sink;
+  low : l.from ≤ LAST_SPACE + 1;
+  text : g.K.Sink.tells → IsDone (g.K.Sink.taken l.fn.sink) (g.K.Sink.taken l.sink) (flat_map process_text (from_number l.from l.session.state.processes))
+      (flat_map process_text (entries l.session.state.processes));
+}
+
+abbrev pub decreases-listing : goal.decreases-listing
+decreases-listing g l = length (from_number l.from l.session.state.processes)

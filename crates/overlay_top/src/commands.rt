@@ -1,0 +1,294 @@
+ghost use Rattle.std.specs.Prelude.{◌≡◌, ◌++◌, [], ◌∷◌, IsTrue, OnErr, OnOk, flat_map, length};
+ghost use Rattle.std.specs.FinMap.{entries, get};
+ghost use Rattle.script_text.specs.Given.{IsGiven};
+ghost use Rattle.report_text.specs.Answers.{HasAnswerLine, answer_text};
+ghost use Rattle.command_core.specs.Changes.{change_done, is_change, load_done};
+ghost use Rattle.command_core.specs.Commands.{RunsLoaded, exec_done, exec_turns, list_text, performed, process_text, steps, takes_turns, told};
+ghost use Rattle.command_core.specs.Turns.{by_turns};
+ghost use Rattle.overlay_top.specs.Outside.{SinkBy, SinkRose, SinkSound};
+ghost use Rattle.overlay_top.specs.Sending.{IsCut, IsSent};
+ghost use Rattle.overlay_top.specs.Running.{IsDoing, Sends};
+
+use crate::running::Halt;
+use crate::sending::send;
+use command_core::{Running, Session};
+use ovl_io::{Failed, Sink};
+use report_text::{Answer, Line, answer_line, list_line, process_line, stop_line};
+use script_text::Command;
+
+/// Sends the line of an answer.
+fn send_answer<K: Sink>(answer: &Answer, sink: &mut K) -> Result<(), Failed>
+    requires { HasAnswerLine answer.now }
+    ensures sent { K.tells → OnOk result (IsSent (K.taken sink.old) (answer_text answer.now) (K.taken sink.new)) }
+    ensures cut { K.tells → OnErr result (IsCut (K.taken sink.old) (answer_text answer.now) (K.taken sink.new)) }
+    ensures cause { OnErr result (SinkRose K.Sink sink.old sink.new) }
+    ensures no_fault { OnOk result (SinkSound K.Sink sink.old sink.new) }
+{
+    let mut line = Line::new();
+    answer_line(answer, &mut line);
+    send(sink, line.as_slice())
+}
+
+/// Takes the turns of a run, and sends each line as it arises, with the last one.
+fn take_turns<K: Sink>(
+    session: &mut Session,
+    running: &mut Running,
+    sink: &mut K,
+) -> Result<(), Failed>
+    ensures sent { K.tells → OnOk result (IsSent (K.taken sink.old) (takes_turns running.old.run session.old.state).text (K.taken sink.new)) }
+    ensures cut { K.tells → OnErr result (IsCut (K.taken sink.old) (takes_turns running.old.run session.old.state).text (K.taken sink.new)) }
+    ensures after { OnOk result (session.new.state ≡ (takes_turns running.old.run session.old.state).after) }
+    ensures quantum { session.new.quantum ≡ session.old.quantum }
+    ensures cause { OnErr result (SinkRose K.Sink sink.old sink.new) }
+    ensures no_fault { OnOk result (SinkSound K.Sink sink.old sink.new) }
+{
+    let mut line = Line::new();
+    'turns: while session.turn_line(running, &mut line) {
+        send(sink, line.as_slice())?;
+    }
+    match running.stop() {
+        Some(stop) => stop_line(running.taken(), &stop, &mut line),
+        None => unreachable!(),
+    }
+    send(sink, line.as_slice())
+}
+
+/// Makes a process of a file.
+fn load<K: Sink>(session: &mut Session, file: &[u8], sink: &mut K) -> Result<(), Halt>
+    ensures sends { K.tells → Sends (K.taken sink.old) (told (load_done file.now session.old.state)).text (K.taken sink.new) result }
+    ensures after { OnOk result (session.new.state ≡ (told (load_done file.now session.old.state)).after) }
+    ensures quantum { session.new.quantum ≡ session.old.quantum }
+    ensures doing { IsDoing result }
+    ensures faults { SinkBy K.Sink sink.old sink.new result }
+{
+    let answer = session.load(file);
+    if let Answer::Memory = answer {
+        return Err(Halt::Memory);
+    }
+    match send_answer(&answer, sink) {
+        Ok(()) => Ok(()),
+        Err(_) => Err(Halt::SendFailed),
+    }
+}
+
+/// Gives a process that was just made so many turns; nothing follows a load that made none.
+fn turns_of_loaded<K: Sink>(
+    session: &mut Session,
+    answer: &Answer,
+    turns: u32,
+    sink: &mut K,
+) -> Result<(), Failed>
+    requires { RunsLoaded answer.now session.old.state }
+    ensures sent { K.tells → OnOk result (IsSent (K.taken sink.old) (exec_turns turns answer.now session.old.state).text (K.taken sink.new)) }
+    ensures cut { K.tells → OnErr result (IsCut (K.taken sink.old) (exec_turns turns answer.now session.old.state).text (K.taken sink.new)) }
+    ensures after { OnOk result (session.new.state ≡ (exec_turns turns answer.now session.old.state).after) }
+    ensures quantum { session.new.quantum ≡ session.old.quantum }
+    ensures cause { OnErr result (SinkRose K.Sink sink.old sink.new) }
+    ensures no_fault { OnOk result (SinkSound K.Sink sink.old sink.new) }
+{
+    match answer {
+        Answer::Loaded(p, _, _) => match session.begin_step(*p, turns) {
+            Ok(running) => {
+                let mut running = running;
+                take_turns(session, &mut running, sink)
+            }
+            Err(_) => unreachable!(),
+        },
+        Answer::Done => Ok(()),
+        Answer::Forked(_, _) => Ok(()),
+        Answer::Saved(_, _, _) => Ok(()),
+        Answer::Refused(_) => Ok(()),
+        Answer::Full(_, _) => Ok(()),
+        Answer::Memory => Ok(()),
+    }
+}
+
+/// Sends the line of a load's answer, and gives the process that it made so many turns.
+fn tell_loaded<K: Sink>(
+    session: &mut Session,
+    answer: &Answer,
+    turns: u32,
+    sink: &mut K,
+) -> Result<(), Failed>
+    requires told { HasAnswerLine answer.now }
+    requires runs { RunsLoaded answer.now session.old.state }
+    ensures sent { K.tells → OnOk result (IsSent (K.taken sink.old)
+        (answer_text answer.now ++ (exec_turns turns answer.now session.old.state).text) (K.taken sink.new)) }
+    ensures cut { K.tells → OnErr result (IsCut (K.taken sink.old)
+        (answer_text answer.now ++ (exec_turns turns answer.now session.old.state).text) (K.taken sink.new)) }
+    ensures after { OnOk result (session.new.state ≡ (exec_turns turns answer.now session.old.state).after) }
+    ensures quantum { session.new.quantum ≡ session.old.quantum }
+    ensures cause { OnErr result (SinkRose K.Sink sink.old sink.new) }
+    ensures no_fault { OnOk result (SinkSound K.Sink sink.old sink.new) }
+{
+    match send_answer(answer, sink) {
+        Ok(()) => turns_of_loaded(session, answer, turns, sink),
+        Err(failed) => Err(failed),
+    }
+}
+
+/// Makes a process of a file, and gives it so many turns.
+fn exec<K: Sink>(session: &mut Session, file: &[u8], turns: u32, sink: &mut K) -> Result<(), Halt>
+    ensures sends { K.tells → Sends (K.taken sink.old) (exec_done file.now turns session.old.state).text (K.taken sink.new) result }
+    ensures after { OnOk result (session.new.state ≡ (exec_done file.now turns session.old.state).after) }
+    ensures quantum { session.new.quantum ≡ session.old.quantum }
+    ensures doing { IsDoing result }
+    ensures faults { SinkBy K.Sink sink.old sink.new result }
+{
+    let answer = session.load(file);
+    if let Answer::Memory = answer {
+        return Err(Halt::Memory);
+    }
+    match tell_loaded(session, &answer, turns, sink) {
+        Ok(()) => Ok(()),
+        Err(_) => Err(Halt::SendFailed),
+    }
+}
+
+/// Gives one process so many turns, where it is there and runs.
+fn step<K: Sink>(session: &mut Session, p: u16, turns: u32, sink: &mut K) -> Result<(), Failed>
+    ensures sent { K.tells → OnOk result (IsSent (K.taken sink.old)
+        (steps p turns (get session.old.state.processes p) session.old.state).text (K.taken sink.new)) }
+    ensures cut { K.tells → OnErr result (IsCut (K.taken sink.old)
+        (steps p turns (get session.old.state.processes p) session.old.state).text (K.taken sink.new)) }
+    ensures after { OnOk result (session.new.state ≡ (steps p turns (get session.old.state.processes p) session.old.state).after) }
+    ensures quantum { session.new.quantum ≡ session.old.quantum }
+    ensures cause { OnErr result (SinkRose K.Sink sink.old sink.new) }
+    ensures no_fault { OnOk result (SinkSound K.Sink sink.old sink.new) }
+{
+    match session.begin_step(p, turns) {
+        Ok(running) => {
+            let mut running = running;
+            take_turns(session, &mut running, sink)
+        }
+        Err(code) => send_answer(&Answer::Refused(code), sink),
+    }
+}
+
+/// Gives processes so many turns, by round robin.
+fn run_all<K: Sink>(session: &mut Session, turns: u32, sink: &mut K) -> Result<(), Failed>
+    ensures sent { K.tells → OnOk result (IsSent (K.taken sink.old)
+        (takes_turns (by_turns session.old.quantum turns) session.old.state).text (K.taken sink.new)) }
+    ensures cut { K.tells → OnErr result (IsCut (K.taken sink.old)
+        (takes_turns (by_turns session.old.quantum turns) session.old.state).text (K.taken sink.new)) }
+    ensures after { OnOk result (session.new.state ≡ (takes_turns (by_turns session.old.quantum turns) session.old.state).after) }
+    ensures quantum { session.new.quantum ≡ session.old.quantum }
+    ensures cause { OnErr result (SinkRose K.Sink sink.old sink.new) }
+    ensures no_fault { OnOk result (SinkSound K.Sink sink.old sink.new) }
+{
+    let mut running = session.begin_run(turns);
+    take_turns(session, &mut running, sink)
+}
+
+/// Gives up a process.
+fn drop_process<K: Sink>(
+    session: &mut Session,
+    command: &Command,
+    sink: &mut K,
+) -> Result<(), Failed>
+    requires { IsTrue (is_change command.now) }
+    ensures sent { K.tells → OnOk result (IsSent (K.taken sink.old) (told (change_done command.now session.old.state)).text (K.taken sink.new)) }
+    ensures cut { K.tells → OnErr result (IsCut (K.taken sink.old) (told (change_done command.now session.old.state)).text (K.taken sink.new)) }
+    ensures after { OnOk result (session.new.state ≡ (told (change_done command.now session.old.state)).after) }
+    ensures quantum { session.new.quantum ≡ session.old.quantum }
+    ensures cause { OnErr result (SinkRose K.Sink sink.old sink.new) }
+    ensures no_fault { OnOk result (SinkSound K.Sink sink.old sink.new) }
+{
+    let answer = session.change(command);
+    send_answer(&answer, sink)
+}
+
+/// How many processes there are.
+fn count_processes(session: &Session) -> u32
+    ensures { result ≡ length (entries session.now.state.processes) }
+{
+    let mut count = 0u32;
+    let mut from = 0u16;
+    'counting: while let Some(p) = session.next_process(from) {
+        count += 1;
+        from = p + 1;
+    }
+    count
+}
+
+/// Sends the lines of all processes, by number.
+fn list_processes<K: Sink>(session: &Session, sink: &mut K) -> Result<(), Failed>
+    ensures sent { K.tells → OnOk result (IsSent (K.taken sink.old) (flat_map process_text (entries session.now.state.processes)) (K.taken sink.new)) }
+    ensures cut { K.tells → OnErr result (IsCut (K.taken sink.old) (flat_map process_text (entries session.now.state.processes)) (K.taken sink.new)) }
+    ensures cause { OnErr result (SinkRose K.Sink sink.old sink.new) }
+    ensures no_fault { OnOk result (SinkSound K.Sink sink.old sink.new) }
+{
+    let mut line = Line::new();
+    let mut from = 0u16;
+    'listing: while let Some(p) = session.next_process(from) {
+        match session.look_process(p) {
+            Ok(view) => process_line(p, &view.state, view.speculating, view.pages, &mut line),
+            Err(_) => unreachable!(),
+        }
+        send(sink, line.as_slice())?;
+        from = p + 1;
+    }
+    Ok(())
+}
+
+/// Lists the processes.
+fn list<K: Sink>(session: &Session, sink: &mut K) -> Result<(), Failed>
+    ensures sent { K.tells → OnOk result (IsSent (K.taken sink.old) (list_text session.now.state) (K.taken sink.new)) }
+    ensures cut { K.tells → OnErr result (IsCut (K.taken sink.old) (list_text session.now.state) (K.taken sink.new)) }
+    ensures cause { OnErr result (SinkRose K.Sink sink.old sink.new) }
+    ensures no_fault { OnOk result (SinkSound K.Sink sink.old sink.new) }
+{
+    let mut line = Line::new();
+    list_line(count_processes(session), 0, &mut line);
+    send(sink, line.as_slice())?;
+    list_processes(session, sink)
+}
+
+/// Does one command, with the file that it asks for.
+pub(crate) fn do_command<K: Sink>(
+    session: &mut Session,
+    command: &Command,
+    file: &[u8],
+    sink: &mut K,
+) -> Result<(), Halt>
+    requires { IsGiven command.now }
+    ensures sends { K.tells → Sends (K.taken sink.old)
+        (performed session.old.quantum file.now command.now session.old.state).text (K.taken sink.new) result }
+    ensures after { OnOk result (session.new.state ≡ (performed session.old.quantum file.now command.now session.old.state).after) }
+    ensures quantum { session.new.quantum ≡ session.old.quantum }
+    ensures doing { IsDoing result }
+    ensures faults { SinkBy K.Sink sink.old sink.new result }
+{
+    let sent = match command {
+        Command::Exec(_, turns) => return exec(session, file, *turns, sink),
+        Command::Load(_) => return load(session, file, sink),
+        Command::Run(turns) => run_all(session, *turns, sink),
+        Command::Step(p, turns) => step(session, *p, *turns, sink),
+        Command::Drop(_) => drop_process(session, command, sink),
+        Command::List => list(session, sink),
+        Command::Fork(_)
+        | Command::Checkpoint(_, _)
+        | Command::Restore(_, _)
+        | Command::Forget(_)
+        | Command::Speculate(_)
+        | Command::Commit(_)
+        | Command::Discard(_)
+        | Command::Promote(_, _)
+        | Command::PromoteAll(_)
+        | Command::Compact
+        | Command::Map(_, _, _, _)
+        | Command::Unmap(_, _, _)
+        | Command::Regs(_)
+        | Command::Dump(_, _, _)
+        | Command::Poke(_, _, _)
+        | Command::Set(_, _, _)
+        | Command::Break(_, _)
+        | Command::Unbreak(_, _)
+        | Command::Disasm(_, _, _)
+        | Command::Stats => unreachable!(),
+    };
+    match sent {
+        Ok(()) => Ok(()),
+        Err(Failed) => Err(Halt::SendFailed),
+    }
+}
