@@ -1,9 +1,6 @@
-use Rattle.std.proofs.Common.{◌≡◌, ℕ, ◌==◌, ◌||◌, true, false, cond, List, [], sym, ap, ◌∙◌, refl, Option, Some, None}
-use Rattle.std.specs.Option.{option_map, option_map_or, IsSome, is_some}
-use Rattle.std.specs.Ordering.{nat_cmp}
-use Rattle.std.specs.FinMap.{get, insert}
-use Rattle.std.specs.Map.{lookup}
-use Rattle.std.specs.BTreeMap.{is_at}
+use Rattle.std.proofs.Common.{◌≡◌, ℕ, ◌==◌, ◌||◌, true, false, cond, [], sym, ap, ◌∙◌, refl, Option, Some, None}
+use Rattle.std.specs.Option.{option_map_or, IsSome, is_some}
+use Rattle.std.specs.FinMap.{get}
 use Rattle.ovl_io.specs.declared.process_state.ProcessState.{ProcessState}
 use Rattle.ovl_io.specs.declared.process_state.ProcessState.TheVariants.{Running, Exited, Faulted}
 use Rattle.ovl_io.specs.declared.turn.Turn.TheVariants.{Stepped}

@@ -1,24 +1,22 @@
-use Rattle.std.proofs.Common.{◌≡◌, ℕ, ◌<◌, ◌≤◌, zero, suc, Bool, true, false, cond, ◌==◌, ◌||◌, ◌&&◌, List, [], ◌∷◌, length, map, get_or, sym, ap, subst, ◌∙◌, refl, arith, inl, inr, Option, Some, None}
+use Rattle.std.proofs.Common.{◌≡◌, ℕ, ◌<◌, ◌≤◌, zero, suc, Bool, true, false, cond, ◌||◌, ◌&&◌, List, [], ◌∷◌, length, map, get_or, sym, ap, subst, ◌∙◌, refl, arith, inl, inr, Option, Some, None}
 use Rattle.std.specs.Prelude.{T, nat_le, slice_get}
 use Rattle.std.specs.Option.{is_some, option_map, option_map_or, MatchOption}
 use Rattle.std.specs.Global.{Vec}
 use Rattle.std.specs.List.{All, filter}
-use Rattle.std.specs.List.Sorted.{IsStrictlyIncreasing}
-use Rattle.std.specs.Ordering.{nat_cmp, is_eq, is_lt, MatchOrdering}
+use Rattle.std.specs.Ordering.{nat_cmp, is_lt, MatchOrdering}
 use Rattle.std.specs.declared.cmp.Ordering.{Ordering}
 use Rattle.std.specs.declared.cmp.Ordering.TheVariants.{Less, Equal, Greater}
 use Rattle.std.specs.Cmp.{ranks}
-use Rattle.std.specs.FinMap.{FinMap, find, get, insert, entries, get-entries, entries_sorted}
+use Rattle.std.specs.FinMap.{find, get, insert, entries, get-entries, entries_sorted}
 use Rattle.std.specs.FinMap.Entries.{is_sorted}
 use Rattle.std.proofs.lemmas.Bool.{cases_lt, cases_order}
 use Rattle.std.proofs.lemmas.Bool.Decides.{nat_tests}
 use Rattle.ovl_io.specs.KeyLaws.{by_key, ties, differs}
-use Rattle.ovl_io.specs.Memory.{Memory}
 use Rattle.machine_core.specs.Process.{Process, runs}
 use Rattle.machine_core.specs.declared.process.Process as declared
 use Rattle.machine_core.specs.Machine.{Machine, Processes, StaysBut, wholes, is_running, shown_process, shown_at, running_numbers, keys_from}
 use Rattle.machine_core.specs.Slots.{Slots, slot_at, slot_space, slot_process, slot_whole, slot_runs, seen, is_in, IsChanged, IsRunningList, IsNextProcess}
-use Rattle.machine_core.proofs.Rising.{Rises, rises, increases, lower, none_below, same_is, other_is, found_in, same_rising}
+use Rattle.machine_core.proofs.Rising.{Rises, rises, lower, none_below, same_is, other_is, found_in, same_rising}
 use Rattle.machine_core.proofs.Seen.{space_at, process_at, whole_seen, runs_seen, shown_seen, wholes_changed, changed_stays}
 
 -- What a machine's slots say of it.

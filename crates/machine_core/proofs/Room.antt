@@ -1,4 +1,4 @@
-use Rattle.std.proofs.Common.{◌≡◌, ℕ, ◌<◌, ◌≤◌, Bool, true, false, cond, List, length, get_or, sym, ap, subst, ◌∙◌, refl, arith, inl, inr, Option, Some, None}
+use Rattle.std.proofs.Common.{◌≡◌, ℕ, ◌<◌, Bool, true, false, length, sym, ap, ◌∙◌, refl, arith, inl, inr, Option, Some, None}
 use Rattle.std.specs.Prelude.{Result, Err, IsOk, is_ok}
 use Rattle.std.specs.Option.{is_some, option_map_or}
 use Rattle.std.specs.Global.{Box, Vec}

@@ -1,10 +1,10 @@
-use Rattle.std.proofs.Common.{◌≡◌, ℕ, ◌+◌, ◌<◌, ◌≤◌, zero, suc, Bool, true, false, cond, List, [], ◌∷◌, length, get_or, set, sym, ap, subst, ◌∙◌, refl, arith, Option, Some, None}
+use Rattle.std.proofs.Common.{◌≡◌, ℕ, ◌+◌, ◌<◌, zero, suc, Bool, true, false, cond, List, [], ◌∷◌, length, get_or, set, sym, ap, ◌∙◌, refl, arith, Option, Some, None}
 use Rattle.std.specs.Option.{option_map, option_map_or, option_and_then}
-use Rattle.std.specs.List.{cons_option, filter_map}
-use Rattle.std.specs.Ordering.{nat_cmp, is_eq}
+use Rattle.std.specs.List.{cons_option}
+use Rattle.std.specs.Ordering.{nat_cmp}
 use Rattle.std.specs.Cmp.{nat_cmp_total}
 use Rattle.std.specs.Global.{Box}
-use Rattle.std.specs.FinMap.{find, get, insert, remove, entries, from_entries, get-from_entries, get-entries}
+use Rattle.std.specs.FinMap.{find, get, insert, remove, from_entries, get-from_entries}
 use Rattle.std.proofs.lemmas.List.{get_or-set_same, get_or-set_other}
 use Rattle.ovl_io.specs.KeyLaws.{ties, differs, by_key, alike, get_same, get_other, removed_same, removed_other}
 use Rattle.ovl_io.specs.Memory.{Memory}

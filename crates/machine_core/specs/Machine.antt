@@ -1,4 +1,4 @@
-use Rattle.std.specs.Prelude.{◌≡◌, ℕ, nat_le, Bool, true, false, List, map, Option}
+use Rattle.std.specs.Prelude.{◌≡◌, ℕ, nat_le, Bool, false, List, map, Option}
 use Rattle.std.specs.List.{filter, filter_map}
 use Rattle.std.specs.Option.{option_and_then, option_map, option_map_or}
 use Rattle.std.specs.Ordering.{nat_cmp}

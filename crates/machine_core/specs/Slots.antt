@@ -1,10 +1,9 @@
-use Rattle.std.specs.Prelude.{◌≡◌, ◌==◌, ◌+◌, ◌<◌, Result, Ok, Err, ℕ, suc, ◌≤◌, Bool, true, false, cond, List, [], ◌∷◌, length, get_or, map, Option, Some, None}
+use Rattle.std.specs.Prelude.{◌≡◌, ◌==◌, ◌+◌, ◌<◌, Result, Ok, Err, ℕ, suc, ◌≤◌, Bool, true, false, cond, List, [], ◌∷◌, length, get_or, Option, Some, None}
 use Rattle.std.specs.Option.{option_map, option_map_or, is_some}
 use Rattle.std.specs.Global.{Box, Vec}
 use Rattle.std.specs.FinMap.{from_entries}
 use Rattle.std.specs.List.{cons_option, list_any}
 use Rattle.std.specs.List.Sorted.{IsStrictlyIncreasing}
-use Rattle.std.specs.Ordering.{nat_cmp, is_eq}
 use Rattle.std.specs.Vec.{vec_capacity}
 use Rattle.sizes.specs.declared.TheConstants.{LAST_SPACE}
 use Rattle.ovl_io.specs.Memory.{Memory}
@@ -12,7 +11,6 @@ use Rattle.machine_core.specs.Process.{Process, runs}
 use Rattle.machine_core.specs.Machine.{Machine}
 use Rattle.machine_core.specs.Kept.{process_of}
 use Rattle.machine_core.specs.declared.process.Process as declared
-use Rattle.machine_core.specs.declared.guest.Guest.{Guest}
 use Rattle.machine_core.specs.declared.slots.Slot.{Slot}
 
 -- What the slots hold, as the spaces and processes that they stand for.

@@ -1,5 +1,4 @@
 use Rattle.std.proofs.Common.{sym, ap, ◌∙◌, Option}
-use Rattle.rv_execute.specs.Execution.{outcome_by}
 use Rattle.machine_core.specs.Process.{Process}
 use Rattle.machine_core.specs.Machine.{answered_process, asked_of, turn_asked, after_asked}
 use Rattle.machine_core.specs.Slots.{seen}

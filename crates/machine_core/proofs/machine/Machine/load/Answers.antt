@@ -1,4 +1,4 @@
-use Rattle.std.proofs.Common.{ap, sym, ◌∙◌, arith}
+use Rattle.std.proofs.Common.{ap, ◌∙◌, arith}
 use Rattle.sizes.specs.declared.TheConstants.{STACK_POINTER}
 use Rattle.std.specs.FinMap.{insert}
 use Rattle.rv_execute.specs.Registers.{first_registers}

@@ -1,4 +1,4 @@
-use Rattle.std.proofs.Common.{◌≡◌, ℕ, ◌-◌, length, drop}
+use Rattle.std.proofs.Common.{◌≡◌, ◌-◌, length, drop}
 use Rattle.machine_core.specs.Machine.{wholes}
 use Rattle.machine_core.specs.Play.{run_over}
 use Rattle.machine_core.proofs.machine.Machine.play.Given as goal

@@ -1,4 +1,4 @@
-use Rattle.std.proofs.Common.{sym, ap, subst, ◌∙◌, true, ◌≡◌}
+use Rattle.std.proofs.Common.{sym, subst, ◌∙◌, true, ◌≡◌}
 use Rattle.std.specs.List.{All}
 use Rattle.machine_core.specs.Machine.{is_running, running_numbers, wholes}
 use Rattle.machine_core.specs.Laws.{answers}
