@@ -1,5 +1,8 @@
-ghost use Rattle.std.specs.Prelude.{◌≡◌, ◌≤◌, ◌↔◌, None, length, slice_get};
-ghost use Rattle.std.specs.List.Sorted.{IsStrictlyIncreasing};
+ghost use Rattle.std.specs.Prelude.{◌≡◌, ◌≤◌, ◌↔◌, None, IfOk, length, slice_get};
+ghost use Rattle.std.specs.List.Sorted.{IsBinarySearchResult, IsSearchInRange, IsStrictlyIncreasing};
+ghost use Rattle.std.specs.List.{HoldsAt};
+ghost use Rattle.std.specs.Ordering.{nat_cmp};
+ghost use Rattle.std.specs.declared.cmp.Ordering.TheVariants as Ordering;
 ghost use Rattle.std.specs.Option.{option_map, option_or};
 ghost use Rattle.round_robin.specs.Turns.{Turns, next_number, after_turn_of};
 
@@ -17,6 +20,8 @@ struct Last {
 pub struct RoundRobin {
     quantum: u32,
     last: Option<Last>,
+    /// Where the last number may stand among those that are running: looked at before a search.
+    guess: usize,
 }
 
 impl Model for RoundRobin {
@@ -35,6 +40,20 @@ fn at_or_first(running: &[u16], place: usize) -> Option<u16>
     }
 }
 
+/// The place of a number among numbers that rise, or where it would be. A guess that holds spares the search.
+fn place_of(running: &[u16], number: u16, guess: usize) -> Result<usize, usize>
+    ensures bound { IsSearchInRange result (length running.now) }
+    ensures ok { IfOk result (HoldsAt (λ y. nat_cmp y number ≡ Ordering.Equal) running.now) }
+    ensures position { IsBinarySearchResult (λ y. nat_cmp y number) running.now result }
+{
+    if let Some(p) = running.get(guess) {
+        if *p == number {
+            return Ok(guess);
+        }
+    }
+    running.binary_search(&number)
+}
+
 impl RoundRobin {
     /// The start: no turn was taken yet. The quantum is in turns.
     pub fn new(quantum: u32) -> RoundRobin
@@ -44,11 +63,12 @@ impl RoundRobin {
         RoundRobin {
             quantum,
             last: None,
+            guess: 0,
         }
     }
 
     /// The number whose turn is next, of those that are running, ascending; none exactly where none is running.
-    /// It takes as many steps as a binary search.
+    /// It takes one step where none began or ended to run since the last turn, and else as many as a binary search.
     pub fn next(&self, running: &[u16]) -> Option<u16>
         requires { IsStrictlyIncreasing running.now }
         ensures number { result ≡ next_number self.now running.now }
@@ -58,7 +78,7 @@ impl RoundRobin {
             Some(last) => *last,
             None => return running.first().copied(),
         };
-        match running.binary_search(&last.number) {
+        match place_of(running, last.number, self.guess) {
             Ok(i) => {
                 if last.had < self.quantum {
                     Some(last.number)
@@ -84,6 +104,23 @@ impl RoundRobin {
             }
             None => 1,
         };
+        self.guess = self.guess_of(p);
         self.last = Some(Last { number: p, had });
+    }
+
+    /// Where `p`, whose turn it was, may stand: behind the last number, where it is above that, or else first.
+    fn guess_of(&self, p: u16) -> usize {
+        match &self.last {
+            None => 0,
+            Some(last) => {
+                if p == last.number {
+                    self.guess
+                } else if p > last.number {
+                    self.guess.saturating_add(1)
+                } else {
+                    0
+                }
+            }
+        }
     }
 }
