@@ -88,18 +88,17 @@ first_from {X = X} from k p (e ∷ es) h starts = by_test (nat_le from e.0) refl
           from_here,
           ap (λ b. cond b (Some e.1) (find nat_cmp e.0 es)) (ties e.0 e.0 refl),
           ap (λ b. cond b (e ∷ passing from es) (passing from es)) is
-          ∙ ap (λ more. e ∷ more) (all_pass from (suc e.0) es (omega (arith, from_here)) h.1 ∙ sym (all_pass (e.0 + 1) (suc e.0) es (omega arith) h.1))
-          ∙ sym (ap (λ b. e ∷ cond b (e ∷ passing (e.0 + 1) es) (passing (e.0 + 1) es)) (not_from (e.0 + 1) e.0 (omega arith))),
+              ∙ ap (λ more. e ∷ more) (all_pass from (suc e.0) es (omega (arith, from_here)) h.1 ∙ sym (all_pass (e.0 + 1) (suc e.0) es (omega arith) h.1))
+              ∙ sym (ap (λ b. e ∷ cond b (e ∷ passing (e.0 + 1) es) (passing (e.0 + 1) es)) (not_from (e.0 + 1) e.0 (omega arith))),
         )
     by_test false is behind same =
         let (x, not_below, found, splits) = behind same in
-        let below : e.0 < from = grind (arith, nat_tests) in
-        (
+        let below : e.0 < from = grind (arith, nat_tests) in (
           x,
           not_below,
           ap (λ b. cond b (Some e.1) (find nat_cmp p es)) (differs p e.0 (λ ties. omega (arith, ties, below, not_below))) ∙ found,
           ap (λ b. cond b (e ∷ passing from es) (passing from es)) is ∙ splits
-          ∙ sym (ap (λ b. (p, x) ∷ cond b (e ∷ passing (p + 1) es) (passing (p + 1) es)) (not_from (p + 1) e.0 (omega (arith, below, not_below)))),
+              ∙ sym (ap (λ b. (p, x) ∷ cond b (e ∷ passing (p + 1) es) (passing (p + 1) es)) (not_from (p + 1) e.0 (omega (arith, below, not_below)))),
         )
 
 no_key : {X : Type 0} (es : List (ℕ × X)) → map (λ e. e.0) es ≡ [] → es ≡ []

@@ -95,7 +95,11 @@ fn a_script_has_at_most_65536_lines(rt: HostRuntime) -> Result<(), Fail> {
         let mut source = MemorySource::new(script, 4096, Vec::new(rt.alloc()));
         let mut sink = CountSink::new();
         let got = run_program(rt.alloc(), &[], &mut source, &mut shelf, &mut sink);
-        assert_eq!(rt; (got, sink.count()), (status, 0), "a script of {lines} lines");
+        assert_eq!(rt;
+            (got, sink.count()),
+            (status, 0),
+            "a script of {lines} lines"
+        );
     }
     Ok(())
 }

@@ -12,6 +12,6 @@ drop_space-requires-clause-no_process c =
 pub invariant_of-self : goal.invariant_of-self
 invariant_of-self c = (
   session_drop c.self.inside.machine c.remove.new.self c.drop_space.new.self c.self.inside.drawn c.args.p c.self.invariant.0 c.remove.ensures.removed
-  c.drop_space.ensures.dropped,
+      c.drop_space.ensures.dropped,
   c.self.invariant.1,
 )

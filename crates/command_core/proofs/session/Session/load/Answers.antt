@@ -15,6 +15,6 @@ returns-in-Ok-load-clause-runs c =
 pub invariant_of-self : goal.invariant_of-self
 invariant_of-self c = (
   session_load c.self.inside.machine c.load.new.self c.self.inside.drawn (loaded_process c.args.file.now) c.self.invariant.0
-  (omega (arith, c.self.invariant.0.few, c.if-self-eq-LAST_SPACE.false)) c.in-Ok-load.ensures.made,
+      (omega (arith, c.self.invariant.0.few, c.if-self-eq-LAST_SPACE.false)) c.in-Ok-load.ensures.made,
   c.self.invariant.1,
 )
