@@ -40,7 +40,18 @@ fn at_or_first(running: &[u16], place: usize) -> Option<u16>
     }
 }
 
-/// The place of a number among numbers that rise, or where it would be. A guess that holds spares the search.
+/// The place of a number among numbers that rise, or where it would be.
+#[inline(never)]
+fn search(running: &[u16], number: u16) -> Result<usize, usize>
+    ensures bound { IsSearchInRange result (length running.now) }
+    ensures ok { IfOk result (HoldsAt (λ y. nat_cmp y number ≡ Ordering.Equal) running.now) }
+    ensures position { IsBinarySearchResult (λ y. nat_cmp y number) running.now result }
+{
+    running.binary_search(&number)
+}
+
+/// The same. A guess that holds spares the search.
+#[inline]
 fn place_of(running: &[u16], number: u16, guess: usize) -> Result<usize, usize>
     ensures bound { IsSearchInRange result (length running.now) }
     ensures ok { IfOk result (HoldsAt (λ y. nat_cmp y number ≡ Ordering.Equal) running.now) }
@@ -51,7 +62,7 @@ fn place_of(running: &[u16], number: u16, guess: usize) -> Result<usize, usize>
             return Ok(guess);
         }
     }
-    running.binary_search(&number)
+    search(running, number)
 }
 
 impl RoundRobin {
@@ -94,18 +105,18 @@ impl RoundRobin {
     pub fn took(&mut self, p: u16)
         ensures { self.new ≡ after_turn_of p self.old }
     {
-        let had = match &self.last {
+        match &self.last {
             Some(last) => {
                 if p == last.number && last.had < self.quantum {
-                    last.had + 1
-                } else {
-                    1
+                    let had = last.had + 1;
+                    self.last = Some(Last { number: p, had });
+                    return;
                 }
             }
-            None => 1,
-        };
+            None => {}
+        }
         self.guess = self.guess_of(p);
-        self.last = Some(Last { number: p, had });
+        self.last = Some(Last { number: p, had: 1 });
     }
 
     /// Where `p`, whose turn it was, may stand: behind the last number, where it is above that, or else first.
