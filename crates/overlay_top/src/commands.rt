@@ -266,26 +266,7 @@ pub(crate) fn do_command<K: Sink>(
         Command::Step(p, turns) => step(session, *p, *turns, sink),
         Command::Drop(_) => drop_process(session, command, sink),
         Command::List => list(session, sink),
-        Command::Fork(_)
-        | Command::Checkpoint(_, _)
-        | Command::Restore(_, _)
-        | Command::Forget(_)
-        | Command::Speculate(_)
-        | Command::Commit(_)
-        | Command::Discard(_)
-        | Command::Promote(_, _)
-        | Command::PromoteAll(_)
-        | Command::Compact
-        | Command::Map(_, _, _, _)
-        | Command::Unmap(_, _, _)
-        | Command::Regs(_)
-        | Command::Dump(_, _, _)
-        | Command::Poke(_, _, _)
-        | Command::Set(_, _, _)
-        | Command::Break(_, _)
-        | Command::Unbreak(_, _)
-        | Command::Disasm(_, _, _)
-        | Command::Stats => unreachable!(),
+        _ => unreachable!(),
     };
     match sent {
         Ok(()) => Ok(()),

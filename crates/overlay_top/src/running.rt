@@ -33,7 +33,7 @@ pub enum Halt {
     SendFailed,
 }
 
-/// AsksFor the file that a command names.
+/// Fetches the file that a command names.
 fn fetch<H: Shelf>(alloc: Global, name: &[u8], shelf: &mut H) -> Result<Vec<u8>, Halt>
     requires { HasName name.now }
     ensures gives { H.tells → GivesFile (λ file. file.items) (asked_by (H.files shelf.old name.now)) result }
@@ -79,30 +79,7 @@ fn file_of(command: &Command) -> Option<&Bytes>
     match command {
         Command::Exec(name, _) => Some(name),
         Command::Load(name) => Some(name),
-        Command::Run(_) => None,
-        Command::Step(_, _) => None,
-        Command::Drop(_) => None,
-        Command::List => None,
-        Command::Fork(_)
-        | Command::Checkpoint(_, _)
-        | Command::Restore(_, _)
-        | Command::Forget(_)
-        | Command::Speculate(_)
-        | Command::Commit(_)
-        | Command::Discard(_)
-        | Command::Promote(_, _)
-        | Command::PromoteAll(_)
-        | Command::Compact
-        | Command::Map(_, _, _, _)
-        | Command::Unmap(_, _, _)
-        | Command::Regs(_)
-        | Command::Dump(_, _, _)
-        | Command::Poke(_, _, _)
-        | Command::Set(_, _, _)
-        | Command::Break(_, _)
-        | Command::Unbreak(_, _)
-        | Command::Disasm(_, _, _)
-        | Command::Stats => unreachable!(),
+        _ => None,
     }
 }
 
