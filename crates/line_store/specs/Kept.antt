@@ -1,4 +1,5 @@
 use Rattle.std.specs.Prelude.{◌≡◌, ℕ, ◌+◌, ◌-◌, ◌<◌, ◌≤◌, ◌⊎◌, List, ◌++◌, length, replicate, slice_index_or}
+use Rattle.sizes.specs.declared.TheConstants.{MOST_REGION_LINES}
 use Rattle.line_store.specs.Lines.{zero_lines}
 
 -- What a region keeps of its lines: the first ones, behind which all are zero.
@@ -13,6 +14,6 @@ EndsInZero lines = (at : ℕ) (d : List ℕ) → length lines ≤ at + 64 → at
 
 -- All lines are kept, or the last 64 of those kept are zero. So a page that isn't kept whole is zero.
 pub record IsKept (first : List (List ℕ)) (count : ℕ) : Type 0 where
-  pub few : count ≤ 4194368
+  pub few : count ≤ MOST_REGION_LINES
   pub below : length first ≤ count
   pub ends : (length first ≡ count) ⊎ EndsInZero first

@@ -4,6 +4,7 @@
 ghost use Rattle.std.specs.Prelude.{◌≡◌, ◌-◌, ◌<◌, ◌≤◌, ℕ, List, [], ◌∷◌, ◌++◌, length, replicate, IfOk};
 ghost use Rattle.std.specs.Borrow.{sem};
 ghost use denote.RawPtr.{Ptr};
+ghost use Rattle.sizes.specs.declared.TheConstants.{MOST_REGION_LINES};
 ghost use Rattle.line_store.specs.Lines.{line_of, made_up_to};
 ghost use Rattle.line_store.specs.Memory.{lines_own, lines_lent, lease_owns};
 
@@ -21,7 +22,7 @@ pub(crate) struct Lines {
     made: usize,
     pub(crate) ghost items: { List (List ℕ) },
     pub(crate) ghost room: { ℕ },
-    ghost fits: { (made ≡ length items) × (made ≤ room) × (room ≤ 4194368) },
+    ghost fits: { (made ≡ length items) × (made ≤ room) × (room ≤ MOST_REGION_LINES) },
 }
 
 impl Model for Lines {
@@ -48,8 +49,9 @@ impl Lines {
 
     /// Room for `room` lines, of which none is made.
     pub(crate) fn new<A: Allocator>(alloc: &A, room: usize) -> Result<(Lines, Lease<A>), AllocError>
-        requires { room ≤ 4194368 }
-        ensures { IfOk result (λ r. (r.0.items ≡ []) × (r.0.room ≡ room) × (r.1.alloc ≡ alloc.now) × (r.1.at ≡ r.0.at) × (r.1.room ≡ room)) }
+        requires { room ≤ MOST_REGION_LINES }
+        ensures { IfOk result (λ r. (r.0.items ≡ []) × (r.0.room ≡ room)
+            × (r.1.alloc ≡ alloc.now) × (r.1.at ≡ r.0.at) × (r.1.room ≡ room)) }
     {
         match alloc.allocate(64 * room, ALIGN) {
             Ok(block) => {
@@ -63,7 +65,8 @@ impl Lines {
 
     /// Gives the memory back, with what lies in it.
     pub(crate) fn free<A: Allocator>(self, room: usize, lease: Lease<A>, alloc: &A)
-        requires { (lease.alloc ≡ alloc.now) × (lease.at ≡ self.at) × (lease.room ≡ room) × (self.room ≡ room) }
+        requires { (lease.alloc ≡ alloc.now) × (lease.at ≡ self.at) × (lease.room ≡ room)
+            × (self.room ≡ room) }
     {
         let Lines { at, made: _ } = self;
         let Lease { mark: _ } = lease;

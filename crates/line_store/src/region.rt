@@ -1,6 +1,6 @@
 ghost use Rattle.std.specs.Prelude.{◌≡◌, ◌+◌, ◌-◌, ◌*◌, ◌≤◌, ◌<◌, ◌⊎◌, ◌++◌, IfOk, take, drop, length, replicate, slice_set};
 ghost use Rattle.std.specs.Borrow.{Lends, sem, Array, u8 as byte};
-ghost use Rattle.sizes.specs.declared.TheConstants.{LINE_BYTES, MOST_FRAMES};
+ghost use Rattle.sizes.specs.declared.TheConstants.{LINE_BYTES, MOST_REGION_FRAMES, MOST_REGION_LINES};
 ghost use Rattle.line_store.specs.contracts.region.Region.{the_row};
 ghost use Rattle.line_store.specs.Lines.{zero_lines, line_of, with_copied};
 ghost use Rattle.line_store.specs.Kept.{kept_lines, IsKept};
@@ -51,7 +51,7 @@ impl Region {
     /// of which nothing is touched. Without memory for it nothing is made.
     pub fn new(alloc: Global, frames: u32) -> Result<Region, AllocError>
         requires some { 1 ≤ frames }
-        requires few { frames ≤ MOST_FRAMES + 1 }
+        requires few { frames ≤ MOST_REGION_FRAMES }
         ensures zero { IfOk result (λ region. region ≡ zero_lines (64 * frames)) }
         ensures count { IfOk result (λ region. length region ≡ 64 * frames) }
     {
@@ -63,7 +63,7 @@ impl<A: Allocator> Region<A> {
     // The same over any allocator.
     pub(crate) fn made(alloc: A, frames: u32) -> Result<Region<A>, AllocError>
         requires some { 1 ≤ frames }
-        requires few { frames ≤ MOST_FRAMES + 1 }
+        requires few { frames ≤ MOST_REGION_FRAMES }
         ensures zero { IfOk result (λ region. region ≡ zero_lines (64 * frames)) }
         ensures count { IfOk result (λ region. length region ≡ 64 * frames) }
     {
@@ -128,7 +128,8 @@ impl<A: Allocator> Region<A> {
     /// other line changes. Takes no memory beyond the region's, but touches the lines before it.
     pub fn line_mut(&mut self, at: u32) -> &mut [u8; 64]
         requires there { at < length self.old }
-        ensures* writes_back { sem 𝓛 (Lends (the_row A.row A.Allocator) (Array byte 0) self.entry result (slice_set self.old at)) }
+        ensures* writes_back { sem 𝓛
+            (Lends (the_row A.row A.Allocator) (Array byte 0) self.entry result (slice_set self.old at)) }
         ensures value { result.now ≡ line_of self.old at }
     {
         reach(&mut self.lines, self.count, at + 1);
@@ -171,7 +172,7 @@ fn zero_page() -> &'static [[u8; 64]; 64]
 // Keeps the lines before `end` and 64 more, where there are so many. So a page that isn't kept whole
 // lies among those 64 and behind them, and is zero.
 fn reach(lines: &mut Lines, count: u32, end: u32)
-    requires few { count ≤ 4194368 }
+    requires few { count ≤ MOST_REGION_LINES }
     requires inside { end ≤ count }
     requires room { lines.old.room ≡ count }
     ensures same { kept_lines lines.new.items count ≡ kept_lines lines.old.items count }

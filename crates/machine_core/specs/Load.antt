@@ -1,7 +1,7 @@
 use Rattle.std.specs.Prelude.{◌≡◌, ℕ, ◌+◌, List, ◌++◌, length, map, replicate, Some, if◌then◌else◌}
 use Rattle.std.specs.List.{range_with_len, list_any}
 use Rattle.std.specs.Ordering.{nat_cmp, is_eq}
-use Rattle.std.specs.FinMap.{from_entries, get}
+use Rattle.std.specs.FinMap.{from_entries, get, insert}
 use Rattle.sizes.specs.declared.TheConstants.{STACK_PAGE, STACK_PAGES, STACK_POINTER}
 use Rattle.ovl_io.specs.Memory.{Memory, Page}
 use Rattle.ovl_io.specs.declared.process_state.ProcessState.TheVariants.{Running}
@@ -9,6 +9,7 @@ use Rattle.elf_loader.specs.Fields.{entry_of}
 use Rattle.elf_loader.specs.Image.{page_length, image_pages, image_page}
 use Rattle.rv_execute.specs.Registers.{first_registers}
 use Rattle.machine_core.specs.Process.{Process}
+use Rattle.machine_core.specs.Machine.{Processes}
 
 -- What a load makes of a file that is taken.
 
@@ -36,3 +37,7 @@ page_count file = length (image_pages file) + STACK_PAGES
 -- the process, at its entry
 abbrev pub loaded_process : List ℕ → Process
 loaded_process file = record { registers = first_registers (entry_of file) STACK_POINTER; state = Running; memory = image_memory file }
+
+-- the processes with that one under a number
+abbrev pub with_loaded : ℕ → List ℕ → Processes → Processes
+with_loaded p file processes = insert processes p (loaded_process file)

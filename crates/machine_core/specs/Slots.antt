@@ -1,4 +1,4 @@
-use Rattle.std.specs.Prelude.{◌≡◌, ◌==◌, ◌+◌, ◌<◌, Result, Ok, Err, ℕ, suc, ◌≤◌, Bool, true, false, cond, List, [], ◌∷◌, length, get_or, Option, Some, None}
+use Rattle.std.specs.Prelude.{◌≡◌, ◌==◌, ◌+◌, ◌<◌, ◌||◌, if◌then◌else◌, Result, Ok, Err, ℕ, suc, ◌≤◌, Bool, true, false, cond, List, [], ◌∷◌, length, get_or, Option, Some, None}
 use Rattle.std.specs.Option.{option_map, option_map_or, is_some}
 use Rattle.std.specs.Global.{Box, Vec}
 use Rattle.std.specs.FinMap.{from_entries}
@@ -57,6 +57,13 @@ pub record IsChanged (f : Process → Process) (old new : Slots) (p : ℕ) : Typ
 
 abbrev pub is_in : List ℕ → ℕ → Bool
 is_in numbers q = list_any (λ n. n == q) numbers
+
+-- one number more is in a list, or one less
+abbrev pub HasJoined : ℕ → List ℕ → List ℕ → Type 0
+HasJoined p old new = (q : ℕ) → is_in new q ≡ ((p == q) || is_in old q)
+
+abbrev pub HasLeft : ℕ → List ℕ → List ℕ → Type 0
+HasLeft p old new = (q : ℕ) → is_in new q ≡ (if p == q then false else is_in old q)
 
 -- a slot has this space and this process, and each other slot is as it was
 pub record IsEdited (old new : Slots) (p : ℕ) (space : Option Memory) (process : Option declared.Process) : Type 0 where

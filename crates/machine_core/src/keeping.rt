@@ -65,7 +65,8 @@ pub(crate) fn make(
     requires kept { IsRunningList slots.old.items running.old }
     requires number { p ≤ LAST_SPACE }
     requires runs { guest.process.state ≡ Running }
-    ensures made { OnOk result (IsEdited slots.old.items slots.new.items p (Some guest.memory) (Some guest.process)) }
+    ensures made { OnOk result (IsEdited slots.old.items slots.new.items p
+        (Some guest.memory) (Some guest.process)) }
     ensures err { OnErr result ((q : ℕ) → slot_at slots.new.items q ≡ slot_at slots.old.items q) }
     ensures kept { IsRunningList slots.new.items running.new }
 {

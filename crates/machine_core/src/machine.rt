@@ -10,7 +10,7 @@ ghost use Rattle.elf_loader.specs.Image.{IsImageOf};
 ghost use Rattle.machine_core.specs.Machine.{AnswersAs, LeadsTo, StaysBut, after_asked, after_execution, after_turn, came_to, is_running, keys_from, running_numbers, shown_at, turn_asked, turn_of, wholes, with_process_at, with_whole_at, without_process_at, without_space_at};
 ghost use Rattle.rv_execute.specs.Execution.{outcome_by};
 ghost use Rattle.machine_core.specs.Play.{AreOwnTurns, after_number, run_over};
-ghost use Rattle.machine_core.specs.Load.{loaded_process, page_count};
+ghost use Rattle.machine_core.specs.Load.{loaded_process, page_count, with_loaded};
 
 use crate::guest::Guest;
 use crate::keeping::{adopt, answer_turn, drop_space, execute_turn, make, remove, set};
@@ -69,8 +69,8 @@ impl Machine {
         requires of_file { IsImageOf file.now image.now }
         ensures count { IfOk result (λ n. n ≡ page_count file.now) }
         ensures made { OnOk result (self.new ≡ with_whole_at self.old p (loaded_process file.now)) }
-        ensures ok { OnOk result (wholes self.new ≡ map.insert (wholes self.old) p (loaded_process file.now)) }
-        ensures stands { OnOk result (LeadsTo (λ state. map.insert state p (loaded_process file.now)) self.old self.new) }
+        ensures ok { OnOk result (wholes self.new ≡ with_loaded p file.now (wholes self.old)) }
+        ensures stands { OnOk result (LeadsTo (with_loaded p file.now) self.old self.new) }
         ensures others { OnOk result (StaysBut p self.old self.new) }
         ensures err { OnErr result (self.new ≡ self.old) }
     {

@@ -1,10 +1,9 @@
 //! The numbers of the processes that run, ascending.
 
-ghost use Rattle.std.specs.Prelude.{◌≡◌, ℕ, ◌≤◌, ◌<◌, ◌==◌, ◌||◌, true, false, if◌then◌else◌, length, OnOk, OnErr, IsOk};
-ghost use Rattle.std.specs.List.{list_any};
+ghost use Rattle.std.specs.Prelude.{◌≡◌, ◌≤◌, ◌<◌, true, length, OnOk, OnErr, IsOk};
 ghost use Rattle.std.specs.List.Sorted.{IsStrictlyIncreasing};
 ghost use Rattle.std.specs.Vec.{vec_capacity};
-ghost use Rattle.machine_core.specs.Slots.{is_in, IsPlaceOf};
+ghost use Rattle.machine_core.specs.Slots.{HasJoined, HasLeft, IsPlaceOf, is_in};
 
 use std::alloc::AllocError;
 
@@ -20,7 +19,7 @@ fn place(running: &[u16], p: u16) -> Result<usize, usize>
 pub(crate) fn put_in(running: &mut Vec<u16>, p: u16) -> Result<(), AllocError>
     requires { IsStrictlyIncreasing running.old.items }
     ensures ascending { IsStrictlyIncreasing running.new.items }
-    ensures listed { OnOk result ((q : ℕ) → is_in running.new.items q ≡ ((p == q) || is_in running.old.items q)) }
+    ensures listed { OnOk result (HasJoined p running.old.items running.new.items) }
     ensures err { OnErr result (running.new.items ≡ running.old.items) }
     ensures room { vec_capacity running.old ≤ vec_capacity running.new }
     ensures already { is_in running.old.items p ≡ true → IsOk result }
@@ -39,7 +38,7 @@ pub(crate) fn put_in(running: &mut Vec<u16>, p: u16) -> Result<(), AllocError>
 pub(crate) fn take_out(running: &mut Vec<u16>, p: u16)
     requires { IsStrictlyIncreasing running.old.items }
     ensures ascending { IsStrictlyIncreasing running.new.items }
-    ensures listed { (q : ℕ) → is_in running.new.items q ≡ (if p == q then false else is_in running.old.items q) }
+    ensures listed { HasLeft p running.old.items running.new.items }
     ensures room { vec_capacity running.new ≡ vec_capacity running.old }
 {
     match place(running.as_slice(), p) {

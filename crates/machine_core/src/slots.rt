@@ -181,7 +181,8 @@ pub(crate) fn new_slot(alloc: Global, guest: Guest) -> Result<Box<Slot>, AllocEr
 /// Puts a slot in its place, for which there is room.
 pub(crate) fn fill(slots: &mut Slots, p: u16, slot: Box<Slot>)
     requires { p < length slots.old.items }
-    ensures filled { IsEdited slots.old.items slots.new.items p (slot_space (Some slot)) (slot_process (Some slot)) }
+    ensures filled { IsEdited slots.old.items slots.new.items p
+        (slot_space (Some slot)) (slot_process (Some slot)) }
     ensures length { length slots.new.items ≡ length slots.old.items }
 {
     match slots.get_mut(p as usize) {

@@ -118,7 +118,8 @@ impl<R: Files> Shelf for FolderShelf<R> {
         ensures fetched { fetch_faults self.old ≤ fetch_faults self.new }
 
         // A failed answer is one fault more, and a name that isn't text fails.
-        ensures faults { result ≡ Err Failed → fetch_faults self.new ≡ one_fault_more (fetch_faults self.old) }
+        ensures faults { result ≡ Err Failed →
+            fetch_faults self.new ≡ one_fault_more (fetch_faults self.old) }
         ensures text { ¬ (IsUtf8 name.now) → result ≡ Err Failed }
     {
         let outcome = self.read_named(alloc, name);

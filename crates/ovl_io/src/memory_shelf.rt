@@ -79,9 +79,11 @@ impl Shelf for MemoryShelf {
 
     fn fetch(&mut self, alloc: Global, name: &[u8]) -> Result<Vec<u8>, ShelfError>
         requires { HasName name.now }
-        ensures answer { Unit {0} → IsFetched (λ file. file.items) (file_named self.old.files name.now) result }
+        ensures answer { Unit {0} →
+            IsFetched (λ file. file.items) (file_named self.old.files name.now) result }
         ensures small { IfOk result (λ file. vec_len file ≤ MOST_FILE_BYTES) }
-        ensures kept { Unit {0} → (other : List ℕ) → file_named self.new.files other ≡ file_named self.old.files other }
+        ensures kept { Unit {0} → (other : List ℕ) →
+            file_named self.new.files other ≡ file_named self.old.files other }
         ensures cause { result ≡ Err Failed → Rose self.old.faults self.new.faults }
         ensures no_fault { result ≢ Err Failed → self.new.faults ≡ self.old.faults }
         ensures counted { self.old.faults ≤ self.new.faults }

@@ -101,7 +101,8 @@ impl Sink for MemorySink {
             ⊎ ((0 < length piece.now) × (self.old.room ≤ length self.old.taken))) }
         ensures calls { self.new.calls ≡ one_call_more self.old.calls }
         ensures faults { OnErr result (self.new.faults ≡ one_fault_more self.old.faults) }
-        ensures settings { (self.new.room ≡ self.old.room) × (self.new.most ≡ self.old.most) × (self.new.fails ≡ self.old.fails) }
+        ensures settings { (self.new.room ≡ self.old.room) × (self.new.most ≡ self.old.most)
+            × (self.new.fails ≡ self.old.fails) }
         // Else it takes as much as the piece has, as fits and as one call may take.
         ensures amount { IfOk result (λ n.
             n ≡ min self.old.most (min (length piece.now) (self.old.room - length self.old.taken))) }

@@ -37,7 +37,8 @@ impl<R: Read> Source for ReaderSource<R> {
 
         // A failed answer is one fault more, and where the reader's bytes are known it gives those.
         ensures faults { OnErr result (read_faults self.new ≡ one_fault_more (read_faults self.old)) }
-        ensures bytes { ReadConsumes (R.remaining (reader_of self.old)) (R.remaining (reader_of self.new)) result into.new }
+        ensures bytes { ReadConsumes (R.remaining (reader_of self.old))
+            (R.remaining (reader_of self.new)) result into.new }
     {
         match self.reader.read(into) {
             Ok(n) => Ok(n),

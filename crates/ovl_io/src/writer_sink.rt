@@ -39,7 +39,8 @@ impl<W: Write> Sink for WriterSink<W> {
 
         // A failed answer is one fault more, and where the writer's bytes are known it gets those.
         ensures faults { OnErr result (write_faults self.new ≡ one_fault_more (write_faults self.old)) }
-        ensures bytes { WriteAppends (W.contents (writer_of self.old)) (W.contents (writer_of self.new)) result piece.now }
+        ensures bytes { WriteAppends (W.contents (writer_of self.old))
+            (W.contents (writer_of self.new)) result piece.now }
     {
         match self.writer.write(piece) {
             Ok(n) if n > 0 || piece.is_empty() => Ok(n),

@@ -28,7 +28,7 @@ abbrev pub HasImmediate : Format → ℤ → Type 0
 HasImmediate I imm = IsSignedBelow 11 imm
 HasImmediate S imm = IsSignedBelow 11 imm
 HasImmediate B imm = IsSignedBelow 12 imm × IsMultiple 2 imm
-HasImmediate U imm = IsSignedBelow 31 imm × IsMultiple 4096 imm
+HasImmediate U imm = IsSignedBelow 31 imm × IsMultiple (2 ^ 12) imm
 HasImmediate J imm = IsSignedBelow 20 imm × IsMultiple 2 imm
 HasImmediate H6 imm = (pos 0 ≤ℤ imm) × (imm <ℤ pos 64)
 HasImmediate H5 imm = (pos 0 ≤ℤ imm) × (imm <ℤ pos 32)

@@ -8,6 +8,10 @@ ghost use Rattle.rv_decode.specs.Fields.{field, sign_extended, imm_of, HasFields
 use crate::instruction::Instr;
 use crate::names::Name;
 
+// What bits 12 and 20 of an immediate count.
+const BIT_12: u32 = 1 << 12;
+const BIT_20: u32 = 1 << 20;
+
 #[inline]
 fn rd(word: u32) -> u8
     ensures { result ≡ field word 7 5 }
@@ -62,7 +66,7 @@ fn immediate_s(word: u32) -> i64
 fn immediate_b(word: u32) -> i64
     ensures { result ≡ imm_of B word }
 {
-    let high = (word >> 31) * 4096 + (word >> 7) % 2 * 2048;
+    let high = (word >> 31) * BIT_12 + (word >> 7) % 2 * 2048;
     signed(high + (word >> 25) % 64 * 32 + (word >> 8) % 16 * 2, 13)
 }
 
@@ -70,14 +74,14 @@ fn immediate_b(word: u32) -> i64
 fn immediate_u(word: u32) -> i64
     ensures { result ≡ imm_of U word }
 {
-    signed((word >> 12) * 4096, 32)
+    signed((word >> 12) * BIT_12, 32)
 }
 
 #[inline]
 fn immediate_j(word: u32) -> i64
     ensures { result ≡ imm_of J word }
 {
-    let high = (word >> 31) * 1_048_576 + (word >> 12) % 256 * 4096;
+    let high = (word >> 31) * BIT_20 + (word >> 12) % 256 * BIT_12;
     signed(high + (word >> 20) % 2 * 2048 + (word >> 21) % 1024 * 2, 21)
 }
 

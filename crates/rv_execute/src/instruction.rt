@@ -16,6 +16,9 @@ use byteorder::{ByteOrder, LittleEndian};
 use ovl_io::FaultKind;
 use rv_decode::{Instr, decode};
 
+// Numbers of two bytes are below this.
+const HALF_END: u64 = 1 << 16;
+
 impl Size {
     /// How many bytes.
     #[inline]
@@ -42,7 +45,7 @@ fn extended(extension: Extension, size: Size, n: u64) -> u64
         Extension::Zero => n,
         Extension::Sign => match size {
             Size::Byte => i64::from(((n % 256) as u8).cast_signed()).cast_unsigned(),
-            Size::Half => i64::from(((n % 65_536) as u16).cast_signed()).cast_unsigned(),
+            Size::Half => i64::from(((n % HALF_END) as u16).cast_signed()).cast_unsigned(),
             Size::Word => extended_word(n),
             Size::Double => n,
         },

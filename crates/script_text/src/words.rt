@@ -57,7 +57,8 @@ pub(crate) fn no_words(text: &[u8]) -> bool
 
 /// The word of a text that has one.
 pub(crate) fn one_word(text: &[u8]) -> Option<&[u8]>
-    ensures { MatchOption result ((length (words_of text.now) == 1) ≡ false) (λ w. words_of text.now ≡ w.now ∷ []) }
+    ensures { MatchOption result ((length (words_of text.now) == 1) ≡ false)
+        (λ w. words_of text.now ≡ w.now ∷ []) }
 {
     let (word, rest) = match next_word(text) {
         Some(parts) => parts,

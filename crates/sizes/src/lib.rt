@@ -19,8 +19,20 @@ pub const UNIT_LINES: u32 = 4;
 /// Units of a frame.
 pub const FRAME_UNITS: u32 = PAGE_LINES as u32 / UNIT_LINES;
 
+/// The order of a block that is a frame: it has two to this power of units.
+pub const FRAME_ORDER: u8 = 4;
+
 /// The most frames that a machine may have.
 pub const MOST_FRAMES: u32 = 1 << 16;
+
+/// The most units that a machine may have.
+pub const MOST_UNITS: u32 = FRAME_UNITS * MOST_FRAMES;
+
+/// The most frames of a region: those of a machine, and one for scratch.
+pub const MOST_REGION_FRAMES: u32 = MOST_FRAMES + 1;
+
+/// The most lines of a region.
+pub const MOST_REGION_LINES: u32 = PAGE_LINES as u32 * MOST_REGION_FRAMES;
 
 /// User addresses are below this.
 pub const ADDRESS_END: u64 = 1 << 38;

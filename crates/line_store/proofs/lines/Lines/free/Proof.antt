@@ -1,5 +1,6 @@
 -- `free` makes the lines room again, and gives the allocator its units and its token. Assumes `Logic`.
 use Rattle.std.proofs.Common.{◌≡◌, ℕ, ◌*◌, ◌≤◌, ◌<◌, ◌^◌, List, [], ◌∷◌, ◌++◌, refl, ap, ◌∙◌, arith, lit<, w64}
+use Rattle.sizes.specs.declared.TheConstants.{MOST_REGION_LINES}
 use mir.Syntax.{Ty, Fn, Args, a_type, dcons, dnil, place}
 use mir.Val.{Val, vint, vptr, vunit}
 use mir.MapTy.{inst_fn}
@@ -80,7 +81,7 @@ free_spec 𝓤 𝓛 𝓜 𝓡 wired A L₀ g d dd met md =
     move ! (3 ∷ 1 ∷ []) $ use2 𝓛 (‵ (froom τ b o)) (apply∗ 𝓤 (H.room (room_of n) b o) (H.room τ b o)) $
     move ! (2 ∷ []) $ fsplit ! $ fsplit ! $ drop ! $ move ! (1 ∷ []) $ drop ! $ use1 𝓛 (‵ (seen Y κ handle h)) (id⊢ 𝓤 _) $ move ! (3 ∷ []) $ use1 𝓛 (‵ (flft κ q) ⊛ ‵ (flft z.0.0.1.0 z.0.1.1.0) ⊛ ‵ ftrue) (id⊢ 𝓤 _) $ split ! $
     move ! (2 ∷ 0 ∷ []) $ join ! $ move ! (2 ∷ 3 ∷ []) $
-    let few : n ≤ 4194368 = omega (arith, x.fits.2, asked.3) in let bytes : 64 * n < 2 ^ 64 = omega (arith, few) in
+    let few : n ≤ MOST_REGION_LINES = omega (arith, x.fits.2, asked.3) in let bytes : 64 * n < 2 ^ 64 = omega (arith, few) in
     let y = at_gives Y 𝓛 𝓜.mem 𝓡.returns κ q handle h b o (64 * n) 16 τ in
     regoal ! (λ (us : List Val). prop (WpFn 𝓤 H C Λ fn us Post)) (λ i. (told.0 ∙ ap (λ (p : Ptr). lines_val p x.made ∷ []) at) i ++ (are.1.0.0 i ++ (lease_told vss.1.1.0 are.1.1.0.0 i ++ (are.1.1.1.0.0 i ++ [])))) refl $
     enter ! C Λ fn (lines_val (block_ptr b o) x.made ∷ vint w64 n ∷ lease_val ∷ vptr handle.0 handle.1 ∷ []) Post $

@@ -1,5 +1,6 @@
 -- `new` asks the allocator for units of 16 bytes, and sees them as room for lines. Assumes `Logic`.
 use Rattle.std.proofs.Common.{◌≡◌, ℕ, ◌+◌, ◌-◌, ◌*◌, ◌≤◌, ◌<◌, ◌^◌, List, [], ◌∷◌, ◌++◌, refl, ◌∙◌, arith, lit<, w64, Ok, Err}
+use Rattle.sizes.specs.declared.TheConstants.{MOST_REGION_LINES}
 use mir.Syntax.{Ty, Fn, Args, a_type, dcons, dnil}
 use mir.Val.{Val, vint, vptr, vcons, vnil, vstruct}
 use mir.MapTy.{inst_fn}
@@ -71,7 +72,7 @@ new_spec 𝓤 𝓛 𝓜 𝓡 wired A L₀ g d dd met md =
     let n = a.1.0 in
     let τ : Ty = line_units n in
     let y = at_takes Y 𝓛 𝓜.mem 𝓡.returns κ q at h (64 * n) 16 τ in
-    let Asked : Type 0 = n ≤ 4194368 in
+    let Asked : Type 0 = n ≤ MOST_REGION_LINES in
     let Pair : RattleType = Tuple (L.the_row ∷ D.the_row Z g ∷ []) in
     let Out : RattleType = type_at T.signature.result z.0.0 in
     let Refusal : RattleType = Struct (Declared.shape AE.the_type) in
