@@ -19,6 +19,9 @@ pub record Changed : Type 0 where
   pub answer : Answer
   pub after : State
 
+abbrev pub comes_to : Answer → State → Changed
+comes_to answer after = record { answer = answer; after = after }
+
 -- one that is refused changes nothing
 abbrev pub refuses : Code → State → Changed
 refuses code state = record { answer = Refused code; after = state }
@@ -53,12 +56,12 @@ is_change other = false
 -- what a change gives by the object that does it: what it is to give; or want of memory, and everything is as before
 abbrev pub GivesChange : Changed → State → Answer → State → Type 0
 GivesChange wanted old Memory new = new ≡ old
-GivesChange wanted old Done new = record { answer = Done; after = new } ≡ wanted
-GivesChange wanted old (Loaded p pages entry) new = record { answer = Loaded p pages entry; after = new } ≡ wanted
-GivesChange wanted old (Forked p q) new = record { answer = Forked p q; after = new } ≡ wanted
-GivesChange wanted old (Saved p name space) new = record { answer = Saved p name space; after = new } ≡ wanted
-GivesChange wanted old (Refused code) new = record { answer = Refused code; after = new } ≡ wanted
-GivesChange wanted old (Full units limit) new = record { answer = Full units limit; after = new } ≡ wanted
+GivesChange wanted old Done new = comes_to Done new ≡ wanted
+GivesChange wanted old (Loaded p pages entry) new = comes_to (Loaded p pages entry) new ≡ wanted
+GivesChange wanted old (Forked p q) new = comes_to (Forked p q) new ≡ wanted
+GivesChange wanted old (Saved p name space) new = comes_to (Saved p name space) new ≡ wanted
+GivesChange wanted old (Refused code) new = comes_to (Refused code) new ≡ wanted
+GivesChange wanted old (Full units limit) new = comes_to (Full units limit) new ≡ wanted
 
 -- an answer that has a line, or want of memory
 abbrev pub CanBeTold : Answer → Type 0

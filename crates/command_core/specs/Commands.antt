@@ -10,8 +10,8 @@ use Rattle.report_text.specs.declared.answer.Answer.TheVariants.{Done, Loaded, F
 use Rattle.report_text.specs.declared.answer.Code.TheVariants.{NoProcess, Ended}
 use Rattle.report_text.specs.Answers.{answer_text}
 use Rattle.report_text.specs.Lines.{list_line, process_line}
-use Rattle.command_core.specs.State.{State, with_processes}
-use Rattle.command_core.specs.Changes.{Changed, load_done, drop_done, refuses}
+use Rattle.command_core.specs.State.{InSession, State, with_processes}
+use Rattle.command_core.specs.Changes.{Changed, change_done, load_done, drop_done, refuses}
 use Rattle.command_core.specs.Turns.{Progress, alone, by_turns, ran_from, ran_text}
 
 -- What a command asks of the shelf, by the file that it names: nothing; or the file is there, isn't there, or
@@ -65,6 +65,12 @@ pub record Performed : Type 0 where
 abbrev pub told : Changed → Performed
 told changed = record { text = answer_text changed.answer; after = changed.after }
 
+abbrev pub load_told : List ℕ → State → Performed
+load_told file state = told (load_done file state)
+
+abbrev pub change_told : Command → State → Performed
+change_told command state = told (change_done command state)
+
 -- turns, with their lines
 abbrev pub takes_turns : Progress → State → Performed
 takes_turns run state = record {
@@ -89,6 +95,13 @@ exec_turns turns Memory state = record { text = []; after = state }
 abbrev pub exec_done : List ℕ → ℕ → State → Performed
 exec_done file turns state = then_performed (told (load_done file state)) (exec_turns turns (load_done file state).answer)
 
+-- the line of a load's answer, and the turns that follow it
+abbrev pub tells_exec : ℕ → Answer → State → Performed
+tells_exec turns answer state = record {
+  text = answer_text answer ++ (exec_turns turns answer state).text;
+  after = (exec_turns turns answer state).after;
+}
+
 -- a process that was just loaded is there, and runs
 abbrev pub RunsLoaded : Answer → State → Type 0
 RunsLoaded (Loaded p pages entry) state = (process : Process) × (get state.processes p ≡ Some process) × (runs process.state ≡ true)
@@ -104,6 +117,13 @@ abbrev pub steps : ℕ → ℕ → Option Process → State → Performed
 steps p turns None state = told (refuses NoProcess state)
 steps p turns (Some process) state = if runs process.state then takes_turns (alone p turns) state else told (refuses Ended state)
 
+abbrev pub step_done : ℕ → ℕ → State → Performed
+step_done p turns state = steps p turns (get state.processes p) state
+
+-- the turns of all that run, by round robin
+abbrev pub run_done : ℕ → ℕ → State → Performed
+run_done quantum turns state = takes_turns (by_turns quantum turns) state
+
 -- the lines of all processes, by number; none is speculating, and there are no checkpoints
 unfoldable pub process_text : ℕ × Process → List ℕ
 process_text entry = process_line entry.0 entry.1.state false (len entry.1.memory)
@@ -111,15 +131,22 @@ process_text entry = process_line entry.0 entry.1.state false (len entry.1.memor
 unfoldable pub list_head : State → List ℕ
 list_head state = list_line (length (entries state.processes)) 0
 
+abbrev pub processes_text : State → List ℕ
+processes_text state = flat_map process_text (entries state.processes)
+
 abbrev pub list_text : State → List ℕ
-list_text state = list_head state ++ flat_map process_text (entries state.processes)
+list_text state = list_head state ++ processes_text state
 
 -- The commands, one row each: what it comes to, with the file that it has, in turns of a quantum.
 abbrev pub performed : ℕ → List ℕ → Command → State → Performed
 performed quantum file (Exec name turns) state = exec_done file turns state
-performed quantum file (Load name) state = told (load_done file state)
-performed quantum file (Run turns) state = takes_turns (by_turns quantum turns) state
-performed quantum file (Step p turns) state = steps p turns (get state.processes p) state
+performed quantum file (Load name) state = load_told file state
+performed quantum file (Run turns) state = run_done quantum turns state
+performed quantum file (Step p turns) state = step_done p turns state
 performed quantum file (Drop p) state = told (drop_done p state)
 performed quantum file command.List state = record { text = list_text state; after = state }
 performed quantum file other state = record { text = []; after = state }
+
+-- the same, in a session
+abbrev pub performed_in : InSession → List ℕ → Command → Performed
+performed_in session file command = performed session.quantum file command session.state

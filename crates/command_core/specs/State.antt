@@ -32,3 +32,7 @@ pub record SamePlaces (old new : Machine) : Type 0 where
 pub record InSession : Type 0 where
   pub state : State
   pub quantum : ℕ
+
+-- all but the processes is as it was
+abbrev pub KeepsRest : InSession → InSession → Type 0
+KeepsRest old new = (new.state.drawn ≡ old.state.drawn) × (new.quantum ≡ old.quantum)

@@ -77,11 +77,14 @@ abbrev pub ran_text : Ran → List ℕ
 ran_text r = flat_map (λ event. turn_text event.0 event.1) r.events ++ stop_text r.taken r.stop
 
 -- turns that are begun
+abbrev pub begun_by : Order → ℕ → Progress
+begun_by order turns = record { order = order; turns = turns; taken = 0 }
+
 abbrev pub by_turns : ℕ → ℕ → Progress
-by_turns quantum turns = record { order = ByTurns (record { quantum = quantum; last = None }); turns = turns; taken = 0 }
+by_turns quantum turns = begun_by (ByTurns (record { quantum = quantum; last = None })) turns
 
 abbrev pub alone : ℕ → ℕ → Progress
-alone p turns = record { order = Alone p; turns = turns; taken = 0 }
+alone p turns = begun_by (Alone p) turns
 
 -- A run, and why it ended, where that was found.
 pub record InRun : Type 0 where

@@ -2,11 +2,11 @@ ghost use Rattle.std.specs.Prelude.{◌≡◌, ◌≢◌, ◌+◌, ◌≤◌, �
 ghost use Rattle.report_text.specs.Answers.{HasAnswerLine, turn_text};
 ghost use Rattle.machine_core.specs.Machine.{StaysBut, is_running, turn_of, after_turn, turn_asked, after_asked, wholes};
 ghost use Rattle.sizes.specs.declared.TheConstants.{LAST_SPACE};
-ghost use Rattle.command_core.specs.State.{SamePlaces, fresh};
-ghost use Rattle.command_core.specs.Changes.{CanBeTold, GivesChange, change_done, drop_done, is_change, load_done};
+ghost use Rattle.command_core.specs.State.{KeepsRest, SamePlaces, fresh};
+ghost use Rattle.command_core.specs.Changes.{CanBeTold, GivesChange, change_done, comes_to, drop_done, is_change, load_done};
 ghost use Rattle.command_core.specs.Commands.{RunsLoaded};
 ghost use Rattle.command_core.specs.Looks.{BeginsStep, LooksAt, NextProcess};
-ghost use Rattle.command_core.specs.Turns.{EndsRun, Speaks, TakesTurn, by_turns, ending, next_of, rest_of, run_found};
+ghost use Rattle.command_core.specs.Turns.{EndsRun, Speaks, TakesTurn, begun_by, by_turns, ending, next_of, rest_of, run_found};
 
 use crate::turns::{Order, Running};
 use elf_loader::{ElfError, read_image};
@@ -171,8 +171,10 @@ fn next_turn(machine: &mut Machine, running: &mut Running) -> Option<(u16, Turn)
 
 /// Takes turns until one has a line, which it sets, and answers true; or until the run has ended.
 fn turns_to_line(machine: &mut Machine, running: &mut Running, line: &mut Line) -> bool
-    ensures says { result ≡ true → Speaks (wholes machine.old) running.old line.new.items (wholes machine.new) running.new }
-    ensures ends { result ≡ false → EndsRun (wholes machine.old) running.old (wholes machine.new) running.new }
+    ensures says { result ≡ true →
+        Speaks (wholes machine.old) running.old line.new.items (wholes machine.new) running.new }
+    ensures ends { result ≡ false →
+        EndsRun (wholes machine.old) running.old (wholes machine.new) running.new }
     ensures further { result ≡ true → running.old.run.taken < running.new.run.taken }
     ensures asked { running.new.run.turns ≡ running.old.run.turns }
     ensures within { running.new.run.taken ≤ running.new.run.turns }
@@ -237,7 +239,7 @@ impl Session {
 
     /// Gives up a process.
     fn drop_process(&mut self, p: u16) -> Answer
-        ensures changes { record { answer = result; after = self.new.state } ≡ drop_done p self.old.state }
+        ensures changes { comes_to result self.new.state ≡ drop_done p self.old.state }
         ensures told { HasAnswerLine result }
         ensures quantum { self.new.quantum ≡ self.old.quantum }
     {
@@ -252,7 +254,7 @@ impl Session {
     /// Does a change: a command that isn't `exec`, `load`, `run`, `step` or a printing one. Answers `Done`, or why not.
     pub fn change(&mut self, command: &Command) -> Answer
         requires { IsTrue (is_change command.now) }
-        ensures changes { record { answer = result; after = self.new.state } ≡ change_done command.now self.old.state }
+        ensures changes { comes_to result self.new.state ≡ change_done command.now self.old.state }
         ensures told { HasAnswerLine result }
         ensures quantum { self.new.quantum ≡ self.old.quantum }
     {
@@ -284,7 +286,7 @@ impl Session {
 
     /// A run of which no turn was taken, with the ending that holds.
     fn begin(&self, order: Order, turns: u32) -> Running
-        ensures { result ≡ run_found self.now.state.processes (record { order = order; turns = turns; taken = 0 }) }
+        ensures { result ≡ run_found self.now.state.processes (begun_by order turns) }
     {
         let mut running = Running::new(order, turns);
         let stop = ending(&self.machine, &running);
@@ -296,7 +298,7 @@ impl Session {
     /// or one holds; then nothing changes.
     pub fn turn(&mut self, running: &mut Running) -> Option<(u16, Turn)>
         ensures turn { TakesTurn self.old.state.processes running.old result self.new.state.processes running.new }
-        ensures others { (self.new.state.drawn ≡ self.old.state.drawn) × (self.new.quantum ≡ self.old.quantum) }
+        ensures others { KeepsRest self.old self.new }
     {
         next_turn(&mut self.machine, running)
     }
@@ -304,12 +306,14 @@ impl Session {
     /// Takes turns until one has a line, which it sets, and answers true; or until the run has ended. It is `turn` again
     /// and again, without a `Turn` where nothing is to be said.
     pub fn turn_line(&mut self, running: &mut Running, line: &mut Line) -> bool
-        ensures says { result ≡ true → Speaks self.old.state.processes running.old line.new.items self.new.state.processes running.new }
-        ensures ends { result ≡ false → EndsRun self.old.state.processes running.old self.new.state.processes running.new }
+        ensures says { result ≡ true →
+            Speaks self.old.state.processes running.old line.new.items self.new.state.processes running.new }
+        ensures ends { result ≡ false →
+            EndsRun self.old.state.processes running.old self.new.state.processes running.new }
         ensures further { result ≡ true → running.old.run.taken < running.new.run.taken }
         ensures asked { running.new.run.turns ≡ running.old.run.turns }
         ensures within { running.new.run.taken ≤ running.new.run.turns }
-        ensures others { (self.new.state.drawn ≡ self.old.state.drawn) × (self.new.quantum ≡ self.old.quantum) }
+        ensures others { KeepsRest self.old self.new }
     {
         turns_to_line(&mut self.machine, running, line)
     }

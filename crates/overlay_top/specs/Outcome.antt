@@ -89,6 +89,9 @@ names_said SaysTooMuch = []
 names_said (SaysCommands commands) = map asks commands
 names_said (SaysOutside line) = []
 
+abbrev pub names_asked : List ℕ → List (Option (List ℕ))
+names_asked script = names_said (said script)
+
 -- the names among those
 abbrev pub named : List (Option (List ℕ)) → List (List ℕ)
 named [] = []

@@ -1,4 +1,4 @@
-use Rattle.std.specs.Prelude.{◌≡◌, ℕ, ◌+◌, ◌≤◌, true, List, ◌++◌, length, take, slice_get, Option, Some, None, Result, Ok, Err}
+use Rattle.std.specs.Prelude.{◌≡◌, ℕ, ◌+◌, ◌≤◌, true, List, ◌++◌, length, take, slice_get, Option, Some, None, Result, Ok, Err, OnOk, OnErr}
 use Rattle.ovl_io.specs.Outside.{AsksFor}
 use Rattle.ovl_io.specs.declared.shelf.ShelfError.TheVariants as shelf
 use Rattle.ovl_io.specs.declared.shelf.Shelf.{Ghosts as ShelfOf}
@@ -7,7 +7,8 @@ use Rattle.overlay_top.specs.declared.running.Halt.{Halt}
 use Rattle.overlay_top.specs.declared.running.Halt.TheVariants.{Missing, FetchFailed, TooLong, Memory, SendFailed}
 use Rattle.overlay_top.specs.declared.status.Status.TheVariants as status
 use Rattle.overlay_top.specs.Sending.{IsSent, IsCut}
-use Rattle.command_core.specs.Commands.{FileAsked, HasFile, IsMissing, IsTooLong, file_in, has_all}
+use Rattle.command_core.specs.State.{InSession}
+use Rattle.command_core.specs.Commands.{Performed, FileAsked, HasFile, IsMissing, IsTooLong, file_in, has_all}
 use Rattle.overlay_top.specs.Outcome.{RunOutcome, named, report_of, first_report, text_after}
 use Rattle.overlay_top.specs.Outside.{RefusedFor}
 
@@ -81,6 +82,20 @@ FetchesFor h new asked (Err SendFailed) = ⊥
 abbrev pub FailedFor : {H : Type 0} → ShelfOf H → H → Option (List ℕ) → Result (Unit {0}) Halt → Type 0
 FailedFor h new asked (Ok done) = Unit {0}
 FailedFor h new asked (Err halt) = HaltedAt h new asked halt
+
+-- What a sink holds after a text was sent to it, where it tells its bytes: all of it, or where that failed a front of it.
+abbrev pub Sent : {K T E : Type 0} → SinkOf K → K → List ℕ → K → Result T E → Type 0
+Sent k old text new result = k.tells → OnOk result (IsSent (k.taken old) text (k.taken new))
+
+abbrev pub Cut : {K T E : Type 0} → SinkOf K → K → List ℕ → K → Result T E → Type 0
+Cut k old text new result = k.tells → OnErr result (IsCut (k.taken old) text (k.taken new))
+
+abbrev pub SendsOn : {K : Type 0} → SinkOf K → K → List ℕ → K → Result (Unit {0}) Halt → Type 0
+SendsOn k old text new result = k.tells → Sends (k.taken old) text (k.taken new) result
+
+-- where something was done, the session has the state that it comes to
+abbrev pub LeavesOn : {T E : Type 0} → Performed → InSession → Result T E → Type 0
+LeavesOn done session result = OnOk result (session.state ≡ done.after)
 
 -- What the sink holds, where it tells its bytes.
 abbrev pub Reported : {K : Type 0} → SinkOf K → K → List ℕ → K → Type 0

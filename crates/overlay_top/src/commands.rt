@@ -1,13 +1,11 @@
-ghost use Rattle.std.specs.Prelude.{◌≡◌, ◌++◌, [], ◌∷◌, IsTrue, OnErr, OnOk, flat_map, length};
-ghost use Rattle.std.specs.FinMap.{entries, get};
+ghost use Rattle.std.specs.Prelude.{◌≡◌, IsTrue, OnErr, OnOk, length};
+ghost use Rattle.std.specs.FinMap.{entries};
 ghost use Rattle.script_text.specs.Given.{IsGiven};
 ghost use Rattle.report_text.specs.Answers.{HasAnswerLine, answer_text};
-ghost use Rattle.command_core.specs.Changes.{change_done, is_change, load_done};
-ghost use Rattle.command_core.specs.Commands.{RunsLoaded, exec_done, exec_turns, list_text, performed, process_text, steps, takes_turns, told};
-ghost use Rattle.command_core.specs.Turns.{by_turns};
+ghost use Rattle.command_core.specs.Changes.{is_change};
+ghost use Rattle.command_core.specs.Commands.{RunsLoaded, change_told, exec_done, exec_turns, list_text, load_told, performed_in, processes_text, run_done, step_done, takes_turns, tells_exec};
 ghost use Rattle.overlay_top.specs.Outside.{SinkBy, SinkRose, SinkSound};
-ghost use Rattle.overlay_top.specs.Sending.{IsCut, IsSent};
-ghost use Rattle.overlay_top.specs.Running.{IsDoing, Sends};
+ghost use Rattle.overlay_top.specs.Running.{Cut, IsDoing, LeavesOn, SendsOn, Sent};
 
 use crate::running::Halt;
 use crate::sending::send;
@@ -19,8 +17,8 @@ use script_text::Command;
 /// Sends the line of an answer.
 fn send_answer<K: Sink>(answer: &Answer, sink: &mut K) -> Result<(), Failed>
     requires { HasAnswerLine answer.now }
-    ensures sent { K.tells → OnOk result (IsSent (K.taken sink.old) (answer_text answer.now) (K.taken sink.new)) }
-    ensures cut { K.tells → OnErr result (IsCut (K.taken sink.old) (answer_text answer.now) (K.taken sink.new)) }
+    ensures sent { Sent K.Sink sink.old (answer_text answer.now) sink.new result }
+    ensures cut { Cut K.Sink sink.old (answer_text answer.now) sink.new result }
     ensures cause { OnErr result (SinkRose K.Sink sink.old sink.new) }
     ensures no_fault { OnOk result (SinkSound K.Sink sink.old sink.new) }
 {
@@ -35,9 +33,9 @@ fn take_turns<K: Sink>(
     running: &mut Running,
     sink: &mut K,
 ) -> Result<(), Failed>
-    ensures sent { K.tells → OnOk result (IsSent (K.taken sink.old) (takes_turns running.old.run session.old.state).text (K.taken sink.new)) }
-    ensures cut { K.tells → OnErr result (IsCut (K.taken sink.old) (takes_turns running.old.run session.old.state).text (K.taken sink.new)) }
-    ensures after { OnOk result (session.new.state ≡ (takes_turns running.old.run session.old.state).after) }
+    ensures sent { Sent K.Sink sink.old (takes_turns running.old.run session.old.state).text sink.new result }
+    ensures cut { Cut K.Sink sink.old (takes_turns running.old.run session.old.state).text sink.new result }
+    ensures after { LeavesOn (takes_turns running.old.run session.old.state) session.new result }
     ensures quantum { session.new.quantum ≡ session.old.quantum }
     ensures cause { OnErr result (SinkRose K.Sink sink.old sink.new) }
     ensures no_fault { OnOk result (SinkSound K.Sink sink.old sink.new) }
@@ -55,8 +53,8 @@ fn take_turns<K: Sink>(
 
 /// Makes a process of a file.
 fn load<K: Sink>(session: &mut Session, file: &[u8], sink: &mut K) -> Result<(), Halt>
-    ensures sends { K.tells → Sends (K.taken sink.old) (told (load_done file.now session.old.state)).text (K.taken sink.new) result }
-    ensures after { OnOk result (session.new.state ≡ (told (load_done file.now session.old.state)).after) }
+    ensures sends { SendsOn K.Sink sink.old (load_told file.now session.old.state).text sink.new result }
+    ensures after { LeavesOn (load_told file.now session.old.state) session.new result }
     ensures quantum { session.new.quantum ≡ session.old.quantum }
     ensures doing { IsDoing result }
     ensures faults { SinkBy K.Sink sink.old sink.new result }
@@ -79,9 +77,9 @@ fn turns_of_loaded<K: Sink>(
     sink: &mut K,
 ) -> Result<(), Failed>
     requires { RunsLoaded answer.now session.old.state }
-    ensures sent { K.tells → OnOk result (IsSent (K.taken sink.old) (exec_turns turns answer.now session.old.state).text (K.taken sink.new)) }
-    ensures cut { K.tells → OnErr result (IsCut (K.taken sink.old) (exec_turns turns answer.now session.old.state).text (K.taken sink.new)) }
-    ensures after { OnOk result (session.new.state ≡ (exec_turns turns answer.now session.old.state).after) }
+    ensures sent { Sent K.Sink sink.old (exec_turns turns answer.now session.old.state).text sink.new result }
+    ensures cut { Cut K.Sink sink.old (exec_turns turns answer.now session.old.state).text sink.new result }
+    ensures after { LeavesOn (exec_turns turns answer.now session.old.state) session.new result }
     ensures quantum { session.new.quantum ≡ session.old.quantum }
     ensures cause { OnErr result (SinkRose K.Sink sink.old sink.new) }
     ensures no_fault { OnOk result (SinkSound K.Sink sink.old sink.new) }
@@ -112,11 +110,9 @@ fn tell_loaded<K: Sink>(
 ) -> Result<(), Failed>
     requires told { HasAnswerLine answer.now }
     requires runs { RunsLoaded answer.now session.old.state }
-    ensures sent { K.tells → OnOk result (IsSent (K.taken sink.old)
-        (answer_text answer.now ++ (exec_turns turns answer.now session.old.state).text) (K.taken sink.new)) }
-    ensures cut { K.tells → OnErr result (IsCut (K.taken sink.old)
-        (answer_text answer.now ++ (exec_turns turns answer.now session.old.state).text) (K.taken sink.new)) }
-    ensures after { OnOk result (session.new.state ≡ (exec_turns turns answer.now session.old.state).after) }
+    ensures sent { Sent K.Sink sink.old (tells_exec turns answer.now session.old.state).text sink.new result }
+    ensures cut { Cut K.Sink sink.old (tells_exec turns answer.now session.old.state).text sink.new result }
+    ensures after { LeavesOn (exec_turns turns answer.now session.old.state) session.new result }
     ensures quantum { session.new.quantum ≡ session.old.quantum }
     ensures cause { OnErr result (SinkRose K.Sink sink.old sink.new) }
     ensures no_fault { OnOk result (SinkSound K.Sink sink.old sink.new) }
@@ -129,8 +125,8 @@ fn tell_loaded<K: Sink>(
 
 /// Makes a process of a file, and gives it so many turns.
 fn exec<K: Sink>(session: &mut Session, file: &[u8], turns: u32, sink: &mut K) -> Result<(), Halt>
-    ensures sends { K.tells → Sends (K.taken sink.old) (exec_done file.now turns session.old.state).text (K.taken sink.new) result }
-    ensures after { OnOk result (session.new.state ≡ (exec_done file.now turns session.old.state).after) }
+    ensures sends { SendsOn K.Sink sink.old (exec_done file.now turns session.old.state).text sink.new result }
+    ensures after { LeavesOn (exec_done file.now turns session.old.state) session.new result }
     ensures quantum { session.new.quantum ≡ session.old.quantum }
     ensures doing { IsDoing result }
     ensures faults { SinkBy K.Sink sink.old sink.new result }
@@ -147,11 +143,9 @@ fn exec<K: Sink>(session: &mut Session, file: &[u8], turns: u32, sink: &mut K) -
 
 /// Gives one process so many turns, where it is there and runs.
 fn step<K: Sink>(session: &mut Session, p: u16, turns: u32, sink: &mut K) -> Result<(), Failed>
-    ensures sent { K.tells → OnOk result (IsSent (K.taken sink.old)
-        (steps p turns (get session.old.state.processes p) session.old.state).text (K.taken sink.new)) }
-    ensures cut { K.tells → OnErr result (IsCut (K.taken sink.old)
-        (steps p turns (get session.old.state.processes p) session.old.state).text (K.taken sink.new)) }
-    ensures after { OnOk result (session.new.state ≡ (steps p turns (get session.old.state.processes p) session.old.state).after) }
+    ensures sent { Sent K.Sink sink.old (step_done p turns session.old.state).text sink.new result }
+    ensures cut { Cut K.Sink sink.old (step_done p turns session.old.state).text sink.new result }
+    ensures after { LeavesOn (step_done p turns session.old.state) session.new result }
     ensures quantum { session.new.quantum ≡ session.old.quantum }
     ensures cause { OnErr result (SinkRose K.Sink sink.old sink.new) }
     ensures no_fault { OnOk result (SinkSound K.Sink sink.old sink.new) }
@@ -167,11 +161,9 @@ fn step<K: Sink>(session: &mut Session, p: u16, turns: u32, sink: &mut K) -> Res
 
 /// Gives processes so many turns, by round robin.
 fn run_all<K: Sink>(session: &mut Session, turns: u32, sink: &mut K) -> Result<(), Failed>
-    ensures sent { K.tells → OnOk result (IsSent (K.taken sink.old)
-        (takes_turns (by_turns session.old.quantum turns) session.old.state).text (K.taken sink.new)) }
-    ensures cut { K.tells → OnErr result (IsCut (K.taken sink.old)
-        (takes_turns (by_turns session.old.quantum turns) session.old.state).text (K.taken sink.new)) }
-    ensures after { OnOk result (session.new.state ≡ (takes_turns (by_turns session.old.quantum turns) session.old.state).after) }
+    ensures sent { Sent K.Sink sink.old (run_done session.old.quantum turns session.old.state).text sink.new result }
+    ensures cut { Cut K.Sink sink.old (run_done session.old.quantum turns session.old.state).text sink.new result }
+    ensures after { LeavesOn (run_done session.old.quantum turns session.old.state) session.new result }
     ensures quantum { session.new.quantum ≡ session.old.quantum }
     ensures cause { OnErr result (SinkRose K.Sink sink.old sink.new) }
     ensures no_fault { OnOk result (SinkSound K.Sink sink.old sink.new) }
@@ -187,9 +179,9 @@ fn drop_process<K: Sink>(
     sink: &mut K,
 ) -> Result<(), Failed>
     requires { IsTrue (is_change command.now) }
-    ensures sent { K.tells → OnOk result (IsSent (K.taken sink.old) (told (change_done command.now session.old.state)).text (K.taken sink.new)) }
-    ensures cut { K.tells → OnErr result (IsCut (K.taken sink.old) (told (change_done command.now session.old.state)).text (K.taken sink.new)) }
-    ensures after { OnOk result (session.new.state ≡ (told (change_done command.now session.old.state)).after) }
+    ensures sent { Sent K.Sink sink.old (change_told command.now session.old.state).text sink.new result }
+    ensures cut { Cut K.Sink sink.old (change_told command.now session.old.state).text sink.new result }
+    ensures after { LeavesOn (change_told command.now session.old.state) session.new result }
     ensures quantum { session.new.quantum ≡ session.old.quantum }
     ensures cause { OnErr result (SinkRose K.Sink sink.old sink.new) }
     ensures no_fault { OnOk result (SinkSound K.Sink sink.old sink.new) }
@@ -213,8 +205,8 @@ fn count_processes(session: &Session) -> u32
 
 /// Sends the lines of all processes, by number.
 fn list_processes<K: Sink>(session: &Session, sink: &mut K) -> Result<(), Failed>
-    ensures sent { K.tells → OnOk result (IsSent (K.taken sink.old) (flat_map process_text (entries session.now.state.processes)) (K.taken sink.new)) }
-    ensures cut { K.tells → OnErr result (IsCut (K.taken sink.old) (flat_map process_text (entries session.now.state.processes)) (K.taken sink.new)) }
+    ensures sent { Sent K.Sink sink.old (processes_text session.now.state) sink.new result }
+    ensures cut { Cut K.Sink sink.old (processes_text session.now.state) sink.new result }
     ensures cause { OnErr result (SinkRose K.Sink sink.old sink.new) }
     ensures no_fault { OnOk result (SinkSound K.Sink sink.old sink.new) }
 {
@@ -233,8 +225,8 @@ fn list_processes<K: Sink>(session: &Session, sink: &mut K) -> Result<(), Failed
 
 /// Lists the processes.
 fn list<K: Sink>(session: &Session, sink: &mut K) -> Result<(), Failed>
-    ensures sent { K.tells → OnOk result (IsSent (K.taken sink.old) (list_text session.now.state) (K.taken sink.new)) }
-    ensures cut { K.tells → OnErr result (IsCut (K.taken sink.old) (list_text session.now.state) (K.taken sink.new)) }
+    ensures sent { Sent K.Sink sink.old (list_text session.now.state) sink.new result }
+    ensures cut { Cut K.Sink sink.old (list_text session.now.state) sink.new result }
     ensures cause { OnErr result (SinkRose K.Sink sink.old sink.new) }
     ensures no_fault { OnOk result (SinkSound K.Sink sink.old sink.new) }
 {
@@ -252,9 +244,8 @@ pub(crate) fn do_command<K: Sink>(
     sink: &mut K,
 ) -> Result<(), Halt>
     requires { IsGiven command.now }
-    ensures sends { K.tells → Sends (K.taken sink.old)
-        (performed session.old.quantum file.now command.now session.old.state).text (K.taken sink.new) result }
-    ensures after { OnOk result (session.new.state ≡ (performed session.old.quantum file.now command.now session.old.state).after) }
+    ensures sends { SendsOn K.Sink sink.old (performed_in session.old file.now command.now).text sink.new result }
+    ensures after { LeavesOn (performed_in session.old file.now command.now) session.new result }
     ensures quantum { session.new.quantum ≡ session.old.quantum }
     ensures doing { IsDoing result }
     ensures faults { SinkBy K.Sink sink.old sink.new result }

@@ -24,7 +24,8 @@ pub enum ReadError {
 /// Reads a script to its end, or to one byte more than a script may have.
 pub(crate) fn read_script<S: Source>(alloc: Global, source: &mut S) -> Result<Vec<u8>, ReadError>
     ensures small { IfOk result (λ script. vec_len script ≤ MOST_SCRIPT_BYTES) }
-    ensures read { S.tells → IfOk result (λ script. IsRead (S.left source.old) script.items (S.left source.new)) }
+    ensures read { S.tells →
+        IfOk result (λ script. IsRead (S.left source.old) script.items (S.left source.new)) }
     ensures unread { S.tells → IsUnread (S.left source.old) (S.left source.new) result }
     ensures cause { result ≡ Err ReadError.Failed → Rose (S.faults source.old) (S.faults source.new) }
     ensures no_fault { result ≢ Err ReadError.Failed → S.faults source.new ≡ S.faults source.old }

@@ -7,7 +7,7 @@ ghost use Rattle.command_core.specs.State.{fresh};
 ghost use Rattle.command_core.specs.Commands.{asked_by, asks, file_asked};
 ghost use Rattle.overlay_top.specs.Outcome.{command_done, named, run_from};
 ghost use Rattle.overlay_top.specs.Outside.{FetchedFor, ShelfBy, SinkBy};
-ghost use Rattle.overlay_top.specs.Running.{AsksInOrder, FailedFor, FetchesFor, GivesAll, GivesFile, RunEnds, Sends, WasGiven};
+ghost use Rattle.overlay_top.specs.Running.{AsksInOrder, FailedFor, FetchesFor, GivesAll, GivesFile, LeavesOn, RunEnds, SendsOn, WasGiven};
 
 use crate::commands::do_command;
 use command_core::Session;
@@ -86,7 +86,8 @@ fn file_of(command: &Command) -> Option<&Bytes>
 /// Fetches the file that a command asks for; one that asks for none gets no bytes.
 fn fetch_for<H: Shelf>(alloc: Global, command: &Command, shelf: &mut H) -> Result<Vec<u8>, Halt>
     requires { IsGiven command.now }
-    ensures given { H.tells → GivesAll (λ file. file.items) (file_asked (H.files shelf.old) command.now) result }
+    ensures given { H.tells →
+        GivesAll (λ file. file.items) (file_asked (H.files shelf.old) command.now) result }
     ensures faults { ShelfBy H.Shelf shelf.old shelf.new result }
     ensures failed { FetchesFor H.Shelf shelf.new (asks command.now) result }
     ensures kept { H.tells → (other : List ℕ) → H.files shelf.new other ≡ H.files shelf.old other }
@@ -109,9 +110,10 @@ fn perform<H: Shelf, K: Sink>(
     requires given { IsGiven command.now }
     requires quantum { session.old.quantum ≡ QUANTUM }
     ensures given { H.tells → WasGiven (file_asked (H.files shelf.old) command.now) result }
-    ensures sends { H.tells → K.tells → Sends (K.taken sink.old)
-        (command_done (H.files shelf.old) command.now session.old.state).text (K.taken sink.new) result }
-    ensures after { H.tells → OnOk result (session.new.state ≡ (command_done (H.files shelf.old) command.now session.old.state).after) }
+    ensures sends { H.tells → SendsOn K.Sink sink.old
+        (command_done (H.files shelf.old) command.now session.old.state).text sink.new result }
+    ensures after { H.tells →
+        LeavesOn (command_done (H.files shelf.old) command.now session.old.state) session.new result }
     ensures quantum { session.new.quantum ≡ QUANTUM }
     ensures shelf { ShelfBy H.Shelf shelf.old shelf.new result }
     ensures sink { SinkBy K.Sink sink.old sink.new result }
@@ -131,7 +133,8 @@ pub(crate) fn run<H: Shelf, K: Sink>(
     sink: &mut K,
 ) -> Result<(), Halt>
     requires { All IsGiven commands.now }
-    ensures ends { H.tells → RunEnds H.Shelf K.Sink (run_from commands.now fresh (H.files shelf.old)) (map asks commands.now)
+    ensures ends { H.tells →
+        RunEnds H.Shelf K.Sink (run_from commands.now fresh (H.files shelf.old)) (map asks commands.now)
         shelf.old shelf.new sink.old sink.new result }
     ensures asked { AsksInOrder H.Shelf (map asks commands.now) shelf.old shelf.new }
     ensures shelf { ShelfBy H.Shelf shelf.old shelf.new result }

@@ -1,5 +1,5 @@
 ghost use Rattle.std.specs.Prelude.{◌≡◌, ◌≢◌, ◌↔◌, ◌≤◌, false, map, string_bytes};
-ghost use Rattle.overlay_top.specs.Outcome.{are_words, names_said, run_outcome, said, said_outcome};
+ghost use Rattle.overlay_top.specs.Outcome.{are_words, names_asked, run_outcome, said, said_outcome};
 ghost use Rattle.overlay_top.specs.Status.{code_of};
 ghost use Rattle.overlay_top.specs.Running.{AsksInOrder};
 ghost use Rattle.overlay_top.specs.Outside.{ShelfSound, SinkRose, SinkSound, SourceSound};
@@ -51,12 +51,12 @@ fn run_script<S: Source, H: Shelf, K: Sink>(
     sink: &mut K,
 ) -> Status
     ensures ends { S.tells → H.tells → Ends S.Source H.Shelf K.Sink
-        (said_outcome (said (S.left script.old)) (H.files shelf.old)) (names_said (said (S.left script.old)))
+        (said_outcome (said (S.left script.old)) (H.files shelf.old)) (names_asked (S.left script.old))
         (world_of script.old shelf.old sink.old) (world_of script.new shelf.new sink.new) result }
     ensures takes { S.tells → TakesAt S.Source H.Shelf
         (world_of script.old shelf.old sink.old) (world_of script.new shelf.new sink.new) result }
     ensures says { S.tells → SaysAt K.Sink (S.left script.old) sink.old sink.new result }
-    ensures asked { S.tells → AsksInOrder H.Shelf (names_said (said (S.left script.old))) shelf.old shelf.new }
+    ensures asked { S.tells → AsksInOrder H.Shelf (names_asked (S.left script.old)) shelf.old shelf.new }
     ensures unasked { result ≡ Status.BadLine → shelf.new ≡ shelf.old }
     ensures other { result ≢ Status.BadWords }
     ensures read_caused { result ≡ Status.ReadFailed → ReadCaused S.Source H.Shelf
@@ -110,14 +110,15 @@ pub fn run_program<S: Source, H: Shelf, K: Sink>(
     sink: &mut K,
 ) -> u8
     ensures headline { S.tells → H.tells → EndsWith S.Source H.Shelf K.Sink
-        (run_outcome (map string_bytes words.now) (S.left script.old) (H.files shelf.old)) (names_said (said (S.left script.old)))
+        (run_outcome (map string_bytes words.now) (S.left script.old) (H.files shelf.old)) (names_asked (S.left script.old))
         (world_of script.old shelf.old sink.old) (world_of script.new shelf.new sink.new) result }
     ensures words { (result ≡ 2) ↔ (are_words (map string_bytes words.now) ≡ false) }
-    ensures untouched { result ≡ 2 → world_of script.new shelf.new sink.new ≡ world_of script.old shelf.old sink.old }
+    ensures untouched { result ≡ 2 →
+        world_of script.new shelf.new sink.new ≡ world_of script.old shelf.old sink.old }
     ensures takes { S.tells → TakesWith S.Source H.Shelf
         (world_of script.old shelf.old sink.old) (world_of script.new shelf.new sink.new) result }
     ensures says { S.tells → SaysWith K.Sink (S.left script.old) sink.old sink.new result }
-    ensures asked { S.tells → AsksInOrder H.Shelf (names_said (said (S.left script.old))) shelf.old shelf.new }
+    ensures asked { S.tells → AsksInOrder H.Shelf (names_asked (S.left script.old)) shelf.old shelf.new }
     ensures unasked { result ≡ 5 → shelf.new ≡ shelf.old }
     ensures status3 { result ≡ 3 → ReadCaused S.Source H.Shelf
         (world_of script.old shelf.old sink.old) (world_of script.new shelf.new sink.new) }

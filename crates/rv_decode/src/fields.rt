@@ -10,6 +10,7 @@ use crate::names::Name;
 
 // What bits 12 and 20 of an immediate count.
 const BIT_12: u32 = 1 << 12;
+
 const BIT_20: u32 = 1 << 20;
 
 #[inline]
