@@ -2,3 +2,5 @@ mod Looking
 pub mod Among
 pub mod Places
 pub mod Rans
+pub mod Stretches
+pub mod Stretching

@@ -1,13 +1,9 @@
-use Rattle.std.proofs.Common.{◌≡◌, ℕ, ◌+◌, ◌<◌, ◌≤◌, suc, Bool, true, false, cond, ◌&&◌, List, [], ◌∷◌, map, sym, ap, subst, ◌∙◌, refl, arith, inl, inr, Option, Some, None}
-use Rattle.std.specs.Prelude.{T, nat_le, slice_get, IfSome, Ok}
+use Rattle.std.proofs.Common.{◌≡◌, ℕ, ◌+◌, ◌<◌, ◌≤◌, suc, Bool, true, false, cond, List, [], ◌∷◌, map, sym, ap, subst, ◌∙◌, refl, arith, inl, inr, Option, Some, None}
+use Rattle.std.specs.Prelude.{nat_le, slice_get, IfSome, Ok}
 use Rattle.std.specs.Option.{is_some, option_and_then, option_map, option_map_or, MatchOption}
 use Rattle.std.specs.List.{filter}
-use Rattle.std.specs.Ordering.{nat_cmp, is_lt, MatchOrdering}
-use Rattle.std.specs.declared.cmp.Ordering.{Ordering}
-use Rattle.std.specs.declared.cmp.Ordering.TheVariants.{Less, Equal, Greater}
-use Rattle.std.specs.Cmp.{ranks}
-use Rattle.std.specs.FinMap.{find, get, len, entries, get-entries, entries_sorted}
-use Rattle.std.specs.FinMap.Entries.{is_sorted}
+use Rattle.std.specs.Ordering.{nat_cmp}
+use Rattle.std.specs.FinMap.{find, get, len, entries, get-entries}
 use Rattle.std.proofs.lemmas.Bool.{cases_lt}
 use Rattle.std.proofs.lemmas.Bool.Decides.{nat_tests}
 use Rattle.ovl_io.specs.KeyLaws.{ties, differs}
@@ -16,6 +12,7 @@ use Rattle.machine_core.specs.Process.{Process}
 use Rattle.machine_core.specs.declared.process.Process as declared
 use Rattle.machine_core.specs.Machine.{Machine, Processes, keys_from, shown_at, shown_process, whole, wholes}
 use Rattle.machine_core.specs.Laws.{wholes_at}
+use Rattle.machine_core.specs.NumberLaws.{Rises, entries_rise}
 use Rattle.command_core.specs.declared.session.ProcessView.{ProcessView}
 use Rattle.sizes.specs.declared.TheConstants.{LAST_SPACE}
 use Rattle.command_core.specs.State.{IsSession}
@@ -23,32 +20,9 @@ use Rattle.command_core.specs.Looks.{NextProcess, looked_at}
 
 -- Processes by number: the entries ascend, so those from a number on are the first of them and those behind it.
 
-less : (x y : ℕ) (r : Ordering) → nat_cmp x y ≡ r → T (is_lt r) → x < y
-less x y Less e h = subst (λ r. MatchOrdering r (x < y) (x ≡ y) (y < x)) e (ranks x y)
-less x y Equal e h = absurd h
-less x y Greater e h = absurd h
-
-first : (a b : Bool) → T (a && b) → T a
-first true b h = tt
-first false b h = h
-
-second : (a b : Bool) → T (a && b) → T b
-second true b h = h
-second false b h = absurd h
-
--- entries of which each number is above the one before, and the first isn't below a number
+-- each number is above the one before, and the first isn't below one
 abbrev Ascend : {X : Type 0} → ℕ → List (ℕ × X) → Type 0
-Ascend k [] = Unit {0}
-Ascend k (e ∷ es) = (k ≤ e.0) × Ascend (suc e.0) es
-
-sorted_ascend : {X : Type 0} (k : ℕ) (e : ℕ × X) (es : List (ℕ × X)) → T (is_sorted nat_cmp (e ∷ es)) → k ≤ e.0 → Ascend k (e ∷ es)
-sorted_ascend k e [] h low = (low, tt)
-sorted_ascend k e (f ∷ es) h low =
-    (low, sorted_ascend (suc e.0) f es (second _ _ h) (less e.0 f.0 (nat_cmp e.0 f.0) refl (first _ _ (first _ _ h))))
-
-entries_ascend : {X : Type 0} (es : List (ℕ × X)) → T (is_sorted nat_cmp es) → Ascend 0 es
-entries_ascend [] h = tt
-entries_ascend (e ∷ es) h = sorted_ascend 0 e es h (omega arith)
+Ascend k es = Rises k (map (λ e. e.0) es)
 
 is_from : (k n : ℕ) → k ≤ n → nat_le k n ≡ true
 is_from k n h = grind (arith, nat_tests)
@@ -109,12 +83,12 @@ pub next_is : (processes : Processes) (from : ℕ) (r : Option ℕ)
     → MatchOption r (keys_from from processes ≡ []) (λ p. slice_get (keys_from from processes) 0 ≡ Some p) → NextProcess processes from r
 next_is processes from None none = no_key (passing from (entries processes)) none
 next_is processes from (Some p) starts =
-    let (process, not_below, found, splits) = first_from from 0 p (entries processes) (entries_ascend (entries processes) (entries_sorted processes)) starts in
+    let (process, not_below, found, splits) = first_from from 0 p (entries processes) (entries_rise processes) starts in
     (process, get-entries processes p ∙ found, splits)
 
 next_from : (processes : Processes) (from p : ℕ) → slice_get (keys_from from processes) 0 ≡ Some p → (from ≤ p) × (is_some (get processes p) ≡ true)
 next_from processes from p starts =
-    let (process, not_below, found, splits) = first_from from 0 p (entries processes) (entries_ascend (entries processes) (entries_sorted processes)) starts in
+    let (process, not_below, found, splits) = first_from from 0 p (entries processes) (entries_rise processes) starts in
     (not_below, ap is_some (get-entries processes p ∙ found))
 
 -- where a number is the next one, it isn't above those drawn

@@ -1,6 +1,7 @@
-use Rattle.std.proofs.Common.{◌≡◌, ℕ, ◌+◌, ◌≤◌, true, false, sym, ap, subst, ◌∙◌, refl, arith, Option, Some, None}
+use Rattle.std.proofs.Common.{◌≡◌, ℕ, ◌+◌, ◌≤◌, ◌==◌, Bool, true, false, sym, ap, subst, ◌∙◌, refl, arith, Option, Some, None}
 use Rattle.std.specs.Option.{is_some, option_and_then, option_map, option_map_or}
 use Rattle.std.specs.Ordering.{nat_cmp}
+use Rattle.std.proofs.lemmas.Bool.Decides.{nat_tests}
 use Rattle.std.specs.FinMap.{empty, get, insert, get-empty}
 use Rattle.ovl_io.specs.KeyLaws.{alike, by_key, get_other, get_same, removed_other, removed_same}
 use Rattle.ovl_io.specs.Memory.{Memory}
@@ -46,16 +47,21 @@ same_then a b c first second = record {
   processes = λ q. second.processes q ∙ first.processes q;
 }
 
-pub same_turn : (old new : Machine) (p : ℕ) → is_running (wholes old) p ≡ true → wholes new ≡ after_turn (wholes old) p → StaysBut p old new → SamePlaces old new
-same_turn old new p running turned stays =
+pub same_change : (old new : Machine) (p : ℕ) → is_running (wholes old) p ≡ true → is_some (get (wholes new) p) ≡ true → StaysBut p old new → SamePlaces old new
+same_change old new p running some stays =
     let before = there old p (running_there (get (wholes old) p) running) in
-    let after = there new p (ap (λ (ps : Processes). is_some (get ps p)) turned ∙ turned_there (wholes old) p (get (wholes old) p) refl (running_there (get (wholes old) p) running)) in
+    let after = there new p some in
     record {
       spaces = λ q. by_key q p (λ same. ap (λ n. is_some (get new.spaces n)) same ∙ after.0 ∙ sym (ap (λ n. is_some (get old.spaces n)) same ∙ before.0))
           (λ other. ap is_some (stays.spaces q other));
       processes = λ q. by_key q p (λ same. ap (λ n. is_some (get new.processes n)) same ∙ after.1 ∙ sym (ap (λ n. is_some (get old.processes n)) same ∙ before.1))
           (λ other. ap is_some (stays.processes q other));
     }
+
+pub same_turn : (old new : Machine) (p : ℕ) → is_running (wholes old) p ≡ true → wholes new ≡ after_turn (wholes old) p → StaysBut p old new → SamePlaces old new
+same_turn old new p running turned stays =
+    same_change old new p running
+    (ap (λ (ps : Processes). is_some (get ps p)) turned ∙ turned_there (wholes old) p (get (wholes old) p) refl (running_there (get (wholes old) p) running)) stays
 
 pub stays_then : (p : ℕ) (a b c : Machine) → StaysBut p a b → StaysBut p b c → StaysBut p a c
 stays_then p a b c first second = record {
@@ -110,3 +116,9 @@ session_drop old mid new drawn p is removed dropped =
           (λ same. let no = ap is_some (removed_same old.processes p q same) in let both : false ≡ true = sym no ∙ some in cc)
           (λ other. ap is_some (removed_other old.spaces p q other) ∙ is.has_space q (sym (ap is_some (removed_other old.processes p q other)) ∙ some));
     })
+
+-- a number is left
+pub is_below : (inside drawn : ℕ) (all : Bool) → inside ≡ drawn → all ≡ (drawn == LAST_SPACE) → all ≡ false → inside ≤ LAST_SPACE → inside + 1 ≤ LAST_SPACE
+is_below inside drawn all same is none few =
+    let other : (inside == LAST_SPACE) ≡ false = ap (λ n. n == LAST_SPACE) same ∙ sym is ∙ none in
+    grind (arith, nat_tests, other, few)

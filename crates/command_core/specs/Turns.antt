@@ -1,8 +1,8 @@
-use Rattle.std.specs.Prelude.{◌≡◌, ℕ, zero, suc, ◌+◌, ◌-◌, ◌==◌, List, [], ◌∷◌, ◌++◌, flat_map, Option, Some, None, if◌then◌else◌}
+use Rattle.std.specs.Prelude.{◌≡◌, ℕ, zero, suc, ◌+◌, ◌-◌, ◌==◌, List, [], ◌∷◌, ◌++◌, flat_map, min, Option, Some, None, if◌then◌else◌}
 use Rattle.std.specs.Option.{option_map_or, option_or}
 use Rattle.ovl_io.specs.declared.turn.Turn.{Turn}
 use Rattle.machine_core.specs.Machine.{Processes, is_running, running_numbers, turn_of, after_turn}
-use Rattle.round_robin.specs.Turns.{next_number, after_turn_of}
+use Rattle.round_robin.specs.Turns.{next_number, after_turn_of, after_turns_of, left_for}
 use Rattle.command_core.specs.declared.turns.Order.{Order}
 use Rattle.command_core.specs.declared.turns.Order.TheVariants.{ByTurns, Alone}
 use Rattle.report_text.specs.declared.answer.Stop.{Stop}
@@ -42,6 +42,22 @@ ending processes run = ending_by (next_of processes run.order) run
 -- the run after a turn of a process
 abbrev pub run_after : ℕ → Progress → Progress
 run_after p run = record { order = order_after p run.order; turns = run.turns; taken = run.taken + 1 }
+
+-- how many turns a process, whose turn is next, has until another one's may be, or until none is left
+abbrev pub order_left : ℕ → Order → ℕ → ℕ
+order_left p (ByTurns turns) most = min most (left_for p turns)
+order_left p (Alone q) most = most
+
+abbrev pub stretch : ℕ → Progress → ℕ
+stretch p run = order_left p run.order (run.turns - run.taken)
+
+-- the run after so many turns of it
+abbrev pub order_took : ℕ → ℕ → Order → Order
+order_took n p (ByTurns turns) = ByTurns (after_turns_of n p turns)
+order_took n p (Alone q) = Alone q
+
+abbrev pub run_took : ℕ → ℕ → Progress → Progress
+run_took n p run = record { order = order_took n p run.order; turns = run.turns; taken = run.taken + n }
 
 -- What turns come to: the events in order, each the process and what came of its turn; why they ended, how many
 -- were taken, and the processes after them.
@@ -118,6 +134,11 @@ abbrev pub Speaks : Processes → InRun → List ℕ → Processes → InRun →
 Speaks old running line new after =
     (ran_text (ran_from old running.run) ≡ line ++ ran_text (ran_from new after.run))
     × ((ran_from old running.run).after ≡ (ran_from new after.run).after)
+
+-- turns without a line: what is left comes to what all came to
+abbrev pub GoesOn : Processes → Progress → Processes → Progress → Type 0
+GoesOn old run new after =
+    (ran_text (ran_from old run) ≡ ran_text (ran_from new after)) × ((ran_from old run).after ≡ (ran_from new after).after)
 
 abbrev pub EndsRun : Processes → InRun → Processes → InRun → Type 0
 EndsRun old running new after =

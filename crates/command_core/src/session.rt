@@ -1,4 +1,4 @@
-ghost use Rattle.std.specs.Prelude.{◌≡◌, ◌≢◌, ◌+◌, ◌≤◌, ◌<◌, [], Some, None, true, false, IfOk, IfSome, IsTrue};
+ghost use Rattle.std.specs.Prelude.{◌≡◌, ◌==◌, ◌≢◌, ◌+◌, ◌≤◌, ◌<◌, [], Some, None, true, false, IfOk, IfSome, IsTrue};
 ghost use Rattle.report_text.specs.Answers.{HasAnswerLine, turn_text};
 ghost use Rattle.machine_core.specs.Machine.{StaysBut, is_running, turn_of, after_turn, turn_asked, after_asked, wholes};
 ghost use Rattle.sizes.specs.declared.TheConstants.{LAST_SPACE};
@@ -6,7 +6,7 @@ ghost use Rattle.command_core.specs.State.{KeepsRest, SamePlaces, fresh};
 ghost use Rattle.command_core.specs.Changes.{CanBeTold, GivesChange, change_done, comes_to, drop_done, is_change, load_done};
 ghost use Rattle.command_core.specs.Commands.{RunsLoaded};
 ghost use Rattle.command_core.specs.Looks.{BeginsStep, LooksAt, NextProcess};
-ghost use Rattle.command_core.specs.Turns.{EndsRun, Speaks, TakesTurn, begun_by, by_turns, ending, next_of, rest_of, run_found};
+ghost use Rattle.command_core.specs.Turns.{EndsRun, GoesOn, Speaks, TakesTurn, begun_by, by_turns, ending, next_of, rest_of, run_found};
 
 use crate::turns::{Order, Running};
 use elf_loader::{ElfError, read_image};
@@ -78,22 +78,38 @@ fn fault_line(p: u16, kind: FaultKind, address: u64, line: &mut Line)
     turn_line(p, &Turn::Faulted(kind, address), line);
 }
 
-/// Takes a turn of a running process. Where it has a line, sets that and answers true.
+/// Takes turns of a running process, whose turn is next: until one has a line, which it sets, and answers true; or as
+/// many as there are until another's turn may be next.
 #[inline]
-fn take_turn(machine: &mut Machine, p: u16, line: &mut Line) -> bool
-    requires { is_running (wholes machine.old) p ≡ true }
-    ensures says { result ≡ true → line.new.items ≡ turn_text p (turn_of (wholes machine.old) p) }
-    ensures quiet { result ≡ false → turn_text p (turn_of (wholes machine.old) p) ≡ [] }
-    ensures after { wholes machine.new ≡ after_turn (wholes machine.old) p }
-    ensures others { StaysBut p machine.old machine.new }
+fn take_turns(machine: &mut Machine, running: &mut Running, p: u16, line: &mut Line) -> bool
+    requires runs { is_running (wholes machine.old) p ≡ true }
+    requires next { next_of (wholes machine.old) running.old.run.order ≡ Some p }
+    requires left { running.old.run.taken < running.old.run.turns }
+    ensures says { result ≡ true →
+        Speaks (wholes machine.old) running.old line.new.items (wholes machine.new) running.new }
+    ensures quiet { result ≡ false →
+        GoesOn (wholes machine.old) running.old.run (wholes machine.new) running.new.run }
+    ensures further { running.old.run.taken < running.new.run.taken }
+    ensures asked { running.new.run.turns ≡ running.old.run.turns }
+    ensures within { running.new.run.taken ≤ running.new.run.turns }
+    ensures kept { SamePlaces machine.old machine.new }
 {
-    match machine.execute(p) {
-        Outcome::Stepped | Outcome::Full(_, _) => false,
-        Outcome::Asked => answer_request(machine, p, line),
+    let (steps, outcome) = machine.execute_up_to(p, running.stretch(p));
+    match outcome {
+        Outcome::Stepped => {
+            running.took_turns(p, steps);
+            false
+        }
+        Outcome::Asked => {
+            running.took_turns(p, steps + 1);
+            answer_request(machine, p, line)
+        }
         Outcome::Fault(kind, address) => {
+            running.took_turns(p, steps + 1);
             fault_line(p, kind, address, line);
             true
         }
+        Outcome::Full(_, _) => unreachable!(),
     }
 }
 
@@ -184,9 +200,7 @@ fn turns_to_line(machine: &mut Machine, running: &mut Running, line: &mut Line) 
         match next(machine, running.order()) {
             None => break,
             Some(p) => {
-                let speaks = take_turn(machine, p, line);
-                running.took(p);
-                if speaks {
+                if take_turns(machine, running, p, line) {
                     return true;
                 }
             }
@@ -224,7 +238,7 @@ impl Session {
             Err(ElfError::Memory) => return Answer::Memory,
             Err(error) => return Answer::Refused(Code::Elf(error)),
         };
-        if self.drawn == LAST_SPACE {
+        if self.are_all_drawn() {
             return Answer::Refused(Code::NumbersUsed);
         }
         let p = self.drawn + 1;
@@ -235,6 +249,13 @@ impl Session {
             }
             Err(_) => Answer::Memory,
         }
+    }
+
+    /// Whether all numbers were drawn.
+    fn are_all_drawn(&self) -> bool
+        ensures { result ≡ (self.now.state.drawn == LAST_SPACE) }
+    {
+        self.drawn == LAST_SPACE
     }
 
     /// Gives up a process.

@@ -1,5 +1,5 @@
 ghost use Rattle.std.specs.Prelude.{◌≡◌, ◌<◌, ◌≤◌, None, nat_lt};
-ghost use Rattle.command_core.specs.Turns.{run_after};
+ghost use Rattle.command_core.specs.Turns.{run_after, run_took, stretch};
 
 use report_text::Stop;
 use round_robin::RoundRobin;
@@ -74,6 +74,34 @@ impl Running {
             turns.took(p);
         }
         self.taken += 1;
+    }
+
+    /// How many turns `p`, whose turn is next, has until another's may be, or until none is left.
+    #[inline]
+    pub(crate) fn stretch(&self, p: u16) -> u32
+        requires { self.now.run.taken < self.now.run.turns }
+        ensures stretch { result ≡ stretch p self.now.run }
+        ensures some { 1 ≤ result }
+    {
+        let most = self.turns - self.taken;
+        match &self.order {
+            Order::ByTurns(turns) => most.min(turns.left_for(p)),
+            Order::Alone(_) => most,
+        }
+    }
+
+    /// So many turns of `p`, whose turn was next, were taken.
+    #[inline]
+    pub(crate) fn took_turns(&mut self, p: u16, n: u32)
+        requires some { 1 ≤ n }
+        requires fits { n ≤ stretch p self.old.run }
+        ensures took { self.new ≡ record { run = run_took n p self.old.run; stop = self.old.stop } }
+        ensures within { self.new.run.taken ≤ self.new.run.turns }
+    {
+        if let Order::ByTurns(turns) = &mut self.order {
+            turns.took_turns(p, n);
+        }
+        self.taken += n;
     }
 
     pub(crate) fn set_stop(&mut self, stop: Option<Stop>)

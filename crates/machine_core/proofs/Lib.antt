@@ -11,3 +11,4 @@ pub mod Room
 pub mod Machines
 pub mod Counts
 pub mod Plays
+pub mod Stepping

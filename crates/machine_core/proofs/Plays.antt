@@ -6,7 +6,7 @@ use Rattle.ovl_io.specs.KeyLaws.{by_key, get_same, get_other}
 use Rattle.machine_core.specs.Process.{Process, runs}
 use Rattle.machine_core.specs.Machine.{Processes, is_running, after_turn, process_after}
 use Rattle.machine_core.specs.Play.{after_number, run_over, turns_of, own_turns, AreOwnTurns}
-use Rattle.machine_core.proofs.Rising.{same_is, other_is}
+use Rattle.machine_core.specs.NumberLaws.{other_is, same_is}
 
 -- Turns of several processes.
 

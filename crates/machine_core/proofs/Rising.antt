@@ -9,23 +9,9 @@ use Rattle.std.specs.Ordering.{nat_cmp}
 use Rattle.std.specs.Prelude.{Result, Ok, Err}
 use Rattle.ovl_io.specs.KeyLaws.{by_key}
 use Rattle.machine_core.specs.Slots.{is_in, IsPlaceOf}
+use Rattle.machine_core.specs.NumberLaws.{Rises, lower, none_below, other_is, same_is}
 
 -- Numbers that rise.
-
--- each is greater than the one before, and the first isn't below a number
-abbrev pub Rises : ℕ → List ℕ → Type 0
-Rises k [] = Unit {0}
-Rises k (x ∷ xs) = (k ≤ x) × Rises (suc x) xs
-
-pub same_is : (n q : ℕ) → n ≡ q → (n == q) ≡ true
-same_is n q h = grind (arith, nat_tests)
-
-pub other_is : (n q : ℕ) → (n ≡ q → ⊥) → (n == q) ≡ false
-other_is n q h = by_test (n == q) refl
-  where
-    by_test : (b : Bool) → (n == q) ≡ b → b ≡ false
-    by_test true e = absurd (h (grind (arith, nat_tests)))
-    by_test false e = refl
 
 pub rises_from : (k : ℕ) (xs : List ℕ) → IsStrictlyIncreasing xs → k ≤ get_or xs 0 k → Rises k xs
 rises_from k [] h low = tt
@@ -48,10 +34,6 @@ increases k (x ∷ y ∷ ys) h (suc j) below =
     let next : suc (j + 1) ≡ suc j + 1 = omega arith in
     subst (λ n. get_or (x ∷ y ∷ ys) (suc j) 0 < get_or (x ∷ y ∷ ys) n 0) next (increases (suc x) (y ∷ ys) h.1 j (omega arith))
 
-pub lower : (j k : ℕ) (xs : List ℕ) → j ≤ k → Rises k xs → Rises j xs
-lower j k [] le h = tt
-lower j k (x ∷ xs) le h = (omega (arith, h.0), h.1)
-
 -- each place has a number that isn't below it
 at_least : (k : ℕ) (xs : List ℕ) (i : ℕ) → Rises k xs → i < length xs → k ≤ get_or xs i 0
 at_least k [] i h below = absurd (omega arith)
@@ -67,11 +49,6 @@ never_falls xs h i j le below = by_list 0 xs h i j le below
     by_list k (x ∷ xs) h zero (suc j) le below = omega (arith, at_least (suc x) xs j h.1 (omega arith))
     by_list k (x ∷ xs) h (suc i) zero le below = absurd (omega arith)
     by_list k (x ∷ xs) h (suc i) (suc j) le below = by_list (suc x) xs h.1 i j (omega arith) (omega arith)
-
-pub none_below : (k : ℕ) (xs : List ℕ) (q : ℕ) → Rises k xs → q < k → is_in xs q ≡ false
-none_below k [] q h below = refl
-none_below k (x ∷ xs) q h below =
-    ap (λ b. b || is_in xs q) (other_is x q (λ e. absurd (omega (arith, h.0)))) ∙ none_below (suc x) xs q h.1 (omega (arith, h.0))
 
 -- one more in its place
 pub rises_insert : (k : ℕ) (xs : List ℕ) (i p : ℕ) → Rises k xs → k ≤ p → i ≤ length xs

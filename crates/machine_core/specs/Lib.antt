@@ -1,8 +1,10 @@
 pub mod Process
 pub mod Machine
+pub mod Executions
 pub mod Codes
 pub mod Laws
 pub mod Load
 pub mod Kept
 pub mod Slots
+pub mod NumberLaws
 pub mod Play

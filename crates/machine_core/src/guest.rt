@@ -5,6 +5,7 @@ ghost use Rattle.sizes.specs.declared.TheConstants.{MOST_WRITTEN};
 ghost use Rattle.rv_execute.specs.Step.{exit, request, write};
 ghost use Rattle.rv_execute.specs.Execution.{outcome_by};
 ghost use Rattle.machine_core.specs.Machine.{after_request, executed, execution_of};
+ghost use Rattle.machine_core.specs.Executions.{all_executed, executions};
 ghost use Rattle.machine_core.specs.Kept.{process_of, with_answer};
 
 use crate::memory::PlainMemory;
@@ -126,5 +127,25 @@ impl Guest {
             self.process.state = ProcessState::Faulted(kind, address);
         }
         outcome
+    }
+
+    /// Executes up to so many instructions, as long as each is a step. Answers how many were steps, and what came of the
+    /// last one.
+    pub(crate) fn execute_up_to(&mut self, most: u32) -> (u32, Outcome)
+        requires { self.old.process.state ≡ ProcessState.Running }
+        ensures steps { result.0 ≡ (executions most (process_of self.old)).steps }
+        ensures outcome { result.1 ≡ outcome_by (executions most (process_of self.old)).upshot }
+        ensures after { process_of self.new ≡ all_executed most (process_of self.old) }
+    {
+        let mut steps = 0u32;
+        'stepping: while steps < most {
+            match self.execute() {
+                Outcome::Stepped => steps += 1,
+                Outcome::Asked => return (steps, Outcome::Asked),
+                Outcome::Fault(kind, address) => return (steps, Outcome::Fault(kind, address)),
+                Outcome::Full(units, limit) => return (steps, Outcome::Full(units, limit)),
+            }
+        }
+        (steps, Outcome::Stepped)
     }
 }

@@ -5,7 +5,8 @@ ghost use Rattle.std.specs.Option.{option_map, is_some};
 ghost use Rattle.sizes.specs.declared.TheConstants.{LAST_SPACE};
 ghost use Rattle.ovl_io.specs.declared.process_state.ProcessState.TheVariants.{Running};
 ghost use Rattle.rv_execute.specs.Execution.{outcome_by};
-ghost use Rattle.machine_core.specs.Machine.{executed, upshot_of, asked_of, answered_process};
+ghost use Rattle.machine_core.specs.Machine.{asked_of, answered_process};
+ghost use Rattle.machine_core.specs.Executions.{all_executed, last_upshot, steps_of};
 ghost use Rattle.machine_core.specs.Slots.{slot_at, slot_space, slot_process, slot_whole, slot_runs, IsChanged, IsEdited, IsRunningList};
 
 use crate::guest::Guest;
@@ -18,23 +19,31 @@ use ovl_io::Turn;
 use rv_execute::Outcome;
 use std::alloc::{AllocError, Global};
 
-/// Executes one instruction of a running process. One that faults is taken out of the list.
+/// Executes up to so many instructions of a running process, as long as each is a step. One that faults is taken out of
+/// the list.
 #[inline]
-pub(crate) fn execute_turn(slots: &mut Slots, running: &mut Vec<u16>, p: u16) -> Outcome
+pub(crate) fn execute_turns(
+    slots: &mut Slots,
+    running: &mut Vec<u16>,
+    p: u16,
+    most: u32,
+) -> (u32, Outcome)
     requires kept { IsRunningList slots.old.items running.old }
     requires runs { slot_runs (slot_at slots.old.items p) ≡ true }
-    ensures outcome { result ≡ outcome_by (upshot_of (slot_whole (slot_at slots.old.items p))) }
-    ensures changed { IsChanged executed slots.old.items slots.new.items p }
+    ensures steps { result.0 ≡ steps_of most (slot_whole (slot_at slots.old.items p)) }
+    ensures outcome { result.1 ≡ outcome_by (last_upshot most (slot_whole (slot_at slots.old.items p))) }
+    ensures changed { IsChanged (all_executed most) slots.old.items slots.new.items p }
     ensures kept { IsRunningList slots.new.items running.new }
 {
-    match execute_in(slots, p) {
-        Outcome::Stepped => Outcome::Stepped,
-        Outcome::Asked => Outcome::Asked,
+    let (steps, outcome) = execute_in(slots, p, most);
+    match outcome {
+        Outcome::Stepped => (steps, Outcome::Stepped),
+        Outcome::Asked => (steps, Outcome::Asked),
         Outcome::Fault(kind, address) => {
             take_out(running, p);
-            Outcome::Fault(kind, address)
+            (steps, Outcome::Fault(kind, address))
         }
-        Outcome::Full(units, limit) => Outcome::Full(units, limit),
+        Outcome::Full(units, limit) => (steps, Outcome::Full(units, limit)),
     }
 }
 

@@ -9,11 +9,12 @@ ghost use Rattle.sizes.specs.declared.TheConstants.{LAST_SPACE};
 ghost use Rattle.elf_loader.specs.Image.{IsImageOf};
 ghost use Rattle.machine_core.specs.Machine.{AnswersAs, LeadsTo, StaysBut, after_asked, after_execution, after_turn, came_to, is_running, keys_from, running_numbers, shown_at, turn_asked, turn_of, wholes, with_process_at, with_whole_at, without_process_at, without_space_at};
 ghost use Rattle.rv_execute.specs.Execution.{outcome_by};
+ghost use Rattle.machine_core.specs.Executions.{after_executions, came_to_last, steps_to};
 ghost use Rattle.machine_core.specs.Play.{AreOwnTurns, after_number, run_over};
 ghost use Rattle.machine_core.specs.Load.{loaded_process, page_count, with_loaded};
 
 use crate::guest::Guest;
-use crate::keeping::{adopt, answer_turn, drop_space, execute_turn, make, remove, set};
+use crate::keeping::{adopt, answer_turn, drop_space, execute_turns, make, remove, set};
 use crate::load::load_memory;
 use crate::process::Process;
 use crate::slots::{Slots, next_in, pages_in, process_in, runs_in};
@@ -172,18 +173,31 @@ impl Machine {
         next_in(&self.slots, from)
     }
 
-    /// Executes one instruction of a running process, but not what it asks for where it is ECALL: that is left to
-    /// `answer`. Looks up the process once, and the pages of its accesses, and takes no memory.
+    /// Executes up to so many instructions of a running process, as long as each is a step, but not what the last one asks
+    /// for where it is ECALL: that is left to `answer`. Answers how many were steps, and what came of the last one. Looks
+    /// up the process once, and the pages of its accesses, and takes no memory.
     #[inline]
-    pub fn execute(&mut self, p: u16) -> Outcome
+    pub fn execute_up_to(&mut self, p: u16, most: u32) -> (u32, Outcome)
+        requires { is_running (wholes self.old) p ≡ true }
+        ensures steps { result.0 ≡ steps_to most (wholes self.old) p }
+        ensures outcome { result.1 ≡ outcome_by (came_to_last most (wholes self.old) p) }
+        ensures after { wholes self.new ≡ after_executions most (wholes self.old) p }
+        ensures counts { AnswersAs (λ state. steps_to most state p) self.old result.0 }
+        ensures answers { AnswersAs (λ state. outcome_by (came_to_last most state p)) self.old result.1 }
+        ensures stands { LeadsTo (λ state. after_executions most state p) self.old self.new }
+        ensures others { StaysBut p self.old self.new }
+    {
+        execute_turns(&mut self.slots, &mut self.running, p, most)
+    }
+
+    /// Executes one instruction of a running process, but not what it asks for.
+    fn execute(&mut self, p: u16) -> Outcome
         requires { is_running (wholes self.old) p ≡ true }
         ensures outcome { result ≡ outcome_by (came_to (wholes self.old) p) }
         ensures after { wholes self.new ≡ after_execution (wholes self.old) p }
-        ensures answers { AnswersAs (λ state. outcome_by (came_to state p)) self.old result }
-        ensures stands { LeadsTo (λ state. after_execution state p) self.old self.new }
         ensures others { StaysBut p self.old self.new }
     {
-        execute_turn(&mut self.slots, &mut self.running, p)
+        self.execute_up_to(p, 1).1
     }
 
     /// Does what a running process asked for by ECALL, and answers what came of it. Takes no memory.

@@ -5,7 +5,8 @@ ghost use Rattle.std.specs.Option.{option_copied, option_map, option_map_or, is_
 ghost use Rattle.std.specs.FinMap as map;
 ghost use Rattle.sizes.specs.declared.TheConstants.{LAST_SPACE};
 ghost use Rattle.rv_execute.specs.Execution.{outcome_by};
-ghost use Rattle.machine_core.specs.Machine.{executed, upshot_of, asked_of, answered_process};
+ghost use Rattle.machine_core.specs.Machine.{asked_of, answered_process};
+ghost use Rattle.machine_core.specs.Executions.{all_executed, last_upshot, steps_of};
 ghost use Rattle.machine_core.specs.Slots.{slot_at, slot_space, slot_process, slot_whole, slot_runs, IsChanged, IsEdited, IsNextProcess};
 
 use crate::guest::Guest;
@@ -54,29 +55,31 @@ pub(crate) fn runs_in(slots: &Slots, p: u16) -> bool
     }
 }
 
-/// Executes one instruction of a slot's process, which runs.
+/// Executes up to so many instructions of a slot's process, which runs, as long as each is a step.
 #[inline]
-fn execute_slot(slot: &mut Option<Box<Slot>>) -> Outcome
+fn execute_slot(slot: &mut Option<Box<Slot>>, most: u32) -> (u32, Outcome)
     requires { slot_runs slot.old ≡ true }
-    ensures outcome { result ≡ outcome_by (upshot_of (slot_whole slot.old)) }
-    ensures changed { slot_whole slot.new ≡ option_map executed (slot_whole slot.old) }
+    ensures steps { result.0 ≡ steps_of most (slot_whole slot.old) }
+    ensures outcome { result.1 ≡ outcome_by (last_upshot most (slot_whole slot.old)) }
+    ensures changed { slot_whole slot.new ≡ option_map (all_executed most) (slot_whole slot.old) }
 {
     match slot {
-        Some(slot) => slot.guest.execute(),
+        Some(slot) => slot.guest.execute_up_to(most),
         None => unreachable!(),
     }
 }
 
-/// Executes one instruction of a running process.
+/// Executes up to so many instructions of a running process, as long as each is a step.
 #[inline]
-pub(crate) fn execute_in(slots: &mut Slots, p: u16) -> Outcome
+pub(crate) fn execute_in(slots: &mut Slots, p: u16, most: u32) -> (u32, Outcome)
     requires { slot_runs (slot_at slots.old.items p) ≡ true }
-    ensures outcome { result ≡ outcome_by (upshot_of (slot_whole (slot_at slots.old.items p))) }
-    ensures changed { IsChanged executed slots.old.items slots.new.items p }
+    ensures steps { result.0 ≡ steps_of most (slot_whole (slot_at slots.old.items p)) }
+    ensures outcome { result.1 ≡ outcome_by (last_upshot most (slot_whole (slot_at slots.old.items p))) }
+    ensures changed { IsChanged (all_executed most) slots.old.items slots.new.items p }
     ensures length { length slots.new.items ≡ length slots.old.items }
 {
     match slots.get_mut(p as usize) {
-        Some(slot) => execute_slot(slot),
+        Some(slot) => execute_slot(slot, most),
         None => unreachable!(),
     }
 }

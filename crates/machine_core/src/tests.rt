@@ -393,9 +393,9 @@ fn a_process_is_shown(rt: HostRuntime) -> Result<(), Fail> {
     let (mut machine, _) = loaded(rt.alloc(), file.as_slice())?;
     assert!(rt; machine.process(2).is_none());
     for (pc, x10, x17, outcome) in [
-        (CODE, 0, 0, Outcome::Stepped),
-        (CODE + 4, 0, 93, Outcome::Stepped),
-        (CODE + 8, 7, 93, Outcome::Asked),
+        (CODE, 0, 0, (1, Outcome::Stepped)),
+        (CODE + 4, 0, 93, (1, Outcome::Stepped)),
+        (CODE + 8, 7, 93, (0, Outcome::Asked)),
     ] {
         let process = *machine.process(1).ok_or("no process")?;
         assert_eq!(rt; process.state, ProcessState::Running);
@@ -403,7 +403,7 @@ fn a_process_is_shown(rt: HostRuntime) -> Result<(), Fail> {
         assert_eq!(rt; (regs.pc(), regs.get(10), regs.get(17)), (pc, x10, x17));
         assert_eq!(rt; (regs.get(0), regs.get(2)), (0, STACK_TOP - 16));
         assert!(rt; machine.is_running(1));
-        assert_eq!(rt; machine.execute(1), outcome, "at {pc:#x}");
+        assert_eq!(rt; machine.execute_up_to(1, 1), outcome, "at {pc:#x}");
     }
     assert!(rt; machine.is_running(1));
     assert!(rt; matches!(machine.answer(1), Turn::Exited(7)));

@@ -1,4 +1,4 @@
-use Rattle.std.specs.Prelude.{ℕ, ◌+◌, ◌==◌, ◌&&◌, min, nat_lt, Bool, List, [], ◌∷◌, Option, Some, None, if◌then◌else◌}
+use Rattle.std.specs.Prelude.{ℕ, zero, suc, ◌+◌, ◌-◌, ◌==◌, ◌&&◌, min, nat_lt, Bool, List, [], ◌∷◌, Option, Some, None, if◌then◌else◌}
 use Rattle.std.specs.List.{filter, list_any}
 use Rattle.std.specs.Option.{option_or}
 
@@ -41,14 +41,24 @@ next_after quantum (Some last) running =
 abbrev pub next_number : Turns → List ℕ → Option ℕ
 next_number turns running = next_after turns.quantum turns.last running
 
--- how many turns a number has had, with the one that it took, since it was last chosen anew
-abbrev pub had_by : ℕ → Option Last → ℕ → ℕ
-had_by quantum None p = 1
-had_by quantum (Some last) p = if p == last.number && nat_lt last.had quantum then last.had + 1 else 1
+-- how many turns a number, whose turn is next, has had since it was last chosen anew: none where that is now
+abbrev pub had_before : ℕ → Option Last → ℕ → ℕ
+had_before quantum None p = 0
+had_before quantum (Some last) p = if p == last.number && nat_lt last.had quantum then last.had else 0
 
--- where the turns stand after a turn of a number
+-- where the turns stand where a number was the last, and has had so many
+abbrev pub with_turns : ℕ → ℕ → Turns → Turns
+with_turns p had turns = record { quantum = turns.quantum; last = Some (record { number = p; had = had }) }
+
+-- where they stand after a turn of a number
 abbrev pub after_turn_of : ℕ → Turns → Turns
-after_turn_of p turns = record {
-  quantum = turns.quantum;
-  last = Some (record { number = p; had = had_by turns.quantum turns.last p });
-}
+after_turn_of p turns = with_turns p (had_before turns.quantum turns.last p + 1) turns
+
+-- how many turns a number, whose turn is next, has until another one's may be
+abbrev pub left_for : ℕ → Turns → ℕ
+left_for p turns = turns.quantum - had_before turns.quantum turns.last p
+
+-- where the turns stand after so many of one number
+abbrev pub after_turns_of : ℕ → ℕ → Turns → Turns
+after_turns_of zero p turns = turns
+after_turns_of (suc n) p turns = after_turns_of n p (after_turn_of p turns)

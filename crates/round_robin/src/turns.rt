@@ -1,10 +1,10 @@
-ghost use Rattle.std.specs.Prelude.{◌≡◌, ◌≤◌, ◌↔◌, None, IfOk, length, slice_get};
+ghost use Rattle.std.specs.Prelude.{◌≡◌, ◌+◌, ◌<◌, ◌≤◌, ◌↔◌, None, IfOk, length, slice_get};
 ghost use Rattle.std.specs.List.Sorted.{IsBinarySearchResult, IsSearchInRange, IsStrictlyIncreasing};
 ghost use Rattle.std.specs.List.{HoldsAt};
 ghost use Rattle.std.specs.Ordering.{nat_cmp};
 ghost use Rattle.std.specs.declared.cmp.Ordering.TheVariants as Ordering;
 ghost use Rattle.std.specs.Option.{option_map, option_or};
-ghost use Rattle.round_robin.specs.Turns.{Turns, next_number, after_turn_of};
+ghost use Rattle.round_robin.specs.Turns.{Turns, next_number, after_turn_of, after_turns_of, had_before, left_for, with_turns};
 
 use std::marker::Model;
 
@@ -25,9 +25,15 @@ pub struct RoundRobin {
 }
 
 impl Model for RoundRobin {
+    ghost use Rattle.std.specs.Prelude.{◌≤◌};
+    ghost use Rattle.std.specs.Option.{option_map};
+    ghost use Rattle.round_robin.specs.Turns.{Turns};
+
     ghost Value = { Turns };
 
     ghost view = { λ r. record { quantum = r.quantum; last = option_map (λ l. record { number = l.number; had = l.had }) r.last } };
+
+    ghost invariant = { λ r. 1 ≤ r.quantum };
 }
 
 /// The element at a place, or else the first.
@@ -105,18 +111,58 @@ impl RoundRobin {
     pub fn took(&mut self, p: u16)
         ensures { self.new ≡ after_turn_of p self.old }
     {
+        let before = self.had_before(p);
+        self.add(p, before, 1);
+    }
+
+    /// How many turns `p`, whose turn is next, has until another number's may be: at least 1.
+    pub fn left_for(&self, p: u16) -> u32
+        ensures left { result ≡ left_for p self.now }
+        ensures some { 1 ≤ result }
+    {
+        self.quantum - self.had_before(p)
+    }
+
+    /// Takes note of `n` turns of `p`, which `next` gave: at least 1, and at most as many as it had left.
+    pub fn took_turns(&mut self, p: u16, n: u32)
+        requires some { 1 ≤ n }
+        requires left { n ≤ left_for p self.old }
+        ensures { self.new ≡ after_turns_of n p self.old }
+    {
+        let before = self.had_before(p);
+        self.add(p, before, n);
+    }
+
+    /// So many turns of `p` more, behind those that it has had before.
+    #[inline]
+    fn add(&mut self, p: u16, before: u32, n: u32)
+        requires { before + n ≤ self.old.quantum }
+        ensures { self.new ≡ with_turns p (before + n) self.old }
+    {
+        if before == 0 {
+            self.guess = self.guess_of(p);
+        }
+        self.last = Some(Last {
+            number: p,
+            had: before + n,
+        });
+    }
+
+    /// How many turns `p`, whose turn is next, has had since it was last chosen anew.
+    fn had_before(&self, p: u16) -> u32
+        ensures had { result ≡ had_before self.now.quantum self.now.last p }
+        ensures below { result < self.now.quantum }
+    {
         match &self.last {
             Some(last) => {
                 if p == last.number && last.had < self.quantum {
-                    let had = last.had + 1;
-                    self.last = Some(Last { number: p, had });
-                    return;
+                    last.had
+                } else {
+                    0
                 }
             }
-            None => {}
+            None => 0,
         }
-        self.guess = self.guess_of(p);
-        self.last = Some(Last { number: p, had: 1 });
     }
 
     /// Where `p`, whose turn it was, may stand: behind the last number, where it is above that, or else first.

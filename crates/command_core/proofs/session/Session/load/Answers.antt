@@ -1,9 +1,10 @@
-use Rattle.std.proofs.Common.{◌+◌, ap, ◌∙◌, refl, arith}
+use Rattle.std.proofs.Common.{◌+◌, ap, ◌∙◌, refl}
 use Rattle.std.specs.FinMap.{get}
 use Rattle.ovl_io.specs.KeyLaws.{get_same}
 use Rattle.machine_core.specs.Machine.{Processes, wholes}
 use Rattle.machine_core.specs.Load.{loaded_process}
-use Rattle.command_core.proofs.Places.{session_load}
+use Rattle.command_core.specs.State.{InSession}
+use Rattle.command_core.proofs.Places.{is_below, session_load}
 use Rattle.command_core.proofs.session.Session.load.Goals as goal
 
 pub returns-in-Ok-load-clause-runs : goal.returns-in-Ok-load-clause-runs
@@ -15,6 +16,6 @@ returns-in-Ok-load-clause-runs c =
 pub invariant_of-self : goal.invariant_of-self
 invariant_of-self c = (
   session_load c.self.inside.machine c.load.new.self c.self.inside.drawn (loaded_process c.args.file.now) c.self.invariant.0
-      (omega (arith, c.self.invariant.0.few, c.if-self-eq-LAST_SPACE.false)) c.in-Ok-load.ensures.made,
+      (is_below c.self.inside.drawn c.args.self.now.state.drawn c.are_all_drawn.result (ap (λ (s : InSession). s.state.drawn) c.self.view_is) c.are_all_drawn.ensures c.if-are_all_drawn.false c.self.invariant.0.few) c.in-Ok-load.ensures.made,
   c.self.invariant.1,
 )
