@@ -4,3 +4,4 @@ pub mod Places
 pub mod Rans
 pub mod Stretches
 pub mod Stretching
+pub mod Standing

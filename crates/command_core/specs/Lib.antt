@@ -6,3 +6,4 @@ pub mod Changes
 pub mod Turns
 pub mod Commands
 pub mod Looks
+pub mod Standing

@@ -5,7 +5,9 @@ ghost use Rattle.sizes.specs.declared.TheConstants.{LAST_SPACE};
 ghost use Rattle.command_core.specs.State.{KeepsRest, SamePlaces, fresh};
 ghost use Rattle.command_core.specs.Changes.{CanBeTold, GivesChange, change_done, comes_to, drop_done, is_change, load_done};
 ghost use Rattle.command_core.specs.Commands.{RunsLoaded};
-ghost use Rattle.command_core.specs.Looks.{BeginsStep, LooksAt, NextProcess};
+ghost use Rattle.command_core.specs.Looks.{BeginsStep, LooksAt, NextProcess, looked_at};
+ghost use Rattle.command_core.specs.Standing.{AnswersAs, ChangesAs, GivesAs, HoldsFor, StandsFor, TurnsAs, begun_run, begun_step, ends_run, speaks, takes_turn};
+ghost use Rattle.std.specs.FinMap.{get};
 ghost use Rattle.command_core.specs.Turns.{EndsRun, GoesOn, Speaks, TakesTurn, begun_by, by_turns, ending, next_of, rest_of, run_found};
 
 use crate::turns::{Order, Running};
@@ -215,7 +217,8 @@ impl Session {
     /// A session without a process, whose turns have this quantum: 1 to 1,000,000.
     pub fn new(alloc: Global, quantum: u32) -> Result<Session, AllocError>
         requires { 1 ≤ quantum }
-        ensures { IfOk result (λ session. session ≡ record { state = fresh; quantum = quantum }) }
+        ensures session { IfOk result (λ session. session ≡ record { state = fresh; quantum = quantum }) }
+        ensures stands { IfOk result (λ session. StandsFor session fresh) }
     {
         Ok(Session {
             alloc,
@@ -229,6 +232,7 @@ impl Session {
     /// everything is as before.
     pub fn load(&mut self, file: &[u8]) -> Answer
         ensures gives { GivesChange (load_done file.now self.old.state) self.old.state result self.new.state }
+        ensures stands { GivesAs (load_done file.now) self.old result self.new }
         ensures told { CanBeTold result }
         ensures runs { RunsLoaded result self.new.state }
         ensures quantum { self.new.quantum ≡ self.old.quantum }
@@ -261,6 +265,7 @@ impl Session {
     /// Gives up a process.
     fn drop_process(&mut self, p: u16) -> Answer
         ensures changes { comes_to result self.new.state ≡ drop_done p self.old.state }
+        ensures stands { ChangesAs (drop_done p) self.old result self.new }
         ensures told { HasAnswerLine result }
         ensures quantum { self.new.quantum ≡ self.old.quantum }
     {
@@ -276,6 +281,7 @@ impl Session {
     pub fn change(&mut self, command: &Command) -> Answer
         requires { IsTrue (is_change command.now) }
         ensures changes { comes_to result self.new.state ≡ change_done command.now self.old.state }
+        ensures stands { ChangesAs (change_done command.now) self.old result self.new }
         ensures told { HasAnswerLine result }
         ensures quantum { self.new.quantum ≡ self.old.quantum }
     {
@@ -287,14 +293,16 @@ impl Session {
 
     /// Begins so many turns, at least 1, by round robin.
     pub fn begin_run(&self, turns: u32) -> Running
-        ensures { result ≡ run_found self.now.state.processes (by_turns self.now.quantum turns) }
+        ensures begun { result ≡ begun_run self.now.quantum turns self.now.state }
+        ensures stands { AnswersAs (begun_run self.now.quantum turns) self.now result }
     {
         self.begin(Order::ByTurns(RoundRobin::new(self.quantum)), turns)
     }
 
     /// Begins so many turns, at least 1, of one process. Refused where there is none, or where it has ended.
     pub fn begin_step(&self, p: u16, turns: u32) -> Result<Running, Code>
-        ensures { BeginsStep self.now.state.processes p turns result }
+        ensures begun { BeginsStep self.now.state.processes p turns result }
+        ensures stands { AnswersAs (begun_step p turns) self.now result }
     {
         match self.machine.process(p) {
             None => Err(Code::NoProcess),
@@ -318,7 +326,8 @@ impl Session {
     /// Takes the next turn, and answers whose it was and what came of it. None exactly where an ending was found before,
     /// or one holds; then nothing changes.
     pub fn turn(&mut self, running: &mut Running) -> Option<(u16, Turn)>
-        ensures turn { TakesTurn self.old.state.processes running.old result self.new.state.processes running.new }
+        ensures turn { takes_turn running.old result running.new self.old.state self.new.state }
+        ensures stands { TurnsAs (takes_turn running.old result running.new) self.old self.new }
         ensures others { KeepsRest self.old self.new }
     {
         next_turn(&mut self.machine, running)
@@ -328,9 +337,12 @@ impl Session {
     /// and again, without a `Turn` where nothing is to be said.
     pub fn turn_line(&mut self, running: &mut Running, line: &mut Line) -> bool
         ensures says { result ≡ true →
-            Speaks self.old.state.processes running.old line.new.items self.new.state.processes running.new }
+            speaks running.old line.new.items running.new self.old.state self.new.state }
         ensures ends { result ≡ false →
-            EndsRun self.old.state.processes running.old self.new.state.processes running.new }
+            ends_run running.old running.new self.old.state self.new.state }
+        ensures stands { result ≡ true →
+            TurnsAs (speaks running.old line.new.items running.new) self.old self.new }
+        ensures rests { result ≡ false → TurnsAs (ends_run running.old running.new) self.old self.new }
         ensures further { result ≡ true → running.old.run.taken < running.new.run.taken }
         ensures asked { running.new.run.turns ≡ running.old.run.turns }
         ensures within { running.new.run.taken ≤ running.new.run.turns }
@@ -341,7 +353,8 @@ impl Session {
 
     /// A process, by its number; refused where there is none.
     pub fn look_process(&self, p: u16) -> Result<ProcessView, Code>
-        ensures { LooksAt self.now.state.processes p result }
+        ensures looks { LooksAt self.now.state.processes p result }
+        ensures stands { AnswersAs (λ state. looked_at (get state.processes p)) self.now result }
     {
         match self.machine.process(p) {
             None => return Err(Code::NoProcess),
@@ -357,6 +370,7 @@ impl Session {
     /// The least process number from `from` on; none exactly where there is none.
     pub fn next_process(&self, from: u16) -> Option<u16>
         ensures next { NextProcess self.now.state.processes from result }
+        ensures stands { HoldsFor (λ state. NextProcess state.processes from result) self.now }
         ensures within { IfSome result (λ p. (from ≤ p) × (p ≤ LAST_SPACE)) }
     {
         self.machine.next_process(from)

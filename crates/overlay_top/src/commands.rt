@@ -125,7 +125,8 @@ fn tell_loaded<K: Sink>(
 
 /// Makes a process of a file, and gives it so many turns.
 fn exec<K: Sink>(session: &mut Session, file: &[u8], turns: u32, sink: &mut K) -> Result<(), Halt>
-    ensures sends { SendsOn K.Sink sink.old (exec_done file.now turns session.old.state).text sink.new result }
+    ensures sends { SendsOn K.Sink sink.old
+        (exec_done file.now turns session.old.state).text sink.new result }
     ensures after { LeavesOn (exec_done file.now turns session.old.state) session.new result }
     ensures quantum { session.new.quantum ≡ session.old.quantum }
     ensures doing { IsDoing result }
@@ -161,8 +162,10 @@ fn step<K: Sink>(session: &mut Session, p: u16, turns: u32, sink: &mut K) -> Res
 
 /// Gives processes so many turns, by round robin.
 fn run_all<K: Sink>(session: &mut Session, turns: u32, sink: &mut K) -> Result<(), Failed>
-    ensures sent { Sent K.Sink sink.old (run_done session.old.quantum turns session.old.state).text sink.new result }
-    ensures cut { Cut K.Sink sink.old (run_done session.old.quantum turns session.old.state).text sink.new result }
+    ensures sent { Sent K.Sink sink.old
+        (run_done session.old.quantum turns session.old.state).text sink.new result }
+    ensures cut { Cut K.Sink sink.old
+        (run_done session.old.quantum turns session.old.state).text sink.new result }
     ensures after { LeavesOn (run_done session.old.quantum turns session.old.state) session.new result }
     ensures quantum { session.new.quantum ≡ session.old.quantum }
     ensures cause { OnErr result (SinkRose K.Sink sink.old sink.new) }
@@ -244,7 +247,8 @@ pub(crate) fn do_command<K: Sink>(
     sink: &mut K,
 ) -> Result<(), Halt>
     requires { IsGiven command.now }
-    ensures sends { SendsOn K.Sink sink.old (performed_in session.old file.now command.now).text sink.new result }
+    ensures sends { SendsOn K.Sink sink.old
+        (performed_in session.old file.now command.now).text sink.new result }
     ensures after { LeavesOn (performed_in session.old file.now command.now) session.new result }
     ensures quantum { session.new.quantum ≡ session.old.quantum }
     ensures doing { IsDoing result }

@@ -22,7 +22,7 @@ listing-preserved g c =
     let ps = c.args.session.now.state.processes in
     let p = c.in-Some.p in
     let next = c.in-Some.ensures.next in
-    let line = line_is ps p next.0 c.in-Ok.view c.process_line.new.out.items next.1 c.in-Ok.ensures c.process_line.ensures in
+    let line = line_is ps p next.0 c.in-Ok.view c.process_line.new.out.items next.1 c.in-Ok.ensures.looks c.process_line.ensures in
     record {
       sound = c.in_ok-send.ensures.no_fault ∙ c.listing.invariant.sound;
       low = omega (arith, c.in-Some.ensures.within.1);
@@ -38,7 +38,7 @@ returns-in_err-send-clause-cut g c tells =
     let ps = c.args.session.now.state.processes in
     let p = c.in-Some.p in
     let next = c.in-Some.ensures.next in
-    let line = line_is ps p next.0 c.in-Ok.view c.process_line.new.out.items next.1 c.in-Ok.ensures c.process_line.ensures in
+    let line = line_is ps p next.0 c.in-Ok.view c.process_line.new.out.items next.1 c.in-Ok.ensures.looks c.process_line.ensures in
     at_err c.from_residual.result
     (cut_done (g.K.Sink.taken c.args.sink.now) (g.K.Sink.taken c.listing.sink) (g.K.Sink.taken c.send.new.sink)
     (flat_map process_text (from_number c.listing.from ps)) c.as_slice.result.now (flat_map process_text (from_number (p + 1) ps)) _

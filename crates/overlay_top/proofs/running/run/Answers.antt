@@ -9,14 +9,14 @@ use Rattle.overlay_top.proofs.running.run.Goals as goal
 
 pub running-init : goal.running-init
 running-init g c = record {
-  quantum = ap (λ (s : InSession). s.quantum) c.in_ok-session.ensures;
+  quantum = ap (λ (s : InSession). s.quantum) c.in_ok-session.ensures.session;
   shelf = refl;
   sink = refl;
   kept = λ tells other. refl;
   asked = refl;
   runs = λ tells.
       none_run c.args.commands.now (g.H.Shelf.files c.args.shelf.now) c.in_ok-session.session.state g.K.Sink.tells (g.K.Sink.taken c.args.sink.now)
-      (ap (λ (s : InSession). s.state) c.in_ok-session.ensures);
+      (ap (λ (s : InSession). s.state) c.in_ok-session.ensures.session);
 }
 
 pub returns-in_err-perform-clause-ends : goal.returns-in_err-perform-clause-ends

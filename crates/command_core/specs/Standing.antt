@@ -1,0 +1,57 @@
+use Rattle.std.specs.Prelude.{◌≡◌, ℕ, List, Option, Result}
+use Rattle.std.specs.FinMap.{get}
+use Rattle.ovl_io.specs.declared.turn.Turn.{Turn}
+use Rattle.report_text.specs.declared.answer.Answer.{Answer}
+use Rattle.report_text.specs.declared.answer.Answer.TheVariants.{Done, Loaded, Forked, Saved, Refused, Full, Memory}
+use Rattle.command_core.specs.State.{InSession, State}
+use Rattle.command_core.specs.Changes.{Changed}
+use Rattle.report_text.specs.declared.answer.Code.{Code}
+use Rattle.command_core.specs.Looks.{begun}
+use Rattle.command_core.specs.Turns.{EndsRun, InRun, Speaks, TakesTurn, by_turns, run_found}
+
+-- A session stands for a state of the copying machine where its processes and the numbers drawn are the state's. What a call
+-- does is said of each state that the session stood for.
+abbrev pub StandsFor : InSession → State → Type 0
+StandsFor session state = session.state ≡ state
+
+-- what is answered is the answer of each of them
+abbrev pub AnswersAs : {Answer : Type 0} → (State → Answer) → InSession → Answer → Type 0
+AnswersAs answer session result = (state : State) → StandsFor session state → result ≡ answer state
+
+-- a change: its answer, and the session stands for the state after it
+abbrev pub ChangesAs : (State → Changed) → InSession → Answer → InSession → Type 0
+ChangesAs change old result new = (state : State) → StandsFor old state → (result ≡ (change state).answer) × StandsFor new (change state).after
+
+-- the same; or want of memory, and the session stands for what it stood for
+abbrev pub GivesAs : (State → Changed) → InSession → Answer → InSession → Type 0
+GivesAs change old Memory new = (state : State) → StandsFor old state → StandsFor new state
+GivesAs change old Done new = ChangesAs change old Done new
+GivesAs change old (Loaded p pages entry) new = ChangesAs change old (Loaded p pages entry) new
+GivesAs change old (Forked p q) new = ChangesAs change old (Forked p q) new
+GivesAs change old (Saved p name space) new = ChangesAs change old (Saved p name space) new
+GivesAs change old (Refused code) new = ChangesAs change old (Refused code) new
+GivesAs change old (Full units limit) new = ChangesAs change old (Full units limit) new
+
+-- what holds of each of them
+abbrev pub HoldsFor : (State → Type 0) → InSession → Type 0
+HoldsFor fact session = (state : State) → StandsFor session state → fact state
+
+-- turns: those of the state's processes, and the session stands for the state after them, in which no number was drawn
+abbrev pub TurnsAs : (State → State → Type 0) → InSession → InSession → Type 0
+TurnsAs turns old new = (state : State) → StandsFor old state → (after : State) × StandsFor new after × (after.drawn ≡ state.drawn) × turns state after
+
+abbrev pub takes_turn : InRun → Option (ℕ × Turn) → InRun → State → State → Type 0
+takes_turn running turn after_run state after = TakesTurn state.processes running turn after.processes after_run
+
+abbrev pub speaks : InRun → List ℕ → InRun → State → State → Type 0
+speaks running line after_run state after = Speaks state.processes running line after.processes after_run
+
+abbrev pub ends_run : InRun → InRun → State → State → Type 0
+ends_run running after_run state after = EndsRun state.processes running after.processes after_run
+
+-- the turns of all processes, begun, and those of one
+abbrev pub begun_run : ℕ → ℕ → State → InRun
+begun_run quantum turns state = run_found state.processes (by_turns quantum turns)
+
+abbrev pub begun_step : ℕ → ℕ → State → Result InRun Code
+begun_step p turns state = begun state.processes p turns (get state.processes p)
