@@ -11,20 +11,20 @@ use Rattle.command_core.specs.Turns.{EndsRun, InRun, Speaks, TakesTurn, by_turns
 
 -- A session stands for a state of the copying machine where its processes and the numbers drawn are the state's. What a call
 -- does is said of each state that the session stood for.
-abbrev pub StandsFor : InSession → State → Type 0
-StandsFor session state = session.state ≡ state
+abbrev pub SessionStandsFor : InSession → State → Type 0
+SessionStandsFor session state = session.state ≡ state
 
 -- what is answered is the answer of each of them
-abbrev pub AnswersAs : {Answer : Type 0} → (State → Answer) → InSession → Answer → Type 0
-AnswersAs answer session result = (state : State) → StandsFor session state → result ≡ answer state
+abbrev pub SessionAnswersAs : {Answer : Type 0} → (State → Answer) → InSession → Answer → Type 0
+SessionAnswersAs answer session result = (state : State) → SessionStandsFor session state → result ≡ answer state
 
 -- a change: its answer, and the session stands for the state after it
 abbrev pub ChangesAs : (State → Changed) → InSession → Answer → InSession → Type 0
-ChangesAs change old result new = (state : State) → StandsFor old state → (result ≡ (change state).answer) × StandsFor new (change state).after
+ChangesAs change old result new = (state : State) → SessionStandsFor old state → (result ≡ (change state).answer) × SessionStandsFor new (change state).after
 
 -- the same; or want of memory, and the session stands for what it stood for
 abbrev pub GivesAs : (State → Changed) → InSession → Answer → InSession → Type 0
-GivesAs change old Memory new = (state : State) → StandsFor old state → StandsFor new state
+GivesAs change old Memory new = (state : State) → SessionStandsFor old state → SessionStandsFor new state
 GivesAs change old Done new = ChangesAs change old Done new
 GivesAs change old (Loaded p pages entry) new = ChangesAs change old (Loaded p pages entry) new
 GivesAs change old (Forked p q) new = ChangesAs change old (Forked p q) new
@@ -34,11 +34,11 @@ GivesAs change old (Full units limit) new = ChangesAs change old (Full units lim
 
 -- what holds of each of them
 abbrev pub HoldsFor : (State → Type 0) → InSession → Type 0
-HoldsFor fact session = (state : State) → StandsFor session state → fact state
+HoldsFor fact session = (state : State) → SessionStandsFor session state → fact state
 
 -- turns: those of the state's processes, and the session stands for the state after them, in which no number was drawn
 abbrev pub TurnsAs : (State → State → Type 0) → InSession → InSession → Type 0
-TurnsAs turns old new = (state : State) → StandsFor old state → (after : State) × StandsFor new after × (after.drawn ≡ state.drawn) × turns state after
+TurnsAs turns old new = (state : State) → SessionStandsFor old state → (after : State) × SessionStandsFor new after × (after.drawn ≡ state.drawn) × turns state after
 
 abbrev pub takes_turn : InRun → Option (ℕ × Turn) → InRun → State → State → Type 0
 takes_turn running turn after_run state after = TakesTurn state.processes running turn after.processes after_run

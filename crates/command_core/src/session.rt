@@ -6,7 +6,7 @@ ghost use Rattle.command_core.specs.State.{KeepsRest, SamePlaces, fresh};
 ghost use Rattle.command_core.specs.Changes.{CanBeTold, GivesChange, change_done, comes_to, drop_done, is_change, load_done};
 ghost use Rattle.command_core.specs.Commands.{RunsLoaded};
 ghost use Rattle.command_core.specs.Looks.{BeginsStep, LooksAt, NextProcess, looked_at};
-ghost use Rattle.command_core.specs.Standing.{AnswersAs, ChangesAs, GivesAs, HoldsFor, StandsFor, TurnsAs, begun_run, begun_step, ends_run, speaks, takes_turn};
+ghost use Rattle.command_core.specs.Standing.{SessionAnswersAs, ChangesAs, GivesAs, HoldsFor, SessionStandsFor, TurnsAs, begun_run, begun_step, ends_run, speaks, takes_turn};
 ghost use Rattle.std.specs.FinMap.{get};
 ghost use Rattle.command_core.specs.Turns.{EndsRun, GoesOn, Speaks, TakesTurn, begun_by, by_turns, ending, next_of, rest_of, run_found};
 
@@ -218,7 +218,7 @@ impl Session {
     pub fn new(alloc: Global, quantum: u32) -> Result<Session, AllocError>
         requires { 1 ≤ quantum }
         ensures session { IfOk result (λ session. session ≡ record { state = fresh; quantum = quantum }) }
-        ensures stands { IfOk result (λ session. StandsFor session fresh) }
+        ensures stands { IfOk result (λ session. SessionStandsFor session fresh) }
     {
         Ok(Session {
             alloc,
@@ -294,7 +294,7 @@ impl Session {
     /// Begins so many turns, at least 1, by round robin.
     pub fn begin_run(&self, turns: u32) -> Running
         ensures begun { result ≡ begun_run self.now.quantum turns self.now.state }
-        ensures stands { AnswersAs (begun_run self.now.quantum turns) self.now result }
+        ensures stands { SessionAnswersAs (begun_run self.now.quantum turns) self.now result }
     {
         self.begin(Order::ByTurns(RoundRobin::new(self.quantum)), turns)
     }
@@ -302,7 +302,7 @@ impl Session {
     /// Begins so many turns, at least 1, of one process. Refused where there is none, or where it has ended.
     pub fn begin_step(&self, p: u16, turns: u32) -> Result<Running, Code>
         ensures begun { BeginsStep self.now.state.processes p turns result }
-        ensures stands { AnswersAs (begun_step p turns) self.now result }
+        ensures stands { SessionAnswersAs (begun_step p turns) self.now result }
     {
         match self.machine.process(p) {
             None => Err(Code::NoProcess),
@@ -354,7 +354,7 @@ impl Session {
     /// A process, by its number; refused where there is none.
     pub fn look_process(&self, p: u16) -> Result<ProcessView, Code>
         ensures looks { LooksAt self.now.state.processes p result }
-        ensures stands { AnswersAs (λ state. looked_at (get state.processes p)) self.now result }
+        ensures stands { SessionAnswersAs (λ state. looked_at (get state.processes p)) self.now result }
     {
         match self.machine.process(p) {
             None => return Err(Code::NoProcess),
