@@ -8,62 +8,63 @@ ghost use Rattle.overlay_top.specs.Outside.{SinkBy, SinkRose, SinkSound};
 ghost use Rattle.overlay_top.specs.Running.{Cut, IsDoing, LeavesOn, SendsOn, Sent};
 
 use crate::running::Halt;
-use crate::sending::send;
+use crate::sending::Report;
 use command_core::{Running, Session};
 use ovl_io::{Failed, Sink};
-use report_text::{Answer, Line, answer_line, list_line, process_line, stop_line};
+use report_text::{Answer, answer_line, list_line, process_line, stop_line};
 use script_text::Command;
 
 /// Sends the line of an answer.
-fn send_answer<K: Sink>(answer: &Answer, sink: &mut K) -> Result<(), Failed>
+fn send_answer<K: Sink>(answer: &Answer, report: &mut Report<K>) -> Result<(), Failed>
     requires { HasAnswerLine answer.now }
-    ensures sent { Sent K.Sink sink.old (answer_text answer.now) sink.new result }
-    ensures cut { Cut K.Sink sink.old (answer_text answer.now) sink.new result }
-    ensures cause { OnErr result (SinkRose K.Sink sink.old sink.new) }
-    ensures no_fault { OnOk result (SinkSound K.Sink sink.old sink.new) }
+    ensures sent { Sent K.Sink report.old.sink.now (answer_text answer.now) report.new.sink.now result }
+    ensures cut { Cut K.Sink report.old.sink.now (answer_text answer.now) report.new.sink.now result }
+    ensures cause { OnErr result (SinkRose K.Sink report.old.sink.now report.new.sink.now) }
+    ensures no_fault { OnOk result (SinkSound K.Sink report.old.sink.now report.new.sink.now) }
+    ensures same { report.new.sink.ghost_name ≡ report.old.sink.ghost_name }
 {
-    let mut line = Line::new();
-    answer_line(answer, &mut line);
-    send(sink, line.as_slice())
+    answer_line(answer, &mut report.line);
+    report.send()
 }
 
 /// Takes the turns of a run, and sends each line as it arises, with the last one.
 fn take_turns<K: Sink>(
     session: &mut Session,
     running: &mut Running,
-    sink: &mut K,
+    report: &mut Report<K>,
 ) -> Result<(), Failed>
-    ensures sent { Sent K.Sink sink.old (takes_turns running.old.run session.old.state).text sink.new result }
-    ensures cut { Cut K.Sink sink.old (takes_turns running.old.run session.old.state).text sink.new result }
+    ensures sent { Sent K.Sink report.old.sink.now (takes_turns running.old.run session.old.state).text report.new.sink.now result }
+    ensures cut { Cut K.Sink report.old.sink.now (takes_turns running.old.run session.old.state).text report.new.sink.now result }
     ensures after { LeavesOn (takes_turns running.old.run session.old.state) session.new result }
     ensures quantum { session.new.quantum ≡ session.old.quantum }
-    ensures cause { OnErr result (SinkRose K.Sink sink.old sink.new) }
-    ensures no_fault { OnOk result (SinkSound K.Sink sink.old sink.new) }
+    ensures cause { OnErr result (SinkRose K.Sink report.old.sink.now report.new.sink.now) }
+    ensures no_fault { OnOk result (SinkSound K.Sink report.old.sink.now report.new.sink.now) }
+    ensures same { report.new.sink.ghost_name ≡ report.old.sink.ghost_name }
 {
-    let mut line = Line::new();
-    'turns: while session.turn_line(running, &mut line) {
-        send(sink, line.as_slice())?;
+    'turns: while session.turn_line(running, &mut report.line) {
+        report.send()?;
     }
     match running.stop() {
-        Some(stop) => stop_line(running.taken(), &stop, &mut line),
+        Some(stop) => stop_line(running.taken(), &stop, &mut report.line),
         None => unreachable!(),
     }
-    send(sink, line.as_slice())
+    report.send()
 }
 
 /// Makes a process of a file.
-fn load<K: Sink>(session: &mut Session, file: &[u8], sink: &mut K) -> Result<(), Halt>
-    ensures sends { SendsOn K.Sink sink.old (load_told file.now session.old.state).text sink.new result }
+fn load<K: Sink>(session: &mut Session, file: &[u8], report: &mut Report<K>) -> Result<(), Halt>
+    ensures sends { SendsOn K.Sink report.old.sink.now (load_told file.now session.old.state).text report.new.sink.now result }
     ensures after { LeavesOn (load_told file.now session.old.state) session.new result }
     ensures quantum { session.new.quantum ≡ session.old.quantum }
     ensures doing { IsDoing result }
-    ensures faults { SinkBy K.Sink sink.old sink.new result }
+    ensures faults { SinkBy K.Sink report.old.sink.now report.new.sink.now result }
+    ensures same { report.new.sink.ghost_name ≡ report.old.sink.ghost_name }
 {
     let answer = session.load(file);
     if let Answer::Memory = answer {
         return Err(Halt::Memory);
     }
-    match send_answer(&answer, sink) {
+    match send_answer(&answer, report) {
         Ok(()) => Ok(()),
         Err(_) => Err(Halt::SendFailed),
     }
@@ -74,21 +75,22 @@ fn turns_of_loaded<K: Sink>(
     session: &mut Session,
     answer: &Answer,
     turns: u32,
-    sink: &mut K,
+    report: &mut Report<K>,
 ) -> Result<(), Failed>
     requires { RunsLoaded answer.now session.old.state }
-    ensures sent { Sent K.Sink sink.old (exec_turns turns answer.now session.old.state).text sink.new result }
-    ensures cut { Cut K.Sink sink.old (exec_turns turns answer.now session.old.state).text sink.new result }
+    ensures sent { Sent K.Sink report.old.sink.now (exec_turns turns answer.now session.old.state).text report.new.sink.now result }
+    ensures cut { Cut K.Sink report.old.sink.now (exec_turns turns answer.now session.old.state).text report.new.sink.now result }
     ensures after { LeavesOn (exec_turns turns answer.now session.old.state) session.new result }
     ensures quantum { session.new.quantum ≡ session.old.quantum }
-    ensures cause { OnErr result (SinkRose K.Sink sink.old sink.new) }
-    ensures no_fault { OnOk result (SinkSound K.Sink sink.old sink.new) }
+    ensures cause { OnErr result (SinkRose K.Sink report.old.sink.now report.new.sink.now) }
+    ensures no_fault { OnOk result (SinkSound K.Sink report.old.sink.now report.new.sink.now) }
+    ensures same { report.new.sink.ghost_name ≡ report.old.sink.ghost_name }
 {
     match answer {
         Answer::Loaded(p, _, _) => match session.begin_step(*p, turns) {
             Ok(running) => {
                 let mut running = running;
-                take_turns(session, &mut running, sink)
+                take_turns(session, &mut running, report)
             }
             Err(_) => unreachable!(),
         },
@@ -106,91 +108,106 @@ fn tell_loaded<K: Sink>(
     session: &mut Session,
     answer: &Answer,
     turns: u32,
-    sink: &mut K,
+    report: &mut Report<K>,
 ) -> Result<(), Failed>
     requires told { HasAnswerLine answer.now }
     requires runs { RunsLoaded answer.now session.old.state }
-    ensures sent { Sent K.Sink sink.old (tells_exec turns answer.now session.old.state).text sink.new result }
-    ensures cut { Cut K.Sink sink.old (tells_exec turns answer.now session.old.state).text sink.new result }
+    ensures sent { Sent K.Sink report.old.sink.now (tells_exec turns answer.now session.old.state).text report.new.sink.now result }
+    ensures cut { Cut K.Sink report.old.sink.now (tells_exec turns answer.now session.old.state).text report.new.sink.now result }
     ensures after { LeavesOn (exec_turns turns answer.now session.old.state) session.new result }
     ensures quantum { session.new.quantum ≡ session.old.quantum }
-    ensures cause { OnErr result (SinkRose K.Sink sink.old sink.new) }
-    ensures no_fault { OnOk result (SinkSound K.Sink sink.old sink.new) }
+    ensures cause { OnErr result (SinkRose K.Sink report.old.sink.now report.new.sink.now) }
+    ensures no_fault { OnOk result (SinkSound K.Sink report.old.sink.now report.new.sink.now) }
+    ensures same { report.new.sink.ghost_name ≡ report.old.sink.ghost_name }
 {
-    match send_answer(answer, sink) {
-        Ok(()) => turns_of_loaded(session, answer, turns, sink),
+    match send_answer(answer, report) {
+        Ok(()) => turns_of_loaded(session, answer, turns, report),
         Err(failed) => Err(failed),
     }
 }
 
 /// Makes a process of a file, and gives it so many turns.
-fn exec<K: Sink>(session: &mut Session, file: &[u8], turns: u32, sink: &mut K) -> Result<(), Halt>
-    ensures sends { SendsOn K.Sink sink.old
-        (exec_done file.now turns session.old.state).text sink.new result }
+fn exec<K: Sink>(
+    session: &mut Session,
+    file: &[u8],
+    turns: u32,
+    report: &mut Report<K>,
+) -> Result<(), Halt>
+    ensures sends { SendsOn K.Sink report.old.sink.now
+        (exec_done file.now turns session.old.state).text report.new.sink.now result }
     ensures after { LeavesOn (exec_done file.now turns session.old.state) session.new result }
     ensures quantum { session.new.quantum ≡ session.old.quantum }
     ensures doing { IsDoing result }
-    ensures faults { SinkBy K.Sink sink.old sink.new result }
+    ensures faults { SinkBy K.Sink report.old.sink.now report.new.sink.now result }
+    ensures same { report.new.sink.ghost_name ≡ report.old.sink.ghost_name }
 {
     let answer = session.load(file);
     if let Answer::Memory = answer {
         return Err(Halt::Memory);
     }
-    match tell_loaded(session, &answer, turns, sink) {
+    match tell_loaded(session, &answer, turns, report) {
         Ok(()) => Ok(()),
         Err(_) => Err(Halt::SendFailed),
     }
 }
 
 /// Gives one process so many turns, where it is there and runs.
-fn step<K: Sink>(session: &mut Session, p: u16, turns: u32, sink: &mut K) -> Result<(), Failed>
-    ensures sent { Sent K.Sink sink.old (step_done p turns session.old.state).text sink.new result }
-    ensures cut { Cut K.Sink sink.old (step_done p turns session.old.state).text sink.new result }
+fn step<K: Sink>(
+    session: &mut Session,
+    p: u16,
+    turns: u32,
+    report: &mut Report<K>,
+) -> Result<(), Failed>
+    ensures sent { Sent K.Sink report.old.sink.now (step_done p turns session.old.state).text report.new.sink.now result }
+    ensures cut { Cut K.Sink report.old.sink.now (step_done p turns session.old.state).text report.new.sink.now result }
     ensures after { LeavesOn (step_done p turns session.old.state) session.new result }
     ensures quantum { session.new.quantum ≡ session.old.quantum }
-    ensures cause { OnErr result (SinkRose K.Sink sink.old sink.new) }
-    ensures no_fault { OnOk result (SinkSound K.Sink sink.old sink.new) }
+    ensures cause { OnErr result (SinkRose K.Sink report.old.sink.now report.new.sink.now) }
+    ensures no_fault { OnOk result (SinkSound K.Sink report.old.sink.now report.new.sink.now) }
+    ensures same { report.new.sink.ghost_name ≡ report.old.sink.ghost_name }
 {
     match session.begin_step(p, turns) {
         Ok(running) => {
             let mut running = running;
-            take_turns(session, &mut running, sink)
+            take_turns(session, &mut running, report)
         }
-        Err(code) => send_answer(&Answer::Refused(code), sink),
+        Err(code) => send_answer(&Answer::Refused(code), report),
     }
 }
 
 /// Gives processes so many turns, by round robin.
-fn run_all<K: Sink>(session: &mut Session, turns: u32, sink: &mut K) -> Result<(), Failed>
-    ensures sent { Sent K.Sink sink.old
-        (run_done session.old.quantum turns session.old.state).text sink.new result }
-    ensures cut { Cut K.Sink sink.old
-        (run_done session.old.quantum turns session.old.state).text sink.new result }
+fn run_all<K: Sink>(session: &mut Session, turns: u32, report: &mut Report<K>) -> Result<(), Failed>
+    ensures sent { Sent K.Sink report.old.sink.now
+        (run_done session.old.quantum turns session.old.state).text report.new.sink.now result }
+    ensures cut { Cut K.Sink report.old.sink.now
+        (run_done session.old.quantum turns session.old.state).text report.new.sink.now result }
     ensures after { LeavesOn (run_done session.old.quantum turns session.old.state) session.new result }
     ensures quantum { session.new.quantum ≡ session.old.quantum }
-    ensures cause { OnErr result (SinkRose K.Sink sink.old sink.new) }
-    ensures no_fault { OnOk result (SinkSound K.Sink sink.old sink.new) }
+    ensures cause { OnErr result (SinkRose K.Sink report.old.sink.now report.new.sink.now) }
+    ensures no_fault { OnOk result (SinkSound K.Sink report.old.sink.now report.new.sink.now) }
+    ensures same { report.new.sink.ghost_name ≡ report.old.sink.ghost_name }
 {
     let mut running = session.begin_run(turns);
-    take_turns(session, &mut running, sink)
+    take_turns(session, &mut running, report)
 }
 
 /// Gives up a process.
 fn drop_process<K: Sink>(
     session: &mut Session,
     command: &Command,
-    sink: &mut K,
+    report: &mut Report<K>,
 ) -> Result<(), Failed>
     requires { IsTrue (is_change command.now) }
-    ensures sent { Sent K.Sink sink.old (change_told command.now session.old.state).text sink.new result }
-    ensures cut { Cut K.Sink sink.old (change_told command.now session.old.state).text sink.new result }
+    ensures sent { Sent K.Sink report.old.sink.now (change_told command.now session.old.state).text report.new.sink.now result }
+    ensures cut { Cut K.Sink report.old.sink.now (change_told command.now session.old.state).text report.new.sink.now result }
     ensures after { LeavesOn (change_told command.now session.old.state) session.new result }
     ensures quantum { session.new.quantum ≡ session.old.quantum }
-    ensures cause { OnErr result (SinkRose K.Sink sink.old sink.new) }
-    ensures no_fault { OnOk result (SinkSound K.Sink sink.old sink.new) }
+    ensures cause { OnErr result (SinkRose K.Sink report.old.sink.now report.new.sink.now) }
+    ensures no_fault { OnOk result (SinkSound K.Sink report.old.sink.now report.new.sink.now) }
+    ensures same { report.new.sink.ghost_name ≡ report.old.sink.ghost_name }
 {
     let answer = session.change(command);
-    send_answer(&answer, sink)
+    send_answer(&answer, report)
 }
 
 /// How many processes there are.
@@ -207,36 +224,42 @@ fn count_processes(session: &Session) -> u32
 }
 
 /// Sends the lines of all processes, by number.
-fn list_processes<K: Sink>(session: &Session, sink: &mut K) -> Result<(), Failed>
-    ensures sent { Sent K.Sink sink.old (processes_text session.now.state) sink.new result }
-    ensures cut { Cut K.Sink sink.old (processes_text session.now.state) sink.new result }
-    ensures cause { OnErr result (SinkRose K.Sink sink.old sink.new) }
-    ensures no_fault { OnOk result (SinkSound K.Sink sink.old sink.new) }
+fn list_processes<K: Sink>(session: &Session, report: &mut Report<K>) -> Result<(), Failed>
+    ensures sent { Sent K.Sink report.old.sink.now (processes_text session.now.state) report.new.sink.now result }
+    ensures cut { Cut K.Sink report.old.sink.now (processes_text session.now.state) report.new.sink.now result }
+    ensures cause { OnErr result (SinkRose K.Sink report.old.sink.now report.new.sink.now) }
+    ensures no_fault { OnOk result (SinkSound K.Sink report.old.sink.now report.new.sink.now) }
+    ensures same { report.new.sink.ghost_name ≡ report.old.sink.ghost_name }
 {
-    let mut line = Line::new();
     let mut from = 0u16;
     'listing: while let Some(p) = session.next_process(from) {
         match session.look_process(p) {
-            Ok(view) => process_line(p, &view.state, view.speculating, view.pages, &mut line),
+            Ok(view) => process_line(
+                p,
+                &view.state,
+                view.speculating,
+                view.pages,
+                &mut report.line,
+            ),
             Err(_) => unreachable!(),
         }
-        send(sink, line.as_slice())?;
+        report.send()?;
         from = p + 1;
     }
     Ok(())
 }
 
 /// Lists the processes.
-fn list<K: Sink>(session: &Session, sink: &mut K) -> Result<(), Failed>
-    ensures sent { Sent K.Sink sink.old (list_text session.now.state) sink.new result }
-    ensures cut { Cut K.Sink sink.old (list_text session.now.state) sink.new result }
-    ensures cause { OnErr result (SinkRose K.Sink sink.old sink.new) }
-    ensures no_fault { OnOk result (SinkSound K.Sink sink.old sink.new) }
+fn list<K: Sink>(session: &Session, report: &mut Report<K>) -> Result<(), Failed>
+    ensures sent { Sent K.Sink report.old.sink.now (list_text session.now.state) report.new.sink.now result }
+    ensures cut { Cut K.Sink report.old.sink.now (list_text session.now.state) report.new.sink.now result }
+    ensures cause { OnErr result (SinkRose K.Sink report.old.sink.now report.new.sink.now) }
+    ensures no_fault { OnOk result (SinkSound K.Sink report.old.sink.now report.new.sink.now) }
+    ensures same { report.new.sink.ghost_name ≡ report.old.sink.ghost_name }
 {
-    let mut line = Line::new();
-    list_line(count_processes(session), 0, &mut line);
-    send(sink, line.as_slice())?;
-    list_processes(session, sink)
+    list_line(count_processes(session), 0, &mut report.line);
+    report.send()?;
+    list_processes(session, report)
 }
 
 /// Does one command, with the file that it asks for.
@@ -244,23 +267,24 @@ pub(crate) fn do_command<K: Sink>(
     session: &mut Session,
     command: &Command,
     file: &[u8],
-    sink: &mut K,
+    report: &mut Report<K>,
 ) -> Result<(), Halt>
     requires { IsGiven command.now }
-    ensures sends { SendsOn K.Sink sink.old
-        (performed_in session.old file.now command.now).text sink.new result }
+    ensures sends { SendsOn K.Sink report.old.sink.now
+        (performed_in session.old file.now command.now).text report.new.sink.now result }
     ensures after { LeavesOn (performed_in session.old file.now command.now) session.new result }
     ensures quantum { session.new.quantum ≡ session.old.quantum }
     ensures doing { IsDoing result }
-    ensures faults { SinkBy K.Sink sink.old sink.new result }
+    ensures faults { SinkBy K.Sink report.old.sink.now report.new.sink.now result }
+    ensures same { report.new.sink.ghost_name ≡ report.old.sink.ghost_name }
 {
     let sent = match command {
-        Command::Exec(_, turns) => return exec(session, file, *turns, sink),
-        Command::Load(_) => return load(session, file, sink),
-        Command::Run(turns) => run_all(session, *turns, sink),
-        Command::Step(p, turns) => step(session, *p, *turns, sink),
-        Command::Drop(_) => drop_process(session, command, sink),
-        Command::List => list(session, sink),
+        Command::Exec(_, turns) => return exec(session, file, *turns, report),
+        Command::Load(_) => return load(session, file, report),
+        Command::Run(turns) => run_all(session, *turns, report),
+        Command::Step(p, turns) => step(session, *p, *turns, report),
+        Command::Drop(_) => drop_process(session, command, report),
+        Command::List => list(session, report),
         _ => unreachable!(),
     };
     match sent {

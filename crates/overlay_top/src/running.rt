@@ -10,6 +10,7 @@ ghost use Rattle.overlay_top.specs.Outside.{FetchedFor, ShelfBy, SinkBy};
 ghost use Rattle.overlay_top.specs.Running.{AsksInOrder, FailedFor, FetchesFor, GivesAll, GivesFile, LeavesOn, RunEnds, SendsOn, WasGiven};
 
 use crate::commands::do_command;
+use crate::sending::Report;
 use command_core::Session;
 use ovl_io::{Bytes, Failed, Shelf, ShelfError, Sink};
 use script_text::Command;
@@ -105,24 +106,25 @@ fn perform<H: Shelf, K: Sink>(
     session: &mut Session,
     command: &Command,
     shelf: &mut H,
-    sink: &mut K,
+    report: &mut Report<K>,
 ) -> Result<(), Halt>
     requires given { IsGiven command.now }
     requires quantum { session.old.quantum ≡ QUANTUM }
     ensures given { H.tells → WasGiven (file_asked (H.files shelf.old) command.now) result }
-    ensures sends { H.tells → SendsOn K.Sink sink.old
-        (command_done (H.files shelf.old) command.now session.old.state).text sink.new result }
+    ensures sends { H.tells → SendsOn K.Sink report.old.sink.now
+        (command_done (H.files shelf.old) command.now session.old.state).text report.new.sink.now result }
     ensures after { H.tells →
         LeavesOn (command_done (H.files shelf.old) command.now session.old.state) session.new result }
     ensures quantum { session.new.quantum ≡ QUANTUM }
     ensures shelf { ShelfBy H.Shelf shelf.old shelf.new result }
-    ensures sink { SinkBy K.Sink sink.old sink.new result }
+    ensures sink { SinkBy K.Sink report.old.sink.now report.new.sink.now result }
+    ensures same { report.new.sink.ghost_name ≡ report.old.sink.ghost_name }
     ensures failed { FailedFor H.Shelf shelf.new (asks command.now) result }
     ensures kept { H.tells → (other : List ℕ) → H.files shelf.new other ≡ H.files shelf.old other }
     ensures fetched { AsksFor H.fetched (named (asks command.now ∷ [])) shelf.old shelf.new }
 {
     let file = fetch_for(alloc, command, shelf)?;
-    do_command(session, command, file.as_slice(), sink)
+    do_command(session, command, file.as_slice(), report)
 }
 
 /// Does the commands in order, from a state without a process. Each line is sent as it arises.
@@ -130,19 +132,20 @@ pub(crate) fn run<H: Shelf, K: Sink>(
     alloc: Global,
     commands: &[Command],
     shelf: &mut H,
-    sink: &mut K,
+    report: &mut Report<K>,
 ) -> Result<(), Halt>
     requires { All IsGiven commands.now }
     ensures ends { H.tells →
         RunEnds H.Shelf K.Sink (run_from commands.now fresh (H.files shelf.old)) (map asks commands.now)
-        shelf.old shelf.new sink.old sink.new result }
+        shelf.old shelf.new report.old.sink.now report.new.sink.now result }
     ensures asked { AsksInOrder H.Shelf (map asks commands.now) shelf.old shelf.new }
     ensures shelf { ShelfBy H.Shelf shelf.old shelf.new result }
-    ensures sink { SinkBy K.Sink sink.old sink.new result }
+    ensures sink { SinkBy K.Sink report.old.sink.now report.new.sink.now result }
+    ensures same { report.new.sink.ghost_name ≡ report.old.sink.ghost_name }
 {
     let mut session = Session::new(alloc, QUANTUM)?;
     'running: for command in commands {
-        perform(alloc, &mut session, command, shelf, sink)?;
+        perform(alloc, &mut session, command, shelf, report)?;
     }
     Ok(())
 }

@@ -7,7 +7,7 @@ ghost use Rattle.overlay_top.specs.Ends.{Ends, EndsWith, IsCompleteWith, NoFault
 
 use crate::reading::{ReadError, read_script};
 use crate::running::{Halt, run};
-use crate::sending::send;
+use crate::sending::Report;
 use crate::status::Status;
 use ovl_io::{Shelf, Sink, Source};
 use report_text::{Line, bad_line};
@@ -28,16 +28,16 @@ fn status_of(halt: Halt) -> Status
 }
 
 /// Reports why a script has no commands.
-fn refuse<K: Sink>(error: ScriptError, sink: &mut K) -> Status
-    ensures { Refuses K.Sink error sink.old sink.new result }
+fn refuse<K: Sink>(error: ScriptError, report: &mut Report<K>) -> Status
+    ensures refuses { Refuses K.Sink error report.old.sink.now report.new.sink.now result }
+    ensures same { report.new.sink.ghost_name ≡ report.old.sink.ghost_name }
 {
     let k = match error {
         ScriptError::Line(k) => k,
         ScriptError::Memory => return Status::NoMemory,
     };
-    let mut line = Line::new();
-    bad_line(k, &mut line);
-    match send(sink, line.as_slice()) {
+    bad_line(k, &mut report.line);
+    match report.send() {
         Ok(()) => Status::BadLine,
         Err(_) => Status::WriteFailed,
     }
@@ -76,11 +76,15 @@ fn run_script<S: Source, H: Shelf, K: Sink>(
     if line_count(bytes) > MOST_SCRIPT_LINES {
         return Status::TooLong;
     }
+    let mut report = Report {
+        sink,
+        line: Line::new(),
+    };
     let commands = match parse(alloc, bytes) {
         Ok(commands) => commands,
-        Err(error) => return refuse(error, sink),
+        Err(error) => return refuse(error, &mut report),
     };
-    match run(alloc, commands.as_slice(), shelf, sink) {
+    match run(alloc, commands.as_slice(), shelf, &mut report) {
         Ok(()) => Status::Done,
         Err(halt) => status_of(halt),
     }

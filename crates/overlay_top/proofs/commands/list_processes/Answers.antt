@@ -9,12 +9,13 @@ use Rattle.overlay_top.proofs.commands.list_processes.Goals as goal
 
 pub listing-init : goal.listing-init
 listing-init g c = record {
+  same = refl;
   sound = refl;
   low = omega arith;
   text = λ tells.
-      subst (λ left. IsDone (g.K.Sink.taken c.args.sink.now) (g.K.Sink.taken c.args.sink.now) left (flat_map process_text (entries c.args.session.now.state.processes)))
+      subst (λ left. IsDone (g.K.Sink.taken c.args.report.now.sink.now) (g.K.Sink.taken c.args.report.now.sink.now) left (flat_map process_text (entries c.args.session.now.state.processes)))
       (ap (flat_map process_text) (sym (from_first c.args.session.now.state.processes)))
-      (none_done (g.K.Sink.taken c.args.sink.now) (flat_map process_text (entries c.args.session.now.state.processes)));
+      (none_done (g.K.Sink.taken c.args.report.now.sink.now) (flat_map process_text (entries c.args.session.now.state.processes)));
 }
 
 pub listing-preserved : goal.listing-preserved
@@ -24,12 +25,13 @@ listing-preserved g c =
     let next = c.in-Some.ensures.next in
     let line = line_is ps p next.0 c.in-Ok.view c.process_line.new.out.items next.1 c.in-Ok.ensures.looks c.process_line.ensures in
     record {
+      same = c.in_ok-send.ensures.same ∙ c.listing.invariant.same;
       sound = c.in_ok-send.ensures.no_fault ∙ c.listing.invariant.sound;
       low = omega (arith, c.in-Some.ensures.within.1);
       text = λ tells.
-          more_done (g.K.Sink.taken c.args.sink.now) (g.K.Sink.taken c.listing.sink) (g.K.Sink.taken c.send.new.sink)
-          (flat_map process_text (from_number c.listing.from ps)) c.as_slice.result.now (flat_map process_text (from_number (p + 1) ps)) _
-          (lines_next ps c.listing.from p next ∙ ap (λ bs. bs ++ flat_map process_text (from_number (p + 1) ps)) (sym (c.as_slice.ensures.value ∙ line)))
+          more_done (g.K.Sink.taken c.args.report.now.sink.now) (g.K.Sink.taken c.listing.report.sink.now) (g.K.Sink.taken c.send.new.self.sink.now)
+          (flat_map process_text (from_number c.listing.from ps)) c.process_line.new.out.items (flat_map process_text (from_number (p + 1) ps)) _
+          (lines_next ps c.listing.from p next ∙ ap (λ bs. bs ++ flat_map process_text (from_number (p + 1) ps)) (sym line))
           (c.in_ok-send.ensures.sent tells) (c.listing.invariant.text tells);
     }
 
@@ -40,7 +42,7 @@ returns-in_err-send-clause-cut g c tells =
     let next = c.in-Some.ensures.next in
     let line = line_is ps p next.0 c.in-Ok.view c.process_line.new.out.items next.1 c.in-Ok.ensures.looks c.process_line.ensures in
     at_err c.from_residual.result
-    (cut_done (g.K.Sink.taken c.args.sink.now) (g.K.Sink.taken c.listing.sink) (g.K.Sink.taken c.send.new.sink)
-    (flat_map process_text (from_number c.listing.from ps)) c.as_slice.result.now (flat_map process_text (from_number (p + 1) ps)) _
-    (lines_next ps c.listing.from p next ∙ ap (λ bs. bs ++ flat_map process_text (from_number (p + 1) ps)) (sym (c.as_slice.ensures.value ∙ line)))
+    (cut_done (g.K.Sink.taken c.args.report.now.sink.now) (g.K.Sink.taken c.listing.report.sink.now) (g.K.Sink.taken c.send.new.self.sink.now)
+    (flat_map process_text (from_number c.listing.from ps)) c.process_line.new.out.items (flat_map process_text (from_number (p + 1) ps)) _
+    (lines_next ps c.listing.from p next ∙ ap (λ bs. bs ++ flat_map process_text (from_number (p + 1) ps)) (sym line))
     (c.in_err-send.ensures.cut tells) (c.listing.invariant.text tells))

@@ -10,9 +10,10 @@ use Rattle.overlay_top.proofs.commands.list_processes.Given as goal
 -- what was sent, and the lines of those from the number on, are the lines of all
 abbrev pub invariant-listing : goal.invariant-listing
 invariant-listing g l = record {
-  sound : g.K.Sink.faults l.sink ≡ g.K.Sink.faults l.fn.sink;
+  same : l.report.sink.ghost_name ≡ l.fn.report.sink.ghost_name;
+  sound : g.K.Sink.faults l.report.sink.now ≡ g.K.Sink.faults l.fn.report.sink.now;
   low : l.from ≤ LAST_SPACE + 1;
-  text : g.K.Sink.tells → IsDone (g.K.Sink.taken l.fn.sink) (g.K.Sink.taken l.sink) (flat_map process_text (from_number l.from l.session.state.processes))
+  text : g.K.Sink.tells → IsDone (g.K.Sink.taken l.fn.report.sink.now) (g.K.Sink.taken l.report.sink.now) (flat_map process_text (from_number l.from l.session.state.processes))
       (flat_map process_text (entries l.session.state.processes));
 }
 

@@ -6,11 +6,12 @@ use Rattle.overlay_top.proofs.commands.take_turns.Given as goal
 -- what was sent, and what the turns that are left say, is what all say
 abbrev pub invariant-turns : goal.invariant-turns
 invariant-turns g l = record {
-  sound : g.K.Sink.faults l.sink ≡ g.K.Sink.faults l.fn.sink;
+  same : l.report.sink.ghost_name ≡ l.fn.report.sink.ghost_name;
+  sound : g.K.Sink.faults l.report.sink.now ≡ g.K.Sink.faults l.fn.report.sink.now;
   drawn : l.session.state.drawn ≡ l.fn.session.state.drawn;
   quantum : l.session.quantum ≡ l.fn.session.quantum;
   after : (ran_from l.fn.session.state.processes l.fn.running.run).after ≡ (ran_from l.session.state.processes l.running.run).after;
-  text : g.K.Sink.tells → IsDone (g.K.Sink.taken l.fn.sink) (g.K.Sink.taken l.sink) (ran_text (ran_from l.session.state.processes l.running.run))
+  text : g.K.Sink.tells → IsDone (g.K.Sink.taken l.fn.report.sink.now) (g.K.Sink.taken l.report.sink.now) (ran_text (ran_from l.session.state.processes l.running.run))
       (ran_text (ran_from l.fn.session.state.processes l.fn.running.run));
 }
 

@@ -9,11 +9,12 @@ use Rattle.overlay_top.proofs.running.run.Given as goal
 -- the commands so far are done, and reported where the sink tells its bytes
 abbrev pub invariant-running : goal.invariant-running
 invariant-running g l = record {
+  same : l.report.sink.ghost_name ≡ l.fn.report.sink.ghost_name;
   quantum : l.session.quantum ≡ QUANTUM;
   shelf : g.H.Shelf.faults l.shelf ≡ g.H.Shelf.faults l.fn.shelf;
-  sink : g.K.Sink.faults l.sink ≡ g.K.Sink.faults l.fn.sink;
+  sink : g.K.Sink.faults l.report.sink.now ≡ g.K.Sink.faults l.fn.report.sink.now;
   kept : g.H.Shelf.tells → (other : List ℕ) → g.H.Shelf.files l.shelf other ≡ g.H.Shelf.files l.fn.shelf other;
   asked : AsksFor g.H.Shelf.fetched (named (take l.command-index (map asks l.commands))) l.fn.shelf l.shelf;
   runs : g.H.Shelf.tells →
-      HasRun l.commands l.command-index (g.H.Shelf.files l.fn.shelf) l.session.state g.K.Sink.tells (g.K.Sink.taken l.fn.sink) (g.K.Sink.taken l.sink);
+      HasRun l.commands l.command-index (g.H.Shelf.files l.fn.shelf) l.session.state g.K.Sink.tells (g.K.Sink.taken l.fn.report.sink.now) (g.K.Sink.taken l.report.sink.now);
 }

@@ -4,9 +4,9 @@ use Rattle.sizes.specs.declared.TheConstants.{MOST_SCRIPT_BYTES, MOST_SCRIPT_LIN
 use Rattle.overlay_top.specs.declared.status.Status.TheVariants.{TooLong, Done}
 use Rattle.command_core.specs.State.{fresh}
 use Rattle.command_core.specs.Commands.{asks}
-use Rattle.overlay_top.specs.Outcome.{ended, run_from, names_said, said_outcome}
+use Rattle.overlay_top.specs.Outcome.{ended, run_from, names_asked, names_said, said, said_outcome}
 use Rattle.overlay_top.specs.Reading.{IsUnread}
-use Rattle.overlay_top.specs.Ends.{Ends}
+use Rattle.overlay_top.specs.Ends.{Ends, SaysAt, world_of}
 use Rattle.overlay_top.specs.Ends.Ends.{SourceFailed, Whole}
 use Rattle.overlay_top.proofs.Calls.{commands_ended, commands_halted, ends_as, long_left, nothing, no_memory, read_it, read_long, read_none, refused, refused_says, said_long, said_many, said_small, taken_whole}
 use Rattle.overlay_top.proofs.top.run_script.Goals as goal
@@ -51,8 +51,12 @@ returns-in-Err-clause-ends g c s h =
     let is = c.as_slice-bytes.ensures.value ∙ (c.in-Ok.ensures.read s).0 in
     let small : length bytes ≤ MOST_SCRIPT_BYTES = omega (arith, c.as_slice-bytes.ensures.len, c.in-Ok.ensures.small) in
     let few : c.line_count.result ≤ MOST_SCRIPT_LINES = omega (arith, c.if-line_count-gt-MOST_SCRIPT_LINES.false) in
+    let left = g.S.Source.left c.args.script.now in
+    let files = g.H.Shelf.files c.args.shelf.now in
+    subst (λ sink. Ends g.S.Source g.H.Shelf g.K.Sink (said_outcome (said left) files) (names_asked left) (world_of c.args.script.now c.args.shelf.now c.args.sink.now)
+    (world_of c.read_script.new.source c.args.shelf.now sink) c.refuse.result) (sym (c.sink-1.given.1 (sym c.refuse.ensures.same))) (
     refused g.S.Source g.H.Shelf g.K.Sink c.in-Err.error bytes c.line_count.result (g.H.Shelf.files c.args.shelf.now) c.args.script.now c.read_script.new.source c.args.shelf.now
-    c.args.sink.now c.refuse.new.sink c.refuse.result (c.in-Ok.ensures.no_fault (read_it c.in-Ok.bytes)) (c.in-Ok.ensures.read s).1 is small c.line_count.ensures few c.in-Err.ensures.parses c.refuse.ensures
+    c.args.sink.now c.refuse.new.report.sink.now c.refuse.result (c.in-Ok.ensures.no_fault (read_it c.in-Ok.bytes)) (c.in-Ok.ensures.read s).1 is small c.line_count.ensures few c.in-Err.ensures.parses c.refuse.ensures.refuses)
 
 pub returns-in-Err-clause-says : goal.returns-in-Err-clause-says
 returns-in-Err-clause-says g c s =
@@ -60,8 +64,9 @@ returns-in-Err-clause-says g c s =
     let is = c.as_slice-bytes.ensures.value ∙ (c.in-Ok.ensures.read s).0 in
     let small : length bytes ≤ MOST_SCRIPT_BYTES = omega (arith, c.as_slice-bytes.ensures.len, c.in-Ok.ensures.small) in
     let few : c.line_count.result ≤ MOST_SCRIPT_LINES = omega (arith, c.if-line_count-gt-MOST_SCRIPT_LINES.false) in
-    refused_says g.K.Sink c.in-Err.error (g.S.Source.left c.args.script.now) bytes c.line_count.result c.args.sink.now c.refuse.new.sink c.refuse.result is small c.line_count.ensures few c.in-Err.ensures.parses
-    c.refuse.ensures
+    subst (λ sink. SaysAt g.K.Sink (g.S.Source.left c.args.script.now) c.args.sink.now sink c.refuse.result) (sym (c.sink-1.given.1 (sym c.refuse.ensures.same))) (
+    refused_says g.K.Sink c.in-Err.error (g.S.Source.left c.args.script.now) bytes c.line_count.result c.args.sink.now c.refuse.new.report.sink.now c.refuse.result is small c.line_count.ensures few c.in-Err.ensures.parses
+    c.refuse.ensures.refuses)
 
 pub returns-in-Ok-run-clause-ends : goal.returns-in-Ok-run-clause-ends
 returns-in-Ok-run-clause-ends g c s h =
@@ -74,10 +79,13 @@ returns-in-Ok-run-clause-ends g c s h =
     let few : c.line_count.result ≤ MOST_SCRIPT_LINES = omega (arith, c.if-line_count-gt-MOST_SCRIPT_LINES.false) in
     let says = said_small left bytes c.line_count.result (Ok commands) is small c.line_count.ensures few (c.in-Ok-parse.ensures.parses ∙ ap Ok (sym c.as_slice.ensures.value)) in
     let none = (c.in-Ok.ensures.read s).1 in
+    let sink_is = c.sink-2-1.given.1 (sym c.in-Ok-run.ensures.same) in
+    subst (λ sink. Ends g.S.Source g.H.Shelf g.K.Sink (said_outcome (said left) files) (names_asked left) (world_of c.args.script.now c.args.shelf.now c.args.sink.now)
+    (world_of c.read_script.new.source c.run.new.shelf sink) Done) (sym sink_is) (
     ends_as g.S.Source g.H.Shelf g.K.Sink _ (run_from commands fresh files) _ (map asks commands) _ _ Done
     (ap (λ says. said_outcome says files) says) (ap names_said says)
     (commands_ended g.S.Source g.H.Shelf g.K.Sink _ _ _ _ (c.in-Ok.ensures.no_fault (read_it c.in-Ok.bytes)) (taken_whole left bytes _ is small none) c.in-Ok-run.ensures.shelf c.in-Ok-run.ensures.sink
-    (c.in-Ok-run.ensures.ends h))
+    (c.in-Ok-run.ensures.ends h)))
 
 pub returns-clause-ends : goal.returns-clause-ends
 returns-clause-ends g c s h =
@@ -92,5 +100,8 @@ returns-clause-ends g c s h =
     let none = (c.in-Ok.ensures.read s).1 in
     let ends = commands_halted g.S.Source g.H.Shelf g.K.Sink c.in-Err-run.halt _ _ _ _ (c.in-Ok.ensures.no_fault (read_it c.in-Ok.bytes)) (taken_whole left bytes _ is small none) none
     c.in-Err-run.ensures.shelf c.in-Err-run.ensures.sink (c.in-Err-run.ensures.ends h) in
+    let sink_is = c.sink-2-1.given.1 (sym c.in-Err-run.ensures.same) in
+    subst (λ sink. Ends g.S.Source g.H.Shelf g.K.Sink (said_outcome (said left) files) (names_asked left) (world_of c.args.script.now c.args.shelf.now c.args.sink.now)
+    (world_of c.read_script.new.source c.run.new.shelf sink) c.status_of.result) (sym sink_is) (
     ends_as g.S.Source g.H.Shelf g.K.Sink _ (run_from commands fresh files) _ (map asks commands) _ _ c.status_of.result
-    (ap (λ says. said_outcome says files) says) (ap names_said says) (subst (Ends _ _ _ _ _ _ _) (sym c.status_of.ensures) ends)
+    (ap (λ says. said_outcome says files) says) (ap names_said says) (subst (Ends _ _ _ _ _ _ _) (sym c.status_of.ensures) ends))
