@@ -1,4 +1,4 @@
-use Rattle.std.specs.Prelude.{◌≡◌, ℕ, zero, suc, ◌+◌, ◌-◌, ◌<◌, ◌≤◌, Bool, true, false, cond, not, ◌&&◌, ◌||◌, nat_eq, nat_lt, IsTrue, List, [], ◌∷◌, ◌++◌, length, filter, Option, Some, None}
+use Rattle.std.specs.Prelude.{◌≡◌, ℕ, zero, suc, ◌+◌, ◌-◌, ◌<◌, ◌≤◌, Bool, false, cond, not, ◌||◌, nat_eq, nat_lt, IsTrue, List, [], ◌∷◌, ◌++◌, length, filter, Option, Some, None}
 use Rattle.std.specs.List.{range_with_len}
 use Rattle.sizes.specs.declared.TheConstants.{PAGE_LINES}
 
@@ -18,14 +18,14 @@ abbrev pub has_line : List ℕ → ℕ → Bool
 has_line [] line = false
 has_line (x ∷ xs) line = nat_eq x line || has_line xs line
 
--- numbers that rise strictly, the first not below one
-abbrev pub Rise : ℕ → List ℕ → Type 0
-Rise from [] = Unit {0}
-Rise from (x ∷ xs) = (from ≤ x) × Rise (x + 1) xs
+-- numbers that rise strictly, from one on and below another one
+abbrev pub Rise : ℕ → List ℕ → ℕ → Type 0
+Rise from [] end = from ≤ end
+Rise from (x ∷ xs) end = (from ≤ x) × Rise (x + 1) xs end
 
 -- what is true of every set: its members rise strictly, and are lines of a page
 pub record AreLines (lines : List ℕ) : Type 0 where
-  pub rise : Rise 0 lines
+  pub rise : Rise 0 lines PAGE_LINES
   pub few : length lines ≤ PAGE_LINES
   pub inside : (line : ℕ) → IsTrue (has_line lines line) → line < PAGE_LINES
 

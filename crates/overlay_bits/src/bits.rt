@@ -129,6 +129,7 @@ impl Bits {
         ensures lines { result ≡ self }
         ensures are { AreLines self }
     {
+        let _ = &self.word;
         BitsIter { rest: self }
     }
 

@@ -1,5 +1,4 @@
 ghost use Rattle.std.specs.Prelude.{◌≡◌};
-ghost use Rattle.overlay_bits.specs.Lines.{AreLines};
 ghost use Rattle.overlay_bits.specs.Composed.{composed};
 
 use crate::bits::Bits;
@@ -7,8 +6,7 @@ use crate::bits::Bits;
 /// Composes a page: each line that is a member of the set is that of `over`, and any other one that of `frame`.
 /// Copies each line once.
 pub fn compose(frame: &[[u8; 64]; 64], over: &[[u8; 64]; 64], bits: Bits, out: &mut [[u8; 64]; 64])
-    ensures lines { out.new ≡ composed frame.now over.now bits }
-    ensures are { AreLines bits }
+    ensures { out.new ≡ composed frame.now over.now bits }
 {
     'composing: for line in 0..64u8 {
         let at = line as usize;
