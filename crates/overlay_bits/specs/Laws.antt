@@ -317,26 +317,68 @@ pub rise_front : (from : ℕ) (front : List ℕ) (line : ℕ) (rest : List ℕ) 
 rise_front from [] line rest end h = h
 rise_front from (x ∷ xs) line rest end h = let r = rise_front (x + 1) xs line rest end h.1 in ((h.0, r.0), r.1)
 
+all_before : (from : ℕ) (xs : List ℕ) (line : ℕ) → Rise from xs line → lines_before xs line ≡ xs
+all_before from [] line h = refl
+all_before from (x ∷ xs) line h =
+    let rest = all_before (x + 1) xs line h.1 in
+    λ i. cond (lt-ltb x line (omega (arith, rise_bounds (x + 1) xs line h.1)) i) (x ∷ rest i) (rest i)
+
+none_behind : (from : ℕ) (xs : List ℕ) (line : ℕ) → Rise from xs line → lines_behind xs line ≡ []
+none_behind from [] line h = refl
+none_behind from (x ∷ xs) line h =
+    let rest = none_behind (x + 1) xs line h.1 in
+    λ i. cond (le-ltb line x (omega (arith, rise_bounds (x + 1) xs line h.1)) i) (x ∷ rest i) (rest i)
+
+none_before : (from : ℕ) (xs : List ℕ) (end line : ℕ) → line ≤ from → Rise from xs end → lines_before xs line ≡ []
+none_before from [] end line le h = refl
+none_before from (x ∷ xs) end line le h =
+    let rest = none_before (x + 1) xs end line (omega (arith, le, h.0)) h.1 in
+    λ i. cond (le-ltb x line (omega (arith, le, h.0)) i) (x ∷ rest i) (rest i)
+
 -- so its rank is its place
-pub rank_of_next : (front : List ℕ) (line : ℕ) (rest : List ℕ) → AreLines (front ++ line ∷ rest) → lines_before (front ++ line ∷ rest) line ≡ front
-rank_of_next front line rest are =
+pub before_next : (front : List ℕ) (line : ℕ) (rest : List ℕ) → AreLines (front ++ line ∷ rest) → lines_before (front ++ line ∷ rest) line ≡ front
+before_next front line rest are =
     let parts = rise_front 0 front line rest PAGE_LINES are.rise in
+    let here = all_before 0 front line parts.0 in
+    let behind = none_before (line + 1) rest PAGE_LINES line (omega arith) parts.1 in
     filter-append (λ x. nat_lt x line) front (line ∷ rest)
-    ∙ (λ i. kept 0 front parts.0 i ++ cond (le-ltb line line (omega arith) i) (line ∷ dropped (line + 1) rest (omega arith) parts.1 i) (dropped (line + 1) rest (omega arith) parts.1 i))
-    ∙ append-nil front
+    ∙ (λ i. here i ++ cond (le-ltb line line (omega arith) i) (line ∷ behind i) (behind i)) ∙ append-nil front
+
+pub rank_of_next : (front : List ℕ) (line : ℕ) (rest : List ℕ) → AreLines (front ++ line ∷ rest) → rank_of (front ++ line ∷ rest) line ≡ length front
+rank_of_next front line rest are = ap length (before_next front line rest are)
+
+-- it is a member, and a line
+pub has_next : (front : List ℕ) (line : ℕ) (rest : List ℕ) → has_line (front ++ line ∷ rest) line ≡ true
+has_next front line rest = has_append front (line ∷ rest) line ∙ (λ i. has_line front line || (eq-eqb line line refl i || has_line rest line)) ∙ at (has_line front line)
   where
-    kept : (from : ℕ) (xs : List ℕ) → Rise from xs line → filter (λ x. nat_lt x line) xs ≡ xs
-    kept from [] h = refl
-    kept from (x ∷ xs) h =
-        (λ i. cond (lt-ltb x line (omega (arith, rise_bounds (x + 1) xs line h.1)) i) (x ∷ kept (x + 1) xs h.1 i) (kept (x + 1) xs h.1 i))
+    at : (b : Bool) → (b || true) ≡ true
+    at true = refl
+    at false = refl
 
-    dropped : (from : ℕ) (xs : List ℕ) → line ≤ from → Rise from xs PAGE_LINES → filter (λ x. nat_lt x line) xs ≡ []
-    dropped from [] le h = refl
-    dropped from (x ∷ xs) le h =
-        let rest = dropped (x + 1) xs (omega (arith, le, h.0)) h.1 in
-        λ i. cond (le-ltb x line (omega (arith, le, h.0)) i) (x ∷ rest i) (rest i)
+pub next_inside : (front : List ℕ) (line : ℕ) (rest : List ℕ) → AreLines (front ++ line ∷ rest) → line < PAGE_LINES
+next_inside front line rest are = are.inside line (has_next front line rest)
 
--- As many lines are in one of two sets as in the first, and in the second alone.
+-- those in front of it are a set, which lacks it, and to which it is added at the end
+rise_prefix : (from : ℕ) (xs ys : List ℕ) (end : ℕ) → Rise from (xs ++ ys) end → Rise from xs end
+rise_prefix from [] ys end h = omega (arith, rise_bounds from ys end h)
+rise_prefix from (x ∷ xs) ys end h = (h.0, rise_prefix (x + 1) xs ys end h.1)
+
+pub are_front : (front rest : List ℕ) → AreLines (front ++ rest) → AreLines front
+are_front front rest are = are_rise front (rise_prefix 0 front rest PAGE_LINES are.rise)
+
+pub front_lacks : (front : List ℕ) (line : ℕ) (rest : List ℕ) → AreLines (front ++ line ∷ rest) → has_line front line ≡ false
+front_lacks front line rest are = at (has_line front line) refl
+  where
+    at : (b : Bool) → has_line front line ≡ b → b ≡ false
+    at true is = absurd (omega (arith, rise_inside 0 front line line (rise_front 0 front line rest PAGE_LINES are.rise).0 is))
+    at false is = refl
+
+pub with_next : (front : List ℕ) (line : ℕ) (rest : List ℕ) → AreLines (front ++ line ∷ rest) → with_line front line ≡ front ++ line ∷ []
+with_next front line rest are =
+    let h = (rise_front 0 front line rest PAGE_LINES are.rise).0 in
+    λ i. all_before 0 front line h i ++ line ∷ none_behind 0 front line h i
+
+-- Nothing more than a set.
 
 pub with_lines_none : (lines : List ℕ) → AreLines lines → with_lines lines [] ≡ lines
 with_lines_none lines are =

@@ -88,7 +88,7 @@ impl Bits {
     /// The lines that are members of one of two sets. Costs an instruction.
     pub fn union(self, other: Bits) -> Bits
         ensures lines { result ≡ with_lines self other }
-        ensures before { AreLines self }
+        ensures before { AreLines self × AreLines other }
         ensures are { AreLines result }
     {
         Bits {

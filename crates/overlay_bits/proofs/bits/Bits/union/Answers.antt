@@ -10,7 +10,7 @@ pub returns-clause-lines : goal.returns-clause-lines
 returns-clause-lines c = kept_union c.self.inside.word c.other.inside.word c.args.self c.args.other c.self.view_is c.other.view_is
 
 pub returns-clause-before : goal.returns-clause-before
-returns-clause-before c = are_kept c.self.inside.word c.args.self c.self.view_is
+returns-clause-before c = (are_kept c.self.inside.word c.args.self c.self.view_is, are_kept c.other.inside.word c.args.other c.other.view_is)
 
 pub returns-clause-are : goal.returns-clause-are
 returns-clause-are c = are_kept _ _ refl
