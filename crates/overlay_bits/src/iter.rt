@@ -34,9 +34,4 @@ impl Iterator for BitsIter {
             }
         }
     }
-
-    fn size_hint(&self) -> (usize, Option<usize>) {
-        let left = self.rest.len() as usize;
-        (left, Some(left))
-    }
 }

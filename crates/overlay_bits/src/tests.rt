@@ -28,7 +28,7 @@ fn members_come_in_ascending_order(rt: HostRuntime) -> Result<(), Fail> {
     assert!(rt; bits.has(31) && !bits.has(17) && !bits.has(30));
     let mut left = bits.iter();
     left.next();
-    assert_eq!(rt; left.size_hint(), (2, Some(2)));
+    assert_eq!(rt; left.count(), 2);
     Ok(())
 }
 
