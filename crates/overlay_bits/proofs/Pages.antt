@@ -14,10 +14,13 @@ pub none_yet : (frame over : List (List ℕ)) (lines : List ℕ) (out : List (Li
 none_yet frame over lines out page = record { page = page; so_far = λ i lt. absurd (omega (arith, lt)) }
 
 pub one_more : (frame over : List (List ℕ)) (lines : List ℕ) (out : List (List ℕ)) (line : ℕ) (new : List ℕ)
-    → IsSoFar frame over lines out line → line < 64 → new ≡ composed_line frame over lines line → IsSoFar frame over lines (slice_set out line new) (line + 1)
-one_more frame over lines out line new h lt is = record { page = length-set out line new ∙ h.page; so_far = λ i below. at i below (cases_eq i line) }
+    → IsSoFar frame over lines out line → line < 64 → new ≡ composed_line frame over lines line
+    → IsSoFar frame over lines (slice_set out line new) (line + 1)
+one_more frame over lines out line new h lt is =
+    record { page = length-set out line new ∙ h.page; so_far = λ i below. at i below (cases_eq i line) }
   where
-    at : (i : ℕ) → i < line + 1 → (i ≡ line) ⊎ (i ≡ line → ⊥) → slice_index_or (slice_set out line new) i [] ≡ composed_line frame over lines i
+    at : (i : ℕ) → i < line + 1 → (i ≡ line) ⊎ (i ≡ line → ⊥)
+        → slice_index_or (slice_set out line new) i [] ≡ composed_line frame over lines i
     at i below (inl same) =
         ap (λ j. slice_index_or (slice_set out line new) j []) same ∙ get_or-set_same out line new [] (omega (arith, lt, h.page))
         ∙ is ∙ ap (composed_line frame over lines) (sym same)
@@ -27,7 +30,8 @@ one_more frame over lines out line new h lt is = record { page = length-set out 
 pub taken : {x : List ℕ} (b : Bool) (one other : List ℕ) (c : Bool) → b ≡ c → x ≡ cond c one other → x ≡ cond b one other
 taken b one other c same h = h ∙ ap (λ (t : Bool). cond t one other) (sym same)
 
-pub all_done : (frame over : List (List ℕ)) (lines : List ℕ) (out : List (List ℕ)) → IsSoFar frame over lines out 64 → out ≡ composed frame over lines
+pub all_done : (frame over : List (List ℕ)) (lines : List ℕ) (out : List (List ℕ)) → IsSoFar frame over lines out 64
+    → out ≡ composed frame over lines
 all_done frame over lines out h =
     same_lists out (composed frame over lines) (h.page ∙ sym (composed_count frame over lines 64))
     (λ i d lt. at i d (omega (arith, lt, h.page)) ∙ sym (composed_at frame over lines 64 i d (omega (arith, lt, h.page))))

@@ -43,7 +43,8 @@ pub has_append : (xs ys : List ℕ) (q : ℕ) → has_line (xs ++ ys) q ≡ (has
 has_append [] ys q = refl
 has_append (x ∷ xs) ys q = at (nat_eq x q) (has_append xs ys q)
   where
-    at : (b : Bool) → has_line (xs ++ ys) q ≡ (has_line xs q || has_line ys q) → (b || has_line (xs ++ ys) q) ≡ ((b || has_line xs q) || has_line ys q)
+    at : (b : Bool) → has_line (xs ++ ys) q ≡ (has_line xs q || has_line ys q)
+        → (b || has_line (xs ++ ys) q) ≡ ((b || has_line xs q) || has_line ys q)
     at true h = refl
     at false h = h
 
@@ -128,7 +129,8 @@ rise_inside from (x ∷ xs) end q h is = at (nat_eq x q) refl is (rise_inside (x
     at false e is rest = rest is
 
 -- two such lists with the same members are equal
-pub rise_same : (from to : ℕ) (xs ys : List ℕ) (end : ℕ) → Rise from xs end → Rise to ys end → ((q : ℕ) → has_line xs q ≡ has_line ys q) → xs ≡ ys
+pub rise_same : (from to : ℕ) (xs ys : List ℕ) (end : ℕ) → Rise from xs end → Rise to ys end → ((q : ℕ) → has_line xs q ≡ has_line ys q)
+    → xs ≡ ys
 rise_same from to [] [] end h g same = refl
 rise_same from to [] (y ∷ ys) end h g same = absurd (false≢true (same y ∙ (λ i. eq-eqb y y refl i || has_line ys y)))
 rise_same from to (x ∷ xs) [] end h g same = absurd (false≢true (sym (same x) ∙ (λ i. eq-eqb x x refl i || has_line xs x)))

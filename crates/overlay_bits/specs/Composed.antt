@@ -20,7 +20,8 @@ composed frame over lines = composed_lines frame over lines PAGE_LINES
 
 -- Each by its number.
 
-pub composed_at : (frame over : List (List ℕ)) (lines : List ℕ) (n i : ℕ) (d : List ℕ) → i < n → get_or (composed_lines frame over lines n) i d ≡ composed_line frame over lines i
+pub composed_at : (frame over : List (List ℕ)) (lines : List ℕ) (n i : ℕ) (d : List ℕ) → i < n
+    → get_or (composed_lines frame over lines n) i d ≡ composed_line frame over lines i
 unfolding composed_lines
 composed_at frame over lines n i d lt = get_or-map-range_with_len (composed_line frame over lines) 0 n i i d lt (omega arith)
 

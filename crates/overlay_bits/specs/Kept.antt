@@ -12,8 +12,8 @@ abbrev pub has_bit : ℕ → ℕ → Bool
 has_bit word i = nat_eq (bit_at word i) 1
 
 -- the lines whose bits a number has
-abbrev pub kept_lines : ℕ → List ℕ
-kept_lines word = lines_where (has_bit word)
+abbrev pub lines_of_word : ℕ → List ℕ
+lines_of_word word = lines_where (has_bit word)
 
 -- the number that has just these bits
 abbrev pub word_of : List ℕ → ℕ
@@ -41,5 +41,5 @@ word_below word (suc k) =
     word_append (below (has_bit word) k) (cond (has_bit word k) (k ∷ []) [])
     ∙ omega (arith, word_below word k, here, split, ap (λ j. word % 2 ^ j) e)
 
-pub word_back : (word : ℕ) → word < 2 ^ 64 → word_of (kept_lines word) ≡ word
+pub word_back : (word : ℕ) → word < 2 ^ 64 → word_of (lines_of_word word) ≡ word
 word_back word h = word_below word 64 ∙ mod-eq_of_lt h

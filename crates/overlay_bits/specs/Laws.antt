@@ -42,11 +42,13 @@ pub has_filter : (p : ℕ → Bool) (xs : List ℕ) (q : ℕ) → has_line (filt
 has_filter p [] q = refl
 has_filter p (x ∷ xs) q = at (p x) refl (nat_eq x q) refl (has_filter p xs q)
   where
-    with_x : (e : Bool) → nat_eq x q ≡ e → p x ≡ true → has_line (filter p xs) q ≡ (has_line xs q && p q) → (e || has_line (filter p xs) q) ≡ ((e || has_line xs q) && p q)
+    with_x : (e : Bool) → nat_eq x q ≡ e → p x ≡ true → has_line (filter p xs) q ≡ (has_line xs q && p q)
+        → (e || has_line (filter p xs) q) ≡ ((e || has_line xs q) && p q)
     with_x true e is h = sym is ∙ ap p (eqb-true x q e)
     with_x false e is h = h
 
-    without_x : (e : Bool) → nat_eq x q ≡ e → p x ≡ false → has_line (filter p xs) q ≡ (has_line xs q && p q) → has_line (filter p xs) q ≡ ((e || has_line xs q) && p q)
+    without_x : (e : Bool) → nat_eq x q ≡ e → p x ≡ false → has_line (filter p xs) q ≡ (has_line xs q && p q)
+        → has_line (filter p xs) q ≡ ((e || has_line xs q) && p q)
     without_x true e is h = h ∙ out (has_line xs q) (p q) (sym (ap p (eqb-true x q e)) ∙ is) ∙ sym (sym (ap p (eqb-true x q e)) ∙ is)
       where
         out : (b c : Bool) → c ≡ false → (b && c) ≡ false
@@ -78,14 +80,19 @@ has_with lines line q =
     behind true = refl
     behind false = refl
 
-    by : (b c e : Bool) → nat_lt q line ≡ b → nat_lt line q ≡ c → nat_eq line q ≡ e → ((has_line lines q && b) || (e || (has_line lines q && c))) ≡ (e || has_line lines q)
+    by : (b c e : Bool) → nat_lt q line ≡ b → nat_lt line q ≡ c → nat_eq line q ≡ e
+        → ((has_line lines q && b) || (e || (has_line lines q && c))) ≡ (e || has_line lines q)
         → ((has_line lines q && nat_lt q line) || (nat_eq line q || (has_line lines q && nat_lt line q))) ≡ (nat_eq line q || has_line lines q)
     by b c e l m s h = (λ i. (has_line lines q && l i) || (s i || (has_line lines q && m i))) ∙ h ∙ (λ i. sym s i || has_line lines q)
 
-    at : (q ≡ line) ⊎ ((q < line) ⊎ (line < q)) → ((has_line lines q && nat_lt q line) || (nat_eq line q || (has_line lines q && nat_lt line q))) ≡ (nat_eq line q || has_line lines q)
-    at (inl e) = by false false true (le-ltb q line (omega (arith, e))) (le-ltb line q (omega (arith, e))) (eq-eqb line q (sym e)) (here (has_line lines q))
-    at (inr (inl less)) = by true false false (lt-ltb q line less) (le-ltb line q (omega (arith, less))) (ne_eqb line q (λ s. omega (arith, less, s))) (before (has_line lines q))
-    at (inr (inr more)) = by false true false (le-ltb q line (omega (arith, more))) (lt-ltb line q more) (ne_eqb line q (λ s. omega (arith, more, s))) (behind (has_line lines q))
+    at : (q ≡ line) ⊎ ((q < line) ⊎ (line < q))
+        → ((has_line lines q && nat_lt q line) || (nat_eq line q || (has_line lines q && nat_lt line q))) ≡ (nat_eq line q || has_line lines q)
+    at (inl e) =
+        by false false true (le-ltb q line (omega (arith, e))) (le-ltb line q (omega (arith, e))) (eq-eqb line q (sym e)) (here (has_line lines q))
+    at (inr (inl less)) =
+        by true false false (lt-ltb q line less) (le-ltb line q (omega (arith, less))) (ne_eqb line q (λ s. omega (arith, less, s))) (before (has_line lines q))
+    at (inr (inr more)) =
+        by false true false (le-ltb q line (omega (arith, more))) (lt-ltb line q more) (ne_eqb line q (λ s. omega (arith, more, s))) (behind (has_line lines q))
 
 pub has_without : (lines : List ℕ) (line q : ℕ) → has_line (without_line lines line) q ≡ (has_line lines q && not (nat_eq line q))
 has_without lines line q =
@@ -105,14 +112,19 @@ has_without lines line q =
     behind true = refl
     behind false = refl
 
-    by : (b c e : Bool) → nat_lt q line ≡ b → nat_lt line q ≡ c → nat_eq line q ≡ e → ((has_line lines q && b) || (has_line lines q && c)) ≡ (has_line lines q && not e)
+    by : (b c e : Bool) → nat_lt q line ≡ b → nat_lt line q ≡ c → nat_eq line q ≡ e
+        → ((has_line lines q && b) || (has_line lines q && c)) ≡ (has_line lines q && not e)
         → ((has_line lines q && nat_lt q line) || (has_line lines q && nat_lt line q)) ≡ (has_line lines q && not (nat_eq line q))
     by b c e l m s h = (λ i. (has_line lines q && l i) || (has_line lines q && m i)) ∙ h ∙ (λ i. has_line lines q && not (sym s i))
 
-    at : (q ≡ line) ⊎ ((q < line) ⊎ (line < q)) → ((has_line lines q && nat_lt q line) || (has_line lines q && nat_lt line q)) ≡ (has_line lines q && not (nat_eq line q))
-    at (inl e) = by false false true (le-ltb q line (omega (arith, e))) (le-ltb line q (omega (arith, e))) (eq-eqb line q (sym e)) (here (has_line lines q))
-    at (inr (inl less)) = by true false false (lt-ltb q line less) (le-ltb line q (omega (arith, less))) (ne_eqb line q (λ s. omega (arith, less, s))) (before (has_line lines q))
-    at (inr (inr more)) = by false true false (le-ltb q line (omega (arith, more))) (lt-ltb line q more) (ne_eqb line q (λ s. omega (arith, more, s))) (behind (has_line lines q))
+    at : (q ≡ line) ⊎ ((q < line) ⊎ (line < q))
+        → ((has_line lines q && nat_lt q line) || (has_line lines q && nat_lt line q)) ≡ (has_line lines q && not (nat_eq line q))
+    at (inl e) =
+        by false false true (le-ltb q line (omega (arith, e))) (le-ltb line q (omega (arith, e))) (eq-eqb line q (sym e)) (here (has_line lines q))
+    at (inr (inl less)) =
+        by true false false (lt-ltb q line less) (le-ltb line q (omega (arith, less))) (ne_eqb line q (λ s. omega (arith, less, s))) (before (has_line lines q))
+    at (inr (inr more)) =
+        by false true false (le-ltb q line (omega (arith, more))) (lt-ltb line q more) (ne_eqb line q (λ s. omega (arith, more, s))) (behind (has_line lines q))
 
 -- of the lines from one to below another one
 pub has_between : (first end q : ℕ) → first ≤ end → has_line (lines_between first end) q ≡ is_between first end q
@@ -120,7 +132,8 @@ has_between first end q le = let e : first + (end - first) ≡ end = omega (arit
 
 -- of one of two sets
 pub has_with_lines : (a b : List ℕ) (q : ℕ) → AreLines a → AreLines b → has_line (with_lines a b) q ≡ (has_line a q || has_line b q)
-has_with_lines a b q one other = has_below (λ line. has_line a line || has_line b line) PAGE_LINES q ∙ at (has_line a q) refl (has_line b q) refl
+has_with_lines a b q one other =
+    has_below (λ line. has_line a line || has_line b line) PAGE_LINES q ∙ at (has_line a q) refl (has_line b q) refl
   where
     in_page : q < PAGE_LINES → (b : Bool) → (nat_lt q PAGE_LINES && b) ≡ b
     in_page lt b = λ i. lt-ltb q PAGE_LINES lt i && b
@@ -170,7 +183,8 @@ where_with t line lt =
         below_same _ (λ i. t i && nat_lt line i) PAGE_LINES (λ i less. at i (nat_eq line i) (nat_lt line i) refl refl)
         ∙ sym (below_filter (λ x. nat_lt line x) t PAGE_LINES)
 
-pub where_without : (t : ℕ → Bool) (line : ℕ) → line < PAGE_LINES → lines_where (λ i. t i && not (nat_eq line i)) ≡ without_line (lines_where t) line
+pub where_without : (t : ℕ → Bool) (line : ℕ) → line < PAGE_LINES
+    → lines_where (λ i. t i && not (nat_eq line i)) ≡ without_line (lines_where t) line
 where_without t line lt =
     let u : ℕ → Bool = λ i. t i && not (nat_eq line i) in
     below_split u line PAGE_LINES lt
@@ -263,15 +277,18 @@ count_without lines line are lt = at (has_line lines line) (ap length (lines_at 
 
 -- With a line that is there, and without one that isn't, a set is as before; one undoes the other.
 
-pub with_there : (lines : List ℕ) (line : ℕ) → AreLines lines → line < PAGE_LINES → has_line lines line ≡ true → with_line lines line ≡ lines
+pub with_there : (lines : List ℕ) (line : ℕ) → AreLines lines → line < PAGE_LINES → has_line lines line ≡ true
+    → with_line lines line ≡ lines
 with_there lines line are lt is =
     sym (lines_at lines line are lt ∙ ap (λ (b : Bool). lines_before lines line ++ (cond b (line ∷ []) [] ++ lines_behind lines line)) is)
 
-pub without_absent : (lines : List ℕ) (line : ℕ) → AreLines lines → line < PAGE_LINES → has_line lines line ≡ false → without_line lines line ≡ lines
+pub without_absent : (lines : List ℕ) (line : ℕ) → AreLines lines → line < PAGE_LINES → has_line lines line ≡ false
+    → without_line lines line ≡ lines
 without_absent lines line are lt is =
     sym (lines_at lines line are lt ∙ ap (λ (b : Bool). lines_before lines line ++ (cond b (line ∷ []) [] ++ lines_behind lines line)) is)
 
-pub with_without : (lines : List ℕ) (line : ℕ) → AreLines lines → line < PAGE_LINES → has_line lines line ≡ true → with_line (without_line lines line) line ≡ lines
+pub with_without : (lines : List ℕ) (line : ℕ) → AreLines lines → line < PAGE_LINES → has_line lines line ≡ true
+    → with_line (without_line lines line) line ≡ lines
 with_without lines line are lt is =
     same_sets _ lines (are_with _ line (are_without lines line are lt) lt) are
     (λ q. has_with (without_line lines line) line q ∙ ap (λ (b : Bool). nat_eq line q || b) (has_without lines line q) ∙ at q (nat_eq line q) refl)
@@ -284,7 +301,8 @@ with_without lines line are lt is =
     at q true same = sym is ∙ ap (has_line lines) (eqb-true line q same)
     at q false same = whole (has_line lines q)
 
-pub without_with : (lines : List ℕ) (line : ℕ) → AreLines lines → line < PAGE_LINES → has_line lines line ≡ false → without_line (with_line lines line) line ≡ lines
+pub without_with : (lines : List ℕ) (line : ℕ) → AreLines lines → line < PAGE_LINES → has_line lines line ≡ false
+    → without_line (with_line lines line) line ≡ lines
 without_with lines line are lt is =
     same_sets _ lines (are_without _ line (are_with lines line are lt) lt) are
     (λ q. has_without (with_line lines line) line q ∙ ap (λ (b : Bool). b && not (nat_eq line q)) (has_with lines line q) ∙ at q (nat_eq line q) refl)
@@ -300,20 +318,23 @@ without_with lines line are lt is =
 -- Ranks: how many members stand before a line.
 
 -- a line is behind as many members as its place has before it
-pub line_of_rank : (lines : List ℕ) (line d : ℕ) → AreLines lines → line < PAGE_LINES → has_line lines line ≡ true → get_or lines (rank_of lines line) d ≡ line
+pub line_of_rank : (lines : List ℕ) (line d : ℕ) → AreLines lines → line < PAGE_LINES → has_line lines line ≡ true
+    → get_or lines (rank_of lines line) d ≡ line
 line_of_rank lines line d are lt is =
     ap (λ xs. get_or xs (rank_of lines line) d)
     (lines_at lines line are lt ∙ ap (λ (b : Bool). lines_before lines line ++ (cond b (line ∷ []) [] ++ lines_behind lines line)) is)
     ∙ get_or-append_seam (lines_before lines line) line (lines_behind lines line) d
 
-pub rank_below : (lines : List ℕ) (line : ℕ) → AreLines lines → line < PAGE_LINES → has_line lines line ≡ true → rank_of lines line < length lines
+pub rank_below : (lines : List ℕ) (line : ℕ) → AreLines lines → line < PAGE_LINES → has_line lines line ≡ true
+    → rank_of lines line < length lines
 rank_below lines line are lt is =
     let whole = lines_at lines line are lt ∙ ap (λ (b : Bool). lines_before lines line ++ (cond b (line ∷ []) [] ++ lines_behind lines line)) is in
     omega (arith, ap length whole, length-append (lines_before lines line) (line ∷ lines_behind lines line))
 
 -- Members one after the other: those in front of a member are below it, and those behind it above.
 
-pub rise_front : (from : ℕ) (front : List ℕ) (line : ℕ) (rest : List ℕ) (end : ℕ) → Rise from (front ++ line ∷ rest) end → Rise from front line × Rise (line + 1) rest end
+pub rise_front : (from : ℕ) (front : List ℕ) (line : ℕ) (rest : List ℕ) (end : ℕ) → Rise from (front ++ line ∷ rest) end
+    → Rise from front line × Rise (line + 1) rest end
 rise_front from [] line rest end h = h
 rise_front from (x ∷ xs) line rest end h = let r = rise_front (x + 1) xs line rest end h.1 in ((h.0, r.0), r.1)
 
@@ -336,7 +357,8 @@ none_before from (x ∷ xs) end line le h =
     λ i. cond (le-ltb x line (omega (arith, le, h.0)) i) (x ∷ rest i) (rest i)
 
 -- so its rank is its place
-pub before_next : (front : List ℕ) (line : ℕ) (rest : List ℕ) → AreLines (front ++ line ∷ rest) → lines_before (front ++ line ∷ rest) line ≡ front
+pub before_next : (front : List ℕ) (line : ℕ) (rest : List ℕ) → AreLines (front ++ line ∷ rest)
+    → lines_before (front ++ line ∷ rest) line ≡ front
 before_next front line rest are =
     let parts = rise_front 0 front line rest PAGE_LINES are.rise in
     let here = all_before 0 front line parts.0 in
@@ -344,12 +366,15 @@ before_next front line rest are =
     filter-append (λ x. nat_lt x line) front (line ∷ rest)
     ∙ (λ i. here i ++ cond (le-ltb line line (omega arith) i) (line ∷ behind i) (behind i)) ∙ append-nil front
 
-pub rank_of_next : (front : List ℕ) (line : ℕ) (rest : List ℕ) → AreLines (front ++ line ∷ rest) → rank_of (front ++ line ∷ rest) line ≡ length front
+pub rank_of_next : (front : List ℕ) (line : ℕ) (rest : List ℕ) → AreLines (front ++ line ∷ rest)
+    → rank_of (front ++ line ∷ rest) line ≡ length front
 rank_of_next front line rest are = ap length (before_next front line rest are)
 
 -- it is a member, and a line
 pub has_next : (front : List ℕ) (line : ℕ) (rest : List ℕ) → has_line (front ++ line ∷ rest) line ≡ true
-has_next front line rest = has_append front (line ∷ rest) line ∙ (λ i. has_line front line || (eq-eqb line line refl i || has_line rest line)) ∙ at (has_line front line)
+has_next front line rest =
+    has_append front (line ∷ rest) line ∙ (λ i. has_line front line || (eq-eqb line line refl i || has_line rest line))
+    ∙ at (has_line front line)
   where
     at : (b : Bool) → (b || true) ≡ true
     at true = refl

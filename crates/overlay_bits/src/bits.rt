@@ -13,11 +13,11 @@ pub struct Bits {
 
 impl Model for Bits {
     ghost use Rattle.std.specs.Prelude.{ℕ, List, ◌^◌, ◌<◌};
-    ghost use Rattle.overlay_bits.specs.Kept.{kept_lines, word_back, word_of};
+    ghost use Rattle.overlay_bits.specs.Kept.{lines_of_word, word_back, word_of};
 
     ghost Value = { List ℕ };
 
-    ghost view = { λ b. kept_lines b.word };
+    ghost view = { λ b. lines_of_word b.word };
 
     ghost invariant = { λ b. b.word < 2 ^ 64 };
 
