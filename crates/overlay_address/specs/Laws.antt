@@ -1,4 +1,4 @@
-use Rattle.std.proofs.Common.{◌≡◌, ℕ, ◌^◌, ◌<◌, sym, ap, ◌∙◌, arith}
+use Rattle.std.proofs.Common.{◌+◌, ◌≡◌, ℕ, ◌^◌, ◌<◌, sym, ap, ◌∙◌, refl, arith}
 use Rattle.overlay_address.specs.Names.{overlay_page, page_of, space_of, IsName}
 
 -- Laws of the names of overlays, for the crates above.
@@ -24,3 +24,7 @@ same_page s p t q fs lp ft lq same = sym (page_back s p fs lp) ∙ ap page_of sa
 -- names of one space and one page are equal
 pub same_name : (a b : ℕ) → IsName a → IsName b → space_of a ≡ space_of b → page_of a ≡ page_of b → a ≡ b
 same_name a b is other space page = omega (arith, is, other, space, page)
+
+-- an example: the address of byte 64 of page 16 of space 1 is 0x8001000000010040
+example : overlay_page 1 16 + 64 ≡ 9223653511831552064
+example = refl

@@ -1,4 +1,5 @@
 ghost use Rattle.std.specs.Prelude.{◌≡◌, ◌+◌, ◌^◌, ◌<◌, ◌≤◌, IfSome, Some};
+ghost use Rattle.sizes.specs.declared.TheConstants.{PAGE_BYTES};
 ghost use Rattle.overlay_address.specs.Names.{IsAddressOf, IsName, overlay_page, page_of, space_of, split_address};
 
 use std::marker::Model;
@@ -72,7 +73,7 @@ impl OverlayPage {
 
     /// The address of a byte of the overlay, from its offset in the page, below 4096.
     pub fn address(&self, offset: u16) -> u64
-        requires { offset < 4096 }
+        requires { offset < PAGE_BYTES }
         ensures address { result ≡ self.now + offset }
         ensures back { split_address result ≡ Some (self.now, offset) }
         ensures is { IsName self.now }

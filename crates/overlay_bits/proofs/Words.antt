@@ -1,4 +1,4 @@
-use Rattle.std.proofs.Common.{◌≡◌, ℕ, zero, suc, ◌+◌, ◌-◌, ◌*◌, ◌/◌, ◌%◌, ◌^◌, ◌<◌, ◌≤◌, ◌⊎◌, inl, inr, max, min, Bool, true, false, cond, not, ◌&&◌, ◌||◌, nat_eq, nat_lt, List, [], ◌∷◌, ◌++◌, length, bit_and, bit_or, subst, sym, ap, ◌∙◌, refl, arith, w64}
+use Rattle.std.proofs.Common.{◌≡◌, ℕ, zero, suc, ◌+◌, ◌-◌, ◌*◌, ◌/◌, ◌%◌, ◌^◌, ◌<◌, ◌≤◌, ◌⊎◌, inl, inr, max, min, true, false, cond, not, ◌&&◌, ◌||◌, nat_eq, nat_lt, List, [], ◌∷◌, ◌++◌, length, bit_and, bit_or, subst, sym, ap, ◌∙◌, refl, arith, w64}
 use Rattle.std.specs.Int.{bit_at, bit_not, trailing_zeros}
 use Rattle.std.specs.Prelude.{count_ones, filter, Some}
 use Rattle.std.specs.Int.Count.{ones, ones_in}
@@ -9,7 +9,7 @@ use Rattle.std.proofs.lemmas.Nat.{and_mask, mod-pow-add, mod_below, ones_cat, or
 use Rattle.std.proofs.Math.Nat.{mod-eq_of_lt}
 use Rattle.std.proofs.lemmas.Nat.Bits.{bit_at-lt, bit_at-zero, bit_at_and, bit_at_or, bit_at_not, bit_at_ones, bit_at_ones_above, bit_at_mask_below, bit_at_mask_inside, bit_at_set_same, bit_at_set_other, bit_at_clear_same, bit_at_clear_other, bit_at-trailing_zeros, ones_shl, ones_shr, shr_and_one}
 use Rattle.overlay_bits.specs.Lines.{below, has_line, AreLines, IsFirst, lines_before, lines_behind, rank_of, with_line, without_line, lines_between, with_lines, without_lines}
-use Rattle.overlay_bits.specs.Below.{below_same, below_none, below_filter, below_range, has_below, is_between}
+use Rattle.overlay_bits.specs.Below.{and_false, and_true, below_same, below_none, below_filter, below_range, has_below, is_between}
 use Rattle.overlay_bits.specs.Laws.{are_where, before_where, where_at, where_with, where_without}
 use Rattle.overlay_bits.specs.Kept.{has_bit, lines_of_word, word_back, word_of}
 
@@ -66,21 +66,13 @@ pub bit_of_clear : (n line i : ℕ) → line < 64 → i < 64
     → has_bit (bit_and n (bit_not w64 (1 * 2 ^ line % 2 ^ 64))) i ≡ (has_bit n i && not (nat_eq line i))
 bit_of_clear n line i lt less = at (cases_eq i line)
   where
-    none : (b : Bool) → false ≡ (b && false)
-    none true = refl
-    none false = refl
-
-    whole : (b : Bool) → b ≡ (b && true)
-    whole true = refl
-    whole false = refl
-
     at : (i ≡ line) ⊎ (i ≡ line → ⊥) → has_bit (bit_and n (bit_not w64 (1 * 2 ^ line % 2 ^ 64))) i ≡ (has_bit n i && not (nat_eq line i))
     at (inl same) =
         ap (λ j. has_bit (bit_and n (bit_not w64 (1 * 2 ^ line % 2 ^ 64))) j) same ∙ ap (λ b. nat_eq b 1) (bit_at_clear_same w64 n line lt)
-        ∙ none (has_bit n i) ∙ (λ j. has_bit n i && not (sym (eq-eqb line i (sym same)) j))
+        ∙ sym (and_false (has_bit n i)) ∙ (λ j. has_bit n i && not (sym (eq-eqb line i (sym same)) j))
     at (inr other) =
         ap (λ b. nat_eq b 1) (bit_at_clear_other w64 n line lt i less other)
-        ∙ whole (has_bit n i) ∙ (λ j. has_bit n i && not (sym (ne_eqb line i (λ s. other (sym s))) j))
+        ∙ sym (and_true (has_bit n i)) ∙ (λ j. has_bit n i && not (sym (ne_eqb line i (λ s. other (sym s))) j))
 
 -- What the calls make of the set.
 

@@ -7,6 +7,24 @@ use Rattle.std.proofs.lemmas.List.{append_assoc, append-nil}
 use Rattle.std.proofs.lemmas.List.Elements.{filter-append}
 use Rattle.overlay_bits.specs.Lines.{below, has_line, Rise}
 
+-- Tests joined with an answer that is known.
+
+pub and_true : (b : Bool) → (b && true) ≡ b
+and_true true = refl
+and_true false = refl
+
+pub and_false : (b : Bool) → (b && false) ≡ false
+and_false true = refl
+and_false false = refl
+
+pub or_true : (b : Bool) → (b || true) ≡ true
+or_true true = refl
+or_true false = refl
+
+pub or_false : (b : Bool) → (b || false) ≡ b
+or_false true = refl
+or_false false = refl
+
 -- The ascending list of the numbers that pass a test.
 
 -- tests that agree have one list
@@ -160,11 +178,7 @@ rise_is xs end h = rise_same 0 0 xs (below (has_line xs) end) end h (rise_below 
   where
     at : (q : ℕ) (b : Bool) → has_line xs q ≡ b → b ≡ (nat_lt q end && b)
     at q true e = λ i. sym (lt-ltb q end (rise_inside 0 xs end q h e)) i && true
-    at q false e = by (nat_lt q end)
-      where
-        by : (c : Bool) → false ≡ (c && false)
-        by true = refl
-        by false = refl
+    at q false e = sym (and_false (nat_lt q end))
 
     same : (q : ℕ) → has_line xs q ≡ has_line (below (has_line xs) end) q
     same q = at q (has_line xs q) refl ∙ sym (has_below (has_line xs) end q)
@@ -177,21 +191,13 @@ unfolding below
 below_cut t line zero le = let e : line ≡ 0 = omega (arith, le) in sym (ap (below t) e)
 below_cut t line (suc k) le = at (cases_order line (suc k)) (below_cut t line k)
   where
-    out : (b : Bool) → (b && false) ≡ false
-    out true = refl
-    out false = refl
-
     at : (line ≡ suc k) ⊎ ((line < suc k) ⊎ (suc k < line)) → (line ≤ k → below (λ i. t i && nat_lt i line) k ≡ below t line)
         → below (λ i. t i && nat_lt i line) (suc k) ≡ below t line
     at (inl same) rest =
-        below_same (λ i. t i && nat_lt i line) t (suc k) (λ i lt. (λ j. t i && lt-ltb i line (omega (arith, lt, same)) j) ∙ whole (t i))
+        below_same (λ i. t i && nat_lt i line) t (suc k) (λ i lt. (λ j. t i && lt-ltb i line (omega (arith, lt, same)) j) ∙ and_true (t i))
         ∙ sym (ap (below t) same)
-      where
-        whole : (b : Bool) → (b && true) ≡ b
-        whole true = refl
-        whole false = refl
     at (inr (inl less)) rest =
-        ap (λ (b : Bool). below (λ i. t i && nat_lt i line) k ++ cond b (k ∷ []) []) ((λ j. t k && le-ltb k line (omega (arith, less)) j) ∙ out (t k))
+        ap (λ (b : Bool). below (λ i. t i && nat_lt i line) k ++ cond b (k ∷ []) []) ((λ j. t k && le-ltb k line (omega (arith, less)) j) ∙ and_false (t k))
         ∙ append-nil _ ∙ rest (omega (arith, less))
     at (inr (inr more)) rest = absurd (omega (arith, more, le))
 
@@ -202,25 +208,17 @@ unfolding below
 below_split t line zero lt = absurd (omega (arith, lt))
 below_split t line (suc k) lt = at (cases_order line k) (below_split t line k)
   where
-    out : (b : Bool) → (b && false) ≡ false
-    out true = refl
-    out false = refl
-
-    whole : (b : Bool) → b ≡ (b && true)
-    whole true = refl
-    whole false = refl
-
     above : ℕ → List ℕ
     above n = below (λ i. t i && nat_lt line i) n
 
     at : (line ≡ k) ⊎ ((line < k) ⊎ (k < line)) → (line < k → below t k ≡ below t line ++ (cond (t line) (line ∷ []) [] ++ above k))
         → below t (suc k) ≡ below t line ++ (cond (t line) (line ∷ []) [] ++ above (suc k))
     at (inl same) rest =
-        let none = below_none (λ i. t i && nat_lt line i) (suc k) (λ i le. (λ j. t i && le-ltb line i (omega (arith, same, le)) j) ∙ out (t i)) in
+        let none = below_none (λ i. t i && nat_lt line i) (suc k) (λ i le. (λ j. t i && le-ltb line i (omega (arith, same, le)) j) ∙ and_false (t i)) in
         (λ j. below t (sym same j) ++ cond (t (sym same j)) (sym same j ∷ []) [])
         ∙ ap (λ xs. below t line ++ xs) (sym (append-nil (cond (t line) (line ∷ []) [])) ∙ ap (λ xs. cond (t line) (line ∷ []) [] ++ xs) (sym none))
     at (inr (inl less)) rest =
-        let last = ap (λ (b : Bool). cond b (k ∷ []) []) (whole (t k) ∙ (λ j. t k && sym (lt-ltb line k less) j)) in
+        let last = ap (λ (b : Bool). cond b (k ∷ []) []) (sym (and_true (t k)) ∙ (λ j. t k && sym (lt-ltb line k less) j)) in
         ap (λ xs. xs ++ cond (t k) (k ∷ []) []) (rest less)
         ∙ append_assoc (below t line) (cond (t line) (line ∷ []) [] ++ above k) (cond (t k) (k ∷ []) [])
         ∙ ap (λ xs. below t line ++ xs) (append_assoc (cond (t line) (line ∷ []) []) (above k) (cond (t k) (k ∷ []) []))
@@ -256,11 +254,7 @@ below_range first n k le =
     inside : (q : ℕ) → nat_lt q (first + n) ≡ true → nat_lt q k ≡ true
     inside q h = lt-ltb q k (omega (arith, ltb-true q (first + n) h, le))
 
-    none : (c : Bool) → false ≡ (c && false)
-    none true = refl
-    none false = refl
-
     at : {c : Bool} (a b : Bool) → (b ≡ true → c ≡ true) → (a && b) ≡ (c && (a && b))
     at true true h = λ i. sym (h refl) i && true
-    at {c = c} true false h = none c
-    at {c = c} false b h = none c
+    at {c = c} true false h = sym (and_false c)
+    at {c = c} false b h = sym (and_false c)

@@ -1,12 +1,12 @@
 use Rattle.std.proofs.Common.{◌≡◌, ℕ, ◌+◌, ◌-◌, ◌<◌, ◌≤◌, ◌⊎◌, inl, inr, Bool, true, false, cond, not, ◌&&◌, ◌||◌, nat_eq, nat_lt, List, [], ◌∷◌, ◌++◌, length, get_or, subst, sym, ap, ◌∙◌, refl, arith}
 use Rattle.std.specs.Prelude.{filter}
-use Rattle.std.proofs.lemmas.Bool.{cases_order, lt-ltb, le-ltb, eq-eqb, ne_eqb, eqb-true, ltb-true}
+use Rattle.std.proofs.lemmas.Bool.{and_right, cases_order, lt-ltb, le-ltb, eq-eqb, ne_eqb, eqb-true, ltb-true}
 use Rattle.std.proofs.lemmas.List.{append-nil, length-append}
 use Rattle.std.proofs.lemmas.List.Elements.{filter-append}
 use Rattle.std.proofs.Math.Seq.{get_or-append_seam}
 use Rattle.sizes.specs.declared.TheConstants.{PAGE_LINES}
 use Rattle.overlay_bits.specs.Lines.{below, lines_where, has_line, Rise, AreLines, lines_before, lines_behind, rank_of, with_line, without_line, lines_between, with_lines}
-use Rattle.overlay_bits.specs.Below.{below_same, below_filter, below_cut, below_split, below_range, has_append, has_below, has_range, is_between, rise_below, rise_bounds, rise_inside, rise_is, rise_same}
+use Rattle.overlay_bits.specs.Below.{and_false, and_true, or_false, or_true, below_same, below_filter, below_cut, below_split, below_range, has_append, has_below, has_range, is_between, rise_below, rise_bounds, rise_inside, rise_is, rise_same}
 
 -- Laws of sets of lines, for the crates above.
 
@@ -49,11 +49,7 @@ has_filter p (x ∷ xs) q = at (p x) refl (nat_eq x q) refl (has_filter p xs q)
 
     without_x : (e : Bool) → nat_eq x q ≡ e → p x ≡ false → has_line (filter p xs) q ≡ (has_line xs q && p q)
         → has_line (filter p xs) q ≡ ((e || has_line xs q) && p q)
-    without_x true e is h = h ∙ out (has_line xs q) (p q) (sym (ap p (eqb-true x q e)) ∙ is) ∙ sym (sym (ap p (eqb-true x q e)) ∙ is)
-      where
-        out : (b c : Bool) → c ≡ false → (b && c) ≡ false
-        out true c h = h
-        out false c h = refl
+    without_x true e is h = h ∙ and_right (has_line xs q) (p q) (sym (ap p (eqb-true x q e)) ∙ is) ∙ sym (sym (ap p (eqb-true x q e)) ∙ is)
     without_x false e is h = h
 
     at : (b : Bool) → p x ≡ b → (e : Bool) → nat_eq x q ≡ e → has_line (filter p xs) q ≡ (has_line xs q && p q)
@@ -138,14 +134,10 @@ has_with_lines a b q one other =
     in_page : q < PAGE_LINES → (b : Bool) → (nat_lt q PAGE_LINES && b) ≡ b
     in_page lt b = λ i. lt-ltb q PAGE_LINES lt i && b
 
-    none : (b : Bool) → (b && false) ≡ false
-    none true = refl
-    none false = refl
-
     at : (x : Bool) → has_line a q ≡ x → (y : Bool) → has_line b q ≡ y → (nat_lt q PAGE_LINES && (x || y)) ≡ (x || y)
     at true is y e = in_page (one.inside q is) true
     at false e true is = in_page (other.inside q is) true
-    at false e false f = none (nat_lt q PAGE_LINES)
+    at false e false f = and_false (nat_lt q PAGE_LINES)
 
 -- What a test makes of a set, at a line.
 
@@ -171,11 +163,7 @@ where_with t line lt =
 
     at : (i : ℕ) (e b : Bool) → nat_eq line i ≡ e → nat_lt line i ≡ b → ((e || t i) && b) ≡ (t i && b)
     at i true true s h = absurd (omega (arith, eqb-true line i s, ltb-true line i h))
-    at i true false s h = sym (none (t i))
-      where
-        none : (b : Bool) → (b && false) ≡ false
-        none true = refl
-        none false = refl
+    at i true false s h = sym (and_false (t i))
     at i false b s h = refl
 
     behind : below (λ i. (nat_eq line i || t i) && nat_lt line i) PAGE_LINES ≡ lines_behind (lines_where t) line
@@ -190,25 +178,17 @@ where_without t line lt =
     below_split u line PAGE_LINES lt
     ∙ (λ i. before i ++ (cond (gone i) (line ∷ []) [] ++ behind i))
   where
-    none : (b : Bool) → (b && false) ≡ false
-    none true = refl
-    none false = refl
-
-    whole : (b : Bool) → (b && true) ≡ b
-    whole true = refl
-    whole false = refl
-
     gone : (t line && not (nat_eq line line)) ≡ false
-    gone = (λ i. t line && not (eq-eqb line line refl i)) ∙ none (t line)
+    gone = (λ i. t line && not (eq-eqb line line refl i)) ∙ and_false (t line)
 
     before : below (λ i. t i && not (nat_eq line i)) line ≡ lines_before (lines_where t) line
     before =
-        below_same (λ i. t i && not (nat_eq line i)) t line (λ i less. (λ j. t i && not (ne_eqb line i (λ s. omega (arith, less, s)) j)) ∙ whole (t i))
+        below_same (λ i. t i && not (nat_eq line i)) t line (λ i less. (λ j. t i && not (ne_eqb line i (λ s. omega (arith, less, s)) j)) ∙ and_true (t i))
         ∙ sym (before_where t line (omega (arith, lt)))
 
     at : (i : ℕ) (x e b : Bool) → nat_eq line i ≡ e → nat_lt line i ≡ b → ((x && not e) && b) ≡ (x && b)
     at i x true true s h = absurd (omega (arith, eqb-true line i s, ltb-true line i h))
-    at i x true false s h = none (x && false) ∙ sym (none x)
+    at i x true false s h = and_false (x && false) ∙ sym (and_false x)
     at i true false b s h = refl
     at i false false b s h = refl
 
@@ -293,13 +273,9 @@ with_without lines line are lt is =
     same_sets _ lines (are_with _ line (are_without lines line are lt) lt) are
     (λ q. has_with (without_line lines line) line q ∙ ap (λ (b : Bool). nat_eq line q || b) (has_without lines line q) ∙ at q (nat_eq line q) refl)
   where
-    whole : (b : Bool) → (b && true) ≡ b
-    whole true = refl
-    whole false = refl
-
     at : (q : ℕ) (e : Bool) → nat_eq line q ≡ e → (e || (has_line lines q && not e)) ≡ has_line lines q
     at q true same = sym is ∙ ap (has_line lines) (eqb-true line q same)
-    at q false same = whole (has_line lines q)
+    at q false same = and_true (has_line lines q)
 
 pub without_with : (lines : List ℕ) (line : ℕ) → AreLines lines → line < PAGE_LINES → has_line lines line ≡ false
     → without_line (with_line lines line) line ≡ lines
@@ -307,13 +283,9 @@ without_with lines line are lt is =
     same_sets _ lines (are_without _ line (are_with lines line are lt) lt) are
     (λ q. has_without (with_line lines line) line q ∙ ap (λ (b : Bool). b && not (nat_eq line q)) (has_with lines line q) ∙ at q (nat_eq line q) refl)
   where
-    whole : (b : Bool) → (b && true) ≡ b
-    whole true = refl
-    whole false = refl
-
     at : (q : ℕ) (e : Bool) → nat_eq line q ≡ e → ((e || has_line lines q) && not e) ≡ has_line lines q
     at q true same = sym is ∙ ap (has_line lines) (eqb-true line q same)
-    at q false same = whole (has_line lines q)
+    at q false same = and_true (has_line lines q)
 
 -- Ranks: how many members stand before a line.
 
@@ -374,11 +346,7 @@ rank_of_next front line rest are = ap length (before_next front line rest are)
 pub has_next : (front : List ℕ) (line : ℕ) (rest : List ℕ) → has_line (front ++ line ∷ rest) line ≡ true
 has_next front line rest =
     has_append front (line ∷ rest) line ∙ (λ i. has_line front line || (eq-eqb line line refl i || has_line rest line))
-    ∙ at (has_line front line)
-  where
-    at : (b : Bool) → (b || true) ≡ true
-    at true = refl
-    at false = refl
+    ∙ or_true (has_line front line)
 
 pub next_inside : (front : List ℕ) (line : ℕ) (rest : List ℕ) → AreLines (front ++ line ∷ rest) → line < PAGE_LINES
 next_inside front line rest are = are.inside line (has_next front line rest)
@@ -407,8 +375,4 @@ with_next front line rest are =
 
 pub with_lines_none : (lines : List ℕ) → AreLines lines → with_lines lines [] ≡ lines
 with_lines_none lines are =
-    below_same (λ line. has_line lines line || false) (has_line lines) PAGE_LINES (λ i lt. at (has_line lines i)) ∙ sym (is_where lines are)
-  where
-    at : (b : Bool) → (b || false) ≡ b
-    at true = refl
-    at false = refl
+    below_same (λ line. has_line lines line || false) (has_line lines) PAGE_LINES (λ i lt. or_false (has_line lines i)) ∙ sym (is_where lines are)
