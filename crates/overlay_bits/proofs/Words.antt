@@ -79,7 +79,8 @@ bit_of_clear n line i lt less = at (cases_eq i line)
 pub kept_with : (n line : ℕ) (lines : List ℕ) → lines_of_word n ≡ lines → line < 64
     → lines_of_word (bit_or n (1 * 2 ^ line % 2 ^ 64)) ≡ with_line lines line
 kept_with n line lines same lt =
-    below_same _ (λ i. nat_eq line i || has_bit n i) 64 (λ i less. bit_of_set n line i lt) ∙ where_with (has_bit n) line lt ∙ ap (λ xs. with_line xs line) same
+    below_same _ (λ i. nat_eq line i || has_bit n i) 64 (λ i less. bit_of_set n line i lt) ∙ where_with (has_bit n) line lt
+    ∙ ap (λ xs. with_line xs line) same
 
 pub kept_without : (n line : ℕ) (lines : List ℕ) → lines_of_word n ≡ lines → line < 64
     → lines_of_word (bit_and n (bit_not w64 (1 * 2 ^ line % 2 ^ 64))) ≡ without_line lines line
@@ -116,7 +117,8 @@ bit_of_range first end i le few less =
     at : (i < first) ⊎ (first ≤ i) → (i < end) ⊎ (end ≤ i)
         → nat_eq (min (bit_at (2 ^ end - 1) i) (bit_at (2 ^ 64 - 2 ^ first) i)) 1 ≡ is_between first end i
     at (inl before) (inl inside) =
-        (λ j. nat_eq (min (bit_at_ones end i inside j) (bit_at_mask_below first 64 i before j)) 1) ∙ (λ j. sym (lt-leb first i before) j && nat_lt i end)
+        (λ j. nat_eq (min (bit_at_ones end i inside j) (bit_at_mask_below first 64 i before j)) 1)
+        ∙ (λ j. sym (lt-leb first i before) j && nat_lt i end)
     at (inl before) (inr behind) = absurd (omega (arith, before, behind, le))
     at (inr from) (inl inside) =
         (λ j. nat_eq (min (bit_at_ones end i inside j) (bit_at_mask_inside first 64 i from less j)) 1)
@@ -129,7 +131,8 @@ pub kept_range : (first end : ℕ) → first ≤ end → end ≤ 64
     → lines_of_word (bit_and ((2 ^ 64 - 1) / 2 ^ (64 - end)) ((2 ^ 64 - 1) * 2 ^ first % 2 ^ 64)) ≡ lines_between first end
 kept_range first end le few =
     let e : first + (end - first) ≡ end = omega (arith, le) in
-    below_same _ (is_between first (first + (end - first))) 64 (λ i less. bit_of_range first end i le few less ∙ ap (λ n. is_between first n i) (sym e))
+    below_same _ (is_between first (first + (end - first))) 64
+    (λ i less. bit_of_range first end i le few less ∙ ap (λ n. is_between first n i) (sym e))
     ∙ sym (below_range first (end - first) 64 (omega (arith, e, few)))
 
 -- Counts.

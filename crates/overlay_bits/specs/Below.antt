@@ -197,7 +197,8 @@ below_cut t line (suc k) le = at (cases_order line (suc k)) (below_cut t line k)
         below_same (λ i. t i && nat_lt i line) t (suc k) (λ i lt. (λ j. t i && lt-ltb i line (omega (arith, lt, same)) j) ∙ and_true (t i))
         ∙ sym (ap (below t) same)
     at (inr (inl less)) rest =
-        ap (λ (b : Bool). below (λ i. t i && nat_lt i line) k ++ cond b (k ∷ []) []) ((λ j. t k && le-ltb k line (omega (arith, less)) j) ∙ and_false (t k))
+        ap (λ (b : Bool). below (λ i. t i && nat_lt i line) k ++ cond b (k ∷ []) [])
+        ((λ j. t k && le-ltb k line (omega (arith, less)) j) ∙ and_false (t k))
         ∙ append-nil _ ∙ rest (omega (arith, less))
     at (inr (inr more)) rest = absurd (omega (arith, more, le))
 
@@ -214,7 +215,8 @@ below_split t line (suc k) lt = at (cases_order line k) (below_split t line k)
     at : (line ≡ k) ⊎ ((line < k) ⊎ (k < line)) → (line < k → below t k ≡ below t line ++ (cond (t line) (line ∷ []) [] ++ above k))
         → below t (suc k) ≡ below t line ++ (cond (t line) (line ∷ []) [] ++ above (suc k))
     at (inl same) rest =
-        let none = below_none (λ i. t i && nat_lt line i) (suc k) (λ i le. (λ j. t i && le-ltb line i (omega (arith, same, le)) j) ∙ and_false (t i)) in
+        let none = below_none (λ i. t i && nat_lt line i) (suc k)
+        (λ i le. (λ j. t i && le-ltb line i (omega (arith, same, le)) j) ∙ and_false (t i)) in
         (λ j. below t (sym same j) ++ cond (t (sym same j)) (sym same j ∷ []) [])
         ∙ ap (λ xs. below t line ++ xs) (sym (append-nil (cond (t line) (line ∷ []) [])) ∙ ap (λ xs. cond (t line) (line ∷ []) [] ++ xs) (sym none))
     at (inr (inl less)) rest =

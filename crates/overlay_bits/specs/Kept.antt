@@ -85,7 +85,8 @@ word_bits t (suc k) i lt = ap (λ n. has_bit n i) (word_more t k) ∙ at (cases_
     at (inr more) rest =
         let here : i ≡ k = omega (arith, more, lt) in
         let none : i - k ≡ 0 = omega (arith, here) in
-        ap (λ n. nat_eq n 1) (bit_at_cat_high (digit (t k)) k (word_of (below t k)) i (word_fits t k) more ∙ ap (bit_at (digit (t k))) none ∙ bit_at_lowest (digit (t k)))
+        ap (λ n. nat_eq n 1) (bit_at_cat_high (digit (t k)) k (word_of (below t k)) i (word_fits t k) more ∙ ap (bit_at (digit (t k))) none
+        ∙ bit_at_lowest (digit (t k)))
         ∙ low (t k) ∙ ap t (sym here)
 
 pub same_words : (a b : List ℕ) → AreLines a → AreLines b → word_of a ≡ word_of b → a ≡ b

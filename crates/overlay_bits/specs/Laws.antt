@@ -57,12 +57,28 @@ has_filter p (x ∷ xs) q = at (p x) refl (nat_eq x q) refl (has_filter p xs q)
     at true is e same h = (λ i. same i || has_line (filter p xs) q) ∙ with_x e same is h ∙ (λ i. (sym same i || has_line xs q) && p q)
     at false is e same h = without_x e same is h ∙ (λ i. (sym same i || has_line xs q) && p q)
 
+-- a number is a line, or before it, or behind it
+by_place : (P : Bool → Bool → Bool → Type 0) (q line : ℕ) → P false false true → P true false false → P false true false
+    → P (nat_lt q line) (nat_lt line q) (nat_eq line q)
+by_place P q line here before behind = at (cases_order q line)
+  where
+    by : (b c e : Bool) → nat_lt q line ≡ b → nat_lt line q ≡ c → nat_eq line q ≡ e → P b c e → P (nat_lt q line) (nat_lt line q) (nat_eq line q)
+    by b c e l m s h = subst (λ x. P x (nat_lt line q) (nat_eq line q)) (sym l) (subst (λ x. P b x (nat_eq line q)) (sym m) (subst (P b c) (sym s) h))
+
+    at : (q ≡ line) ⊎ ((q < line) ⊎ (line < q)) → P (nat_lt q line) (nat_lt line q) (nat_eq line q)
+    at (inl e) = by false false true (le-ltb q line (omega (arith, e))) (le-ltb line q (omega (arith, e))) (eq-eqb line q (sym e)) here
+    at (inr (inl less)) =
+        by true false false (lt-ltb q line less) (le-ltb line q (omega (arith, less))) (ne_eqb line q (λ s. omega (arith, less, s))) before
+    at (inr (inr more)) =
+        by false true false (le-ltb q line (omega (arith, more))) (lt-ltb line q more) (ne_eqb line q (λ s. omega (arith, more, s))) behind
+
 -- of a set with a line, and without it
 pub has_with : (lines : List ℕ) (line q : ℕ) → has_line (with_line lines line) q ≡ (nat_eq line q || has_line lines q)
 has_with lines line q =
     has_append (lines_before lines line) (line ∷ lines_behind lines line) q
     ∙ (λ i. has_filter (λ x. nat_lt x line) lines q i || (nat_eq line q || has_filter (λ x. nat_lt line x) lines q i))
-    ∙ at (cases_order q line)
+    ∙ by_place (λ b c e. ((has_line lines q && b) || (e || (has_line lines q && c))) ≡ (e || has_line lines q)) q line
+    (here (has_line lines q)) (before (has_line lines q)) (behind (has_line lines q))
   where
     here : (b : Bool) → ((b && false) || (true || (b && false))) ≡ (true || b)
     here true = refl
@@ -76,51 +92,18 @@ has_with lines line q =
     behind true = refl
     behind false = refl
 
-    by : (b c e : Bool) → nat_lt q line ≡ b → nat_lt line q ≡ c → nat_eq line q ≡ e
-        → ((has_line lines q && b) || (e || (has_line lines q && c))) ≡ (e || has_line lines q)
-        → ((has_line lines q && nat_lt q line) || (nat_eq line q || (has_line lines q && nat_lt line q))) ≡ (nat_eq line q || has_line lines q)
-    by b c e l m s h = (λ i. (has_line lines q && l i) || (s i || (has_line lines q && m i))) ∙ h ∙ (λ i. sym s i || has_line lines q)
-
-    at : (q ≡ line) ⊎ ((q < line) ⊎ (line < q))
-        → ((has_line lines q && nat_lt q line) || (nat_eq line q || (has_line lines q && nat_lt line q))) ≡ (nat_eq line q || has_line lines q)
-    at (inl e) =
-        by false false true (le-ltb q line (omega (arith, e))) (le-ltb line q (omega (arith, e))) (eq-eqb line q (sym e)) (here (has_line lines q))
-    at (inr (inl less)) =
-        by true false false (lt-ltb q line less) (le-ltb line q (omega (arith, less))) (ne_eqb line q (λ s. omega (arith, less, s))) (before (has_line lines q))
-    at (inr (inr more)) =
-        by false true false (le-ltb q line (omega (arith, more))) (lt-ltb line q more) (ne_eqb line q (λ s. omega (arith, more, s))) (behind (has_line lines q))
-
 pub has_without : (lines : List ℕ) (line q : ℕ) → has_line (without_line lines line) q ≡ (has_line lines q && not (nat_eq line q))
 has_without lines line q =
     has_append (lines_before lines line) (lines_behind lines line) q
     ∙ (λ i. has_filter (λ x. nat_lt x line) lines q i || has_filter (λ x. nat_lt line x) lines q i)
-    ∙ at (cases_order q line)
+    ∙ by_place (λ b c e. ((has_line lines q && b) || (has_line lines q && c)) ≡ (has_line lines q && not e)) q line
+    (at (has_line lines q)).0 (at (has_line lines q)).1 (at (has_line lines q)).2
   where
-    here : (b : Bool) → ((b && false) || (b && false)) ≡ (b && not true)
-    here true = refl
-    here false = refl
-
-    before : (b : Bool) → ((b && true) || (b && false)) ≡ (b && not false)
-    before true = refl
-    before false = refl
-
-    behind : (b : Bool) → ((b && false) || (b && true)) ≡ (b && not false)
-    behind true = refl
-    behind false = refl
-
-    by : (b c e : Bool) → nat_lt q line ≡ b → nat_lt line q ≡ c → nat_eq line q ≡ e
-        → ((has_line lines q && b) || (has_line lines q && c)) ≡ (has_line lines q && not e)
-        → ((has_line lines q && nat_lt q line) || (has_line lines q && nat_lt line q)) ≡ (has_line lines q && not (nat_eq line q))
-    by b c e l m s h = (λ i. (has_line lines q && l i) || (has_line lines q && m i)) ∙ h ∙ (λ i. has_line lines q && not (sym s i))
-
-    at : (q ≡ line) ⊎ ((q < line) ⊎ (line < q))
-        → ((has_line lines q && nat_lt q line) || (has_line lines q && nat_lt line q)) ≡ (has_line lines q && not (nat_eq line q))
-    at (inl e) =
-        by false false true (le-ltb q line (omega (arith, e))) (le-ltb line q (omega (arith, e))) (eq-eqb line q (sym e)) (here (has_line lines q))
-    at (inr (inl less)) =
-        by true false false (lt-ltb q line less) (le-ltb line q (omega (arith, less))) (ne_eqb line q (λ s. omega (arith, less, s))) (before (has_line lines q))
-    at (inr (inr more)) =
-        by false true false (le-ltb q line (omega (arith, more))) (lt-ltb line q more) (ne_eqb line q (λ s. omega (arith, more, s))) (behind (has_line lines q))
+    at : (b : Bool)
+        → (((b && false) || (b && false)) ≡ (b && not true)) × (((b && true) || (b && false)) ≡ (b && not false))
+        × (((b && false) || (b && true)) ≡ (b && not false))
+    at true = (refl, refl, refl)
+    at false = (refl, refl, refl)
 
 -- of the lines from one to below another one
 pub has_between : (first end q : ℕ) → first ≤ end → has_line (lines_between first end) q ≡ is_between first end q
@@ -148,7 +131,8 @@ pub where_at : (t : ℕ → Bool) (line : ℕ) → line < PAGE_LINES
     → lines_where t ≡ lines_before (lines_where t) line ++ (cond (t line) (line ∷ []) [] ++ lines_behind (lines_where t) line)
 where_at t line lt =
     below_split t line PAGE_LINES lt
-    ∙ (λ i. sym (before_where t line (omega (arith, lt))) i ++ (cond (t line) (line ∷ []) [] ++ sym (below_filter (λ x. nat_lt line x) t PAGE_LINES) i))
+    ∙ (λ i. sym (before_where t line (omega (arith, lt))) i
+    ++ (cond (t line) (line ∷ []) [] ++ sym (below_filter (λ x. nat_lt line x) t PAGE_LINES) i))
 
 pub where_with : (t : ℕ → Bool) (line : ℕ) → line < PAGE_LINES → lines_where (λ i. nat_eq line i || t i) ≡ with_line (lines_where t) line
 where_with t line lt =
@@ -183,7 +167,8 @@ where_without t line lt =
 
     before : below (λ i. t i && not (nat_eq line i)) line ≡ lines_before (lines_where t) line
     before =
-        below_same (λ i. t i && not (nat_eq line i)) t line (λ i less. (λ j. t i && not (ne_eqb line i (λ s. omega (arith, less, s)) j)) ∙ and_true (t i))
+        below_same (λ i. t i && not (nat_eq line i)) t line
+        (λ i less. (λ j. t i && not (ne_eqb line i (λ s. omega (arith, less, s)) j)) ∙ and_true (t i))
         ∙ sym (before_where t line (omega (arith, lt)))
 
     at : (i : ℕ) (x e b : Bool) → nat_eq line i ≡ e → nat_lt line i ≡ b → ((x && not e) && b) ≡ (x && b)
@@ -208,7 +193,8 @@ lines_at lines line are lt =
 -- what calls make of sets are sets
 pub are_with : (lines : List ℕ) (line : ℕ) → AreLines lines → line < PAGE_LINES → AreLines (with_line lines line)
 are_with lines line are lt =
-    subst AreLines (where_with (has_line lines) line lt ∙ ap (λ xs. with_line xs line) (sym (is_where lines are))) (are_where (λ i. nat_eq line i || has_line lines i))
+    subst AreLines (where_with (has_line lines) line lt ∙ ap (λ xs. with_line xs line) (sym (is_where lines are)))
+    (are_where (λ i. nat_eq line i || has_line lines i))
 
 pub are_without : (lines : List ℕ) (line : ℕ) → AreLines lines → line < PAGE_LINES → AreLines (without_line lines line)
 are_without lines line are lt =
@@ -217,7 +203,8 @@ are_without lines line are lt =
 
 pub are_filtered : (p : ℕ → Bool) (lines : List ℕ) → AreLines lines → AreLines (filter p lines)
 are_filtered p lines are =
-    subst AreLines (sym (below_filter p (has_line lines) PAGE_LINES) ∙ ap (filter p) (sym (is_where lines are))) (are_where (λ i. has_line lines i && p i))
+    subst AreLines (sym (below_filter p (has_line lines) PAGE_LINES) ∙ ap (filter p) (sym (is_where lines are)))
+    (are_where (λ i. has_line lines i && p i))
 
 pub are_between : (first end : ℕ) → first ≤ end → end ≤ PAGE_LINES → AreLines (lines_between first end)
 are_between first end le few =

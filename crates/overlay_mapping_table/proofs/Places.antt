@@ -29,11 +29,12 @@ comparisons_rise rows name d h =
 pub searched : {X : Type 0} (rows : List (ℕ × X)) (name : ℕ) (d : ℕ × X) (r : Result ℕ ℕ) → Rise 0 rows → IsSearchInRange r (length rows)
     → IsBinarySearchResult (λ row. nat_cmp row.0 name) rows r → IfOk r (IsAt rows name) × IfErr r (IsGap rows name)
 searched rows name d (Ok i) h there is = (record { there = there; has = sym (name_of rows i d there) ∙ ranked _ name _ (sym (is d)) }, tt)
-searched rows name d (Err i) h inside parted = (
-  tt,
-  record {
-    inside = inside;
-    before = λ j lt. omega (arith, ranked _ name _ (sym ((parted (comparisons_rise rows name d h)).0 j d (omega arith) lt)), name_of rows j d (omega (arith, inside, lt)));
-    behind = λ j le lt. omega (arith, ranked _ name _ (sym ((parted (comparisons_rise rows name d h)).1 j d le lt)), name_of rows j d lt);
-  },
-)
+searched rows name d (Err i) h inside parted =
+    let split = parted (comparisons_rise rows name d h) in (
+      tt,
+      record {
+        inside = inside;
+        before = λ j lt. omega (arith, ranked _ name _ (sym (split.0 j d (omega arith) lt)), name_of rows j d (omega (arith, inside, lt)));
+        behind = λ j le lt. omega (arith, ranked _ name _ (sym (split.1 j d le lt)), name_of rows j d lt);
+      },
+    )

@@ -95,7 +95,8 @@ module _ {X : Type 0} where
   pub find_gap : (rows : List (ℕ × X)) (name i : ℕ) → IsGap rows name i → find nat_cmp name rows ≡ None
   find_gap [] name i gap = refl
   find_gap (row ∷ rows) name zero gap =
-      ap (λ (b : Bool). cond b (Some row.1) (find nat_cmp name rows)) (miss name row.0 (λ same. omega (arith, gap.behind 0 (omega arith) (omega arith), same)))
+      ap (λ (b : Bool). cond b (Some row.1) (find nat_cmp name rows))
+      (miss name row.0 (λ same. omega (arith, gap.behind 0 (omega arith) (omega arith), same)))
       ∙ find_gap rows name 0 (record {
         inside = omega arith;
         before = λ j lt. absurd (omega (arith, lt));

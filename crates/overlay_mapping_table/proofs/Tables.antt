@@ -63,7 +63,8 @@ pub stands_set : (table : Table) (rows : List (ℕ × Entry)) (room name at : �
     → IsAt rows name at
     → from_entries (slice_set rows at (name, e)) ≡ insert table.entries name e
 stands_set table rows room name at e same rise there =
-    map_with rows (slice_set rows at (name, e)) name e (λ q. find_set 0 rows name at e q rise there) ∙ ap (λ (t : Table). insert t.entries name e) same
+    map_with rows (slice_set rows at (name, e)) name e (λ q. find_set 0 rows name at e q rise there)
+    ∙ ap (λ (t : Table). insert t.entries name e) same
 
 pub kept_insert : (rows new : List (ℕ × Entry)) (capacity later room name at : ℕ) (e : Entry) → AreKept rows capacity room
     → IsGap rows name at → length rows < room

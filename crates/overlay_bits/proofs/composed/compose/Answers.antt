@@ -17,4 +17,5 @@ composing-preserved c =
 pub returns : goal.returns
 returns c =
     all_done c.args.frame.now c.args.over.now c.args.bits c.composing.out
-    (subst (IsSoFar c.args.frame.now c.args.over.now c.args.bits c.composing.out) (omega (arith, c.composing-test.false, c.composing.auto.line-end)) c.composing.invariant)
+    (subst (IsSoFar c.args.frame.now c.args.over.now c.args.bits c.composing.out)
+    (omega (arith, c.composing-test.false, c.composing.auto.line-end)) c.composing.invariant)

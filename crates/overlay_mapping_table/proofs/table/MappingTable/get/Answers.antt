@@ -6,7 +6,8 @@ use Rattle.overlay_mapping_table.proofs.table.MappingTable.get.Goals as goal
 pub returns-in-Ok : goal.returns-in-Ok
 returns-in-Ok c =
     let there = subst (λ rows. IsAt rows c.args.p c.in-Ok.at) c.deref.ensures.value c.in-Ok.ensures.there in
-    got c.args.self.now c.self.inside.rows.items c.self.inside.room c.args.p c.in-Ok.at c.index.result.now c.self.view_is c.self.invariant.rise there c.index.ensures
+    got c.args.self.now c.self.inside.rows.items c.self.inside.room c.args.p c.in-Ok.at c.index.result.now c.self.view_is
+    c.self.invariant.rise there c.index.ensures
 
 pub returns-in-Err : goal.returns-in-Err
 returns-in-Err c =

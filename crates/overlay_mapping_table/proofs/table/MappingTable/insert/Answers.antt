@@ -17,7 +17,8 @@ returns-in-Ok-clause-entries c =
 pub invariant_of-self-in-Ok-insert : goal.invariant_of-self-in-Ok-insert
 invariant_of-self-in-Ok-insert c =
     let gap = subst (λ rows. IsGap rows c.args.p c.in-Err.at) c.deref.ensures.value c.in-Err.ensures.gap in
-    let less = room_left c.args.self.now c.self.inside.rows.items c.self.inside.room c.args.p c.in-Err.at c.self.view_is c.self.invariant.rise gap c.requires.room in
+    let less = room_left c.args.self.now c.self.inside.rows.items c.self.inside.room c.args.p c.in-Err.at c.self.view_is
+    c.self.invariant.rise gap c.requires.room in
     kept_insert c.self.inside.rows.items c.insert.new.self.items _ _ c.self.inside.room c.args.p c.in-Err.at c.args.e c.self.invariant gap less
     c.in-Ok-insert.ensures.capacity c.in-Ok-insert.ensures.items
 
@@ -30,6 +31,7 @@ returns-in-Ok-insert-clause-entries c =
 pub unreachable-requires : goal.unreachable-requires
 unreachable-requires c =
     let gap = subst (λ rows. IsGap rows c.args.p c.in-Err.at) c.deref.ensures.value c.in-Err.ensures.gap in
-    let less = room_left c.args.self.now c.self.inside.rows.items c.self.inside.room c.args.p c.in-Err.at c.self.view_is c.self.invariant.rise gap c.requires.room in
+    let less = room_left c.args.self.now c.self.inside.rows.items c.self.inside.room c.args.p c.in-Err.at c.self.view_is
+    c.self.invariant.rise gap c.requires.room in
     let lens : vec_len c.self.inside.rows ≡ length c.self.inside.rows.items = search rules in
     omega (arith, less, c.self.invariant.fits, c.in-Err-insert.ensures.full, lens)

@@ -12,13 +12,15 @@ invariant_of-self c =
 pub returns-in-Ok-clause-entries : goal.returns-in-Ok-clause-entries
 returns-in-Ok-clause-entries c =
     let there = subst (λ rows. IsAt rows c.args.p c.in-Ok.at) c.deref.ensures.value c.in-Ok.ensures.there in
-    stands_remove c.args.self.now c.self.inside.rows.items c.remove.new.self.items c.self.inside.room c.args.p c.in-Ok.at c.self.view_is c.self.invariant.rise there
+    stands_remove c.args.self.now c.self.inside.rows.items c.remove.new.self.items c.self.inside.room c.args.p c.in-Ok.at c.self.view_is
+    c.self.invariant.rise there
     c.remove.ensures.items
 
 pub returns-in-Ok-clause-result : goal.returns-in-Ok-clause-result
 returns-in-Ok-clause-result c =
     let there = subst (λ rows. IsAt rows c.args.p c.in-Ok.at) c.deref.ensures.value c.in-Ok.ensures.there in
-    got c.args.self.now c.self.inside.rows.items c.self.inside.room c.args.p c.in-Ok.at c.remove.result c.self.view_is c.self.invariant.rise there c.remove.ensures.value
+    got c.args.self.now c.self.inside.rows.items c.self.inside.room c.args.p c.in-Ok.at c.remove.result c.self.view_is
+    c.self.invariant.rise there c.remove.ensures.value
 
 pub returns-in-Err-clause-entries : goal.returns-in-Err-clause-entries
 returns-in-Err-clause-entries c =
