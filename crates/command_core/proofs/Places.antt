@@ -3,7 +3,7 @@ use Rattle.std.specs.Option.{is_some, option_and_then, option_map, option_map_or
 use Rattle.std.specs.Ordering.{nat_cmp}
 use Rattle.std.proofs.lemmas.Bool.Decides.{nat_tests}
 use Rattle.std.specs.FinMap.{empty, get, insert, get-empty}
-use Rattle.ovl_io.specs.KeyLaws.{alike, by_key, get_other, get_same, removed_other, removed_same}
+use Rattle.ovl_io.specs.Keys.{alike, by_key, get_other, get_same, removed_other, removed_same}
 use Rattle.ovl_io.specs.Memory.{Memory}
 use Rattle.sizes.specs.declared.TheConstants.{LAST_SPACE}
 use Rattle.machine_core.specs.Process.{Process, runs}

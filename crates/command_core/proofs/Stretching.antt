@@ -1,7 +1,7 @@
 use Rattle.std.proofs.Common.{◌≡◌, ℕ, ◌+◌, ◌-◌, ◌<◌, ◌≤◌, true, false, List, ◌++◌, sym, ap, ◌∙◌, refl, arith, Option, Some, None}
 use Rattle.std.specs.FinMap.{get, insert}
 use Rattle.std.specs.Option.{is_some, option_map_or}
-use Rattle.ovl_io.specs.KeyLaws.{get_same}
+use Rattle.ovl_io.specs.Keys.{get_same}
 use Rattle.rv_execute.specs.declared.outcome.Outcome.{Outcome}
 use Rattle.rv_execute.specs.declared.outcome.Outcome.TheVariants as outcome
 use Rattle.rv_execute.specs.Execution.{Upshot, Steps, Asks, Faults, outcome_by}

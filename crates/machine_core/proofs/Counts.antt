@@ -5,7 +5,7 @@ use Rattle.std.specs.Cmp.{nat_cmp_total}
 use Rattle.std.specs.FinMap.{FinMap, entries, entries_sorted, from_entries, from_sorted, len, len-entries, get-from_entries, get-from_sorted, entries-from_sorted}
 use Rattle.std.specs.FinMap.Entries.{is_sorted, below_all}
 use Rattle.std.proofs.lemmas.List.{length-map}
-use Rattle.ovl_io.specs.KeyLaws.{alike}
+use Rattle.ovl_io.specs.Keys.{alike}
 
 -- How many a map of entries under a view has.
 

@@ -9,7 +9,7 @@ use Rattle.ovl_io.specs.Permissions.{permits}
 use Rattle.ovl_io.specs.Memory.{Page, with_bytes}
 use Rattle.page_table.specs.Table.{Pages}
 use Rattle.page_table.specs.declared.entry.PageEntry.{PageEntry}
-use Rattle.ovl_io.specs.KeyLaws.{get_same, get_other, by_key, alike}
+use Rattle.ovl_io.specs.Keys.{get_same, get_other, by_key, alike}
 use Rattle.ovl_io.specs.MemoryLaws.{stored_in}
 use Rattle.ovl_io.specs.PageBytes.{overwritten, page_allows, IsMemory}
 use Rattle.machine_core.specs.Kept.{kept_page, kept_memory, IsPlaced}

@@ -10,7 +10,7 @@ use Rattle.elf_loader.specs.Image.{image_pages, image_page, page_bytes, page_len
 use Rattle.elf_loader.specs.declared.image.ImagePage.{ImagePage}
 use Rattle.page_table.specs.Table.{Pages}
 use Rattle.page_table.specs.declared.entry.PageEntry.{PageEntry}
-use Rattle.ovl_io.specs.KeyLaws.{tied, differs, alike}
+use Rattle.ovl_io.specs.Keys.{tied, differs, alike}
 use Rattle.machine_core.specs.Load.{stack_page, stack_pages, image_memory, IsPlacedOver}
 use Rattle.machine_core.specs.Kept.{kept_page, kept_memory, IsPlaced}
 use Rattle.machine_core.proofs.Frames.{get_page}

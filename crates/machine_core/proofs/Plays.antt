@@ -2,7 +2,7 @@ use Rattle.std.proofs.Common.{◌≡◌, ℕ, ◌+◌, ◌<◌, ◌==◌, ◌&&�
 use Rattle.std.specs.Option.{option_map, option_map_or}
 use Rattle.std.specs.FinMap.{get, insert}
 use Rattle.std.proofs.Math.Seq.{drop-cons}
-use Rattle.ovl_io.specs.KeyLaws.{by_key, get_same, get_other}
+use Rattle.ovl_io.specs.Keys.{by_key, get_same, get_other}
 use Rattle.machine_core.specs.Process.{Process, runs}
 use Rattle.machine_core.specs.Machine.{Processes, is_running, after_turn, process_after}
 use Rattle.machine_core.specs.Play.{after_number, run_over, turns_of, own_turns, AreOwnTurns}

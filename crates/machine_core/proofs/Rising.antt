@@ -7,7 +7,7 @@ use Rattle.std.proofs.lemmas.List.Sorted.{searched}
 use Rattle.std.specs.List.Sorted.{IsBinarySearchResult}
 use Rattle.std.specs.Ordering.{nat_cmp}
 use Rattle.std.specs.Prelude.{Result, Ok, Err}
-use Rattle.ovl_io.specs.KeyLaws.{by_key}
+use Rattle.ovl_io.specs.Keys.{by_key}
 use Rattle.machine_core.specs.Slots.{is_in, IsPlaceOf}
 use Rattle.machine_core.specs.NumberLaws.{Rises, lower, none_below, other_is, same_is}
 

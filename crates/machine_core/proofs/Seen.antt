@@ -6,7 +6,7 @@ use Rattle.std.specs.Cmp.{nat_cmp_total}
 use Rattle.std.specs.Global.{Box}
 use Rattle.std.specs.FinMap.{find, get, insert, remove, from_entries, get-from_entries}
 use Rattle.std.proofs.lemmas.List.{get_or-set_same, get_or-set_other}
-use Rattle.ovl_io.specs.KeyLaws.{ties, differs, by_key, alike, get_same, get_other, removed_same, removed_other}
+use Rattle.ovl_io.specs.Keys.{ties, differs, by_key, alike, get_same, get_other, removed_same, removed_other}
 use Rattle.ovl_io.specs.Memory.{Memory}
 use Rattle.machine_core.specs.Process.{Process, runs}
 use Rattle.machine_core.specs.Kept.{process_of}

@@ -4,7 +4,7 @@ use Rattle.std.specs.Global.{Box, Vec}
 use Rattle.std.specs.Vec.{vec_capacity}
 use Rattle.std.specs.List.Sorted.{IsStrictlyIncreasing}
 use Rattle.std.specs.FinMap.{get, insert}
-use Rattle.ovl_io.specs.KeyLaws.{by_key}
+use Rattle.ovl_io.specs.Keys.{by_key}
 use Rattle.ovl_io.specs.declared.process_state.ProcessState.{ProcessState}
 use Rattle.ovl_io.specs.declared.process_state.ProcessState.TheVariants as state
 use Rattle.rv_execute.specs.declared.outcome.Outcome.{Outcome}

@@ -4,7 +4,7 @@ use Rattle.std.specs.Option.{option_map, option_map_or, option_and_then}
 use Rattle.std.specs.List.{cons_option, filter_map}
 use Rattle.std.specs.Ordering.{nat_cmp, is_eq}
 use Rattle.std.specs.Cmp.{nat_cmp_total}
-use Rattle.ovl_io.specs.KeyLaws.{tied, by_key, alike, get_same, get_other, insert_over, removed_same, removed_other}
+use Rattle.ovl_io.specs.Keys.{tied, by_key, alike, get_same, get_other, insert_over, removed_same, removed_other}
 use Rattle.ovl_io.specs.Memory.{Memory}
 use Rattle.std.specs.FinMap.{FinMap, find, get, insert, remove, entries, get-entries, get-from_entries}
 use Rattle.machine_core.specs.declared.process.Process as declared

@@ -9,7 +9,7 @@ use Rattle.std.specs.Cmp.{ranks}
 use Rattle.std.specs.FinMap.{find, entries, get-entries, entries_sorted}
 use Rattle.std.specs.FinMap.Entries.{is_sorted}
 use Rattle.std.proofs.lemmas.Bool.Decides.{nat_tests}
-use Rattle.ovl_io.specs.KeyLaws.{by_key, ties, differs}
+use Rattle.ovl_io.specs.Keys.{by_key, ties, differs}
 use Rattle.machine_core.specs.Process.{Process, runs}
 use Rattle.machine_core.specs.Machine.{Processes, is_running, running_numbers}
 use Rattle.machine_core.specs.Slots.{is_in}

@@ -4,7 +4,7 @@
 pub mod Permissions
 pub mod Memory
 pub mod PageBytes
-pub mod KeyLaws
+pub use Rattle.number_maps.specs.Keys
 pub mod MemoryLaws
 pub mod Outside
 pub mod Forms

@@ -7,7 +7,7 @@ use Rattle.std.specs.FinMap.{get, insert}
 use Rattle.sizes.specs.declared.TheConstants.{PAGE_BYTES, PAGE_END}
 use Rattle.ovl_io.specs.Memory.{Memory, Page, byte_at, bytes_at, allows, first_denied, with_page_byte, with_byte, with_bytes}
 use Rattle.ovl_io.specs.PageBytes.{IsMemory, page_allows, overwritten}
-use Rattle.ovl_io.specs.KeyLaws.{by_key, get_same, get_other, insert_kept, insert_over}
+use Rattle.ovl_io.specs.Keys.{by_key, get_same, get_other, insert_kept, insert_over}
 
 -- Bytes are read and stored one by one; these laws say what that comes to page by page.
 

@@ -2,7 +2,7 @@ use Rattle.std.specs.Prelude.{◌≡◌, ℕ, Bool, true, false, cond, Some, Non
 use Rattle.std.proofs.Common.{ap, subst, sym, refl, arith, ◌∙◌}
 use Rattle.std.proofs.lemmas.Bool.Decides.{nat_tests}
 use Rattle.std.specs.FinMap.{get, insert, remove}
-use Rattle.ovl_io.specs.KeyLaws.{by_key, alike, get_same, get_other, removed_same, removed_other}
+use Rattle.ovl_io.specs.Keys.{by_key, alike, get_same, get_other, removed_same, removed_other}
 use Rattle.page_table.specs.declared.entry.PageEntry.{PageEntry}
 use Rattle.page_table.specs.Table.{Pages, is_within, IsFree, AreThere, IsMapped, IsUnmapped}
 

@@ -2,7 +2,7 @@ use Rattle.std.proofs.Common.{ap, ◌∙◌, refl, arith, Option}
 use Rattle.std.specs.Option.{is_some}
 use Rattle.std.specs.Ordering.{nat_cmp}
 use Rattle.std.specs.FinMap.{FinMap, get, get-empty}
-use Rattle.ovl_io.specs.KeyLaws.{get_same, removed_same}
+use Rattle.ovl_io.specs.Keys.{get_same, removed_same}
 use Rattle.ovl_io.specs.Memory.{Memory}
 use Rattle.machine_core.specs.declared.process.Process as declared
 use Rattle.machine_core.specs.Machine.{Machine}

@@ -1,6 +1,6 @@
 use Rattle.std.proofs.Common.{ap, ◌∙◌, refl}
 use Rattle.std.specs.FinMap.{get}
-use Rattle.ovl_io.specs.KeyLaws.{removed_same}
+use Rattle.ovl_io.specs.Keys.{removed_same}
 use Rattle.machine_core.specs.Machine.{Machine}
 use Rattle.command_core.proofs.Places.{session_drop}
 use Rattle.command_core.proofs.session.Session.drop_process.Goals as goal

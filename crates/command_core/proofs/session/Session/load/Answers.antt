@@ -1,6 +1,6 @@
 use Rattle.std.proofs.Common.{◌+◌, ap, ◌∙◌, refl}
 use Rattle.std.specs.FinMap.{get}
-use Rattle.ovl_io.specs.KeyLaws.{get_same}
+use Rattle.ovl_io.specs.Keys.{get_same}
 use Rattle.machine_core.specs.Machine.{Processes, wholes}
 use Rattle.machine_core.specs.Load.{loaded_process}
 use Rattle.command_core.specs.State.{InSession}
