@@ -1,0 +1,11 @@
+pub mod Numbers
+pub mod Pointing
+pub mod Making
+pub mod Beginning
+pub mod Filling
+pub mod Copies
+pub mod Lifting
+pub mod Laying
+pub mod Scratch
+pub mod Carrying
+pub mod Known

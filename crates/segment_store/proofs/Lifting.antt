@@ -1,0 +1,112 @@
+use Rattle.std.proofs.Common.{◌≡◌, ℕ, ◌+◌, ◌*◌, ◌^◌, ◌<◌, ◌≤◌, Bool, true, false, ◌||◌, nat_eq, ◌⊎◌, inl, inr, List, [], ◌∷◌, ◌++◌, append-nil, length, set, sym, ap, subst, refl, ◌∙◌, arith, append_assoc, true≢false}
+use Rattle.std.proofs.lemmas.Bool.{cases_eq}
+use Rattle.std.proofs.lemmas.Bool.Decides.{nat_tests}
+use Rattle.std.proofs.lemmas.List.{get_or-set_same, get_or-set_other, length-set}
+use Rattle.line_store.specs.Lines.{line_of}
+use Rattle.unit_map.specs.declared.map.Block.{Block}
+use Rattle.overlay_bits.specs.Lines.{AreLines, has_line}
+use Rattle.overlay_bits.specs.Laws.{front_lacks, has_next, has_with, next_inside, with_next}
+use Rattle.segment_store.specs.Pointers.{slot_of}
+use Rattle.segment_store.specs.Store.{place_in}
+use Rattle.segment_store.specs.Places.{HasBlock, HasLifted, LiesIn, LiftsLines}
+use Rattle.segment_store.specs.Laws.{place_same}
+
+-- Segments that are lifted into scratch, and laid from there.
+
+-- a line of the first ones and the next
+pub has_more : (front : List ℕ) (line : ℕ) (rest : List ℕ) → AreLines (front ++ line ∷ rest) → (i : ℕ) → has_line (front ++ line ∷ []) i ≡ true → (i ≡ line) ⊎ (has_line front i ≡ true)
+has_more front line rest are i has = at (cases_eq i line)
+  where
+    at : (i ≡ line) ⊎ (i ≡ line → ⊥) → (i ≡ line) ⊎ (has_line front i ≡ true)
+    at (inl e) = inl e
+    at (inr n) =
+        let off : nat_eq line i ≡ false = grind (arith, nat_tests) in
+        inr (sym (ap (λ b. b || has_line front i) off) ∙ sym (has_with front line i) ∙ ap (λ l. has_line l i) (with_next front line rest are) ∙ has)
+
+has_front : (front : List ℕ) (line : ℕ) (rest : List ℕ) → AreLines (front ++ line ∷ rest) → (i : ℕ) → has_line front i ≡ true → has_line (front ++ line ∷ []) i ≡ true
+has_front front line rest are i has = ap (λ l. has_line l i) (sym (with_next front line rest are)) ∙ has_with front line i ∙ ap (λ b. nat_eq line i || b) has ∙ or_true (nat_eq line i)
+  where
+    or_true : (b : Bool) → (b || true) ≡ true
+    or_true true = refl
+    or_true false = refl
+
+pub none_lifted : (scratch : ℕ) (block : Block) (bits rest : List ℕ) (lines : List (List ℕ)) → rest ≡ bits → HasLifted scratch block bits [] rest lines lines
+none_lifted scratch block bits rest lines e = record {
+  whole = sym e;
+  lifted = record { size = refl; lifted = λ line has. absurd (true≢false (sym has)); others = λ at n. refl };
+}
+
+-- what is known of the next line
+pub record IsNextLifted (block : Block) (line : ℕ) (mid : List (List ℕ)) : Type 0 where
+  pub low : line < 64
+  pub below : place_in mid block.unit block.order line < 4 * (block.unit + 2 ^ block.order)
+  pub within : HasBlock mid block
+
+pub next_lifted : (scratch : ℕ) (block : Block) (bits front : List ℕ) (line : ℕ) (rest : List ℕ) (old mid : List (List ℕ))
+    → AreLines bits → HasBlock old block → 4 * (block.unit + 2 ^ block.order) ≤ scratch → ((line : ℕ) → has_line bits line ≡ true → LiesIn old block.unit block.order line)
+    → (left : List ℕ) → left ≡ line ∷ rest → HasLifted scratch block bits front left old mid → IsNextLifted block line mid
+next_lifted scratch block bits front line rest old mid are within before lie left next found =
+    let h = subst (λ l. HasLifted scratch block bits front l old mid) next found in
+    let has_it : has_line bits line ≡ true = ap (λ l. has_line l line) h.whole ∙ has_next front line rest in
+    let l = lie line has_it in
+    let was = place_same mid old block.unit block.order line within.order (λ less. ap (λ p. slot_of p line) (h.lifted.others (4 * block.unit) (λ i has e. omega (arith, before, l.from, l.to, e)))) in
+    record {
+      low = next_inside front line rest (subst AreLines h.whole are);
+      below = omega (arith, was, l.to);
+      within = record { order = within.order; inside = omega (arith, within.inside, h.lifted.size); few = omega (arith, within.few, h.lifted.size) };
+    }
+
+pub one_lifted : (scratch : ℕ) (block : Block) (bits front : List ℕ) (line : ℕ) (rest : List ℕ) (old mid new : List (List ℕ)) (at : ℕ)
+    → AreLines bits → HasBlock old block → 4 * (block.unit + 2 ^ block.order) ≤ scratch → scratch + 64 ≡ length old → ((line : ℕ) → has_line bits line ≡ true → LiesIn old block.unit block.order line)
+    → (left : List ℕ) → left ≡ line ∷ rest → HasLifted scratch block bits front left old mid
+    → at ≡ place_in mid block.unit block.order line → new ≡ set mid (scratch + line) (line_of mid at)
+    → HasLifted scratch block bits (front ++ line ∷ []) rest old new
+one_lifted scratch block bits front line rest old mid new at are within before size lie left next found place e = record {
+  whole = h.whole ∙ sym (append_assoc front (line ∷ []) rest);
+  lifted = record {
+    size = ap length e ∙ length-set mid (scratch + line) _ ∙ h.lifted.size;
+    lifted = λ i has. each i (has_more front line rest whole i has);
+    others = λ x n.
+        ap (λ l. line_of l x) e ∙ get_or-set_other mid (scratch + line) x _ [] (n line (has_next_here))
+        ∙ h.lifted.others x (λ i has. n i (has_front front line rest whole i has));
+  };
+}
+  where
+    h : HasLifted scratch block bits front (line ∷ rest) old mid
+    h = subst (λ l. HasLifted scratch block bits front l old mid) next found
+
+    whole : AreLines (front ++ line ∷ rest)
+    whole = subst AreLines h.whole are
+
+    has_next_here : has_line (front ++ line ∷ []) line ≡ true
+    has_next_here = has_next front line []
+
+    low : line < 64
+    low = next_inside front line rest whole
+
+    has_it : has_line bits line ≡ true
+    has_it = ap (λ l. has_line l line) h.whole ∙ has_next front line rest
+
+    -- below scratch nothing changed
+    same : (x : ℕ) → x < scratch → line_of mid x ≡ line_of old x
+    same x less = h.lifted.others x (λ i has e. omega (arith, less, e))
+
+    was : place_in mid block.unit block.order line ≡ place_in old block.unit block.order line
+    was = place_same mid old block.unit block.order line within.order (λ less. ap (λ p. slot_of p line) (same (4 * block.unit) (omega (arith, before, (lie line has_it).from, (lie line has_it).to))))
+
+    each : (i : ℕ) → (i ≡ line) ⊎ (has_line front i ≡ true) → line_of new (scratch + i) ≡ line_of old (place_in old block.unit block.order i)
+    each i (inl s) =
+        ap (λ i. line_of new (scratch + i)) s
+        ∙ ap (λ l. line_of l (scratch + line)) e
+        ∙ get_or-set_same mid (scratch + line) _ [] (omega (arith, size, h.lifted.size, low))
+        ∙ ap (line_of mid) (place ∙ was)
+        ∙ same (place_in old block.unit block.order line) (omega (arith, (lie line has_it).to, before))
+        ∙ ap (λ i. line_of old (place_in old block.unit block.order i)) (sym s)
+    each i (inr has) =
+        ap (λ l. line_of l (scratch + i)) e
+        ∙ get_or-set_other mid (scratch + line) (scratch + i) _ [] (λ s. true≢false (sym has ∙ (let s : i ≡ line = omega (arith, s) in ap (has_line front) s) ∙ front_lacks front line rest whole))
+        ∙ h.lifted.lifted i has
+
+pub all_lifted : (scratch : ℕ) (block : Block) (bits front rest : List ℕ) (old new : List (List ℕ)) → HasLifted scratch block bits front rest old new → rest ≡ [] → LiftsLines scratch block bits old new
+all_lifted scratch block bits front rest old new h e =
+    subst (λ b. LiftsLines scratch block b old new) (sym (h.whole ∙ ap (λ r. front ++ r) e ∙ append-nil front)) h.lifted

@@ -1,0 +1,12 @@
+use Rattle.std.proofs.Common.{rules}
+use Rattle.segment_store.proofs.Making.{new_store}
+use Rattle.segment_store.proofs.store.SegmentStore.new.Goals as goal
+
+pub invariant_of-result : goal.invariant_of-result
+invariant_of-result c =
+    new_store c.args.frames _
+    (record { lines = c.in_ok-region.ensures.zero; blocks = c.in_ok-map.ensures.free; segments = c.in_ok-slots.ensures.items_if_clones_equal (λ y h. search rules) })
+    c.in_ok-map.ensures.pieces c.in_ok-region.ensures.count
+
+pub returns-clause-store : goal.returns-clause-store
+returns-clause-store c = invariant_of-result c

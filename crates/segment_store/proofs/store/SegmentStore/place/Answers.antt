@@ -1,0 +1,8 @@
+use Rattle.segment_store.proofs.Known.{known}
+use Rattle.segment_store.proofs.store.SegmentStore.place.Goals as goal
+
+pub place-requires-clause-line : goal.place-requires-clause-line
+place-requires-clause-line c = (known _ _ c.self.view_is c.self.invariant c.args.block c.requires.there c.args.line c.requires.line).low
+
+pub place-requires-clause-block : goal.place-requires-clause-block
+place-requires-clause-block c = (known _ _ c.self.view_is c.self.invariant c.args.block c.requires.there c.args.line c.requires.line).within

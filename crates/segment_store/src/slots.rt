@@ -1,0 +1,76 @@
+//! The segments by unit.
+ghost use Rattle.std.specs.Prelude.{◌≡◌, ◌+◌, ◌^◌, ◌<◌, ◌≤◌, ◌⊎◌, None, length, slice_index_or, slice_set};
+ghost use Rattle.segment_store.specs.Store.{with_lines_at, with_one_more};
+ghost use Rattle.segment_store.specs.Changes.{MovesSegments};
+
+use crate::segment::Segment;
+use overlay_bits::Bits;
+
+/// By unit, the segment that starts there.
+pub(crate) type Slots = Vec<Option<Segment>>;
+
+/// The segment that starts at a unit.
+#[inline]
+pub(crate) fn at(slots: &Slots, unit: u32) -> Option<Segment>
+    ensures { result ≡ slice_index_or slots.now.items unit None }
+{
+    match slots.get(unit as usize) {
+        Some(slot) => *slot,
+        None => None,
+    }
+}
+
+/// Puts a segment at a unit, or none.
+#[inline]
+pub(crate) fn put(slots: &mut Slots, unit: u32, segment: Option<Segment>)
+    requires { unit < length slots.old.items }
+    ensures { slots.new.items ≡ slice_set slots.old.items unit segment }
+{
+    slots[unit as usize] = segment;
+}
+
+/// Adds a line to the set of the segment at a unit.
+#[inline]
+pub(crate) fn add_line(slots: &mut Slots, unit: u32, line: u8)
+    requires line { line < 64 }
+    requires there { unit < length slots.old.items }
+    ensures added { slots.new.items ≡ with_one_more slots.old.items unit line }
+{
+    match at(slots, unit) {
+        Some(segment) => set_lines(slots, unit, segment.bits.with(line)),
+        None => {}
+    }
+}
+
+/// Gives the segment at a unit this set of lines.
+#[inline]
+pub(crate) fn set_lines(slots: &mut Slots, unit: u32, bits: Bits)
+    requires there { unit < length slots.old.items }
+    ensures set { slots.new.items ≡ with_lines_at slots.old.items unit bits }
+{
+    match at(slots, unit) {
+        Some(segment) => put(
+            slots,
+            unit,
+            Some(Segment {
+                owner: segment.owner,
+                order: segment.order,
+                bits,
+            }),
+        ),
+        None => {}
+    }
+}
+
+/// Lets the segments that start at the `count` units from `from` on go to those from `to` on.
+pub(crate) fn carry(slots: &mut Slots, from: u32, to: u32, count: u32)
+    requires source { from + count ≤ length slots.old.items }
+    requires target { to + count ≤ length slots.old.items }
+    requires apart { (from + count ≤ to) ⊎ (to + count ≤ from) }
+    ensures { MovesSegments from to count slots.old.items slots.new.items }
+{
+    'carrying: for i in 0..count as usize {
+        slots[to as usize + i] = slots[from as usize + i];
+        slots[from as usize + i] = None;
+    }
+}
