@@ -1,0 +1,12 @@
+pub mod Parts
+pub mod Seen
+pub mod Keeping
+pub mod TableLaws
+pub mod TableOps
+pub mod Mapping
+pub mod Overlaying
+pub mod TableCalls
+pub mod Booking
+pub mod Booked
+pub mod Numbers
+pub mod Rises

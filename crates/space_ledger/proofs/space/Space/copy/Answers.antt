@@ -1,0 +1,16 @@
+use Rattle.std.proofs.Common.{ap, ◌∙◌, sym}
+use Rattle.std.specs.Prelude.{◌≡◌, Result, Ok, Err, IfOk}
+use Rattle.space_ledger.specs.Space.{SpaceTable}
+use Rattle.page_table.specs.Table.{Pages}
+use Rattle.space_ledger.proofs.Parts.{all_inside}
+use Rattle.space_ledger.proofs.space.Space.copy.Goals as goal
+
+copied : {E : Type 0} (r : Result Pages E) (a b : Pages) → a ≡ b → IfOk r (λ t. t ≡ a) → IfOk r (λ t. t ≡ b)
+copied (Ok t) a b same is = is ∙ same
+copied (Err e) a b same is = is
+
+pub returns : goal.returns
+returns c =
+    copied c.copy.result c.self.inside.table c.args.self.now.pages
+    (sym (all_inside c.self.inside.table c.self.inside.end (ap (λ (s : SpaceTable). s.awaiting) c.self.view_is ∙ c.requires)) ∙ ap (λ (s : SpaceTable). s.pages) c.self.view_is)
+    c.copy.ensures

@@ -1,0 +1,86 @@
+use Rattle.std.specs.Prelude.{◌≡◌, ℕ, ◌+◌, ◌*◌, ◌==◌, ◌≤◌, ◌<◌, ◌⊎◌, ◌||◌, if◌then◌else◌, List, [], ◌∷◌, length, IsTrue, Option, Some, None, IsSome}
+use Rattle.std.specs.Option.{option_and_then}
+use Rattle.std.specs.FinMap.{get, len}
+use Rattle.sizes.specs.declared.TheConstants.{FRAME_UNITS, LAST_SPACE, MOST_FRAMES, PAGE_END, PAGE_LINES}
+use Rattle.frame_pool.specs.Counts.{sharers_of}
+use Rattle.ledger.specs.Events.{Store, ledger_after}
+use Rattle.ledger.specs.Ledger.{Ledger, has_origin}
+use Rattle.ledger.specs.Units.{overlaid_pages, own_lines, sharers, units}
+use Rattle.page_table.specs.declared.entry.PageEntry.{PageEntry}
+use Rattle.overlay_mapping_table.specs.declared.entry.Entry.{Entry}
+use Rattle.number_maps.specs.Views.{viewed}
+use Rattle.page_table.specs.Table.{Pages, is_within}
+use Rattle.space_ledger.specs.View.{LedgerView, PageView, SpaceView, ledger_of, page_at, space_at}
+
+-- What the calls ask and answer.
+
+-- each frame but the zero frame has as many sharers as pages name it
+abbrev pub AreCounted : Ledger → ℕ → ℕ → List ℕ → Type 0
+AreCounted ledger zero_frame frames counts = (f : ℕ) → f < frames → (f ≡ zero_frame → ⊥) → sharers_of counts f ≡ sharers ledger (f + 1)
+
+-- none of the n pages from `from` on is there
+abbrev pub AreFree : LedgerView → ℕ → ℕ → ℕ → Type 0
+AreFree view space from n = (page : ℕ) → IsTrue (is_within from n page) → page_at view space page ≡ None
+
+-- the least page of a space not below one, or that there is none
+abbrev pub IsNextOf : LedgerView → ℕ → ℕ → Option ℕ → Type 0
+IsNextOf view space page None = (q : ℕ) → page ≤ q → page_at view space q ≡ None
+IsNextOf view space page (Some found) =
+    (page ≤ found) × IsSome (page_at view space found) × ((q : ℕ) → page ≤ q → q < found → page_at view space q ≡ None)
+
+-- the entries of a space's pages
+unfoldable pub entries_of : LedgerView → ℕ → Pages
+entries_of view space = viewed (λ page (x : PageView). x.entry) (space_at view space).pages
+
+-- there is room for a page's overlay: it has one already, or fewer than 16 pages a frame have one; none needs no room
+abbrev pub HasRoom : LedgerView → ℕ → ℕ → Option Entry → Type 0
+HasRoom view space page None = Unit {0}
+HasRoom view space page (Some entry) =
+    IsSome (option_and_then (λ x. x.overlay) (page_at view space page)) ⊎ (overlaid_pages (ledger_of view) < FRAME_UNITS * view.frames)
+
+-- what is true of every view: how many spaces and overlays there are, how far pages go, and that an overlay has lines
+pub record IsSound (view : LedgerView) : Type 0 where
+  pub few : len view.spaces ≤ LAST_SPACE + 1
+  pub most : overlaid_pages (ledger_of view) ≤ FRAME_UNITS * view.frames
+  pub low : (space page : ℕ) → IsSome (page_at view space page) → page < PAGE_END
+  pub lines : (space page : ℕ) (x : PageView) (overlay : Entry) → page_at view space page ≡ Some x → x.overlay ≡ Some overlay
+      → (0 < length overlay.bits) × (length overlay.bits ≤ PAGE_LINES)
+
+-- no frame but the zero frame is named twice in a table
+abbrev pub NamesOnce : ℕ → Pages → Type 0
+NamesOnce zero_frame table =
+    (p q : ℕ) (e f : PageEntry) → get table p ≡ Some e → get table q ≡ Some f → e.frame ≡ f.frame → (e.frame ≡ zero_frame → ⊥) → p ≡ q
+
+-- nor in a space: by two of its pages, by two that await, or by one of either
+pub record IsApart (zero_frame : ℕ) (x : SpaceView) : Type 0 where
+  pub pages : (p q : ℕ) (a b : PageView) → get x.pages p ≡ Some a → get x.pages q ≡ Some b → a.entry.frame ≡ b.entry.frame → (a.entry.frame ≡ zero_frame → ⊥) → p ≡ q
+  pub waits : NamesOnce zero_frame x.awaiting
+  pub both : (p q : ℕ) (a : PageView) (b : PageEntry) → get x.pages p ≡ Some a → get x.awaiting q ≡ Some b → a.entry.frame ≡ b.frame → (a.entry.frame ≡ zero_frame → ⊥) → ⊥
+
+-- a frame is the zero frame, or no other page of the space names it
+abbrev pub IsFreeFor : LedgerView → ℕ → ℕ → ℕ → Type 0
+IsFreeFor view space page frame =
+    (frame ≡ view.zero_frame) ⊎ ((q : ℕ) (y : PageView) → page_at view space q ≡ Some y → y.entry.frame ≡ frame → q ≡ page)
+
+-- the frame that a page named, where it isn't the zero frame and no page names it now
+abbrev pub given_up : LedgerView → Option PageView → Option ℕ
+given_up now None = None
+given_up now (Some x) = if x.entry.frame == now.zero_frame || has_origin (ledger_of now) (x.entry.frame + 1) then None else Some x.entry.frame
+
+-- what is kept beside the tables: how many pages name each frame but the zero frame, the units, and the own lines
+pub record IsBooked (view : LedgerView) (counts : List ℕ) (units_kept lines_kept : ℕ) : Type 0 where
+  pub some : 0 < view.frames
+  pub frames : view.frames ≤ MOST_FRAMES
+  pub zero_in : view.zero_frame < view.frames
+  pub room : length counts ≡ view.frames
+  pub inside : (space page : ℕ) (x : PageView) → page_at view space page ≡ Some x → x.entry.frame < view.frames
+  pub apart : (space : ℕ) → IsApart view.zero_frame (space_at view space)
+  pub counted : AreCounted (ledger_of view) view.zero_frame view.frames counts
+  pub units_is : units_kept ≡ units (ledger_of view)
+  pub lines_is : lines_kept ≡ own_lines (ledger_of view)
+
+-- whatever lines of whatever other page of the space a store touches too, it rises by as much more
+abbrev pub RisesBeside : LedgerView → ℕ → ℕ → List ℕ → ℕ → Type 0
+RisesBeside view space page lines rise = (other : ℕ) (more : List ℕ) → (other ≡ page → ⊥)
+    → (units (ledger_after (Store (space_at view space).speculating space ((page, lines) ∷ ((other, more) ∷ []))) (ledger_of view))
+    ≡ units (ledger_after (Store (space_at view space).speculating space ((other, more) ∷ [])) (ledger_of view)) + rise)

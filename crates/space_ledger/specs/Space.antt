@@ -1,0 +1,64 @@
+use Rattle.std.specs.Prelude.{◌≡◌, ℕ, ◌+◌, ◌≤◌, ◌<◌, ◌^◌, Bool, nat_le, nat_lt, Option, Some, None, IsSome}
+use Rattle.std.specs.FinMap.{empty, get, insert, len, remove, retain_keys}
+use Rattle.page_table.specs.Table.{Pages, IsMapped}
+use Rattle.page_table.specs.declared.entry.PageEntry.{PageEntry}
+
+-- The pages of one space.
+
+-- its pages with their entries, those that await being shared, and whether it is speculating
+pub record SpaceTable : Type 0 where
+  pub pages : Pages
+  pub awaiting : Pages
+  pub speculating : Bool
+
+-- the pages of a table below one, and those from it on
+unfoldable pub pages_below : Pages → ℕ → Pages
+pages_below table end = retain_keys table (λ page. nat_lt page end)
+
+unfoldable pub pages_from : Pages → ℕ → Pages
+pages_from table end = retain_keys table (λ page. nat_le end page)
+
+-- what is true of what is kept: how many pages there are, and how far the end reaches
+pub record IsCounted (table : Pages) (end count : ℕ) : Type 0 where
+  pub pages : count ≡ len (pages_below table end)
+  pub reach : end < 2 ^ 64
+
+-- the least page not below one, or that there is none
+abbrev pub IsNextPage : Pages → ℕ → Option ℕ → Type 0
+IsNextPage pages page None = (q : ℕ) → page ≤ q → get pages q ≡ None
+IsNextPage pages page (Some found) = (page ≤ found) × IsSome (get pages found) × ((q : ℕ) → page ≤ q → q < found → get pages q ≡ None)
+
+-- a page with another entry, and without one
+abbrev pub with_entry : SpaceTable → ℕ → PageEntry → SpaceTable
+with_entry space page entry = record { pages = insert space.pages page entry; awaiting = space.awaiting; speculating = space.speculating }
+
+abbrev pub without_page : SpaceTable → ℕ → SpaceTable
+without_page space page = record { pages = remove space.pages page; awaiting = space.awaiting; speculating = space.speculating }
+
+-- the n pages from `from` on have the entry, and nothing else changed
+pub record AreMapped (old : SpaceTable) (from n : ℕ) (entry : PageEntry) (new : SpaceTable) : Type 0 where
+  pub pages : IsMapped old.pages from n entry new.pages
+  pub count : len new.pages ≡ len old.pages + n
+  pub awaiting : new.awaiting ≡ old.awaiting
+  pub mark : new.speculating ≡ old.speculating
+
+-- the pages of a table await
+abbrev pub adopted : SpaceTable → Pages → SpaceTable
+adopted space table = record { pages = empty; awaiting = table; speculating = space.speculating }
+
+-- a page is the least of those that await
+pub record IsLeast (awaiting : Pages) (page : ℕ) : Type 0 where
+  pub there : IsSome (get awaiting page)
+  pub least : (q : ℕ) → IsSome (get awaiting q) → page ≤ q
+
+-- a page awaits no more
+abbrev pub awaited : SpaceTable → ℕ → PageEntry → SpaceTable
+awaited space page entry = record { pages = insert space.pages page entry; awaiting = remove space.awaiting page; speculating = space.speculating }
+
+abbrev pub marked : SpaceTable → Bool → SpaceTable
+marked space on = record { pages = space.pages; awaiting = space.awaiting; speculating = on }
+
+-- the least page that awaits, with its entry, or that none does
+abbrev pub AwaitsFirst : Pages → Option (ℕ × PageEntry) → Type 0
+AwaitsFirst awaiting None = awaiting ≡ empty
+AwaitsFirst awaiting (Some found) = (get awaiting found.0 ≡ Some found.1) × IsLeast awaiting found.0

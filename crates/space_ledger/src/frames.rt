@@ -1,0 +1,68 @@
+//! The sharers of a frame, and what they cost.
+
+ghost use Rattle.std.specs.Prelude.{◌≡◌, ◌+◌, ◌-◌, ◌^◌, ◌==◌, ◌<◌, ◌⊎◌, ◌&&◌, not, length};
+ghost use Rattle.frame_pool.specs.Counts.{sharers_of};
+ghost use Rattle.ledger.specs.Units.{class};
+ghost use Rattle.space_ledger.specs.Frames.{frame_units, held_by, released_by};
+
+use frame_pool::FramePool;
+use sizes::FRAME_UNITS;
+
+/// Whether a frame has one sharer, and isn't the zero frame.
+#[inline]
+pub(crate) fn is_only(pool: &FramePool, zero: u32, frame: u32) -> bool
+    requires { frame < length pool.now }
+    ensures { result ≡ (not (frame == zero) && (sharers_of pool.now frame == 1)) }
+{
+    frame != zero && pool.sharers(frame) == 1
+}
+
+/// One more page names a frame: no count where it is the zero frame. Answers the units that it costs.
+#[tactic(auto, unfolding(crate::specs::Frames::held_by, crate::specs::Frames::frame_units))]
+pub(crate) fn hold(pool: &mut FramePool, zero: u32, frame: u32) -> u32
+    requires there { frame < length pool.old }
+    requires few { (frame ≡ zero) ⊎ (sharers_of pool.old frame < 2 ^ 32 - 1) }
+    ensures held { pool.new ≡ held_by zero pool.old frame }
+    ensures units { result ≡ frame_units zero pool.old frame }
+{
+    if frame == zero {
+        return 0;
+    }
+    let is_first = pool.sharers(frame) == 0;
+    pool.hold(frame);
+    if is_first { FRAME_UNITS } else { 0 }
+}
+
+/// One page fewer names a frame: no count where it is the zero frame. Answers the units that it frees.
+#[tactic(auto, unfolding(crate::specs::Frames::released_by, crate::specs::Frames::frame_units))]
+pub(crate) fn release(pool: &mut FramePool, zero: u32, frame: u32) -> u32
+    requires there { frame < length pool.old }
+    requires some { (frame ≡ zero) ⊎ (0 < sharers_of pool.old frame) }
+    ensures released { pool.new ≡ released_by zero pool.old frame }
+    ensures units { result ≡ frame_units zero pool.new frame }
+{
+    if zero == frame {
+        return 0;
+    }
+    if pool.release(frame) { FRAME_UNITS } else { 0 }
+}
+
+/// The units of a segment for as many lines.
+#[tactic(auto, unfolding(ledger::specs::Units::class))]
+pub(crate) fn class_of(lines: u32) -> u32
+    ensures { result ≡ class lines }
+{
+    if lines == 0 {
+        0
+    } else if lines < 4 {
+        1
+    } else if lines < 8 {
+        2
+    } else if lines < 16 {
+        4
+    } else if lines < 32 {
+        8
+    } else {
+        16
+    }
+}

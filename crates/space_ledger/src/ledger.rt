@@ -1,0 +1,433 @@
+//! The space ledger.
+
+ghost use Rattle.std.specs.Prelude.{◌≡◌, ℕ, ◌+◌, ◌-◌, ◌*◌, ◌==◌, ◌<◌, ◌≤◌, ◌⊎◌, ◌&&◌, cond, not, nat_lt, length, true, false, Some, None, [], ◌∷◌, IfOk, IfSome, IsSome, OnOk, OnErr};
+ghost use Rattle.std.specs.FinMap as map;
+ghost use Rattle.std.specs.Option.{is_some, option_and_then, option_map};
+ghost use Rattle.sizes.specs.declared.TheConstants.{FRAME_UNITS, LAST_SPACE, MOST_FRAMES, MOST_SPACE_PAGES, PAGE_END, PAGE_LINES};
+ghost use Rattle.ledger.specs.Ledger as book;
+ghost use Rattle.ledger.specs.Units as count;
+ghost use Rattle.ledger.specs.Units.{class, overlaid_pages, units};
+ghost use Rattle.overlay_bits.specs.Lines.{AreLines, with_lines};
+ghost use Rattle.ledger.specs.Changes.{has_own};
+ghost use Rattle.ledger.specs.Events.{Store, ledger_after};
+ghost use Rattle.overlay_address.specs.Names.{page_of, space_of};
+ghost use Rattle.space_ledger.specs.Space.{AwaitsFirst, IsLeast};
+ghost use Rattle.space_ledger.specs.View.{has_space, ledger_of, no_pages, page_at, space_at, frame_at, frame_awaiting, lines_of, overlay_at, with_awaiting, with_block, with_frame, with_mark, with_overlay, with_page_shared, with_space, with_zero_pages, without_page_at, without_space};
+ghost use Rattle.space_ledger.specs.Calls.{AreFree, HasRoom, IsFreeFor, IsNextOf, NamesOnce, RisesBeside, entries_of, given_up};
+
+use crate::frames::{class_of, hold, is_only, release};
+use crate::tables::Tables;
+use frame_pool::FramePool;
+use overlay_address::OverlayPage;
+use overlay_bits::Bits;
+use overlay_mapping_table::Entry;
+use ovl_io::Perms;
+use page_table::{PageEntry, PageTable};
+use sizes::FRAME_UNITS;
+use std::alloc::{AllocError, Global};
+use std::marker::Model;
+use unit_map::Block;
+
+/// The tables of all spaces, the sharers of each frame, the own lines of each page, and the units. Spaces are numbered from 1
+/// to 32,767, pages are below 2^26.
+#[derive(Drop)]
+pub struct SpaceLedger {
+    tables: Tables,
+    pool: FramePool,
+    units: u32,
+    lines: u32,
+}
+
+impl Model for SpaceLedger {
+    ghost use Rattle.space_ledger.specs.View.{LedgerView};
+    ghost use Rattle.space_ledger.specs.Codes.{view_code};
+
+    ghost Value = { LedgerView };
+
+    ghost coded = { view_code };
+
+    ghost use Rattle.space_ledger.specs.Calls.{IsBooked};
+
+    ghost view = { λ l. l.tables };
+
+    ghost invariant = { λ l. IsBooked l.tables l.pool l.units l.lines };
+}
+
+impl SpaceLedger {
+    /// A ledger without a space, over 1 to 65,536 frames, of which one is the zero frame. Takes all the memory that frames
+    /// and overlays ever need, or answers the want of it.
+    pub fn new(alloc: Global, frames: u32, zero: u32) -> Result<SpaceLedger, AllocError>
+        requires some { 0 < frames }
+        requires few { frames ≤ MOST_FRAMES }
+        requires zero_frame { zero < frames }
+        ensures spaces { IfOk result (λ ledger. ledger.spaces ≡ map.empty) }
+        ensures frames { IfOk result (λ ledger. ledger.frames ≡ frames) }
+        ensures zero { IfOk result (λ ledger. ledger.zero_frame ≡ zero) }
+    {
+        let tables = match Tables::new(alloc, frames, zero) {
+            Ok(tables) => tables,
+            Err(_) => return Err(AllocError),
+        };
+        match FramePool::new(alloc, frames) {
+            Ok(pool) => Ok(SpaceLedger {
+                tables,
+                pool,
+                units: FRAME_UNITS,
+                lines: 0,
+            }),
+            Err(_) => Err(AllocError),
+        }
+    }
+
+    /// Whether a space is there. Costs a step.
+    pub fn has_space(&self, space: u16) -> bool
+        ensures { result ≡ has_space self.now space }
+    {
+        self.tables.has(space)
+    }
+
+    /// Makes a space of a number from 1 to 32,767 that isn't there: without a page and without a mark. After want of memory the
+    /// ledger is as before.
+    pub fn add_space(&mut self, space: u16) -> Result<(), AllocError>
+        requires number { (0 < space) × (space ≤ LAST_SPACE) }
+        requires absent { has_space self.old space ≡ false }
+        ensures added { OnOk result (self.new ≡ with_space self.old space no_pages) }
+        ensures kept { OnErr result (self.new ≡ self.old) }
+    {
+        self.tables.add(space)
+    }
+
+    /// Takes away a space that is there, has no page, and of which no page awaits. Takes no memory.
+    pub fn end_space(&mut self, space: u16)
+        requires there { has_space self.old space ≡ true }
+        requires empty { (space_at self.old space).pages ≡ map.empty }
+        requires settled { (space_at self.old space).awaiting ≡ map.empty }
+        ensures { self.new ≡ without_space self.old space }
+    {
+        self.tables.end(space);
+    }
+
+    /// Maps `n` pages from `page` on, which aren't there, on the zero frame and without own lines. No page of the space awaits,
+    /// pages end at 2^26, and a space has at most 131,072 then. After want of memory the ledger is as before. Costs a look-up for
+    /// each of the pages.
+    pub fn map_zero(
+        &mut self,
+        space: u16,
+        page: u64,
+        n: u32,
+        perms: Perms,
+    ) -> Result<(), AllocError>
+        requires there { has_space self.old space ≡ true }
+        requires settled { (space_at self.old space).awaiting ≡ map.empty }
+        requires free { AreFree self.old space page n }
+        requires low { page + n ≤ PAGE_END }
+        requires few { map.len (space_at self.old space).pages + n ≤ MOST_SPACE_PAGES }
+        ensures mapped { OnOk result (self.new ≡ with_zero_pages self.old space page n
+            (record { perms = perms; frame = self.old.zero_frame })) }
+        ensures kept { OnErr result (self.new ≡ self.old) }
+    {
+        let zero = self.tables.zero();
+        self.tables.map(space, page, n, perms, zero)
+    }
+
+    /// The permissions and the frame of a page. None exactly where the page isn't there. Costs a look-up.
+    #[inline]
+    pub fn entry(&self, space: u16, page: u64) -> Option<PageEntry>
+        ensures { result ≡ option_map (λ x. x.entry) (page_at self.now space page) }
+    {
+        self.tables.entry(space, page)
+    }
+
+    /// The lines and the block of the overlay of a page that is there. None exactly where it has no own lines. Costs a look-up.
+    #[inline]
+    pub fn overlay(&self, space: u16, page: u64) -> Option<Entry>
+        requires { IsSome (page_at self.now space page) }
+        ensures overlay { result ≡ option_and_then (λ x. x.overlay) (page_at self.now space page) }
+        ensures own { is_some result ≡ has_own (ledger_of self.now) space page }
+    {
+        let _zero = self.tables.zero();
+        self.tables.overlay(space, page)
+    }
+
+    /// The least page of a space not below one. None exactly where none is. Costs a look-up.
+    pub fn next_page(&self, space: u16, page: u64) -> Option<u64>
+        ensures next { IsNextOf self.now space page result }
+    {
+        self.tables.next(space, page)
+    }
+
+    /// How many pages a space has.
+    pub fn pages(&self, space: u16) -> u32
+        ensures { result ≡ map.len (space_at self.now space).pages }
+    {
+        self.tables.len(space)
+    }
+
+    /// Whether a page that is there is alone: its frame isn't the zero frame, and no other page of any space names it. Costs a
+    /// look-up.
+    #[inline]
+    pub fn is_alone(&self, space: u16, page: u64) -> bool
+        requires { IsSome (page_at self.now space page) }
+        ensures { result ≡ book.is_alone (ledger_of self.now) space page }
+    {
+        match self.tables.entry(space, page) {
+            Some(entry) => is_only(&self.pool, self.tables.zero(), entry.frame),
+            None => unreachable!(),
+        }
+    }
+
+    /// The least page of a space that awaits `share_page`, with its entry. None exactly where none does. Costs a look-up.
+    pub fn first_awaiting(&self, space: u16) -> Option<(u64, PageEntry)>
+        ensures { AwaitsFirst (space_at self.now space).awaiting result }
+    {
+        self.tables.first_awaiting(space)
+    }
+
+    /// How many frames there are.
+    pub fn frames(&self) -> u32
+        ensures { result ≡ self.now.frames }
+    {
+        self.tables.frames()
+    }
+
+    /// Sets or takes away the mark of a space. Takes no memory.
+    pub fn set_speculating(&mut self, space: u16, on: bool)
+        requires { has_space self.old space ≡ true }
+        ensures { self.new ≡ with_mark self.old space on }
+    {
+        self.tables.set_speculating(space, on);
+    }
+
+    /// Whether a space is marked as speculating.
+    #[inline]
+    pub fn is_speculating(&self, space: u16) -> bool
+        ensures { result ≡ (space_at self.now space).speculating }
+    {
+        self.tables.is_speculating(space)
+    }
+
+    /// A table with the entries of a space's pages, of which none awaits, or want of memory. Costs a step for each page.
+    pub fn copy_table(&self, space: u16) -> Result<PageTable, AllocError>
+        requires there { has_space self.now space ≡ true }
+        requires settled { (space_at self.now space).awaiting ≡ map.empty }
+        ensures table { IfOk result (λ table. table ≡ entries_of self.now space) }
+        ensures once { IfOk result (λ table. NamesOnce self.now.zero_frame table) }
+    {
+        let _zero = self.tables.zero();
+        self.tables.copy(space)
+    }
+
+    /// Gives a space that has no page, and of which none awaits, a table that names no frame but the zero frame twice. Its
+    /// pages await `share_page`, and are in no ledger until then. Takes no memory.
+    pub fn adopt_table(&mut self, to: u16, table: PageTable)
+        requires there { has_space self.old to ≡ true }
+        requires empty { (space_at self.old to).pages ≡ map.empty }
+        requires settled { (space_at self.old to).awaiting ≡ map.empty }
+        requires once { NamesOnce self.old.zero_frame table }
+        ensures { self.new ≡ with_awaiting self.old to table }
+    {
+        self.tables.adopt(to, table);
+    }
+
+    /// The units: 16 for the zero frame, 16 for each other frame that some page names, and those of the segments of all
+    /// overlays. Costs a step.
+    #[inline]
+    pub fn units(&self) -> u32
+        ensures { result ≡ units (ledger_of self.now) }
+    {
+        self.units
+    }
+
+    /// How many own lines all pages have. Costs a step.
+    #[inline]
+    pub fn lines(&self) -> u32
+        ensures { result ≡ count.own_lines (ledger_of self.now) }
+    {
+        self.lines
+    }
+
+    /// A page that is there names another frame: one in range that is the zero frame, or that no other page of the space names.
+    /// No page of the space awaits. Answers the frame that the page named before, exactly where it isn't the zero frame and no
+    /// page names it now. Takes no memory, and costs a look-up.
+    pub fn set_frame(&mut self, space: u16, page: u64, frame: u32) -> Option<u32>
+        requires there { IsSome (page_at self.old space page) }
+        requires settled { (space_at self.old space).awaiting ≡ map.empty }
+        requires inside { frame < self.old.frames }
+        requires free { IsFreeFor self.old space page frame }
+        ensures framed { self.new ≡ with_frame self.old space page frame }
+        ensures freed { result ≡ given_up self.new (page_at self.old space page) }
+    {
+        let zero = self.tables.zero();
+        match self.tables.entry(space, page) {
+            Some(old) => {
+                let perms = old.perms;
+                self.tables
+                    .set_entry(space, page, PageEntry { perms, frame });
+                let freed = release(&mut self.pool, zero, old.frame);
+                let added = hold(&mut self.pool, zero, frame);
+                self.units = self.units - freed + added;
+                other_frame(freed_frame(freed, old.frame), frame)
+            }
+            None => unreachable!(),
+        }
+    }
+
+    /// A page that is there has the lines and the block of an entry, which has a line, or no own lines any more. It is overlaid,
+    /// or fewer than 16 pages for each frame are. Takes no memory, and costs a look-up.
+    pub fn set_overlay(&mut self, space: u16, page: u64, entry: Option<Entry>)
+        requires there { IsSome (page_at self.old space page) }
+        requires lined { IfSome entry (λ e. 0 < length e.bits) }
+        requires room { HasRoom self.old space page entry }
+        ensures { self.new ≡ with_overlay self.old space page entry }
+    {
+        let _zero = self.tables.zero();
+        let before = lines_in(&self.tables.overlay(space, page));
+        let after = lines_in(&entry);
+        self.tables.set_overlay(space, page, entry);
+        self.units = self.units - class_of(before) + class_of(after);
+        self.lines = self.lines - before + after;
+    }
+
+    /// The block of an overlaid page is another one. Takes no memory, and costs a look-up.
+    pub fn relocate(&mut self, owner: OverlayPage, to: Block)
+        requires { IsSome (option_and_then (λ x. x.overlay) (page_at self.old (space_of owner) (page_of owner))) }
+        ensures { self.new ≡ with_block self.old (space_of owner) (page_of owner) to }
+    {
+        let space = owner.space();
+        let page = owner.page();
+        let _zero = self.tables.zero();
+        match self.tables.overlay(space, page) {
+            Some(entry) => {
+                let bits = entry.bits;
+                self.tables
+                    .set_overlay(space, page, Some(Entry { bits, block: to }));
+            }
+            None => unreachable!(),
+        }
+    }
+
+    /// Takes away a page that is there and has no own lines. Answers its frame, exactly where it isn't the zero frame and no
+    /// page names it now. Takes no memory, and costs a look-up.
+    pub fn remove_page(&mut self, space: u16, page: u64) -> Option<u32>
+        requires there { IsSome (page_at self.old space page) }
+        requires bare { option_and_then (λ x. x.overlay) (page_at self.old space page) ≡ None }
+        ensures gone { self.new ≡ without_page_at self.old space page }
+        ensures freed { result ≡ given_up self.new (page_at self.old space page) }
+    {
+        let zero = self.tables.zero();
+        match self.tables.entry(space, page) {
+            Some(old) => {
+                self.tables.remove(space, page);
+                let freed = release(&mut self.pool, zero, old.frame);
+                self.units -= freed;
+                freed_frame(freed, old.frame)
+            }
+            None => unreachable!(),
+        }
+    }
+
+    /// Shares the page of a space with another one, where it awaits as the least and has the frame that it has in the first: it
+    /// gets its origin and its own lines there, and keeps the permissions of the table that was adopted. A block is given exactly
+    /// where it has own lines, and fewer than 16 pages for each frame are overlaid then. Takes no memory, and costs a look-up.
+    pub fn share_page(&mut self, from: u16, to: u16, page: u64, block: Option<Block>)
+        requires there { IsSome (page_at self.old from page) }
+        requires space { has_space self.old to ≡ true }
+        requires least { IsLeast (space_at self.old to).awaiting page }
+        requires frame { frame_awaiting self.old to page ≡ frame_at self.old from page }
+        requires block { is_some block ≡ is_some (overlay_at self.old from page) }
+        requires room { IfSome block (λ b. overlaid_pages (ledger_of self.old) < FRAME_UNITS * self.old.frames) }
+        ensures shared { self.new ≡ with_page_shared self.old from to page block }
+        ensures same { book.holding_at (ledger_of self.new) to page ≡ book.holding_at (ledger_of self.old) from page }
+    {
+        let zero = self.tables.zero();
+        let overlay = in_block(&self.tables.overlay(from, page), block);
+        let lines = lines_in(&overlay);
+        let entry = self.tables.share(to, page, overlay);
+        let added = hold(&mut self.pool, zero, entry.frame);
+        self.units = self.units + added + class_of(lines);
+        self.lines += lines;
+    }
+
+    /// By how many units a store rises that touches these lines of a page that is there. A store over two pages of a space
+    /// rises by the sum of both answers. Costs a few look-ups.
+    pub fn store_units(&self, space: u16, page: u64, lines: Bits) -> u32
+        requires { IsSome (page_at self.now space page) }
+        ensures rise { units (ledger_after (Store (space_at self.now space).speculating space ((page, lines) ∷ [])) (ledger_of self.now))
+            ≡ units (ledger_of self.now) + result }
+        ensures both { RisesBeside self.now space page lines result }
+    {
+        let is_alone = self.is_alone(space, page);
+        let is_speculating = self.is_speculating(space);
+        let own = bits_of(&self.tables.overlay(space, page));
+        rise_of(is_speculating, is_alone, own, lines)
+    }
+}
+
+/// The lines of an overlay with another block, where one is given.
+fn in_block(own: &Option<Entry>, block: Option<Block>) -> Option<Entry>
+    requires { is_some block ≡ is_some own.now }
+    ensures { result ≡ option_map (λ b. record { bits = lines_of own.now; block = b }) block }
+{
+    match block {
+        Some(block) => match own {
+            Some(entry) => {
+                let bits = entry.bits;
+                Some(Entry { bits, block })
+            }
+            None => unreachable!(),
+        },
+        None => None,
+    }
+}
+
+/// The lines of an overlay: none where there is none.
+fn bits_of(overlay: &Option<Entry>) -> Bits
+    ensures { result ≡ lines_of overlay.now }
+{
+    match overlay {
+        Some(entry) => entry.bits,
+        None => Bits::empty(),
+    }
+}
+
+/// How many lines an overlay has: none where there is none.
+fn lines_in(overlay: &Option<Entry>) -> u32
+    ensures count { result ≡ length (lines_of overlay.now) }
+    ensures few { result ≤ PAGE_LINES }
+{
+    match overlay {
+        Some(entry) => entry.bits.len(),
+        None => 0,
+    }
+}
+
+/// By how many units a page rises that has own lines, where further ones join them: not at all where its frame is written.
+fn rise_of(is_speculating: bool, is_alone: bool, own: Bits, lines: Bits) -> u32
+    ensures rise { result ≡ cond (not is_speculating && is_alone) 0 (class (length (with_lines own lines)) - class (length own)) }
+    ensures are { AreLines own × AreLines lines }
+{
+    let joined = own.union(lines);
+    let before = class_of(own.len());
+    let after = class_of(joined.len());
+    if !is_speculating && is_alone {
+        return 0;
+    }
+    after - before
+}
+
+/// The frame that was given up, where it freed units.
+fn freed_frame(freed: u32, frame: u32) -> Option<u32>
+    ensures { result ≡ cond (nat_lt 0 freed) (Some frame) None }
+{
+    if freed > 0 { Some(frame) } else { None }
+}
+
+/// The frame that was given up, where it isn't the one that is named now.
+fn other_frame(freed: Option<u32>, now: u32) -> Option<u32>
+    ensures { result ≡ option_and_then (λ frame. cond (now == frame) None (Some frame)) freed }
+{
+    match freed {
+        Some(frame) => { if now == frame { None } else { Some(frame) } }
+        None => None,
+    }
+}

@@ -1,0 +1,321 @@
+//! Slots: spaces by number.
+
+ghost use Rattle.std.specs.Prelude.{◌≡◌, ℕ, ◌+◌, ◌^◌, ◌<◌, ◌≤◌, length, max, Some, None, true, false, IfOk, IsSome, OnOk, OnErr};
+ghost use Rattle.std.specs.FinMap as map;
+ghost use Rattle.std.specs.Option.{option_and_then, option_map, option_map_or, is_some};
+ghost use Rattle.page_table.specs.Table.{IsFree};
+ghost use Rattle.space_ledger.specs.Space.{AreMapped, AwaitsFirst, IsLeast, IsNextPage, adopted, awaited, marked, with_entry, without_page};
+ghost use Rattle.space_ledger.specs.Kept.{AreMappedOf, AwaitsFirstIn, IsChanged, IsMappedIn, IsNextIn, IsSet, OnTable, slot_at, table_of};
+
+use crate::space::Space;
+use ovl_io::Perms;
+use page_table::{PageEntry, PageTable};
+use std::alloc::{AllocError, Global};
+
+/// Spaces by number.
+pub(crate) type Slots = Vec<Option<Box<Space>>>;
+
+/// Whether there is a space of that number.
+#[inline]
+pub(crate) fn has_in(slots: &Slots, space: u16) -> bool
+    ensures { result ≡ is_some (table_of (slot_at slots.now.items space)) }
+{
+    match slots.get(space as usize) {
+        Some(Some(_)) => true,
+        Some(None) => false,
+        None => false,
+    }
+}
+
+/// The entry of a page of a space.
+#[inline]
+pub(crate) fn get_in(slots: &Slots, space: u16, page: u64) -> Option<PageEntry>
+    ensures { result ≡ option_and_then (λ table. map.get table.pages page) (table_of (slot_at slots.now.items space)) }
+{
+    match slots.get(space as usize) {
+        Some(Some(space)) => space.get(page),
+        Some(None) => None,
+        None => None,
+    }
+}
+
+/// The least page not below one, of a space.
+pub(crate) fn next_in(slots: &Slots, space: u16, page: u64) -> Option<u64>
+    ensures { IsNextIn (table_of (slot_at slots.now.items space)) page result }
+{
+    match slots.get(space as usize) {
+        Some(Some(space)) => space.next(page),
+        Some(None) => None,
+        None => None,
+    }
+}
+
+/// How many pages a space has.
+pub(crate) fn len_in(slots: &Slots, space: u16) -> u32
+    ensures { result ≡ option_map_or (λ table. map.len table.pages) (table_of (slot_at slots.now.items space)) 0 }
+{
+    match slots.get(space as usize) {
+        Some(Some(space)) => space.len(),
+        Some(None) => 0,
+        None => 0,
+    }
+}
+
+/// Whether a space is speculating.
+pub(crate) fn marked_in(slots: &Slots, space: u16) -> bool
+    ensures { result ≡ option_map_or (λ table. table.speculating) (table_of (slot_at slots.now.items space)) false }
+{
+    match slots.get(space as usize) {
+        Some(Some(space)) => space.is_speculating(),
+        Some(None) => false,
+        None => false,
+    }
+}
+
+/// The least page of a space that awaits, with its entry.
+pub(crate) fn first_awaiting_in(slots: &Slots, space: u16) -> Option<(u64, PageEntry)>
+    ensures { AwaitsFirstIn (table_of (slot_at slots.now.items space)) result }
+{
+    match slots.get(space as usize) {
+        Some(Some(space)) => space.first_awaiting(),
+        Some(None) => None,
+        None => None,
+    }
+}
+
+fn set_slot(slot: &mut Option<Box<Space>>, page: u64, entry: PageEntry)
+    requires { IsSome (option_and_then (λ table. map.get table.pages page) (table_of slot.old)) }
+    ensures { table_of slot.new ≡ option_map (λ table. with_entry table page entry) (table_of slot.old) }
+{
+    match slot {
+        Some(space) => space.set(page, entry),
+        None => unreachable!(),
+    }
+}
+
+/// Gives a page that is there another entry.
+pub(crate) fn set_in(slots: &mut Slots, space: u16, page: u64, entry: PageEntry)
+    requires { IsSome (option_and_then (λ table. map.get table.pages page) (table_of (slot_at slots.old.items space))) }
+    ensures changed { IsChanged (λ table. with_entry table page entry) slots.old.items slots.new.items space }
+    ensures length { length slots.new.items ≡ length slots.old.items }
+{
+    match slots.get_mut(space as usize) {
+        Some(slot) => set_slot(slot, page, entry),
+        None => unreachable!(),
+    }
+}
+
+fn mark_slot(slot: &mut Option<Box<Space>>, on: bool)
+    ensures { table_of slot.new ≡ option_map (λ table. marked table on) (table_of slot.old) }
+{
+    match slot {
+        Some(space) => space.set_speculating(on),
+        None => (),
+    }
+}
+
+/// Sets or takes away the mark of a space.
+pub(crate) fn mark_in(slots: &mut Slots, space: u16, on: bool)
+    ensures changed { IsChanged (λ table. marked table on) slots.old.items slots.new.items space }
+    ensures length { length slots.new.items ≡ length slots.old.items }
+{
+    match slots.get_mut(space as usize) {
+        Some(slot) => mark_slot(slot, on),
+        None => (),
+    }
+}
+
+fn map_slot(
+    slot: &mut Option<Box<Space>>,
+    from: u64,
+    n: u32,
+    perms: Perms,
+    frame: u32,
+) -> Result<(), AllocError>
+    requires there { is_some (table_of slot.old) ≡ true }
+    requires settled { OnTable (table_of slot.old) (λ table. table.awaiting ≡ map.empty) }
+    requires free { OnTable (table_of slot.old) (λ table. IsFree table.pages from n) }
+    requires low { from + n ≤ 2 ^ 36 }
+    requires few { OnTable (table_of slot.old) (λ table. map.len table.pages + n < 2 ^ 32) }
+    ensures mapped { OnOk result (AreMappedOf (table_of slot.old) from n
+        (record { perms = perms; frame = frame }) (table_of slot.new)) }
+    ensures kept { OnErr result (table_of slot.new ≡ table_of slot.old) }
+{
+    match slot {
+        Some(space) => space.map(from, n, perms, frame),
+        None => unreachable!(),
+    }
+}
+
+/// Gives pages that aren't there an entry, in a space of which no page awaits. After want of memory the space is as before.
+pub(crate) fn map_in(
+    slots: &mut Slots,
+    space: u16,
+    from: u64,
+    n: u32,
+    perms: Perms,
+    frame: u32,
+) -> Result<(), AllocError>
+    requires there { is_some (table_of (slot_at slots.old.items space)) ≡ true }
+    requires settled { OnTable (table_of (slot_at slots.old.items space)) (λ table. table.awaiting ≡ map.empty) }
+    requires free { OnTable (table_of (slot_at slots.old.items space)) (λ table. IsFree table.pages from n) }
+    requires low { from + n ≤ 2 ^ 36 }
+    requires few { OnTable (table_of (slot_at slots.old.items space)) (λ table. map.len table.pages + n < 2 ^ 32) }
+    ensures mapped { OnOk result (IsMappedIn slots.old.items slots.new.items space from n (record { perms = perms; frame = frame })) }
+    ensures kept { OnErr result (IsChanged (λ table. table) slots.old.items slots.new.items space) }
+    ensures length { length slots.new.items ≡ length slots.old.items }
+{
+    match slots.get_mut(space as usize) {
+        Some(slot) => map_slot(slot, from, n, perms, frame),
+        None => unreachable!(),
+    }
+}
+
+fn remove_slot(slot: &mut Option<Box<Space>>, page: u64)
+    requires { IsSome (option_and_then (λ table. map.get table.pages page) (table_of slot.old)) }
+    ensures { table_of slot.new ≡ option_map (λ table. without_page table page) (table_of slot.old) }
+{
+    match slot {
+        Some(space) => space.remove(page),
+        None => unreachable!(),
+    }
+}
+
+/// Takes away a page that is there.
+pub(crate) fn remove_in(slots: &mut Slots, space: u16, page: u64)
+    requires { IsSome (option_and_then (λ table. map.get table.pages page) (table_of (slot_at slots.old.items space))) }
+    ensures changed { IsChanged (λ table. without_page table page) slots.old.items slots.new.items space }
+    ensures length { length slots.new.items ≡ length slots.old.items }
+{
+    match slots.get_mut(space as usize) {
+        Some(slot) => remove_slot(slot, page),
+        None => unreachable!(),
+    }
+}
+
+/// A table equal to that of a space of which no page awaits, or want of memory.
+pub(crate) fn copy_in(slots: &Slots, space: u16) -> Result<PageTable, AllocError>
+    requires { OnTable (table_of (slot_at slots.now.items space)) (λ table. table.awaiting ≡ map.empty) }
+    ensures { IfOk result (λ copy. Some copy ≡ option_map (λ table. table.pages) (table_of (slot_at slots.now.items space))) }
+{
+    match slots.get(space as usize) {
+        Some(Some(space)) => space.copy(),
+        Some(None) => unreachable!(),
+        None => unreachable!(),
+    }
+}
+
+fn adopt_slot(slot: &mut Option<Box<Space>>, table: PageTable)
+    requires empty { OnTable (table_of slot.old) (λ t. t.pages ≡ map.empty) }
+    requires settled { OnTable (table_of slot.old) (λ t. t.awaiting ≡ map.empty) }
+    ensures { table_of slot.new ≡ option_map (λ t. adopted t table) (table_of slot.old) }
+{
+    match slot {
+        Some(space) => space.adopt(table),
+        None => unreachable!(),
+    }
+}
+
+/// Gives a space that has no page a table: its pages await.
+pub(crate) fn adopt_in(slots: &mut Slots, space: u16, table: PageTable)
+    requires empty { OnTable (table_of (slot_at slots.old.items space)) (λ t. t.pages ≡ map.empty) }
+    requires settled { OnTable (table_of (slot_at slots.old.items space)) (λ t. t.awaiting ≡ map.empty) }
+    ensures changed { IsChanged (λ t. adopted t table) slots.old.items slots.new.items space }
+    ensures length { length slots.new.items ≡ length slots.old.items }
+{
+    match slots.get_mut(space as usize) {
+        Some(slot) => adopt_slot(slot, table),
+        None => unreachable!(),
+    }
+}
+
+fn share_slot(slot: &mut Option<Box<Space>>, page: u64) -> PageEntry
+    requires least { OnTable (table_of slot.old) (λ table. IsLeast table.awaiting page) }
+    requires low { page < 2 ^ 36 }
+    requires few { OnTable (table_of slot.old) (λ table. map.len table.pages + 1 < 2 ^ 32) }
+    ensures entry { option_and_then (λ table. map.get table.awaiting page) (table_of slot.old) ≡ Some result }
+    ensures apart { option_and_then (λ table. map.get table.pages page) (table_of slot.old) ≡ None }
+    ensures shared { table_of slot.new ≡ option_map (λ table. awaited table page result) (table_of slot.old) }
+{
+    match slot {
+        Some(space) => space.share(page),
+        None => unreachable!(),
+    }
+}
+
+/// The least page that awaits becomes one of the space's. Answers its entry.
+pub(crate) fn share_in(slots: &mut Slots, space: u16, page: u64) -> PageEntry
+    requires least { OnTable (table_of (slot_at slots.old.items space)) (λ table. IsLeast table.awaiting page) }
+    requires low { page < 2 ^ 36 }
+    requires few { OnTable (table_of (slot_at slots.old.items space)) (λ table. map.len table.pages + 1 < 2 ^ 32) }
+    ensures entry { option_and_then (λ table. map.get table.awaiting page) (table_of (slot_at slots.old.items space)) ≡ Some result }
+    ensures apart { option_and_then (λ table. map.get table.pages page) (table_of (slot_at slots.old.items space)) ≡ None }
+    ensures shared { IsChanged (λ table. awaited table page result) slots.old.items slots.new.items space }
+    ensures length { length slots.new.items ≡ length slots.old.items }
+{
+    match slots.get_mut(space as usize) {
+        Some(slot) => share_slot(slot, page),
+        None => unreachable!(),
+    }
+}
+
+/// Takes a space away.
+pub(crate) fn clear_in(slots: &mut Slots, space: u16)
+    ensures cleared { IsSet slots.old.items slots.new.items space None }
+    ensures length { length slots.new.items ≡ length slots.old.items }
+{
+    match slots.get_mut(space as usize) {
+        Some(slot) => *slot = None,
+        None => (),
+    }
+}
+
+/// A slot for a space without a page.
+fn new_slot(alloc: Global) -> Result<Box<Space>, AllocError>
+    ensures pages { IfOk result (λ slot. slot.value.pages ≡ map.empty) }
+    ensures awaiting { IfOk result (λ slot. slot.value.awaiting ≡ map.empty) }
+    ensures mark { IfOk result (λ slot. slot.value.speculating ≡ false) }
+{
+    match Box::new(alloc, Space::new(alloc)) {
+        Ok(slot) => Ok(slot),
+        Err(_) => Err(AllocError),
+    }
+}
+
+/// Puts a slot in its place, for which there is room.
+fn fill(slots: &mut Slots, space: u16, slot: Box<Space>)
+    requires { space < length slots.old.items }
+    ensures filled { IsSet slots.old.items slots.new.items space (table_of (Some slot)) }
+    ensures length { length slots.new.items ≡ length slots.old.items }
+{
+    match slots.get_mut(space as usize) {
+        Some(place) => *place = Some(slot),
+        None => unreachable!(),
+    }
+}
+
+/// Makes room for as many slots.
+fn grow(slots: &mut Slots, n: usize) -> Result<(), AllocError>
+    ensures same { (q : ℕ) → slot_at slots.new.items q ≡ slot_at slots.old.items q }
+    ensures enough { OnOk result (n ≤ length slots.new.items) }
+    ensures bound { length slots.new.items ≤ max (length slots.old.items) n }
+{
+    'growing: while slots.len() < n {
+        slots.push(None)?;
+    }
+    Ok(())
+}
+
+/// Makes a space without a page. After want of memory there is none.
+pub(crate) fn add_in(alloc: Global, slots: &mut Slots, space: u16) -> Result<(), AllocError>
+    requires { table_of (slot_at slots.old.items space) ≡ None }
+    ensures added { OnOk result (IsSet slots.old.items slots.new.items space
+        (Some (record { pages = map.empty; awaiting = map.empty; speculating = false }))) }
+    ensures kept { OnErr result ((q : ℕ) → slot_at slots.new.items q ≡ slot_at slots.old.items q) }
+    ensures bound { length slots.new.items ≤ max (length slots.old.items) (space + 1) }
+{
+    let slot = new_slot(alloc)?;
+    grow(slots, space as usize + 1)?;
+    fill(slots, space, slot);
+    Ok(())
+}
