@@ -33,8 +33,10 @@ fn take_turns<K: Sink>(
     running: &mut Running,
     report: &mut Report<K>,
 ) -> Result<(), Failed>
-    ensures sent { Sent K.Sink report.old.sink.now (takes_turns running.old.run session.old.state).text report.new.sink.now result }
-    ensures cut { Cut K.Sink report.old.sink.now (takes_turns running.old.run session.old.state).text report.new.sink.now result }
+    ensures sent { Sent K.Sink report.old.sink.now
+        (takes_turns running.old.run session.old.state).text report.new.sink.now result }
+    ensures cut { Cut K.Sink report.old.sink.now
+        (takes_turns running.old.run session.old.state).text report.new.sink.now result }
     ensures after { LeavesOn (takes_turns running.old.run session.old.state) session.new result }
     ensures quantum { session.new.quantum ≡ session.old.quantum }
     ensures cause { OnErr result (SinkRose K.Sink report.old.sink.now report.new.sink.now) }
@@ -53,7 +55,8 @@ fn take_turns<K: Sink>(
 
 /// Makes a process of a file.
 fn load<K: Sink>(session: &mut Session, file: &[u8], report: &mut Report<K>) -> Result<(), Halt>
-    ensures sends { SendsOn K.Sink report.old.sink.now (load_told file.now session.old.state).text report.new.sink.now result }
+    ensures sends { SendsOn K.Sink report.old.sink.now
+        (load_told file.now session.old.state).text report.new.sink.now result }
     ensures after { LeavesOn (load_told file.now session.old.state) session.new result }
     ensures quantum { session.new.quantum ≡ session.old.quantum }
     ensures doing { IsDoing result }
@@ -78,8 +81,10 @@ fn turns_of_loaded<K: Sink>(
     report: &mut Report<K>,
 ) -> Result<(), Failed>
     requires { RunsLoaded answer.now session.old.state }
-    ensures sent { Sent K.Sink report.old.sink.now (exec_turns turns answer.now session.old.state).text report.new.sink.now result }
-    ensures cut { Cut K.Sink report.old.sink.now (exec_turns turns answer.now session.old.state).text report.new.sink.now result }
+    ensures sent { Sent K.Sink report.old.sink.now
+        (exec_turns turns answer.now session.old.state).text report.new.sink.now result }
+    ensures cut { Cut K.Sink report.old.sink.now
+        (exec_turns turns answer.now session.old.state).text report.new.sink.now result }
     ensures after { LeavesOn (exec_turns turns answer.now session.old.state) session.new result }
     ensures quantum { session.new.quantum ≡ session.old.quantum }
     ensures cause { OnErr result (SinkRose K.Sink report.old.sink.now report.new.sink.now) }
@@ -112,8 +117,10 @@ fn tell_loaded<K: Sink>(
 ) -> Result<(), Failed>
     requires told { HasAnswerLine answer.now }
     requires runs { RunsLoaded answer.now session.old.state }
-    ensures sent { Sent K.Sink report.old.sink.now (tells_exec turns answer.now session.old.state).text report.new.sink.now result }
-    ensures cut { Cut K.Sink report.old.sink.now (tells_exec turns answer.now session.old.state).text report.new.sink.now result }
+    ensures sent { Sent K.Sink report.old.sink.now
+        (tells_exec turns answer.now session.old.state).text report.new.sink.now result }
+    ensures cut { Cut K.Sink report.old.sink.now
+        (tells_exec turns answer.now session.old.state).text report.new.sink.now result }
     ensures after { LeavesOn (exec_turns turns answer.now session.old.state) session.new result }
     ensures quantum { session.new.quantum ≡ session.old.quantum }
     ensures cause { OnErr result (SinkRose K.Sink report.old.sink.now report.new.sink.now) }
@@ -158,8 +165,10 @@ fn step<K: Sink>(
     turns: u32,
     report: &mut Report<K>,
 ) -> Result<(), Failed>
-    ensures sent { Sent K.Sink report.old.sink.now (step_done p turns session.old.state).text report.new.sink.now result }
-    ensures cut { Cut K.Sink report.old.sink.now (step_done p turns session.old.state).text report.new.sink.now result }
+    ensures sent { Sent K.Sink report.old.sink.now
+        (step_done p turns session.old.state).text report.new.sink.now result }
+    ensures cut { Cut K.Sink report.old.sink.now
+        (step_done p turns session.old.state).text report.new.sink.now result }
     ensures after { LeavesOn (step_done p turns session.old.state) session.new result }
     ensures quantum { session.new.quantum ≡ session.old.quantum }
     ensures cause { OnErr result (SinkRose K.Sink report.old.sink.now report.new.sink.now) }
@@ -198,8 +207,10 @@ fn drop_process<K: Sink>(
     report: &mut Report<K>,
 ) -> Result<(), Failed>
     requires { IsTrue (is_change command.now) }
-    ensures sent { Sent K.Sink report.old.sink.now (change_told command.now session.old.state).text report.new.sink.now result }
-    ensures cut { Cut K.Sink report.old.sink.now (change_told command.now session.old.state).text report.new.sink.now result }
+    ensures sent { Sent K.Sink report.old.sink.now
+        (change_told command.now session.old.state).text report.new.sink.now result }
+    ensures cut { Cut K.Sink report.old.sink.now
+        (change_told command.now session.old.state).text report.new.sink.now result }
     ensures after { LeavesOn (change_told command.now session.old.state) session.new result }
     ensures quantum { session.new.quantum ≡ session.old.quantum }
     ensures cause { OnErr result (SinkRose K.Sink report.old.sink.now report.new.sink.now) }
@@ -225,8 +236,10 @@ fn count_processes(session: &Session) -> u32
 
 /// Sends the lines of all processes, by number.
 fn list_processes<K: Sink>(session: &Session, report: &mut Report<K>) -> Result<(), Failed>
-    ensures sent { Sent K.Sink report.old.sink.now (processes_text session.now.state) report.new.sink.now result }
-    ensures cut { Cut K.Sink report.old.sink.now (processes_text session.now.state) report.new.sink.now result }
+    ensures sent { Sent K.Sink report.old.sink.now
+        (processes_text session.now.state) report.new.sink.now result }
+    ensures cut { Cut K.Sink report.old.sink.now
+        (processes_text session.now.state) report.new.sink.now result }
     ensures cause { OnErr result (SinkRose K.Sink report.old.sink.now report.new.sink.now) }
     ensures no_fault { OnOk result (SinkSound K.Sink report.old.sink.now report.new.sink.now) }
     ensures same { report.new.sink.ghost_name ≡ report.old.sink.ghost_name }

@@ -2,6 +2,11 @@
 ghost use Rattle.std.specs.Prelude.{◌≡◌, ◌+◌, ◌*◌, ◌/◌, ◌%◌, ◌^◌, ◌<◌, ◌≤◌, ◌-◌, ℕ, [], length};
 ghost use Rattle.segment_store.specs.Pointers.{ArePointers, capacity_of, slot_of, free_word, free_bit, bytes_number, HasTaken, HasWritten, IsLowestFree};
 
+// What bytes 2 and 3 of a word count.
+const BYTE_2: u32 = 1 << 16;
+
+const BYTE_3: u32 = 1 << 24;
+
 /// The slot of a line; 0 where the line is absent.
 pub(crate) fn slot(pointers: &[u8; 64], line: u8) -> u8
     requires { line < 64 }
@@ -79,8 +84,8 @@ pub(crate) fn empty(order: u8) -> [u8; 64]
     let mut pointers = [0; 64];
     pointers[40] = (word % 256) as u8;
     pointers[41] = (word / 256 % 256) as u8;
-    pointers[42] = (word / 65_536 % 256) as u8;
-    pointers[43] = (word / 16_777_216) as u8;
+    pointers[42] = (word / BYTE_2 % 256) as u8;
+    pointers[43] = (word / BYTE_3) as u8;
     pointers
 }
 

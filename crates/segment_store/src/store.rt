@@ -124,7 +124,8 @@ impl SegmentStore {
     pub fn get_mut(&mut self, block: Block, line: u8) -> &mut [u8; 64]
         requires there { IsSegment self.old block }
         requires line { has_line (lines_at self.old block.unit) line ≡ true }
-        ensures* writes_back { sem 𝓛 (Lends the_row (Array byte 0) self.entry result (with_segment_line self.old block line)) }
+        ensures* writes_back { sem 𝓛
+            (Lends the_row (Array byte 0) self.entry result (with_segment_line self.old block line)) }
         ensures value { result.now ≡ line_in self.old block line }
         ensures store { IsStore self.old }
     {
@@ -212,7 +213,8 @@ impl SegmentStore {
     pub fn frame_line_mut(&mut self, frame: u32, line: u8) -> &mut [u8; 64]
         requires frame { IsFrame self.old frame }
         requires line { line < PAGE_LINES }
-        ensures* writes_back { sem 𝓛 (Lends the_row (Array byte 0) self.entry result (with_frame_line self.old frame line)) }
+        ensures* writes_back { sem 𝓛
+            (Lends the_row (Array byte 0) self.entry result (with_frame_line self.old frame line)) }
         ensures value { result.now ≡ frame_line self.old frame line }
         ensures store { IsStore self.old }
     {
