@@ -1,5 +1,5 @@
 use Rattle.std.specs.Prelude.{◌≡◌, ℕ, ◌+◌, ◌*◌, ◌<◌, ◌≤◌, List, length, get_or, Option, Some, None, IsSome}
-use Rattle.std.specs.Option.{option_map}
+use Rattle.std.specs.Option.{option_map, option_and_then}
 use Rattle.std.specs.Global.{Box}
 use Rattle.std.specs.Ordering.{nat_cmp}
 use Rattle.std.specs.FinMap.{FinMap, get, len}
@@ -28,6 +28,13 @@ slot_at slots space = get_or slots space None
 abbrev pub table_of : Option (Box SpaceTable) → Option SpaceTable
 table_of None = None
 table_of (Some slot) = Some slot.value
+
+abbrev pub table_at : Slots → ℕ → Option SpaceTable
+table_at slots space = table_of (slot_at slots space)
+
+-- its entry of a page
+abbrev pub entry_in : Slots → ℕ → ℕ → Option PageEntry
+entry_in slots space page = option_and_then (λ table. get table.pages page) (table_at slots space)
 
 -- a page with the overlay that stands under its name
 abbrev pub seen_page : Overlays → ℕ → ℕ → PageEntry → PageView

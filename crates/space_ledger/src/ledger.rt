@@ -290,7 +290,8 @@ impl SpaceLedger {
 
     /// The block of an overlaid page is another one. Takes no memory, and costs a look-up.
     pub fn relocate(&mut self, owner: OverlayPage, to: Block)
-        requires { IsSome (option_and_then (λ x. x.overlay) (page_at self.old (space_of owner) (page_of owner))) }
+        requires { IsSome (option_and_then (λ x. x.overlay)
+            (page_at self.old (space_of owner) (page_of owner))) }
         ensures { self.new ≡ with_block self.old (space_of owner) (page_of owner) to }
     {
         let space = owner.space();
@@ -335,9 +336,11 @@ impl SpaceLedger {
         requires least { IsLeast (space_at self.old to).awaiting page }
         requires frame { frame_awaiting self.old to page ≡ frame_at self.old from page }
         requires block { is_some block ≡ is_some (overlay_at self.old from page) }
-        requires room { IfSome block (λ b. overlaid_pages (ledger_of self.old) < FRAME_UNITS * self.old.frames) }
+        requires room { IfSome block (λ b.
+            overlaid_pages (ledger_of self.old) < FRAME_UNITS * self.old.frames) }
         ensures shared { self.new ≡ with_page_shared self.old from to page block }
-        ensures same { book.holding_at (ledger_of self.new) to page ≡ book.holding_at (ledger_of self.old) from page }
+        ensures same { book.holding_at (ledger_of self.new) to page
+            ≡ book.holding_at (ledger_of self.old) from page }
     {
         let zero = self.tables.zero();
         let overlay = in_block(&self.tables.overlay(from, page), block);
@@ -352,7 +355,8 @@ impl SpaceLedger {
     /// rises by the sum of both answers. Costs a few look-ups.
     pub fn store_units(&self, space: u16, page: u64, lines: Bits) -> u32
         requires { IsSome (page_at self.now space page) }
-        ensures rise { units (ledger_after (Store (space_at self.now space).speculating space ((page, lines) ∷ [])) (ledger_of self.now))
+        ensures rise { units (ledger_after (Store (space_at self.now space).speculating space
+            ((page, lines) ∷ [])) (ledger_of self.now))
             ≡ units (ledger_of self.now) + result }
         ensures both { RisesBeside self.now space page lines result }
     {
@@ -403,7 +407,8 @@ fn lines_in(overlay: &Option<Entry>) -> u32
 
 /// By how many units a page rises that has own lines, where further ones join them: not at all where its frame is written.
 fn rise_of(is_speculating: bool, is_alone: bool, own: Bits, lines: Bits) -> u32
-    ensures rise { result ≡ cond (not is_speculating && is_alone) 0 (class (length (with_lines own lines)) - class (length own)) }
+    ensures rise { result ≡ cond (not is_speculating && is_alone) 0
+        (class (length (with_lines own lines)) - class (length own)) }
     ensures are { AreLines own × AreLines lines }
 {
     let joined = own.union(lines);

@@ -102,7 +102,8 @@ impl Space {
         requires free { IsFree self.old.pages from n }
         requires low { from + n ≤ 2 ^ 36 }
         requires few { map.len self.old.pages + n < 2 ^ 32 }
-        ensures mapped { OnOk result (AreMapped self.old from n (record { perms = perms; frame = frame }) self.new) }
+        ensures mapped { OnOk result (AreMapped self.old from n
+            (record { perms = perms; frame = frame }) self.new) }
         ensures kept { OnErr result (self.new ≡ self.old) }
     {
         match self.table.map_pages(from, n, perms, frame) {

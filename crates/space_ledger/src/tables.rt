@@ -240,10 +240,12 @@ impl Tables {
         requires least { IsLeast (space_at self.old space).awaiting page }
         requires low { page < PAGE_END }
         requires lined { IfSome overlay (λ e. (0 < length e.bits) × (length e.bits ≤ PAGE_LINES)) }
-        requires room { IfSome overlay (λ e. overlaid_pages (ledger_of self.old) < FRAME_UNITS * self.old.frames) }
+        requires room { IfSome overlay (λ e.
+            overlaid_pages (ledger_of self.old) < FRAME_UNITS * self.old.frames) }
         ensures entry { map.get (space_at self.old space).awaiting page ≡ Some result }
         ensures apart { page_at self.old space page ≡ None }
-        ensures shared { self.new ≡ with_shared self.old space page (record { entry = result; overlay = overlay }) }
+        ensures shared { self.new ≡ with_shared self.old space page
+            (record { entry = result; overlay = overlay }) }
     {
         let entry = share_in(&mut self.slots, space, page);
         match overlay {
