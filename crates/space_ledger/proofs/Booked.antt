@@ -16,7 +16,7 @@ use Rattle.ledger.specs.Units.{own_lines, units}
 use Rattle.ledger.specs.TallyLaws.{empty_holdings, same_lines, same_sharers, same_units}
 use Rattle.space_ledger.specs.View.{LedgerView, PageView, SpaceView, has_space, holding_of, ledger_of, no_pages, page_at, space_at, with_awaiting, with_mark, with_page_at, with_pages, with_shared, with_space, without_page_at, without_space}
 use Rattle.space_ledger.specs.ViewLaws.{beside_space, in_space, kept_pages, ledger_awaiting, ledger_gone, ledger_marked, ledger_page, ledger_put, ledger_shared, ledger_spaces, ledger_with, ledger_without, page_of, space_absent, space_beside, space_left, space_put, view_awaiting, view_beside, view_gone, view_left, view_marked, view_put, view_shared, view_unshared}
-use Rattle.space_ledger.specs.Calls.{AreCounted, IsApart, IsBooked, NamesOnce}
+use Rattle.space_ledger.specs.Calls.{AreSharersCounted, IsApart, IsBooked, NamesOnce}
 
 -- How what is kept beside the tables is kept.
 
@@ -131,7 +131,7 @@ apart_all v s x apart here q = by_key q s
 
 -- The books of a view with the same pages.
 
-same_counts : (a b : Ledger) (z frames : ℕ) (counts : List ℕ) → all_holdings b ≡ all_holdings a → AreCounted a z frames counts → AreCounted b z frames counts
+same_counts : (a b : Ledger) (z frames : ℕ) (counts : List ℕ) → all_holdings b ≡ all_holdings a → AreSharersCounted a z frames counts → AreSharersCounted b z frames counts
 same_counts a b z frames counts same counted f low isnt = counted f low isnt ∙ sym (same_sharers b a (f + 1) same)
 
 pub booked_as : (v w : LedgerView) (counts : List ℕ) (u n : ℕ) → IsBooked v counts u n → w.frames ≡ v.frames → w.zero_frame ≡ v.zero_frame
@@ -144,8 +144,8 @@ booked_as v w counts u n kept frames zero_same inside apart same = record {
   room = kept.room ∙ sym frames;
   inside = λ s p x at. subst (λ k. x.entry.frame < k) (sym frames) (inside s p x at);
   apart = λ s. subst (λ k. IsApart k (space_at w s)) (sym zero_same) (apart s);
-  counted = subst (λ k. AreCounted (ledger_of w) k w.frames counts) (sym zero_same)
-      (subst (λ k. AreCounted (ledger_of w) v.zero_frame k counts) (sym frames) (same_counts (ledger_of v) (ledger_of w) v.zero_frame v.frames counts same kept.counted));
+  counted = subst (λ k. AreSharersCounted (ledger_of w) k w.frames counts) (sym zero_same)
+      (subst (λ k. AreSharersCounted (ledger_of w) v.zero_frame k counts) (sym frames) (same_counts (ledger_of v) (ledger_of w) v.zero_frame v.frames counts same kept.counted));
   units_is = kept.units_is ∙ sym (same_units (ledger_of w) (ledger_of v) same);
   lines_is = kept.lines_is ∙ sym (same_lines (ledger_of w) (ledger_of v) same);
 }
@@ -206,7 +206,7 @@ in_pages v s p x there = sym (page_of v s p) ∙ there
 
 module _ (v : LedgerView) (counts : List ℕ) (u n : ℕ) (kept : IsBooked v counts u n) (s p : ℕ) where
   pub booked_put : (y : PageView) (new : List ℕ) (u' n' : ℕ) → y.entry.frame < v.frames → FitsIn v.zero_frame (space_at v s) p y → length new ≡ v.frames
-      → AreCounted (with_page (ledger_of v) s p (holding_of v.zero_frame y)) v.zero_frame v.frames new
+      → AreSharersCounted (with_page (ledger_of v) s p (holding_of v.zero_frame y)) v.zero_frame v.frames new
       → u' ≡ units (with_page (ledger_of v) s p (holding_of v.zero_frame y)) → n' ≡ own_lines (with_page (ledger_of v) s p (holding_of v.zero_frame y))
       → IsBooked (with_page_at v s p y) new u' n'
   unfolding with_page_at with_space
@@ -219,12 +219,12 @@ module _ (v : LedgerView) (counts : List ℕ) (u n : ℕ) (kept : IsBooked v cou
         (λ ss pp. subst (λ k. k < v.frames) (ap (λ (w : PageView). w.entry.frame) (same_value y x (sym (view_put v s p y q r ss pp) ∙ at))) low)
         (λ d. kept.inside q r x (sym (view_beside v s p y q r d) ∙ at));
     apart = apart_all v s _ kept.apart (apart_put v.zero_frame (space_at v s) p y (kept.apart s) fits);
-    counted = subst (λ l. AreCounted l v.zero_frame v.frames new) (sym (ledger_put v s p y)) counted;
+    counted = subst (λ l. AreSharersCounted l v.zero_frame v.frames new) (sym (ledger_put v s p y)) counted;
     units_is = units_is ∙ ap units (sym (ledger_put v s p y));
     lines_is = lines_is ∙ ap own_lines (sym (ledger_put v s p y));
   }
 
-  pub booked_gone : (new : List ℕ) (u' : ℕ) → length new ≡ v.frames → AreCounted (without_page (ledger_of v) s p) v.zero_frame v.frames new
+  pub booked_gone : (new : List ℕ) (u' : ℕ) → length new ≡ v.frames → AreSharersCounted (without_page (ledger_of v) s p) v.zero_frame v.frames new
       → u' ≡ units (without_page (ledger_of v) s p) → n ≡ own_lines (without_page (ledger_of v) s p) → IsBooked (without_page_at v s p) new u' n
   unfolding without_page_at with_space
   booked_gone new u' room counted units_is lines_is = record {
@@ -236,13 +236,13 @@ module _ (v : LedgerView) (counts : List ℕ) (u n : ℕ) (kept : IsBooked v cou
         (λ ss pp. let no = ap is_some (sym at ∙ view_gone v s p q r ss pp) in cc)
         (λ d. kept.inside q r x (sym (view_left v s p q r d) ∙ at));
     apart = apart_all v s _ kept.apart (apart_gone v.zero_frame (space_at v s) p (kept.apart s));
-    counted = subst (λ l. AreCounted l v.zero_frame v.frames new) (sym (ledger_gone v s p)) counted;
+    counted = subst (λ l. AreSharersCounted l v.zero_frame v.frames new) (sym (ledger_gone v s p)) counted;
     units_is = units_is ∙ ap units (sym (ledger_gone v s p));
     lines_is = lines_is ∙ ap own_lines (sym (ledger_gone v s p));
   }
 
   pub booked_shared : (y : PageView) (e : PageEntry) (new : List ℕ) (u' n' : ℕ) → y.entry.frame < v.frames → get (space_at v s).awaiting p ≡ Some e → y.entry.frame ≡ e.frame → length new ≡ v.frames
-      → AreCounted (with_page (ledger_of v) s p (holding_of v.zero_frame y)) v.zero_frame v.frames new
+      → AreSharersCounted (with_page (ledger_of v) s p (holding_of v.zero_frame y)) v.zero_frame v.frames new
       → u' ≡ units (with_page (ledger_of v) s p (holding_of v.zero_frame y)) → n' ≡ own_lines (with_page (ledger_of v) s p (holding_of v.zero_frame y))
       → IsBooked (with_shared v s p y) new u' n'
   unfolding with_shared with_space
@@ -255,7 +255,7 @@ module _ (v : LedgerView) (counts : List ℕ) (u n : ℕ) (kept : IsBooked v cou
         (λ ss pp. subst (λ k. k < v.frames) (ap (λ (w : PageView). w.entry.frame) (same_value y x (sym (view_shared v s p y q r ss pp) ∙ at))) low)
         (λ d. kept.inside q r x (sym (view_unshared v s p y q r d) ∙ at));
     apart = apart_all v s _ kept.apart (apart_shared v.zero_frame (space_at v s) p y e (kept.apart s) waiting same);
-    counted = subst (λ l. AreCounted l v.zero_frame v.frames new) (sym (ledger_shared v s p y)) counted;
+    counted = subst (λ l. AreSharersCounted l v.zero_frame v.frames new) (sym (ledger_shared v s p y)) counted;
     units_is = units_is ∙ ap units (sym (ledger_shared v s p y));
     lines_is = lines_is ∙ ap own_lines (sym (ledger_shared v s p y));
   }

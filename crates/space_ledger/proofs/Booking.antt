@@ -11,7 +11,7 @@ use Rattle.ledger.specs.AloneLaws.{arent}
 use Rattle.ledger.specs.TallyLaws.{alone_by_count, had_by_count, sharers_at, sharers_put}
 use Rattle.space_ledger.specs.View.{origin_of}
 use Rattle.space_ledger.specs.Frames.{frame_units, held_by, released_by}
-use Rattle.space_ledger.specs.Calls.{AreCounted}
+use Rattle.space_ledger.specs.Calls.{AreSharersCounted}
 
 -- The counts of frames, page by page.
 
@@ -57,8 +57,8 @@ unfolding released_by
 released_less z counts f other = ap (λ (b : Bool). cond b counts (released counts f)) (arent f z other)
 
 -- a page of a frame is taken away
-pub counts_released : (l : Ledger) (z frames s p g : ℕ) (h : Holding) (counts : List ℕ) → AreCounted l z frames counts → length counts ≡ frames → holding_at l s p ≡ Some h
-    → h.origin ≡ origin_of z g → g < frames → AreCounted (without_page l s p) z frames (released_by z counts g)
+pub counts_released : (l : Ledger) (z frames s p g : ℕ) (h : Holding) (counts : List ℕ) → AreSharersCounted l z frames counts → length counts ≡ frames → holding_at l s p ≡ Some h
+    → h.origin ≡ origin_of z g → g < frames → AreSharersCounted (without_page l s p) z frames (released_by z counts g)
 counts_released l z frames s p g h counts counted room there origin low f f_low isnt =
     by_two g z
     (λ zero_g. ap (λ (c : List ℕ). sharers_of c f) (released_zero z counts g zero_g) ∙ counted f f_low isnt
@@ -83,8 +83,8 @@ counts_released l z frames s p g h counts counted room there origin low f f_low 
     one rest e = omega (arith, e)
 
 -- a page of a frame is put
-pub counts_held : (l : Ledger) (z frames s p g : ℕ) (h : Holding) (counts : List ℕ) → AreCounted (without_page l s p) z frames counts → length counts ≡ frames
-    → h.origin ≡ origin_of z g → g < frames → AreCounted (with_page l s p h) z frames (held_by z counts g)
+pub counts_held : (l : Ledger) (z frames s p g : ℕ) (h : Holding) (counts : List ℕ) → AreSharersCounted (without_page l s p) z frames counts → length counts ≡ frames
+    → h.origin ≡ origin_of z g → g < frames → AreSharersCounted (with_page l s p h) z frames (held_by z counts g)
 counts_held l z frames s p g h counts counted room origin low f f_low isnt =
     by_two g z
     (λ zero_g. ap (λ (c : List ℕ). sharers_of c f) (held_zero z counts g zero_g) ∙ counted f f_low isnt
@@ -109,7 +109,7 @@ counts_held l z frames s p g h counts counted room origin low f f_low isnt =
     one all e = omega (arith, e)
 
 -- the units of a frame, by its count
-pub units_by_count : (l : Ledger) (z frames g : ℕ) (counts : List ℕ) → AreCounted l z frames counts → g < frames
+pub units_by_count : (l : Ledger) (z frames g : ℕ) (counts : List ℕ) → AreSharersCounted l z frames counts → g < frames
     → frame_units z counts g ≡ frame_for (is_unused l (origin_of z g))
 unfolding frame_units frame_for is_unused
 units_by_count l z frames g counts counted low = at (nat_eq g z) refl
@@ -136,7 +136,7 @@ units_by_count l z frames g counts counted low = at (nat_eq g z) refl
             nothing false = refl
 
 -- a frame that a page names has a sharer
-pub some_sharer : (l : Ledger) (z frames s p g : ℕ) (h : Holding) (counts : List ℕ) → AreCounted l z frames counts → holding_at l s p ≡ Some h → h.origin ≡ origin_of z g → g < frames
+pub some_sharer : (l : Ledger) (z frames s p g : ℕ) (h : Holding) (counts : List ℕ) → AreSharersCounted l z frames counts → holding_at l s p ≡ Some h → h.origin ≡ origin_of z g → g < frames
     → (g ≡ z) ⊎ (0 < sharers_of counts g)
 some_sharer l z frames s p g h counts counted there origin low = by_two g z inl (λ isnt.
     let here : (h.origin == g + 1) ≡ true = ap (λ n. nat_eq n (g + 1)) origin ∙ has_frame z g g isnt ∙ itself g in
@@ -148,7 +148,7 @@ some_sharer l z frames s p g h counts counted there origin low = by_two g z inl 
     itself n = grind (arith, nat_tests)
 
 -- a page is alone by the count of its frame
-pub alone_frame : (l : Ledger) (z frames s p g : ℕ) (h : Holding) (counts : List ℕ) → AreCounted l z frames counts → holding_at l s p ≡ Some h → h.origin ≡ origin_of z g → g < frames
+pub alone_frame : (l : Ledger) (z frames s p g : ℕ) (h : Holding) (counts : List ℕ) → AreSharersCounted l z frames counts → holding_at l s p ≡ Some h → h.origin ≡ origin_of z g → g < frames
     → (not (g == z) && (sharers_of counts g == 1)) ≡ is_alone l s p
 alone_frame l z frames s p g h counts counted there origin low =
     at (nat_eq g z) refl ∙ sym (ap (λ o. not (o == 0) && nat_eq (sharers l o) 1) origin) ∙ sym (alone_by_count l s p h there)

@@ -24,7 +24,7 @@ use Rattle.ledger.specs.AloneLaws.{origin_with, without_absent}
 use Rattle.ledger.specs.TallyLaws.{no_holdings, tally_none, lines_tally, sharers_at, sharers_few, sharers_put, units_few}
 use Rattle.space_ledger.specs.View.{LedgerView, PageView, SpaceView, frame_at, frame_awaiting, has_space, holding_of, ledger_of, lines_of, no_pages, origin_of, overlay_at, page_at, space_at, with_block, with_entry_at, with_frame, with_overlay, with_page_at, with_page_shared, with_shared, with_space, with_zero_pages, without_page_at}
 use Rattle.space_ledger.specs.ViewLaws.{changed_there, space_absent, ledger_gone, ledger_page, ledger_put, ledger_spaces, page_of, view_beside, view_shared}
-use Rattle.space_ledger.specs.Calls.{AreCounted, AreFree, IsApart, IsBooked, IsFreeFor, IsSound, NamesOnce, entries_of, given_up}
+use Rattle.space_ledger.specs.Calls.{AreSharersCounted, AreFree, IsApart, IsBooked, IsFreeFor, IsSound, NamesOnce, entries_of, given_up}
 use Rattle.space_ledger.specs.Frames.{frame_units, held_by, released_by}
 use Rattle.space_ledger.proofs.Mapping.{there_still}
 use Rattle.space_ledger.proofs.Booking.{alone_frame, counts_held, counts_released, eq_false, eq_true, has_frame, some_sharer, units_by_count}
@@ -176,7 +176,7 @@ module _ (v : LedgerView) (counts : List ℕ) (u n : ℕ) (kept : IsBooked v cou
   pub some_left : (x.entry.frame ≡ v.zero_frame) ⊎ (0 < sharers_of counts x.entry.frame)
   some_left = some_sharer (ledger_of v) v.zero_frame v.frames s p x.entry.frame (holding_of v.zero_frame x) counts kept.counted (page_in v s p x there) refl (kept.inside s p x there)
 
-  less_counted : AreCounted (without_page (ledger_of v) s p) v.zero_frame v.frames (released_by v.zero_frame counts x.entry.frame)
+  less_counted : AreSharersCounted (without_page (ledger_of v) s p) v.zero_frame v.frames (released_by v.zero_frame counts x.entry.frame)
   less_counted = counts_released (ledger_of v) v.zero_frame v.frames s p x.entry.frame (holding_of v.zero_frame x) counts kept.counted kept.room (page_in v s p x there) refl (kept.inside s p x there)
 
   freed_is : frame_units v.zero_frame (released_by v.zero_frame counts x.entry.frame) x.entry.frame ≡ frame_for (is_unused (without_page (ledger_of v) s p) (origin_of v.zero_frame x.entry.frame))
@@ -305,7 +305,7 @@ module _ (v : LedgerView) (counts : List ℕ) (u n : ℕ) (kept : IsBooked v cou
   unfolding with_overlay
   over_is = changed_there _ v s p x there
 
-  same_sharers_of : AreCounted (with_page (ledger_of v) s p (holding_of v.zero_frame (record { entry = x.entry; overlay = o }))) v.zero_frame v.frames counts
+  same_sharers_of : AreSharersCounted (with_page (ledger_of v) s p (holding_of v.zero_frame (record { entry = x.entry; overlay = o }))) v.zero_frame v.frames counts
   same_sharers_of f low isnt =
       let was = sharers_at (ledger_of v) s p (holding_of v.zero_frame x) (f + 1) (page_in v s p x there) in
       let is = sharers_put (ledger_of v) s p (holding_of v.zero_frame (record { entry = x.entry; overlay = o })) (f + 1) in
@@ -352,7 +352,7 @@ module _ (v : LedgerView) (counts : List ℕ) (u n : ℕ) (kept : IsBooked v cou
       booked_shared v counts u n kept s p (record { entry = entry; overlay = o }) entry (held_by v.zero_frame counts entry.frame) _ _ low waiting refl
       (length_held v.zero_frame counts entry.frame ∙ kept.room)
       (counts_held (ledger_of v) v.zero_frame v.frames s p entry.frame (holding_of v.zero_frame (record { entry = entry; overlay = o })) counts
-      (subst (λ m. AreCounted m v.zero_frame v.frames counts) (sym alone_now) kept.counted) kept.room refl low)
+      (subst (λ m. AreSharersCounted m v.zero_frame v.frames counts) (sym alone_now) kept.counted) kept.room refl low)
       (omega (arith, added, put, is)) (omega (arith, lines, lines_new))
 
 -- A page mapped on the zero frame, and many.

@@ -16,7 +16,7 @@ use Rattle.space_ledger.specs.Space.{SpaceTable, awaited}
 use Rattle.space_ledger.specs.View.{LedgerView, PageView, SpaceView, has_space, page_at, space_at, with_overlay, with_page_at, with_pages, with_shared, with_space}
 use Rattle.space_ledger.specs.ViewLaws.{changed_there, ledger_put, ledger_shared, space_put, there_space, view_beside, view_put, view_shared, view_unshared}
 use Rattle.space_ledger.specs.Kept.{IsChanged, IsKept, Overlays, Slots, seen, seen_page, slot_at, table_of}
-use Rattle.space_ledger.specs.Calls.{HasRoom}
+use Rattle.space_ledger.specs.Calls.{HasOverlayRoom}
 use Rattle.space_ledger.proofs.Seen.{AreOthers, overlay_put, seen_page_at, seen_put, shared_entry, table_from}
 use Rattle.space_ledger.proofs.Keeping.{kept_as, kept_new, kept_overlay, one_if, some_is}
 use Rattle.space_ledger.proofs.TableLaws.{entry_some, number_low, overlay_is}
@@ -118,7 +118,7 @@ removed_most old new n most is le = at (is_some (get old n)) (ap len is ∙ len-
 
 -- room for one more overlay, as the mapping table asks for it
 pub room_for : (slots : Slots) (table : Table) (frames zero_frame s p : ℕ) (e : Entry) → IsKept (length slots) (seen slots table.entries frames zero_frame) table.entries table.room
-    → IsSome (page_at (seen slots table.entries frames zero_frame) s p) → HasRoom (seen slots table.entries frames zero_frame) s p (Some e)
+    → IsSome (page_at (seen slots table.entries frames zero_frame) s p) → HasOverlayRoom (seen slots table.entries frames zero_frame) s p (Some e)
     → HasRoomFor table (overlay_page s p)
 unfolding seen
 room_for slots table frames zero_frame s p e kept there (inl some) = inl (ap is_some (overlay_is slots table.entries frames zero_frame s p there) ∙ some)

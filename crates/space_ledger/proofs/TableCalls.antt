@@ -20,7 +20,7 @@ use Rattle.space_ledger.specs.Space.{SpaceTable, awaited}
 use Rattle.space_ledger.specs.View.{LedgerView, PageView, SpaceView, has_space, holding_of, ledger_of, no_pages, page_at, space_at, with_overlay, with_shared, with_space, with_zero_pages}
 use Rattle.space_ledger.specs.ViewLaws.{page_of, space_absent, view_shared}
 use Rattle.space_ledger.specs.Kept.{IsChanged, IsKept, IsMappedIn, IsSet, OnTable, Overlays, Slots, seen, seen_page, seen_slot, seen_space, slot_at, table_of}
-use Rattle.space_ledger.specs.Calls.{AreFree, HasRoom, IsSound}
+use Rattle.space_ledger.specs.Calls.{AreFree, HasOverlayRoom, IsSound}
 use Rattle.space_ledger.proofs.Seen.{seen_at, seen_has, seen_same, seen_space_at, same_view, table_from, seen_page_at}
 use Rattle.space_ledger.proofs.TableLaws.{entry_seen}
 use Rattle.space_ledger.proofs.Keeping.{kept_as}
@@ -58,7 +58,7 @@ clear_over slots old new frames zero_frame s p n name kept there entries roomy =
 
 -- the room for an overlay, by its name
 pub room_by_name : (slots : Slots) (table : Table) (frames zero_frame s p n : ℕ) (e : Entry) → n ≡ overlay_page s p → IsKept (length slots) (seen slots table.entries frames zero_frame) table.entries table.room
-    → IsSome (page_at (seen slots table.entries frames zero_frame) s p) → HasRoom (seen slots table.entries frames zero_frame) s p (Some e) → IsSome (get table.entries n) ⊎ (len table.entries < table.room)
+    → IsSome (page_at (seen slots table.entries frames zero_frame) s p) → HasOverlayRoom (seen slots table.entries frames zero_frame) s p (Some e) → IsSome (get table.entries n) ⊎ (len table.entries < table.room)
 room_by_name slots table frames zero_frame s p n e name kept there room =
     subst (λ k. IsSome (get table.entries k) ⊎ (len table.entries < table.room)) (sym name) (room_for slots table frames zero_frame s p e kept there room)
 

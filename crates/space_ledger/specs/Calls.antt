@@ -15,8 +15,8 @@ use Rattle.space_ledger.specs.View.{LedgerView, PageView, SpaceView, ledger_of, 
 -- What the calls ask and answer.
 
 -- each frame but the zero frame has as many sharers as pages name it
-abbrev pub AreCounted : Ledger → ℕ → ℕ → List ℕ → Type 0
-AreCounted ledger zero_frame frames counts = (f : ℕ) → f < frames → (f ≡ zero_frame → ⊥) → sharers_of counts f ≡ sharers ledger (f + 1)
+abbrev pub AreSharersCounted : Ledger → ℕ → ℕ → List ℕ → Type 0
+AreSharersCounted ledger zero_frame frames counts = (f : ℕ) → f < frames → (f ≡ zero_frame → ⊥) → sharers_of counts f ≡ sharers ledger (f + 1)
 
 -- none of the n pages from `from` on is there
 abbrev pub AreFree : LedgerView → ℕ → ℕ → ℕ → Type 0
@@ -33,9 +33,9 @@ unfoldable pub entries_of : LedgerView → ℕ → Pages
 entries_of view space = viewed (λ page (x : PageView). x.entry) (space_at view space).pages
 
 -- there is room for a page's overlay: it has one already, or fewer than 16 pages a frame have one; none needs no room
-abbrev pub HasRoom : LedgerView → ℕ → ℕ → Option Entry → Type 0
-HasRoom view space page None = Unit {0}
-HasRoom view space page (Some entry) =
+abbrev pub HasOverlayRoom : LedgerView → ℕ → ℕ → Option Entry → Type 0
+HasOverlayRoom view space page None = Unit {0}
+HasOverlayRoom view space page (Some entry) =
     IsSome (option_and_then (λ x. x.overlay) (page_at view space page)) ⊎ (overlaid_pages (ledger_of view) < FRAME_UNITS * view.frames)
 
 -- what is true of every view: how many spaces and overlays there are, how far pages go, and that an overlay has lines
@@ -75,7 +75,7 @@ pub record IsBooked (view : LedgerView) (counts : List ℕ) (units_kept lines_ke
   pub room : length counts ≡ view.frames
   pub inside : (space page : ℕ) (x : PageView) → page_at view space page ≡ Some x → x.entry.frame < view.frames
   pub apart : (space : ℕ) → IsApart view.zero_frame (space_at view space)
-  pub counted : AreCounted (ledger_of view) view.zero_frame view.frames counts
+  pub counted : AreSharersCounted (ledger_of view) view.zero_frame view.frames counts
   pub units_is : units_kept ≡ units (ledger_of view)
   pub lines_is : lines_kept ≡ own_lines (ledger_of view)
 

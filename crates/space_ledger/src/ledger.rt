@@ -13,7 +13,7 @@ ghost use Rattle.ledger.specs.Events.{Store, ledger_after};
 ghost use Rattle.overlay_address.specs.Names.{page_of, space_of};
 ghost use Rattle.space_ledger.specs.Space.{AwaitsFirst, IsLeast};
 ghost use Rattle.space_ledger.specs.View.{has_space, ledger_of, no_pages, page_at, space_at, frame_at, frame_awaiting, lines_of, overlay_at, with_awaiting, with_block, with_frame, with_mark, with_overlay, with_page_shared, with_space, with_zero_pages, without_page_at, without_space};
-ghost use Rattle.space_ledger.specs.Calls.{AreFree, HasRoom, IsFreeFor, IsNextOf, NamesOnce, RisesBeside, entries_of, given_up};
+ghost use Rattle.space_ledger.specs.Calls.{AreFree, HasOverlayRoom, IsFreeFor, IsNextOf, NamesOnce, RisesBeside, entries_of, given_up};
 
 use crate::frames::{class_of, hold, is_only, release};
 use crate::tables::Tables;
@@ -277,7 +277,7 @@ impl SpaceLedger {
     pub fn set_overlay(&mut self, space: u16, page: u64, entry: Option<Entry>)
         requires there { IsSome (page_at self.old space page) }
         requires lined { IfSome entry (λ e. 0 < length e.bits) }
-        requires room { HasRoom self.old space page entry }
+        requires room { HasOverlayRoom self.old space page entry }
         ensures { self.new ≡ with_overlay self.old space page entry }
     {
         let _zero = self.tables.zero();

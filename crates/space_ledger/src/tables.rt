@@ -8,7 +8,7 @@ ghost use Rattle.ledger.specs.Units.{overlaid_pages};
 ghost use Rattle.overlay_bits.specs.Lines.{AreLines};
 ghost use Rattle.space_ledger.specs.Space.{AwaitsFirst, IsLeast};
 ghost use Rattle.space_ledger.specs.View.{changed_at, has_space, ledger_of, no_pages, page_at, space_at, with_awaiting, with_entry_at, with_mark, with_overlay, with_shared, with_space, with_zero_pages, without_page_at, without_space};
-ghost use Rattle.space_ledger.specs.Calls.{AreFree, HasRoom, IsNextOf, IsSound, entries_of};
+ghost use Rattle.space_ledger.specs.Calls.{AreFree, HasOverlayRoom, IsNextOf, IsSound, entries_of};
 
 use crate::slots::{
     Slots, add_in, adopt_in, clear_in, copy_in, first_awaiting_in, get_in, has_in, len_in, map_in,
@@ -174,7 +174,7 @@ impl Tables {
     pub(crate) fn set_overlay(&mut self, space: u16, page: u64, overlay: Option<Entry>)
         requires there { IsSome (page_at self.old space page) }
         requires lined { IfSome overlay (λ e. (0 < length e.bits) × (length e.bits ≤ PAGE_LINES)) }
-        requires room { HasRoom self.old space page overlay }
+        requires room { HasOverlayRoom self.old space page overlay }
         ensures { self.new ≡ with_overlay self.old space page overlay }
     {
         match overlay {

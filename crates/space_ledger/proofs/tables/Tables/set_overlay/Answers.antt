@@ -4,7 +4,7 @@ use Rattle.std.specs.Prelude.{Some, None, IfSome, length, ◌<◌, ◌≤◌}
 use Rattle.sizes.specs.declared.TheConstants.{PAGE_LINES}
 use Rattle.std.specs.Option.{is_some}
 use Rattle.space_ledger.specs.View.{with_overlay}
-use Rattle.space_ledger.specs.Calls.{HasRoom}
+use Rattle.space_ledger.specs.Calls.{HasOverlayRoom}
 use Rattle.space_ledger.proofs.TableLaws.{space_low}
 use Rattle.space_ledger.proofs.TableCalls.{clear_over, room_by_name, set_over}
 use Rattle.space_ledger.proofs.tables.Tables.set_overlay.Goals as goal
@@ -19,7 +19,7 @@ of-requires-clause-low c = let low = c.self.invariant.low c.args.space c.args.pa
 pub insert-requires : goal.insert-requires
 insert-requires c = record {
   room = room_by_name c.self.inside.slots.items c.self.inside.overlays c.self.inside.frames c.self.inside.zero c.args.space c.args.page c.of.result c.in-Some.entry c.of.ensures.name c.self.invariant (ap (λ (v : LedgerView). is_some (page_at v c.args.space c.args.page)) c.self.view_is ∙ c.requires.there)
-      (subst (λ (v : LedgerView). HasRoom v c.args.space c.args.page (Some c.in-Some.entry)) (sym c.self.view_is) (subst (λ o. HasRoom c.args.self.now c.args.space c.args.page o) c.in-Some.is c.requires.room));
+      (subst (λ (v : LedgerView). HasOverlayRoom v c.args.space c.args.page (Some c.in-Some.entry)) (sym c.self.view_is) (subst (λ o. HasOverlayRoom c.args.self.now c.args.space c.args.page o) c.in-Some.is c.requires.room));
 }
 
 pub invariant_of-self : goal.invariant_of-self
@@ -27,7 +27,7 @@ invariant_of-self c =
     (set_over c.self.inside.slots.items c.self.inside.overlays c.insert.new.self c.self.inside.frames c.self.inside.zero c.args.space c.args.page c.of.result c.in-Some.entry c.of.ensures.name c.self.invariant (ap (λ (v : LedgerView). is_some (page_at v c.args.space c.args.page)) c.self.view_is ∙ c.requires.there)
     (subst (λ o. IfSome o (λ e. (0 < length e.bits) × (length e.bits ≤ PAGE_LINES))) c.in-Some.is c.requires.lined)
     (room_by_name c.self.inside.slots.items c.self.inside.overlays c.self.inside.frames c.self.inside.zero c.args.space c.args.page c.of.result c.in-Some.entry c.of.ensures.name c.self.invariant (ap (λ (v : LedgerView). is_some (page_at v c.args.space c.args.page)) c.self.view_is ∙ c.requires.there)
-    (subst (λ (v : LedgerView). HasRoom v c.args.space c.args.page (Some c.in-Some.entry)) (sym c.self.view_is) (subst (λ o. HasRoom c.args.self.now c.args.space c.args.page o) c.in-Some.is c.requires.room)))
+    (subst (λ (v : LedgerView). HasOverlayRoom v c.args.space c.args.page (Some c.in-Some.entry)) (sym c.self.view_is) (subst (λ o. HasOverlayRoom c.args.self.now c.args.space c.args.page o) c.in-Some.is c.requires.room)))
     c.insert.ensures.entries c.insert.ensures.room).kept
 
 pub returns-in-Some : goal.returns-in-Some
@@ -35,7 +35,7 @@ returns-in-Some c =
     (set_over c.self.inside.slots.items c.self.inside.overlays c.insert.new.self c.self.inside.frames c.self.inside.zero c.args.space c.args.page c.of.result c.in-Some.entry c.of.ensures.name c.self.invariant (ap (λ (v : LedgerView). is_some (page_at v c.args.space c.args.page)) c.self.view_is ∙ c.requires.there)
     (subst (λ o. IfSome o (λ e. (0 < length e.bits) × (length e.bits ≤ PAGE_LINES))) c.in-Some.is c.requires.lined)
     (room_by_name c.self.inside.slots.items c.self.inside.overlays c.self.inside.frames c.self.inside.zero c.args.space c.args.page c.of.result c.in-Some.entry c.of.ensures.name c.self.invariant (ap (λ (v : LedgerView). is_some (page_at v c.args.space c.args.page)) c.self.view_is ∙ c.requires.there)
-    (subst (λ (v : LedgerView). HasRoom v c.args.space c.args.page (Some c.in-Some.entry)) (sym c.self.view_is) (subst (λ o. HasRoom c.args.self.now c.args.space c.args.page o) c.in-Some.is c.requires.room)))
+    (subst (λ (v : LedgerView). HasOverlayRoom v c.args.space c.args.page (Some c.in-Some.entry)) (sym c.self.view_is) (subst (λ o. HasOverlayRoom c.args.self.now c.args.space c.args.page o) c.in-Some.is c.requires.room)))
     c.insert.ensures.entries c.insert.ensures.room).view_is
     ∙ ap (λ (v : LedgerView). with_overlay v c.args.space c.args.page (Some c.in-Some.entry)) c.self.view_is
     ∙ ap (with_overlay c.args.self.now c.args.space c.args.page) (sym c.in-Some.is)
