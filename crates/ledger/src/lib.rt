@@ -10,4 +10,5 @@
 //! - `specs/Changes.antt`: what is done to a page
 //! - `specs/Events.antt`: the ledger after each event
 //! - `specs/Alike.antt`: ledgers that differ in the numbers of their origins alone
+//! - `specs/..Laws.antt`, `specs/AlikeUnits.antt`: laws, each file with those of one subject
 #![tactic(auto)]

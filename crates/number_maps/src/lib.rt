@@ -2,4 +2,7 @@
 //!
 //! - `specs/Keys.antt`: what was put at a key, what was taken away, and when two maps are equal
 //! - `specs/Cuts.antt`: the entries of a map as those before a key, the key's, and those behind it
+//! - `specs/Values.antt`: the values under a test, and sums over them
+//! - `specs/Views.antt`: a map whose values are seen in another way
+//! - `specs/Slots.antt`: a list of slots seen as a map
 #![tactic(auto)]

@@ -10,3 +10,4 @@ pub mod Booking
 pub mod Booked
 pub mod Numbers
 pub mod Rises
+pub mod LedgerCalls

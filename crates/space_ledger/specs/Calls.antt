@@ -4,7 +4,7 @@ use Rattle.std.specs.FinMap.{get, len}
 use Rattle.sizes.specs.declared.TheConstants.{FRAME_UNITS, LAST_SPACE, MOST_FRAMES, PAGE_END, PAGE_LINES}
 use Rattle.frame_pool.specs.Counts.{sharers_of}
 use Rattle.ledger.specs.Events.{Store, ledger_after}
-use Rattle.ledger.specs.Ledger.{Ledger, has_origin}
+use Rattle.ledger.specs.Ledger.{Holding, Ledger, has_origin, holding_at}
 use Rattle.ledger.specs.Units.{overlaid_pages, own_lines, sharers, units}
 use Rattle.page_table.specs.declared.entry.PageEntry.{PageEntry}
 use Rattle.overlay_mapping_table.specs.declared.entry.Entry.{Entry}
@@ -37,6 +37,18 @@ abbrev pub HasOverlayRoom : LedgerView → ℕ → ℕ → Option Entry → Type
 HasOverlayRoom view space page None = Unit {0}
 HasOverlayRoom view space page (Some entry) =
     IsSome (option_and_then (λ x. x.overlay) (page_at view space page)) ⊎ (overlaid_pages (ledger_of view) < FRAME_UNITS * view.frames)
+
+-- fewer than 16 pages a frame have an overlay
+abbrev pub HasSpare : LedgerView → Type 0
+HasSpare view = overlaid_pages (ledger_of view) < FRAME_UNITS * view.frames
+
+-- an overlay has a line, and at most those of a page
+abbrev pub IsLined : Entry → Type 0
+IsLined overlay = (0 < length overlay.bits) × (length overlay.bits ≤ PAGE_LINES)
+
+-- what the ledger has of a page
+abbrev pub held_at : LedgerView → ℕ → ℕ → Option Holding
+held_at view space page = holding_at (ledger_of view) space page
 
 -- what is true of every view: how many spaces and overlays there are, how far pages go, and that an overlay has lines
 pub record IsSound (view : LedgerView) : Type 0 where
@@ -78,6 +90,11 @@ pub record IsBooked (view : LedgerView) (counts : List ℕ) (units_kept lines_ke
   pub counted : AreSharersCounted (ledger_of view) view.zero_frame view.frames counts
   pub units_is : units_kept ≡ units (ledger_of view)
   pub lines_is : lines_kept ≡ own_lines (ledger_of view)
+
+-- by how much the units rise by a store that touches lines of a page
+abbrev pub RisesBy : LedgerView → ℕ → ℕ → List ℕ → ℕ → Type 0
+RisesBy view space page lines rise =
+    units (ledger_after (Store (space_at view space).speculating space ((page, lines) ∷ [])) (ledger_of view)) ≡ units (ledger_of view) + rise
 
 -- whatever lines of whatever other page of the space a store touches too, it rises by as much more
 abbrev pub RisesBeside : LedgerView → ℕ → ℕ → List ℕ → ℕ → Type 0

@@ -1,16 +1,17 @@
-use Rattle.std.specs.Prelude.{◌≡◌, ℕ, ◌+◌, ◌*◌, ◌<◌, ◌≤◌, List, length, get_or, Option, Some, None, IsSome}
-use Rattle.std.specs.Option.{option_map, option_and_then}
+use Rattle.std.specs.Prelude.{◌≡◌, ℕ, ◌+◌, ◌*◌, ◌^◌, ◌<◌, ◌≤◌, List, length, get_or, Option, Some, None, IsSome}
+use Rattle.std.specs.Option.{option_and_then, option_map}
 use Rattle.std.specs.Global.{Box}
 use Rattle.std.specs.Ordering.{nat_cmp}
-use Rattle.std.specs.FinMap.{FinMap, get, len}
+use Rattle.std.specs.FinMap.{FinMap, empty, get, len}
 use Rattle.number_maps.specs.Slots.{slotted}
 use Rattle.number_maps.specs.Views.{viewed}
 use Rattle.sizes.specs.declared.TheConstants.{FRAME_UNITS, LAST_SPACE, PAGE_END, PAGE_LINES}
+use Rattle.page_table.specs.Table.{Pages, IsFree}
 use Rattle.page_table.specs.declared.entry.PageEntry.{PageEntry}
 use Rattle.overlay_address.specs.Names.{overlay_page}
 use Rattle.overlay_mapping_table.specs.declared.entry.Entry.{Entry}
 use Rattle.ledger.specs.Units.{overlaid_pages}
-use Rattle.space_ledger.specs.Space.{SpaceTable, AreMapped, AwaitsFirst, IsNextPage}
+use Rattle.space_ledger.specs.Space.{SpaceTable, AreMapped, AwaitsFirst, IsLeast, IsNextPage}
 use Rattle.space_ledger.specs.View.{LedgerView, PageView, SpaceView, ledger_of, page_at}
 
 -- What the slots and the overlays stand for.
@@ -29,12 +30,18 @@ abbrev pub table_of : Option (Box SpaceTable) → Option SpaceTable
 table_of None = None
 table_of (Some slot) = Some slot.value
 
-abbrev pub table_at : Slots → ℕ → Option SpaceTable
-table_at slots space = table_of (slot_at slots space)
+abbrev pub table_in : Slots → ℕ → Option SpaceTable
+table_in slots space = table_of (slot_at slots space)
 
--- its entry of a page
-abbrev pub entry_in : Slots → ℕ → ℕ → Option PageEntry
-entry_in slots space page = option_and_then (λ table. get table.pages page) (table_at slots space)
+-- the entry of a page of a space, and of one that awaits
+abbrev pub entry_in : Option SpaceTable → ℕ → Option PageEntry
+entry_in table page = option_and_then (λ (t : SpaceTable). get t.pages page) table
+
+abbrev pub waiting_in : Option SpaceTable → ℕ → Option PageEntry
+waiting_in table page = option_and_then (λ (t : SpaceTable). get t.awaiting page) table
+
+abbrev pub pages_of : Option SpaceTable → Option Pages
+pages_of table = option_map (λ (t : SpaceTable). t.pages) table
 
 -- a page with the overlay that stands under its name
 abbrev pub seen_page : Overlays → ℕ → ℕ → PageEntry → PageView
@@ -75,6 +82,23 @@ AwaitsFirstIn (Some table) found = AwaitsFirst table.awaiting found
 abbrev pub OnTable : Option SpaceTable → (SpaceTable → Type 0) → Type 0
 OnTable None P = ⊥
 OnTable (Some table) P = P table
+
+-- a slot's space, which is there: no page of it awaits, it has no page, or none of a run; it has room for as many pages; a
+-- page is the least that awaits
+abbrev pub IsSettled : Option SpaceTable → Type 0
+IsSettled table = OnTable table (λ t. t.awaiting ≡ empty)
+
+abbrev pub IsEmpty : Option SpaceTable → Type 0
+IsEmpty table = OnTable table (λ t. t.pages ≡ empty)
+
+abbrev pub IsFreeIn : Option SpaceTable → ℕ → ℕ → Type 0
+IsFreeIn table from n = OnTable table (λ t. IsFree t.pages from n)
+
+abbrev pub HasRoomIn : Option SpaceTable → ℕ → Type 0
+HasRoomIn table n = OnTable table (λ t. len t.pages + n < 2 ^ 32)
+
+abbrev pub IsLeastIn : Option SpaceTable → ℕ → Type 0
+IsLeastIn table page = OnTable table (λ t. IsLeast t.awaiting page)
 
 -- One slot's space was changed, and each other slot is as it was.
 pub record IsChanged (change : SpaceTable → SpaceTable) (old new : Slots) (space : ℕ) : Type 0 where

@@ -13,7 +13,7 @@ ghost use Rattle.ledger.specs.Events.{Store, ledger_after};
 ghost use Rattle.overlay_address.specs.Names.{page_of, space_of};
 ghost use Rattle.space_ledger.specs.Space.{AwaitsFirst, IsLeast};
 ghost use Rattle.space_ledger.specs.View.{has_space, ledger_of, no_pages, page_at, space_at, frame_at, frame_awaiting, lines_of, overlay_at, with_awaiting, with_block, with_frame, with_mark, with_overlay, with_page_shared, with_space, with_zero_pages, without_page_at, without_space};
-ghost use Rattle.space_ledger.specs.Calls.{AreFree, HasOverlayRoom, IsFreeFor, IsNextOf, NamesOnce, RisesBeside, entries_of, given_up};
+ghost use Rattle.space_ledger.specs.Calls.{AreFree, HasOverlayRoom, HasSpare, IsFreeFor, IsNextOf, NamesOnce, RisesBeside, RisesBy, entries_of, given_up, held_at};
 
 use crate::frames::{class_of, hold, is_only, release};
 use crate::tables::Tables;
@@ -142,7 +142,7 @@ impl SpaceLedger {
     #[inline]
     pub fn overlay(&self, space: u16, page: u64) -> Option<Entry>
         requires { IsSome (page_at self.now space page) }
-        ensures overlay { result ≡ option_and_then (λ x. x.overlay) (page_at self.now space page) }
+        ensures overlay { result ≡ overlay_at self.now space page }
         ensures own { is_some result ≡ has_own (ledger_of self.now) space page }
     {
         let _zero = self.tables.zero();
@@ -290,8 +290,7 @@ impl SpaceLedger {
 
     /// The block of an overlaid page is another one. Takes no memory, and costs a look-up.
     pub fn relocate(&mut self, owner: OverlayPage, to: Block)
-        requires { IsSome (option_and_then (λ x. x.overlay)
-            (page_at self.old (space_of owner) (page_of owner))) }
+        requires { IsSome (overlay_at self.old (space_of owner) (page_of owner)) }
         ensures { self.new ≡ with_block self.old (space_of owner) (page_of owner) to }
     {
         let space = owner.space();
@@ -311,7 +310,7 @@ impl SpaceLedger {
     /// page names it now. Takes no memory, and costs a look-up.
     pub fn remove_page(&mut self, space: u16, page: u64) -> Option<u32>
         requires there { IsSome (page_at self.old space page) }
-        requires bare { option_and_then (λ x. x.overlay) (page_at self.old space page) ≡ None }
+        requires bare { overlay_at self.old space page ≡ None }
         ensures gone { self.new ≡ without_page_at self.old space page }
         ensures freed { result ≡ given_up self.new (page_at self.old space page) }
     {
@@ -336,11 +335,9 @@ impl SpaceLedger {
         requires least { IsLeast (space_at self.old to).awaiting page }
         requires frame { frame_awaiting self.old to page ≡ frame_at self.old from page }
         requires block { is_some block ≡ is_some (overlay_at self.old from page) }
-        requires room { IfSome block (λ b.
-            overlaid_pages (ledger_of self.old) < FRAME_UNITS * self.old.frames) }
+        requires room { IfSome block (λ b. HasSpare self.old) }
         ensures shared { self.new ≡ with_page_shared self.old from to page block }
-        ensures same { book.holding_at (ledger_of self.new) to page
-            ≡ book.holding_at (ledger_of self.old) from page }
+        ensures same { held_at self.new to page ≡ held_at self.old from page }
     {
         let zero = self.tables.zero();
         let overlay = in_block(&self.tables.overlay(from, page), block);
@@ -355,9 +352,7 @@ impl SpaceLedger {
     /// rises by the sum of both answers. Costs a few look-ups.
     pub fn store_units(&self, space: u16, page: u64, lines: Bits) -> u32
         requires { IsSome (page_at self.now space page) }
-        ensures rise { units (ledger_after (Store (space_at self.now space).speculating space
-            ((page, lines) ∷ [])) (ledger_of self.now))
-            ≡ units (ledger_of self.now) + result }
+        ensures rise { RisesBy self.now space page lines result }
         ensures both { RisesBeside self.now space page lines result }
     {
         let is_alone = self.is_alone(space, page);

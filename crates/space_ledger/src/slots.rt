@@ -5,7 +5,7 @@ ghost use Rattle.std.specs.FinMap as map;
 ghost use Rattle.std.specs.Option.{option_and_then, option_map, option_map_or, is_some};
 ghost use Rattle.page_table.specs.Table.{IsFree};
 ghost use Rattle.space_ledger.specs.Space.{AreMapped, AwaitsFirst, IsLeast, IsNextPage, adopted, awaited, marked, with_entry, without_page};
-ghost use Rattle.space_ledger.specs.Kept.{AreMappedOf, AwaitsFirstIn, IsChanged, IsMappedIn, IsNextIn, IsSet, OnTable, entry_in, slot_at, table_at, table_of};
+ghost use Rattle.space_ledger.specs.Kept.{AreMappedOf, AwaitsFirstIn, IsChanged, IsMappedIn, IsNextIn, HasRoomIn, IsEmpty, IsFreeIn, IsLeastIn, IsSet, IsSettled, entry_in, pages_of, slot_at, table_in, table_of, waiting_in};
 
 use crate::space::Space;
 use ovl_io::Perms;
@@ -18,7 +18,7 @@ pub(crate) type Slots = Vec<Option<Box<Space>>>;
 /// Whether there is a space of that number.
 #[inline]
 pub(crate) fn has_in(slots: &Slots, space: u16) -> bool
-    ensures { result ≡ is_some (table_at slots.now.items space) }
+    ensures { result ≡ is_some (table_in slots.now.items space) }
 {
     match slots.get(space as usize) {
         Some(Some(_)) => true,
@@ -30,7 +30,7 @@ pub(crate) fn has_in(slots: &Slots, space: u16) -> bool
 /// The entry of a page of a space.
 #[inline]
 pub(crate) fn get_in(slots: &Slots, space: u16, page: u64) -> Option<PageEntry>
-    ensures { result ≡ entry_in slots.now.items space page }
+    ensures { result ≡ entry_in (table_in slots.now.items space) page }
 {
     match slots.get(space as usize) {
         Some(Some(space)) => space.get(page),
@@ -41,7 +41,7 @@ pub(crate) fn get_in(slots: &Slots, space: u16, page: u64) -> Option<PageEntry>
 
 /// The least page not below one, of a space.
 pub(crate) fn next_in(slots: &Slots, space: u16, page: u64) -> Option<u64>
-    ensures { IsNextIn (table_at slots.now.items space) page result }
+    ensures { IsNextIn (table_in slots.now.items space) page result }
 {
     match slots.get(space as usize) {
         Some(Some(space)) => space.next(page),
@@ -52,7 +52,8 @@ pub(crate) fn next_in(slots: &Slots, space: u16, page: u64) -> Option<u64>
 
 /// How many pages a space has.
 pub(crate) fn len_in(slots: &Slots, space: u16) -> u32
-    ensures { result ≡ option_map_or (λ table. map.len table.pages) (table_at slots.now.items space) 0 }
+    ensures { result ≡ option_map_or (λ table. map.len table.pages)
+        (table_in slots.now.items space) 0 }
 {
     match slots.get(space as usize) {
         Some(Some(space)) => space.len(),
@@ -63,7 +64,8 @@ pub(crate) fn len_in(slots: &Slots, space: u16) -> u32
 
 /// Whether a space is speculating.
 pub(crate) fn marked_in(slots: &Slots, space: u16) -> bool
-    ensures { result ≡ option_map_or (λ table. table.speculating) (table_at slots.now.items space) false }
+    ensures { result ≡ option_map_or (λ table. table.speculating)
+        (table_in slots.now.items space) false }
 {
     match slots.get(space as usize) {
         Some(Some(space)) => space.is_speculating(),
@@ -74,7 +76,7 @@ pub(crate) fn marked_in(slots: &Slots, space: u16) -> bool
 
 /// The least page of a space that awaits, with its entry.
 pub(crate) fn first_awaiting_in(slots: &Slots, space: u16) -> Option<(u64, PageEntry)>
-    ensures { AwaitsFirstIn (table_at slots.now.items space) result }
+    ensures { AwaitsFirstIn (table_in slots.now.items space) result }
 {
     match slots.get(space as usize) {
         Some(Some(space)) => space.first_awaiting(),
@@ -84,8 +86,9 @@ pub(crate) fn first_awaiting_in(slots: &Slots, space: u16) -> Option<(u64, PageE
 }
 
 fn set_slot(slot: &mut Option<Box<Space>>, page: u64, entry: PageEntry)
-    requires { IsSome (option_and_then (λ table. map.get table.pages page) (table_of slot.old)) }
-    ensures { table_of slot.new ≡ option_map (λ table. with_entry table page entry) (table_of slot.old) }
+    requires { IsSome (entry_in (table_of slot.old) page) }
+    ensures { table_of slot.new
+        ≡ option_map (λ table. with_entry table page entry) (table_of slot.old) }
 {
     match slot {
         Some(space) => space.set(page, entry),
@@ -95,8 +98,9 @@ fn set_slot(slot: &mut Option<Box<Space>>, page: u64, entry: PageEntry)
 
 /// Gives a page that is there another entry.
 pub(crate) fn set_in(slots: &mut Slots, space: u16, page: u64, entry: PageEntry)
-    requires { IsSome (entry_in slots.old.items space page) }
-    ensures changed { IsChanged (λ table. with_entry table page entry) slots.old.items slots.new.items space }
+    requires { IsSome (entry_in (table_in slots.old.items space) page) }
+    ensures changed { IsChanged (λ table. with_entry table page entry)
+        slots.old.items slots.new.items space }
     ensures length { length slots.new.items ≡ length slots.old.items }
 {
     match slots.get_mut(space as usize) {
@@ -106,7 +110,8 @@ pub(crate) fn set_in(slots: &mut Slots, space: u16, page: u64, entry: PageEntry)
 }
 
 fn mark_slot(slot: &mut Option<Box<Space>>, on: bool)
-    ensures { table_of slot.new ≡ option_map (λ table. marked table on) (table_of slot.old) }
+    ensures { table_of slot.new
+        ≡ option_map (λ table. marked table on) (table_of slot.old) }
 {
     match slot {
         Some(space) => space.set_speculating(on),
@@ -116,7 +121,8 @@ fn mark_slot(slot: &mut Option<Box<Space>>, on: bool)
 
 /// Sets or takes away the mark of a space.
 pub(crate) fn mark_in(slots: &mut Slots, space: u16, on: bool)
-    ensures changed { IsChanged (λ table. marked table on) slots.old.items slots.new.items space }
+    ensures changed { IsChanged (λ table. marked table on)
+        slots.old.items slots.new.items space }
     ensures length { length slots.new.items ≡ length slots.old.items }
 {
     match slots.get_mut(space as usize) {
@@ -133,10 +139,10 @@ fn map_slot(
     frame: u32,
 ) -> Result<(), AllocError>
     requires there { is_some (table_of slot.old) ≡ true }
-    requires settled { OnTable (table_of slot.old) (λ table. table.awaiting ≡ map.empty) }
-    requires free { OnTable (table_of slot.old) (λ table. IsFree table.pages from n) }
+    requires settled { IsSettled (table_of slot.old) }
+    requires free { IsFreeIn (table_of slot.old) from n }
     requires low { from + n ≤ 2 ^ 36 }
-    requires few { OnTable (table_of slot.old) (λ table. map.len table.pages + n < 2 ^ 32) }
+    requires few { HasRoomIn (table_of slot.old) n }
     ensures mapped { OnOk result (AreMappedOf (table_of slot.old) from n
         (record { perms = perms; frame = frame }) (table_of slot.new)) }
     ensures kept { OnErr result (table_of slot.new ≡ table_of slot.old) }
@@ -156,14 +162,15 @@ pub(crate) fn map_in(
     perms: Perms,
     frame: u32,
 ) -> Result<(), AllocError>
-    requires there { is_some (table_at slots.old.items space) ≡ true }
-    requires settled { OnTable (table_at slots.old.items space) (λ table. table.awaiting ≡ map.empty) }
-    requires free { OnTable (table_at slots.old.items space) (λ table. IsFree table.pages from n) }
+    requires there { is_some (table_in slots.old.items space) ≡ true }
+    requires settled { IsSettled (table_in slots.old.items space) }
+    requires free { IsFreeIn (table_in slots.old.items space) from n }
     requires low { from + n ≤ 2 ^ 36 }
-    requires few { OnTable (table_at slots.old.items space) (λ table. map.len table.pages + n < 2 ^ 32) }
+    requires few { HasRoomIn (table_in slots.old.items space) n }
     ensures mapped { OnOk result (IsMappedIn slots.old.items slots.new.items space from n
         (record { perms = perms; frame = frame })) }
-    ensures kept { OnErr result (IsChanged (λ table. table) slots.old.items slots.new.items space) }
+    ensures kept { OnErr result (IsChanged (λ table. table)
+        slots.old.items slots.new.items space) }
     ensures length { length slots.new.items ≡ length slots.old.items }
 {
     match slots.get_mut(space as usize) {
@@ -173,8 +180,9 @@ pub(crate) fn map_in(
 }
 
 fn remove_slot(slot: &mut Option<Box<Space>>, page: u64)
-    requires { IsSome (option_and_then (λ table. map.get table.pages page) (table_of slot.old)) }
-    ensures { table_of slot.new ≡ option_map (λ table. without_page table page) (table_of slot.old) }
+    requires { IsSome (entry_in (table_of slot.old) page) }
+    ensures { table_of slot.new
+        ≡ option_map (λ table. without_page table page) (table_of slot.old) }
 {
     match slot {
         Some(space) => space.remove(page),
@@ -184,8 +192,9 @@ fn remove_slot(slot: &mut Option<Box<Space>>, page: u64)
 
 /// Takes away a page that is there.
 pub(crate) fn remove_in(slots: &mut Slots, space: u16, page: u64)
-    requires { IsSome (entry_in slots.old.items space page) }
-    ensures changed { IsChanged (λ table. without_page table page) slots.old.items slots.new.items space }
+    requires { IsSome (entry_in (table_in slots.old.items space) page) }
+    ensures changed { IsChanged (λ table. without_page table page)
+        slots.old.items slots.new.items space }
     ensures length { length slots.new.items ≡ length slots.old.items }
 {
     match slots.get_mut(space as usize) {
@@ -196,9 +205,8 @@ pub(crate) fn remove_in(slots: &mut Slots, space: u16, page: u64)
 
 /// A table equal to that of a space of which no page awaits, or want of memory.
 pub(crate) fn copy_in(slots: &Slots, space: u16) -> Result<PageTable, AllocError>
-    requires { OnTable (table_at slots.now.items space) (λ table. table.awaiting ≡ map.empty) }
-    ensures { IfOk result (λ copy. Some copy ≡ option_map (λ table. table.pages)
-        (table_at slots.now.items space)) }
+    requires { IsSettled (table_in slots.now.items space) }
+    ensures { IfOk result (λ copy. Some copy ≡ pages_of (table_in slots.now.items space)) }
 {
     match slots.get(space as usize) {
         Some(Some(space)) => space.copy(),
@@ -208,9 +216,10 @@ pub(crate) fn copy_in(slots: &Slots, space: u16) -> Result<PageTable, AllocError
 }
 
 fn adopt_slot(slot: &mut Option<Box<Space>>, table: PageTable)
-    requires empty { OnTable (table_of slot.old) (λ t. t.pages ≡ map.empty) }
-    requires settled { OnTable (table_of slot.old) (λ t. t.awaiting ≡ map.empty) }
-    ensures { table_of slot.new ≡ option_map (λ t. adopted t table) (table_of slot.old) }
+    requires empty { IsEmpty (table_of slot.old) }
+    requires settled { IsSettled (table_of slot.old) }
+    ensures { table_of slot.new
+        ≡ option_map (λ t. adopted t table) (table_of slot.old) }
 {
     match slot {
         Some(space) => space.adopt(table),
@@ -220,9 +229,10 @@ fn adopt_slot(slot: &mut Option<Box<Space>>, table: PageTable)
 
 /// Gives a space that has no page a table: its pages await.
 pub(crate) fn adopt_in(slots: &mut Slots, space: u16, table: PageTable)
-    requires empty { OnTable (table_at slots.old.items space) (λ t. t.pages ≡ map.empty) }
-    requires settled { OnTable (table_at slots.old.items space) (λ t. t.awaiting ≡ map.empty) }
-    ensures changed { IsChanged (λ t. adopted t table) slots.old.items slots.new.items space }
+    requires empty { IsEmpty (table_in slots.old.items space) }
+    requires settled { IsSettled (table_in slots.old.items space) }
+    ensures changed { IsChanged (λ t. adopted t table)
+        slots.old.items slots.new.items space }
     ensures length { length slots.new.items ≡ length slots.old.items }
 {
     match slots.get_mut(space as usize) {
@@ -232,12 +242,13 @@ pub(crate) fn adopt_in(slots: &mut Slots, space: u16, table: PageTable)
 }
 
 fn share_slot(slot: &mut Option<Box<Space>>, page: u64) -> PageEntry
-    requires least { OnTable (table_of slot.old) (λ table. IsLeast table.awaiting page) }
+    requires least { IsLeastIn (table_of slot.old) page }
     requires low { page < 2 ^ 36 }
-    requires few { OnTable (table_of slot.old) (λ table. map.len table.pages + 1 < 2 ^ 32) }
-    ensures entry { option_and_then (λ table. map.get table.awaiting page) (table_of slot.old) ≡ Some result }
-    ensures apart { option_and_then (λ table. map.get table.pages page) (table_of slot.old) ≡ None }
-    ensures shared { table_of slot.new ≡ option_map (λ table. awaited table page result) (table_of slot.old) }
+    requires few { HasRoomIn (table_of slot.old) 1 }
+    ensures entry { waiting_in (table_of slot.old) page ≡ Some result }
+    ensures apart { entry_in (table_of slot.old) page ≡ None }
+    ensures shared { table_of slot.new
+        ≡ option_map (λ table. awaited table page result) (table_of slot.old) }
 {
     match slot {
         Some(space) => space.share(page),
@@ -247,13 +258,13 @@ fn share_slot(slot: &mut Option<Box<Space>>, page: u64) -> PageEntry
 
 /// The least page that awaits becomes one of the space's. Answers its entry.
 pub(crate) fn share_in(slots: &mut Slots, space: u16, page: u64) -> PageEntry
-    requires least { OnTable (table_at slots.old.items space) (λ table. IsLeast table.awaiting page) }
+    requires least { IsLeastIn (table_in slots.old.items space) page }
     requires low { page < 2 ^ 36 }
-    requires few { OnTable (table_at slots.old.items space) (λ table. map.len table.pages + 1 < 2 ^ 32) }
-    ensures entry { option_and_then (λ table. map.get table.awaiting page)
-        (table_at slots.old.items space) ≡ Some result }
-    ensures apart { entry_in slots.old.items space page ≡ None }
-    ensures shared { IsChanged (λ table. awaited table page result) slots.old.items slots.new.items space }
+    requires few { HasRoomIn (table_in slots.old.items space) 1 }
+    ensures entry { waiting_in (table_in slots.old.items space) page ≡ Some result }
+    ensures apart { entry_in (table_in slots.old.items space) page ≡ None }
+    ensures shared { IsChanged (λ table. awaited table page result)
+        slots.old.items slots.new.items space }
     ensures length { length slots.new.items ≡ length slots.old.items }
 {
     match slots.get_mut(space as usize) {
@@ -311,10 +322,11 @@ fn grow(slots: &mut Slots, n: usize) -> Result<(), AllocError>
 
 /// Makes a space without a page. After want of memory there is none.
 pub(crate) fn add_in(alloc: Global, slots: &mut Slots, space: u16) -> Result<(), AllocError>
-    requires { table_at slots.old.items space ≡ None }
+    requires { table_in slots.old.items space ≡ None }
     ensures added { OnOk result (IsSet slots.old.items slots.new.items space
         (Some (record { pages = map.empty; awaiting = map.empty; speculating = false }))) }
-    ensures kept { OnErr result ((q : ℕ) → slot_at slots.new.items q ≡ slot_at slots.old.items q) }
+    ensures kept { OnErr result
+        ((q : ℕ) → slot_at slots.new.items q ≡ slot_at slots.old.items q) }
     ensures bound { length slots.new.items ≤ max (length slots.old.items) (space + 1) }
 {
     let slot = new_slot(alloc)?;

@@ -8,7 +8,7 @@ ghost use Rattle.ledger.specs.Units.{overlaid_pages};
 ghost use Rattle.overlay_bits.specs.Lines.{AreLines};
 ghost use Rattle.space_ledger.specs.Space.{AwaitsFirst, IsLeast};
 ghost use Rattle.space_ledger.specs.View.{changed_at, has_space, ledger_of, no_pages, page_at, space_at, with_awaiting, with_entry_at, with_mark, with_overlay, with_shared, with_space, with_zero_pages, without_page_at, without_space};
-ghost use Rattle.space_ledger.specs.Calls.{AreFree, HasOverlayRoom, IsNextOf, IsSound, entries_of};
+ghost use Rattle.space_ledger.specs.Calls.{AreFree, HasOverlayRoom, HasSpare, IsLined, IsNextOf, IsSound, entries_of};
 
 use crate::slots::{
     Slots, add_in, adopt_in, clear_in, copy_in, first_awaiting_in, get_in, has_in, len_in, map_in,
@@ -173,7 +173,7 @@ impl Tables {
     /// Gives a page that is there another overlay, or none.
     pub(crate) fn set_overlay(&mut self, space: u16, page: u64, overlay: Option<Entry>)
         requires there { IsSome (page_at self.old space page) }
-        requires lined { IfSome overlay (λ e. (0 < length e.bits) × (length e.bits ≤ PAGE_LINES)) }
+        requires lined { IfSome overlay IsLined }
         requires room { HasOverlayRoom self.old space page overlay }
         ensures { self.new ≡ with_overlay self.old space page overlay }
     {
@@ -239,9 +239,8 @@ impl Tables {
         requires there { has_space self.old space ≡ true }
         requires least { IsLeast (space_at self.old space).awaiting page }
         requires low { page < PAGE_END }
-        requires lined { IfSome overlay (λ e. (0 < length e.bits) × (length e.bits ≤ PAGE_LINES)) }
-        requires room { IfSome overlay (λ e.
-            overlaid_pages (ledger_of self.old) < FRAME_UNITS * self.old.frames) }
+        requires lined { IfSome overlay IsLined }
+        requires room { IfSome overlay (λ e. HasSpare self.old) }
         ensures entry { map.get (space_at self.old space).awaiting page ≡ Some result }
         ensures apart { page_at self.old space page ≡ None }
         ensures shared { self.new ≡ with_shared self.old space page

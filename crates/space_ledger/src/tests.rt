@@ -64,8 +64,7 @@ fn map(
 
 // Whether no page of a space but one names a frame. Pages are below 1000.
 fn is_free_for(ledger: &SpaceLedger, space: u16, page: u64, frame: u32) -> bool
-    ensures { IsTrue result → (q : ℕ) (y : PageView) → page_at ledger.now space q ≡ Some y
-        → y.entry.frame ≡ frame → q ≡ page }
+    ensures { IsTrue result → (q : ℕ) (y : PageView) → page_at ledger.now space q ≡ Some y → y.entry.frame ≡ frame → q ≡ page }
 {
     'looking: for at in 0..1000u64 {
         match ledger.entry(space, at) {

@@ -1,4 +1,4 @@
-use Rattle.space_ledger.proofs.Numbers.{copied_once}
+use Rattle.space_ledger.proofs.LedgerCalls.{copied_once}
 use Rattle.space_ledger.proofs.ledger.SpaceLedger.copy_table.Goals as goal
 
 pub returns-clause-once : goal.returns-clause-once

@@ -1,7 +1,7 @@
 use Rattle.std.proofs.Common.{ap, ◌∙◌, refl}
 use Rattle.space_ledger.specs.View.{LedgerView, ledger_of}
 use Rattle.ledger.specs.Ledger.{is_alone}
-use Rattle.space_ledger.proofs.Numbers.{alone_call, before_release}
+use Rattle.space_ledger.proofs.LedgerCalls.{alone_call, before_release}
 use Rattle.space_ledger.proofs.ledger.SpaceLedger.is_alone.Goals as goal
 
 pub is_only-requires : goal.is_only-requires

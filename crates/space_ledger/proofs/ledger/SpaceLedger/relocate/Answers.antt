@@ -2,7 +2,7 @@ use Rattle.std.proofs.Common.{sym, ap, subst, ◌∙◌}
 use Rattle.overlay_address.specs.Names.{page_of, space_of}
 use Rattle.space_ledger.specs.View.{LedgerView, with_block}
 use Rattle.space_ledger.specs.Calls.{IsBooked}
-use Rattle.space_ledger.proofs.Numbers.{moved_call}
+use Rattle.space_ledger.proofs.LedgerCalls.{moved_call}
 use Rattle.space_ledger.proofs.ledger.SpaceLedger.relocate.Goals as goal
 
 pub invariant_of-self : goal.invariant_of-self

@@ -2,7 +2,7 @@ use Rattle.std.proofs.Common.{sym, ap, subst, ◌∙◌, ◌-◌}
 use Rattle.space_ledger.specs.View.{LedgerView, PageView, page_at}
 use Rattle.std.specs.Option.{option_and_then}
 use Rattle.space_ledger.specs.Calls.{IsBooked, given_up}
-use Rattle.space_ledger.proofs.Numbers.{before_release, removed_call}
+use Rattle.space_ledger.proofs.LedgerCalls.{before_release, removed_call}
 use Rattle.space_ledger.proofs.ledger.SpaceLedger.remove_page.Goals as goal
 
 pub release-freed-requires-clause-there : goal.release-freed-requires-clause-there

@@ -4,7 +4,7 @@ use Rattle.std.specs.Prelude.{ℕ, ◌<◌, ◌-◌, ◌+◌, ◌==◌, cond, So
 use Rattle.std.specs.Option.{option_and_then}
 use Rattle.space_ledger.specs.View.{with_frame}
 use Rattle.space_ledger.specs.Calls.{IsBooked, IsFreeFor, given_up}
-use Rattle.space_ledger.proofs.Numbers.{before_hold, before_release, entry_is_frame, framed_call}
+use Rattle.space_ledger.proofs.LedgerCalls.{before_hold, before_release, entry_is_frame, framed_call}
 use Rattle.space_ledger.proofs.ledger.SpaceLedger.set_frame.Goals as goal
 
 pub release-freed-requires-clause-there : goal.release-freed-requires-clause-there

@@ -3,7 +3,7 @@ use Rattle.std.specs.Option.{is_some}
 use Rattle.ledger.specs.Units.{class}
 use Rattle.space_ledger.specs.View.{LedgerView, page_at, with_overlay}
 use Rattle.space_ledger.specs.Calls.{IsBooked}
-use Rattle.space_ledger.proofs.Numbers.{overlaid_call}
+use Rattle.space_ledger.proofs.LedgerCalls.{overlaid_call}
 use Rattle.space_ledger.proofs.ledger.SpaceLedger.set_overlay.Goals as goal
 
 pub overflow_sub-self : goal.overflow_sub-self

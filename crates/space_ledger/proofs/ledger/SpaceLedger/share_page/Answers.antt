@@ -3,7 +3,7 @@ use Rattle.std.specs.Option.{is_some}
 use Rattle.ledger.specs.Ledger.{holding_at}
 use Rattle.space_ledger.specs.View.{LedgerView, frame_at, frame_awaiting, has_space, ledger_of, overlay_at, page_at, with_page_shared, with_shared}
 use Rattle.space_ledger.specs.Calls.{IsBooked}
-use Rattle.space_ledger.proofs.Numbers.{before_share, shared_call, shared_frame, shared_holding, shared_view}
+use Rattle.space_ledger.proofs.LedgerCalls.{before_share, shared_call, shared_frame, shared_holding, shared_view}
 use Rattle.space_ledger.proofs.ledger.SpaceLedger.share_page.Goals as goal
 
 pub hold-added-requires-clause-there : goal.hold-added-requires-clause-there
