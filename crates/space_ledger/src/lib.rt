@@ -6,7 +6,7 @@
 //! view: an origin is 0 for the zero frame and the frame's number plus 1 for every other one, and a page's own lines are
 //! those of its overlay.
 //!
-//! - `ledger`: the ledger
+//! - `spaces`: the ledger of all spaces
 //! - `frames`: the sharers of a frame
 //! - `slots`: spaces by number
 //! - `tables`: the tables and overlays of all spaces
@@ -14,12 +14,12 @@
 #![tactic(auto)]
 
 mod frames;
-mod ledger;
 mod slots;
 mod space;
+mod spaces;
 mod tables;
 
-pub use ledger::SpaceLedger;
+pub use spaces::SpaceLedger;
 
 #[cfg(test)]
 mod tests;

@@ -64,7 +64,8 @@ fn map(
 
 // Whether no page of a space but one names a frame. Pages are below 1000.
 fn is_free_for(ledger: &SpaceLedger, space: u16, page: u64, frame: u32) -> bool
-    ensures { IsTrue result → (q : ℕ) (y : PageView) → page_at ledger.now space q ≡ Some y → y.entry.frame ≡ frame → q ≡ page }
+    ensures { IsTrue result → (q : ℕ) (y : PageView) →
+        page_at ledger.now space q ≡ Some y → y.entry.frame ≡ frame → q ≡ page }
 {
     'looking: for at in 0..1000u64 {
         match ledger.entry(space, at) {
@@ -297,6 +298,20 @@ fn a_speculation_settles_and_discards(rt: HostRuntime) -> Result<(), Fail> {
     clear(&rt, &mut ledger, 1, 16);
     mark(&rt, &mut ledger, 1, false);
     assert_counts(&rt, &ledger, 32, 0);
+    Ok(())
+}
+
+#[test]
+fn a_commit_keeps_the_overlay_of_a_shared_page(rt: HostRuntime) -> Result<(), Fail> {
+    let mut ledger = SpaceLedger::new(rt.alloc(), 8, 0)?;
+    load(&rt, &mut ledger, 1, 1)?;
+    fork(&rt, &mut ledger, 1, 2)?;
+    mark(&rt, &mut ledger, 1, true);
+    assert_eq!(rt; store(&rt, &mut ledger, 1, 16, Bits::range(32, 33)), 1);
+    assert!(rt; ledger.entry(1, 16).is_some());
+    assert!(rt; !ledger.is_alone(1, 16));
+    mark(&rt, &mut ledger, 1, false);
+    assert_counts(&rt, &ledger, 33, 1);
     Ok(())
 }
 

@@ -1,0 +1,61 @@
+use Rattle.std.proofs.Common.{sym, ap, subst, ◌∙◌, arith}
+use Rattle.space_ledger.specs.View.{LedgerView, page_at, space_at}
+use Rattle.std.specs.Prelude.{ℕ, ◌<◌, ◌-◌, ◌+◌, ◌==◌, cond, Some, None}
+use Rattle.std.specs.Option.{option_and_then}
+use Rattle.space_ledger.specs.View.{with_frame}
+use Rattle.space_ledger.specs.Calls.{IsBooked, IsFreeFor, given_up}
+use Rattle.space_ledger.proofs.LedgerCalls.{before_hold, before_release, entry_is_frame, framed_call}
+use Rattle.space_ledger.proofs.spaces.SpaceLedger.set_frame.Goals as goal
+
+pub release-freed-requires-clause-there : goal.release-freed-requires-clause-there
+release-freed-requires-clause-there c = (before_release c.self.inside.tables c.self.inside.pool c.self.inside.units c.self.inside.lines c.self.invariant c.args.space c.args.page c.zero-zero.result c.in-Some.old c.zero-zero.ensures.zero c.in-Some.ensures).0
+
+pub release-freed-requires-clause-some : goal.release-freed-requires-clause-some
+release-freed-requires-clause-some c = (before_release c.self.inside.tables c.self.inside.pool c.self.inside.units c.self.inside.lines c.self.invariant c.args.space c.args.page c.zero-zero.result c.in-Some.old c.zero-zero.ensures.zero c.in-Some.ensures).1
+
+pub hold-added-requires-clause-there : goal.hold-added-requires-clause-there
+hold-added-requires-clause-there c = (before_hold c.self.inside.tables c.self.inside.pool c.release-freed.new.pool c.self.inside.units c.self.inside.lines c.self.invariant c.zero-zero.ensures.sound c.args.space c.args.page c.zero-zero.result c.args.frame c.in-Some.old c.zero-zero.ensures.zero c.in-Some.ensures
+    c.release-freed.ensures.released (subst (λ (v : LedgerView). c.args.frame < v.frames) (sym c.self.view_is) c.requires.inside)).there
+
+pub hold-added-requires-clause-few : goal.hold-added-requires-clause-few
+hold-added-requires-clause-few c = (before_hold c.self.inside.tables c.self.inside.pool c.release-freed.new.pool c.self.inside.units c.self.inside.lines c.self.invariant c.zero-zero.ensures.sound c.args.space c.args.page c.zero-zero.result c.args.frame c.in-Some.old c.zero-zero.ensures.zero c.in-Some.ensures
+    c.release-freed.ensures.released (subst (λ (v : LedgerView). c.args.frame < v.frames) (sym c.self.view_is) c.requires.inside)).few
+
+pub overflow_sub-self : goal.overflow_sub-self
+overflow_sub-self c = (framed_call c.self.inside.tables c.self.inside.pool c.release-freed.new.pool c.hold-added.new.pool c.self.inside.units c.self.inside.lines c.self.invariant c.zero-zero.ensures.sound c.args.space c.args.page c.zero-zero.result c.args.frame c.release-freed.result c.hold-added.result c.in-Some.old
+    c.zero-zero.ensures.zero c.in-Some.ensures c.release-freed.ensures.released c.release-freed.ensures.units c.hold-added.ensures.held c.hold-added.ensures.units
+    (subst (λ (v : LedgerView). c.args.frame < v.frames) (sym c.self.view_is) c.requires.inside) (ap (λ (v : LedgerView). (space_at v c.args.space).awaiting) c.self.view_is ∙ c.requires.settled)
+    (subst (λ (v : LedgerView). IsFreeFor v c.args.space c.args.page c.args.frame) (sym c.self.view_is) c.requires.free)).fits
+
+pub overflow_add-self : goal.overflow_add-self
+overflow_add-self c = omega (
+  arith,
+  (framed_call c.self.inside.tables c.self.inside.pool c.release-freed.new.pool c.hold-added.new.pool c.self.inside.units c.self.inside.lines c.self.invariant c.zero-zero.ensures.sound c.args.space c.args.page c.zero-zero.result c.args.frame c.release-freed.result c.hold-added.result c.in-Some.old
+      c.zero-zero.ensures.zero c.in-Some.ensures c.release-freed.ensures.released c.release-freed.ensures.units c.hold-added.ensures.held c.hold-added.ensures.units
+      (subst (λ (v : LedgerView). c.args.frame < v.frames) (sym c.self.view_is) c.requires.inside) (ap (λ (v : LedgerView). (space_at v c.args.space).awaiting) c.self.view_is ∙ c.requires.settled)
+      (subst (λ (v : LedgerView). IsFreeFor v c.args.space c.args.page c.args.frame) (sym c.self.view_is) c.requires.free)).small,
+)
+
+pub invariant_of-self : goal.invariant_of-self
+invariant_of-self c =
+    subst (λ v. IsBooked v c.hold-added.new.pool (c.self.inside.units - c.release-freed.result + c.hold-added.result) c.self.inside.lines)
+    (sym (c.set_entry.ensures ∙ entry_is_frame c.self.inside.tables c.args.space c.args.page c.args.frame c.in-Some.old c.in-Some.ensures))
+    (framed_call c.self.inside.tables c.self.inside.pool c.release-freed.new.pool c.hold-added.new.pool c.self.inside.units c.self.inside.lines c.self.invariant c.zero-zero.ensures.sound c.args.space c.args.page c.zero-zero.result c.args.frame c.release-freed.result c.hold-added.result c.in-Some.old
+    c.zero-zero.ensures.zero c.in-Some.ensures c.release-freed.ensures.released c.release-freed.ensures.units c.hold-added.ensures.held c.hold-added.ensures.units
+    (subst (λ (v : LedgerView). c.args.frame < v.frames) (sym c.self.view_is) c.requires.inside) (ap (λ (v : LedgerView). (space_at v c.args.space).awaiting) c.self.view_is ∙ c.requires.settled)
+    (subst (λ (v : LedgerView). IsFreeFor v c.args.space c.args.page c.args.frame) (sym c.self.view_is) c.requires.free)).books
+
+pub returns-clause-framed : goal.returns-clause-framed
+returns-clause-framed c =
+    c.set_entry.ensures ∙ entry_is_frame c.self.inside.tables c.args.space c.args.page c.args.frame c.in-Some.old c.in-Some.ensures
+    ∙ ap (λ (v : LedgerView). with_frame v c.args.space c.args.page c.args.frame) c.self.view_is
+
+pub returns-clause-freed : goal.returns-clause-freed
+returns-clause-freed c =
+    let framed = c.set_entry.ensures ∙ entry_is_frame c.self.inside.tables c.args.space c.args.page c.args.frame c.in-Some.old c.in-Some.ensures in
+    c.other_frame.ensures ∙ ap (option_and_then (λ (k : ℕ). cond (c.args.frame == k) None (Some k))) c.freed_frame.ensures ∙ (framed_call c.self.inside.tables c.self.inside.pool c.release-freed.new.pool c.hold-added.new.pool c.self.inside.units c.self.inside.lines c.self.invariant c.zero-zero.ensures.sound c.args.space c.args.page c.zero-zero.result c.args.frame c.release-freed.result c.hold-added.result c.in-Some.old
+    c.zero-zero.ensures.zero c.in-Some.ensures c.release-freed.ensures.released c.release-freed.ensures.units c.hold-added.ensures.held c.hold-added.ensures.units
+    (subst (λ (v : LedgerView). c.args.frame < v.frames) (sym c.self.view_is) c.requires.inside) (ap (λ (v : LedgerView). (space_at v c.args.space).awaiting) c.self.view_is ∙ c.requires.settled)
+    (subst (λ (v : LedgerView). IsFreeFor v c.args.space c.args.page c.args.frame) (sym c.self.view_is) c.requires.free)).answer
+    ∙ ap (λ v. given_up v (page_at c.self.inside.tables c.args.space c.args.page)) (sym framed)
+    ∙ ap (λ (v : LedgerView). given_up c.set_entry.new.self (page_at v c.args.space c.args.page)) c.self.view_is
