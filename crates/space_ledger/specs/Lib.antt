@@ -4,5 +4,6 @@ pub mod View
 pub mod Calls
 pub mod Frames
 pub mod ViewLaws
+pub mod Joined
 pub mod Codes
 pub mod Kept

@@ -47,9 +47,9 @@ pub(crate) fn release(pool: &mut FramePool, zero: u32, frame: u32) -> u32
     if pool.release(frame) { FRAME_UNITS } else { 0 }
 }
 
-/// The units of a segment for as many lines.
+/// The units of a segment for as many lines: 0 to 16.
 #[tactic(auto, unfolding(ledger::specs::Units::class))]
-pub(crate) fn class_of(lines: u32) -> u32
+pub fn class_of(lines: u32) -> u32
     ensures { result ≡ class lines }
 {
     if lines == 0 {

@@ -19,6 +19,7 @@ mod space;
 mod spaces;
 mod tables;
 
+pub use frames::class_of;
 pub use spaces::SpaceLedger;
 
 #[cfg(test)]

@@ -158,8 +158,10 @@ impl SpaceLedger {
 
     /// How many pages a space has.
     pub fn pages(&self, space: u16) -> u32
-        ensures { result ≡ map.len (space_at self.now space).pages }
+        ensures count { result ≡ map.len (space_at self.now space).pages }
+        ensures once { NamesOnce self.now.zero_frame (entries_of self.now space) }
     {
+        let _zero = self.tables.zero();
         self.tables.len(space)
     }
 
@@ -338,6 +340,7 @@ impl SpaceLedger {
         requires room { IfSome block (λ b. HasSpare self.old) }
         ensures shared { self.new ≡ with_page_shared self.old from to page block }
         ensures same { held_at self.new to page ≡ held_at self.old from page }
+        ensures absent { page_at self.old to page ≡ None }
     {
         let zero = self.tables.zero();
         let overlay = in_block(&self.tables.overlay(from, page), block);

@@ -5,7 +5,7 @@ ghost use Rattle.ledger.specs.Units.{overlaid_pages, units};
 ghost use Rattle.space_ledger.specs.View.{LedgerView, PageView, has_space, ledger_of, overlay_at, page_at, space_at};
 ghost use Rattle.space_ledger.specs.Calls.{AreFree, IsFreeFor};
 
-use crate::SpaceLedger;
+use crate::{SpaceLedger, class_of};
 use overlay_address::OverlayPage;
 use overlay_bits::Bits;
 use overlay_mapping_table::Entry;
@@ -389,5 +389,16 @@ fn a_moved_overlay_has_the_same_lines(rt: HostRuntime) -> Result<(), Fail> {
     assert!(rt; ledger.entry(1, 100).is_some());
     assert_eq!(rt; ledger.overlay(1, 100), Some(Entry { bits, block }));
     assert_counts(&rt, &ledger, 34, 6);
+    Ok(())
+}
+
+#[test]
+fn units_of_a_segment_by_its_lines(rt: HostRuntime) -> Result<(), Fail> {
+    for (lines, units) in [(0u32, 0u32), (1, 1), (3, 1), (4, 2), (7, 2), (8, 4)] {
+        assert_eq!(rt; class_of(lines), units);
+    }
+    for (lines, units) in [(15u32, 4u32), (16, 8), (31, 8), (32, 16), (64, 16)] {
+        assert_eq!(rt; class_of(lines), units);
+    }
     Ok(())
 }

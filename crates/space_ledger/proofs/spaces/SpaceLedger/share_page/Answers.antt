@@ -73,3 +73,6 @@ returns-clause-same c =
     (subst (λ (v : LedgerView). frame_awaiting v c.args.to c.args.page ≡ frame_at v c.args.from c.args.page) (sym c.self.view_is) c.requires.frame)).2 c.overlay.ensures c.in_block-overlay.ensures
     (subst (λ (v : LedgerView). is_some c.args.block ≡ is_some (overlay_at v c.args.from c.args.page)) (sym c.self.view_is) c.requires.block)
     ∙ ap (λ (v : LedgerView). holding_at (ledger_of v) c.args.from c.args.page) c.self.view_is
+
+pub returns-clause-absent : goal.returns-clause-absent
+returns-clause-absent c = ap (λ (v : LedgerView). page_at v c.args.to c.args.page) (sym c.self.view_is) ∙ c.share-entry.ensures.apart

@@ -1,0 +1,70 @@
+use Rattle.std.proofs.Common.{◌∙◌, ap, refl}
+use Rattle.overlay_pages.specs.State.{State, bare_space, cut_space}
+use Rattle.overlay_pages.specs.View.{state_of}
+use Rattle.fork_checkpoint.specs.Forked.{with_copy}
+use Rattle.fork_checkpoint.proofs.Shares.{HasAdded, cut_put, fits_before, has_added, has_forked, needed_is, two_spaces}
+use Rattle.fork_checkpoint.proofs.forking.fork_space.Goals as goal
+
+pub returns-then-needed-limit : goal.returns-then-needed-limit
+returns-then-needed-limit c = record {
+  needed_is = needed_is (state_of c.args.mem.now) c.args.from c.args.to c.units_copied-needed.result
+      (two_spaces (state_of c.args.mem.now) c.args.from c.args.to c.requires.there c.requires.absent)
+      c.requires.absent c.units_copied-needed.ensures.sum;
+  limit_is = c.limit-limit.ensures;
+  over = c.if-needed-limit.true;
+  kept = refl;
+}
+
+abbrev added : (c : goal.After-fill_space-arg-1) → HasAdded (state_of c.args.mem.now) (state_of c.add_space.new.self) c.args.from c.args.to
+added c =
+    has_added (state_of c.args.mem.now) (state_of c.add_space.new.self) c.args.from c.args.to
+    (two_spaces (state_of c.args.mem.now) c.args.from c.args.to c.requires.there c.requires.absent) c.in-Ok.ensures.added
+
+pub fill_space-requires-clause-differ : goal.fill_space-requires-clause-differ
+fill_space-requires-clause-differ c = two_spaces (state_of c.args.mem.now) c.args.from c.args.to c.requires.there c.requires.absent
+
+pub fill_space-requires-clause-there : goal.fill_space-requires-clause-there
+fill_space-requires-clause-there c = (added c).beside.there c.requires.there
+
+pub fill_space-requires-clause-settled : goal.fill_space-requires-clause-settled
+fill_space-requires-clause-settled c = (added c).beside.settled c.requires.settled
+
+pub fill_space-requires-clause-space : goal.fill_space-requires-clause-space
+fill_space-requires-clause-space c = (added c).beside.space
+
+pub fill_space-requires-clause-bare : goal.fill_space-requires-clause-bare
+fill_space-requires-clause-bare c = (added c).bare
+
+pub fill_space-requires-clause-low : goal.fill_space-requires-clause-low
+fill_space-requires-clause-low c = (added c).beside.low c.units_copied-needed.ensures.low
+
+pub fill_space-requires-clause-fits : goal.fill_space-requires-clause-fits
+fill_space-requires-clause-fits c =
+    (added c).beside.fits
+    (fits_before (state_of c.args.mem.now) c.args.from c.args.to c.units_copied-needed.result c.limit-limit.result (two_spaces (state_of c.args.mem.now) c.args.from c.args.to c.requires.there c.requires.absent)
+    c.requires.absent c.units_copied-needed.ensures.sum c.limit-limit.ensures c.if-needed-limit.false)
+
+pub returns-in-Ok-fill_space : goal.returns-in-Ok-fill_space
+returns-in-Ok-fill_space c =
+    let differs = two_spaces (state_of c.args.mem.now) c.args.from c.args.to c.requires.there c.requires.absent in (
+      fits_before (state_of c.args.mem.now) c.args.from c.args.to c.units_copied-needed.result c.limit-limit.result differs c.requires.absent
+          c.units_copied-needed.ensures.sum c.limit-limit.ensures c.if-needed-limit.false,
+      has_forked (state_of c.args.mem.now) (state_of c.fill_space.new.mem) c.args.from c.args.to differs
+          (c.in-Ok-fill_space.ensures ∙ ap (λ (v : State). with_copy v c.args.from c.args.to) c.in-Ok.ensures.added),
+    )
+
+pub returns-in-Err-fill_space : goal.returns-in-Err-fill_space
+returns-in-Err-fill_space c = (
+  fits_before (state_of c.args.mem.now) c.args.from c.args.to c.units_copied-needed.result c.limit-limit.result
+      (two_spaces (state_of c.args.mem.now) c.args.from c.args.to c.requires.there c.requires.absent) c.requires.absent c.units_copied-needed.ensures.sum
+      c.limit-limit.ensures c.if-needed-limit.false,
+  c.in-Err-fill_space.ensures ∙ ap (λ (v : State). cut_space v c.args.to) c.in-Ok.ensures.added ∙ cut_put (state_of c.args.mem.now) c.args.to bare_space c.requires.absent,
+)
+
+pub returns-in-Err : goal.returns-in-Err
+returns-in-Err c = (
+  fits_before (state_of c.args.mem.now) c.args.from c.args.to c.units_copied-needed.result c.limit-limit.result
+      (two_spaces (state_of c.args.mem.now) c.args.from c.args.to c.requires.there c.requires.absent) c.requires.absent c.units_copied-needed.ensures.sum
+      c.limit-limit.ensures c.if-needed-limit.false,
+  ap state_of c.in-Err.ensures.kept,
+)

@@ -1,0 +1,39 @@
+//! A new space with the pages of another one.
+
+ghost use Rattle.std.specs.Prelude.{◌≡◌, ◌<◌, ◌≤◌, true, false};
+ghost use Rattle.std.specs.FinMap as map;
+ghost use Rattle.sizes.specs.declared.TheConstants.{LAST_SPACE};
+ghost use Rattle.overlay_pages.specs.State.{holds_space, space_in};
+ghost use Rattle.overlay_pages.specs.View.{state_of};
+ghost use Rattle.fork_checkpoint.specs.Forked.{Forks};
+
+use crate::sharing::fill_space;
+use crate::units::units_copied;
+use overlay_memory::{OverlayMemory, SpaceError};
+
+/// Makes a space of a number from 1 to 32,767 that isn't there, with the pages of a space that is there, isn't speculating, and of
+/// which no page awaits: it shares each frame, and has a copy of each overlay in a segment of its own. Full exactly where the units
+/// after it would exceed the limit, which is found before anything is shared; then nothing is changed. After want of memory the new
+/// space is gone. Costs a step for each page, and a copy of each own line.
+pub fn fork_space(mem: &mut OverlayMemory, from: u16, to: u16) -> Result<(), SpaceError>
+    requires there { holds_space (state_of mem.old) from ≡ true }
+    requires settled { (space_in (state_of mem.old) from).awaiting ≡ map.empty }
+    requires unmarked { (space_in (state_of mem.old) from).speculating ≡ false }
+    requires some { 0 < to }
+    requires last { to ≤ LAST_SPACE }
+    requires absent { holds_space (state_of mem.old) to ≡ false }
+    ensures { Forks mem.old mem.new from to result }
+{
+    let needed = units_copied(mem, from);
+    let limit = mem.limit();
+    if needed > limit {
+        return Err(SpaceError::Full(needed, limit));
+    }
+    match mem.add_space(to) {
+        Ok(()) => match fill_space(mem, from, to) {
+            Ok(()) => Ok(()),
+            Err(_) => Err(SpaceError::Memory),
+        },
+        Err(_) => Err(SpaceError::Memory),
+    }
+}

@@ -1,0 +1,56 @@
+//! The pages of a space are shared with a new one.
+
+ghost use Rattle.std.specs.Prelude.{◌≡◌, ◌≢◌, true};
+ghost use Rattle.std.specs.FinMap as map;
+ghost use Rattle.ledger.specs.Events.{Copy};
+ghost use Rattle.overlay_pages.specs.State.{bare_space, holds_space, space_in};
+ghost use Rattle.overlay_pages.specs.View.{state_of};
+ghost use Rattle.promotion.specs.Settled.{FitsAfter};
+ghost use Rattle.fork_checkpoint.specs.Forked.{ArePagesLow, AwaitsAll, FillsSpace, with_copy};
+
+use overlay_memory::OverlayMemory;
+use std::alloc::AllocError;
+
+// Each page is shared with the space in which it awaits, the least first. The units become no fewer with each page, and those after
+// the last one are there.
+fn share_all(mem: &mut OverlayMemory, from: u16, to: u16)
+    requires differ { from ≢ to }
+    requires there { holds_space (state_of mem.old) from ≡ true }
+    requires space { holds_space (state_of mem.old) to ≡ true }
+    requires empty { (space_in (state_of mem.old) to).pages ≡ map.empty }
+    requires awaits { AwaitsAll (state_of mem.old) from to }
+    requires low { ArePagesLow (state_of mem.old) from }
+    requires fits { FitsAfter (Copy from to) (state_of mem.old) }
+    ensures { state_of mem.new ≡ with_copy (state_of mem.old) from to }
+{
+    let mut at = 0;
+    'sharing: while let Some(page) = mem.next_page(from, at) {
+        mem.share_page(from, to, page);
+        at = page + 1;
+    }
+}
+
+/// Gives a space that was just made the pages of another one, of which none awaits. The units after it are there. After want of
+/// memory the new space is gone. Costs a step for each page, and a copy of each own line.
+pub(crate) fn fill_space(mem: &mut OverlayMemory, from: u16, to: u16) -> Result<(), AllocError>
+    requires differ { from ≢ to }
+    requires there { holds_space (state_of mem.old) from ≡ true }
+    requires settled { (space_in (state_of mem.old) from).awaiting ≡ map.empty }
+    requires space { holds_space (state_of mem.old) to ≡ true }
+    requires bare { space_in (state_of mem.old) to ≡ bare_space }
+    requires low { ArePagesLow (state_of mem.old) from }
+    requires fits { FitsAfter (Copy from to) (state_of mem.old) }
+    ensures { FillsSpace (state_of mem.old) (state_of mem.new) from to result }
+{
+    match mem.copy_table(from, to) {
+        Ok(table) => {
+            mem.adopt_table(to, table);
+            share_all(mem, from, to);
+            Ok(())
+        }
+        Err(_) => {
+            mem.drop_space(to);
+            Err(AllocError)
+        }
+    }
+}

@@ -1,0 +1,145 @@
+use Rattle.std.proofs.Common.{◌≡◌, ℕ, Bool, true, false, cond, List, [], ◌∷◌, Some, sym, ap, subst, ◌∙◌, refl}
+use Rattle.std.specs.Option.{option_map}
+use Rattle.overlay_bits.specs.Lines.{AreLines, has_line}
+use Rattle.ledger.specs.Ledger.{Ledger, holding_at, is_alone, with_page}
+use Rattle.ledger.specs.Changes.{joined}
+use Rattle.ledger.specs.Events.{Store, ledger_after}
+use Rattle.ledger.specs.PlaceLaws.{put_again}
+use Rattle.ledger.specs.StoreLaws.{joined_there, store_joins, store_nothing}
+use Rattle.overlay_pages.specs.State.{PageState, State, base_of, books, held_page, memory_of, page_in, put_page, space_in, turned_page}
+use Rattle.overlay_pages.specs.Changes.{brought, is_writable, with_brought, writes_frame}
+use Rattle.overlay_pages.specs.StateLaws.{changed_there, ledger_page, ledger_put, page_put_beside, page_put_here}
+use Rattle.overlay_memory.specs.Pieces.{AreBeside}
+use Rattle.overlay_memory.proofs.Joining.{joined_has, with_own_line}
+use Rattle.overlay_memory.specs.StateMemory.{alone_kept, base_kept, beside_both, beside_put, beside_same, memory_kept, writable_at, writable_same, writes_same}
+
+-- Lines that join a page's own before they are written.
+
+-- lines of pages joined their own, which is seen in the ledger alone
+pub record HasBrought (old new : State) (space : ℕ) (after : Ledger) : Type 0 where
+  pub memory : memory_of new space ≡ memory_of old space
+  pub base : base_of new space ≡ base_of old space
+  pub ledger : books new ≡ after
+  pub beside : AreBeside old new space
+
+pub brought_none : (v : State) (s : ℕ) → HasBrought v v s (books v)
+brought_none v s = record { memory = refl; base = refl; ledger = refl; beside = beside_same v s }
+
+held : (v : State) (s p : ℕ) (x : PageState) → page_in v s p ≡ Some x → holding_at (books v) s p ≡ Some (held_page v.zero_frame x)
+held v s p x there = ledger_page v s p ∙ ap (option_map (held_page v.zero_frame)) there
+
+-- what is brought, where the frame is written and where it isn't
+brings_nothing : (v : State) (s p : ℕ) (lines : List ℕ) → writes_frame v s p ≡ true → with_brought v s p lines ≡ v
+unfolding with_brought
+brings_nothing v s p lines frame = ap (λ b. cond b v (turned_page (brought lines) v s p)) frame
+
+brings : (v : State) (s p : ℕ) (lines : List ℕ) (x : PageState) → page_in v s p ≡ Some x → writes_frame v s p ≡ false
+    → with_brought v s p lines ≡ put_page v s p (brought lines x)
+unfolding with_brought
+brings v s p lines x there frame = ap (λ b. cond b v (turned_page (brought lines) v s p)) frame ∙ changed_there (brought lines) v s p x there
+
+-- a page that is there, in a space of a mark
+module _ (v : State) (s p : ℕ) (lines : List ℕ) (x : PageState) (there : page_in v s p ≡ Some x) where
+  abbrev row : Ledger
+  row = ledger_after (Store (space_in v s).speculating s ((p, lines) ∷ [])) (books v)
+
+  -- what holds of the state as it is, and of it with the page put, holds of it with the lines brought
+  by_frame : (P : State → Type 0) → (writes_frame v s p ≡ true → P v) → (writes_frame v s p ≡ false → P (put_page v s p (brought lines x)))
+      → P (with_brought v s p lines)
+  by_frame P as_is put = at (writes_frame v s p) refl
+    where
+      at : (b : Bool) → writes_frame v s p ≡ b → P (with_brought v s p lines)
+      at true frame = subst P (sym (brings_nothing v s p lines frame)) (as_is frame)
+      at false frame = subst P (sym (brings v s p lines x there frame)) (put frame)
+
+  pub brought_one : HasBrought v (with_brought v s p lines) s row
+  brought_one = by_frame (λ new. HasBrought v new s row)
+      (λ frame. record { memory = refl; base = refl; ledger = sym (store_nothing (space_in v s).speculating (books v) s p lines frame); beside = beside_same v s })
+      (λ frame. record {
+        memory = memory_kept v s p (brought lines x) x there refl;
+        base = base_kept v s p (brought lines x) x there refl;
+        ledger =
+            ledger_put v s p (brought lines x)
+            ∙ sym (store_joins (space_in v s).speculating (books v) s p lines frame ∙ joined_there (books v) s p lines (held_page v.zero_frame x) (held v s p x there));
+        beside = beside_put v s p (brought lines x) x there refl;
+      })
+
+  pub brought_alone : (q r : ℕ) → is_alone (books (with_brought v s p lines)) q r ≡ is_alone (books v) q r
+  brought_alone q r = by_frame (λ new. is_alone (books new) q r ≡ is_alone (books v) q r) (λ frame. refl) (λ frame. alone_kept v s p (brought lines x) x there refl q r)
+
+  pub brought_beside : (r : ℕ) → (r ≡ p → ⊥) → page_in (with_brought v s p lines) s r ≡ page_in v s r
+  brought_beside r other =
+      by_frame (λ new. page_in new s r ≡ page_in v s r) (λ frame. refl) (λ frame. page_put_beside v s p (brought lines x) s r (λ ss pp. other pp))
+
+  pub brought_frames : (r : ℕ) → writes_frame (with_brought v s p lines) s r ≡ writes_frame v s r
+  brought_frames r = writes_same v (with_brought v s p lines) s r brought_one.beside.mark (brought_alone s r)
+
+  -- lines of other pages can be written as before
+  pub brought_keeps : (r line : ℕ) → (r ≡ p → ⊥) → is_writable (with_brought v s p lines) s r line ≡ is_writable v s r line
+  brought_keeps r line other = writable_same v (with_brought v s p lines) s r line (brought_beside r other) (brought_frames r)
+
+  -- its own lines that were brought can be written
+  pub brought_writable : (line : ℕ) → has_line lines line ≡ true → is_writable (with_brought v s p lines) s p line ≡ true
+  brought_writable line has = by_frame (λ new. is_writable new s p line ≡ true)
+      (λ frame. writable_at v s p line x there ∙ ap (cond (has_line x.own line) true) frame ∙ same (has_line x.own line))
+      (λ frame.
+      writable_at (put_page v s p (brought lines x)) s p line (brought lines x) (page_put_here v s p (brought lines x) s p refl refl)
+      ∙ ap (λ (b : Bool). cond b true (writes_frame (put_page v s p (brought lines x)) s p)) (joined_has lines x.own line has))
+    where
+      same : (b : Bool) → cond b true true ≡ true
+      same true = refl
+      same false = refl
+
+-- after two pages had lines brought
+
+module _ (v : State) (s p q : ℕ) (lines more : List ℕ) (x y : PageState) (there : page_in v s p ≡ Some x) (also : page_in v s q ≡ Some y) (other : q ≡ p → ⊥) where
+  abbrev first : State
+  first = with_brought v s p lines
+
+  abbrev both_rows : Ledger
+  both_rows = ledger_after (Store (space_in v s).speculating s ((p, lines) ∷ ((q, more) ∷ []))) (books v)
+
+  second_there : page_in first s q ≡ Some y
+  second_there = brought_beside v s p lines x there q other ∙ also
+
+  -- the second page joins its lines in the ledger after the first, and is alone where it was before
+  rows_are : ledger_after (Store (space_in first s).speculating s ((q, more) ∷ [])) (books first) ≡ both_rows
+  rows_are =
+      let it = brought_one v s p lines x there in
+      ap (λ w. cond w (books first) (joined (books first) s q more)) (brought_frames v s p lines x there q)
+      ∙ ap (λ l. cond (writes_frame v s q) l (joined l s q more)) it.ledger
+
+  pub brought_two : HasBrought v (with_brought first s q more) s both_rows
+  brought_two =
+      let one = brought_one v s p lines x there in
+      let two = brought_one first s q more y second_there in
+      record {
+        memory = two.memory ∙ one.memory;
+        base = two.base ∙ one.base;
+        ledger = two.ledger ∙ rows_are;
+        beside = beside_both v first (with_brought first s q more) s one.beside two.beside;
+      }
+
+  pub first_writable : (line : ℕ) → has_line lines line ≡ true → is_writable (with_brought first s q more) s p line ≡ true
+  first_writable line has =
+      brought_keeps first s q more y second_there p line (λ same. other (sym same)) ∙ brought_writable v s p lines x there line has
+
+  pub second_writable : (line : ℕ) → has_line more line ≡ true → is_writable (with_brought first s q more) s q line ≡ true
+  second_writable line has = brought_writable first s q more y second_there line has
+
+-- a line that can be written where it stands needs nothing
+pub joins_nothing : (v : State) (s p line : ℕ) (x : PageState) → page_in v s p ≡ Some x → AreLines x.own → is_writable v s p line ≡ true
+    → ledger_after (Store (space_in v s).speculating s ((p, line ∷ []) ∷ [])) (books v) ≡ books v
+joins_nothing v s p line x there are can = at (writes_frame v s p) refl
+  where
+    own_line : (a b : Bool) → b ≡ false → cond a true b ≡ true → a ≡ true
+    own_line true b none is = refl
+    own_line false b none is = sym none ∙ is
+
+    at : (b : Bool) → writes_frame v s p ≡ b → ledger_after (Store (space_in v s).speculating s ((p, line ∷ []) ∷ [])) (books v) ≡ books v
+    at true frame = store_nothing (space_in v s).speculating (books v) s p (line ∷ []) frame
+    at false frame =
+        let has = own_line (has_line x.own line) (writes_frame v s p) frame (sym (writable_at v s p line x there) ∙ can) in
+        store_joins (space_in v s).speculating (books v) s p (line ∷ []) frame ∙ joined_there (books v) s p (line ∷ []) (held_page v.zero_frame x) (held v s p x there)
+        ∙ ap (λ o. with_page (books v) s p (record { origin = (held_page v.zero_frame x).origin; own = o })) (with_own_line x.own line are has)
+        ∙ put_again (books v) s p (held_page v.zero_frame x) (held v s p x there)

@@ -1,0 +1,75 @@
+use Rattle.std.proofs.Common.{◌≡◌, ℕ, ◌+◌, ◌<◌, ◌≤◌, true, cond, Option, Some, None, sym, ap, subst, ◌∙◌, refl, arith}
+use Rattle.std.specs.Prelude.{IsSome, is_some}
+use Rattle.std.specs.Ordering.{nat_cmp}
+use Rattle.std.specs.Cmp.{nat_cmp_total}
+use Rattle.std.specs.FinMap.{FinMap, empty, get, get-empty, insert, len, len-insert, remove}
+use Rattle.number_maps.specs.Cuts.{insert_removed}
+use Rattle.number_maps.specs.Keys.{alike, by_key, get_other, get_same, insert_kept, removed_other, removed_same}
+use Rattle.overlay_pages.specs.State.{PageState, SpaceState, State, cut_page, cut_space, holds_space, of_pages, page_in, put_space, space_in}
+use Rattle.overlay_pages.specs.StateLaws.{page_of, space_put}
+use Rattle.overlay_memory.specs.Pieces.{IsEmptied}
+
+-- A space that loses its pages one by one.
+
+-- what holds while pages go
+pub record IsEmptying (old now : State) (space : ℕ) : Type 0 where
+  pub there : holds_space now space ≡ true
+  pub settled : (space_in now space).awaiting ≡ empty
+  pub cut : cut_space now space ≡ cut_space old space
+
+remove_inserted : {X : Type 0} (m : FinMap nat_cmp X) (k : ℕ) (x : X) → remove (insert m k x) k ≡ remove m k
+remove_inserted m k x = alike _ _ (λ q. by_key q k
+    (λ same. removed_same (insert m k x) k q same ∙ sym (removed_same m k q same))
+    (λ other. removed_other (insert m k x) k q other ∙ get_other m k q x other ∙ sym (removed_other m k q other)))
+
+cut_put : (v : State) (s : ℕ) (x : SpaceState) → cut_space (put_space v s x) s ≡ cut_space v s
+unfolding cut_space put_space
+cut_put v s x = ap (λ m. record { spaces = m; frames = v.frames; zero_frame = v.zero_frame }) (remove_inserted v.spaces s x)
+
+put_there : (v : State) (s : ℕ) (x : SpaceState) → holds_space (put_space v s x) s ≡ true
+unfolding put_space
+put_there v s x = ap is_some (get_same v.spaces s s x refl)
+
+pages_left : (v : State) (s p : ℕ) → space_in (cut_page v s p) s ≡ of_pages (space_in v s) (remove (space_in v s).pages p)
+unfolding cut_page
+pages_left v s p = space_put v s (of_pages (space_in v s) (remove (space_in v s).pages p)) s refl
+
+cut_of : (v : State) (s p : ℕ) → cut_space (cut_page v s p) s ≡ cut_space v s
+unfolding cut_page
+cut_of v s p = cut_put v s _
+
+there_of : (v : State) (s p : ℕ) → holds_space (cut_page v s p) s ≡ true
+unfolding cut_page
+there_of v s p = put_there v s _
+
+pub emptying_more : (old now next : State) (s p : ℕ) → IsEmptying old now s → next ≡ cut_page now s p → IsEmptying old next s
+emptying_more old now next s p so_far is = subst (λ w. IsEmptying old w s) (sym is) (record {
+  there = there_of now s p;
+  settled = ap (λ (x : SpaceState). x.awaiting) (pages_left now s p) ∙ so_far.settled;
+  cut = cut_of now s p ∙ so_far.cut;
+})
+
+-- there is a page less
+one_less : {X : Type 0} (m : FinMap nat_cmp X) (k : ℕ) (x : X) → get m k ≡ Some x → len m ≡ len (remove m k) + 1
+one_less m k x there =
+    ap len (sym (insert_removed m k x ∙ insert_kept m k x there)) ∙ len-insert nat_cmp_total (remove m k) k x
+    ∙ ap (λ (o : Option _). cond (is_some o) (len (remove m k)) (len (remove m k) + 1)) (removed_same m k k refl)
+
+pub fewer : (now next : State) (s p : ℕ) → next ≡ cut_page now s p → IsSome (page_in now s p) → len (space_in next s).pages < len (space_in now s).pages
+fewer now next s p is there = by_page (get (space_in now s).pages p) refl (ap is_some (sym (page_of now s p)) ∙ there)
+  where
+    left : (space_in next s).pages ≡ remove (space_in now s).pages p
+    left = ap (λ w. (space_in w s).pages) is ∙ ap (λ (x : SpaceState). x.pages) (pages_left now s p)
+
+    by_page : (o : Option PageState) → get (space_in now s).pages p ≡ o → IsSome (get (space_in now s).pages p)
+        → len (space_in next s).pages < len (space_in now s).pages
+    by_page None absent some = let none = sym some ∙ ap is_some absent in cc
+    by_page (Some x) at some = let less = one_less (space_in now s).pages p x at in let is = ap len left in omega (arith, less, is)
+
+pub emptied : (old now : State) (s : ℕ) → IsEmptying old now s → ((q : ℕ) → 0 ≤ q → page_in now s q ≡ None) → IsEmptied old now s
+emptied old now s so_far none = record {
+  there = so_far.there;
+  empty = alike _ _ (λ q. sym (page_of now s q) ∙ none q (omega arith) ∙ sym (get-empty {X = PageState} nat_cmp q));
+  settled = so_far.settled;
+  cut = so_far.cut;
+}

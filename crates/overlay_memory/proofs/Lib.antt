@@ -1,0 +1,13 @@
+pub mod Overwritten
+pub mod LineBytes
+pub mod Views
+pub mod Touching
+pub mod Pieced
+pub mod ReadSoFar
+pub mod Filling
+pub mod Bringing
+pub mod Joining
+pub mod Stored
+pub mod Emptied
+pub mod InOne
+pub mod InTwo

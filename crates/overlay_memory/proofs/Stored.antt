@@ -1,0 +1,87 @@
+use Rattle.std.proofs.Common.{◌≡◌, ℕ, ◌+◌, ◌-◌, ◌≤◌, List, [], ◌∷◌, length, sym, ap, ◌∙◌, refl, arith}
+use Rattle.std.specs.Prelude.{Err}
+use Rattle.ovl_io.specs.Memory.{with_bytes}
+use Rattle.ovl_io.specs.MemoryLaws.{access_front}
+use Rattle.ovl_io.specs.Permissions.{writable}
+use Rattle.ledger.specs.Ledger.{Ledger}
+use Rattle.ledger.specs.Touched.{touched}
+use Rattle.ledger.specs.Units.{units}
+use Rattle.overlay_pages.specs.State.{State, memory_of}
+use Rattle.overlay_pages.specs.Changes.{units_of}
+use Rattle.overlay_pages.specs.View.{MemoryView, state_of}
+use Rattle.overlay_memory.specs.declared.error.MemoryError.{MemoryError}
+use Rattle.overlay_memory.specs.declared.error.MemoryError.TheVariants.{Unmapped, Forbidden, Full}
+use Rattle.overlay_memory.specs.declared.room.Excess.{Excess}
+use Rattle.overlay_memory.specs.Access.{IsAllowed, IsStored, Reads, Stores, stored_books}
+use Rattle.overlay_memory.specs.Pieces.{IsFilled}
+use Rattle.overlay_memory.specs.Room.{IsExcess}
+use Rattle.overlay_memory.specs.StateMemory.{beside_both}
+use Rattle.overlay_memory.proofs.Bringing.{HasBrought}
+
+-- What a store comes to: lines are brought, and then bytes are put in them.
+
+-- what a store that is done says
+abbrev pub IsDone : MemoryView → State → ℕ → ℕ → List ℕ → Type 0
+IsDone view after s address bytes = IsAllowed (state_of view) s writable address (length bytes) × IsStored (state_of view) after s address bytes
+
+-- no bytes
+pub stored_none : (view : MemoryView) (s address : ℕ) (bytes : List ℕ) → length bytes ≡ 0 → IsDone view (state_of view) s address bytes
+unfolding touched
+stored_none view s address [] none = (
+  refl,
+  record {
+    memory = refl;
+    ledger = refl;
+    base = λ on. refl;
+    entries = refl;
+    awaiting = refl;
+    mark = refl;
+    others = λ q other. refl;
+    spaces = λ q. refl;
+    frames = refl;
+    zero_frame = refl;
+  },
+)
+stored_none view s address (b ∷ bytes) none = absurd (omega (arith, none))
+
+-- lines were brought, and then bytes put
+pub stored_by : (a b c : State) (s address : ℕ) (bytes : List ℕ) (after : Ledger) → stored_books a s address (length bytes) ≡ after → HasBrought a b s after
+    → IsFilled b c s address bytes → IsStored a c s address bytes
+stored_by a b c s address bytes after row one two =
+    let beside = beside_both a b c s one.beside two.beside in
+    record {
+      memory = two.memory ∙ ap (λ m. with_bytes m address bytes) one.memory;
+      ledger = two.ledger ∙ one.ledger ∙ sym row;
+      base = λ on. two.base (one.beside.mark ∙ on) ∙ one.base;
+      entries = beside.entries;
+      awaiting = beside.awaiting;
+      mark = beside.mark;
+      others = beside.others;
+      spaces = beside.spaces;
+      frames = beside.frames;
+      zero_frame = beside.zero_frame;
+    }
+
+-- an error before anything was done
+pub refused_store : (view : MemoryView) (s address : ℕ) (bytes : List ℕ) (error : MemoryError)
+    → Reads (state_of view) s writable address (length bytes) (Err error)
+    → Stores view view s address bytes (Err error)
+refused_store view s address bytes (Unmapped at) h = (h, refl)
+refused_store view s address bytes (Forbidden at) h = (h, refl)
+refused_store view s address bytes (Full needed limit) h = absurd h
+
+-- the first bytes are refused
+pub front_refused : (v : State) (s need address front n : ℕ) (error : MemoryError) → front ≤ n → Reads v s need address front (Err error)
+    → Reads v s need address n (Err error)
+front_refused v s need address front n (Unmapped at) fits h =
+    record { first = access_front (memory_of v s) need address front (n - front) n at (omega (arith, fits)) h.first; absent = h.absent }
+front_refused v s need address front n (Forbidden at) fits h =
+    record { first = access_front (memory_of v s) need address front (n - front) n at (omega (arith, fits)) h.first; there = h.there }
+front_refused v s need address front n (Full needed limit) fits h = absurd h
+
+-- a store that needs more units than there are
+pub full_store : (view : MemoryView) (s address rise : ℕ) (bytes : List ℕ) (excess : Excess) → IsAllowed (state_of view) s writable address (length bytes)
+    → units (stored_books (state_of view) s address (length bytes)) ≡ units_of (state_of view) + rise → IsExcess view rise excess
+    → Stores view view s address bytes (Err (Full excess.needed excess.limit))
+full_store view s address rise bytes excess may is too_many =
+    (may, record { needed_is = too_many.needed ∙ sym is; limit_is = too_many.limit; over = too_many.over; kept = refl })

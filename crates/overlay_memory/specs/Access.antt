@@ -1,0 +1,82 @@
+use Rattle.std.specs.Prelude.{◌≡◌, ℕ, ◌+◌, ◌/◌, ◌<◌, true, List, length, Some, None, IsSome, Result, Ok, Err}
+use Rattle.std.specs.FinMap.{get}
+use Rattle.sizes.specs.declared.TheConstants.{FRAME_UNITS, PAGE_BYTES}
+use Rattle.ovl_io.specs.Memory.{first_denied, with_bytes}
+use Rattle.ovl_io.specs.Permissions.{writable}
+use Rattle.ledger.specs.Ledger.{Ledger}
+use Rattle.ledger.specs.Events.{Store, ledger_after}
+use Rattle.ledger.specs.Touched.{touched}
+use Rattle.ledger.specs.Units.{units}
+use Rattle.page_table.specs.declared.entry.PageEntry.{PageEntry}
+use Rattle.overlay_pages.specs.Lines.{lines_of_bytes}
+use Rattle.overlay_pages.specs.State.{State, base_of, books, holds_space, memory_of, space_in}
+use Rattle.overlay_pages.specs.Changes.{IsPlaced, limit_of, units_of, whole_page}
+use Rattle.overlay_pages.specs.Calls.{entries_in}
+use Rattle.overlay_pages.specs.View.{MemoryView, state_of}
+use Rattle.overlay_memory.specs.declared.error.MemoryError.{MemoryError}
+use Rattle.overlay_memory.specs.declared.error.MemoryError.TheVariants.{Unmapped, Forbidden, Full}
+use Rattle.overlay_memory.specs.declared.error.SpaceError.{SpaceError}
+use Rattle.overlay_memory.specs.declared.error.SpaceError.TheVariants as refused
+
+-- How reads and stores come out.
+
+-- Each byte may be used, or the first that may not is at this address and its page isn't there, or lacks the need.
+abbrev pub IsAllowed : State → ℕ → ℕ → ℕ → ℕ → Type 0
+IsAllowed state space need address count = first_denied (memory_of state space) need address count ≡ None
+
+pub record IsUnmappedAt (state : State) (space need address count at : ℕ) : Type 0 where
+  pub first : first_denied (memory_of state space) need address count ≡ Some at
+  pub absent : get (memory_of state space) (at / PAGE_BYTES) ≡ None
+
+pub record IsForbiddenAt (state : State) (space need address count at : ℕ) : Type 0 where
+  pub first : first_denied (memory_of state space) need address count ≡ Some at
+  pub there : IsSome (get (memory_of state space) (at / PAGE_BYTES))
+
+-- how a read comes out
+abbrev pub Reads : State → ℕ → ℕ → ℕ → ℕ → Result (Unit {0}) MemoryError → Type 0
+Reads state space need address count (Ok done) = IsAllowed state space need address count
+Reads state space need address count (Err (Unmapped at)) = IsUnmappedAt state space need address count at
+Reads state space need address count (Err (Forbidden at)) = IsForbiddenAt state space need address count at
+Reads state space need address count (Err (Full needed limit)) = ⊥
+
+-- the ledger after a store
+abbrev pub stored_books : State → ℕ → ℕ → ℕ → Ledger
+stored_books state space address count = ledger_after (Store (space_in state space).speculating space (touched address count)) (books state)
+
+-- Bytes were stored: they stand in the memory of the space, the ledger is that after the store, and nothing else changed. The
+-- base of a space that is speculating stays.
+pub record IsStored (old new : State) (space address : ℕ) (bytes : List ℕ) : Type 0 where
+  pub memory : memory_of new space ≡ with_bytes (memory_of old space) address bytes
+  pub ledger : books new ≡ stored_books old space address (length bytes)
+  pub base : (space_in old space).speculating ≡ true → base_of new space ≡ base_of old space
+  pub entries : entries_in new space ≡ entries_in old space
+  pub awaiting : (space_in new space).awaiting ≡ (space_in old space).awaiting
+  pub mark : (space_in new space).speculating ≡ (space_in old space).speculating
+  pub others : (q : ℕ) → (q ≡ space → ⊥) → space_in new q ≡ space_in old q
+  pub spaces : (q : ℕ) → holds_space new q ≡ holds_space old q
+  pub frames : new.frames ≡ old.frames
+  pub zero_frame : new.zero_frame ≡ old.zero_frame
+
+-- the units that would be needed exceed the limit, and nothing changed
+pub record IsFullAt (old new : MemoryView) (after needed limit : ℕ) : Type 0 where
+  pub needed_is : needed ≡ after
+  pub limit_is : limit ≡ limit_of (state_of old)
+  pub over : limit < needed
+  pub kept : new ≡ old
+
+-- how a store comes out
+abbrev pub Stores : MemoryView → MemoryView → ℕ → ℕ → List ℕ → Result (Unit {0}) MemoryError → Type 0
+Stores old new space address bytes (Ok done) =
+    IsAllowed (state_of old) space writable address (length bytes) × IsStored (state_of old) (state_of new) space address bytes
+Stores old new space address bytes (Err (Unmapped at)) = IsUnmappedAt (state_of old) space writable address (length bytes) at × (new ≡ old)
+Stores old new space address bytes (Err (Forbidden at)) = IsForbiddenAt (state_of old) space writable address (length bytes) at × (new ≡ old)
+Stores old new space address bytes (Err (Full needed limit)) =
+    IsAllowed (state_of old) space writable address (length bytes) × IsFullAt old new (units (stored_books (state_of old) space address (length bytes))) needed limit
+
+-- how a page is placed: in a new frame, with these bytes; after want of memory segments may have moved
+abbrev pub Places : MemoryView → MemoryView → ℕ → ℕ → (ℕ → PageEntry) → List ℕ → Result (Unit {0}) SpaceError → Type 0
+Places old new space page entry bytes (Ok done) =
+    IsPlaced (state_of old) (state_of new) space page (λ frame. whole_page (entry frame) (lines_of_bytes bytes))
+    × (units_of (state_of new) ≡ units_of (state_of old) + FRAME_UNITS)
+Places old new space page entry bytes (Err (refused.Full needed limit)) = IsFullAt old new (units_of (state_of old) + FRAME_UNITS) needed limit
+Places old new space page entry bytes (Err refused.Memory) = state_of new ≡ state_of old

@@ -1,0 +1,67 @@
+use Rattle.std.specs.Prelude.{◌≡◌, ℕ, ◌+◌, ◌-◌, ◌*◌, ◌/◌, ◌<◌, true, false, List, Some, None, Result, Ok, Err}
+use Rattle.std.specs.FinMap as map
+use Rattle.sizes.specs.declared.TheConstants.{LINE_BYTES, PAGE_BYTES}
+use Rattle.ovl_io.specs.Memory.{with_bytes}
+use Rattle.ovl_io.specs.Permissions.{permits}
+use Rattle.overlay_bits.specs.Lines.{lines_between}
+use Rattle.overlay_pages.specs.State.{PageState, State, base_of, books, cut_space, holds_space, memory_of, page_in, seen_page, space_in}
+use Rattle.overlay_pages.specs.Changes.{is_writable}
+use Rattle.overlay_pages.specs.Calls.{entries_in}
+use Rattle.overlay_pages.specs.View.{IsJoined, MemoryView, state_of}
+use Rattle.overlay_memory.specs.declared.error.MemoryError.{MemoryError}
+use Rattle.overlay_memory.specs.declared.error.MemoryError.TheVariants.{Unmapped, Forbidden, Full}
+
+-- What reads and stores come to, piece by piece.
+
+-- the page of an address is there, and has the permission or lacks it
+pub record IsPermitted (view : MemoryView) (space need address : ℕ) : Type 0 where
+  pub page : PageState
+  pub there : page_in (state_of view) space (address / PAGE_BYTES) ≡ Some page
+  pub may : permits (seen_page page).perms need ≡ true
+  pub joined : IsJoined view
+
+pub record IsLacking (view : MemoryView) (space need address : ℕ) : Type 0 where
+  pub page : PageState
+  pub there : page_in (state_of view) space (address / PAGE_BYTES) ≡ Some page
+  pub lacks : permits (seen_page page).perms need ≡ false
+
+-- whether the byte at an address may be used so
+abbrev pub Permits : MemoryView → ℕ → ℕ → ℕ → Result (Unit {0}) MemoryError → Type 0
+Permits view space need address (Ok done) = IsPermitted view space need address
+Permits view space need address (Err (Unmapped at)) = (at ≡ address) × (page_in (state_of view) space (address / PAGE_BYTES) ≡ None)
+Permits view space need address (Err (Forbidden at)) = (at ≡ address) × IsLacking view space need address
+Permits view space need address (Err (Full needed limit)) = ⊥
+
+-- the lines of a page in which some bytes lie that begin at a place of it
+abbrev pub lines_under : ℕ → ℕ → List ℕ
+lines_under at count = lines_between (at / LINE_BYTES) ((at + count - 1) / LINE_BYTES + 1)
+
+-- they can be written where they stand
+abbrev pub AreWritable : State → ℕ → ℕ → ℕ → ℕ → Type 0
+AreWritable state space page at count =
+    (line : ℕ) → LINE_BYTES * line < at + count → at < LINE_BYTES * line + LINE_BYTES → is_writable state space page line ≡ true
+
+-- Nothing but lines changed: the entries of a space, what awaits, its mark, all other spaces, and the frames are as before.
+pub record AreBeside (old new : State) (space : ℕ) : Type 0 where
+  pub entries : entries_in new space ≡ entries_in old space
+  pub awaiting : (space_in new space).awaiting ≡ (space_in old space).awaiting
+  pub mark : (space_in new space).speculating ≡ (space_in old space).speculating
+  pub others : (q : ℕ) → (q ≡ space → ⊥) → space_in new q ≡ space_in old q
+  pub spaces : (q : ℕ) → holds_space new q ≡ holds_space old q
+  pub frames : new.frames ≡ old.frames
+  pub zero_frame : new.zero_frame ≡ old.zero_frame
+
+-- bytes were put in lines that can be written, which changes no ledger
+pub record IsFilled (old new : State) (space address : ℕ) (bytes : List ℕ) : Type 0 where
+  pub memory : memory_of new space ≡ with_bytes (memory_of old space) address bytes
+  pub ledger : books new ≡ books old
+  pub base : (space_in old space).speculating ≡ true → base_of new space ≡ base_of old space
+  pub writable : (page line : ℕ) → is_writable new space page line ≡ is_writable old space page line
+  pub beside : AreBeside old new space
+
+-- a space lost its pages, and is still there; without it, all is as it would have been before
+pub record IsEmptied (old new : State) (space : ℕ) : Type 0 where
+  pub there : holds_space new space ≡ true
+  pub empty : (space_in new space).pages ≡ map.empty
+  pub settled : (space_in new space).awaiting ≡ map.empty
+  pub cut : cut_space new space ≡ cut_space old space

@@ -1,0 +1,24 @@
+//! Memories of pages with overlays: one for each space, over frames and segments that spaces share.
+//!
+//! The model of an `OverlayMemory` is that of the pages below it: the lines of the region, its blocks and
+//! segments, and the tables of all spaces. What calls do is said of the state that these stand for, and of the
+//! memory, the base and the ledger that are functions of it.
+//!
+//! - `error`: why a call isn't done
+//! - `memory`: the public type
+//! - `reading`: bytes out of the lines of pages
+//! - `room`: whether there are as many units as a change needs
+//! - `storing`: bytes into the lines of pages, and what a store needs first
+#![tactic(auto)]
+
+mod error;
+mod memory;
+mod reading;
+mod room;
+mod storing;
+
+pub use error::{MemoryError, SpaceError};
+pub use memory::OverlayMemory;
+
+#[cfg(test)]
+mod tests;

@@ -1,0 +1,387 @@
+//! The memories of all spaces.
+
+ghost use Rattle.std.specs.Prelude.{◌≡◌, ℕ, ◌+◌, ◌*◌, ◌<◌, ◌≤◌, List, IfOk, IfSome, IsSome, OnOk, OnErr, None, true, false, length};
+ghost use Rattle.std.specs.Borrow.{Lends, sem, Array, u8 as byte};
+ghost use Rattle.std.specs.FinMap as map;
+ghost use Rattle.std.specs.Option.{option_map};
+ghost use Rattle.sizes.specs.declared.TheConstants.{LAST_SPACE, MOST_FRAMES, MOST_SPACE_PAGES, PAGE_BYTES, PAGE_END, PAGE_LINES};
+ghost use Rattle.ovl_io.specs.Memory.{bytes_at};
+ghost use Rattle.ledger.specs.Ledger.{is_alone};
+ghost use Rattle.ledger.specs.Units.{own_lines};
+ghost use Rattle.space_ledger.specs.Space.{IsLeast};
+ghost use Rattle.space_ledger.specs.Calls.{NamesOnce};
+ghost use Rattle.overlay_pages.specs.Lines.{line_in_page};
+ghost use Rattle.overlay_pages.specs.State.{bare_space, books, cut_space, holds_space, memory_of, page_in, put_awaiting, put_mark, put_space, space_in, turned_page};
+ghost use Rattle.overlay_pages.specs.Changes.{AreAbsent, Fits, HasCopyRoom, HasShareRoom, IsPlaced, committed, copied, discarded, is_writable, limit_of, units_of, with_shared, with_written, with_zeros};
+ghost use Rattle.overlay_pages.specs.View.{HasOwnPlace, IsJoined, place_at, state_of};
+ghost use Rattle.overlay_pages.specs.Calls.{AwaitsLike, IsEmptyState, IsNextPage, entries_in, with_line_at_place};
+ghost use Rattle.overlay_memory.specs.Access.{Places, Reads, Stores};
+ghost use Rattle.overlay_memory.specs.Pieces.{IsEmptied};
+ghost use Rattle.overlay_memory.specs.contracts.memory.OverlayMemory.{the_row};
+
+use crate::error::{MemoryError, SpaceError};
+use crate::reading::read_bytes;
+use crate::room::excess_of;
+use crate::storing::write_bytes;
+use bitflags::Flags;
+use overlay_bits::Bits;
+use overlay_pages::OverlayPages;
+use ovl_io::Perms;
+use page_table::PageTable;
+use sizes::{FRAME_UNITS, PAGE_BYTES};
+use std::alloc::{AllocError, Global};
+use std::marker::Model;
+
+/// The memories of all spaces. Spaces are numbered from 1 to 32,767, pages are below 2^26. A space that a call names is there,
+/// and no page of it awaits `share_page`, where the call doesn't say otherwise.
+#[derive(Drop)]
+pub struct OverlayMemory {
+    pages: OverlayPages,
+}
+
+impl Model for OverlayMemory {
+    ghost use Rattle.overlay_pages.specs.View.{MemoryView};
+    ghost use Rattle.overlay_pages.specs.Codes.{memory_code};
+
+    ghost Value = { MemoryView };
+
+    ghost coded = { memory_code };
+
+    ghost view = { λ m. m.pages };
+}
+
+impl OverlayMemory {
+    /// No space, and 1 to 65,536 frames, of which one is the zero frame. Takes all the memory that frames, segments and overlays
+    /// ever need, or answers the want of it.
+    pub fn new(alloc: Global, frames: u32) -> Result<OverlayMemory, AllocError>
+        requires some { 0 < frames }
+        requires few { frames ≤ MOST_FRAMES }
+        ensures state { IfOk result (λ made. IsEmptyState frames (state_of made)) }
+    {
+        Ok(OverlayMemory {
+            pages: OverlayPages::new(alloc, frames)?,
+        })
+    }
+
+    /// Whether a space is there. Costs a step.
+    pub fn has_space(&self, space: u16) -> bool
+        ensures here { result ≡ holds_space (state_of self.now) space }
+        ensures joined { IsJoined self.now }
+    {
+        self.pages.has_space(space)
+    }
+
+    /// Makes a space of a number from 1 to 32,767 that isn't there: without a page and without a mark. After want of memory
+    /// everything is as before.
+    pub fn add_space(&mut self, space: u16) -> Result<(), AllocError>
+        requires some { 0 < space }
+        requires last { space ≤ LAST_SPACE }
+        requires absent { holds_space (state_of self.old) space ≡ false }
+        ensures added { OnOk result
+            (state_of self.new ≡ put_space (state_of self.old) space bare_space) }
+        ensures kept { OnErr result (self.new ≡ self.old) }
+    {
+        self.pages.add_space(space)
+    }
+
+    /// Gives a space up, with its pages. Takes no memory. Costs its pages.
+    pub fn drop_space(&mut self, space: u16)
+        requires there { holds_space (state_of self.old) space ≡ true }
+        requires settled { (space_in (state_of self.old) space).awaiting ≡ map.empty }
+        ensures { state_of self.new ≡ cut_space (state_of self.old) space }
+    {
+        remove_pages(&mut self.pages, space);
+        self.pages.end_space(space);
+    }
+
+    /// Maps `n` pages from `page` on, which aren't there, on the zero frame and without own lines. After want of memory
+    /// everything is as before. Costs a look-up for each of the pages.
+    pub fn map_zero(
+        &mut self,
+        space: u16,
+        page: u64,
+        n: u32,
+        perms: Perms,
+    ) -> Result<(), AllocError>
+        requires there { holds_space (state_of self.old) space ≡ true }
+        requires settled { (space_in (state_of self.old) space).awaiting ≡ map.empty }
+        requires absent { AreAbsent (state_of self.old) space page n }
+        requires low { page + n ≤ PAGE_END }
+        requires few { map.len (space_in (state_of self.old) space).pages + n ≤ MOST_SPACE_PAGES }
+        ensures mapped { OnOk result
+            (state_of self.new ≡ with_zeros (state_of self.old) space page n
+            (record { perms = perms; frame = (state_of self.old).zero_frame })) }
+        ensures kept { OnErr result (self.new ≡ self.old) }
+    {
+        self.pages.map_zero(space, page, n, perms)
+    }
+
+    /// Places a page that isn't there in a frame of its own, with these bytes. Full exactly where the units after it would exceed
+    /// the limit. After want of memory everything is as before, but that segments may have moved.
+    pub fn place_page(
+        &mut self,
+        space: u16,
+        page: u64,
+        perms: Perms,
+        bytes: &[u8; PAGE_BYTES],
+    ) -> Result<(), SpaceError>
+        requires there { holds_space (state_of self.old) space ≡ true }
+        requires settled { (space_in (state_of self.old) space).awaiting ≡ map.empty }
+        requires absent { page_in (state_of self.old) space page ≡ None }
+        requires low { page < PAGE_END }
+        requires few { map.len (space_in (state_of self.old) space).pages < MOST_SPACE_PAGES }
+        ensures { Places self.old self.new space page (λ frame. record { perms = perms; frame = frame })
+            bytes.now result }
+    {
+        if let Some(excess) = excess_of(&self.pages, FRAME_UNITS) {
+            return Err(SpaceError::Full(excess.needed, excess.limit));
+        }
+        match self.pages.add_page(space, page, perms, bytes) {
+            Ok(()) => Ok(()),
+            Err(_) => Err(SpaceError::Memory),
+        }
+    }
+
+    /// Fills `into` with the bytes from an address on, whatever the permissions. Unmapped exactly at the first byte whose page
+    /// isn't there; no other error comes.
+    pub fn read(&self, space: u16, address: u64, into: &mut [u8]) -> Result<(), MemoryError>
+        requires there { holds_space (state_of self.now) space ≡ true }
+        ensures access { Reads (state_of self.now) space 0 address (length into.old) result }
+        ensures bytes { OnOk result (into.new
+            ≡ bytes_at (memory_of (state_of self.now) space) address (length into.old)) }
+        ensures kept { length into.new ≡ length into.old }
+    {
+        read_bytes(&self.pages, space, address, into, Perms::empty())
+    }
+
+    /// Stores at most 4096 bytes from an address on. Unmapped or Forbidden exactly at the first byte whose page isn't there or may
+    /// not be written; else Full exactly where the units after the store would exceed the limit. After an error everything is as
+    /// before. Takes no memory.
+    pub fn write(&mut self, space: u16, address: u64, bytes: &[u8]) -> Result<(), MemoryError>
+        requires there { holds_space (state_of self.old) space ≡ true }
+        requires few { length bytes.now ≤ PAGE_BYTES }
+        ensures { Stores self.old self.new space address bytes.now result }
+    {
+        write_bytes(&mut self.pages, space, address, bytes)
+    }
+
+    /// Fills `into` with the bytes from an address on, for which each page needs the permission: X for a fetch, R for a load.
+    /// Unmapped or Forbidden exactly at the first byte whose page isn't there or lacks it; Full never.
+    #[inline]
+    pub fn load(
+        &mut self,
+        space: u16,
+        address: u64,
+        into: &mut [u8],
+        need: Perms,
+    ) -> Result<(), MemoryError>
+        requires there { holds_space (state_of self.old) space ≡ true }
+        ensures access { Reads (state_of self.old) space need.0 address (length into.old) result }
+        ensures bytes { OnOk result (into.new
+            ≡ bytes_at (memory_of (state_of self.old) space) address (length into.old)) }
+        ensures kept { length into.new ≡ length into.old }
+        ensures same { state_of self.new ≡ state_of self.old }
+    {
+        read_bytes(&self.pages, space, address, into, need)
+    }
+
+    /// As `write`, for an instruction.
+    #[inline]
+    pub fn store(&mut self, space: u16, address: u64, bytes: &[u8]) -> Result<(), MemoryError>
+        requires there { holds_space (state_of self.old) space ≡ true }
+        requires few { length bytes.now ≤ PAGE_BYTES }
+        ensures { Stores self.old self.new space address bytes.now result }
+    {
+        write_bytes(&mut self.pages, space, address, bytes)
+    }
+
+    /// Whether a page that is there is alone: its frame isn't the zero frame, and no other page of any space names it. Costs a
+    /// look-up.
+    #[inline]
+    pub fn is_alone(&self, space: u16, page: u64) -> bool
+        requires there { IsSome (page_in (state_of self.now) space page) }
+        ensures { result ≡ is_alone (books (state_of self.now)) space page }
+    {
+        self.pages.is_alone(space, page)
+    }
+
+    /// The own lines of a page that is there. Costs a look-up.
+    #[inline]
+    pub fn lines_of(&self, space: u16, page: u64) -> Bits
+        requires there { IsSome (page_in (state_of self.now) space page) }
+        ensures own { option_map (λ x. x.own) (page_in (state_of self.now) space page)
+            ≡ Some result }
+        ensures joined { IsJoined self.now }
+    {
+        self.pages.lines_of(space, page)
+    }
+
+    /// The own lines of a page that is there and alone go into its frame. Takes no memory. Costs a copy of each own line.
+    pub fn commit_page(&mut self, space: u16, page: u64)
+        requires there { IsSome (page_in (state_of self.old) space page) }
+        requires alone { is_alone (books (state_of self.old)) space page ≡ true }
+        ensures { state_of self.new ≡ turned_page committed (state_of self.old) space page }
+    {
+        self.pages.commit_page(space, page);
+    }
+
+    /// A page that is overlaid, and isn't alone, gets a new frame with its lines, and has no own lines any more. The units after
+    /// it are there. Takes no memory. Costs a copy of the page, and moves.
+    pub fn copy_commit_page(&mut self, space: u16, page: u64)
+        requires overlaid { IfSome (page_in (state_of self.old) space page)
+            (λ x. 0 < length x.own) }
+        requires there { IsSome (page_in (state_of self.old) space page) }
+        requires shared { is_alone (books (state_of self.old)) space page ≡ false }
+        requires settled { (space_in (state_of self.old) space).awaiting ≡ map.empty }
+        requires room { HasCopyRoom (state_of self.old) space page }
+        ensures { IfSome (page_in (state_of self.old) space page)
+            (λ x. IsPlaced (state_of self.old) (state_of self.new) space page
+            (λ frame. copied frame x)) }
+    {
+        self.pages.copy_commit_page(space, page);
+    }
+
+    /// The overlay of a page that is there is given up. Takes no memory.
+    pub fn discard_page(&mut self, space: u16, page: u64)
+        requires there { IsSome (page_in (state_of self.old) space page) }
+        ensures { state_of self.new ≡ turned_page discarded (state_of self.old) space page }
+    {
+        self.pages.discard_page(space, page);
+    }
+
+    /// Shares a page with a space in which it awaits as the least, with the frame that it has: it gets its lines, and an overlay
+    /// of its own. The units after it are there. Takes no memory. Costs a copy of each own line, and moves.
+    pub fn share_page(&mut self, from: u16, to: u16, page: u64)
+        requires there { IsSome (page_in (state_of self.old) from page) }
+        requires space { holds_space (state_of self.old) to ≡ true }
+        requires least { IsLeast (space_in (state_of self.old) to).awaiting page }
+        requires frame { AwaitsLike (state_of self.old) from to page }
+        requires room { HasShareRoom (state_of self.old) from page }
+        ensures { state_of self.new ≡ with_shared (state_of self.old) from to page }
+    {
+        self.pages.share_page(from, to, page);
+    }
+
+    /// A table with the entries of a space's pages, of which none awaits, or want of memory. Costs a step for each page.
+    pub fn copy_table(&mut self, from: u16, to: u16) -> Result<PageTable, AllocError>
+        requires there { holds_space (state_of self.old) from ≡ true }
+        requires settled { (space_in (state_of self.old) from).awaiting ≡ map.empty }
+        requires space { holds_space (state_of self.old) to ≡ true }
+        ensures table { IfOk result (λ table. table ≡ entries_in (state_of self.old) from) }
+        ensures once { IfOk result (λ table. NamesOnce (state_of self.old).zero_frame table) }
+        ensures same { state_of self.new ≡ state_of self.old }
+    {
+        self.pages.copy_table(from)
+    }
+
+    /// Gives a space that has no page, and of which none awaits, a table that names no frame but the zero frame twice. Its
+    /// pages await `share_page`, and are in no ledger until then. Takes no memory.
+    pub fn adopt_table(&mut self, to: u16, table: PageTable)
+        requires there { holds_space (state_of self.old) to ≡ true }
+        requires empty { (space_in (state_of self.old) to).pages ≡ map.empty }
+        requires settled { (space_in (state_of self.old) to).awaiting ≡ map.empty }
+        requires once { NamesOnce (state_of self.old).zero_frame table }
+        ensures { state_of self.new ≡ put_awaiting (state_of self.old) to table }
+    {
+        self.pages.adopt_table(to, table);
+    }
+
+    /// How many pages a space has.
+    pub fn pages(&self, space: u16) -> u32
+        ensures count { result ≡ map.len (space_in (state_of self.now) space).pages }
+        ensures few { result ≤ PAGE_END }
+        ensures once { NamesOnce (state_of self.now).zero_frame (entries_in (state_of self.now) space) }
+    {
+        self.pages.pages(space)
+    }
+
+    /// The least page of a space not below one. None exactly where none is. Costs a look-up.
+    pub fn next_page(&self, space: u16, page: u64) -> Option<u64>
+        ensures { IsNextPage (state_of self.now) space page result }
+    {
+        self.pages.next_page(space, page)
+    }
+
+    /// Sets or takes away the mark of a space. Takes no memory.
+    pub fn set_speculating(&mut self, space: u16, on: bool)
+        requires there { holds_space (state_of self.old) space ≡ true }
+        ensures { state_of self.new ≡ put_mark (state_of self.old) space on }
+    {
+        self.pages.set_speculating(space, on);
+    }
+
+    /// Whether a space is marked as speculating.
+    #[inline]
+    pub fn is_speculating(&self, space: u16) -> bool
+        ensures mark { result ≡ (space_in (state_of self.now) space).speculating }
+        ensures joined { IsJoined self.now }
+    {
+        self.pages.is_speculating(space)
+    }
+
+    /// Where a line of a page that is there stands: the number of its line in the region. Costs a look-up.
+    pub fn place(&self, space: u16, page: u64, line: u8) -> u32
+        requires there { IsSome (page_in (state_of self.now) space page) }
+        requires line { line < PAGE_LINES }
+        ensures place { result ≡ place_at self.now space page line }
+        ensures own { HasOwnPlace self.now space page line }
+        ensures inside { result < PAGE_LINES * (state_of self.now).frames }
+        ensures joined { IsJoined self.now }
+    {
+        self.pages.place(space, page, line)
+    }
+
+    /// Lends a line, that can be written where it stands, of a page that is there. What the borrower leaves is the region's line
+    /// at the place, and nothing else of the region or of the tables changes. Costs a look-up.
+    #[inline]
+    pub fn line_mut(&mut self, space: u16, page: u64, line: u8) -> &mut [u8; 64]
+        requires there { IsSome (page_in (state_of self.old) space page) }
+        requires line { line < PAGE_LINES }
+        requires writable { is_writable (state_of self.old) space page line ≡ true }
+        ensures* writes_back { sem 𝓛 (Lends the_row (Array byte 0) self.entry result
+            (with_line_at_place self.old (place_at self.old space page line))) }
+        ensures value { option_map (λ x. line_in_page x.lines line)
+            (page_in (state_of self.old) space page) ≡ Some result.now }
+        ensures state { (bytes : List ℕ)
+            → state_of (with_line_at_place self.old (place_at self.old space page line) bytes)
+            ≡ with_written (state_of self.old) space page line bytes }
+    {
+        self.pages.line_mut(space, page, line)
+    }
+
+    /// The units of the ledger. Costs a step.
+    #[inline]
+    pub fn units(&self) -> u32
+        ensures sum { result ≡ units_of (state_of self.now) }
+        ensures fits { Fits (state_of self.now) }
+    {
+        self.pages.units()
+    }
+
+    /// The most units that there may be: 16 for each frame. Costs a step.
+    #[inline]
+    pub fn limit(&self) -> u32
+        ensures { result ≡ limit_of (state_of self.now) }
+    {
+        self.pages.limit()
+    }
+
+    /// How many own lines all pages have. Costs a step.
+    #[inline]
+    pub fn lines(&self) -> u32
+        ensures { result ≡ own_lines (books (state_of self.now)) }
+    {
+        self.pages.lines()
+    }
+}
+
+/// Takes away all pages of a space that is there, the least first.
+fn remove_pages(pages: &mut OverlayPages, space: u16)
+    requires there { holds_space (state_of pages.old) space ≡ true }
+    requires settled { (space_in (state_of pages.old) space).awaiting ≡ map.empty }
+    ensures { IsEmptied (state_of pages.old) (state_of pages.new) space }
+{
+    'removing: while let Some(page) = pages.next_page(space, 0) {
+        pages.remove_page(space, page);
+    }
+}

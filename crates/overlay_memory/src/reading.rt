@@ -1,0 +1,115 @@
+//! Bytes out of the lines of pages.
+
+ghost use Rattle.std.specs.Prelude.{◌≡◌, ◌+◌, ◌/◌, ◌%◌, ◌<◌, ◌≤◌, length, OnOk};
+ghost use Rattle.sizes.specs.declared.TheConstants.{ADDRESS_END, LINE_BYTES};
+ghost use Rattle.ovl_io.specs.Memory.{bytes_at};
+ghost use Rattle.overlay_pages.specs.State.{memory_of};
+ghost use Rattle.overlay_pages.specs.View.{state_of};
+ghost use Rattle.overlay_memory.specs.Access.{Reads};
+ghost use Rattle.overlay_memory.specs.Pieces.{Permits};
+
+use crate::error::MemoryError;
+use bitflags::Flags;
+use overlay_pages::OverlayPages;
+use ovl_io::Perms;
+use sizes::{LINE_BYTES, PAGE_BYTES, PAGE_LINES};
+
+/// Whether the byte at an address may be used so: its page is there and has the permission.
+#[inline]
+pub(crate) fn permit(
+    pages: &OverlayPages,
+    space: u16,
+    address: u64,
+    need: Perms,
+) -> Result<(), MemoryError>
+    ensures { Permits pages.now space need.0 address result }
+{
+    match pages.entry(space, address / PAGE_BYTES as u64) {
+        Some(entry) => {
+            if entry.perms.contains(need) {
+                Ok(())
+            } else {
+                Err(MemoryError::Forbidden(address))
+            }
+        }
+        None => Err(MemoryError::Unmapped(address)),
+    }
+}
+
+/// Fills `into`, of some bytes, with those from an address on, all in one line.
+#[inline]
+fn read_line(
+    pages: &OverlayPages,
+    space: u16,
+    address: u64,
+    into: &mut [u8],
+    need: Perms,
+) -> Result<(), MemoryError>
+    requires some { 0 < length into.old }
+    requires one_line { address % LINE_BYTES + length into.old ≤ LINE_BYTES }
+    ensures access { Reads (state_of pages.now) space need.0 address (length into.old) result }
+    ensures bytes { OnOk result (into.new
+        ≡ bytes_at (memory_of (state_of pages.now) space) address (length into.old)) }
+    ensures kept { length into.new ≡ length into.old }
+    ensures low { OnOk result (address < ADDRESS_END) }
+{
+    match permit(pages, space, address, need) {
+        Ok(()) => {
+            let line = (address / LINE_BYTES as u64 % PAGE_LINES as u64) as u8;
+            let at = (address % LINE_BYTES as u64) as usize;
+            let bytes = pages.line(space, address / PAGE_BYTES as u64, line);
+            into.copy_from_slice(&bytes[at..at + into.len()]);
+            Ok(())
+        }
+        Err(error) => Err(error),
+    }
+}
+
+/// Fills `into` with the bytes from an address on, line by line.
+#[inline(never)]
+fn read_lines(
+    pages: &OverlayPages,
+    space: u16,
+    address: u64,
+    into: &mut [u8],
+    need: Perms,
+) -> Result<(), MemoryError>
+    ensures access { Reads (state_of pages.now) space need.0 address (length into.old) result }
+    ensures bytes { OnOk result (into.new
+        ≡ bytes_at (memory_of (state_of pages.now) space) address (length into.old)) }
+    ensures kept { length into.new ≡ length into.old }
+{
+    let mut done = 0;
+    'reading: while done < into.len() {
+        let from = address + done as u64;
+        let room = LINE_BYTES - (from % LINE_BYTES as u64) as usize;
+        let n = room.min(into.len() - done);
+        match read_line(pages, space, from, &mut into[done..done + n], need) {
+            Ok(()) => done += n,
+            Err(error) => return Err(error),
+        }
+    }
+    Ok(())
+}
+
+/// Fills `into` with the bytes from an address on, for which each page needs the permission. Nearly always they lie in
+/// one line.
+#[inline]
+pub(crate) fn read_bytes(
+    pages: &OverlayPages,
+    space: u16,
+    address: u64,
+    into: &mut [u8],
+    need: Perms,
+) -> Result<(), MemoryError>
+    ensures access { Reads (state_of pages.now) space need.0 address (length into.old) result }
+    ensures bytes { OnOk result (into.new
+        ≡ bytes_at (memory_of (state_of pages.now) space) address (length into.old)) }
+    ensures kept { length into.new ≡ length into.old }
+{
+    let room = LINE_BYTES - (address % LINE_BYTES as u64) as usize;
+    if 0 < into.len() && into.len() <= room {
+        return read_line(pages, space, address, into, need);
+    }
+    read_lines(pages, space, address, into, need)
+}

@@ -1,0 +1,201 @@
+//! Bytes into the lines of pages, and what a store needs first.
+
+ghost use Rattle.std.specs.Prelude.{◌≡◌, ◌+◌, ◌-◌, ◌*◌, ◌/◌, ◌%◌, ◌<◌, ◌≤◌, IsSome, length, true};
+ghost use Rattle.sizes.specs.declared.TheConstants.{LINE_BYTES, PAGE_BYTES, PAGE_LINES};
+ghost use Rattle.ovl_io.specs.Permissions.{writable};
+ghost use Rattle.overlay_pages.specs.State.{page_in};
+ghost use Rattle.overlay_pages.specs.Changes.{is_writable};
+ghost use Rattle.overlay_pages.specs.View.{state_of};
+ghost use Rattle.overlay_memory.specs.Access.{Stores};
+ghost use Rattle.overlay_memory.specs.Pieces.{AreWritable, IsFilled, Permits, lines_under};
+
+use crate::error::MemoryError;
+use crate::reading::permit;
+use crate::room::excess_of;
+use overlay_bits::Bits;
+use overlay_pages::OverlayPages;
+use ovl_io::Perms;
+use sizes::{LINE_BYTES, PAGE_BYTES, PAGE_LINES};
+
+/// Whether the byte at an address may be written.
+#[inline]
+fn permit_store(pages: &OverlayPages, space: u16, address: u64) -> Result<(), MemoryError>
+    ensures { Permits pages.now space writable address result }
+{
+    permit(pages, space, address, Perms::W)
+}
+
+/// The lines of a page in which some of its bytes lie.
+fn lines_at(at: usize, count: usize) -> Bits
+    requires some { 0 < count }
+    requires one_page { at + count ≤ PAGE_BYTES }
+    ensures { result ≡ lines_under at count }
+{
+    let first = (at / LINE_BYTES) as u8;
+    let last = ((at + count - 1) / LINE_BYTES) as u8;
+    Bits::range(first, last + 1)
+}
+
+/// Replaces bytes of a line of a page that is there, where the line can be written.
+#[inline]
+fn put(pages: &mut OverlayPages, space: u16, page: u64, line: u8, at: usize, bytes: &[u8])
+    requires there { IsSome (page_in (state_of pages.old) space page) }
+    requires line { line < PAGE_LINES }
+    requires fits { at + length bytes.now ≤ LINE_BYTES }
+    requires writable { is_writable (state_of pages.old) space page line ≡ true }
+    ensures { IsFilled (state_of pages.old) (state_of pages.new) space
+        (PAGE_BYTES * page + (LINE_BYTES * line + at)) bytes.now }
+{
+    pages.line_mut(space, page, line)[at..at + bytes.len()].copy_from_slice(bytes);
+}
+
+/// Replaces bytes of a page that is there, where the lines in which they lie can be written.
+fn fill_page(pages: &mut OverlayPages, space: u16, page: u64, at: usize, bytes: &[u8])
+    requires there { IsSome (page_in (state_of pages.old) space page) }
+    requires one_page { at + length bytes.now ≤ PAGE_BYTES }
+    requires writable { AreWritable (state_of pages.old) space page at (length bytes.now) }
+    ensures { IsFilled (state_of pages.old) (state_of pages.new) space
+        (PAGE_BYTES * page + at) bytes.now }
+{
+    let mut done = 0;
+    'filling: while done < bytes.len() {
+        let line = ((at + done) / LINE_BYTES) as u8;
+        let from = (at + done) % LINE_BYTES;
+        let n = (LINE_BYTES - from).min(bytes.len() - done);
+        put(pages, space, page, line, from, &bytes[done..done + n]);
+        done += n;
+    }
+}
+
+/// Stores bytes, some and all in one page: permission first, then units, then the lines, then the bytes.
+fn write_in_page(
+    pages: &mut OverlayPages,
+    space: u16,
+    address: u64,
+    bytes: &[u8],
+) -> Result<(), MemoryError>
+    requires some { 0 < length bytes.now }
+    requires one_page { address % PAGE_BYTES + length bytes.now ≤ PAGE_BYTES }
+    ensures { Stores pages.old pages.new space address bytes.now result }
+{
+    match permit_store(pages, space, address) {
+        Ok(()) => {}
+        Err(error) => return Err(error),
+    }
+    let page = address / PAGE_BYTES as u64;
+    let at = (address % PAGE_BYTES as u64) as usize;
+    let touched = lines_at(at, bytes.len());
+    let rise = pages.store_units(space, page, touched);
+    if let Some(excess) = excess_of(pages, rise) {
+        return Err(MemoryError::Full(excess.needed, excess.limit));
+    }
+    pages.bring(space, page, touched);
+    fill_page(pages, space, page, at, bytes);
+    Ok(())
+}
+
+/// Stores bytes that lie in two pages, the first of them in as many as `front`.
+fn write_in_two(
+    pages: &mut OverlayPages,
+    space: u16,
+    address: u64,
+    front: usize,
+    bytes: &[u8],
+) -> Result<(), MemoryError>
+    requires front { address % PAGE_BYTES + front ≡ PAGE_BYTES }
+    requires over { front < length bytes.now }
+    requires two_pages { length bytes.now ≤ PAGE_BYTES }
+    ensures { Stores pages.old pages.new space address bytes.now result }
+{
+    match permit_store(pages, space, address) {
+        Ok(()) => {}
+        Err(error) => return Err(error),
+    }
+    let next = address + front as u64;
+    match permit_store(pages, space, next) {
+        Ok(()) => {}
+        Err(error) => return Err(error),
+    }
+    let page = address / PAGE_BYTES as u64;
+    let at = (address % PAGE_BYTES as u64) as usize;
+    let lines = lines_at(at, front);
+    let more = lines_at(0, bytes.len() - front);
+    let one = pages.store_units(space, page, lines);
+    let two = pages.store_units(space, page + 1, more);
+    if let Some(excess) = excess_of(pages, one + two) {
+        return Err(MemoryError::Full(excess.needed, excess.limit));
+    }
+    pages.bring(space, page, lines);
+    pages.bring(space, page + 1, more);
+    fill_page(pages, space, page, at, &bytes[..front]);
+    fill_page(pages, space, page + 1, 0, &bytes[front..]);
+    Ok(())
+}
+
+/// Stores at most as many bytes as a page has.
+#[inline(never)]
+fn write_pages(
+    pages: &mut OverlayPages,
+    space: u16,
+    address: u64,
+    bytes: &[u8],
+) -> Result<(), MemoryError>
+    requires few { length bytes.now ≤ PAGE_BYTES }
+    ensures { Stores pages.old pages.new space address bytes.now result }
+{
+    if bytes.is_empty() {
+        return Ok(());
+    }
+    let front = PAGE_BYTES - (address % PAGE_BYTES as u64) as usize;
+    if bytes.len() <= front {
+        write_in_page(pages, space, address, bytes)
+    } else {
+        write_in_two(pages, space, address, front, bytes)
+    }
+}
+
+/// Stores bytes, some and all in one line. Where that can be written it takes no units.
+#[inline]
+fn write_line(
+    pages: &mut OverlayPages,
+    space: u16,
+    address: u64,
+    bytes: &[u8],
+) -> Result<(), MemoryError>
+    requires some { 0 < length bytes.now }
+    requires one_line { address % LINE_BYTES + length bytes.now ≤ LINE_BYTES }
+    ensures { Stores pages.old pages.new space address bytes.now result }
+{
+    match permit_store(pages, space, address) {
+        Ok(()) => {
+            let page = address / PAGE_BYTES as u64;
+            let line = (address / LINE_BYTES as u64 % PAGE_LINES as u64) as u8;
+            if pages.is_writable(space, page, line) {
+                let at = (address % LINE_BYTES as u64) as usize;
+                put(pages, space, page, line, at, bytes);
+                Ok(())
+            } else {
+                write_pages(pages, space, address, bytes)
+            }
+        }
+        Err(error) => Err(error),
+    }
+}
+
+/// Stores at most as many bytes as a page has. Nearly always they lie in one line.
+#[inline]
+pub(crate) fn write_bytes(
+    pages: &mut OverlayPages,
+    space: u16,
+    address: u64,
+    bytes: &[u8],
+) -> Result<(), MemoryError>
+    requires few { length bytes.now ≤ PAGE_BYTES }
+    ensures { Stores pages.old pages.new space address bytes.now result }
+{
+    let room = LINE_BYTES - (address % LINE_BYTES as u64) as usize;
+    if 0 < bytes.len() && bytes.len() <= room {
+        return write_line(pages, space, address, bytes);
+    }
+    write_pages(pages, space, address, bytes)
+}

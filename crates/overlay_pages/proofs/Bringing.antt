@@ -1,0 +1,225 @@
+use Rattle.std.specs.Prelude.{◌≡◌, ℕ, ◌+◌, ◌*◌, ◌<◌, ◌≤◌, Bool, true, false, cond, nat_eq, List, [], ◌∷◌, ◌++◌, Option, Some, None, IsSome, is_some, length, slice_set, refl}
+use Rattle.std.proofs.Common.{sym, ap, subst, ◌∙◌, arith}
+use Rattle.std.proofs.lemmas.Bool.Decides.{nat_tests}
+use Rattle.std.specs.Option.{option_and_then, option_map, option_map_or}
+use Rattle.overlay_bits.specs.Lines as bits
+use Rattle.overlay_bits.specs.Lines.{AreLines, has_line}
+use Rattle.overlay_bits.specs.Laws.{has_next, with_there}
+use Rattle.overlay_mapping_table.specs.declared.entry.Entry.{Entry}
+use Rattle.ledger.specs.Changes.{with_line, with_lines}
+use Rattle.ledger.specs.Units.{class}
+use Rattle.ledger.specs.ClassLaws.{class_le}
+use Rattle.ledger.specs.StoreLaws.{longer}
+use Rattle.segment_store.specs.Store.{frame_line, frame_place, place_of}
+use Rattle.segment_store.specs.Laws.{frame_inside}
+use Rattle.unit_map.specs.Pieces.{units_in}
+use Rattle.page_table.specs.declared.entry.PageEntry.{PageEntry}
+use Rattle.space_ledger.specs.Joined.{put_same}
+use Rattle.space_ledger.specs.View.{LedgerView, PageView, lines_of, overlay_at, page_at}
+use Rattle.overlay_pages.specs.Lines.{page_lines}
+use Rattle.overlay_pages.specs.LineLaws.{lines_same, set_line}
+use Rattle.overlay_pages.specs.State.{PageState, page_in, put_page, turned_page}
+use Rattle.overlay_pages.specs.Changes.{Fits, brought, limit_of, units_of}
+use Rattle.overlay_pages.specs.Steps.{joins}
+use Rattle.overlay_pages.specs.View.{IsJoined, MemoryView, line_seen, page_state, state_of}
+use Rattle.overlay_pages.specs.ViewLaws.{state_page_some, state_page_there}
+use Rattle.overlay_pages.specs.StateLaws as states
+use Rattle.overlay_pages.proofs.Steps.{put_again}
+use Rattle.overlay_pages.proofs.Joining.{sets_are}
+use Rattle.overlay_pages.proofs.Growing.{turn_is, turned_limit, turned_twice, turned_units}
+
+-- Lines are brought from the frame.
+
+-- one by one
+lines_append : (front rest lines : List ℕ) → with_lines lines (front ++ rest) ≡ with_lines (with_lines lines front) rest
+unfolding with_lines
+lines_append [] rest lines = refl
+lines_append (x ∷ front) rest lines = lines_append front rest (with_line lines x)
+
+one_more : (lines : List ℕ) (line : ℕ) → with_lines lines (line ∷ []) ≡ with_line lines line
+unfolding with_lines
+one_more lines line = refl
+
+none_more : (lines : List ℕ) → with_lines lines [] ≡ lines
+unfolding with_lines
+none_more lines = refl
+
+page_own : (v : MemoryView) (s p : ℕ) → IsJoined v → (x : PageView) → page_at v.table s p ≡ Some x → AreLines (lines_of x.overlay)
+page_own v s p is x there = at x.overlay refl
+  where
+    at : (o : Option Entry) → x.overlay ≡ o → AreLines (lines_of x.overlay)
+    at None e = subst (λ o. AreLines (lines_of o)) (sym e) Rattle.overlay_bits.specs.Laws.are_none
+    at (Some e) over = subst (λ o. AreLines (lines_of o)) (sym over) (sets_are v.store s p x e is.store (is.held s p x there) over)
+
+record Found (v : MemoryView) (s p : ℕ) : Type 0 where
+  pub x : PageView
+  pub there : page_at v.table s p ≡ Some x
+
+found : (v : MemoryView) (s p : ℕ) → IsSome (page_at v.table s p) → Found v s p
+found v s p some = at (page_at v.table s p) refl some
+  where
+    at : (o : Option PageView) → page_at v.table s p ≡ o → IsSome o → Found v s p
+    at None e h = absurd (not_some h)
+      where
+        not_some : IsSome {T = PageView} None → ⊥
+        not_some k = cc
+    at (Some x) e h = record { x = x; there = e }
+
+-- A line that is there already: nothing is brought.
+pub brought_already : (v : MemoryView) (s p line : ℕ) → IsJoined v → IsSome (page_at v.table s p) → line < 64 → has_line (lines_of (overlay_at v.table s p)) line ≡ true
+    → state_of v ≡ turned_page (brought (line ∷ [])) (state_of v) s p
+unfolding page_state
+brought_already v s p line is there low has =
+    sym (turn_is (brought (line ∷ [])) (state_of v) s p (page_state v.store f.x) y_there ∙ ap (put_page (state_of v) s p) same ∙ put_again (state_of v) s p (page_state v.store f.x) y_there)
+  where
+    f : Found v s p
+    f = found v s p there
+
+    y_there : page_in (state_of v) s p ≡ Some (page_state v.store f.x)
+    y_there = state_page_there v s p f.x f.there
+
+    has_it : has_line (lines_of f.x.overlay) line ≡ true
+    has_it = ap (λ (o : Option PageView). has_line (lines_of (option_and_then (λ (x : PageView). x.overlay) o)) line) (sym f.there) ∙ has
+
+    are : AreLines (lines_of f.x.overlay)
+    are = page_own v s p is f.x f.there
+
+    own : with_lines (lines_of f.x.overlay) (line ∷ []) ≡ lines_of f.x.overlay
+    own = one_more (lines_of f.x.overlay) line ∙ sym (put_same (lines_of f.x.overlay) line are low) ∙ with_there (lines_of f.x.overlay) line are low has_it
+
+    same : brought (line ∷ []) (page_state v.store f.x) ≡ page_state v.store f.x
+    same = λ i. record { entry = f.x.entry; own = own i; lines = page_lines (line_seen v.store f.x); base = page_lines (frame_line v.store f.x.entry.frame) }
+
+-- One that isn't there comes as the frame has it, so what is seen stays.
+pub brought_is : (v : MemoryView) (s p line frame : ℕ) (bytes : List ℕ) → IsJoined v → IsSome (page_at v.table s p) → line < 64 → has_line (lines_of (overlay_at v.table s p)) line ≡ false
+    → option_map (λ (x : PageView). x.entry.frame) (page_at v.table s p) ≡ Some frame → bytes ≡ frame_line v.store frame line
+    → turned_page (joins line bytes) (state_of v) s p ≡ turned_page (brought (line ∷ [])) (state_of v) s p
+unfolding page_state
+brought_is v s p line frame bytes is there low absent framed bytes_is =
+    turn_is (joins line bytes) (state_of v) s p (page_state v.store f.x) y_there ∙ ap (put_page (state_of v) s p) same
+    ∙ sym (turn_is (brought (line ∷ [])) (state_of v) s p (page_state v.store f.x) y_there)
+  where
+    f : Found v s p
+    f = found v s p there
+
+    y_there : page_in (state_of v) s p ≡ Some (page_state v.store f.x)
+    y_there = state_page_there v s p f.x f.there
+
+    lacks : has_line (lines_of f.x.overlay) line ≡ false
+    lacks = ap (λ (o : Option PageView). has_line (lines_of (option_and_then (λ (x : PageView). x.overlay) o)) line) (sym f.there) ∙ absent
+
+    frame_is : f.x.entry.frame ≡ frame
+    frame_is = ap (λ (o : Option ℕ). option_map_or (λ (n : ℕ). n) o 0) (sym (ap (option_map (λ (x : PageView). x.entry.frame)) f.there) ∙ framed)
+
+    own : bits.with_line (lines_of f.x.overlay) line ≡ with_lines (lines_of f.x.overlay) (line ∷ [])
+    own = put_same (lines_of f.x.overlay) line (page_own v s p is f.x f.there) low ∙ sym (one_more (lines_of f.x.overlay) line)
+
+    in_frame : line_seen v.store f.x line ≡ bytes
+    in_frame = at f.x.overlay refl ∙ ap (λ n. frame_line v.store n line) frame_is ∙ sym bytes_is
+      where
+        at : (o : Option Entry) → f.x.overlay ≡ o → line_seen v.store f.x line ≡ frame_line v.store f.x.entry.frame line
+        at None e = ap (λ (o : Option Entry). line_seen v.store (record { entry = f.x.entry; overlay = o }) line) e
+        at (Some e) over =
+            ap (λ (o : Option Entry). line_seen v.store (record { entry = f.x.entry; overlay = o }) line) over
+            ∙ ap (λ b. Rattle.line_store.specs.Lines.line_of v.store.lines (cond b (place_of v.store e.block line) (frame_place f.x.entry.frame line))) (ap (λ (o : Option Entry). has_line (lines_of o) line) (sym over) ∙ lacks)
+
+    kept : (i : ℕ) (b : Bool) → nat_eq line i ≡ b → cond b bytes (line_seen v.store f.x i) ≡ line_seen v.store f.x i
+    kept i true h = let at_line : line ≡ i = grind (arith, nat_tests) in sym in_frame ∙ ap (line_seen v.store f.x) at_line
+    kept i false h = refl
+
+    lines : slice_set (page_lines (line_seen v.store f.x)) line bytes ≡ page_lines (line_seen v.store f.x)
+    lines = set_line (line_seen v.store f.x) line bytes low ∙ lines_same (λ i. cond (nat_eq line i) bytes (line_seen v.store f.x i)) (line_seen v.store f.x) (λ i below. kept i (nat_eq line i) refl)
+
+    same : joins line bytes (page_state v.store f.x) ≡ brought (line ∷ []) (page_state v.store f.x)
+    same = λ i. record { entry = f.x.entry; own = own i; lines = lines i; base = page_lines (frame_line v.store f.x.entry.frame) }
+
+-- So far: the first of them were brought.
+pub record HasBrought (first now : MemoryView) (s p : ℕ) (lines front rest : List ℕ) : Type 0 where
+  pub whole : lines ≡ front ++ rest
+  pub joined : IsJoined now
+  pub state : state_of now ≡ turned_page (brought front) (state_of first) s p
+
+pub none_brought : (v : MemoryView) (s p : ℕ) (lines rest : List ℕ) → IsJoined v → IsSome (page_at v.table s p) → rest ≡ lines → HasBrought v v s p lines [] rest
+unfolding page_state
+none_brought v s p lines rest is there same =
+    let f = found v s p there in
+    let y_there = state_page_there v s p f.x f.there in
+    let own = none_more (lines_of f.x.overlay) in
+    let back : brought [] (page_state v.store f.x) ≡ page_state v.store f.x = λ i. record { entry = f.x.entry; own = own i; lines = page_lines (line_seen v.store f.x); base = page_lines (frame_line v.store f.x.entry.frame) } in
+    record {
+      whole = sym same;
+      joined = is;
+      state = sym (turn_is (brought []) (state_of v) s p (page_state v.store f.x) y_there ∙ ap (put_page (state_of v) s p) back ∙ put_again (state_of v) s p (page_state v.store f.x) y_there);
+    }
+
+module _ (first now : MemoryView) (s p : ℕ) (lines front rest : List ℕ) (line : ℕ) (more : List ℕ) (there : IsSome (page_at first.table s p)) (cut : rest ≡ line ∷ more)
+    (so : HasBrought first now s p lines front rest) where
+  y : (x : PageState) × (page_in (state_of first) s p ≡ Some x)
+  y = let f = found first s p there in (page_state first.store f.x, state_page_there first s p f.x f.there)
+
+  next_is : lines ≡ (front ++ (line ∷ [])) ++ more
+  next_is = so.whole ∙ ap (λ l. front ++ l) cut ∙ sym (Rattle.std.proofs.Common.append_assoc front (line ∷ []) more)
+
+  two_steps : (x : PageState) → brought (line ∷ []) (brought front x) ≡ brought (front ++ (line ∷ [])) x
+  two_steps x = let own = sym (lines_append front (line ∷ []) x.own) in λ i. record { entry = x.entry; own = own i; lines = x.lines; base = x.base }
+
+  next_state : turned_page (brought (line ∷ [])) (state_of now) s p ≡ turned_page (brought (front ++ (line ∷ []))) (state_of first) s p
+  next_state =
+      ap (λ st. turned_page (brought (line ∷ [])) st s p) so.state ∙ turned_twice (brought (line ∷ [])) (brought front) (state_of first) s p y.0 y.1
+      ∙ ap (put_page (state_of first) s p) (two_steps y.0) ∙ sym (turn_is (brought (front ++ (line ∷ []))) (state_of first) s p y.0 y.1)
+
+  pub next_low : AreLines lines → line < 64
+  next_low are = are.inside line (ap (λ l. has_line l line) (so.whole ∙ ap (λ l. front ++ l) cut) ∙ has_next front line more)
+
+  pub next_fits : Fits (turned_page (brought lines) (state_of first) s p) → Fits (turned_page (brought (line ∷ [])) (state_of now) s p)
+  next_fits fits =
+      let part = turned_units (brought (front ++ (line ∷ []))) (state_of first) s p y.0 y.1 refl in
+      let all = turned_units (brought lines) (state_of first) s p y.0 y.1 refl in
+      let own : with_lines y.0.own lines ≡ with_lines (with_lines y.0.own (front ++ (line ∷ []))) more = ap (with_lines y.0.own) next_is ∙ lines_append (front ++ (line ∷ [])) more y.0.own in
+      let le = class_le (length (with_lines y.0.own (front ++ (line ∷ [])))) (length (with_lines (with_lines y.0.own (front ++ (line ∷ []))) more)) (longer more (with_lines y.0.own (front ++ (line ∷ [])))) in
+      omega (
+        arith,
+        fits,
+        part,
+        all,
+        le,
+        ap (λ l. class (length l)) own,
+        ap units_of next_state,
+        ap limit_of next_state,
+        turned_limit (brought (front ++ (line ∷ []))) (state_of first) s p y.0 y.1,
+        turned_limit (brought lines) (state_of first) s p y.0 y.1,
+      )
+
+  pub one_brought : (after : MemoryView) → IsJoined after → state_of after ≡ turned_page (brought (line ∷ [])) (state_of now) s p → HasBrought first after s p lines (front ++ (line ∷ [])) more
+  one_brought after joined state = record { whole = next_is; joined = joined; state = state ∙ next_state }
+
+-- The frame of a page's entry.
+pub entry_frame : (v : LedgerView) (s p : ℕ) (entry : PageEntry) → option_map (λ (x : PageView). x.entry) (page_at v s p) ≡ Some entry → option_map (λ (x : PageView). x.entry.frame) (page_at v s p) ≡ Some entry.frame
+entry_frame v s p entry is = at (page_at v s p) refl
+  where
+    at : (o : Option PageView) → page_at v s p ≡ o → option_map (λ (x : PageView). x.entry.frame) (page_at v s p) ≡ Some entry.frame
+    at None e = absurd (no_entry (sym (ap (option_map (λ (x : PageView). x.entry)) e) ∙ is))
+      where
+        no_entry : None ≡ Some entry → ⊥
+        no_entry h = cc
+    at (Some x) e = ap (option_map (λ (x : PageView). x.entry.frame)) e ∙ ap (option_map (λ (f : PageEntry). f.frame)) (sym (ap (option_map (λ (x : PageView). x.entry)) e) ∙ is)
+
+pub frame_in : (v : MemoryView) (s p : ℕ) (entry : PageEntry) → IsJoined v → option_map (λ (x : PageView). x.entry) (page_at v.table s p) ≡ Some entry → 16 * entry.frame + 16 ≤ units_in v.store.blocks
+frame_in v s p entry is at_entry = at (page_at v.table s p) refl
+  where
+    at : (o : Option PageView) → page_at v.table s p ≡ o → 16 * entry.frame + 16 ≤ units_in v.store.blocks
+    at None e = absurd (no_entry (sym (ap (option_map (λ (x : PageView). x.entry)) e) ∙ at_entry))
+      where
+        no_entry : None ≡ Some entry → ⊥
+        no_entry h = cc
+    at (Some x) e =
+        let same : x.entry ≡ entry = ap (λ (o : Option PageEntry). option_map_or (λ (f : PageEntry). f) o entry) (sym (ap (option_map (λ (x : PageView). x.entry)) e) ∙ at_entry) in
+        omega (arith, frame_inside v.store is.store x.entry.frame (is.held s p x e).frame, ap (λ (f : PageEntry). f.frame) same)
+
+-- the page is there still
+pub brought_there : (first now : MemoryView) (s p : ℕ) (lines front rest : List ℕ) → IsSome (page_at first.table s p) → HasBrought first now s p lines front rest → IsSome (page_at now.table s p)
+brought_there first now s p lines front rest there so =
+    let f = found first s p there in
+    let at_first = state_page_there first s p f.x f.there in
+    sym (state_page_some now s p) ∙ ap (λ st. is_some (page_in st s p)) (so.state ∙ turn_is (brought front) (state_of first) s p (page_state first.store f.x) at_first)
+    ∙ ap is_some (states.page_put_here (state_of first) s p (brought front (page_state first.store f.x)) s p refl refl)

@@ -1,0 +1,227 @@
+use Rattle.std.specs.Prelude.{◌≡◌, ℕ, ◌+◌, ◌*◌, ◌<◌, ◌≤◌, ◌⊎◌, ◌||◌, ◌&&◌, Bool, true, false, cond, nat_eq, List, [], Option, Some, None, IfSome, IsSome, is_some, length, drop, take, get_or, refl}
+use Rattle.std.proofs.Common.{sym, ap, subst, ◌∙◌, arith, inr}
+use Rattle.std.specs.Option.{option_and_then, option_map, option_map_or}
+use Rattle.std.specs.FinMap.{empty, insert}
+use Rattle.unit_map.specs.Pieces.{free_units, units_in}
+use Rattle.overlay_bits.specs.Lines.{has_line}
+use Rattle.overlay_bits.specs.Composed.{composed, composed_at}
+use Rattle.overlay_mapping_table.specs.declared.entry.Entry.{Entry}
+use Rattle.line_store.specs.Lines.{line_of}
+use Rattle.ledger.specs.Ledger.{Holding, Ledger, has_origin, holding_at, is_alone, is_unused}
+use Rattle.ledger.specs.PlaceLaws.{put_again}
+use Rattle.ledger.specs.Units.{units}
+use Rattle.ledger.specs.ClassLaws.{class_none}
+use Rattle.ledger.specs.AloneLaws.{origin_with, unused_from, unused_parts}
+use Rattle.segment_store.specs.Kept.{IsStore}
+use Rattle.segment_store.specs.Store.{Store, IsFrame, frame_line, frame_page, frame_place, line_in, place_of, scratch_line, scratch_page, segment_at}
+use Rattle.segment_store.specs.Changes.{KeepsFrames, KeepsScratch, Lifts}
+use Rattle.space_ledger.specs.View.{LedgerView, PageView, ledger_of, lines_of, overlay_at, page_at, space_at}
+use Rattle.space_ledger.specs.ViewLaws as tables
+use Rattle.overlay_pages.specs.Lines.{line_in_page, page_lines, same_lines}
+use Rattle.overlay_pages.specs.LineLaws.{lines_same}
+use Rattle.overlay_pages.specs.State.{PageState, State, books, held_page, of_pages, page_in, put_page, put_space, space_in, turned_page}
+use Rattle.overlay_pages.specs.StateLaws as states
+use Rattle.overlay_pages.specs.Changes.{HasCopyRoom, IsNewFrame, IsPlaced, committed, copied, discarded, limit_of, moved_to, units_of}
+use Rattle.overlay_pages.specs.Steps.{FillsFrame}
+use Rattle.overlay_pages.specs.View.{IsHeld, IsJoined, IsOwned, MemoryView, line_seen, page_state, segment_of, state_of, view_of}
+use Rattle.overlay_pages.specs.ViewLaws.{state_awaiting, state_books, state_page_some, state_page_there}
+use Rattle.overlay_pages.proofs.Steps.{Step, some_page, space_put_at, state_stepped, state_with, stepped, table_again, table_with, with_some}
+use Rattle.overlay_pages.proofs.Joining.{Has, page_with}
+use Rattle.overlay_pages.proofs.Growing.{free_is, put_over, turn_is, turned_limit, turned_units}
+use Rattle.overlay_pages.proofs.Lending.{alone_frame, alone_not_zero}
+
+-- A frame that is a page's alone is filled.
+
+module _ (v : MemoryView) (new : Store) (s p : ℕ) (x : PageView) (frame : ℕ) (is : IsJoined v) (there : page_at v.table s p ≡ Some x) (frame_is : x.entry.frame ≡ frame)
+    (alone : is_alone (ledger_of v.table) s p ≡ true) (fills : FillsFrame v.store new frame) where
+  fills_table : v.table ≡ table_with v.table s p (Some x)
+  fills_table = sym (with_some v.table s p x ∙ table_again v.table s p x there)
+
+  fills_step : Step v (view_of new v.table) s p (Some x)
+  fills_step = record {
+    there = tables.there_space v.table s p x there;
+    number = (is.held s p x there).number;
+    low = (is.held s p x there).low;
+    table_is = fills_table;
+    store = fills.store;
+    whole = ap units_in fills.blocks;
+    segments = λ q r y e d at_y over. fills.segments e.block.unit (segment_of q r e) ((is.held q r y at_y).segment e over);
+    frames = λ q r y d at_y. fills.frames y.entry.frame (λ e. alone_frame v s p x q r y there alone at_y d (e ∙ sym frame_is)) (is.held q r y at_y).frame;
+    zero = fills.frames v.table.zero_frame (λ e. alone_not_zero v s p x there alone (frame_is ∙ sym e)) is.zero;
+    held = λ y same. subst (IsHeld new s p) (some_page x y same) held_now;
+    owned = λ unit segment at_unit.
+        let before = sym (ap (λ l. Rattle.std.specs.Prelude.slice_index_or l unit None) fills.same) ∙ at_unit in
+        inr (subst (λ (t : LedgerView). IsOwned t unit segment) fills_table (is.owned unit segment before));
+    count = ap (λ n. n + units (ledger_of v.table)) (ap free_units fills.blocks) ∙ is.count ∙ sym (ap units_in fills.blocks);
+  }
+    where
+      held_now : IsHeld new s p x
+      held_now =
+          let was = is.held s p x there in
+          record {
+            number = was.number;
+            low = was.low;
+            frame = subst (IsFrame new) (sym frame_is) fills.stays;
+            segment = λ e over. (fills.segments e.block.unit (segment_of s p e) (was.segment e over)).there ∙ was.segment e over;
+            lined = was.lined;
+            size = was.size;
+          }
+
+  pub fills_joined : IsJoined (view_of new v.table)
+  fills_joined = stepped v (view_of new v.table) s p (Some x) is fills_step
+
+  pub fills_state : state_of (view_of new v.table) ≡ put_page (state_of v) s p (page_state new x)
+  unfolding state_with
+  fills_state = state_stepped v (view_of new v.table) s p (Some x) is fills_step
+
+-- The lines of the overlay are in the frame; once the overlay ended, the page is committed.
+pub committed_page : (old new : Store) (x : PageView) (e : Entry) (frame : ℕ) → x.overlay ≡ Some e → x.entry.frame ≡ frame
+    → ((i : ℕ) → i < 64 → frame_line new frame i ≡ cond (has_line e.bits i) (line_in old e.block i) (frame_line old frame i)) → discarded (page_state new x) ≡ committed (page_state old x)
+unfolding page_state
+committed_page old new x e frame over frame_is lines =
+    let same = lines_same (frame_line new x.entry.frame) (line_seen old x) (λ i low. ap (λ f. frame_line new f i) frame_is ∙ lines i low ∙ pulled (has_line e.bits i) i ∙ seen i) in
+    λ i. record { entry = x.entry; own = []; lines = same i; base = same i }
+  where
+    pulled : (b : Bool) (i : ℕ) → cond b (line_in old e.block i) (frame_line old frame i) ≡ line_of old.lines (cond b (place_of old e.block i) (frame_place x.entry.frame i))
+    pulled true i = refl
+    pulled false i = ap (λ f. frame_line old f i) (sym frame_is)
+
+    seen : (i : ℕ) → line_of old.lines (cond (has_line e.bits i) (place_of old e.block i) (frame_place x.entry.frame i)) ≡ line_seen old x i
+    seen i = ap (λ (o : Option Entry). line_seen old (record { entry = x.entry; overlay = o }) i) (sym over)
+
+pub bare_committed : (v : MemoryView) (s p : ℕ) → Has v.table s p None → state_of v ≡ turned_page committed (state_of v) s p
+unfolding page_state
+bare_committed v s p has =
+    sym (turn_is committed (state_of v) s p (page_state v.store has.x) at ∙ ap (put_page (state_of v) s p) same ∙ Rattle.overlay_pages.proofs.Steps.put_again (state_of v) s p (page_state v.store has.x) at)
+  where
+    at : page_in (state_of v) s p ≡ Some (page_state v.store has.x)
+    at = state_page_there v s p has.x has.there
+
+    same : committed (page_state v.store has.x) ≡ page_state v.store has.x
+    same =
+        let lines : page_lines (frame_line v.store has.x.entry.frame) ≡ page_lines (line_seen v.store has.x) = sym (ap (λ (o : Option Entry). page_lines (line_seen v.store (record { entry = has.x.entry; overlay = o }))) has.is) in
+        let own : [] ≡ lines_of has.x.overlay = sym (ap lines_of has.is) in
+        λ i. record { entry = has.x.entry; own = own i; lines = page_lines (line_seen v.store has.x); base = sym lines i }
+
+pub commits : (a b c : MemoryView) (s p : ℕ) (x : PageView) → page_at a.table s p ≡ Some x → state_of b ≡ put_page (state_of a) s p (page_state b.store x) → discarded (page_state b.store x) ≡ committed (page_state a.store x)
+    → state_of c ≡ turned_page discarded (state_of b) s p → state_of c ≡ turned_page committed (state_of a) s p
+commits a b c s p x there b_is same c_is =
+    let at_b = ap (λ st. page_in st s p) b_is ∙ states.page_put_here (state_of a) s p (page_state b.store x) s p refl refl in
+    c_is ∙ turn_is discarded (state_of b) s p (page_state b.store x) at_b ∙ ap (λ st. put_page st s p (discarded (page_state b.store x))) b_is
+    ∙ put_over (state_of a) s p (page_state b.store x) (discarded (page_state b.store x)) ∙ ap (put_page (state_of a) s p) same
+    ∙ sym (turn_is committed (state_of a) s p (page_state a.store x) (state_page_there a s p x there))
+
+pub page_frame : (v : LedgerView) (s p : ℕ) (x : PageView) (frame : ℕ) → page_at v s p ≡ Some x → option_map (λ (y : PageView). y.entry.frame) (page_at v s p) ≡ Some frame → x.entry.frame ≡ frame
+page_frame v s p x frame there framed = ap (λ (o : Option ℕ). option_map_or (λ (n : ℕ). n) o 0) (sym (ap (option_map (λ (y : PageView). y.entry.frame)) there) ∙ framed)
+
+-- A page that is copied: its overlay ends, and it gets a frame with its lines.
+
+-- the lines of a frame and of scratch, as a page
+page_line : (n at i : ℕ) (lines : List (List ℕ)) → i < n → get_or (take n (drop at lines)) i [] ≡ get_or lines (at + i) []
+page_line n at i lines low = Rattle.std.proofs.lemmas.List.get_or-take n (drop at lines) i [] low ∙ Rattle.std.proofs.lemmas.List.get_or-drop at lines i []
+
+-- A page that has an overlay, as the state has it once that ended.
+module _ (a : MemoryView) (s p : ℕ) (e : Entry) (is : IsJoined a) (there : IsSome (page_at a.table s p)) (over : overlay_at a.table s p ≡ Some e) where
+  abbrev pub own : Has a.table s p (Some e)
+  own = page_with a.table s p there (Some e) over
+
+  abbrev was : PageState
+  was = page_state a.store own.x
+
+  was_there : page_in (state_of a) s p ≡ Some was
+  was_there = state_page_there a s p own.x own.there
+
+  was_own : was.own ≡ e.bits
+  unfolding page_state
+  was_own = ap lines_of own.is
+
+  abbrev bare_state : State
+  bare_state = put_page (state_of a) s p (discarded was)
+
+  bare_is : turned_page discarded (state_of a) s p ≡ put_page (state_of a) s p (discarded was)
+  bare_is = turn_is discarded (state_of a) s p was was_there
+
+  held_before : holding_at (books (state_of a)) s p ≡ Some (held_page (state_of a).zero_frame was)
+  held_before = states.ledger_page (state_of a) s p ∙ ap (option_map (held_page (state_of a).zero_frame)) was_there
+
+  pub copy_room : (b : MemoryView) → IsJoined b → state_of b ≡ turned_page discarded (state_of a) s p → HasCopyRoom (state_of a) s p → 16 ≤ free_units b.store.blocks
+  copy_room b b_is b_state room =
+      let dropped = turned_units discarded (state_of a) s p was was_there refl in
+      let enough = room was was_there in
+      omega (arith, free_is b b_is, ap units_of b_state, ap limit_of b_state, turned_limit discarded (state_of a) s p was was_there, dropped, class_none, enough)
+
+  pub copy_shared : (b : MemoryView) → state_of b ≡ turned_page discarded (state_of a) s p → is_alone (ledger_of a.table) s p ≡ false → is_alone (ledger_of b.table) s p ≡ false
+  copy_shared b b_state shared =
+      ap (λ (l : Ledger). is_alone l s p) (sym (state_books b) ∙ ap books (b_state ∙ bare_is) ∙ states.ledger_put (state_of a) s p (discarded was))
+      ∙ Rattle.ledger.specs.AloneLaws.alone_same (books (state_of a)) s p (held_page (state_of a).zero_frame was) (held_page (state_of a).zero_frame (discarded was)) held_before refl s p
+      ∙ ap (λ (l : Ledger). is_alone l s p) (state_books a) ∙ shared
+
+  pub copy_settled : (b : MemoryView) → state_of b ≡ turned_page discarded (state_of a) s p → (space_at a.table s).awaiting ≡ empty → (space_at b.table s).awaiting ≡ empty
+  unfolding put_page
+  copy_settled b b_state none =
+      let here = tables.there_space a.table s p own.x own.there in
+      sym (state_awaiting b s) ∙ ap (λ (st : State). (space_in st s).awaiting) (b_state ∙ bare_is)
+      ∙ (space_put_at (state_of a) s (Rattle.overlay_pages.specs.ViewLaws.state_holds a s ∙ here) s (of_pages (space_in (state_of a) s) (insert (space_in (state_of a) s).pages p (discarded was))) refl refl).1
+      ∙ state_awaiting a s ∙ none
+
+  dropped_page : (b : MemoryView) → state_of b ≡ turned_page discarded (state_of a) s p → page_in (state_of b) s p ≡ Some (discarded was)
+  dropped_page b b_state = ap (λ st. page_in st s p) (b_state ∙ bare_is) ∙ states.page_put_here (state_of a) s p (discarded was) s p refl refl
+
+  pub copy_there : (b : MemoryView) → state_of b ≡ turned_page discarded (state_of a) s p → IsSome (page_at b.table s p)
+  copy_there b b_state = sym (state_page_some b s p) ∙ ap is_some (dropped_page b b_state)
+
+  pub copy_bare : (b : MemoryView) → IsJoined b → state_of b ≡ turned_page discarded (state_of a) s p → overlay_at b.table s p ≡ None
+  copy_bare b b_is b_state = Rattle.overlay_pages.proofs.Growing.bare_by b s p b_is (discarded was) (dropped_page b b_state) refl (copy_there b b_state)
+
+  -- an origin is unused before where it is unused now
+  new_then : (frame : ℕ) → IsNewFrame (put_page (state_of a) s p (discarded was)) frame → IsNewFrame (state_of a) frame
+  unfolding put_page put_space
+  new_then frame fresh = record { inside = fresh.inside; other = fresh.other; unused = unused }
+    where
+      now : Holding
+      now = held_page (state_of a).zero_frame (discarded was)
+
+      same : has_origin (books (put_page (state_of a) s p (discarded was))) (frame + 1) ≡ has_origin (books (state_of a)) (frame + 1)
+      same =
+          ap (λ (l : Ledger). has_origin l (frame + 1)) (states.ledger_put (state_of a) s p (discarded was)) ∙ origin_with (books (state_of a)) s p now (frame + 1)
+          ∙ sym (origin_with (books (state_of a)) s p (held_page (state_of a).zero_frame was) (frame + 1))
+          ∙ ap (λ (l : Ledger). has_origin l (frame + 1)) (put_again (books (state_of a)) s p (held_page (state_of a).zero_frame was) held_before)
+
+      parts : (nat_eq (frame + 1) 0 ≡ false) × (has_origin (books (put_page (state_of a) s p (discarded was))) (frame + 1) ≡ false)
+      parts = unused_parts (books (put_page (state_of a) s p (discarded was))) (frame + 1) fresh.unused
+
+      unused : is_unused (books (state_of a)) (frame + 1) ≡ true
+      unused = unused_from (books (state_of a)) (frame + 1) parts.0 (sym same ∙ parts.1)
+
+  -- the lines that were composed are those that the page has
+  pub composed_lines_are : (b d : MemoryView) (frame : ℕ) (out : List (List ℕ)) → Lifts a.store b.store e.block e.bits → KeepsFrames a.store d.store → KeepsScratch b.store d.store → own.x.entry.frame ≡ frame → IsStore d.store
+      → out ≡ composed (frame_page d.store frame) (scratch_page d.store) e.bits → same_lines out ≡ was.lines
+  unfolding same_lines page_state
+  composed_lines_are b d frame out lifts frames scratch frame_is d_is out_is = lines_same (line_in_page out) (line_seen a.store own.x) each
+    where
+      held : IsHeld a.store s p own.x
+      held = is.held s p own.x own.there
+
+      pulled : (t : Bool) (i : ℕ) → has_line e.bits i ≡ t → i < 64
+          → cond t (get_or (scratch_page d.store) i []) (get_or (frame_page d.store frame) i []) ≡ line_of a.store.lines (cond t (place_of a.store e.block i) (frame_place own.x.entry.frame i))
+      pulled true i has low = page_line 64 (Rattle.segment_store.specs.Store.scratch_place d.store) i d.store.lines low ∙ scratch i low ∙ lifts.lifted i has
+      pulled false i has low = page_line 64 (64 * frame) i d.store.lines low ∙ ap (λ f. frame_line d.store f i) (sym frame_is) ∙ (frames own.x.entry.frame held.frame).lines i low
+
+      each : (i : ℕ) → i < 64 → line_in_page out i ≡ line_seen a.store own.x i
+      each i low =
+          ap (λ l. get_or l i []) out_is ∙ composed_at (frame_page d.store frame) (scratch_page d.store) e.bits 64 i [] low ∙ pulled (has_line e.bits i) i refl low
+          ∙ ap (λ (o : Option Entry). line_seen a.store (record { entry = own.x.entry; overlay = o }) i) (sym own.is)
+
+  pub copied_at : (d new : MemoryView) (out : List (List ℕ)) → state_of d ≡ turned_page discarded (state_of a) s p → same_lines out ≡ was.lines
+      → IfSome (page_in (state_of d) s p) (λ x. IsPlaced (state_of d) (state_of new) s p (moved_to x (same_lines out)))
+      → IfSome (page_in (state_of a) s p) (λ x. IsPlaced (state_of a) (state_of new) s p (λ frame. copied frame x))
+  copied_at d new out d_state lines placed =
+      subst (λ o. IfSome o (λ x. IsPlaced (state_of a) (state_of new) s p (λ frame. copied frame x))) (sym was_there)
+      (let at : IsPlaced (put_page (state_of a) s p (discarded was)) (state_of new) s p (moved_to (discarded was) (same_lines out)) =
+      subst (λ st. IsPlaced st (state_of new) s p (moved_to (discarded was) (same_lines out))) (d_state ∙ bare_is)
+      (subst (λ o. IfSome o (λ x. IsPlaced (state_of d) (state_of new) s p (moved_to x (same_lines out)))) (dropped_page d d_state) placed) in
+      record {
+        frame = at.frame;
+        fresh = new_then at.frame at.fresh;
+        placed = at.placed ∙ put_over (state_of a) s p (discarded was) (moved_to (discarded was) (same_lines out) at.frame) ∙ ap (λ l. put_page (state_of a) s p (moved_to was l at.frame)) lines;
+      })

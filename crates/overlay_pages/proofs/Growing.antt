@@ -1,0 +1,256 @@
+use Rattle.std.specs.Prelude.{◌≡◌, ℕ, ◌+◌, ◌*◌, ◌^◌, ◌<◌, ◌≤◌, Bool, true, false, cond, nat_eq, List, [], ◌∷◌, Option, Some, None, IsSome, is_some, length, slice_set, refl}
+use Rattle.std.proofs.Common.{sym, ap, ◌∙◌, arith}
+use Rattle.std.specs.Option.{option_and_then, option_map, option_map_or}
+use Rattle.std.specs.FinMap.{get, insert}
+use Rattle.number_maps.specs.Keys.{insert_over}
+use Rattle.unit_map.specs.Pieces.{free_units, units_in}
+use Rattle.overlay_bits.specs.Lines.{AreLines, has_line, with_line}
+use Rattle.overlay_bits.specs.Laws.{count_with}
+use Rattle.overlay_mapping_table.specs.declared.entry.Entry.{Entry}
+use Rattle.line_store.specs.Lines.{line_of}
+use Rattle.ledger.specs.Ledger.{Ledger}
+use Rattle.ledger.specs.Units.{class, units}
+use Rattle.ledger.specs.UnitLaws.{units_own}
+use Rattle.ledger.specs.ClassLaws.{class_none, class_one}
+use Rattle.segment_store.specs.Kept.{IsStore}
+use Rattle.segment_store.specs.Pointers.{capacity_of}
+use Rattle.segment_store.specs.Store.{Store, frame_line, frame_place, place_of, scratch_line}
+use Rattle.segment_store.specs.Changes.{KeepsFrames, KeepsScratch, KeepsSegments, Lifts}
+use Rattle.segment_store.specs.Laws.{count_fits}
+use Rattle.space_ledger.specs.View.{LedgerView, PageView, ledger_of, lines_of, overlay_at, page_at}
+use Rattle.overlay_pages.specs.LineLaws.{lines_same, set_line}
+use Rattle.overlay_pages.specs.Lines.{page_lines}
+use Rattle.overlay_pages.specs.State.{PageState, State, books, held_page, page_in, put_page, space_in, turned_page}
+use Rattle.overlay_pages.specs.StateLaws as states
+use Rattle.overlay_pages.specs.Changes.{Fits, discarded, limit_of, units_of}
+use Rattle.overlay_pages.specs.Steps.{joins, laid, laid_line}
+use Rattle.overlay_pages.specs.View.{IsHeld, IsJoined, MemoryView, line_seen, page_state, segment_of, state_of, view_of}
+use Rattle.overlay_pages.specs.ViewLaws.{state_alike, state_awaiting, state_books, state_frames, state_holds, state_mark, state_page, state_page_some, state_page_there, state_zero}
+use Rattle.overlay_pages.proofs.Steps.{held_kept, page_kept}
+use Rattle.overlay_pages.proofs.Joining.{Has, order_low, overlay_segment, overlay_set, page_with, sets_are}
+use Rattle.overlay_pages.proofs.Sizes.{can_grow, next_place, next_size}
+
+-- An overlay grows.
+
+-- A page that is turned, as a page that is put.
+pub turn_is : (turn : PageState → PageState) (st : State) (s p : ℕ) (y : PageState) → page_in st s p ≡ Some y → turned_page turn st s p ≡ put_page st s p (turn y)
+turn_is turn st s p y there = states.changed_there turn st s p y there
+
+pub put_over : (st : State) (s p : ℕ) (x y : PageState) → put_page (put_page st s p x) s p y ≡ put_page st s p y
+unfolding put_page Rattle.overlay_pages.specs.State.put_space
+put_over st s p x y =
+    let one = Rattle.overlay_pages.specs.State.of_pages (space_in st s) (insert (space_in st s).pages p x) in
+    let here : space_in (put_page st s p x) s ≡ one = states.space_put st s one s refl in
+    let pages : insert (space_in (put_page st s p x) s).pages p y ≡ insert (space_in st s).pages p y = ap (λ (z : Rattle.overlay_pages.specs.State.SpaceState). insert z.pages p y) here ∙ insert_over (space_in st s).pages p x y in
+    let space : Rattle.overlay_pages.specs.State.of_pages (space_in (put_page st s p x) s) (insert (space_in (put_page st s p x) s).pages p y) ≡ Rattle.overlay_pages.specs.State.of_pages (space_in st s) (insert (space_in st s).pages p y) =
+    λ i. record { pages = pages i; awaiting = (here i).awaiting; speculating = (here i).speculating } in
+    let all = ap (insert (insert st.spaces s one) s) space ∙ insert_over st.spaces s one (Rattle.overlay_pages.specs.State.of_pages (space_in st s) (insert (space_in st s).pages p y)) in
+    λ i. record { spaces = all i; frames = st.frames; zero_frame = st.zero_frame }
+
+pub turned_twice : (f g : PageState → PageState) (st : State) (s p : ℕ) (y : PageState) → page_in st s p ≡ Some y → turned_page f (turned_page g st s p) s p ≡ put_page st s p (f (g y))
+turned_twice f g st s p y there =
+    ap (λ t. turned_page f t s p) (turn_is g st s p y there) ∙ turn_is f (put_page st s p (g y)) s p (g y) (states.page_put_here st s p (g y) s p refl refl) ∙ put_over st s p (g y) (f (g y))
+
+-- What that makes of the units.
+pub turned_units : (turn : PageState → PageState) (st : State) (s p : ℕ) (y : PageState) → page_in st s p ≡ Some y → (turn y).entry.frame ≡ y.entry.frame
+    → units_of (turned_page turn st s p) + class (length y.own) ≡ units_of st + class (length (turn y).own)
+turned_units turn st s p y there same =
+    ap (λ (l : Ledger). units l + class (length y.own)) (ap books (turn_is turn st s p y there) ∙ states.ledger_put st s p (turn y))
+    ∙ units_own (books st) s p (held_page st.zero_frame y) (held_page st.zero_frame (turn y))
+    (states.ledger_page st s p ∙ ap (option_map (held_page st.zero_frame)) there)
+    (ap (Rattle.space_ledger.specs.View.origin_of st.zero_frame) same)
+
+pub turned_limit : (turn : PageState → PageState) (st : State) (s p : ℕ) (y : PageState) → page_in st s p ≡ Some y → limit_of (turned_page turn st s p) ≡ limit_of st
+unfolding put_page Rattle.overlay_pages.specs.State.put_space
+turned_limit turn st s p y there = ap limit_of (turn_is turn st s p y there)
+
+-- how many units are free
+pub free_is : (v : MemoryView) → IsJoined v → free_units v.store.blocks + units_of (state_of v) ≡ limit_of (state_of v)
+free_is v is = omega (arith, is.count, is.frames, ap units (state_books v), state_frames v)
+
+-- A page stays where segments moved.
+pub there_still : (a b : MemoryView) (s p : ℕ) → state_of b ≡ state_of a → IsSome (page_at a.table s p) → IsSome (page_at b.table s p)
+there_still a b s p same there = sym (state_page_some b s p) ∙ ap (λ st. is_some (page_in st s p)) same ∙ state_page_some a s p ∙ there
+
+pub own_none : (v : MemoryView) (s p : ℕ) → Has v.table s p None → (y : PageState) → page_in (state_of v) s p ≡ Some y → y.own ≡ []
+unfolding page_state
+own_none v s p has y there =
+    ap (λ (o : Option PageState). option_map_or (λ (z : PageState). z.own) o []) (sym there ∙ state_page_there v s p has.x has.there) ∙ ap lines_of has.is
+
+pub bare_by : (v : MemoryView) (s p : ℕ) → IsJoined v → (y : PageState) → page_in (state_of v) s p ≡ Some y → y.own ≡ [] → IsSome (page_at v.table s p) → overlay_at v.table s p ≡ None
+unfolding page_state
+bare_by v s p is y there none found = at (overlay_at v.table s p) refl
+  where
+    at : (o : Option Entry) → overlay_at v.table s p ≡ o → overlay_at v.table s p ≡ None
+    at None e = e
+    at (Some e) over =
+        let has = page_with v.table s p found (Some e) over in
+        let own : e.bits ≡ [] = sym (ap lines_of has.is) ∙ ap (λ (o : Option PageState). option_map_or (λ (z : PageState). z.own) o []) (sym (state_page_there v s p has.x has.there) ∙ there) ∙ none in
+        absurd (omega (arith, (is.held s p has.x has.there).lined e has.is, ap length own))
+
+pub bare_still : (a b : MemoryView) (s p : ℕ) → IsJoined b → state_of b ≡ state_of a → IsSome (page_at a.table s p) → overlay_at a.table s p ≡ None → overlay_at b.table s p ≡ None
+bare_still a b s p is same there bare =
+    let has = page_with a.table s p there None bare in
+    let y = page_state a.store has.x in
+    let y_a = state_page_there a s p has.x has.there in
+    bare_by b s p is y (ap (λ st. page_in st s p) same ∙ y_a) (own_none a s p has y y_a) (there_still a b s p same there)
+
+-- The first line of an overlay.
+
+pub one_line : (line : ℕ) → with_line [] line ≡ line ∷ []
+one_line line = refl
+
+pub begins_room : (v : MemoryView) (s p line : ℕ) (bytes : List ℕ) → IsJoined v → IsSome (page_at v.table s p) → overlay_at v.table s p ≡ None
+    → Fits (turned_page (joins line bytes) (state_of v) s p) → 1 ≤ free_units v.store.blocks
+begins_room v s p line bytes is there bare fits =
+    let has = page_with v.table s p there None bare in
+    let y = page_state v.store has.x in
+    let y_there = state_page_there v s p has.x has.there in
+    let none = own_none v s p has y y_there in
+    let now = turned_units (joins line bytes) (state_of v) s p y y_there refl in
+    let one : class (length (with_line y.own line)) ≡ 1 = ap (λ l. class (length (with_line l line))) none ∙ class_one in
+    let zero_class : class (length y.own) ≡ 0 = ap (λ l. class (length l)) none ∙ class_none in
+    omega (arith, free_is v is, fits, turned_limit (joins line bytes) (state_of v) s p y y_there, now, one, zero_class)
+
+pub laid_first : (store : Store) (x : PageView) (line : ℕ) (bytes : List ℕ) → x.overlay ≡ None → line < 64 → laid store [] line bytes (page_state store x) ≡ joins line bytes (page_state store x)
+unfolding page_state
+laid_first store x line bytes bare low =
+    let own : with_line [] line ≡ with_line (lines_of x.overlay) line = ap (λ (o : Option Entry). with_line (lines_of o) line) (sym bare) in
+    let seen : page_lines (frame_line store x.entry.frame) ≡ page_lines (line_seen store x) = ap (λ (o : Option Entry). page_lines (line_seen store (record { entry = x.entry; overlay = o }))) (sym bare) in
+    let lines = sym (set_line (frame_line store x.entry.frame) line bytes low) ∙ ap (λ l. slice_set l line bytes) seen in
+    λ i. record { entry = x.entry; own = own i; lines = lines i; base = page_lines (frame_line store x.entry.frame) }
+
+pub begun_first : (a b c : MemoryView) (s p line : ℕ) (bytes : List ℕ) → state_of b ≡ state_of a → IsSome (page_at b.table s p) → overlay_at b.table s p ≡ None → line < 64
+    → state_of c ≡ turned_page (laid b.store [] line bytes) (state_of b) s p → state_of c ≡ turned_page (joins line bytes) (state_of a) s p
+begun_first a b c s p line bytes same there bare low is =
+    let has = page_with b.table s p there None bare in
+    let y_there = state_page_there b s p has.x has.there in
+    is ∙ turn_is (laid b.store [] line bytes) (state_of b) s p (page_state b.store has.x) y_there
+    ∙ ap (put_page (state_of b) s p) (laid_first b.store has.x line bytes has.is low)
+    ∙ sym (turn_is (joins line bytes) (state_of b) s p (page_state b.store has.x) y_there)
+    ∙ ap (λ st. turned_page (joins line bytes) st s p) same
+
+-- A store that keeps all that pages need.
+pub all_kept : (old new : Store) (table : LedgerView) → IsJoined (view_of old table) → KeepsSegments old new → KeepsFrames old new → new.blocks ≡ old.blocks → new.segments ≡ old.segments → IsStore new
+    → IsJoined (view_of new table) × (state_of (view_of new table) ≡ state_of (view_of old table))
+all_kept old new table is segments frames blocks same store = (
+  record {
+    store = store;
+    frames = is.frames ∙ sym (ap units_in blocks);
+    count = omega (arith, is.count, ap free_units blocks, ap units_in blocks);
+    numbers = is.numbers;
+    zero = (frames table.zero_frame is.zero).stays;
+    zeros = λ line low. (frames table.zero_frame is.zero).lines line low ∙ is.zeros line low;
+    held = λ q r x there. held_kept old new q r x (is.held q r x there) (frames x.entry.frame (is.held q r x there).frame) (λ e over. segments e.block.unit (segment_of q r e) ((is.held q r x there).segment e over));
+    owned = λ unit segment there. is.owned unit segment (sym (ap (λ l. Rattle.std.specs.Prelude.slice_index_or l unit None) same) ∙ there);
+  },
+  state_alike (state_of (view_of new table)) (state_of (view_of old table))
+      (state_frames (view_of new table) ∙ sym (state_frames (view_of old table)))
+      (state_zero (view_of new table) ∙ sym (state_zero (view_of old table)))
+      (λ q. state_holds (view_of new table) q ∙ sym (state_holds (view_of old table) q))
+      (λ q. state_awaiting (view_of new table) q ∙ sym (state_awaiting (view_of old table) q))
+      (λ q. state_mark (view_of new table) q ∙ sym (state_mark (view_of old table) q))
+      (λ q r. state_page (view_of new table) q r ∙ at q r (page_at table q r) refl ∙ sym (state_page (view_of old table) q r)),
+)
+  where
+    at : (q r : ℕ) (o : Option PageView) → page_at table q r ≡ o → option_map (page_state new) (page_at table q r) ≡ option_map (page_state old) (page_at table q r)
+    at q r None e = ap (option_map (page_state new)) e ∙ sym (ap (option_map (page_state old)) e)
+    at q r (Some x) e =
+        ap (option_map (page_state new)) e
+        ∙ ap Some (page_kept old new q r x (is.held q r x e) (frames x.entry.frame (is.held q r x e).frame) (λ f over. segments f.block.unit (segment_of q r f) ((is.held q r x e).segment f over)))
+        ∙ sym (ap (option_map (page_state old)) e)
+
+-- The overlay that grows: it has lines of scratch, which are those that it had.
+module _ (a : MemoryView) (s p : ℕ) (e : Entry) (line : ℕ) (bytes : List ℕ) (is : IsJoined a) (there : IsSome (page_at a.table s p)) (over : overlay_at a.table s p ≡ Some e)
+    (low : line < 64) (absent : has_line e.bits line ≡ false) (full : capacity_of e.block.order ≤ length e.bits) (fits : Fits (turned_page (joins line bytes) (state_of a) s p)) where
+  has : Has a.table s p (Some e)
+  has = page_with a.table s p there (Some e) over
+
+  held : IsHeld a.store s p has.x
+  held = is.held s p has.x has.there
+
+  abbrev y : PageState
+  y = page_state a.store has.x
+
+  y_there : page_in (state_of a) s p ≡ Some y
+  y_there = state_page_there a s p has.x has.there
+
+  y_own : y.own ≡ e.bits
+  unfolding page_state
+  y_own = ap lines_of has.is
+
+  are : AreLines e.bits
+  are = sets_are a.store s p has.x e is.store held has.is
+
+  pub grows_low : e.block.order < 4
+  grows_low = can_grow e.block.order e.bits line (order_low a.store s p has.x e is.store held has.is) are low absent full
+
+  at_capacity : capacity_of e.block.order ≡ length e.bits
+  at_capacity = omega (arith, full, count_fits a.store is.store e.block (overlay_segment a s p e is there over), ap length (overlay_set a s p e is there over))
+
+  pub grows_size : 2 ^ (e.block.order + 1) ≡ class (length e.bits + 1)
+  grows_size = next_size e.block.order (length e.bits) grows_low at_capacity
+
+  -- the units that are free once the old segment ended
+  pub grows_room : (c : MemoryView) → IsJoined c → state_of c ≡ turned_page discarded (state_of a) s p → 2 ^ (e.block.order + 1) ≤ free_units c.store.blocks
+  unfolding page_state
+  grows_room c c_is c_state =
+      let dropped = turned_units discarded (state_of a) s p y y_there refl in
+      let grown = turned_units (joins line bytes) (state_of a) s p y y_there refl in
+      let one : length (with_line e.bits line) ≡ length e.bits + 1 = count_with e.bits line are low ∙ ap (λ b. length e.bits + cond b 0 1) absent in
+      let more : class (length (with_line y.own line)) ≡ 2 ^ (e.block.order + 1) = ap (λ l. class (length (with_line l line))) y_own ∙ ap class one ∙ sym grows_size in
+      omega (
+        arith,
+        free_is c c_is,
+        ap units_of c_state,
+        ap limit_of c_state,
+        turned_limit discarded (state_of a) s p y y_there,
+        dropped,
+        class_none,
+        grown,
+        more,
+        fits,
+        turned_limit (joins line bytes) (state_of a) s p y y_there,
+      )
+
+  -- and what the page is in the end
+  pub grown_state : (b d : MemoryView) → Lifts a.store b.store e.block e.bits → KeepsFrames a.store d.store → KeepsScratch b.store d.store → state_of d ≡ turned_page discarded (state_of a) s p
+      → (last : State) → last ≡ turned_page (laid d.store e.bits line bytes) (state_of d) s p → last ≡ turned_page (joins line bytes) (state_of a) s p
+  unfolding page_state
+  grown_state b d lifts frames scratch d_state last last_is =
+      last_is ∙ ap (λ st. turned_page (laid d.store e.bits line bytes) st s p) d_state ∙ turned_twice (laid d.store e.bits line bytes) discarded (state_of a) s p y y_there
+      ∙ ap (put_page (state_of a) s p) same ∙ sym (turn_is (joins line bytes) (state_of a) s p y y_there)
+    where
+      frame : ℕ
+      frame = has.x.entry.frame
+
+      each : (b : Bool) (i : ℕ) → has_line e.bits i ≡ b → i < 64 → cond b (scratch_line d.store i) (frame_line d.store has.x.entry.frame i) ≡ line_of a.store.lines (cond b (place_of a.store e.block i) (frame_place has.x.entry.frame i))
+      each true i h below = scratch i below ∙ lifts.lifted i h
+      each false i h below = (frames has.x.entry.frame held.frame).lines i below
+
+      seen : (i : ℕ) → line_seen a.store (record { entry = has.x.entry; overlay = Some e }) i ≡ line_seen a.store has.x i
+      seen i = ap (λ (o : Option Entry). line_seen a.store (record { entry = has.x.entry; overlay = o }) i) (sym has.is)
+
+      lines : page_lines (laid_line d.store e.bits line bytes has.x.entry.frame) ≡ slice_set (page_lines (line_seen a.store has.x)) line bytes
+      lines =
+          lines_same (laid_line d.store e.bits line bytes has.x.entry.frame) (λ i. cond (nat_eq line i) bytes (line_seen a.store has.x i)) (λ i below. ap (λ l. cond (nat_eq line i) bytes l) (each (has_line e.bits i) i refl below ∙ seen i))
+          ∙ sym (set_line (line_seen a.store has.x) line bytes low)
+
+      own : with_line e.bits line ≡ with_line (lines_of has.x.overlay) line
+      own = ap (λ l. with_line l line) (sym y_own)
+
+      same : laid d.store e.bits line bytes (discarded y) ≡ joins line bytes y
+      same = λ i. record { entry = has.x.entry; own = own i; lines = lines i; base = page_lines (frame_line a.store has.x.entry.frame) }
+
+  -- the page once its overlay ended, wherever segments went
+  dropped_there : (v : MemoryView) → state_of v ≡ turned_page discarded (state_of a) s p → page_in (state_of v) s p ≡ Some (discarded y)
+  dropped_there v v_state = ap (λ st. page_in st s p) (v_state ∙ turn_is discarded (state_of a) s p y y_there) ∙ states.page_put_here (state_of a) s p (discarded y) s p refl refl
+
+  pub dropped_some : (v : MemoryView) → state_of v ≡ turned_page discarded (state_of a) s p → IsSome (page_at v.table s p)
+  dropped_some v v_state = sym (state_page_some v s p) ∙ ap is_some (dropped_there v v_state)
+
+  pub dropped_bare : (v : MemoryView) → IsJoined v → state_of v ≡ turned_page discarded (state_of a) s p → overlay_at v.table s p ≡ None
+  dropped_bare v v_is v_state = bare_by v s p v_is (discarded y) (dropped_there v v_state) refl (dropped_some v v_state)
+
+  pub grows_fits : length e.bits < capacity_of (e.block.order + 1)
+  grows_fits = next_place e.block.order (length e.bits) grows_low (omega (arith, at_capacity))

@@ -1,0 +1,359 @@
+use Rattle.std.specs.Prelude.{◌≡◌, ℕ, ◌+◌, ◌*◌, ◌^◌, ◌<◌, ◌≤◌, ◌⊎◌, ◌||◌, Bool, true, false, cond, nat_eq, List, [], Option, Some, None, IsSome, length, get_or, slice_index_or, slice_set, refl}
+use Rattle.std.proofs.Common.{sym, ap, subst, ◌∙◌, arith, inl, inr, pow_pos}
+use Rattle.std.proofs.lemmas.Bool.{cases_eq}
+use Rattle.std.proofs.lemmas.Bool.Decides.{nat_tests}
+use Rattle.std.proofs.lemmas.List.{get_or-set_other, get_or-set_same}
+use Rattle.std.specs.Option.{option_and_then, option_map_or}
+use Rattle.unit_map.specs.Pieces.{free_units, units_in}
+use Rattle.unit_map.specs.declared.map.Block.{Block}
+use Rattle.overlay_bits.specs.Lines.{AreLines, has_line, with_line}
+use Rattle.overlay_bits.specs.Laws.{count_with, has_with}
+use Rattle.overlay_address.specs.Names.{overlay_page}
+use Rattle.overlay_mapping_table.specs.declared.entry.Entry.{Entry}
+use Rattle.line_store.specs.Lines.{line_of}
+use Rattle.ledger.specs.Units.{class, overlaid_pages}
+use Rattle.ledger.specs.TallyLaws.{overlaid_few}
+use Rattle.ledger.specs.ClassLaws.{class_none}
+use Rattle.segment_store.specs.declared.segment.Segment.{Segment}
+use Rattle.segment_store.specs.Kept.{IsStore}
+use Rattle.segment_store.specs.Pointers.{capacity_of}
+use Rattle.segment_store.specs.Store.{Store, IsSegment, frame_line, frame_place, line_in, lines_at, lines_with, place_of, scratch_line, segment_at}
+use Rattle.segment_store.specs.Changes.{Begins, Ends, HasLinesNow, Inserts, KeepsFrame, KeepsFrames, KeepsOtherSegments, KeepsScratch, KeepsSegments, Lays, block_of}
+use Rattle.segment_store.specs.Laws.{inside_of, lines_there, order_of, refilled, stays_twice}
+use Rattle.overlay_pages.proofs.Sizes.{still_fits}
+use Rattle.space_ledger.specs.View.{LedgerView, PageView, ledger_of, lines_of, overlay_at, page_at, with_overlay, with_page_at}
+use Rattle.overlay_pages.specs.Lines.{page_lines}
+use Rattle.overlay_pages.specs.LineLaws.{lines_same, set_line}
+use Rattle.overlay_pages.specs.State.{put_page, turned_page}
+use Rattle.overlay_pages.specs.StateLaws as states
+use Rattle.overlay_pages.specs.ViewLaws.{state_page_there}
+use Rattle.space_ledger.specs.ViewLaws as tables
+use Rattle.overlay_pages.specs.Changes.{discarded}
+use Rattle.overlay_pages.specs.Steps.{joins, laid, laid_line}
+use Rattle.overlay_pages.specs.View.{IsHeld, IsJoined, MemoryView, line_seen, page_state, segment_of, state_of, view_of}
+use Rattle.overlay_pages.proofs.Steps.{overlay_lines, overlay_there, put_again, table_again}
+use Rattle.overlay_pages.proofs.Overlaying.{Overlays}
+
+-- An overlay that ends, one that begins, and one that gets a line.
+
+-- the page of an overlay, and one that has none
+pub record Has (v : LedgerView) (s p : ℕ) (o : Option Entry) : Type 0 where
+  pub x : PageView
+  pub there : page_at v s p ≡ Some x
+  pub is : x.overlay ≡ o
+
+pub page_with : (v : LedgerView) (s p : ℕ) → IsSome (page_at v s p) → (o : Option Entry) → overlay_at v s p ≡ o → Has v s p o
+page_with v s p some o over = at (page_at v s p) refl some
+  where
+    at : (f : Option PageView) → page_at v s p ≡ f → IsSome f → Has v s p o
+    at None e none = absurd (not_some none)
+      where
+        not_some : IsSome {T = PageView} None → ⊥
+        not_some h = cc
+    at (Some x) e found = record { x = x; there = e; is = sym (ap (λ (f : Option PageView). option_and_then (λ (y : PageView). y.overlay) f) e) ∙ over }
+
+-- The segments after one of them changed.
+
+segment_set : (old : Store) (u : ℕ) (segments : List (Option Segment)) (z : Option Segment) → u < length old.segments → segments ≡ slice_set old.segments u z → slice_index_or segments u None ≡ z
+segment_set old u segments z low is = ap (λ l. get_or l u None) is ∙ get_or-set_same old.segments u z None low
+
+pub segment_beside : (old : Store) (u : ℕ) (segments : List (Option Segment)) (z : Option Segment) → segments ≡ slice_set old.segments u z
+    → (unit : ℕ) → (unit ≡ u → ⊥) → slice_index_or segments unit None ≡ segment_at old unit
+segment_beside old u segments z is unit away = ap (λ l. get_or l unit None) is ∙ get_or-set_other old.segments u unit z None away
+
+pub unit_low : (store : Store) → IsStore store → (u : ℕ) (segment : Segment) → segment_at store u ≡ Some segment → u < length store.segments
+unit_low store is u segment there = omega (arith, inside_of store is u segment there, is.units, pow_pos segment.order)
+
+-- A page whose overlay ended.
+pub dropped : (old : MemoryView) (store : Store) (table : LedgerView) (s p : ℕ) (x : PageView) (e : Entry) → IsJoined old → page_at old.table s p ≡ Some x → x.overlay ≡ Some e
+    → Ends old.store store e.block → KeepsOtherSegments old.store e.block.unit store → KeepsFrames old.store store → free_units store.blocks ≡ free_units old.store.blocks + 2 ^ e.block.order
+    → units_in store.blocks ≡ units_in old.store.blocks → IsStore store → table ≡ with_overlay old.table s p None → Overlays old (view_of store table) s p x None e.block.unit
+dropped old store table s p x e is there over ends kept frames free whole is_store table_is =
+    let held = is.held s p x there in
+    record {
+      there = there;
+      table_is = table_is;
+      was_there = λ f same. ap (λ (o : Option Entry). option_map_or (λ (y : Entry). y.block.unit) o 0) (sym same ∙ over);
+      was_free = λ none. absurd_some (sym over ∙ none);
+      now_there = λ f h. absurd_none f h;
+      here = segment_set old.store e.block.unit store.segments None (unit_low old.store is.store e.block.unit (segment_of s p e) (held.segment e over)) ends.segments;
+      elsewhere = segment_beside old.store e.block.unit store.segments None ends.segments;
+      kept = kept;
+      frames = frames;
+      store = is_store;
+      whole = whole;
+      lined = λ f h. absurd (absurd_empty f h);
+      size = λ f h. absurd (absurd_empty f h);
+      free = omega (arith, free, held.size e over, class_none, ap (λ (o : Option Entry). class (length (lines_of o))) over);
+    }
+  where
+    absurd_some : Some e ≡ None → segment_at old.store e.block.unit ≡ None
+    absurd_some h = cc
+
+    absurd_none : (f : Entry) → None ≡ Some f → f.block.unit ≡ e.block.unit
+    absurd_none f h = cc
+
+    absurd_empty : (f : Entry) → None ≡ Some f → ⊥
+    absurd_empty f h = cc
+
+pub dropped_page : (old : MemoryView) (store : Store) (s p : ℕ) (x : PageView) → IsHeld old.store s p x → KeepsFrames old.store store
+    → page_state store (record { entry = x.entry; overlay = None }) ≡ discarded (page_state old.store x)
+unfolding page_state
+dropped_page old store s p x held frames =
+    let base = lines_same (frame_line store x.entry.frame) (frame_line old.store x.entry.frame) (frames x.entry.frame held.frame).lines in
+    λ i. record { entry = x.entry; own = []; lines = base i; base = base i }
+
+-- a page without an overlay is what it is when it is discarded
+pub bare_discarded : (store : Store) (x : PageView) → x.overlay ≡ None → discarded (page_state store x) ≡ page_state store x
+unfolding page_state
+bare_discarded store x bare =
+    let lines : page_lines (frame_line store x.entry.frame) ≡ page_lines (line_seen store x) = sym (ap (λ (o : Option Entry). page_lines (line_seen store (record { entry = x.entry; overlay = o }))) bare) in
+    let own : [] ≡ lines_of x.overlay = sym (ap lines_of bare) in
+    λ i. record { entry = x.entry; own = own i; lines = lines i; base = page_lines (frame_line store x.entry.frame) }
+
+-- Lines of a segment after a line came into it.
+
+-- a test of two numbers
+by_line : (P : Bool → Type 0) (line i : ℕ) → (line ≡ i → P true) → ((line ≡ i → ⊥) → P false) → P (nat_eq line i)
+by_line P line i same other = at (cases_eq line i)
+  where
+    at : (line ≡ i) ⊎ (line ≡ i → ⊥) → P (nat_eq line i)
+    at (inl h) = let yes_ : nat_eq line i ≡ true = grind (arith, nat_tests) in subst P (sym yes_) (same h)
+    at (inr h) = let no_ : nat_eq line i ≡ false = grind (arith, nat_tests) in subst P (sym no_) (other h)
+
+-- A page with an overlay of these lines, line by line: it has a line that came in, and others that it had, or took from scratch.
+pub record Fills (old new : Store) (block : Block) (bits : List ℕ) (line : ℕ) (bytes : List ℕ) (each : ℕ → List ℕ) : Type 0 where
+  pub here : line_in new block line ≡ bytes
+  pub others : (i : ℕ) → has_line bits i ≡ true → (line ≡ i → ⊥) → line_in new block i ≡ each i
+
+filled_line : (old new : Store) (block : Block) (bits : List ℕ) (line : ℕ) (bytes : List ℕ) (each : ℕ → List ℕ) (x : PageView) → Fills old new block bits line bytes each → KeepsFrame old new x.entry.frame → (i : ℕ) → i < 64
+    → line_seen new (record { entry = x.entry; overlay = Some (record { bits = with_line bits line; block = block }) }) i
+    ≡ cond (nat_eq line i) bytes (cond (has_line bits i) (each i) (frame_line old x.entry.frame i))
+filled_line old new block bits line bytes each x fills frame i low =
+    ap (λ b. line_of new.lines (cond b (place_of new block i) (frame_place x.entry.frame i))) (has_with bits line i)
+    ∙ by_line (λ t. line_of new.lines (cond (t || has_line bits i) (place_of new block i) (frame_place x.entry.frame i)) ≡ cond t bytes (cond (has_line bits i) (each i) (frame_line old x.entry.frame i))) line i
+    (λ same. ap (line_in new block) (sym same) ∙ fills.here)
+    (λ other. at (has_line bits i) refl other)
+  where
+    at : (b : Bool) → has_line bits i ≡ b → (line ≡ i → ⊥)
+        → line_of new.lines (cond b (place_of new block i) (frame_place x.entry.frame i)) ≡ cond b (each i) (frame_line old x.entry.frame i)
+    at true has other = fills.others i has other
+    at false has other = frame.lines i low
+
+-- so the page is laid
+pub laid_page : (old was new : Store) (block : Block) (bits : List ℕ) (line : ℕ) (bytes : List ℕ) (x : PageView) → Fills old new block bits line bytes (scratch_line was) → KeepsFrame old new x.entry.frame
+    → ((i : ℕ) → i < 64 → frame_line old x.entry.frame i ≡ frame_line was x.entry.frame i)
+    → page_state new (record { entry = x.entry; overlay = Some (record { bits = with_line bits line; block = block }) }) ≡ laid was bits line bytes (page_state was x)
+unfolding page_state
+laid_page old was new block bits line bytes x fills frame same =
+    let lines = lines_same (line_seen new (record { entry = x.entry; overlay = Some (record { bits = with_line bits line; block = block }) })) (laid_line was bits line bytes x.entry.frame)
+    (λ i low. filled_line old new block bits line bytes (scratch_line was) x fills frame i low ∙ ap (λ l. cond (nat_eq line i) bytes (cond (has_line bits i) (scratch_line was i) l)) (same i low)) in
+    let base = lines_same (frame_line new x.entry.frame) (frame_line was x.entry.frame) (λ i low. frame.lines i low ∙ same i low) in
+    λ i. record { entry = x.entry; own = with_line bits line; lines = lines i; base = base i }
+
+-- and one whose overlay got a line is joined by it
+pub joined_page : (old new : Store) (e : Entry) (line : ℕ) (bytes : List ℕ) (x : PageView) → x.overlay ≡ Some e → line < 64
+    → Fills old new e.block e.bits line bytes (line_in old e.block) → KeepsFrame old new x.entry.frame
+    → page_state new (record { entry = x.entry; overlay = Some (record { bits = with_line e.bits line; block = e.block }) }) ≡ joins line bytes (page_state old x)
+unfolding page_state
+joined_page old new e line bytes x over low fills frame =
+    let own : with_line e.bits line ≡ with_line (lines_of x.overlay) line = ap (λ (o : Option Entry). with_line (lines_of o) line) (sym over) in
+    let seen : (i : ℕ) → line_seen old (record { entry = x.entry; overlay = Some e }) i ≡ line_seen old x i = λ i. ap (λ (o : Option Entry). line_seen old (record { entry = x.entry; overlay = o }) i) (sym over) in
+    let lines = lines_same (line_seen new (record { entry = x.entry; overlay = Some (record { bits = with_line e.bits line; block = e.block }) })) (λ i. cond (nat_eq line i) bytes (line_seen old x i))
+    (λ i below. filled_line old new e.block e.bits line bytes (line_in old e.block) x fills frame i below ∙ ap (λ l. cond (nat_eq line i) bytes l) (pulled (has_line e.bits i) i ∙ seen i)) in
+    let all = lines ∙ sym (set_line (line_seen old x) line bytes low) in
+    let base = lines_same (frame_line new x.entry.frame) (frame_line old x.entry.frame) frame.lines in
+    λ i. record { entry = x.entry; own = own i; lines = all i; base = base i }
+  where
+    pulled : (b : Bool) (i : ℕ) → cond b (line_in old e.block i) (frame_line old x.entry.frame i) ≡ line_of old.lines (cond b (place_of old e.block i) (frame_place x.entry.frame i))
+    pulled true i = refl
+    pulled false i = refl
+
+-- A page that is put where it is changes nothing.
+pub bare_state : (v : MemoryView) (s p : ℕ) → Has v.table s p None → state_of v ≡ turned_page discarded (state_of v) s p
+bare_state v s p has =
+    sym (states.changed_there discarded (state_of v) s p (page_state v.store has.x) (state_page_there v s p has.x has.there)
+    ∙ ap (put_page (state_of v) s p) (bare_discarded v.store has.x has.is)
+    ∙ put_again (state_of v) s p (page_state v.store has.x) (state_page_there v s p has.x has.there))
+
+pub bare_table : (v : LedgerView) (s p : ℕ) → Has v s p None → v ≡ with_overlay v s p None
+unfolding with_overlay
+bare_table v s p has =
+    sym (tables.changed_there (λ (y : PageView). record { entry = y.entry; overlay = None }) v s p has.x has.there
+    ∙ ap (with_page_at v s p) (let same : None ≡ has.x.overlay = sym has.is in λ i. record { entry = has.x.entry; overlay = same i })
+    ∙ table_again v s p has.x has.there)
+
+-- A line comes into an overlay.
+
+pub sets_are : (store : Store) (s p : ℕ) (x : PageView) (e : Entry) → IsStore store → IsHeld store s p x → x.overlay ≡ Some e → AreLines e.bits
+sets_are store s p x e is held over = is.sets e.block.unit (segment_of s p e) (held.segment e over)
+
+pub order_low : (store : Store) (s p : ℕ) (x : PageView) (e : Entry) → IsStore store → IsHeld store s p x → x.overlay ≡ Some e → e.block.order ≤ 4
+order_low store s p x e is held over = order_of store is e.block.unit (segment_of s p e) (held.segment e over)
+
+pub inserted : (old : MemoryView) (store : Store) (table : LedgerView) (s p : ℕ) (x : PageView) (e : Entry) (line : ℕ) → IsJoined old → page_at old.table s p ≡ Some x → x.overlay ≡ Some e
+    → line < 64 → has_line e.bits line ≡ false → length e.bits < capacity_of e.block.order
+    → HasLinesNow old.store store e.block (lines_with old.store e.block line) → KeepsOtherSegments old.store e.block.unit store → KeepsFrames old.store store → IsStore store
+    → table ≡ with_overlay old.table s p (Some (record { bits = with_line e.bits line; block = e.block }))
+    → Overlays old (view_of store table) s p x (Some (record { bits = with_line e.bits line; block = e.block })) e.block.unit
+inserted old store table s p x e line is there over low absent fits now kept frames is_store table_is =
+    record {
+      there = there;
+      table_is = table_is;
+      was_there = λ f same. ap (λ (o : Option Entry). option_map_or (λ (y : Entry). y.block.unit) o 0) (sym same ∙ over);
+      was_free = λ none. absurd (no_entry (sym none ∙ over));
+      now_there = λ f same. ap (λ (o : Option Entry). option_map_or (λ (y : Entry). y.block.unit) o 0) (sym same);
+      here = ap (λ l. get_or l e.block.unit None) now.segments
+          ∙ refilled old.store.segments e.block.unit (segment_of s p e) (lines_with old.store e.block line) (held.segment e over) (unit_low old.store is.store e.block.unit (segment_of s p e) (held.segment e over))
+          ∙ ap (λ l. Some (record { owner = overlay_page s p; order = e.block.order; bits = with_line l line })) (overlay_lines old.store s p x e held over);
+      elsewhere = segment_beside old.store e.block.unit store.segments _ now.segments;
+      kept = kept;
+      frames = frames;
+      store = is_store;
+      whole = ap units_in now.blocks;
+      lined = λ f same. subst (λ (g : Entry). 0 < length g.bits) (given f same) (omega (arith, count));
+      size = λ f same. subst (λ (g : Entry). 2 ^ g.block.order ≡ class (length g.bits)) (given f same) size_now;
+      free = omega (arith, ap free_units now.blocks, size_now, held.size e over, ap (λ (o : Option Entry). class (length (lines_of o))) over);
+    }
+  where
+    held : IsHeld old.store s p x
+    held = is.held s p x there
+
+    no_entry : None ≡ Some e → ⊥
+    no_entry h = cc
+
+    given : (f : Entry) → Some (record { bits = with_line e.bits line; block = e.block }) ≡ Some f → record { bits = with_line e.bits line; block = e.block } ≡ f
+    given f same = ap (λ (o : Option Entry). option_map_or (λ (y : Entry). y) o f) same
+
+    count : length (with_line e.bits line) ≡ length e.bits + 1
+    count = count_with e.bits line (sets_are old.store s p x e is.store held over) low ∙ ap (λ b. length e.bits + cond b 0 1) absent
+
+    size_now : 2 ^ e.block.order ≡ class (length (with_line e.bits line))
+    size_now = still_fits e.block.order (length e.bits) (order_low old.store s p x e is.store held over) (held.size e over) fits ∙ ap class (sym count)
+
+pub inserted_fills : (old new : Store) (s p : ℕ) (x : PageView) (e : Entry) (line : ℕ) (bytes : List ℕ) → IsHeld old s p x → x.overlay ≡ Some e → Inserts old new e.block line bytes
+    → Fills old new e.block e.bits line bytes (line_in old e.block)
+inserted_fills old new s p x e line bytes held over inserts = record {
+  here = inserts.here;
+  others = λ i has other. inserts.lines i (ap (λ l. has_line l i) (overlay_lines old s p x e held over) ∙ has);
+}
+
+-- An overlay begins.
+
+pub frames_twice : (one two three : Store) → KeepsFrames one two → KeepsFrames two three → KeepsFrames one three
+frames_twice one two three a b frame is = record {
+  stays = (b frame (a frame is).stays).stays;
+  lines = λ line low. (b frame (a frame is).stays).lines line low ∙ (a frame is).lines line low;
+}
+
+others_twice : (one two three : Store) (u : ℕ) → KeepsOtherSegments one u two → KeepsOtherSegments two u three → KeepsOtherSegments one u three
+others_twice one two three u a b unit segment away there =
+    let first = a unit segment away there in stays_twice one two three (block_of unit segment) first (b unit segment away (first.there ∙ there))
+
+-- what the three steps of a beginning leave
+pub record BeginsWith (old began filled new : Store) (s p : ℕ) (block : Block) (order : ℕ) (bits : List ℕ) (line : ℕ) (bytes : List ℕ) : Type 0 where
+  pub begins : Begins old began (overlay_page s p) block
+  pub order_is : block.order ≡ order
+  pub segments : KeepsSegments old began
+  pub frames : KeepsFrames old began
+  pub scratch : KeepsScratch old began
+  pub loses : free_units began.blocks + 2 ^ block.order ≡ free_units old.blocks
+  pub whole : units_in began.blocks ≡ units_in old.blocks
+  pub began_is : IsStore began
+  pub lays : Lays began filled block bits
+  pub laid_lines : HasLinesNow began filled block bits
+  pub laid_kept : KeepsOtherSegments began block.unit filled
+  pub laid_frames : KeepsFrames began filled
+  pub filled_is : IsStore filled
+  pub inserts : Inserts filled new block line bytes
+  pub lines_now : HasLinesNow filled new block (lines_with filled block line)
+  pub kept : KeepsOtherSegments filled block.unit new
+  pub new_frames : KeepsFrames filled new
+  pub new_is : IsStore new
+
+module _ (old : MemoryView) (began filled store : Store) (table : LedgerView) (s p : ℕ) (x : PageView) (block : Block) (order : ℕ) (bits : List ℕ) (line : ℕ) (bytes : List ℕ)
+    (is : IsJoined old) (there : page_at old.table s p ≡ Some x) (bare : x.overlay ≡ None) (are : AreLines bits) (low : line < 64) (absent : has_line bits line ≡ false)
+    (size : 2 ^ order ≡ class (length bits + 1)) (so : BeginsWith old.store began filled store s p block order bits line bytes) where
+  abbrev entry : Entry
+  entry = record { bits = with_line bits line; block = block }
+
+  begun_there : segment_at began block.unit ≡ Some (record { owner = overlay_page s p; order = block.order; bits = [] })
+  begun_there = so.begins.there
+
+  laid_there : segment_at filled block.unit ≡ Some (record { owner = overlay_page s p; order = block.order; bits = bits })
+  laid_there =
+      ap (λ l. get_or l block.unit None) so.laid_lines.segments
+      ∙ refilled began.segments block.unit (record { owner = overlay_page s p; order = block.order; bits = [] }) bits begun_there (unit_low began so.began_is block.unit _ begun_there)
+
+  laid_set : lines_at filled block.unit ≡ bits
+  laid_set = lines_there filled block.unit (record { owner = overlay_page s p; order = block.order; bits = bits }) laid_there
+
+  now_there : segment_at store block.unit ≡ Some (segment_of s p entry)
+  now_there =
+      ap (λ l. get_or l block.unit None) so.lines_now.segments
+      ∙ refilled filled.segments block.unit (record { owner = overlay_page s p; order = block.order; bits = bits }) (lines_with filled block line) laid_there (unit_low filled so.filled_is block.unit _ laid_there)
+      ∙ ap (λ l. Some (record { owner = overlay_page s p; order = block.order; bits = with_line l line })) laid_set
+
+  count_now : length (with_line bits line) ≡ length bits + 1
+  count_now = count_with bits line are low ∙ ap (λ b. length bits + cond b 0 1) absent
+
+  size_now : 2 ^ block.order ≡ class (length (with_line bits line))
+  size_now = ap (λ k. 2 ^ k) so.order_is ∙ size ∙ ap class (sym count_now)
+
+  pub begun_frames : KeepsFrames old.store store
+  begun_frames = frames_twice old.store began store so.frames (frames_twice began filled store so.laid_frames so.new_frames)
+
+  pub begun : table ≡ with_overlay old.table s p (Some entry) → Overlays old (view_of store table) s p x (Some entry) block.unit
+  begun table_is = record {
+    there = there;
+    table_is = table_is;
+    was_there = λ f over. absurd (no_entry f (sym bare ∙ over));
+    was_free = λ none. so.begins.fresh;
+    now_there = λ f same. ap (λ (o : Option Entry). option_map_or (λ (y : Entry). y.block.unit) o 0) (sym same);
+    here = now_there;
+    elsewhere = λ unit away. segment_beside filled block.unit store.segments _ so.lines_now.segments unit away ∙ segment_beside began block.unit filled.segments _ so.laid_lines.segments unit away
+        ∙ segment_beside old.store block.unit began.segments _ so.begins.segments unit away;
+    kept = others_twice old.store began store block.unit (λ unit segment away here. so.segments unit segment here) (others_twice began filled store block.unit so.laid_kept so.kept);
+    frames = begun_frames;
+    store = so.new_is;
+    whole = ap units_in so.lines_now.blocks ∙ ap units_in so.laid_lines.blocks ∙ so.whole;
+    lined = λ f same. subst (λ (g : Entry). 0 < length g.bits) (given f same) (omega (arith, count_now));
+    size = λ f same. subst (λ (g : Entry). 2 ^ g.block.order ≡ class (length g.bits)) (given f same) size_now;
+    free = omega (arith, ap free_units so.lines_now.blocks, ap free_units so.laid_lines.blocks, so.loses, size_now, class_none, ap (λ (o : Option Entry). class (length (lines_of o))) bare);
+  }
+    where
+      no_entry : (f : Entry) → None ≡ Some f → ⊥
+      no_entry f h = cc
+
+      given : (f : Entry) → Some entry ≡ Some f → entry ≡ f
+      given f same = ap (λ (o : Option Entry). option_map_or (λ (y : Entry). y) o f) same
+
+  pub begun_page : page_state store (record { entry = x.entry; overlay = Some entry }) ≡ laid old.store bits line bytes (page_state old.store x)
+  begun_page =
+      laid_page filled old.store store block bits line bytes x
+      (record {
+        here = so.inserts.here;
+        others = λ i has other. so.inserts.lines i (ap (λ l. has_line l i) laid_set ∙ has) ∙ so.lays.lines i has ∙ so.scratch i (are.inside i has);
+      })
+      (so.new_frames x.entry.frame (so.laid_frames x.entry.frame (so.frames x.entry.frame (is.held s p x there).frame).stays).stays)
+      (λ i below. (frames_twice old.store began filled so.frames so.laid_frames x.entry.frame (is.held s p x there).frame).lines i below)
+
+-- There is room for another overlay: an overlaid page needs a unit, and the zero frame needs sixteen.
+pub overlay_room : (v : MemoryView) → IsJoined v → overlaid_pages (ledger_of v.table) < 16 * v.table.frames
+overlay_room v is = omega (arith, overlaid_few (ledger_of v.table), is.count, is.frames)
+
+-- The segment of an overlay is there, with its lines.
+pub overlay_segment : (v : MemoryView) (s p : ℕ) (e : Entry) → IsJoined v → IsSome (page_at v.table s p) → overlay_at v.table s p ≡ Some e → IsSegment v.store e.block
+overlay_segment v s p e is there over =
+    let found = page_with v.table s p there (Some e) over in
+    overlay_there v.store s p found.x e (is.held s p found.x found.there) found.is
+
+pub overlay_set : (v : MemoryView) (s p : ℕ) (e : Entry) → IsJoined v → IsSome (page_at v.table s p) → overlay_at v.table s p ≡ Some e → lines_at v.store e.block.unit ≡ e.bits
+overlay_set v s p e is there over =
+    let found = page_with v.table s p there (Some e) over in
+    overlay_lines v.store s p found.x e (is.held s p found.x found.there) found.is
+
+pub overlay_order : (v : MemoryView) (s p : ℕ) (e : Entry) → IsJoined v → IsSome (page_at v.table s p) → overlay_at v.table s p ≡ Some e → e.block.order ≤ 4
+overlay_order v s p e is there over =
+    let found = page_with v.table s p there (Some e) over in
+    order_low v.store s p found.x e is.store (is.held s p found.x found.there) found.is

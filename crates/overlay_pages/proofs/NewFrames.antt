@@ -1,0 +1,219 @@
+use Rattle.std.specs.Prelude.{◌≡◌, ℕ, ◌+◌, ◌*◌, ◌<◌, ◌≤◌, ◌⊎◌, ◌||◌, Bool, true, false, cond, not, nat_eq, List, [], Option, Some, None, IfSome, IsSome, is_some, length, refl}
+use Rattle.std.proofs.Common.{sym, ap, subst, ◌∙◌, arith, inl}
+use Rattle.std.proofs.lemmas.Bool.Decides.{nat_tests}
+use Rattle.std.specs.Option.{option_and_then, option_map, option_map_or}
+use Rattle.sizes.specs.declared.TheConstants.{FRAME_UNITS}
+use Rattle.unit_map.specs.Pieces.{free_units, units_in}
+use Rattle.overlay_address.specs.Names.{overlay_page}
+use Rattle.overlay_mapping_table.specs.declared.entry.Entry.{Entry}
+use Rattle.ledger.specs.Ledger.{Holding, Ledger, has_origin, holding_at, is_alone, is_unused, with_page, without_page}
+use Rattle.ledger.specs.Units.{class, units}
+use Rattle.ledger.specs.ClassLaws.{class_none}
+use Rattle.ledger.specs.UnitLaws.{frame_for, units_changed}
+use Rattle.ledger.specs.AloneLaws.{holder, not_true, origin_of, unused_from, unused_without}
+use Rattle.segment_store.specs.declared.segment.Segment.{Segment}
+use Rattle.segment_store.specs.Kept.{IsStore}
+use Rattle.segment_store.specs.Store.{Store, IsFrame, frame_line, segment_at}
+use Rattle.segment_store.specs.Changes.{KeepsFrame, KeepsFrames, KeepsSegments}
+use Rattle.segment_store.specs.Laws.{frame_inside}
+use Rattle.space_ledger.specs.View as view
+use Rattle.space_ledger.specs.View.{LedgerView, PageView, has_space, holding_of, ledger_of, lines_of, overlay_at, page_at, with_frame, with_page_at, without_page_at}
+use Rattle.space_ledger.specs.ViewLaws as tables
+use Rattle.overlay_pages.specs.Lines.{page_lines}
+use Rattle.overlay_pages.specs.LineLaws.{lines_same}
+use Rattle.overlay_pages.specs.State.{page_in, put_page}
+use Rattle.overlay_pages.specs.Changes.{IsNewFrame, IsPlaced, moved_to}
+use Rattle.overlay_pages.specs.Steps.{FillsFrame}
+use Rattle.overlay_pages.specs.View.{IsHeld, IsJoined, MemoryView, page_state, segment_of, state_of, view_of}
+use Rattle.overlay_pages.specs.ViewLaws.{state_books, state_frames, state_page_there, state_zero}
+use Rattle.overlay_pages.proofs.Steps.{Step, names_apart, some_page, state_stepped, state_with, stepped, table_with, with_some}
+use Rattle.overlay_pages.proofs.Filling.{segments_twice}
+use Rattle.overlay_pages.proofs.Lending.{true_false}
+
+-- A page that has no overlay names no segment.
+pub not_bare : (v : MemoryView) (s p : ℕ) (x : PageView) (unit : ℕ) (segment : Segment) → IsJoined v → page_at v.table s p ≡ Some x → x.overlay ≡ None → segment_at v.store unit ≡ Some segment
+    → segment.owner ≡ overlay_page s p → ⊥
+not_bare v s p x unit segment is there bare at_unit named =
+    let mine = is.held s p x there in
+    let own = is.owned unit segment at_unit in
+    let theirs = is.held own.space own.page own.x own.there in
+    names_apart s p own.space own.page mine.number mine.low theirs.number theirs.low (sym own.owner ∙ named)
+    (λ qq rr.
+    let same : own.x ≡ x = some_page own.x x (sym own.there ∙ ap (λ n. page_at v.table n own.page) qq ∙ ap (page_at v.table s) rr ∙ there) in
+    nothing own.overlay (sym bare ∙ ap (λ (y : PageView). y.overlay) (sym same) ∙ own.is))
+  where
+    nothing : (e : Entry) → None ≡ Some e → ⊥
+    nothing e h = cc
+
+-- A frame that wasn't taken is named by no page.
+
+origin_named : (z f g : ℕ) → nat_eq (view.origin_of z g) (f + 1) ≡ true → g ≡ f
+origin_named z f g h = at (nat_eq g z) refl
+  where
+    at : (b : Bool) → nat_eq g z ≡ b → g ≡ f
+    at true e =
+        let none : view.origin_of z g ≡ 0 = ap (λ b. cond b 0 (g + 1)) e in
+        let no : nat_eq (view.origin_of z g) (f + 1) ≡ false = ap (λ n. nat_eq n (f + 1)) none ∙ zero_isnt f in
+        absurd (true_false (sym h ∙ no))
+      where
+        zero_isnt : (n : ℕ) → nat_eq 0 (n + 1) ≡ false
+        zero_isnt n = grind (arith, nat_tests)
+    at false e =
+        let some : view.origin_of z g ≡ g + 1 = ap (λ b. cond b 0 (g + 1)) e in
+        let same : nat_eq (g + 1) (f + 1) ≡ true = ap (λ n. nat_eq n (f + 1)) (sym some) ∙ h in
+        grind (arith, nat_tests, same)
+
+page_back : (v : LedgerView) (q r : ℕ) (h : Holding) → holding_at (ledger_of v) q r ≡ Some h → (P : Type 0) → ((y : PageView) → page_at v q r ≡ Some y → h ≡ holding_of v.zero_frame y → P) → P
+page_back v q r h there P go = at (page_at v q r) refl
+  where
+    at : (o : Option PageView) → page_at v q r ≡ o → P
+    at None e = absurd (nothing h (sym (tables.ledger_page v q r ∙ ap (option_map (holding_of v.zero_frame)) e) ∙ there))
+      where
+        nothing : (k : Holding) → None ≡ Some k → ⊥
+        nothing k n = cc
+    at (Some y) e = go y e (ap (λ (o : Option Holding). option_map_or (λ (k : Holding). k) o h) (sym there ∙ tables.ledger_page v q r ∙ ap (option_map (holding_of v.zero_frame)) e))
+
+pub nobody_has : (v : LedgerView) (frame : ℕ) → ((q r : ℕ) (y : PageView) → page_at v q r ≡ Some y → y.entry.frame ≡ frame → ⊥) → has_origin (ledger_of v) (frame + 1) ≡ false
+nobody_has v frame none = not_true (has_origin (ledger_of v) (frame + 1)) (λ had.
+    let h = holder (ledger_of v) (frame + 1) had in
+    page_back v h.space h.page h.holding h.there ⊥
+    (λ y there same. none h.space h.page y there (origin_named v.zero_frame frame y.entry.frame (ap (λ (k : Holding). nat_eq k.origin (frame + 1)) (sym same) ∙ h.passes))))
+
+pub nobody_names : (v : LedgerView) (frame : ℕ) → has_origin (ledger_of v) (frame + 1) ≡ false → (frame ≡ v.zero_frame → ⊥) → (q r : ℕ) (y : PageView) → page_at v q r ≡ Some y → y.entry.frame ≡ frame → ⊥
+nobody_names v frame none isnt q r y there same =
+    let zero_no : nat_eq y.entry.frame v.zero_frame ≡ false = grind_ne y.entry.frame v.zero_frame (λ e. isnt (sym same ∙ e)) in
+    let origin : view.origin_of v.zero_frame y.entry.frame ≡ frame + 1 = ap (λ b. cond b 0 (y.entry.frame + 1)) zero_no ∙ ap (λ n. n + 1) same in
+    let has = origin_of (ledger_of v) q r (holding_of v.zero_frame y) (tables.ledger_page v q r ∙ ap (option_map (holding_of v.zero_frame)) there) in
+    true_false (sym has ∙ ap (has_origin (ledger_of v)) origin ∙ none)
+  where
+    grind_ne : (a b : ℕ) → (a ≡ b → ⊥) → nat_eq a b ≡ false
+    grind_ne a b d = grind (arith, nat_tests, d)
+
+-- A page gets a new frame.
+pub record TakesFrame (old taken filled : Store) (frame : ℕ) (given : ℕ → List ℕ) : Type 0 where
+  pub there : IsFrame taken frame
+  pub fresh : IsFrame old frame → ⊥
+  pub same : taken.segments ≡ old.segments
+  pub segments : KeepsSegments old taken
+  pub frames : KeepsFrames old taken
+  pub free : free_units taken.blocks + FRAME_UNITS ≡ free_units old.blocks
+  pub whole : units_in taken.blocks ≡ units_in old.blocks
+  pub taken_is : IsStore taken
+  pub fills : FillsFrame taken filled frame
+  pub lines : (i : ℕ) → i < 64 → frame_line filled frame i ≡ given i
+
+module _ (a : MemoryView) (taken filled : Store) (table : LedgerView) (s p : ℕ) (x : PageView) (frame : ℕ) (given : ℕ → List ℕ) (is : IsJoined a) (there : page_at a.table s p ≡ Some x) (bare : x.overlay ≡ None)
+    (shared : is_alone (ledger_of a.table) s p ≡ false) (takes : TakesFrame a.store taken filled frame given) (table_is : table ≡ with_frame a.table s p frame) where
+  abbrev placed : PageView
+  placed = record { entry = record { perms = x.entry.perms; frame = frame }; overlay = None }
+
+  abbrev changed : PageView
+  changed = record { entry = record { perms = x.entry.perms; frame = frame }; overlay = x.overlay }
+
+  changed_is : changed ≡ placed
+  changed_is = λ i. record { entry = record { perms = x.entry.perms; frame = frame }; overlay = bare i }
+
+  table_now : table ≡ table_with a.table s p (Some placed)
+  unfolding with_frame
+  table_now =
+      table_is ∙ tables.changed_there (λ (y : PageView). record { entry = record { perms = y.entry.perms; frame = frame }; overlay = y.overlay }) a.table s p x there
+      ∙ ap (with_page_at a.table s p) changed_is ∙ sym (with_some a.table s p placed)
+
+  pub frame_in : frame < a.table.frames
+  frame_in = omega (arith, frame_inside taken takes.taken_is frame takes.there, takes.whole, is.frames)
+
+  pub frame_new : IsNewFrame (state_of a) frame
+  frame_new = record {
+    inside = omega (arith, frame_in, state_frames a);
+    other = λ e. takes.fresh (subst (IsFrame a.store) (sym (e ∙ state_zero a)) is.zero);
+    unused = ap (λ (l : Ledger). is_unused l (frame + 1)) (state_books a) ∙ unused_from (ledger_of a.table) (frame + 1) (suc_isnt frame) nobody;
+  }
+    where
+      suc_isnt : (n : ℕ) → nat_eq (n + 1) 0 ≡ false
+      suc_isnt n = grind (arith, nat_tests)
+
+      nobody : has_origin (ledger_of a.table) (frame + 1) ≡ false
+      nobody = nobody_has a.table frame (λ q r y at_y same. takes.fresh (subst (IsFrame a.store) same (is.held q r y at_y).frame))
+
+  frame_kept : (other : ℕ) → IsFrame a.store other → KeepsFrame a.store filled other
+  frame_kept other f =
+      let one = takes.frames other f in
+      let two = takes.fills.frames other (λ e. takes.fresh (subst (IsFrame a.store) e f)) one.stays in
+      record { stays = two.stays; lines = λ line low. two.lines line low ∙ one.lines line low }
+
+  segments_kept : KeepsSegments a.store filled
+  segments_kept = segments_twice a.store taken filled takes.segments takes.fills.segments
+
+  units_now : units (ledger_of table) ≡ units (ledger_of a.table) + 16
+  unfolding frame_for
+  units_now =
+      let l = ledger_of a.table in
+      let held : holding_at l s p ≡ Some (holding_of a.table.zero_frame x) = tables.ledger_page a.table s p ∙ ap (option_map (holding_of a.table.zero_frame)) there in
+      let now : ledger_of table ≡ with_page l s p (holding_of a.table.zero_frame placed) = ap ledger_of (table_now ∙ with_some a.table s p placed) ∙ tables.ledger_put a.table s p placed in
+      let changes = units_changed l s p (holding_of a.table.zero_frame x) (holding_of a.table.zero_frame placed) held in
+      let none : class (length (lines_of x.overlay)) ≡ 0 = ap (λ (o : Option Entry). class (length (lines_of o))) bare ∙ class_none in
+      let before : frame_for (is_alone l s p) ≡ 0 = ap frame_for shared in
+      let zero_no : nat_eq frame a.table.zero_frame ≡ false = ne frame a.table.zero_frame (λ e. takes.fresh (subst (IsFrame a.store) (sym e) is.zero)) in
+      let origin : view.origin_of a.table.zero_frame frame ≡ frame + 1 = ap (λ b. cond b 0 (frame + 1)) zero_no in
+      let unused = unused_without l s p (frame + 1) (sym (ap (λ (k : Ledger). is_unused k (frame + 1)) (state_books a)) ∙ frame_new.unused) in
+      let after : frame_for (is_unused (without_page l s p) (view.origin_of a.table.zero_frame frame)) ≡ 16 = ap (λ o. frame_for (is_unused (without_page l s p) o)) origin ∙ ap frame_for unused in
+      omega (arith, ap units now, changes, none, before, after, class_none)
+    where
+      ne : (a b : ℕ) → (a ≡ b → ⊥) → nat_eq a b ≡ false
+      ne a b d = grind (arith, nat_tests, d)
+
+  placed_step : Step a (view_of filled table) s p (Some placed)
+  placed_step = record {
+    there = tables.there_space a.table s p x there;
+    number = (is.held s p x there).number;
+    low = (is.held s p x there).low;
+    table_is = table_now;
+    store = takes.fills.store;
+    whole = ap units_in takes.fills.blocks ∙ takes.whole;
+    segments = λ q r y e d at_y over. segments_kept e.block.unit (segment_of q r e) ((is.held q r y at_y).segment e over);
+    frames = λ q r y d at_y. frame_kept y.entry.frame (is.held q r y at_y).frame;
+    zero = frame_kept a.table.zero_frame is.zero;
+    held = λ y same. subst (IsHeld filled s p) (some_page placed y same) held_now;
+    owned = λ unit segment at_unit.
+        let before = sym (ap (λ l. Rattle.std.specs.Prelude.slice_index_or l unit None) (takes.fills.same ∙ takes.same)) ∙ at_unit in
+        inl (before, not_bare a s p x unit segment is there bare before);
+    count = omega (arith, is.count, units_now, takes.free, ap free_units takes.fills.blocks, ap units_in takes.fills.blocks, takes.whole);
+  }
+    where
+      held_now : IsHeld filled s p placed
+      held_now = record {
+        number = (is.held s p x there).number;
+        low = (is.held s p x there).low;
+        frame = takes.fills.stays;
+        segment = λ e h. absurd (no_entry e h);
+        lined = λ e h. absurd (no_entry e h);
+        size = λ e h. absurd (no_entry e h);
+      }
+        where
+          no_entry : (e : Entry) → None ≡ Some e → ⊥
+          no_entry e h = cc
+
+  pub placed_joined : IsJoined (view_of filled table)
+  placed_joined = stepped a (view_of filled table) s p (Some placed) is placed_step
+
+  placed_page : page_state filled placed ≡ moved_to (page_state a.store x) (page_lines given) frame
+  unfolding page_state
+  placed_page =
+      let lines = lines_same (frame_line filled frame) given takes.lines in
+      λ i. record { entry = record { perms = x.entry.perms; frame = frame }; own = []; lines = lines i; base = lines i }
+
+  placed_at : IsPlaced (state_of a) (state_of (view_of filled table)) s p (moved_to (page_state a.store x) (page_lines given))
+  unfolding state_with
+  placed_at = record {
+    frame = frame;
+    fresh = frame_new;
+    placed = state_stepped a (view_of filled table) s p (Some placed) is placed_step ∙ ap (put_page (state_of a) s p) placed_page;
+  }
+
+  pub is_placed : (lines : List (List ℕ)) → page_lines given ≡ lines → IfSome (page_in (state_of a) s p) (λ y. IsPlaced (state_of a) (state_of (view_of filled table)) s p (moved_to y lines))
+  is_placed lines same =
+      subst (λ o. IfSome o (λ y. IsPlaced (state_of a) (state_of (view_of filled table)) s p (moved_to y lines))) (sym (state_page_there a s p x there))
+      (subst (λ l. IsPlaced (state_of a) (state_of (view_of filled table)) s p (moved_to (page_state a.store x) l)) same placed_at)
+
+pub frame_inside_of : (old taken : Store) (table : LedgerView) (frame : ℕ) → IsJoined (view_of old table) → IsFrame taken frame → units_in taken.blocks ≡ units_in old.blocks → IsStore taken → frame < table.frames
+frame_inside_of old taken table frame is f whole store = omega (arith, frame_inside taken store frame f, whole, is.frames)

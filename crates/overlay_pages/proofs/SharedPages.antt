@@ -1,0 +1,461 @@
+use Rattle.std.specs.Prelude.{◌≡◌, ℕ, ◌+◌, ◌*◌, ◌^◌, ◌<◌, ◌≤◌, ◌⊎◌, ◌&&◌, not, Bool, true, false, cond, nat_eq, List, [], Option, Some, None, IsSome, is_some, length, refl}
+use Rattle.std.proofs.Common.{sym, ap, subst, ◌∙◌, arith, inl, inr}
+use Rattle.std.proofs.lemmas.Bool.{cases_eq}
+use Rattle.std.specs.Option.{option_and_then, option_map, option_map_or}
+use Rattle.std.specs.FinMap.{get, insert, remove}
+use Rattle.number_maps.specs.Keys.{insert_over}
+use Rattle.sizes.specs.declared.TheConstants.{PAGE_END}
+use Rattle.unit_map.specs.Pieces.{free_units, units_in}
+use Rattle.unit_map.specs.declared.map.Block.{Block}
+use Rattle.overlay_bits.specs.Lines.{AreLines, has_line}
+use Rattle.overlay_address.specs.Names.{overlay_page}
+use Rattle.overlay_mapping_table.specs.declared.entry.Entry.{Entry}
+use Rattle.line_store.specs.Lines.{line_of}
+use Rattle.page_table.specs.declared.entry.PageEntry.{PageEntry}
+use Rattle.ledger.specs.Ledger.{has_origin, is_unused}
+use Rattle.ledger.specs.Units.{class, units}
+use Rattle.ledger.specs.ClassLaws.{class_none}
+use Rattle.ledger.specs.UnitLaws.{frame_for, units_new}
+use Rattle.ledger.specs.AloneLaws.{origin_of, without_absent}
+use Rattle.segment_store.specs.declared.segment.Segment.{Segment}
+use Rattle.segment_store.specs.Kept.{IsStore}
+use Rattle.segment_store.specs.Store.{Store, IsFrame, frame_line, frame_place, line_in, place_of, segment_at}
+use Rattle.segment_store.specs.Changes.{Begins, HasLinesNow, KeepsFrames, KeepsOtherSegments, KeepsScratch, KeepsSegments, Lays, Lifts, block_of}
+use Rattle.space_ledger.specs.View as view
+use Rattle.space_ledger.specs.View.{LedgerView, PageView, SpaceView, frame_at, frame_awaiting, has_space, holding_of, ledger_of, lines_of, overlay_at, page_at, space_at, with_awaiting, with_page_at, with_page_shared, with_shared, with_space}
+use Rattle.space_ledger.specs.ViewLaws as tables
+use Rattle.overlay_pages.specs.Lines.{line_in_page, page_lines}
+use Rattle.overlay_pages.specs.LineLaws.{line_at, lines_same}
+use Rattle.overlay_pages.specs.State.{PageState, State, holds_space, of_pages, page_in, put_awaiting, put_page, put_shared, put_space, space_in}
+use Rattle.overlay_pages.specs.StateLaws as states
+use Rattle.overlay_pages.specs.Changes as changes
+use Rattle.overlay_pages.specs.Changes.{HasShareRoom, limit_of, shared_page, units_of}
+use Rattle.overlay_pages.specs.TableLaws.{state_awaiting_put}
+use Rattle.overlay_pages.specs.View.{IsHeld, IsJoined, IsOwned, MemoryView, line_seen, page_state, segment_of, state_of, view_of}
+use Rattle.overlay_pages.specs.ViewLaws.{state_awaiting, state_holds, state_page_there}
+use Rattle.overlay_pages.proofs.Steps.{Step, names_apart, some_page, state_stepped, state_with, stepped, table_with, with_some}
+use Rattle.segment_store.specs.Pointers.{capacity_of}
+use Rattle.segment_store.specs.Laws.{count_fits, refilled, stays_twice}
+use Rattle.overlay_pages.proofs.Joining.{Has, frames_twice, order_low, overlay_segment, overlay_set, page_with, segment_beside, sets_are, unit_low}
+use Rattle.overlay_pages.proofs.Growing.{free_is, there_still}
+use Rattle.overlay_pages.proofs.Tables.{awaiting_joined, entry_state, own_state}
+
+-- A page that is shared is one that is put, and awaits no more.
+
+pub shared_as : (v : LedgerView) (s p : ℕ) (x : PageView) → with_shared v s p x ≡ with_awaiting (with_page_at v s p x) s (remove (space_at v s).awaiting p)
+unfolding with_shared with_awaiting with_page_at with_space
+shared_as v s p x =
+    let one = view.with_pages (space_at v s) (insert (space_at v s).pages p x) in
+    let here : space_at (with_page_at v s p x) s ≡ one = tables.space_put v s one s refl in
+    let space : record { pages = insert (space_at v s).pages p x; awaiting = remove (space_at v s).awaiting p; speculating = (space_at v s).speculating } ≡
+    record { pages = (space_at (with_page_at v s p x) s).pages; awaiting = remove (space_at v s).awaiting p; speculating = (space_at (with_page_at v s p x) s).speculating } =
+    λ i. record { pages = (sym here i).pages; awaiting = remove (space_at v s).awaiting p; speculating = (sym here i).speculating } in
+    let all = sym (insert_over v.spaces s one _) ∙ ap (insert (insert v.spaces s one) s) space in
+    λ i. record { spaces = all i; frames = v.frames; zero_frame = v.zero_frame }
+
+pub put_shared_as : (v : State) (s p : ℕ) (x : PageState) → put_shared v s p x ≡ put_awaiting (put_page v s p x) s (remove (space_in v s).awaiting p)
+unfolding put_shared put_awaiting put_page put_space
+put_shared_as v s p x =
+    let one = of_pages (space_in v s) (insert (space_in v s).pages p x) in
+    let here : space_in (put_page v s p x) s ≡ one = states.space_put v s one s refl in
+    let space : record { pages = insert (space_in v s).pages p x; awaiting = remove (space_in v s).awaiting p; speculating = (space_in v s).speculating } ≡
+    record { pages = (space_in (put_page v s p x) s).pages; awaiting = remove (space_in v s).awaiting p; speculating = (space_in (put_page v s p x) s).speculating } =
+    λ i. record { pages = (sym here i).pages; awaiting = remove (space_in v s).awaiting p; speculating = (sym here i).speculating } in
+    let all = sym (insert_over v.spaces s one _) ∙ ap (insert (insert v.spaces s one) s) space in
+    λ i. record { spaces = all i; frames = v.frames; zero_frame = v.zero_frame }
+
+-- The page that is shared, and how it awaits.
+pub record Awaits (v : LedgerView) (from to p : ℕ) (o : Option Entry) : Type 0 where
+  pub x : PageView
+  pub there : page_at v from p ≡ Some x
+  pub is : x.overlay ≡ o
+  pub entry : PageEntry
+  pub waits : get (space_at v to).awaiting p ≡ Some entry
+  pub frame_is : entry.frame ≡ x.entry.frame
+
+pub awaits : (v : LedgerView) (from to p : ℕ) (o : Option Entry) → IsSome (page_at v from p) → overlay_at v from p ≡ o → frame_awaiting v to p ≡ frame_at v from p → Awaits v from to p o
+awaits v from to p o there over framed = at (get (space_at v to).awaiting p) refl
+  where
+    found : Has v from p o
+    found = page_with v from p there o over
+
+    framed_at : frame_awaiting v to p ≡ Some found.x.entry.frame
+    framed_at = framed ∙ ap (option_map (λ (x : PageView). x.entry.frame)) found.there
+
+    at : (w : Option PageEntry) → get (space_at v to).awaiting p ≡ w → Awaits v from to p o
+    at None e = absurd (nothing (sym (ap (option_map (λ (f : PageEntry). f.frame)) e) ∙ framed_at))
+      where
+        nothing : None ≡ Some found.x.entry.frame → ⊥
+        nothing h = cc
+    at (Some f) e = record {
+      x = found.x;
+      there = found.there;
+      is = found.is;
+      entry = f;
+      waits = e;
+      frame_is = ap (λ (n : Option ℕ). option_map_or (λ (k : ℕ). k) n 0) (sym (ap (option_map (λ (f : PageEntry). f.frame)) e) ∙ framed_at);
+    }
+
+-- the page in the tables, once it is shared
+pub shared_table : (v : LedgerView) (from to p : ℕ) (o : Option Entry) (block : Option Block) (w : Awaits v from to p o)
+    → with_page_shared v from to p block ≡ with_awaiting (with_page_at v to p (record { entry = w.entry; overlay = option_map (λ (b : Block). record { bits = lines_of (overlay_at v from p); block = b }) block })) to (remove (space_at v to).awaiting p)
+unfolding with_page_shared
+shared_table v from to p o block w =
+    ap (λ (f : Option PageEntry). option_map_or (λ (e : PageEntry). with_shared v to p (record { entry = e; overlay = option_map (λ (b : Block). record { bits = lines_of (overlay_at v from p); block = b }) block })) f v) w.waits
+    ∙ shared_as v to p (record { entry = w.entry; overlay = option_map (λ (b : Block). record { bits = lines_of (overlay_at v from p); block = b }) block })
+
+-- and in the state
+pub shared_state : (m : MemoryView) (from to p : ℕ) (o : Option Entry) (w : Awaits m.table from to p o)
+    → changes.with_shared (state_of m) from to p ≡ put_awaiting (put_page (state_of m) to p (shared_page w.entry (page_state m.store w.x))) to (remove (space_in (state_of m) to).awaiting p)
+unfolding changes.with_shared
+shared_state m from to p o w =
+    ap (λ (f : Option PageEntry). option_map_or (λ (e : PageEntry). option_map_or (λ x. put_shared (state_of m) to p (shared_page e x)) (page_in (state_of m) from p) (state_of m)) f (state_of m))
+    (ap (λ (t : Rattle.page_table.specs.Table.Pages). get t p) (state_awaiting m to) ∙ w.waits)
+    ∙ ap (λ (f : Option PageState). option_map_or (λ x. put_shared (state_of m) to p (shared_page w.entry x)) f (state_of m)) (state_page_there m from p w.x w.there)
+    ∙ put_shared_as (state_of m) to p (shared_page w.entry (page_state m.store w.x))
+
+-- What the store does for it: it keeps all segments and frames, and has a segment for the page where its overlay is.
+pub record SharesStore (m : MemoryView) (new : Store) (to p : ℕ) (o : Option Entry) : Type 0 where
+  pub segments : KeepsSegments m.store new
+  pub frames : KeepsFrames m.store new
+  pub whole : units_in new.blocks ≡ units_in m.store.blocks
+  pub store : IsStore new
+  pub now_there : (e : Entry) → o ≡ Some e → segment_at new e.block.unit ≡ Some (segment_of to p e)
+  pub lined : (e : Entry) → o ≡ Some e → 0 < length e.bits
+  pub size : (e : Entry) → o ≡ Some e → 2 ^ e.block.order ≡ class (length e.bits)
+  pub others : (unit : ℕ) (segment : Segment) → segment_at new unit ≡ Some segment → (segment_at m.store unit ≡ Some segment) ⊎ ((e : Entry) × (o ≡ Some e) × (e.block.unit ≡ unit))
+  pub free : free_units new.blocks + class (length (lines_of o)) ≡ free_units m.store.blocks
+
+module _ (m : MemoryView) (new : Store) (from to p : ℕ) (was now : Option Entry) (is : IsJoined m) (w : Awaits m.table from to p was) (there : has_space m.table to ≡ true) (absent : page_at m.table to p ≡ None)
+    (so : SharesStore m new to p now) where
+  abbrev page : PageView
+  page = record { entry = w.entry; overlay = now }
+
+  theirs : IsHeld m.store from p w.x
+  theirs = is.held from p w.x w.there
+
+  not_mine : (unit : ℕ) (segment : Segment) → segment_at m.store unit ≡ Some segment → segment.owner ≡ overlay_page to p → ⊥
+  not_mine unit segment at_unit named =
+      let own = is.owned unit segment at_unit in
+      let held = is.held own.space own.page own.x own.there in
+      names_apart to p own.space own.page (is.numbers to there) theirs.low held.number held.low (sym own.owner ∙ named)
+      (λ qq rr. nothing own.x (sym absent ∙ ap (λ n. page_at m.table n p) (sym qq) ∙ ap (page_at m.table own.space) (sym rr) ∙ own.there))
+    where
+      nothing : (x : PageView) → None ≡ Some x → ⊥
+      nothing x h = cc
+
+  -- its frame is one that a page has already
+  no_frame : frame_for (is_unused (ledger_of m.table) (view.origin_of m.table.zero_frame w.entry.frame)) ≡ 0
+  unfolding frame_for is_unused
+  no_frame = by (nat_eq (view.origin_of m.table.zero_frame w.entry.frame) 0)
+      (ap (λ f. has_origin (ledger_of m.table) (view.origin_of m.table.zero_frame f)) w.frame_is
+      ∙ origin_of (ledger_of m.table) from p (holding_of m.table.zero_frame w.x) (tables.ledger_page m.table from p ∙ ap (option_map (holding_of m.table.zero_frame)) w.there))
+    where
+      by : (b : Bool) → has_origin (ledger_of m.table) (view.origin_of m.table.zero_frame w.entry.frame) ≡ true
+          → ◌≡◌ {A = ℕ} (cond (not b && not (has_origin (ledger_of m.table) (view.origin_of m.table.zero_frame w.entry.frame))) 16 0) 0
+      by true had = refl
+      by false had = ap (λ t. cond {A = ℕ} (not t) 16 0) had
+
+  units_now : units (ledger_of (with_page_at m.table to p (record { entry = w.entry; overlay = now }))) ≡ units (ledger_of m.table) + class (length (lines_of now))
+  units_now =
+      ap units (tables.ledger_put m.table to p (record { entry = w.entry; overlay = now }))
+      ∙ units_new (ledger_of m.table) to p (holding_of m.table.zero_frame (record { entry = w.entry; overlay = now }))
+      (without_absent (ledger_of m.table) to p (tables.ledger_spaces m.table to ∙ there) (tables.ledger_page m.table to p ∙ ap (option_map (holding_of m.table.zero_frame)) absent))
+      ∙ ap (λ n. units (ledger_of m.table) + (n + class (length (lines_of now)))) no_frame
+      ∙ omega arith
+
+  share_step : Step m (view_of new (with_page_at m.table to p (record { entry = w.entry; overlay = now }))) to p (Some (record { entry = w.entry; overlay = now }))
+  share_step = record {
+    there = there;
+    number = is.numbers to there;
+    low = theirs.low;
+    table_is = sym (with_some m.table to p (record { entry = w.entry; overlay = now }));
+    store = so.store;
+    whole = so.whole;
+    segments = λ q r y e d at_y over. so.segments e.block.unit (segment_of q r e) ((is.held q r y at_y).segment e over);
+    frames = λ q r y d at_y. so.frames y.entry.frame (is.held q r y at_y).frame;
+    zero = so.frames m.table.zero_frame is.zero;
+    held = λ y same. subst (IsHeld new to p) (some_page (record { entry = w.entry; overlay = now }) y same) held_now;
+    owned = λ unit segment at_unit. at unit segment at_unit (so.others unit segment at_unit);
+    count = omega (arith, is.count, units_now, so.free, so.whole);
+  }
+    where
+      held_now : IsHeld new to p (record { entry = w.entry; overlay = now })
+      held_now = record {
+        number = is.numbers to there;
+        low = theirs.low;
+        frame = subst (IsFrame new) (sym w.frame_is) (so.frames w.x.entry.frame theirs.frame).stays;
+        segment = so.now_there;
+        lined = so.lined;
+        size = so.size;
+      }
+
+      at : (unit : ℕ) (segment : Segment) → segment_at new unit ≡ Some segment → (segment_at m.store unit ≡ Some segment) ⊎ ((e : Entry) × (now ≡ Some e) × (e.block.unit ≡ unit))
+          → ((segment_at m.store unit ≡ Some segment) × (segment.owner ≡ overlay_page to p → ⊥)) ⊎ IsOwned (table_with m.table to p (Some (record { entry = w.entry; overlay = now }))) unit segment
+      at unit segment at_unit (inl before) = inl (before, not_mine unit segment before)
+      at unit segment at_unit (inr own) = inr (subst (λ (t : LedgerView). IsOwned t unit segment) (sym (with_some m.table to p (record { entry = w.entry; overlay = now }))) (record {
+        space = to;
+        page = p;
+        x = record { entry = w.entry; overlay = now };
+        overlay = own.0;
+        there = tables.view_put m.table to p (record { entry = w.entry; overlay = now }) to p refl refl;
+        is = own.1;
+        unit_is = own.2;
+        owner = ap (λ (t : Option Segment). option_map_or (λ (g : Segment). g.owner) t 0) (sym at_unit ∙ ap (segment_at new) (sym own.2) ∙ so.now_there own.0 own.1);
+      }))
+
+  there_now : has_space (with_page_at m.table to p (record { entry = w.entry; overlay = now })) to ≡ true
+  there_now = tables.there_space (with_page_at m.table to p (record { entry = w.entry; overlay = now })) to p (record { entry = w.entry; overlay = now }) (tables.view_put m.table to p (record { entry = w.entry; overlay = now }) to p refl refl)
+
+  pub share_joined : IsJoined (view_of new (with_awaiting (with_page_at m.table to p (record { entry = w.entry; overlay = now })) to (remove (space_at m.table to).awaiting p)))
+  share_joined =
+      awaiting_joined new (with_page_at m.table to p (record { entry = w.entry; overlay = now })) to (remove (space_at m.table to).awaiting p)
+      (stepped m (view_of new (with_page_at m.table to p (record { entry = w.entry; overlay = now }))) to p (Some (record { entry = w.entry; overlay = now })) is share_step) there_now
+
+  pub share_state : page_state new (record { entry = w.entry; overlay = now }) ≡ shared_page w.entry (page_state m.store w.x)
+      → state_of (view_of new (with_awaiting (with_page_at m.table to p (record { entry = w.entry; overlay = now })) to (remove (space_at m.table to).awaiting p))) ≡ changes.with_shared (state_of m) from to p
+  unfolding state_with
+  share_state same =
+      state_awaiting_put new (with_page_at m.table to p (record { entry = w.entry; overlay = now })) to (remove (space_at m.table to).awaiting p)
+      ∙ ap (λ s. put_awaiting s to (remove (space_at m.table to).awaiting p))
+      (state_stepped m (view_of new (with_page_at m.table to p (record { entry = w.entry; overlay = now }))) to p (Some (record { entry = w.entry; overlay = now })) is share_step ∙ ap (put_page (state_of m) to p) same)
+      ∙ ap (λ (t : Rattle.page_table.specs.Table.Pages). put_awaiting (put_page (state_of m) to p (shared_page w.entry (page_state m.store w.x))) to (remove t p)) (sym (state_awaiting m to))
+      ∙ sym (shared_state m from to p was w)
+
+-- A page without an overlay.
+pub shares_none : (m : MemoryView) (to p : ℕ) → IsJoined m → SharesStore m m.store to p None
+shares_none m to p is = record {
+  segments = λ unit segment there. record { there = refl; places = λ line has. refl; lines = λ line has. refl };
+  frames = λ frame f. record { stays = f; lines = λ line low. refl };
+  whole = refl;
+  store = is.store;
+  now_there = λ e h. absurd (nothing e h);
+  lined = λ e h. absurd (nothing e h);
+  size = λ e h. absurd (nothing e h);
+  others = λ unit segment there. inl there;
+  free = omega (arith, class_none);
+}
+  where
+    nothing : (e : Entry) → None ≡ Some e → ⊥
+    nothing e h = cc
+
+pub bare_shared : (store : Store) (x : PageView) (entry : PageEntry) → x.overlay ≡ None → entry.frame ≡ x.entry.frame → page_state store (record { entry = entry; overlay = None }) ≡ shared_page entry (page_state store x)
+unfolding page_state
+bare_shared store x entry bare frame_is =
+    let own : [] ≡ lines_of x.overlay = sym (ap lines_of bare) in
+    let base : page_lines (frame_line store entry.frame) ≡ page_lines (frame_line store x.entry.frame) = ap (λ f. page_lines (frame_line store f)) frame_is in
+    let lines : page_lines (frame_line store entry.frame) ≡ page_lines (line_seen store x) = base ∙ sym (ap (λ (o : Option Entry). page_lines (line_seen store (record { entry = x.entry; overlay = o }))) bare) in
+    λ i. record { entry = entry; own = own i; lines = lines i; base = base i }
+
+-- A page with an overlay: its lines come into a segment of their own, from scratch.
+
+-- what the two steps of a beginning leave
+pub record SharesOverlay (old began new : Store) (to p : ℕ) (block : Block) (bits : List ℕ) : Type 0 where
+  pub begins : Begins old began (overlay_page to p) block
+  pub segments : KeepsSegments old began
+  pub frames : KeepsFrames old began
+  pub scratch : KeepsScratch old began
+  pub loses : free_units began.blocks + 2 ^ block.order ≡ free_units old.blocks
+  pub whole : units_in began.blocks ≡ units_in old.blocks
+  pub began_is : IsStore began
+  pub lays : Lays began new block bits
+  pub laid_lines : HasLinesNow began new block bits
+  pub laid_kept : KeepsOtherSegments began block.unit new
+  pub laid_frames : KeepsFrames began new
+  pub new_is : IsStore new
+
+module _ (m : MemoryView) (began new : Store) (to p : ℕ) (block : Block) (bits : List ℕ) (is : IsJoined m) (size : 2 ^ block.order ≡ class (length bits)) (some : 0 < length bits)
+    (so : SharesOverlay m.store began new to p block bits) where
+  now_segment : segment_at new block.unit ≡ Some (record { owner = overlay_page to p; order = block.order; bits = bits })
+  now_segment =
+      ap (λ l. Rattle.std.specs.Prelude.slice_index_or l block.unit None) so.laid_lines.segments
+      ∙ refilled began.segments block.unit (record { owner = overlay_page to p; order = block.order; bits = [] }) bits so.begins.there (unit_low began so.began_is block.unit _ so.begins.there)
+
+  kept_all : KeepsSegments m.store new
+  kept_all unit segment there =
+      let first = so.segments unit segment there in
+      stays_twice m.store began new (block_of unit segment) first (so.laid_kept unit segment away (first.there ∙ there))
+    where
+      away : unit ≡ block.unit → ⊥
+      away same = nothing (sym there ∙ ap (segment_at m.store) same ∙ so.begins.fresh)
+        where
+          nothing : Some segment ≡ None → ⊥
+          nothing h = cc
+
+  pub shares_overlay : SharesStore m new to p (Some (record { bits = bits; block = block }))
+  shares_overlay = record {
+    segments = kept_all;
+    frames = frames_twice m.store began new so.frames so.laid_frames;
+    whole = ap units_in so.laid_lines.blocks ∙ so.whole;
+    store = so.new_is;
+    now_there = λ e same. subst (λ (f : Entry). segment_at new f.block.unit ≡ Some (segment_of to p f)) (given e same) now_segment;
+    lined = λ e same. subst (λ (f : Entry). 0 < length f.bits) (given e same) some;
+    size = λ e same. subst (λ (f : Entry). 2 ^ f.block.order ≡ class (length f.bits)) (given e same) size;
+    others = λ unit segment there. at unit segment there (cases_eq unit block.unit);
+    free = omega (arith, ap free_units so.laid_lines.blocks, so.loses, size);
+  }
+    where
+      given : (e : Entry) → Some (record { bits = bits; block = block }) ≡ Some e → record { bits = bits; block = block } ≡ e
+      given e same = ap (λ (o : Option Entry). option_map_or (λ (y : Entry). y) o e) same
+
+      at : (unit : ℕ) (segment : Segment) → segment_at new unit ≡ Some segment → (unit ≡ block.unit) ⊎ (unit ≡ block.unit → ⊥)
+          → (segment_at m.store unit ≡ Some segment) ⊎ ((e : Entry) × (Some (record { bits = bits; block = block }) ≡ Some e) × (e.block.unit ≡ unit))
+      at unit segment there (inl same) = inr (record { bits = bits; block = block }, refl, sym same)
+      at unit segment there (inr away) =
+          inl (sym (segment_beside began block.unit new.segments _ so.laid_lines.segments unit away ∙ segment_beside m.store block.unit began.segments _ so.begins.segments unit away) ∙ there)
+
+-- The lines of the page, wherever its overlay is: those that were lifted.
+pub lifted_page : (a m : MemoryView) (lifted began new : Store) (from p to : ℕ) (xa xm : PageView) (ea : Entry) (entry : PageEntry) (block : Block) (bits : List ℕ) → xa.overlay ≡ Some ea → bits ≡ ea.bits → page_state m.store xm ≡ page_state a.store xa
+    → IsHeld m.store from p xm → AreLines bits → Lifts a.store lifted ea.block ea.bits → KeepsScratch lifted m.store → SharesOverlay m.store began new to p block bits → entry.frame ≡ xm.entry.frame
+    → page_state new (record { entry = entry; overlay = Some (record { bits = bits; block = block }) }) ≡ shared_page entry (page_state m.store xm)
+unfolding page_state
+lifted_page a m lifted began new from p to xa xm ea entry block bits over bits_is same held are lifts scratch so frame_is =
+    let own : bits ≡ lines_of xm.overlay = bits_is ∙ ap lines_of (sym over) ∙ ap (λ (y : PageState). y.own) (sym same) in
+    let base = lines_same (frame_line new entry.frame) (frame_line m.store xm.entry.frame) (λ i low. ap (λ f. frame_line new f i) frame_is ∙ frames i low) in
+    let lines = lines_same (line_seen new (record { entry = entry; overlay = Some (record { bits = bits; block = block }) })) (line_seen m.store xm) (λ i low. each (has_line bits i) i refl low) in
+    λ i. record { entry = entry; own = own i; lines = lines i; base = base i }
+  where
+    frames : (i : ℕ) → i < 64 → frame_line new xm.entry.frame i ≡ frame_line m.store xm.entry.frame i
+    frames = (frames_twice m.store began new so.frames so.laid_frames xm.entry.frame held.frame).lines
+
+    -- a line of the page as it was, and is
+    seen : (i : ℕ) → i < 64 → line_seen m.store xm i ≡ line_seen a.store xa i
+    seen i low = sym (line_at (line_seen m.store xm) i low) ∙ ap (λ (y : PageState). line_in_page y.lines i) same ∙ line_at (line_seen a.store xa) i low
+
+    outside : (i : ℕ) → has_line bits i ≡ false → line_seen m.store xm i ≡ frame_line m.store xm.entry.frame i
+    outside i lacks = at xm.overlay refl
+      where
+        at : (o : Option Entry) → xm.overlay ≡ o → line_seen m.store xm i ≡ frame_line m.store xm.entry.frame i
+        at None e = ap (λ (o : Option Entry). line_seen m.store (record { entry = xm.entry; overlay = o }) i) e
+        at (Some f) e =
+            let set : f.bits ≡ bits = ap lines_of (sym e) ∙ ap (λ (y : PageState). y.own) same ∙ ap lines_of over ∙ sym bits_is in
+            ap (λ (o : Option Entry). line_seen m.store (record { entry = xm.entry; overlay = o }) i) e
+            ∙ ap (λ b. line_of m.store.lines (cond b (place_of m.store f.block i) (frame_place xm.entry.frame i))) (ap (λ l. has_line l i) set ∙ lacks)
+
+    inside : (i : ℕ) → has_line bits i ≡ true → line_seen a.store xa i ≡ line_in a.store ea.block i
+    inside i has =
+        ap (λ (o : Option Entry). line_seen a.store (record { entry = xa.entry; overlay = o }) i) over
+        ∙ ap (λ b. line_of a.store.lines (cond b (place_of a.store ea.block i) (frame_place xa.entry.frame i))) (ap (λ l. has_line l i) (sym bits_is) ∙ has)
+
+    each : (b : Bool) (i : ℕ) → has_line bits i ≡ b → i < 64 → line_seen new (record { entry = entry; overlay = Some (record { bits = bits; block = block }) }) i ≡ line_seen m.store xm i
+    each true i has low =
+        ap (λ b. line_of new.lines (cond b (place_of new block i) (frame_place entry.frame i))) has
+        ∙ so.lays.lines i has ∙ so.scratch i low ∙ scratch i low ∙ lifts.lifted i (ap (λ l. has_line l i) (sym bits_is) ∙ has) ∙ sym (inside i has) ∙ sym (seen i low)
+    each false i has low =
+        ap (λ b. line_of new.lines (cond b (place_of new block i) (frame_place entry.frame i))) has
+        ∙ ap (λ f. frame_line new f i) frame_is ∙ frames i low ∙ sym (outside i has)
+
+-- The page where segments moved.
+module _ (a m : MemoryView) (from to p : ℕ) (e : Entry) (is : IsJoined a) (m_is : IsJoined m) (same : state_of m ≡ state_of a) (there : IsSome (page_at a.table from p)) (over : overlay_at a.table from p ≡ Some e)
+    (framed : frame_awaiting a.table to p ≡ frame_at a.table from p) where
+  abbrev first : Has a.table from p (Some e)
+  first = page_with a.table from p there (Some e) over
+
+  first_held : IsHeld a.store from p first.x
+  first_held = is.held from p first.x first.there
+
+  pub share_order : e.block.order ≤ 4
+  share_order = order_low a.store from p first.x e is.store first_held first.is
+
+  pub share_size : 2 ^ e.block.order ≡ class (length e.bits)
+  share_size = first_held.size e first.is
+
+  pub share_some : 0 < length e.bits
+  share_some = first_held.lined e first.is
+
+  pub share_fits : length e.bits ≤ capacity_of e.block.order
+  share_fits = subst (λ l. length l ≤ capacity_of e.block.order) (overlay_set a from p e is there over) (count_fits a.store is.store e.block (overlay_segment a from p e is there over))
+
+  pub share_room : HasShareRoom (state_of a) from p → 2 ^ e.block.order ≤ free_units m.store.blocks
+  unfolding page_state
+  share_room room =
+      let enough = room (page_state a.store first.x) (state_page_there a from p first.x first.there) in
+      omega (arith, free_is m m_is, ap units_of same, ap limit_of same, enough, share_size, ap (λ (o : Option Entry). class (length (lines_of o))) first.is)
+
+  pub share_low : p < PAGE_END
+  share_low = first_held.low
+
+  pub share_there : IsSome (page_at m.table from p)
+  share_there = there_still a m from p same there
+
+  own_now : (o : Option Entry) → overlay_at m.table from p ≡ o → lines_of o ≡ e.bits
+  own_now o over_m =
+      ap lines_of (sym over_m)
+      ∙ ap (λ (f : Option (List ℕ)). option_map_or (λ (l : List ℕ). l) f []) (sym (own_state m from p share_there) ∙ ap (λ s. option_map (λ (x : PageState). x.own) (page_in s from p)) same ∙ own_state a from p there)
+      ∙ ap lines_of over
+
+  pub share_over : is_some (overlay_at m.table from p) ≡ true
+  share_over = at (overlay_at m.table from p) refl
+    where
+      at : (o : Option Entry) → overlay_at m.table from p ≡ o → is_some (overlay_at m.table from p) ≡ true
+      at None none = absurd (omega (arith, share_some, ap length (own_now None none)))
+      at (Some f) h = ap is_some h
+
+  pub share_bits : lines_of (overlay_at m.table from p) ≡ e.bits
+  share_bits = own_now (overlay_at m.table from p) refl
+
+  pub share_waits : (space_at m.table to).awaiting ≡ (space_at a.table to).awaiting
+  share_waits = sym (state_awaiting m to) ∙ ap (λ (s : State). (space_in s to).awaiting) same ∙ state_awaiting a to
+
+  frame_same : frame_at m.table from p ≡ frame_at a.table from p
+  frame_same =
+      framed_of (page_at m.table from p) ∙ ap (option_map (λ (f : PageEntry). f.frame)) (entry_state m from p ∙ ap (λ s. option_map (λ (x : PageState). x.entry) (page_in s from p)) same ∙ sym (entry_state a from p))
+      ∙ sym (framed_of (page_at a.table from p))
+    where
+      framed_of : (o : Option PageView) → option_map (λ (x : PageView). x.entry.frame) o ≡ option_map (λ (f : PageEntry). f.frame) (option_map (λ (x : PageView). x.entry) o)
+      framed_of None = refl
+      framed_of (Some x) = refl
+
+  pub share_frame : frame_awaiting m.table to p ≡ frame_at m.table from p
+  share_frame = ap (λ (t : Rattle.page_table.specs.Table.Pages). option_map (λ (f : PageEntry). f.frame) (get t p)) share_waits ∙ framed ∙ sym frame_same
+
+  pub share_space : has_space a.table to ≡ true → has_space m.table to ≡ true
+  share_space h = sym (state_holds m to) ∙ ap (λ s. holds_space s to) same ∙ state_holds a to ∙ h
+
+  pub share_sets : AreLines e.bits
+  share_sets = sets_are a.store from p first.x e is.store first_held first.is
+
+  abbrev then_waits : Awaits m.table from to p (overlay_at m.table from p)
+  then_waits = awaits m.table from to p (overlay_at m.table from p) share_there refl share_frame
+
+  pub share_same : page_state m.store then_waits.x ≡ page_state a.store first.x
+  share_same =
+      ap (λ (o : Option PageState). option_map_or (λ (y : PageState). y) o (page_state a.store first.x))
+      (sym (state_page_there m from p then_waits.x then_waits.there) ∙ ap (λ s. page_in s from p) same ∙ state_page_there a from p first.x first.there)
+
+-- The page with its overlay, once it is shared.
+module _ (a m : MemoryView) (lifted began new : Store) (from to p : ℕ) (e : Entry) (block : Block) (is : IsJoined a) (m_is : IsJoined m) (same : state_of m ≡ state_of a) (there : IsSome (page_at a.table from p)) (over : overlay_at a.table from p ≡ Some e)
+    (framed : frame_awaiting a.table to p ≡ frame_at a.table from p) (space : has_space a.table to ≡ true) (absent : page_at m.table to p ≡ None) (order_is : block.order ≡ e.block.order)
+    (lifts : Lifts a.store lifted e.block e.bits) (scratch : KeepsScratch lifted m.store) (so : SharesOverlay m.store began new to p block e.bits) where
+  abbrev now_waits : Awaits m.table from to p (overlay_at m.table from p)
+  now_waits = awaits m.table from to p (overlay_at m.table from p) (share_there a m from to p e is m_is same there over framed) refl (share_frame a m from to p e is m_is same there over framed)
+
+  pub overlaid_size : 2 ^ block.order ≡ class (length e.bits)
+  overlaid_size = ap (λ k. 2 ^ k) order_is ∙ share_size a m from to p e is m_is same there over framed
+
+  abbrev now_shares : SharesStore m new to p (Some (record { bits = e.bits; block = block }))
+  now_shares = shares_overlay m began new to p block e.bits m_is overlaid_size (share_some a m from to p e is m_is same there over framed) so
+
+  pub overlaid_table : with_page_shared m.table from to p (Some block)
+      ≡ with_awaiting (with_page_at m.table to p (record { entry = now_waits.entry; overlay = Some (record { bits = e.bits; block = block }) })) to (remove (space_at m.table to).awaiting p)
+  overlaid_table =
+      shared_table m.table from to p (overlay_at m.table from p) (Some block) now_waits
+      ∙ ap (λ bits. with_awaiting (with_page_at m.table to p (record { entry = now_waits.entry; overlay = Some (record { bits = bits; block = block }) })) to (remove (space_at m.table to).awaiting p))
+      (share_bits a m from to p e is m_is same there over framed)
+
+  overlaid_joined : (table : LedgerView) → table ≡ with_page_shared m.table from to p (Some block) → IsJoined (view_of new table)
+  overlaid_joined table is_table =
+      subst (λ t. IsJoined (view_of new t)) (sym (is_table ∙ overlaid_table))
+      (share_joined m new from to p (overlay_at m.table from p) (Some (record { bits = e.bits; block = block })) m_is now_waits (share_space a m from to p e is m_is same there over framed space) absent now_shares)
+
+  overlaid_state : (table : LedgerView) → table ≡ with_page_shared m.table from to p (Some block) → state_of (view_of new table) ≡ changes.with_shared (state_of a) from to p
+  overlaid_state table is_table =
+      ap (λ t. state_of (view_of new t)) (is_table ∙ overlaid_table)
+      ∙ share_state m new from to p (overlay_at m.table from p) (Some (record { bits = e.bits; block = block })) m_is now_waits (share_space a m from to p e is m_is same there over framed space) absent now_shares
+      (lifted_page a m lifted began new from p to (page_with a.table from p there (Some e) over).x now_waits.x e now_waits.entry block e.bits (page_with a.table from p there (Some e) over).is refl (share_same a m from to p e is m_is same there over framed)
+      (m_is.held from p now_waits.x now_waits.there) (share_sets a m from to p e is m_is same there over framed) lifts scratch so now_waits.frame_is)
+      ∙ ap (λ (s : State). changes.with_shared s from to p) same
+
+  pub overlaid : (table : LedgerView) → table ≡ with_page_shared m.table from to p (Some block)
+      → IsJoined (view_of new table) × (state_of (view_of new table) ≡ changes.with_shared (state_of a) from to p)
+  overlaid table is_table = (overlaid_joined table is_table, overlaid_state table is_table)

@@ -1,0 +1,6 @@
+use Rattle.overlay_pages.specs.View.{view_of}
+use Rattle.overlay_pages.proofs.Joining.{overlay_order}
+use Rattle.overlay_pages.proofs.overlays.join.Goals as goal
+
+pub capacity-requires : goal.capacity-requires
+capacity-requires c = overlay_order (view_of c.args.store.now c.args.ledger.now) c.args.space c.args.page c.args.entry c.requires.joined c.requires.there c.requires.overlaid

@@ -1,0 +1,26 @@
+use Rattle.std.proofs.Common.{sym, ap, subst, ◌∙◌}
+use Rattle.overlay_pages.specs.View.{IsJoined, MemoryView, state_of, view_of}
+use Rattle.overlay_pages.specs.State.{cut_space, holds_space, space_in}
+use Rattle.overlay_pages.specs.ViewLaws.{state_awaiting, state_holds}
+use Rattle.overlay_pages.specs.TableLaws.{state_cut_space}
+use Rattle.overlay_pages.proofs.Tables.{no_pages_state, space_gone}
+use Rattle.overlay_pages.proofs.pages.OverlayPages.end_space.Goals as goal
+
+pub end_space-requires-clause-there : goal.end_space-requires-clause-there
+end_space-requires-clause-there c = sym (state_holds (view_of c.self.inside.store c.self.inside.ledger) c.args.space) ∙ ap (λ (m : MemoryView). holds_space (state_of m) c.args.space) c.self.view_is ∙ c.requires.there
+
+pub end_space-requires-clause-empty : goal.end_space-requires-clause-empty
+end_space-requires-clause-empty c = no_pages_state (view_of c.self.inside.store c.self.inside.ledger) c.args.space (ap (λ (m : MemoryView). (space_in (state_of m) c.args.space).pages) c.self.view_is ∙ c.requires.empty)
+
+pub end_space-requires-clause-settled : goal.end_space-requires-clause-settled
+end_space-requires-clause-settled c = sym (state_awaiting (view_of c.self.inside.store c.self.inside.ledger) c.args.space) ∙ ap (λ (m : MemoryView). (space_in (state_of m) c.args.space).awaiting) c.self.view_is ∙ c.requires.settled
+
+pub invariant_of-self : goal.invariant_of-self
+invariant_of-self c =
+    subst (λ t. IsJoined (view_of c.self.inside.store t)) (sym c.end_space.ensures) (space_gone c.self.inside.store c.self.inside.ledger c.args.space c.self.invariant (sym (state_holds (view_of c.self.inside.store c.self.inside.ledger) c.args.space) ∙ ap (λ (m : MemoryView). holds_space (state_of m) c.args.space) c.self.view_is ∙ c.requires.there)
+    (no_pages_state (view_of c.self.inside.store c.self.inside.ledger) c.args.space (ap (λ (m : MemoryView). (space_in (state_of m) c.args.space).pages) c.self.view_is ∙ c.requires.empty)))
+
+pub returns : goal.returns
+returns c =
+    ap (λ t. state_of (view_of c.self.inside.store t)) c.end_space.ensures ∙ state_cut_space c.self.inside.store c.self.inside.ledger c.args.space
+    ∙ ap (λ (m : MemoryView). cut_space (state_of m) c.args.space) c.self.view_is

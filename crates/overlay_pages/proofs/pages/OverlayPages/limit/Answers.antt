@@ -1,0 +1,12 @@
+use Rattle.std.proofs.Common.{sym, ap, ◌∙◌, arith}
+use Rattle.overlay_pages.specs.View.{MemoryView, state_of, view_of}
+use Rattle.std.proofs.Common.{◌*◌}
+use Rattle.overlay_pages.specs.Changes.{limit_of}
+use Rattle.overlay_pages.specs.ViewLaws.{state_frames}
+use Rattle.overlay_pages.proofs.pages.OverlayPages.limit.Goals as goal
+
+pub returns-clause-limit : goal.returns-clause-limit
+returns-clause-limit c = ap (λ n. 16 * n) (c.frames.ensures ∙ sym (state_frames (view_of c.self.inside.store c.self.inside.ledger))) ∙ ap (λ (m : MemoryView). limit_of (state_of m)) c.self.view_is
+
+pub returns-clause-few : goal.returns-clause-few
+returns-clause-few c = omega (arith, c.frames.ensures, c.self.invariant.frames, c.self.invariant.store.pieces.few)

@@ -1,0 +1,9 @@
+use Rattle.std.proofs.Common.{sym, ap, ◌∙◌}
+use Rattle.overlay_pages.specs.View.{MemoryView, state_of, view_of}
+use Rattle.ledger.specs.Units.{own_lines}
+use Rattle.overlay_pages.specs.State.{books}
+use Rattle.overlay_pages.specs.ViewLaws.{state_books}
+use Rattle.overlay_pages.proofs.pages.OverlayPages.lines.Goals as goal
+
+pub returns : goal.returns
+returns c = c.lines.ensures ∙ ap own_lines (sym (state_books (view_of c.self.inside.store c.self.inside.ledger))) ∙ ap (λ (m : MemoryView). own_lines (books (state_of m))) c.self.view_is

@@ -1,0 +1,21 @@
+use Rattle.std.proofs.Common.{sym, ap, subst, ◌∙◌, arith}
+use Rattle.overlay_pages.specs.View.{MemoryView, state_of, view_of}
+use Rattle.std.specs.FinMap.{len}
+use Rattle.overlay_pages.specs.State.{space_in}
+use Rattle.overlay_pages.specs.TableLaws.{state_count}
+use Rattle.space_ledger.specs.Calls.{NamesOnce}
+use Rattle.overlay_pages.specs.Calls.{entries_in}
+use Rattle.overlay_pages.specs.ViewLaws.{state_zero}
+use Rattle.overlay_pages.proofs.Tables.{entries_state, pages_few}
+use Rattle.overlay_pages.proofs.pages.OverlayPages.pages.Goals as goal
+
+pub returns-clause-count : goal.returns-clause-count
+returns-clause-count c = c.pages.ensures.count ∙ sym (state_count (view_of c.self.inside.store c.self.inside.ledger) c.args.space) ∙ ap (λ (m : MemoryView). len (space_in (state_of m) c.args.space).pages) c.self.view_is
+
+pub returns-clause-few : goal.returns-clause-few
+returns-clause-few c = omega (arith, c.pages.ensures.count, pages_few (view_of c.self.inside.store c.self.inside.ledger) c.args.space c.self.invariant)
+
+pub returns-clause-once : goal.returns-clause-once
+returns-clause-once c =
+    subst (λ (m : MemoryView). NamesOnce (state_of m).zero_frame (entries_in (state_of m) c.args.space)) c.self.view_is
+    (subst (λ z. NamesOnce z (entries_in (state_of (view_of c.self.inside.store c.self.inside.ledger)) c.args.space)) (sym (state_zero (view_of c.self.inside.store c.self.inside.ledger))) (subst (NamesOnce c.self.inside.ledger.zero_frame) (entries_state (view_of c.self.inside.store c.self.inside.ledger) c.args.space) c.pages.ensures.once))

@@ -1,0 +1,42 @@
+use Rattle.std.proofs.Common.{sym, ap, subst, ◌∙◌, arith}
+use Rattle.std.specs.Option.{IsSome}
+use Rattle.overlay_pages.specs.State.{page_in}
+use Rattle.overlay_pages.specs.View.{HasOwnPlace, MemoryView, state_of, view_of}
+use Rattle.overlay_pages.specs.ViewLaws.{state_frames}
+use Rattle.overlay_pages.proofs.OwnPlaces.{has_own_place}
+use Rattle.overlay_pages.proofs.Tables.{page_some}
+use Rattle.overlay_pages.proofs.Lending.{frame_low, outside_inside, segment_has, segment_inside, segment_there}
+use Rattle.overlay_pages.proofs.pages.OverlayPages.place.Goals as goal
+
+pub spot_of-requires-clause-there : goal.spot_of-requires-clause-there
+spot_of-requires-clause-there c = page_some (view_of c.self.inside.store c.self.inside.ledger) c.args.space c.args.page (subst (λ (m : MemoryView). IsSome (page_in (state_of m) c.args.space c.args.page)) (sym c.self.view_is) c.requires.there)
+
+pub place-requires-clause-there : goal.place-requires-clause-there
+place-requires-clause-there c = segment_there (view_of c.self.inside.store c.self.inside.ledger) c.args.space c.args.page c.args.line c.in-Segment.block c.self.invariant c.in-Segment.ensures
+
+pub place-requires-clause-line : goal.place-requires-clause-line
+place-requires-clause-line c = segment_has (view_of c.self.inside.store c.self.inside.ledger) c.args.space c.args.page c.args.line c.in-Segment.block c.self.invariant c.in-Segment.ensures
+
+pub overflow_mul-result : goal.overflow_mul-result
+overflow_mul-result c = record { fits = omega (arith, frame_low (view_of c.self.inside.store c.self.inside.ledger) c.args.space c.args.page c.args.line c.in-Frame.frame c.self.invariant c.in-Frame.ensures, c.self.invariant.store.pieces.few) }
+
+pub overflow_add-result : goal.overflow_add-result
+overflow_add-result c = record { fits = omega (arith, frame_low (view_of c.self.inside.store c.self.inside.ledger) c.args.space c.args.page c.args.line c.in-Frame.frame c.self.invariant c.in-Frame.ensures, c.self.invariant.store.pieces.few, c.from.ensures, c.requires.line) }
+
+pub returns-in-Segment-clause-inside : goal.returns-in-Segment-clause-inside
+returns-in-Segment-clause-inside c = omega (arith, segment_inside (view_of c.self.inside.store c.self.inside.ledger) c.args.space c.args.page c.args.line c.in-Segment.block c.self.invariant c.in-Segment.ensures, c.place.ensures.place, (sym (state_frames (view_of c.self.inside.store c.self.inside.ledger)) ∙ ap (λ (m : MemoryView). (state_of m).frames) c.self.view_is))
+
+pub returns-in-Frame-clause-inside : goal.returns-in-Frame-clause-inside
+returns-in-Frame-clause-inside c = omega (arith, outside_inside (view_of c.self.inside.store c.self.inside.ledger) c.args.space c.args.page c.args.line c.in-Frame.frame c.self.invariant c.in-Frame.ensures c.requires.line, c.from.ensures, (sym (state_frames (view_of c.self.inside.store c.self.inside.ledger)) ∙ ap (λ (m : MemoryView). (state_of m).frames) c.self.view_is))
+
+pub returns-in-Segment-clause-own : goal.returns-in-Segment-clause-own
+returns-in-Segment-clause-own c =
+    subst (λ (m : MemoryView). HasOwnPlace m c.args.space c.args.page c.args.line) c.self.view_is
+    (has_own_place (view_of c.self.inside.store c.self.inside.ledger) c.self.invariant c.args.space c.args.page c.args.line
+    (page_some (view_of c.self.inside.store c.self.inside.ledger) c.args.space c.args.page (subst (λ (m : MemoryView). IsSome (page_in (state_of m) c.args.space c.args.page)) (sym c.self.view_is) c.requires.there)) c.requires.line)
+
+pub returns-in-Frame-clause-own : goal.returns-in-Frame-clause-own
+returns-in-Frame-clause-own c =
+    subst (λ (m : MemoryView). HasOwnPlace m c.args.space c.args.page c.args.line) c.self.view_is
+    (has_own_place (view_of c.self.inside.store c.self.inside.ledger) c.self.invariant c.args.space c.args.page c.args.line
+    (page_some (view_of c.self.inside.store c.self.inside.ledger) c.args.space c.args.page (subst (λ (m : MemoryView). IsSome (page_in (state_of m) c.args.space c.args.page)) (sym c.self.view_is) c.requires.there)) c.requires.line)

@@ -1,0 +1,35 @@
+use Rattle.std.proofs.Common.{sym, ap, subst, ◌∙◌}
+use Rattle.std.specs.Option.{IsSome, option_map}
+use Rattle.std.specs.FinMap.{get}
+use Rattle.page_table.specs.Table.{Pages}
+use Rattle.page_table.specs.declared.entry.PageEntry.{PageEntry}
+use Rattle.space_ledger.specs.Space.{IsLeast}
+use Rattle.overlay_pages.specs.State.{holds_space, page_in, space_in}
+use Rattle.overlay_pages.specs.Changes.{HasShareRoom, with_shared}
+use Rattle.overlay_pages.specs.Calls.{AwaitsLike}
+use Rattle.overlay_pages.specs.View.{MemoryView, state_of, view_of}
+use Rattle.overlay_pages.specs.ViewLaws.{state_awaiting, state_holds}
+use Rattle.overlay_pages.proofs.Tables.{frame_of_page, page_some}
+use Rattle.overlay_pages.proofs.pages.OverlayPages.share_page.Goals as goal
+
+pub share-requires-clause-there : goal.share-requires-clause-there
+share-requires-clause-there c = page_some (view_of c.self.inside.store c.self.inside.ledger) c.args.from c.args.page (subst (λ (m : MemoryView). IsSome (page_in (state_of m) c.args.from c.args.page)) (sym c.self.view_is) c.requires.there)
+
+pub share-requires-clause-space : goal.share-requires-clause-space
+share-requires-clause-space c = sym (state_holds (view_of c.self.inside.store c.self.inside.ledger) c.args.to) ∙ ap (λ (m : MemoryView). holds_space (state_of m) c.args.to) c.self.view_is ∙ c.requires.space
+
+pub share-requires-clause-least : goal.share-requires-clause-least
+share-requires-clause-least c =
+    subst (λ (t : Pages). IsLeast t c.args.page) (sym (ap (λ (m : MemoryView). (space_in (state_of m) c.args.to).awaiting) c.self.view_is) ∙ state_awaiting (view_of c.self.inside.store c.self.inside.ledger) c.args.to) c.requires.least
+
+pub share-requires-clause-frame : goal.share-requires-clause-frame
+share-requires-clause-frame c =
+    sym (ap (λ (t : Pages). option_map (λ (e : PageEntry). e.frame) (get t c.args.page)) (state_awaiting (view_of c.self.inside.store c.self.inside.ledger) c.args.to))
+    ∙ subst (λ (m : MemoryView). AwaitsLike (state_of m) c.args.from c.args.to c.args.page) (sym c.self.view_is) c.requires.frame
+    ∙ frame_of_page (view_of c.self.inside.store c.self.inside.ledger) c.args.from c.args.page
+
+pub share-requires-clause-room : goal.share-requires-clause-room
+share-requires-clause-room c = subst (λ (m : MemoryView). HasShareRoom (state_of m) c.args.from c.args.page) (sym c.self.view_is) c.requires.room
+
+pub returns : goal.returns
+returns c = c.share.ensures.state ∙ ap (λ (m : MemoryView). with_shared (state_of m) c.args.from c.args.to c.args.page) c.self.view_is

@@ -1,0 +1,20 @@
+use Rattle.std.proofs.Common.{sym, subst}
+use Rattle.overlay_pages.specs.View.{MemoryView, state_of, view_of}
+use Rattle.std.specs.Option.{IsSome}
+use Rattle.overlay_pages.specs.State.{page_in}
+use Rattle.overlay_pages.specs.Calls.{RisesBy}
+use Rattle.overlay_pages.proofs.Tables.{page_some, rise_few, rises_state}
+use Rattle.overlay_pages.proofs.pages.OverlayPages.store_units.Goals as goal
+
+pub store_units-requires : goal.store_units-requires
+store_units-requires c = page_some (view_of c.self.inside.store c.self.inside.ledger) c.args.space c.args.page (subst (λ (m : MemoryView). IsSome (page_in (state_of m) c.args.space c.args.page)) (sym c.self.view_is) c.requires.there)
+
+pub returns-clause-rise : goal.returns-clause-rise
+returns-clause-rise c =
+    subst (λ (m : MemoryView). RisesBy (state_of m) c.args.space c.args.page c.args.lines c.store_units.result) c.self.view_is
+    (rises_state (view_of c.self.inside.store c.self.inside.ledger) c.args.space c.args.page c.args.lines c.store_units.result c.store_units.ensures.rise c.store_units.ensures.both)
+
+pub returns-clause-few : goal.returns-clause-few
+returns-clause-few c =
+    rise_few (view_of c.self.inside.store c.self.inside.ledger) c.args.space c.args.page c.args.lines c.store_units.result
+    (page_some (view_of c.self.inside.store c.self.inside.ledger) c.args.space c.args.page (subst (λ (m : MemoryView). IsSome (page_in (state_of m) c.args.space c.args.page)) (sym c.self.view_is) c.requires.there)) c.store_units.ensures.rise

@@ -1,0 +1,46 @@
+use Rattle.std.specs.Prelude.{◌≡◌, ℕ, ◌+◌, ◌≤◌, ◌<◌, List, [], ◌∷◌, Option, Some, None, IsSome}
+use Rattle.std.specs.Option.{option_map}
+use Rattle.std.specs.FinMap.{empty, get}
+use Rattle.number_maps.specs.Views.{viewed}
+use Rattle.page_table.specs.declared.entry.PageEntry.{PageEntry}
+use Rattle.page_table.specs.Table.{Pages}
+use Rattle.ledger.specs.Events.{Store, ledger_after}
+use Rattle.ledger.specs.Units.{units}
+use Rattle.segment_store.specs.Store.{with_line_at}
+use Rattle.overlay_pages.specs.State.{PageState, State, books, page_in, space_in}
+use Rattle.overlay_pages.specs.Changes.{units_of}
+use Rattle.overlay_pages.specs.View.{MemoryView}
+
+-- What the calls ask and answer.
+
+-- a new one: no space, and a zero frame that is one of the frames
+pub record IsEmptyState (frames : ℕ) (state : State) : Type 0 where
+  pub spaces : state.spaces ≡ empty
+  pub count : state.frames ≡ frames
+  pub zero : state.zero_frame < frames
+
+-- the least page of a space not below one, or that there is none
+abbrev pub IsNextPage : State → ℕ → ℕ → Option ℕ → Type 0
+IsNextPage state space page None = (q : ℕ) → page ≤ q → page_in state space q ≡ None
+IsNextPage state space page (Some found) =
+    (page ≤ found) × IsSome (page_in state space found) × ((q : ℕ) → page ≤ q → q < found → page_in state space q ≡ None)
+
+-- the entries of a space's pages
+unfoldable pub entries_in : State → ℕ → Pages
+entries_in state space = viewed (λ _ (x : PageState). x.entry) (space_in state space).pages
+
+-- a page awaits with the frame that it has in another space
+abbrev pub AwaitsLike : State → ℕ → ℕ → ℕ → Type 0
+AwaitsLike state from to page =
+    option_map (λ (e : PageEntry). e.frame) (get (space_in state to).awaiting page) ≡ option_map (λ x. x.entry.frame) (page_in state from page)
+
+-- by how much the units rise by a store that touches lines of a page, by itself and beside lines of another page of the space
+pub record RisesBy (state : State) (space page : ℕ) (lines : List ℕ) (rise : ℕ) : Type 0 where
+  pub one : units (ledger_after (Store (space_in state space).speculating space ((page, lines) ∷ [])) (books state)) ≡ units_of state + rise
+  pub both : (other : ℕ) (more : List ℕ) → (other ≡ page → ⊥)
+      → units (ledger_after (Store (space_in state space).speculating space ((page, lines) ∷ ((other, more) ∷ []))) (books state))
+      ≡ units (ledger_after (Store (space_in state space).speculating space ((other, more) ∷ [])) (books state)) + rise
+
+-- another line at a place of the region
+abbrev pub with_line_at_place : MemoryView → ℕ → List ℕ → MemoryView
+with_line_at_place view at bytes = record { store = with_line_at view.store at bytes; table = view.table }

@@ -1,0 +1,277 @@
+//! Lines that come into the overlay of a page, and overlays that end.
+
+ghost use Rattle.std.specs.Prelude.{◌≡◌, ◌+◌, ◌^◌, ◌<◌, ◌≤◌, IsSome, Some, None, [], ◌∷◌, false, true, length};
+ghost use Rattle.sizes.specs.declared.TheConstants.{PAGE_LINES};
+ghost use Rattle.unit_map.specs.Changes.{HasRoom};
+ghost use Rattle.overlay_bits.specs.Lines.{has_line};
+ghost use Rattle.ledger.specs.Units.{class};
+ghost use Rattle.segment_store.specs.Pointers.{capacity_of};
+ghost use Rattle.segment_store.specs.Changes.{KeepsFrames, KeepsScratch};
+ghost use Rattle.space_ledger.specs.View.{lines_of, overlay_at, page_at, with_overlay};
+ghost use Rattle.overlay_pages.specs.State.{page_in, turned_page};
+ghost use Rattle.overlay_pages.specs.Changes.{Fits, brought, discarded};
+ghost use Rattle.overlay_pages.specs.View.{IsJoined, state_of, view_of};
+ghost use Rattle.overlay_pages.specs.Steps.{Moved, joins, laid};
+
+use crate::moving::make_room;
+use overlay_address::OverlayPage;
+use overlay_bits::Bits;
+use overlay_mapping_table::Entry;
+use segment_store::SegmentStore;
+use space_ledger::SpaceLedger;
+
+/// The most lines of a segment of an order.
+fn capacity(order: u8) -> u32
+    requires { order ≤ 4 }
+    ensures { result ≡ capacity_of order }
+{
+    match order {
+        0 => 3,
+        1 => 7,
+        2 => 15,
+        3 => 31,
+        4 => 64,
+        _ => unreachable!(),
+    }
+}
+
+/// The overlay of a page that is there ends, if it has one.
+pub(crate) fn drop_overlay(
+    store: &mut SegmentStore,
+    ledger: &mut SpaceLedger,
+    space: u16,
+    page: u64,
+)
+    requires joined { IsJoined (view_of store.old ledger.old) }
+    requires there { IsSome (page_at ledger.old space page) }
+    ensures joined { IsJoined (view_of store.new ledger.new) }
+    ensures state { state_of (view_of store.new ledger.new)
+        ≡ turned_page discarded (state_of (view_of store.old ledger.old)) space page }
+    ensures table { ledger.new ≡ with_overlay ledger.old space page None }
+    ensures scratch { KeepsScratch store.old store.new }
+    ensures frames { KeepsFrames store.old store.new }
+{
+    if let Some(entry) = ledger.overlay(space, page) {
+        store.end_segment(entry.block);
+        ledger.set_overlay(space, page, None);
+    }
+}
+
+/// A page that is there and has no overlay gets one, for which there is room: with these lines of scratch, and with one line more.
+fn begin_overlay(
+    store: &mut SegmentStore,
+    ledger: &mut SpaceLedger,
+    space: u16,
+    page: u64,
+    order: u8,
+    bits: Bits,
+    line: u8,
+    bytes: &[u8; 64],
+)
+    requires joined { IsJoined (view_of store.old ledger.old) }
+    requires there { IsSome (page_at ledger.old space page) }
+    requires bare { overlay_at ledger.old space page ≡ None }
+    requires order { order ≤ 4 }
+    requires room { HasRoom store.old.blocks order }
+    requires line { line < PAGE_LINES }
+    requires absent { has_line bits line ≡ false }
+    requires fits { length bits < capacity_of order }
+    requires size { 2 ^ order ≡ class (length bits + 1) }
+    ensures joined { IsJoined (view_of store.new ledger.new) }
+    ensures state { state_of (view_of store.new ledger.new)
+        ≡ turned_page (laid store.old bits line bytes.now)
+        (state_of (view_of store.old ledger.old)) space page }
+{
+    let block = store.begin_segment(OverlayPage::of(space, page), order);
+    store.lay(block, bits);
+    store.insert(block, line, bytes);
+    let bits = bits.with(line);
+    ledger.set_overlay(space, page, Some(Entry { bits, block }));
+}
+
+/// A line comes into the overlay of a page, where there is a place for it.
+fn insert_line(
+    store: &mut SegmentStore,
+    ledger: &mut SpaceLedger,
+    space: u16,
+    page: u64,
+    entry: Entry,
+    line: u8,
+    bytes: &[u8; 64],
+)
+    requires joined { IsJoined (view_of store.old ledger.old) }
+    requires there { IsSome (page_at ledger.old space page) }
+    requires overlaid { overlay_at ledger.old space page ≡ Some entry }
+    requires line { line < PAGE_LINES }
+    requires absent { has_line entry.bits line ≡ false }
+    requires fits { length entry.bits < capacity_of entry.block.order }
+    ensures joined { IsJoined (view_of store.new ledger.new) }
+    ensures state { state_of (view_of store.new ledger.new)
+        ≡ turned_page (joins line bytes.now) (state_of (view_of store.old ledger.old)) space page }
+{
+    store.insert(entry.block, line, bytes);
+    let bits = entry.bits.with(line);
+    let block = entry.block;
+    ledger.set_overlay(space, page, Some(Entry { bits, block }));
+}
+
+/// A line comes into the overlay of a page, which grows for it: its old segment ends before the new one begins.
+fn grow(
+    store: &mut SegmentStore,
+    ledger: &mut SpaceLedger,
+    space: u16,
+    page: u64,
+    entry: Entry,
+    line: u8,
+    bytes: &[u8; 64],
+)
+    requires joined { IsJoined (view_of store.old ledger.old) }
+    requires there { IsSome (page_at ledger.old space page) }
+    requires overlaid { overlay_at ledger.old space page ≡ Some entry }
+    requires line { line < PAGE_LINES }
+    requires absent { has_line entry.bits line ≡ false }
+    requires full { capacity_of entry.block.order ≤ length entry.bits }
+    requires fits { Fits (turned_page (joins line bytes.now)
+        (state_of (view_of store.old ledger.old)) space page) }
+    ensures joined { IsJoined (view_of store.new ledger.new) }
+    ensures state { state_of (view_of store.new ledger.new)
+        ≡ turned_page (joins line bytes.now) (state_of (view_of store.old ledger.old)) space page }
+{
+    store.lift(entry.block, entry.bits);
+    drop_overlay(store, ledger, space, page);
+    let order = entry.block.order + 1;
+    make_room(store, ledger, order);
+    begin_overlay(store, ledger, space, page, order, entry.bits, line, bytes);
+}
+
+/// The first line comes into the overlay of a page that has none.
+fn begin_with(
+    store: &mut SegmentStore,
+    ledger: &mut SpaceLedger,
+    space: u16,
+    page: u64,
+    line: u8,
+    bytes: &[u8; 64],
+)
+    requires joined { IsJoined (view_of store.old ledger.old) }
+    requires there { IsSome (page_at ledger.old space page) }
+    requires bare { overlay_at ledger.old space page ≡ None }
+    requires line { line < PAGE_LINES }
+    requires fits { Fits (turned_page (joins line bytes.now)
+        (state_of (view_of store.old ledger.old)) space page) }
+    ensures joined { IsJoined (view_of store.new ledger.new) }
+    ensures state { state_of (view_of store.new ledger.new)
+        ≡ turned_page (joins line bytes.now) (state_of (view_of store.old ledger.old)) space page }
+{
+    make_room(store, ledger, 0);
+    begin_overlay(store, ledger, space, page, 0, Bits::empty(), line, bytes);
+}
+
+/// A line comes into the overlay of a page, which grows where it has no place for it.
+fn join(
+    store: &mut SegmentStore,
+    ledger: &mut SpaceLedger,
+    space: u16,
+    page: u64,
+    entry: Entry,
+    line: u8,
+    bytes: &[u8; 64],
+)
+    requires joined { IsJoined (view_of store.old ledger.old) }
+    requires there { IsSome (page_at ledger.old space page) }
+    requires overlaid { overlay_at ledger.old space page ≡ Some entry }
+    requires line { line < PAGE_LINES }
+    requires absent { has_line entry.bits line ≡ false }
+    requires fits { Fits (turned_page (joins line bytes.now)
+        (state_of (view_of store.old ledger.old)) space page) }
+    ensures joined { IsJoined (view_of store.new ledger.new) }
+    ensures state { state_of (view_of store.new ledger.new)
+        ≡ turned_page (joins line bytes.now) (state_of (view_of store.old ledger.old)) space page }
+{
+    if entry.bits.len() < capacity(entry.block.order) {
+        insert_line(store, ledger, space, page, entry, line, bytes);
+    } else {
+        grow(store, ledger, space, page, entry, line, bytes);
+    }
+}
+
+/// A line that isn't in the overlay of a page comes there.
+fn overlay_line(
+    store: &mut SegmentStore,
+    ledger: &mut SpaceLedger,
+    space: u16,
+    page: u64,
+    line: u8,
+    bytes: &[u8; 64],
+)
+    requires joined { IsJoined (view_of store.old ledger.old) }
+    requires there { IsSome (page_at ledger.old space page) }
+    requires line { line < PAGE_LINES }
+    requires absent { has_line (lines_of (overlay_at ledger.old space page)) line ≡ false }
+    requires fits { Fits (turned_page (joins line bytes.now)
+        (state_of (view_of store.old ledger.old)) space page) }
+    ensures joined { IsJoined (view_of store.new ledger.new) }
+    ensures state { state_of (view_of store.new ledger.new)
+        ≡ turned_page (joins line bytes.now) (state_of (view_of store.old ledger.old)) space page }
+{
+    match ledger.overlay(space, page) {
+        Some(entry) => join(store, ledger, space, page, entry, line, bytes),
+        None => begin_with(store, ledger, space, page, line, bytes),
+    }
+}
+
+/// Whether a line of a page that is there is in its overlay.
+fn has_own(ledger: &SpaceLedger, space: u16, page: u64, line: u8) -> bool
+    requires there { IsSome (page_at ledger.now space page) }
+    requires line { line < PAGE_LINES }
+    ensures { result ≡ has_line (lines_of (overlay_at ledger.now space page)) line }
+{
+    match ledger.overlay(space, page) {
+        Some(entry) => entry.bits.has(line),
+        None => false,
+    }
+}
+
+/// A line of a page that is to be written in its overlay is there: as the frame has it, where it wasn't there.
+fn bring_line(store: &mut SegmentStore, ledger: &mut SpaceLedger, space: u16, page: u64, line: u8)
+    requires joined { IsJoined (view_of store.old ledger.old) }
+    requires there { IsSome (page_at ledger.old space page) }
+    requires line { line < PAGE_LINES }
+    requires fits { Fits (turned_page (brought (line ∷ []))
+        (state_of (view_of store.old ledger.old)) space page) }
+    ensures joined { IsJoined (view_of store.new ledger.new) }
+    ensures state { state_of (view_of store.new ledger.new)
+        ≡ turned_page (brought (line ∷ [])) (state_of (view_of store.old ledger.old)) space page }
+{
+    if has_own(ledger, space, page, line) {
+        return;
+    }
+    match ledger.entry(space, page) {
+        Some(entry) => {
+            let bytes = *store.frame_line(entry.frame, line);
+            overlay_line(store, ledger, space, page, line, &bytes);
+        }
+        None => unreachable!(),
+    }
+}
+
+/// Lines of a page that are to be written in its overlay are there: as the frame has them, where they weren't there.
+pub(crate) fn bring_lines(
+    store: &mut SegmentStore,
+    ledger: &mut SpaceLedger,
+    space: u16,
+    page: u64,
+    lines: Bits,
+)
+    requires joined { IsJoined (view_of store.old ledger.old) }
+    requires there { IsSome (page_at ledger.old space page) }
+    requires fits { Fits (turned_page (brought lines)
+        (state_of (view_of store.old ledger.old)) space page) }
+    ensures joined { IsJoined (view_of store.new ledger.new) }
+    ensures state { state_of (view_of store.new ledger.new)
+        ≡ turned_page (brought lines) (state_of (view_of store.old ledger.old)) space page }
+{
+    'bringing: for line in lines.iter() {
+        bring_line(store, ledger, space, page, line);
+    }
+}

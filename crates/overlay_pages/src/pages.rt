@@ -1,0 +1,424 @@
+//! The pages of all spaces.
+
+ghost use Rattle.std.specs.Prelude.{◌≡◌, ℕ, ◌+◌, ◌*◌, ◌<◌, ◌≤◌, ◌&&◌, not, List, IfOk, IfSome, IsSome, OnOk, OnErr, None, true, false, length, slice_index_or, unwrap_or};
+ghost use Rattle.std.specs.Borrow.{Lends, sem, Array, u8 as byte};
+ghost use Rattle.std.specs.FinMap as map;
+ghost use Rattle.std.specs.Option.{is_some, option_and_then, option_map, option_map_or};
+ghost use Rattle.sizes.specs.declared.TheConstants.{FRAME_UNITS, LAST_SPACE, LINE_BYTES, MOST_FRAMES, MOST_SPACE_PAGES, MOST_UNITS, PAGE_BYTES, PAGE_END, PAGE_LINES};
+ghost use Rattle.overlay_bits.specs.Lines.{has_line};
+ghost use Rattle.page_table.specs.Table.{Pages};
+ghost use Rattle.ledger.specs.Ledger.{is_alone};
+ghost use Rattle.ledger.specs.Units.{own_lines, units};
+ghost use Rattle.ledger.specs.Ledger as book;
+ghost use Rattle.space_ledger.specs.View.{ledger_of, page_at, space_at};
+ghost use Rattle.space_ledger.specs.Space.{IsLeast};
+ghost use Rattle.space_ledger.specs.Calls.{NamesOnce};
+ghost use Rattle.overlay_pages.specs.Lines.{line_in_page, lines_of_bytes};
+ghost use Rattle.overlay_pages.specs.State.{bare_space, base_of, books, cut_page, cut_space, holds_space, memory_of, page_in, put_awaiting, put_mark, put_space, space_in, turned_page};
+ghost use Rattle.overlay_pages.specs.Changes.{AreAbsent, Fits, HasCopyRoom, HasShareRoom, IsPlaced, brought, committed, copied, discarded, is_writable, limit_of, units_of, whole_page, with_brought, with_shared, with_written, with_zeros};
+ghost use Rattle.overlay_pages.specs.View.{HasOwnPlace, IsJoined, place_at, state_of};
+ghost use Rattle.overlay_pages.specs.Calls.{AwaitsLike, IsEmptyState, IsNextPage, RisesBy, entries_in, with_line_at_place};
+ghost use Rattle.overlay_pages.specs.contracts.pages.OverlayPages.{the_row};
+
+use crate::moving::make_room;
+use crate::overlays::{bring_lines, drop_overlay};
+use crate::placing::{place_bytes, take_out};
+use crate::settling::{commit, copy_commit};
+use crate::sharing::share;
+use crate::spots::{Spot, spot_of};
+use overlay_bits::Bits;
+use ovl_io::Perms;
+use page_table::{PageEntry, PageTable};
+use segment_store::SegmentStore;
+use sizes::PAGE_BYTES;
+use space_ledger::SpaceLedger;
+use std::alloc::{AllocError, Global};
+use std::marker::Model;
+
+/// The pages of all spaces, with their lines. Spaces are numbered from 1 to 32,767, pages are below 2^26, and a page has 64
+/// lines of 64 bytes.
+#[derive(Drop)]
+pub struct OverlayPages {
+    store: SegmentStore,
+    ledger: SpaceLedger,
+}
+
+impl Model for OverlayPages {
+    ghost use Rattle.overlay_pages.specs.View.{MemoryView, IsJoined};
+    ghost use Rattle.overlay_pages.specs.Codes.{memory_code};
+
+    ghost Value = { MemoryView };
+
+    ghost coded = { memory_code };
+
+    ghost view = { λ m. record { store = m.store; table = m.ledger } };
+
+    ghost invariant = { λ m. IsJoined (record { store = m.store; table = m.ledger }) };
+}
+
+impl OverlayPages {
+    /// No space, and 1 to 65,536 frames, of which one is the zero frame. Takes all the memory that frames, segments and overlays
+    /// ever need, or answers the want of it.
+    pub fn new(alloc: Global, frames: u32) -> Result<OverlayPages, AllocError>
+        requires some { 0 < frames }
+        requires few { frames ≤ MOST_FRAMES }
+        ensures state { IfOk result (λ made. IsEmptyState frames (state_of made)) }
+    {
+        let mut store = SegmentStore::new(alloc, frames)?;
+        let zero = store.take_frame();
+        let ledger = SpaceLedger::new(alloc, frames, zero)?;
+        Ok(OverlayPages { store, ledger })
+    }
+
+    /// Whether a space is there. Costs a step.
+    pub fn has_space(&self, space: u16) -> bool
+        ensures here { result ≡ holds_space (state_of self.now) space }
+        ensures joined { IsJoined self.now }
+    {
+        self.ledger.has_space(space)
+    }
+
+    /// Makes a space of a number from 1 to 32,767 that isn't there: without a page and without a mark. After want of memory
+    /// everything is as before.
+    pub fn add_space(&mut self, space: u16) -> Result<(), AllocError>
+        requires some { 0 < space }
+        requires last { space ≤ LAST_SPACE }
+        requires absent { holds_space (state_of self.old) space ≡ false }
+        ensures added { OnOk result (state_of self.new ≡ put_space (state_of self.old) space bare_space) }
+        ensures kept { OnErr result (self.new ≡ self.old) }
+    {
+        self.ledger.add_space(space)
+    }
+
+    /// Takes away a space that is there, has no page, and of which no page awaits. Takes no memory.
+    pub fn end_space(&mut self, space: u16)
+        requires there { holds_space (state_of self.old) space ≡ true }
+        requires empty { (space_in (state_of self.old) space).pages ≡ map.empty }
+        requires settled { (space_in (state_of self.old) space).awaiting ≡ map.empty }
+        ensures { state_of self.new ≡ cut_space (state_of self.old) space }
+    {
+        self.ledger.end_space(space);
+    }
+
+    /// Maps `n` pages from `page` on, which aren't there, on the zero frame and without own lines. After want of memory
+    /// everything is as before. Costs a look-up for each of the pages.
+    pub fn map_zero(
+        &mut self,
+        space: u16,
+        page: u64,
+        n: u32,
+        perms: Perms,
+    ) -> Result<(), AllocError>
+        requires there { holds_space (state_of self.old) space ≡ true }
+        requires settled { (space_in (state_of self.old) space).awaiting ≡ map.empty }
+        requires absent { AreAbsent (state_of self.old) space page n }
+        requires low { page + n ≤ PAGE_END }
+        requires few { map.len (space_in (state_of self.old) space).pages + n ≤ MOST_SPACE_PAGES }
+        ensures mapped { OnOk result (state_of self.new ≡ with_zeros (state_of self.old) space page n
+            (record { perms = perms; frame = (state_of self.old).zero_frame })) }
+        ensures kept { OnErr result (self.new ≡ self.old) }
+    {
+        self.ledger.map_zero(space, page, n, perms)
+    }
+
+    /// Places a page that isn't there in a new frame, with these bytes. The units that it needs are there. After want of memory
+    /// everything is as before, but that segments may have moved. Costs a copy of the page, and moves.
+    pub fn add_page(
+        &mut self,
+        space: u16,
+        page: u64,
+        perms: Perms,
+        bytes: &[u8; PAGE_BYTES],
+    ) -> Result<(), AllocError>
+        requires there { holds_space (state_of self.old) space ≡ true }
+        requires settled { (space_in (state_of self.old) space).awaiting ≡ map.empty }
+        requires absent { page_in (state_of self.old) space page ≡ None }
+        requires low { page < PAGE_END }
+        requires few { map.len (space_in (state_of self.old) space).pages < MOST_SPACE_PAGES }
+        requires fits { units_of (state_of self.old) + FRAME_UNITS ≤ limit_of (state_of self.old) }
+        ensures placed { OnOk result (IsPlaced (state_of self.old) (state_of self.new) space page
+            (λ frame. whole_page (record { perms = perms; frame = frame }) (lines_of_bytes bytes.now))) }
+        ensures units { OnOk result
+            (units_of (state_of self.new) ≡ units_of (state_of self.old) + FRAME_UNITS) }
+        ensures kept { OnErr result (state_of self.new ≡ state_of self.old) }
+    {
+        match self.ledger.map_zero(space, page, 1, perms) {
+            Ok(()) => {
+                make_room(&mut self.store, &mut self.ledger, 4);
+                place_bytes(&mut self.store, &mut self.ledger, space, page, bytes);
+                Ok(())
+            }
+            Err(AllocError) => Err(AllocError),
+        }
+    }
+
+    /// Takes away a page that is there, with its overlay. Takes no memory.
+    pub fn remove_page(&mut self, space: u16, page: u64)
+        requires there { IsSome (page_in (state_of self.old) space page) }
+        requires settled { (space_in (state_of self.old) space).awaiting ≡ map.empty }
+        ensures { state_of self.new ≡ cut_page (state_of self.old) space page }
+    {
+        drop_overlay(&mut self.store, &mut self.ledger, space, page);
+        take_out(&mut self.store, &mut self.ledger, space, page);
+    }
+
+    /// The permissions and the frame of a page. None exactly where the page isn't there. Costs a look-up.
+    #[inline]
+    pub fn entry(&self, space: u16, page: u64) -> Option<PageEntry>
+        ensures entry { result ≡ option_map (λ x. x.entry) (page_in (state_of self.now) space page) }
+        ensures joined { IsJoined self.now }
+    {
+        self.ledger.entry(space, page)
+    }
+
+    /// The own lines of a page that is there. Costs a look-up.
+    #[inline]
+    pub fn lines_of(&self, space: u16, page: u64) -> Bits
+        requires there { IsSome (page_in (state_of self.now) space page) }
+        ensures own { option_map (λ x. x.own) (page_in (state_of self.now) space page) ≡ Some result }
+        ensures joined { IsJoined self.now }
+    {
+        match self.ledger.overlay(space, page) {
+            Some(overlay) => overlay.bits,
+            None => Bits::empty(),
+        }
+    }
+
+    /// Whether a page that is there is alone: its frame isn't the zero frame, and no other page of any space names it. Costs a
+    /// look-up.
+    #[inline]
+    pub fn is_alone(&self, space: u16, page: u64) -> bool
+        requires there { IsSome (page_in (state_of self.now) space page) }
+        ensures { result ≡ is_alone (books (state_of self.now)) space page }
+    {
+        self.ledger.is_alone(space, page)
+    }
+
+    /// The least page of a space not below one. None exactly where none is. Costs a look-up.
+    pub fn next_page(&self, space: u16, page: u64) -> Option<u64>
+        ensures { IsNextPage (state_of self.now) space page result }
+    {
+        self.ledger.next_page(space, page)
+    }
+
+    /// How many pages a space has.
+    pub fn pages(&self, space: u16) -> u32
+        ensures count { result ≡ map.len (space_in (state_of self.now) space).pages }
+        ensures few { result ≤ PAGE_END }
+        ensures once { NamesOnce (state_of self.now).zero_frame (entries_in (state_of self.now) space) }
+    {
+        self.ledger.pages(space)
+    }
+
+    /// The units of the ledger. Costs a step.
+    #[inline]
+    pub fn units(&self) -> u32
+        ensures sum { result ≡ units_of (state_of self.now) }
+        ensures fits { Fits (state_of self.now) }
+    {
+        self.ledger.units()
+    }
+
+    /// The most units that there may be: 16 for each frame. Costs a step.
+    #[inline]
+    pub fn limit(&self) -> u32
+        ensures limit { result ≡ limit_of (state_of self.now) }
+        ensures few { result ≤ MOST_UNITS }
+    {
+        16 * self.ledger.frames()
+    }
+
+    /// How many own lines all pages have. Costs a step.
+    #[inline]
+    pub fn lines(&self) -> u32
+        ensures { result ≡ own_lines (books (state_of self.now)) }
+    {
+        self.ledger.lines()
+    }
+
+    /// By how many units a store rises that touches these lines of a page that is there. A store over two pages of a space
+    /// rises by the sum of both answers. Costs a few look-ups.
+    pub fn store_units(&self, space: u16, page: u64, lines: Bits) -> u32
+        requires there { IsSome (page_in (state_of self.now) space page) }
+        ensures rise { RisesBy (state_of self.now) space page lines result }
+        ensures few { result ≤ FRAME_UNITS }
+    {
+        self.ledger.store_units(space, page, lines)
+    }
+
+    /// Sets or takes away the mark of a space. Takes no memory.
+    pub fn set_speculating(&mut self, space: u16, on: bool)
+        requires there { holds_space (state_of self.old) space ≡ true }
+        ensures { state_of self.new ≡ put_mark (state_of self.old) space on }
+    {
+        self.ledger.set_speculating(space, on);
+    }
+
+    /// Whether a space is marked as speculating.
+    #[inline]
+    pub fn is_speculating(&self, space: u16) -> bool
+        ensures mark { result ≡ (space_in (state_of self.now) space).speculating }
+        ensures joined { IsJoined self.now }
+    {
+        self.ledger.is_speculating(space)
+    }
+
+    /// Where a line of a page that is there stands: the number of its line in the region. Costs a look-up.
+    pub fn place(&self, space: u16, page: u64, line: u8) -> u32
+        requires there { IsSome (page_in (state_of self.now) space page) }
+        requires line { line < PAGE_LINES }
+        ensures place { result ≡ place_at self.now space page line }
+        ensures own { HasOwnPlace self.now space page line }
+        ensures inside { result < PAGE_LINES * (state_of self.now).frames }
+        ensures joined { IsJoined self.now }
+    {
+        match spot_of(&self.ledger, space, page, line) {
+            Spot::Segment(block) => self.store.place(block, line),
+            Spot::Frame(frame) => 64 * frame + u32::from(line),
+        }
+    }
+
+    /// Lends a line of a page that is there. Costs a look-up.
+    #[inline]
+    pub fn line(&self, space: u16, page: u64, line: u8) -> &[u8; 64]
+        requires there { IsSome (page_in (state_of self.now) space page) }
+        requires line { line < PAGE_LINES }
+        ensures value { option_map (λ x. line_in_page x.lines line) (page_in (state_of self.now) space page)
+            ≡ Some result.now }
+        ensures bytes { length result.now ≡ LINE_BYTES }
+        ensures joined { IsJoined self.now }
+    {
+        match spot_of(&self.ledger, space, page, line) {
+            Spot::Segment(block) => self.store.get(block, line),
+            Spot::Frame(frame) => self.store.frame_line(frame, line),
+        }
+    }
+
+    /// Whether a line of a page that is there can be written where it stands: it is in the overlay, or else the space isn't
+    /// speculating and the frame is the page's alone. Costs a look-up.
+    #[inline]
+    pub fn is_writable(&self, space: u16, page: u64, line: u8) -> bool
+        requires there { IsSome (page_in (state_of self.now) space page) }
+        requires line { line < PAGE_LINES }
+        ensures { result ≡ is_writable (state_of self.now) space page line }
+    {
+        match spot_of(&self.ledger, space, page, line) {
+            Spot::Segment(_) => true,
+            Spot::Frame(_) => writes_frame(&self.ledger, space, page),
+        }
+    }
+
+    /// Lends a line, that can be written where it stands, of a page that is there. What the borrower leaves is the region's line
+    /// at the place, and nothing else of the region or of the tables changes. Costs a look-up.
+    #[inline]
+    pub fn line_mut(&mut self, space: u16, page: u64, line: u8) -> &mut [u8; 64]
+        requires there { IsSome (page_in (state_of self.old) space page) }
+        requires line { line < PAGE_LINES }
+        requires writable { is_writable (state_of self.old) space page line ≡ true }
+        ensures* writes_back { sem 𝓛 (Lends the_row (Array byte 0) self.entry result
+            (with_line_at_place self.old (place_at self.old space page line))) }
+        ensures value { option_map (λ x. line_in_page x.lines line) (page_in (state_of self.old) space page)
+            ≡ Some result.now }
+        ensures state { (bytes : List ℕ)
+            → state_of (with_line_at_place self.old (place_at self.old space page line) bytes)
+            ≡ with_written (state_of self.old) space page line bytes }
+    {
+        match spot_of(&self.ledger, space, page, line) {
+            Spot::Segment(block) => self.store.get_mut(block, line),
+            Spot::Frame(frame) => self.store.frame_line_mut(frame, line),
+        }
+    }
+
+    /// Makes lines of a page that is there such as can be written where they stand: unless its frame is written, those that
+    /// aren't in its overlay are brought there from the frame. The units that this needs are there. Takes no memory. Costs a
+    /// copy of each line that is brought, and moves.
+    pub fn bring(&mut self, space: u16, page: u64, lines: Bits)
+        requires there { IsSome (page_in (state_of self.old) space page) }
+        requires fits { Fits (with_brought (state_of self.old) space page lines) }
+        ensures { state_of self.new ≡ with_brought (state_of self.old) space page lines }
+    {
+        if writes_frame(&self.ledger, space, page) {
+            return;
+        }
+        bring_lines(&mut self.store, &mut self.ledger, space, page, lines);
+    }
+
+    /// The own lines of a page that is there and alone go into its frame. Takes no memory. Costs a copy of each own line.
+    pub fn commit_page(&mut self, space: u16, page: u64)
+        requires there { IsSome (page_in (state_of self.old) space page) }
+        requires alone { is_alone (books (state_of self.old)) space page ≡ true }
+        ensures { state_of self.new ≡ turned_page committed (state_of self.old) space page }
+    {
+        commit(&mut self.store, &mut self.ledger, space, page);
+    }
+
+    /// A page that is overlaid, and isn't alone, gets a new frame with its lines, and has no own lines any more. The units after
+    /// it are there. Takes no memory. Costs a copy of the page, and moves.
+    pub fn copy_commit_page(&mut self, space: u16, page: u64)
+        requires overlaid { IfSome (page_in (state_of self.old) space page) (λ x. 0 < length x.own) }
+        requires there { IsSome (page_in (state_of self.old) space page) }
+        requires shared { is_alone (books (state_of self.old)) space page ≡ false }
+        requires settled { (space_in (state_of self.old) space).awaiting ≡ map.empty }
+        requires room { HasCopyRoom (state_of self.old) space page }
+        ensures { IfSome (page_in (state_of self.old) space page)
+            (λ x. IsPlaced (state_of self.old) (state_of self.new) space page (λ frame. copied frame x)) }
+    {
+        let overlay = self.ledger.overlay(space, page);
+        match overlay {
+            Some(overlay) => copy_commit(&mut self.store, &mut self.ledger, space, page, overlay),
+            None => unreachable!(),
+        }
+    }
+
+    /// The overlay of a page that is there is given up. Takes no memory.
+    pub fn discard_page(&mut self, space: u16, page: u64)
+        requires there { IsSome (page_in (state_of self.old) space page) }
+        ensures { state_of self.new ≡ turned_page discarded (state_of self.old) space page }
+    {
+        drop_overlay(&mut self.store, &mut self.ledger, space, page);
+    }
+
+    /// A table with the entries of a space's pages, of which none awaits, or want of memory. Costs a step for each page.
+    pub fn copy_table(&self, space: u16) -> Result<PageTable, AllocError>
+        requires there { holds_space (state_of self.now) space ≡ true }
+        requires settled { (space_in (state_of self.now) space).awaiting ≡ map.empty }
+        ensures table { IfOk result (λ table. table ≡ entries_in (state_of self.now) space) }
+        ensures once { IfOk result (λ table. NamesOnce (state_of self.now).zero_frame table) }
+    {
+        self.ledger.copy_table(space)
+    }
+
+    /// Gives a space that has no page, and of which none awaits, a table that names no frame but the zero frame twice. Its
+    /// pages await `share_page`, and are in no ledger until then. Takes no memory.
+    pub fn adopt_table(&mut self, to: u16, table: PageTable)
+        requires there { holds_space (state_of self.old) to ≡ true }
+        requires empty { (space_in (state_of self.old) to).pages ≡ map.empty }
+        requires settled { (space_in (state_of self.old) to).awaiting ≡ map.empty }
+        requires once { NamesOnce (state_of self.old).zero_frame table }
+        ensures { state_of self.new ≡ put_awaiting (state_of self.old) to table }
+    {
+        self.ledger.adopt_table(to, table);
+    }
+
+    /// Shares a page with a space in which it awaits as the least, with the frame that it has: it gets its lines, and an overlay
+    /// of its own. The units after it are there. Takes no memory. Costs a copy of each own line, and moves.
+    pub fn share_page(&mut self, from: u16, to: u16, page: u64)
+        requires there { IsSome (page_in (state_of self.old) from page) }
+        requires space { holds_space (state_of self.old) to ≡ true }
+        requires least { IsLeast (space_in (state_of self.old) to).awaiting page }
+        requires frame { AwaitsLike (state_of self.old) from to page }
+        requires room { HasShareRoom (state_of self.old) from page }
+        ensures { state_of self.new ≡ with_shared (state_of self.old) from to page }
+    {
+        share(&mut self.store, &mut self.ledger, from, to, page);
+    }
+}
+
+/// Whether stores to a page that is there go into its frame.
+fn writes_frame(ledger: &SpaceLedger, space: u16, page: u64) -> bool
+    requires { IsSome (page_at ledger.now space page) }
+    ensures { result ≡ (not (space_at ledger.now space).speculating
+        && book.is_alone (ledger_of ledger.now) space page) }
+{
+    !ledger.is_speculating(space) && ledger.is_alone(space, page)
+}

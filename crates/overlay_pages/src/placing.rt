@@ -1,0 +1,80 @@
+//! Pages that come into new frames, and pages that go.
+
+ghost use Rattle.std.specs.Prelude.{◌≡◌, ◌+◌, ◌≤◌, IfSome, IsSome, None, false};
+ghost use Rattle.std.specs.FinMap as map;
+ghost use Rattle.sizes.specs.declared.TheConstants.{FRAME_UNITS, PAGE_BYTES};
+ghost use Rattle.unit_map.specs.Changes.{HasRoom};
+ghost use Rattle.ledger.specs.Ledger.{is_alone};
+ghost use Rattle.space_ledger.specs.View.{ledger_of, overlay_at, page_at, space_at};
+ghost use Rattle.overlay_pages.specs.Lines.{lines_of_bytes, same_lines};
+ghost use Rattle.overlay_pages.specs.State.{cut_page, page_in};
+ghost use Rattle.overlay_pages.specs.Changes.{IsPlaced, moved_to};
+ghost use Rattle.overlay_pages.specs.View.{IsJoined, state_of, view_of};
+
+use crate::frames::{fill_bytes, fill_lines};
+use segment_store::SegmentStore;
+use sizes::PAGE_BYTES;
+use space_ledger::SpaceLedger;
+
+/// A page that has no overlay goes, and its frame, where no page names it any more.
+pub(crate) fn take_out(store: &mut SegmentStore, ledger: &mut SpaceLedger, space: u16, page: u64)
+    requires joined { IsJoined (view_of store.old ledger.old) }
+    requires there { IsSome (page_at ledger.old space page) }
+    requires bare { overlay_at ledger.old space page ≡ None }
+    ensures joined { IsJoined (view_of store.new ledger.new) }
+    ensures state { state_of (view_of store.new ledger.new)
+        ≡ cut_page (state_of (view_of store.old ledger.old)) space page }
+{
+    match ledger.remove_page(space, page) {
+        Some(frame) => store.give_frame(frame),
+        None => {}
+    }
+}
+
+/// A page that has no overlay, and isn't alone, gets a new frame, for which there is room, with these bytes.
+pub(crate) fn place_bytes(
+    store: &mut SegmentStore,
+    ledger: &mut SpaceLedger,
+    space: u16,
+    page: u64,
+    bytes: &[u8; PAGE_BYTES],
+)
+    requires joined { IsJoined (view_of store.old ledger.old) }
+    requires there { IsSome (page_at ledger.old space page) }
+    requires bare { overlay_at ledger.old space page ≡ None }
+    requires shared { is_alone (ledger_of ledger.old) space page ≡ false }
+    requires settled { (space_at ledger.old space).awaiting ≡ map.empty }
+    requires room { HasRoom store.old.blocks 4 }
+    ensures joined { IsJoined (view_of store.new ledger.new) }
+    ensures placed { IfSome (page_in (state_of (view_of store.old ledger.old)) space page)
+        (λ x. IsPlaced (state_of (view_of store.old ledger.old)) (state_of (view_of store.new ledger.new))
+        space page (moved_to x (lines_of_bytes bytes.now))) }
+{
+    let frame = store.take_frame();
+    fill_bytes(store, frame, bytes);
+    ledger.set_frame(space, page, frame);
+}
+
+/// A page that has no overlay, and isn't alone, gets a new frame, for which there is room, with these lines.
+pub(crate) fn place_lines(
+    store: &mut SegmentStore,
+    ledger: &mut SpaceLedger,
+    space: u16,
+    page: u64,
+    lines: &[[u8; 64]; 64],
+)
+    requires joined { IsJoined (view_of store.old ledger.old) }
+    requires there { IsSome (page_at ledger.old space page) }
+    requires bare { overlay_at ledger.old space page ≡ None }
+    requires shared { is_alone (ledger_of ledger.old) space page ≡ false }
+    requires settled { (space_at ledger.old space).awaiting ≡ map.empty }
+    requires room { HasRoom store.old.blocks 4 }
+    ensures joined { IsJoined (view_of store.new ledger.new) }
+    ensures placed { IfSome (page_in (state_of (view_of store.old ledger.old)) space page)
+        (λ x. IsPlaced (state_of (view_of store.old ledger.old)) (state_of (view_of store.new ledger.new))
+        space page (moved_to x (same_lines lines.now))) }
+{
+    let frame = store.take_frame();
+    fill_lines(store, frame, lines);
+    ledger.set_frame(space, page, frame);
+}

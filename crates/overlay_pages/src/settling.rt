@@ -1,0 +1,73 @@
+//! Overlays that go into frames.
+
+ghost use Rattle.std.specs.Prelude.{◌≡◌, ℕ, IfSome, IsSome, Some, None, false, true};
+ghost use Rattle.std.specs.FinMap as map;
+ghost use Rattle.std.specs.Option.{option_map};
+ghost use Rattle.ledger.specs.Ledger.{is_alone};
+ghost use Rattle.space_ledger.specs.View.{ledger_of, overlay_at, page_at, space_at};
+ghost use Rattle.overlay_pages.specs.State.{page_in, turned_page};
+ghost use Rattle.overlay_pages.specs.Changes.{HasCopyRoom, IsPlaced, committed, copied};
+ghost use Rattle.overlay_pages.specs.View.{IsJoined, state_of, view_of};
+
+use crate::frames::commit_lines;
+use crate::moving::make_room;
+use crate::overlays::drop_overlay;
+use crate::placing::place_lines;
+use overlay_mapping_table::Entry;
+use segment_store::SegmentStore;
+use space_ledger::SpaceLedger;
+
+/// The frame of a page that is there.
+pub(crate) fn frame_of(ledger: &SpaceLedger, space: u16, page: u64) -> u32
+    requires { IsSome (page_at ledger.now space page) }
+    ensures { option_map (λ x. x.entry.frame) (page_at ledger.now space page) ≡ Some result }
+{
+    match ledger.entry(space, page) {
+        Some(entry) => entry.frame,
+        None => unreachable!(),
+    }
+}
+
+/// The own lines of a page that is there and alone go into its frame.
+pub(crate) fn commit(store: &mut SegmentStore, ledger: &mut SpaceLedger, space: u16, page: u64)
+    requires joined { IsJoined (view_of store.old ledger.old) }
+    requires there { IsSome (page_at ledger.old space page) }
+    requires alone { is_alone (ledger_of ledger.old) space page ≡ true }
+    ensures joined { IsJoined (view_of store.new ledger.new) }
+    ensures state { state_of (view_of store.new ledger.new)
+        ≡ turned_page committed (state_of (view_of store.old ledger.old)) space page }
+{
+    if let Some(overlay) = ledger.overlay(space, page) {
+        let frame = frame_of(ledger, space, page);
+        commit_lines(store, overlay.block, overlay.bits, frame);
+        drop_overlay(store, ledger, space, page);
+    }
+}
+
+/// A page that has an overlay, and isn't alone, gets a new frame with its lines.
+pub(crate) fn copy_commit(
+    store: &mut SegmentStore,
+    ledger: &mut SpaceLedger,
+    space: u16,
+    page: u64,
+    overlay: Entry,
+)
+    requires joined { IsJoined (view_of store.old ledger.old) }
+    requires there { IsSome (page_at ledger.old space page) }
+    requires overlaid { overlay_at ledger.old space page ≡ Some overlay }
+    requires shared { is_alone (ledger_of ledger.old) space page ≡ false }
+    requires settled { (space_at ledger.old space).awaiting ≡ map.empty }
+    requires room { HasCopyRoom (state_of (view_of store.old ledger.old)) space page }
+    ensures joined { IsJoined (view_of store.new ledger.new) }
+    ensures placed { IfSome (page_in (state_of (view_of store.old ledger.old)) space page)
+        (λ x. IsPlaced (state_of (view_of store.old ledger.old)) (state_of (view_of store.new ledger.new))
+        space page (λ frame. copied frame x)) }
+{
+    let frame = frame_of(ledger, space, page);
+    store.lift(overlay.block, overlay.bits);
+    drop_overlay(store, ledger, space, page);
+    make_room(store, ledger, 4);
+    let mut lines = [[0; 64]; 64];
+    store.compose_scratch(frame, overlay.bits, &mut lines);
+    place_lines(store, ledger, space, page, &lines);
+}

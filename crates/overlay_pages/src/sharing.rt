@@ -1,0 +1,80 @@
+//! Pages that are shared with another space.
+
+ghost use Rattle.std.specs.Prelude.{◌≡◌, IsSome, Some, None, true};
+ghost use Rattle.page_table.specs.Table.{Pages};
+ghost use Rattle.space_ledger.specs.Space.{IsLeast};
+ghost use Rattle.space_ledger.specs.View.{frame_at, frame_awaiting, has_space, overlay_at, page_at, space_at};
+ghost use Rattle.overlay_pages.specs.Changes.{HasShareRoom, with_shared};
+ghost use Rattle.overlay_pages.specs.View.{IsJoined, state_of, view_of};
+
+use crate::moving::make_room;
+use overlay_address::OverlayPage;
+use overlay_mapping_table::Entry;
+use segment_store::SegmentStore;
+use space_ledger::SpaceLedger;
+
+/// A page that awaits in a space, and has no overlay where it is shared from, is shared.
+fn share_bare(store: &SegmentStore, ledger: &mut SpaceLedger, from: u16, to: u16, page: u64)
+    requires joined { IsJoined (view_of store.now ledger.old) }
+    requires there { IsSome (page_at ledger.old from page) }
+    requires space { has_space ledger.old to ≡ true }
+    requires least { IsLeast (space_at ledger.old to).awaiting page }
+    requires frame { frame_awaiting ledger.old to page ≡ frame_at ledger.old from page }
+    requires bare { overlay_at ledger.old from page ≡ None }
+    ensures joined { IsJoined (view_of store.now ledger.new) }
+    ensures state { state_of (view_of store.now ledger.new)
+        ≡ with_shared (state_of (view_of store.now ledger.old)) from to page }
+{
+    ledger.share_page(from, to, page, None);
+}
+
+/// A page that awaits in a space, and has an overlay where it is shared from, is shared with a copy of the overlay.
+fn share_overlaid(
+    store: &mut SegmentStore,
+    ledger: &mut SpaceLedger,
+    from: u16,
+    to: u16,
+    page: u64,
+    overlay: Entry,
+)
+    requires joined { IsJoined (view_of store.old ledger.old) }
+    requires there { IsSome (page_at ledger.old from page) }
+    requires space { has_space ledger.old to ≡ true }
+    requires least { IsLeast (space_at ledger.old to).awaiting page }
+    requires frame { frame_awaiting ledger.old to page ≡ frame_at ledger.old from page }
+    requires overlaid { overlay_at ledger.old from page ≡ Some overlay }
+    requires room { HasShareRoom (state_of (view_of store.old ledger.old)) from page }
+    ensures joined { IsJoined (view_of store.new ledger.new) }
+    ensures state { state_of (view_of store.new ledger.new)
+        ≡ with_shared (state_of (view_of store.old ledger.old)) from to page }
+{
+    store.lift(overlay.block, overlay.bits);
+    make_room(store, ledger, overlay.block.order);
+    let block = store.begin_segment(OverlayPage::of(to, page), overlay.block.order);
+    store.lay(block, overlay.bits);
+    ledger.share_page(from, to, page, Some(block));
+}
+
+/// A page that awaits in a space as the least, with the frame that it has where it is shared from, is shared.
+pub(crate) fn share(
+    store: &mut SegmentStore,
+    ledger: &mut SpaceLedger,
+    from: u16,
+    to: u16,
+    page: u64,
+)
+    requires joined { IsJoined (view_of store.old ledger.old) }
+    requires there { IsSome (page_at ledger.old from page) }
+    requires space { has_space ledger.old to ≡ true }
+    requires least { IsLeast (space_at ledger.old to).awaiting page }
+    requires frame { frame_awaiting ledger.old to page ≡ frame_at ledger.old from page }
+    requires room { HasShareRoom (state_of (view_of store.old ledger.old)) from page }
+    ensures joined { IsJoined (view_of store.new ledger.new) }
+    ensures state { state_of (view_of store.new ledger.new)
+        ≡ with_shared (state_of (view_of store.old ledger.old)) from to page }
+{
+    match ledger.overlay(from, page) {
+        Some(overlay) => share_overlaid(store, ledger, from, to, page, overlay),
+        None => share_bare(store, ledger, from, to, page),
+    }
+}

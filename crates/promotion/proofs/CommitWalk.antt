@@ -1,0 +1,133 @@
+use Rattle.std.specs.Prelude.{◌≡◌, ℕ, ◌+◌, ◌<◌, ◌≤◌, ◌&&◌, ◌⊎◌, Bool, true, false, cond, nat_lt, [], Some, None, refl}
+use Rattle.std.proofs.Common.{sym, ap, subst, ◌∙◌, arith, inl, inr}
+use Rattle.std.proofs.lemmas.Bool.Decides.{nat_tests}
+use Rattle.sizes.specs.declared.TheConstants.{PAGE_END}
+use Rattle.ledger.specs.Ledger.{Holding, holding_at, is_alone}
+use Rattle.ledger.specs.Changes.{has_own}
+use Rattle.ledger.specs.Events.{Commit, ledger_after}
+use Rattle.overlay_pages.specs.State.{PageState, State, books, held_page, page_in, put_page, seen_page, turned_page}
+use Rattle.overlay_pages.specs.StateLaws.{changed_there}
+use Rattle.overlay_pages.specs.Changes.{committed}
+use Rattle.overlay_pages.specs.Calls.{IsNextPage}
+use Rattle.promotion.specs.Settled.{ArePagesApart, HasCommittedAlone, alone_in, with_committed}
+use Rattle.promotion.specs.FateFolds.{after_commit, none_own, own_is, same_turned, widened}
+use Rattle.promotion.specs.Joined.{IsBare}
+use Rattle.promotion.specs.Turns.{HasTurned, WasThere, alone_now, are_settled, held_there, is_there, none_yet, one_more, own_now, said_again, still, was_there}
+use Rattle.promotion.specs.Walks.{at_first, at_last, next_done, next_kept, not_yet, so_far}
+
+-- Pages that are alone are committed, one after the other.
+
+-- the pages that are to be
+abbrev pub to_commit : State → ℕ → ℕ → Bool
+to_commit v space r = has_own (books v) space r && is_alone (books v) space r
+
+pub record IsCommitting (old now : State) (space from : ℕ) : Type 0 where
+  pub turned : HasTurned seen_page (so_far (to_commit old space) from) (alone_in old space) old now space
+  pub low : from ≤ PAGE_END
+
+pub committing_none : (v : State) (space : ℕ) → IsCommitting v v space 0
+committing_none v space = record {
+  turned = said_again seen_page _ _ (alone_in v space) v v space (none_yet seen_page (alone_in v space) v space) (λ r x at. at_first (to_commit v space) r);
+  low = omega arith;
+}
+
+and_right : (b c : Bool) → (b && c) ≡ true → c ≡ true
+and_right true c e = e
+and_right false c e = cc
+
+and_left : (b c : Bool) → (b && c) ≡ true → b ≡ true
+and_left true c e = refl
+and_left false c e = cc
+
+module _ (old now new : State) (space from page : ℕ) (apart : ArePagesApart old space) (h : IsCommitting old now space from)
+    (next : IsNextPage now space from (Some page)) (is : new ≡ with_committed now space page) (low : page < PAGE_END) where
+  abbrev test : ℕ → Bool
+  test = to_commit old space
+
+  was : WasThere old space page
+  was = was_there seen_page _ _ old now space page h.turned next.1
+
+  pub committing_more : IsCommitting old new space (page + 1)
+  unfolding with_committed
+  committing_more = record { turned = by_test (test page) refl; low = omega arith }
+    where
+      unturned : so_far test from page ≡ false
+      unturned = not_yet test from page next.0
+
+      at : page_in now space page ≡ Some was.x
+      at = still seen_page (so_far test from) (alone_in old space) old now space page was.x h.turned was.had unturned
+
+      same_test : (has_own (books now) space page && is_alone (books now) space page) ≡ test page
+      same_test = λ i. own_now old now space page was.x was.had at i && alone_now seen_page (so_far test from) old now space page was.x apart h.turned unturned was.had i
+
+      by_test : (b : Bool) → test page ≡ b → HasTurned seen_page (so_far test (page + 1)) (alone_in old space) old new space
+      by_test false e =
+          let kept : new ≡ now = is ∙ ap (λ b. cond b (turned_page committed now space page) now) (same_test ∙ e) in
+          subst (λ (v : State). HasTurned seen_page (so_far test (page + 1)) (alone_in old space) old v space) (sym kept)
+          (said_again seen_page _ _ (alone_in old space) old now space h.turned
+          (λ r x had. next_kept test now space from page next r (is_there seen_page _ _ old now space r x h.turned had) e))
+      by_test true e =
+          let put : new ≡ put_page now space page (committed was.x) =
+          is ∙ ap (λ b. cond b (turned_page committed now space page) now) (same_test ∙ e) ∙ changed_there committed now space page was.x at in
+          subst (λ (v : State). HasTurned seen_page (so_far test (page + 1)) (alone_in old space) old v space) (sym put)
+          (said_again seen_page _ _ (alone_in old space) old (put_page now space page (committed was.x)) space
+          (one_more seen_page (so_far test from) (alone_in old space) old now space page was.x (committed was.x) h.turned was.had unturned refl refl refl (λ _. refl)
+          (λ no. let yes = and_right (has_own (books old) space page) (is_alone (books old) space page) e in let never = sym yes ∙ no in cc))
+          (λ r x had. next_done test now space from page next r (is_there seen_page _ _ old now space r x h.turned had) e))
+
+pub committed_all : (old now : State) (space from : ℕ) → IsBare old space → IsCommitting old now space from → IsNextPage now space from None → HasCommittedAlone old now space
+committed_all old now space from plain h none = record {
+  settled = are_settled test (alone_in old space) (alone_in old space) old now space whole plain
+      (λ r e. and_right (has_own (books old) space r) (is_alone (books old) space r) e) bare;
+  ledger = same_turned (alone_in old space) (alone_in old space) (books old) (books now) (ledger_after (Commit space) (books old)) space
+      (widened test (alone_in old space) (alone_in old space) (books old) (books now) space whole.ledger wide) (after_commit (books old) space) (λ r e. e);
+}
+  where
+    test : ℕ → Bool
+    test = to_commit old space
+
+    whole : HasTurned seen_page test (alone_in old space) old now space
+    whole = said_again seen_page _ _ (alone_in old space) old now space h.turned
+        (λ r x had. sym (at_last test now space from none r (is_there seen_page _ _ old now space r x h.turned had)))
+
+    own_of : (r : ℕ) (x : PageState) → page_in old space r ≡ Some x → has_own (books old) space r ≡ false → x.own ≡ []
+    own_of r x had e = none_own x.own (sym (own_is (books old) space r (held_page old.zero_frame x) (held_there old space r x had)) ∙ e)
+
+    not_own : (b c : Bool) → (b && c) ≡ false → c ≡ true → b ≡ false
+    not_own false c e g = refl
+    not_own true c e g = let no = sym g ∙ e in cc
+
+    bare : (r : ℕ) (x : PageState) → page_in old space r ≡ Some x → test r ≡ false → alone_in old space r ≡ true → x.own ≡ []
+    bare r x had e alone = own_of r x had (not_own (has_own (books old) space r) (is_alone (books old) space r) e alone)
+
+    wide : (r : ℕ) (x : Holding) → holding_at (books old) space r ≡ Some x → (alone_in old space r ≡ test r) ⊎ ((test r ≡ false) × (alone_in old space r ≡ true) × (x.own ≡ []))
+    wide r x had = by_tests (has_own (books old) space r) (is_alone (books old) space r) refl refl
+      where
+        by_tests : (b c : Bool) → has_own (books old) space r ≡ b → is_alone (books old) space r ≡ c
+            → (alone_in old space r ≡ test r) ⊎ ((test r ≡ false) × (alone_in old space r ≡ true) × (x.own ≡ []))
+        by_tests true c e g = inl (sym (ap (λ d. d && is_alone (books old) space r) e))
+        by_tests false false e g = inl (g ∙ sym (ap (λ d. d && is_alone (books old) space r) e))
+        by_tests false true e g =
+            inr (ap (λ d. d && is_alone (books old) space r) e, g, none_own x.own (sym (own_is (books old) space r x had) ∙ e))
+
+-- one page
+pub commits_none : (v : State) (space page n : ℕ) → has_own (books v) space page ≡ nat_lt 0 n → n ≡ 0 → v ≡ with_committed v space page
+unfolding with_committed
+commits_none v space page n own none = sym (ap (λ b. cond (b && is_alone (books v) space page) (turned_page committed v space page) v) (own ∙ ap (nat_lt 0) none))
+
+pub commits_no_other : (v : State) (space page : ℕ) → is_alone (books v) space page ≡ false → v ≡ with_committed v space page
+unfolding with_committed
+commits_no_other v space page shared = sym (ap (λ b. cond (has_own (books v) space page && b) (turned_page committed v space page) v) shared ∙ at (has_own (books v) space page))
+  where
+    at : (b : Bool) → cond (b && false) (turned_page committed v space page) v ≡ v
+    at true = refl
+    at false = refl
+
+pub commits_it : (v w : State) (space page n : ℕ) → has_own (books v) space page ≡ nat_lt 0 n → (n ≡ 0 → ⊥) → is_alone (books v) space page ≡ true
+    → w ≡ turned_page committed v space page → w ≡ with_committed v space page
+unfolding with_committed
+commits_it v w space page n own some alone is =
+    is ∙ sym (λ i. cond ((own ∙ above) i && alone i) (turned_page committed v space page) v)
+  where
+    above : nat_lt 0 n ≡ true
+    above = grind (arith, nat_tests)

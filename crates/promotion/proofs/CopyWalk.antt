@@ -1,0 +1,179 @@
+use Rattle.std.specs.Prelude.{◌≡◌, ℕ, ◌+◌, ◌<◌, ◌≤◌, ◌&&◌, ◌||◌, Bool, true, false, nat_lt, Option, Some, None, refl, IfSome}
+use Rattle.std.proofs.Common.{sym, ap, subst, ◌∙◌, arith}
+use Rattle.std.proofs.lemmas.Bool.Decides.{nat_tests}
+use Rattle.std.specs.FinMap.{get}
+use Rattle.ovl_io.specs.Memory.{Memory}
+use Rattle.ledger.specs.Alike.{AreAlike}
+use Rattle.ledger.specs.AlikeLaws.{alike_chain}
+use Rattle.ledger.specs.AlikeUnits.{units_alike}
+use Rattle.sizes.specs.declared.TheConstants.{PAGE_END}
+use Rattle.ledger.specs.Ledger.{Ledger, is_alone, is_unused, without_page}
+use Rattle.ledger.specs.Changes.{has_own}
+use Rattle.ledger.specs.Events.{Settle, ledger_after}
+use Rattle.ledger.specs.AloneLaws.{unused_without}
+use Rattle.overlay_pages.specs.State.{PageState, State, books, held_page, page_in, put_page, seen_page}
+use Rattle.overlay_pages.specs.Changes.{HasCopyRoom, IsNewFrame, IsPlaced, copied}
+use Rattle.overlay_pages.specs.Calls.{IsNextPage}
+use Rattle.promotion.specs.Settled.{ArePagesApart, CanCopy, FitsAfter, HasCommittedAlone, HasSettled, IsCopiedWhere, NoneAlone, alone_in, every_page}
+use Rattle.promotion.specs.FateLaws.{alike_turned}
+use Rattle.promotion.specs.FateFolds.{after_settle, both_tests, commits_first, none_alone, none_own, or_page, own_is, retold}
+use Rattle.promotion.specs.FateUnits.{room_on_the_way}
+use Rattle.promotion.specs.Joined.{IsBare}
+use Rattle.promotion.specs.Turns.{HasTurned, WasThere, alone_now, are_settled, held_there, is_there, new_origin_of, none_yet, one_more, origins_apart, own_now, said_again, still, was_there}
+use Rattle.promotion.specs.Walks.{at_first, at_last, next_done, next_kept, not_yet, so_far}
+
+-- Pages with own lines, of which none is alone, are copied, one after the other.
+
+-- the pages that are to be
+abbrev pub to_copy : State → ℕ → ℕ → Bool
+to_copy v space r = has_own (books v) space r
+
+pub record IsCopying (old now : State) (space from : ℕ) : Type 0 where
+  pub turned : HasTurned seen_page (so_far (to_copy old space) from) (alone_in old space) old now space
+  pub low : from ≤ PAGE_END
+
+pub copying_none : (v : State) (space : ℕ) → IsCopying v v space 0
+copying_none v space = record {
+  turned = said_again seen_page _ _ (alone_in v space) v v space (none_yet seen_page (alone_in v space) v space) (λ r x at. at_first (to_copy v space) r);
+  low = omega arith;
+}
+
+-- A page that isn't alone goes into a new frame.
+module _ (t : ℕ → Bool) (old now : State) (space page : ℕ) (x : PageState) (h : HasTurned seen_page t (alone_in old space) old now space)
+    (had : page_in old space page ≡ Some x) (unturned : t page ≡ false) (shared : is_alone (books old) space page ≡ false) (frame : ℕ) (fresh : IsNewFrame now frame) where
+  pub copied_one : HasTurned seen_page (or_page t page) (alone_in old space) old (put_page now space page (copied frame x)) space
+  copied_one =
+      one_more seen_page t (alone_in old space) old now space page x (copied frame x) h had unturned refl refl refl
+      (λ yes. let no = sym yes ∙ shared in cc)
+      (λ _. ap (is_unused (without_page (books now) space page)) (new_origin_of now.zero_frame frame fresh.other) ∙ unused_without (books now) space page (frame + 1) fresh.unused)
+
+module _ (old now : State) (space from page : ℕ) (apart : ArePagesApart old space) (none : NoneAlone old space) (fits : FitsAfter (Settle space) old) (h : IsCopying old now space from)
+    (next : IsNextPage now space from (Some page)) where
+  abbrev test : ℕ → Bool
+  test = to_copy old space
+
+  was : WasThere old space page
+  was = was_there seen_page _ _ old now space page h.turned next.1
+
+  unturned : so_far test from page ≡ false
+  unturned = not_yet test from page next.0
+
+  at : page_in now space page ≡ Some was.x
+  at = still seen_page (so_far test from) (alone_in old space) old now space page was.x h.turned was.had unturned
+
+  same_own : has_own (books now) space page ≡ test page
+  same_own = own_now old now space page was.x was.had at
+
+  not_alone : (r : ℕ) → has_own (books old) space r ≡ true → is_alone (books old) space r ≡ false
+  not_alone r own = by_test (is_alone (books old) space r) refl
+    where
+      by_test : (b : Bool) → is_alone (books old) space r ≡ b → is_alone (books old) space r ≡ false
+      by_test false e = e
+      by_test true e = let no = sym own ∙ none r e in cc
+
+  turned_more : test page ≡ true → (frame : ℕ) → IsNewFrame now frame
+      → HasTurned seen_page (so_far test (page + 1)) (alone_in old space) old (put_page now space page (copied frame was.x)) space
+  turned_more e frame fresh =
+      said_again seen_page _ _ (alone_in old space) old (put_page now space page (copied frame was.x)) space
+      (copied_one (so_far test from) old now space page was.x h.turned was.had unturned (not_alone page e) frame fresh)
+      (λ r x had. next_done test now space from page next r (is_there seen_page _ _ old now space r x h.turned had) e)
+
+  -- the units with it are at most those after the last one
+  room_now : test page ≡ true → is_alone (books now) space page ≡ false → HasCopyRoom now space page
+  room_now e shared x there =
+      let le = room_on_the_way (books old) space (origins_apart old space apart) (λ r. alone_in old space r || nat_lt r from) (books now)
+      (retold (so_far test from) (both_tests test (λ r. alone_in old space r || nat_lt r from)) (alone_in old space) (books old) (books now) space h.turned.ledger (λ r x had. alone_too r))
+      (λ r alone. ap (λ b. b || nat_lt r from) alone) page (held_page now.zero_frame x) e (not_alone page e) (held_there now space page x there) shared in
+      let frames = h.turned.frames in
+      omega (arith, le, fits, frames)
+    where
+      alone_too : (r : ℕ) → both_tests test (λ r. alone_in old space r || nat_lt r from) r ≡ so_far test from r
+      alone_too r = by_own (test r) refl
+        where
+          by_own : (b : Bool) → test r ≡ b → (test r && (alone_in old space r || nat_lt r from)) ≡ (test r && nat_lt r from)
+          by_own true e = ap (λ b. test r && (b || nat_lt r from)) (not_alone r e)
+          by_own false e = ap (λ b. b && (alone_in old space r || nat_lt r from)) e ∙ sym (ap (λ b. b && nat_lt r from) e)
+
+  pub can_copy : has_own (books now) space page ≡ true → CanCopy now space page
+  can_copy own = record { shared = shared; room = room_now (sym same_own ∙ own) shared }
+    where
+      shared : is_alone (books now) space page ≡ false
+      shared = alone_now seen_page (so_far test from) old now space page was.x apart h.turned unturned was.had ∙ not_alone page (sym same_own ∙ own)
+
+  pub copying_more : (new : State) → IsCopiedWhere (has_own (books now) space page) now new space page → page < PAGE_END → IsCopying old new space (page + 1)
+  copying_more new copies low = record { turned = by_test (test page) refl (subst (λ b. IsCopiedWhere b now new space page) same_own copies); low = omega arith }
+    where
+      placed : IfSome (page_in now space page) (λ x. IsPlaced now new space page (λ frame. copied frame x)) → IsPlaced now new space page (λ frame. copied frame was.x)
+      placed some = subst (λ (o : Option PageState). IfSome o (λ x. IsPlaced now new space page (λ frame. copied frame x))) at some
+
+      by_test : (b : Bool) → test page ≡ b → IsCopiedWhere (test page) now new space page → HasTurned seen_page (so_far test (page + 1)) (alone_in old space) old new space
+      by_test b e copies = cases b e (subst (λ c. IsCopiedWhere c now new space page) e copies)
+        where
+          cases : (b : Bool) → test page ≡ b → IsCopiedWhere b now new space page → HasTurned seen_page (so_far test (page + 1)) (alone_in old space) old new space
+          cases true e some =
+              let p = placed some in
+              subst (λ (v : State). HasTurned seen_page (so_far test (page + 1)) (alone_in old space) old v space) (sym p.placed) (turned_more e p.frame p.fresh)
+          cases false e same =
+              subst (λ (v : State). HasTurned seen_page (so_far test (page + 1)) (alone_in old space) old v space) (sym same)
+              (said_again seen_page _ _ (alone_in old space) old now space h.turned
+              (λ r x had. next_kept test now space from page next r (is_there seen_page _ _ old now space r x h.turned had) e))
+
+pub copied_all : (old now : State) (space from : ℕ) → IsBare old space → IsCopying old now space from → IsNextPage now space from None → HasSettled old now space
+copied_all old now space from plain h none = record {
+  settled = are_settled test (alone_in old space) every_page old now space whole plain (λ r e. refl)
+      (λ r x had e _. none_own x.own (sym (own_is (books old) space r (held_page old.zero_frame x) (held_there old space r x had)) ∙ e));
+  ledger = alike_turned test (alone_in old space) (books old) (books now) (ledger_after (Settle space) (books old)) space whole.ledger (after_settle (books old) space);
+}
+  where
+    test : ℕ → Bool
+    test = to_copy old space
+
+    whole : HasTurned seen_page test (alone_in old space) old now space
+    whole = said_again seen_page _ _ (alone_in old space) old now space h.turned
+        (λ r x had. sym (at_last test now space from none r (is_there seen_page _ _ old now space r x h.turned had)))
+
+-- one page
+pub lines_above : (v : State) (space page n : ℕ) → has_own (books v) space page ≡ nat_lt 0 n → (n ≡ 0 → ⊥) → has_own (books v) space page ≡ true
+lines_above v space page n own some = own ∙ above
+  where
+    above : nat_lt 0 n ≡ true
+    above = grind (arith, nat_tests)
+
+pub copies_none : (v : State) (space page n : ℕ) → has_own (books v) space page ≡ nat_lt 0 n → n ≡ 0 → IsCopiedWhere (has_own (books v) space page) v v space page
+copies_none v space page n own none = subst (λ b. IsCopiedWhere b v v space page) (sym (own ∙ ap (nat_lt 0) none)) refl
+
+pub copies_it : (v w : State) (space page n : ℕ) → has_own (books v) space page ≡ nat_lt 0 n → (n ≡ 0 → ⊥)
+    → IfSome (page_in v space page) (λ x. IsPlaced v w space page (λ frame. copied frame x)) → IsCopiedWhere (has_own (books v) space page) v w space page
+copies_it v w space page n own some placed = subst (λ b. IsCopiedWhere b v w space page) (sym (lines_above v space page n own some)) placed
+
+-- Commits first, then copies.
+module _ (old mid : State) (space : ℕ) (apart : ArePagesApart old space) (h : HasCommittedAlone old mid space) where
+  pub none_left : NoneAlone mid space
+  none_left = subst (λ (l : Ledger). (r : ℕ) → is_alone l space r ≡ true → has_own l space r ≡ false) (sym h.ledger) (none_alone (books old) space (origins_apart old space apart))
+
+  comes_to : AreAlike (ledger_after (Settle space) (books mid)) (ledger_after (Settle space) (books old))
+  comes_to =
+      subst (λ (l : Ledger). AreAlike (ledger_after (Settle space) l) (ledger_after (Settle space) (books old))) (sym h.ledger)
+      (commits_first (books old) space (origins_apart old space apart))
+
+  pub fits_still : FitsAfter (Settle space) old → FitsAfter (Settle space) mid
+  fits_still fits =
+      let same = units_alike _ _ comes_to in
+      let frames = h.settled.frames in
+      omega (arith, same, fits, frames)
+
+  pub both_settled : (new : State) → HasSettled mid new space → HasSettled old new space
+  both_settled new k = record {
+    settled = record {
+      memory = k.settled.memory ∙ h.settled.memory;
+      base = λ r. k.settled.base r ∙ ap (λ (m : Memory). get m r) h.settled.memory;
+      own = k.settled.own;
+      awaiting = k.settled.awaiting ∙ h.settled.awaiting;
+      marked = k.settled.marked ∙ h.settled.marked;
+      others = λ q d. k.settled.others q d ∙ h.settled.others q d;
+      spaces = λ q. k.settled.spaces q ∙ h.settled.spaces q;
+      frames = k.settled.frames ∙ h.settled.frames;
+      zero_frame = k.settled.zero_frame ∙ h.settled.zero_frame;
+    };
+    ledger = alike_chain _ _ _ k.ledger comes_to;
+  }

@@ -1,0 +1,4 @@
+pub mod Counts
+pub mod CommitWalk
+pub mod CopyWalk
+pub mod Pages

@@ -1,0 +1,22 @@
+use Rattle.overlay_pages.specs.View.{state_of}
+use Rattle.promotion.specs.Joined.{all_bare}
+use Rattle.promotion.proofs.CopyWalk.{can_copy, copied_all, copying_more, copying_none}
+use Rattle.promotion.proofs.settling.copy_overlaid.Goals as goal
+
+pub copying-init : goal.copying-init
+copying-init c = copying_none (state_of c.args.mem.now) c.args.space
+
+pub copy_one-requires-clause-fits : goal.copy_one-requires-clause-fits
+copy_one-requires-clause-fits c =
+    can_copy (state_of c.args.mem.now) (state_of c.copying.mem) c.args.space c.copying.from c.in-Some.page c.see_apart.ensures c.requires.shared
+    c.requires.fits c.copying.invariant c.in-Some.ensures
+
+pub copying-preserved : goal.copying-preserved
+copying-preserved c =
+    copying_more (state_of c.args.mem.now) (state_of c.copying.mem) c.args.space c.copying.from c.in-Some.page c.see_apart.ensures c.requires.shared
+    c.requires.fits c.copying.invariant c.in-Some.ensures
+    (state_of c.copy_one.new.mem) c.copy_one.ensures.copied c.copy_one.ensures.low
+
+pub returns : goal.returns
+returns c =
+    copied_all (state_of c.args.mem.now) (state_of c.copying.mem) c.args.space c.copying.from (all_bare c.args.mem.now c.args.space) c.copying.invariant c.in_default.ensures

@@ -1,0 +1,13 @@
+-- In reading order: what settling does, what a page counts, and how the calls come out; then laws: what settling pages makes of a
+-- ledger, what is true of every memory, and what settling pages makes of its state.
+pub mod Settled
+pub mod Counted
+pub mod Promoted
+pub mod Fates
+pub mod FateLaws
+pub mod FateFolds
+pub mod FateUnits
+pub mod Joined
+pub mod Turns
+pub mod Walks
+pub mod CountLaws

@@ -1,0 +1,99 @@
+use Rattle.std.specs.Prelude.{◌≡◌, ℕ, ◌≤◌, ◌&&◌, Bool, true, false, if◌then◌else◌, Result, Ok, Err, IfSome}
+use Rattle.std.specs.FinMap.{get}
+use Rattle.space_ledger.specs.Calls.{NamesOnce}
+use Rattle.ledger.specs.Alike.{AreAlike}
+use Rattle.ledger.specs.Changes.{has_own}
+use Rattle.ledger.specs.Events.{Event, Commit, Settle, ledger_after}
+use Rattle.ledger.specs.Ledger.{is_alone}
+use Rattle.ledger.specs.Units.{units}
+use Rattle.overlay_pages.specs.State.{State, base_of, books, holds_space, memory_of, page_in, space_in, turned_page}
+use Rattle.overlay_pages.specs.Changes.{HasCopyRoom, IsPlaced, committed, copied, limit_of}
+use Rattle.overlay_pages.specs.Calls.{entries_in}
+use Rattle.overlay_pages.specs.View.{MemoryView, state_of}
+use Rattle.overlay_memory.specs.Access.{IsFullAt}
+use Rattle.promotion.specs.declared.error.Shortage.{Shortage}
+
+-- What settling does.
+
+-- no two pages of a space have one frame, but for the zero frame
+abbrev pub ArePagesApart : State → ℕ → Type 0
+ArePagesApart state space = NamesOnce state.zero_frame (entries_in state space)
+
+-- The pages of a space that `which` names were settled: what processes see is as before, with its permissions; it is the base of
+-- these pages, which have no own lines; every other page has its base of before. The space is marked as said, and nothing else
+-- changed.
+pub record AreSettled (which : ℕ → Bool) (mark : Bool) (old new : State) (space : ℕ) : Type 0 where
+  pub memory : memory_of new space ≡ memory_of old space
+  pub base : (page : ℕ) → get (base_of new space) page ≡ (if which page then get (memory_of old space) page else get (base_of old space) page)
+  pub own : (page : ℕ) → which page ≡ true → has_own (books new) space page ≡ false
+  pub awaiting : (space_in new space).awaiting ≡ (space_in old space).awaiting
+  pub marked : (space_in new space).speculating ≡ mark
+  pub others : (q : ℕ) → (q ≡ space → ⊥) → space_in new q ≡ space_in old q
+  pub spaces : (q : ℕ) → holds_space new q ≡ holds_space old q
+  pub frames : new.frames ≡ old.frames
+  pub zero_frame : new.zero_frame ≡ old.zero_frame
+
+-- whether a space is speculating
+abbrev pub mark_of : State → ℕ → Bool
+mark_of state space = (space_in state space).speculating
+
+-- all pages of a space, and those that are alone
+abbrev pub every_page : ℕ → Bool
+every_page page = true
+
+abbrev pub alone_in : State → ℕ → ℕ → Bool
+alone_in state space page = is_alone (books state) space page
+
+-- the ledger is the one after an event, but for the numbers of origins
+abbrev pub IsAfter : Event → State → State → Type 0
+IsAfter event old new = AreAlike (books new) (ledger_after event (books old))
+
+-- the units after an event
+abbrev pub units_after : Event → State → ℕ
+units_after event state = units (ledger_after event (books state))
+
+-- the units after an event are within the limit
+abbrev pub FitsAfter : Event → State → Type 0
+FitsAfter event state = units_after event state ≤ limit_of state
+
+-- no page of a space that is alone has own lines
+abbrev pub NoneAlone : State → ℕ → Type 0
+NoneAlone state space = (page : ℕ) → is_alone (books state) space page ≡ true → has_own (books state) space page ≡ false
+
+-- each page of a space that is alone was settled
+pub record HasCommittedAlone (old new : State) (space : ℕ) : Type 0 where
+  pub settled : AreSettled (alone_in old space) (mark_of old space) old new space
+  pub ledger : books new ≡ ledger_after (Commit space) (books old)
+
+-- each page of a space was settled
+pub record HasSettled (old new : State) (space : ℕ) : Type 0 where
+  pub settled : AreSettled every_page (mark_of old space) old new space
+  pub ledger : IsAfter (Settle space) old new
+
+-- how settling a space comes out: each page is settled, or the units after that exceed the limit and nothing changed
+abbrev pub Settles : MemoryView → MemoryView → ℕ → Result (Unit {0}) Shortage → Type 0
+Settles old new space (Ok done) = FitsAfter (Settle space) (state_of old) × HasSettled (state_of old) (state_of new) space
+Settles old new space (Err shortage) = IsFullAt old new (units_after (Settle space) (state_of old)) shortage.needed shortage.limit
+
+-- What is done to one page.
+
+-- its own lines go into its frame, where it has any and is alone
+unfoldable pub with_committed : State → ℕ → ℕ → State
+with_committed state space page =
+    if has_own (books state) space page && is_alone (books state) space page then turned_page committed state space page else state
+
+-- it gets a new frame, where it has own lines
+abbrev pub IsCopiedWhere : Bool → State → State → ℕ → ℕ → Type 0
+IsCopiedWhere true old new space page = IfSome (page_in old space page) (λ x. IsPlaced old new space page (λ frame. copied frame x))
+IsCopiedWhere false old new space page = new ≡ old
+
+abbrev pub IsCopied : State → State → ℕ → ℕ → Type 0
+IsCopied old new space page = IsCopiedWhere (has_own (books old) space page) old new space page
+
+-- it can be copied: it isn't alone, and the units suffice
+pub record CanCopy (state : State) (space page : ℕ) : Type 0 where
+  pub shared : is_alone (books state) space page ≡ false
+  pub room : HasCopyRoom state space page
+
+abbrev pub CanCopyOwn : State → ℕ → ℕ → Type 0
+CanCopyOwn state space page = has_own (books state) space page ≡ true → CanCopy state space page

@@ -1,0 +1,20 @@
+//! Promotion: the overlays of a space, or of one page, become part of its frames.
+//!
+//! What calls do is said of the state that the memory stands for, and of the ledger that is a function of it.
+//!
+//! - `error`: why nothing is promoted
+//! - `units`: the units after pages are settled, before any is
+//! - `settling`: each page with own lines is settled, those that are alone first
+//! - `promoting`: one page, or all of a space
+#![tactic(auto)]
+
+mod error;
+mod promoting;
+mod settling;
+#[cfg(test)]
+mod tests;
+mod units;
+
+pub use error::{PromoteError, Shortage};
+pub use promoting::{promote, promote_all};
+pub use settling::{commit_alone, settle};

@@ -1,0 +1,152 @@
+use Rattle.std.specs.Prelude.{◌≡◌, ℕ, ◌+◌, ◌<◌, ◌≤◌, ◌⊎◌, Bool, true, false, cond, nat_lt, List, [], length, Option, Some, None, refl}
+use Rattle.std.proofs.Common.{sym, ap, subst, ◌∙◌, arith, inl, inr}
+use Rattle.std.proofs.lemmas.Bool.Decides.{nat_tests}
+use Rattle.std.specs.Option.{option_map}
+use Rattle.sizes.specs.declared.TheConstants.{PAGE_END}
+use Rattle.number_maps.specs.Keys.{alike}
+use Rattle.ledger.specs.Ledger.{Holding, holding_at}
+use Rattle.ledger.specs.Changes.{has_own}
+use Rattle.ledger.specs.Events.{Discard, ledger_after}
+use Rattle.overlay_pages.specs.State.{PageState, State, base_page, books, held_page, page_in, put_page, seen_page, turned_page}
+use Rattle.overlay_pages.specs.StateLaws.{changed_there, ledger_page}
+use Rattle.overlay_pages.specs.Changes.{discarded}
+use Rattle.overlay_pages.specs.Lines.{bytes_in_lines}
+use Rattle.overlay_pages.specs.Calls.{IsNextPage}
+use Rattle.promotion.specs.Settled.{mark_of}
+use Rattle.promotion.specs.Fates.{IsFate}
+use Rattle.promotion.specs.FateFolds.{after_discard, none_own, own_absent, own_is, same_turned, widened}
+use Rattle.promotion.specs.Joined.{IsBare}
+use Rattle.promotion.specs.Turns.{HasTurned, IsTurn, WasThere, base_at, held_there, is_there, memory_at, none_yet, one_more, own_now, said_again, still, was_there}
+use Rattle.promotion.specs.Walks.{at_first, at_last, next_done, next_kept, not_yet, so_far}
+use Rattle.speculation.specs.Speculated.{HasDiscarded, with_discarded}
+
+-- Overlays are given up, one after the other.
+
+abbrev any_origin : ℕ → Bool
+any_origin r = true
+
+-- the pages that have one
+abbrev pub to_discard : State → ℕ → ℕ → Bool
+to_discard v space r = has_own (books v) space r
+
+pub record IsDiscarding (old now : State) (space from : ℕ) : Type 0 where
+  pub turned : HasTurned base_page (so_far (to_discard old space) from) any_origin old now space
+  pub low : from ≤ PAGE_END
+
+pub discarding_none : (v : State) (space : ℕ) → IsDiscarding v v space 0
+discarding_none v space = record {
+  turned = said_again base_page _ _ any_origin v v space (none_yet base_page any_origin v space) (λ r x at. at_first (to_discard v space) r);
+  low = omega arith;
+}
+
+module _ (old now new : State) (space from page : ℕ) (h : IsDiscarding old now space from) (next : IsNextPage now space from (Some page))
+    (is : new ≡ with_discarded now space page) (low : page < PAGE_END) where
+  abbrev test : ℕ → Bool
+  test = to_discard old space
+
+  was : WasThere old space page
+  was = was_there base_page _ _ old now space page h.turned next.1
+
+  pub discarding_more : IsDiscarding old new space (page + 1)
+  unfolding with_discarded
+  discarding_more = record { turned = by_test (test page) refl; low = omega arith }
+    where
+      unturned : so_far test from page ≡ false
+      unturned = not_yet test from page next.0
+
+      at : page_in now space page ≡ Some was.x
+      at = still base_page (so_far test from) any_origin old now space page was.x h.turned was.had unturned
+
+      same_test : has_own (books now) space page ≡ test page
+      same_test = own_now old now space page was.x was.had at
+
+      by_test : (b : Bool) → test page ≡ b → HasTurned base_page (so_far test (page + 1)) any_origin old new space
+      by_test false e =
+          let kept : new ≡ now = is ∙ ap (λ b. cond b (turned_page discarded now space page) now) (same_test ∙ e) in
+          subst (λ (v : State). HasTurned base_page (so_far test (page + 1)) any_origin old v space) (sym kept)
+          (said_again base_page _ _ any_origin old now space h.turned
+          (λ r x had. next_kept test now space from page next r (is_there base_page _ _ old now space r x h.turned had) e))
+      by_test true e =
+          let put : new ≡ put_page now space page (discarded was.x) =
+          is ∙ ap (λ b. cond b (turned_page discarded now space page) now) (same_test ∙ e) ∙ changed_there discarded now space page was.x at in
+          subst (λ (v : State). HasTurned base_page (so_far test (page + 1)) any_origin old v space) (sym put)
+          (said_again base_page _ _ any_origin old (put_page now space page (discarded was.x)) space
+          (one_more base_page (so_far test from) any_origin old now space page was.x (discarded was.x) h.turned was.had unturned refl refl refl (λ _. refl) (λ no. cc))
+          (λ r x had. next_done test now space from page next r (is_there base_page _ _ old now space r x h.turned had) e))
+
+module _ (old now : State) (space from : ℕ) (plain : IsBare old space) (h : IsDiscarding old now space from) (none : IsNextPage now space from None) where
+  abbrev tests : ℕ → Bool
+  tests = to_discard old space
+
+  whole : HasTurned base_page tests any_origin old now space
+  whole = said_again base_page _ _ any_origin old now space h.turned
+      (λ r x had. sym (at_last tests now space from none r (is_there base_page _ _ old now space r x h.turned had)))
+
+  bare : (r : ℕ) (x : PageState) → page_in old space r ≡ Some x → tests r ≡ false → x.own ≡ []
+  bare r x had e = none_own x.own (sym (own_is (books old) space r (held_page old.zero_frame x) (held_there old space r x had)) ∙ e)
+
+  same_memory : (r : ℕ) (o : Option PageState) → page_in old space r ≡ o → option_map seen_page (page_in now space r) ≡ option_map base_page (page_in old space r)
+  same_memory r None had = ap (option_map seen_page) (whole.absent r had) ∙ sym (ap (option_map base_page) had)
+  same_memory r (Some x) had =
+      let p = whole.pages r x had in ap (option_map seen_page) p.there ∙ ap Some (by_turn (tests r) refl p.is p.turn) ∙ sym (ap (option_map base_page) had)
+    where
+      by_turn : (b : Bool) → tests r ≡ b → (is : PageState) → IsTurn base_page b x is → seen_page is ≡ base_page x
+      by_turn true e is turn = turn.0
+      by_turn false e is turn = ap seen_page turn ∙ ap (λ lines. record { perms = x.entry.perms.0; bytes = bytes_in_lines lines }) (plain r x had (bare r x had e))
+
+  same_base : (r : ℕ) (o : Option PageState) → page_in old space r ≡ o → option_map base_page (page_in now space r) ≡ option_map base_page (page_in old space r)
+  same_base r None had = ap (option_map base_page) (whole.absent r had ∙ sym had)
+  same_base r (Some x) had =
+      let p = whole.pages r x had in ap (option_map base_page) p.there ∙ ap Some (by_turn (tests r) p.is p.turn) ∙ sym (ap (option_map base_page) had)
+    where
+      by_turn : (b : Bool) (is : PageState) → IsTurn base_page b x is → base_page is ≡ base_page x
+      by_turn true is turn = turn.1
+      by_turn false is turn = ap base_page turn
+
+  none_owned : (r : ℕ) → has_own (books now) space r ≡ false
+  none_owned r = by_page (page_in old space r) refl
+    where
+      by_page : (o : Option PageState) → page_in old space r ≡ o → has_own (books now) space r ≡ false
+      by_page None had = own_absent (books now) space r (whole.ledger.absent r (ledger_page old space r ∙ ap (option_map (held_page old.zero_frame)) had))
+      by_page (Some x) had =
+          let f = whole.ledger.pages r (held_page old.zero_frame x) (held_there old space r x had) in
+          own_is (books now) space r f.is f.there ∙ ap (λ (l : List ℕ). nat_lt 0 (length l)) (by_turn (tests r) refl f.is f.fate)
+        where
+          by_turn : (b : Bool) → tests r ≡ b → (w : Holding) → IsFate b true (books now) space r (held_page old.zero_frame x) w → w.own ≡ []
+          by_turn false e w fate = ap (λ (v : Holding). v.own) fate ∙ bare r x had e
+          by_turn true e w fate = ap (λ (v : Holding). v.own) fate
+
+  wide : (r : ℕ) (x : Holding) → holding_at (books old) space r ≡ Some x → (any_origin r ≡ tests r) ⊎ ((tests r ≡ false) × (any_origin r ≡ true) × (x.own ≡ []))
+  wide r x had = by_own (tests r) refl
+    where
+      by_own : (b : Bool) → tests r ≡ b → (any_origin r ≡ tests r) ⊎ ((tests r ≡ false) × (any_origin r ≡ true) × (x.own ≡ []))
+      by_own true e = inl (sym e)
+      by_own false e = inr (e, refl, none_own x.own (sym (own_is (books old) space r x had) ∙ e))
+
+  pub discarded_all : HasDiscarded (mark_of old space) old now space
+  discarded_all = record {
+    memory = alike _ _ (λ r. memory_at now space r ∙ same_memory r (page_in old space r) refl ∙ sym (base_at old space r));
+    base = alike _ _ (λ r. base_at now space r ∙ same_base r (page_in old space r) refl ∙ sym (base_at old space r));
+    ledger = same_turned any_origin any_origin (books old) (books now) (ledger_after (Discard space) (books old)) space
+        (widened tests any_origin any_origin (books old) (books now) space whole.ledger wide) (after_discard (books old) space) (λ r e. refl);
+    own = none_owned;
+    awaiting = whole.awaiting;
+    marked = whole.mark;
+    others = whole.others;
+    spaces = whole.spaces;
+    frames = whole.frames;
+    zero_frame = whole.zero_frame;
+  }
+
+-- one page
+pub discards_none : (v : State) (space page n : ℕ) → has_own (books v) space page ≡ nat_lt 0 n → n ≡ 0 → v ≡ with_discarded v space page
+unfolding with_discarded
+discards_none v space page n own none = sym (ap (λ b. cond b (turned_page discarded v space page) v) (own ∙ ap (nat_lt 0) none))
+
+pub discards_it : (v w : State) (space page n : ℕ) → has_own (books v) space page ≡ nat_lt 0 n → (n ≡ 0 → ⊥) → w ≡ turned_page discarded v space page
+    → w ≡ with_discarded v space page
+unfolding with_discarded
+discards_it v w space page n own some is = is ∙ sym (ap (λ b. cond b (turned_page discarded v space page) v) (own ∙ above))
+  where
+    above : nat_lt 0 n ≡ true
+    above = grind (arith, nat_tests)

@@ -1,0 +1,2 @@
+pub mod DiscardWalk
+pub mod Marks

@@ -1,0 +1,48 @@
+use Rattle.std.specs.Prelude.{◌≡◌, ℕ, Bool, true, false}
+use Rattle.std.proofs.Common.{sym, ap, subst, ◌∙◌}
+use Rattle.std.specs.FinMap.{get}
+use Rattle.number_maps.specs.Keys.{alike}
+use Rattle.ovl_io.specs.Memory.{Memory}
+use Rattle.ledger.specs.Alike.{AreAlike}
+use Rattle.ledger.specs.Changes.{has_own}
+use Rattle.ledger.specs.Events.{Settle, ledger_after}
+use Rattle.ledger.specs.Ledger.{Ledger}
+use Rattle.overlay_pages.specs.State.{State, books, holds_space, put_mark}
+use Rattle.promotion.specs.Settled as settled
+use Rattle.promotion.specs.Settled.{HasSettled, alone_in, every_page, mark_of}
+use Rattle.promotion.specs.Turns.{is_marked, settled_marked}
+use Rattle.speculation.specs.Speculated.{HasCommitted, HasDiscarded, HasStarted}
+
+-- A space is marked after its pages were settled, committed or discarded.
+
+pub started : (old mid new : State) (space : ℕ) → HasSettled old mid space → holds_space old space ≡ true → new ≡ put_mark mid space true → HasStarted old new space
+started old mid new space h there is =
+    let m = is_marked mid new space true (h.settled.spaces space ∙ there) is in
+    let whole = settled_marked every_page (mark_of old space) true old mid new space h.settled m in record {
+      settled = whole;
+      base = alike _ _ (λ r. whole.base r ∙ ap (λ (l : Memory). get l r) (sym whole.memory));
+      ledger = subst (λ (l : Ledger). AreAlike l (ledger_after (Settle space) (books old))) (sym m.ledger) h.ledger;
+    }
+
+pub committed : (old mid new : State) (space : ℕ) → settled.HasCommittedAlone old mid space → holds_space old space ≡ true → new ≡ put_mark mid space false → HasCommitted old new space
+committed old mid new space h there is =
+    let m = is_marked mid new space false (h.settled.spaces space ∙ there) is in record {
+      settled = settled_marked (alone_in old space) (mark_of old space) false old mid new space h.settled m;
+      ledger = m.ledger ∙ h.ledger;
+    }
+
+pub discarded : (mark : Bool) (old mid new : State) (space : ℕ) → HasDiscarded mark old mid space → holds_space old space ≡ true → new ≡ put_mark mid space false
+    → HasDiscarded false old new space
+discarded mark old mid new space h there is =
+    let m = is_marked mid new space false (h.spaces space ∙ there) is in record {
+      memory = m.memory ∙ h.memory;
+      base = m.base ∙ h.base;
+      ledger = m.ledger ∙ h.ledger;
+      own = λ r. ap (λ (l : Ledger). has_own l space r) m.ledger ∙ h.own r;
+      awaiting = m.awaiting ∙ h.awaiting;
+      marked = m.marked;
+      others = λ q d. m.others q d ∙ h.others q d;
+      spaces = λ q. m.spaces q ∙ h.spaces q;
+      frames = m.frames ∙ h.frames;
+      zero_frame = m.zero_frame ∙ h.zero_frame;
+    }

@@ -1,0 +1,2 @@
+-- What speculation does, and how the calls come out.
+pub mod Speculated

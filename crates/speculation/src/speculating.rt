@@ -1,0 +1,62 @@
+//! Start, commit and discard.
+
+ghost use Rattle.std.specs.Prelude.{◌≡◌, true};
+ghost use Rattle.std.specs.FinMap as map;
+ghost use Rattle.overlay_pages.specs.State.{holds_space, space_in};
+ghost use Rattle.overlay_pages.specs.View.{state_of};
+ghost use Rattle.speculation.specs.Speculated.{Commits, Discards, Starts};
+
+use crate::discarding::discard_all;
+use crate::error::SpeculationError;
+use overlay_memory::OverlayMemory;
+use promotion::{commit_alone, settle};
+
+/// Settles each page of a space, of which no page awaits, and marks the space as speculating: from then on its stores change no
+/// base. Speculating exactly where it is marked, else Full exactly where the units after it would exceed the limit; NotSpeculating
+/// never. After an error everything is as before. Takes no memory. Costs a look-up for each page, a copy of each own line, and a
+/// page for each new frame.
+pub fn start(mem: &mut OverlayMemory, space: u16) -> Result<(), SpeculationError>
+    requires there { holds_space (state_of mem.old) space ≡ true }
+    requires settled { (space_in (state_of mem.old) space).awaiting ≡ map.empty }
+    ensures { Starts mem.old mem.new space result }
+{
+    if mem.is_speculating(space) {
+        return Err(SpeculationError::Speculating);
+    }
+    match settle(mem, space) {
+        Ok(()) => {
+            mem.set_speculating(space, true);
+            Ok(())
+        }
+        Err(short) => Err(SpeculationError::Full(short.needed, short.limit)),
+    }
+}
+
+/// The own lines of each page that is alone go into its frame, the other pages keep their overlays as ordinary ones, and the mark
+/// is taken away. NotSpeculating exactly where the space isn't marked; then everything is as before. Never full. Takes no memory.
+/// Costs a look-up for each page, and a copy of each own line.
+pub fn commit(mem: &mut OverlayMemory, space: u16) -> Result<(), SpeculationError>
+    requires there { holds_space (state_of mem.old) space ≡ true }
+    ensures { Commits mem.old mem.new space result }
+{
+    if !mem.is_speculating(space) {
+        return Err(SpeculationError::NotSpeculating);
+    }
+    commit_alone(mem, space);
+    mem.set_speculating(space, false);
+    Ok(())
+}
+
+/// Every overlay of a space is given up, so that its base is what processes see, and the mark is taken away. NotSpeculating exactly
+/// where the space isn't marked; then everything is as before. Never full. Takes no memory. Costs a look-up for each page.
+pub fn discard(mem: &mut OverlayMemory, space: u16) -> Result<(), SpeculationError>
+    requires there { holds_space (state_of mem.old) space ≡ true }
+    ensures { Discards mem.old mem.new space result }
+{
+    if !mem.is_speculating(space) {
+        return Err(SpeculationError::NotSpeculating);
+    }
+    discard_all(mem, space);
+    mem.set_speculating(space, false);
+    Ok(())
+}
