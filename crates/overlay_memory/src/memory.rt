@@ -4,7 +4,7 @@ ghost use Rattle.std.specs.Prelude.{◌≡◌, ℕ, ◌+◌, ◌*◌, ◌<◌, �
 ghost use Rattle.std.specs.Borrow.{Lends, sem, Array, u8 as byte};
 ghost use Rattle.std.specs.FinMap as map;
 ghost use Rattle.std.specs.Option.{option_map};
-ghost use Rattle.sizes.specs.declared.TheConstants.{LAST_SPACE, MOST_FRAMES, MOST_SPACE_PAGES, PAGE_BYTES, PAGE_END, PAGE_LINES};
+ghost use Rattle.sizes.specs.declared.TheConstants.{LAST_SPACE, MOST_FRAMES, MOST_SPACE_PAGES, MOST_UNITS, PAGE_BYTES, PAGE_END, PAGE_LINES};
 ghost use Rattle.ovl_io.specs.Memory.{bytes_at};
 ghost use Rattle.ledger.specs.Ledger.{is_alone};
 ghost use Rattle.ledger.specs.Units.{own_lines};
@@ -361,7 +361,8 @@ impl OverlayMemory {
     /// The most units that there may be: 16 for each frame. Costs a step.
     #[inline]
     pub fn limit(&self) -> u32
-        ensures { result ≡ limit_of (state_of self.now) }
+        ensures limit { result ≡ limit_of (state_of self.now) }
+        ensures few { result ≤ MOST_UNITS }
     {
         self.pages.limit()
     }

@@ -10,7 +10,7 @@ returns-then-needed-limit c = record {
   needed_is = needed_is (state_of c.args.mem.now) c.args.from c.args.to c.units_copied-needed.result
       (two_spaces (state_of c.args.mem.now) c.args.from c.args.to c.requires.there c.requires.absent)
       c.requires.absent c.units_copied-needed.ensures.sum;
-  limit_is = c.limit-limit.ensures;
+  limit_is = c.limit-limit.ensures.limit;
   over = c.if-needed-limit.true;
   kept = refl;
 }
@@ -42,13 +42,13 @@ pub fill_space-requires-clause-fits : goal.fill_space-requires-clause-fits
 fill_space-requires-clause-fits c =
     (added c).beside.fits
     (fits_before (state_of c.args.mem.now) c.args.from c.args.to c.units_copied-needed.result c.limit-limit.result (two_spaces (state_of c.args.mem.now) c.args.from c.args.to c.requires.there c.requires.absent)
-    c.requires.absent c.units_copied-needed.ensures.sum c.limit-limit.ensures c.if-needed-limit.false)
+    c.requires.absent c.units_copied-needed.ensures.sum c.limit-limit.ensures.limit c.if-needed-limit.false)
 
 pub returns-in-Ok-fill_space : goal.returns-in-Ok-fill_space
 returns-in-Ok-fill_space c =
     let differs = two_spaces (state_of c.args.mem.now) c.args.from c.args.to c.requires.there c.requires.absent in (
       fits_before (state_of c.args.mem.now) c.args.from c.args.to c.units_copied-needed.result c.limit-limit.result differs c.requires.absent
-          c.units_copied-needed.ensures.sum c.limit-limit.ensures c.if-needed-limit.false,
+          c.units_copied-needed.ensures.sum c.limit-limit.ensures.limit c.if-needed-limit.false,
       has_forked (state_of c.args.mem.now) (state_of c.fill_space.new.mem) c.args.from c.args.to differs
           (c.in-Ok-fill_space.ensures ∙ ap (λ (v : State). with_copy v c.args.from c.args.to) c.in-Ok.ensures.added),
     )
@@ -57,7 +57,7 @@ pub returns-in-Err-fill_space : goal.returns-in-Err-fill_space
 returns-in-Err-fill_space c = (
   fits_before (state_of c.args.mem.now) c.args.from c.args.to c.units_copied-needed.result c.limit-limit.result
       (two_spaces (state_of c.args.mem.now) c.args.from c.args.to c.requires.there c.requires.absent) c.requires.absent c.units_copied-needed.ensures.sum
-      c.limit-limit.ensures c.if-needed-limit.false,
+      c.limit-limit.ensures.limit c.if-needed-limit.false,
   c.in-Err-fill_space.ensures ∙ ap (λ (v : State). cut_space v c.args.to) c.in-Ok.ensures.added ∙ cut_put (state_of c.args.mem.now) c.args.to bare_space c.requires.absent,
 )
 
@@ -65,6 +65,6 @@ pub returns-in-Err : goal.returns-in-Err
 returns-in-Err c = (
   fits_before (state_of c.args.mem.now) c.args.from c.args.to c.units_copied-needed.result c.limit-limit.result
       (two_spaces (state_of c.args.mem.now) c.args.from c.args.to c.requires.there c.requires.absent) c.requires.absent c.units_copied-needed.ensures.sum
-      c.limit-limit.ensures c.if-needed-limit.false,
+      c.limit-limit.ensures.limit c.if-needed-limit.false,
   ap state_of c.in-Err.ensures.kept,
 )

@@ -26,15 +26,15 @@ pub returns-then-needed-limit : goal.returns-then-needed-limit
 returns-then-needed-limit c =
     falls_short c.args.mem.now c.args.space c.args.page c.units-units.result c.limit-limit.result c.lines_of.result c.len-own.result c.class_of.result
     c.lines_of.ensures.own c.len-own.ensures.count
-    c.units-units.ensures.sum c.units-units.ensures.fits c.class_of.ensures c.limit-limit.ensures c.if-own-eq0.false (sym c.is_alone.ensures ∙ c.if-is_alone.false) c.if-needed-limit.true
+    c.units-units.ensures.sum c.units-units.ensures.fits c.class_of.ensures c.limit-limit.ensures.limit c.if-own-eq0.false (sym c.is_alone.ensures ∙ c.if-is_alone.false) c.if-needed-limit.true
 
 pub copy_commit_page-requires-clause-room : goal.copy_commit_page-requires-clause-room
 copy_commit_page-requires-clause-room c =
     has_room c.args.mem.now c.args.space c.args.page c.units-units.result c.limit-limit.result c.lines_of.result c.len-own.result c.class_of.result c.lines_of.ensures.own c.len-own.ensures.count
-    c.units-units.ensures.sum c.units-units.ensures.fits c.class_of.ensures c.limit-limit.ensures c.if-own-eq0.false (sym c.is_alone.ensures ∙ c.if-is_alone.false) c.if-needed-limit.false
+    c.units-units.ensures.sum c.units-units.ensures.fits c.class_of.ensures c.limit-limit.ensures.limit c.if-own-eq0.false (sym c.is_alone.ensures ∙ c.if-is_alone.false) c.if-needed-limit.false
 
 pub returns : goal.returns
 returns c =
     copies c.args.mem.now c.args.space c.args.page c.units-units.result c.limit-limit.result c.lines_of.result c.len-own.result c.class_of.result c.lines_of.ensures.own c.len-own.ensures.count
-    c.units-units.ensures.sum c.units-units.ensures.fits c.class_of.ensures c.limit-limit.ensures c.if-own-eq0.false (sym c.is_alone.ensures ∙ c.if-is_alone.false)
+    c.units-units.ensures.sum c.units-units.ensures.fits c.class_of.ensures c.limit-limit.ensures.limit c.if-own-eq0.false (sym c.is_alone.ensures ∙ c.if-is_alone.false)
     (state_of c.copy_commit_page.new.self) c.if-needed-limit.false c.copy_commit_page.ensures

@@ -10,10 +10,10 @@ copy_overlaid-requires-clause-shared c = none_left (state_of c.args.mem.now) (st
 
 pub copy_overlaid-requires-clause-fits : goal.copy_overlaid-requires-clause-fits
 copy_overlaid-requires-clause-fits c =
-    let fits : FitsAfter (Settle c.args.space) (state_of c.args.mem.now) = omega (arith, c.units_settled-needed.ensures, c.limit-limit.ensures, c.if-needed-limit.false) in
+    let fits : FitsAfter (Settle c.args.space) (state_of c.args.mem.now) = omega (arith, c.units_settled-needed.ensures, c.limit-limit.ensures.limit, c.if-needed-limit.false) in
     fits_still (state_of c.args.mem.now) (state_of c.commit_alone.new.mem) c.args.space c.see_apart.ensures c.commit_alone.ensures fits
 
 pub returns : goal.returns
 returns c =
-    let fits : FitsAfter (Settle c.args.space) (state_of c.args.mem.now) = omega (arith, c.units_settled-needed.ensures, c.limit-limit.ensures, c.if-needed-limit.false) in
+    let fits : FitsAfter (Settle c.args.space) (state_of c.args.mem.now) = omega (arith, c.units_settled-needed.ensures, c.limit-limit.ensures.limit, c.if-needed-limit.false) in
     (fits, both_settled (state_of c.args.mem.now) (state_of c.commit_alone.new.mem) c.args.space c.see_apart.ensures c.commit_alone.ensures (state_of c.copy_overlaid.new.mem) c.copy_overlaid.ensures)
