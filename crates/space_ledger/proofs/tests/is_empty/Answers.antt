@@ -7,4 +7,4 @@ use Rattle.space_ledger.proofs.tests.is_empty.Goals as goal
 pub returns : goal.returns
 returns c none =
     let zero_pages : c.pages.result ≡ 0 = grind (arith, nat_tests) in
-    empty_of_len (space_at c.args.ledger.now c.args.space).pages (sym c.pages.ensures ∙ zero_pages)
+    empty_of_len (space_at c.args.ledger.now c.args.space).pages (sym c.pages.ensures.count ∙ zero_pages)
