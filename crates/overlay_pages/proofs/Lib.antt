@@ -10,6 +10,7 @@ pub mod Filling
 pub mod Tables
 pub mod Zeros
 pub mod Lending
+pub mod Found
 pub mod NewFrames
 pub mod Leaving
 pub mod Placed

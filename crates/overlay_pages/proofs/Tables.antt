@@ -9,6 +9,7 @@ use Rattle.number_maps.specs.Values.{len_low, remove_absent}
 use Rattle.number_maps.specs.Views.{get_viewed, viewed, viewed_empty}
 use Rattle.unit_map.specs.Pieces.{free_units}
 use Rattle.page_table.specs.Table.{Pages}
+use Rattle.page_table.specs.declared.entry.PageEntry.{PageEntry}
 use Rattle.ledger.specs.Ledger.{Ledger, Space, all_holdings, is_alone}
 use Rattle.ledger.specs.Units.{units}
 use Rattle.ledger.specs.ClassLaws.{class_most}
@@ -35,6 +36,22 @@ entry_state v q r = at (page_at v.table q r) ∙ sym (ap (option_map (λ (x : Pa
     at : (o : Option PageView) → option_map (λ (x : PageView). x.entry) o ≡ option_map (λ (x : PageState). x.entry) (option_map (page_state v.store) o)
     at None = refl
     at (Some x) = refl
+
+pub perms_state : (v : MemoryView) (q r : ℕ) (e : PageEntry) → Some e ≡ option_map (λ (x : PageView). x.entry) (page_at v.table q r)
+    → option_map (λ (x : PageState). x.entry.perms) (page_in (state_of v) q r) ≡ Some e.perms
+perms_state v q r e is =
+    mapped (page_in (state_of v) q r) ∙ ap (option_map (λ (k : PageEntry). k.perms)) (sym (is ∙ entry_state v q r))
+  where
+    mapped : (o : Option PageState) → option_map (λ (x : PageState). x.entry.perms) o ≡ option_map (λ (k : PageEntry). k.perms) (option_map (λ (x : PageState). x.entry) o)
+    mapped None = refl
+    mapped (Some x) = refl
+
+pub absent_state : (v : MemoryView) (q r : ℕ) → None ≡ option_map (λ (x : PageView). x.entry) (page_at v.table q r) → page_in (state_of v) q r ≡ None
+absent_state v q r is = at (page_in (state_of v) q r) (is ∙ entry_state v q r)
+  where
+    at : (o : Option PageState) → None ≡ option_map (λ (x : PageState). x.entry) o → o ≡ None
+    at None h = refl
+    at (Some x) h = cc
 
 pub own_state : (v : MemoryView) (q r : ℕ) → IsSome (page_at v.table q r) → option_map (λ (x : PageState). x.own) (page_in (state_of v) q r) ≡ Some (lines_of (overlay_at v.table q r))
 unfolding page_state

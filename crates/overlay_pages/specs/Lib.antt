@@ -7,6 +7,7 @@ pub mod View
 pub mod Calls
 pub mod Steps
 pub mod Spots
+pub mod SpotLaws
 pub mod StateLaws
 pub mod ViewLaws
 pub mod TableLaws

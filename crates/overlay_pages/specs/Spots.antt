@@ -1,8 +1,13 @@
-use Rattle.std.specs.Prelude.{◌≡◌, ℕ, true, false, Some}
+use Rattle.std.specs.Prelude.{◌≡◌, ℕ, ◌<◌, true, false, Option, Some, None}
+use Rattle.std.specs.Option.{option_map}
+use Rattle.sizes.specs.declared.TheConstants.{PAGE_LINES}
 use Rattle.unit_map.specs.declared.map.Block.{Block}
 use Rattle.overlay_bits.specs.Lines.{has_line}
 use Rattle.overlay_mapping_table.specs.declared.entry.Entry.{Entry}
 use Rattle.space_ledger.specs.View.{LedgerView, PageView, lines_of, page_at}
+use Rattle.overlay_pages.specs.State.{page_in}
+use Rattle.overlay_pages.specs.View.{MemoryView, state_of}
+use Rattle.overlay_pages.specs.declared.spots.FoundLine.{FoundLine}
 use Rattle.overlay_pages.specs.declared.spots.Spot.{Spot}
 use Rattle.overlay_pages.specs.declared.spots.Spot.TheVariants.{Segment, Frame}
 
@@ -27,3 +32,21 @@ pub record IsInFrame (table : LedgerView) (space page line frame : ℕ) : Type 0
 abbrev pub IsSpot : LedgerView → ℕ → ℕ → ℕ → Spot → Type 0
 IsSpot table space page line (Segment block) = IsInSegment table space page line block
 IsSpot table space page line (Frame frame) = IsInFrame table space page line frame
+
+-- A line as it was found: of a page that is there with these permissions, and it stands at this spot.
+pub record IsFound (view : MemoryView) (found : FoundLine) : Type 0 where
+  pub perms : option_map (λ x. x.entry.perms) (page_in (state_of view) found.space found.page) ≡ Some found.perms
+  pub line : found.line < PAGE_LINES
+  pub spot : IsSpot view.table found.space found.page found.line found.spot
+
+-- this line was found
+pub record IsFoundAt (view : MemoryView) (space page line : ℕ) (found : FoundLine) : Type 0 where
+  pub space_is : found.space ≡ space
+  pub page_is : found.page ≡ page
+  pub line_is : found.line ≡ line
+  pub is : IsFound view found
+
+-- what looking for a line of a page comes to
+abbrev pub FindsLine : MemoryView → ℕ → ℕ → ℕ → Option FoundLine → Type 0
+FindsLine view space page line None = page_in (state_of view) space page ≡ None
+FindsLine view space page line (Some found) = IsFoundAt view space page line found

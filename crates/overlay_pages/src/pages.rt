@@ -17,6 +17,7 @@ ghost use Rattle.overlay_pages.specs.Lines.{line_in_page, lines_of_bytes};
 ghost use Rattle.overlay_pages.specs.State.{bare_space, base_of, books, cut_page, cut_space, holds_space, memory_of, page_in, put_awaiting, put_mark, put_space, space_in, turned_page};
 ghost use Rattle.overlay_pages.specs.Changes.{AreAbsent, Fits, HasCopyRoom, HasShareRoom, IsPlaced, brought, committed, copied, discarded, is_writable, limit_of, units_of, whole_page, with_brought, with_shared, with_written, with_zeros};
 ghost use Rattle.overlay_pages.specs.View.{HasOwnPlace, IsJoined, place_at, state_of};
+ghost use Rattle.overlay_pages.specs.Spots.{FindsLine, IsFound};
 ghost use Rattle.overlay_pages.specs.Calls.{AwaitsLike, IsEmptyState, IsNextPage, RisesBy, entries_in, with_line_at_place};
 ghost use Rattle.overlay_pages.specs.contracts.pages.OverlayPages.{the_row};
 
@@ -25,7 +26,7 @@ use crate::overlays::{bring_lines, drop_overlay};
 use crate::placing::{place_bytes, take_out};
 use crate::settling::{commit, copy_commit};
 use crate::sharing::share;
-use crate::spots::{Spot, spot_of};
+use crate::spots::{FoundLine, Spot, spot_of};
 use overlay_bits::Bits;
 use ovl_io::Perms;
 use page_table::{PageEntry, PageTable};
@@ -263,6 +264,75 @@ impl OverlayPages {
         self.ledger.is_speculating(space)
     }
 
+    /// Finds a line of a page. None exactly where the page isn't there. Costs a look-up of the page, and one of its overlay.
+    #[inline]
+    pub fn find(&self, space: u16, page: u64, line: u8) -> Option<FoundLine>
+        requires line { line < PAGE_LINES }
+        ensures found { FindsLine self.now space page line result }
+        ensures joined { IsJoined self.now }
+    {
+        match self.ledger.entry(space, page) {
+            Some(entry) => Some(FoundLine {
+                space,
+                page,
+                line,
+                perms: entry.perms,
+                spot: spot_of(&self.ledger, space, page, line, entry.frame),
+            }),
+            None => None,
+        }
+    }
+
+    /// Lends a line that was found. Costs a step.
+    #[inline]
+    pub fn line_at(&self, found: FoundLine) -> &[u8; 64]
+        requires found { IsFound self.now found }
+        ensures value { option_map (λ x. line_in_page x.lines found.line)
+            (page_in (state_of self.now) found.space found.page) ≡ Some result.now }
+        ensures bytes { length result.now ≡ LINE_BYTES }
+        ensures joined { IsJoined self.now }
+    {
+        match found.spot {
+            Spot::Segment(block) => self.store.get(block, found.line),
+            Spot::Frame(frame) => self.store.frame_line(frame, found.line),
+        }
+    }
+
+    /// Whether a line that was found can be written where it stands: it is in the overlay, or else the space isn't speculating
+    /// and the frame is the page's alone. Costs a few steps.
+    #[inline]
+    pub fn is_writable_at(&self, found: FoundLine) -> bool
+        requires found { IsFound self.now found }
+        ensures { result ≡ is_writable (state_of self.now) found.space found.page found.line }
+    {
+        match found.spot {
+            Spot::Segment(_) => true,
+            Spot::Frame(frame) => {
+                !self.ledger.is_speculating(found.space) && self.ledger.is_alone_frame(frame)
+            }
+        }
+    }
+
+    /// Lends a line that was found, and that can be written where it stands. What the borrower leaves is the region's line at
+    /// the place, and nothing else of the region or of the tables changes. Costs a step.
+    #[inline]
+    pub fn line_at_mut(&mut self, found: FoundLine) -> &mut [u8; 64]
+        requires found { IsFound self.old found }
+        requires writable { is_writable (state_of self.old) found.space found.page found.line ≡ true }
+        ensures* writes_back { sem 𝓛 (Lends the_row (Array byte 0) self.entry result
+            (with_line_at_place self.old (place_at self.old found.space found.page found.line))) }
+        ensures value { option_map (λ x. line_in_page x.lines found.line)
+            (page_in (state_of self.old) found.space found.page) ≡ Some result.now }
+        ensures state { (bytes : List ℕ) → state_of (with_line_at_place self.old
+            (place_at self.old found.space found.page found.line) bytes)
+            ≡ with_written (state_of self.old) found.space found.page found.line bytes }
+    {
+        match found.spot {
+            Spot::Segment(block) => self.store.get_mut(block, found.line),
+            Spot::Frame(frame) => self.store.frame_line_mut(frame, found.line),
+        }
+    }
+
     /// Where a line of a page that is there stands: the number of its line in the region. Costs a look-up.
     pub fn place(&self, space: u16, page: u64, line: u8) -> u32
         requires there { IsSome (page_in (state_of self.now) space page) }
@@ -272,9 +342,12 @@ impl OverlayPages {
         ensures inside { result < PAGE_LINES * (state_of self.now).frames }
         ensures joined { IsJoined self.now }
     {
-        match spot_of(&self.ledger, space, page, line) {
-            Spot::Segment(block) => self.store.place(block, line),
-            Spot::Frame(frame) => 64 * frame + u32::from(line),
+        match self.ledger.entry(space, page) {
+            Some(entry) => match spot_of(&self.ledger, space, page, line, entry.frame) {
+                Spot::Segment(block) => self.store.place(block, line),
+                Spot::Frame(frame) => 64 * frame + u32::from(line),
+            },
+            None => unreachable!(),
         }
     }
 
@@ -288,9 +361,9 @@ impl OverlayPages {
         ensures bytes { length result.now ≡ LINE_BYTES }
         ensures joined { IsJoined self.now }
     {
-        match spot_of(&self.ledger, space, page, line) {
-            Spot::Segment(block) => self.store.get(block, line),
-            Spot::Frame(frame) => self.store.frame_line(frame, line),
+        match self.find(space, page, line) {
+            Some(found) => self.line_at(found),
+            None => unreachable!(),
         }
     }
 
@@ -302,9 +375,9 @@ impl OverlayPages {
         requires line { line < PAGE_LINES }
         ensures { result ≡ is_writable (state_of self.now) space page line }
     {
-        match spot_of(&self.ledger, space, page, line) {
-            Spot::Segment(_) => true,
-            Spot::Frame(_) => writes_frame(&self.ledger, space, page),
+        match self.find(space, page, line) {
+            Some(found) => self.is_writable_at(found),
+            None => unreachable!(),
         }
     }
 
@@ -323,9 +396,9 @@ impl OverlayPages {
             → state_of (with_line_at_place self.old (place_at self.old space page line) bytes)
             ≡ with_written (state_of self.old) space page line bytes }
     {
-        match spot_of(&self.ledger, space, page, line) {
-            Spot::Segment(block) => self.store.get_mut(block, line),
-            Spot::Frame(frame) => self.store.frame_line_mut(frame, line),
+        match self.find(space, page, line) {
+            Some(found) => self.line_at_mut(found),
+            None => unreachable!(),
         }
     }
 

@@ -1,34 +1,24 @@
-use Rattle.std.specs.Prelude.{◌≡◌, ℕ, zero, suc, ◌+◌, ◌-◌, ◌*◌, ◌^◌, ◌==◌, ◌≤◌, ◌<◌, ◌⊎◌, Bool, true, false, cond, not, ◌&&◌, ◌||◌, nat_eq, nat_lt, List, [], length, Option, Some, None, is_some, IsSome, Result, Ok, Err, IfOk, OnOk, OnErr, refl}
-use Rattle.std.proofs.Common.{sym, ap, subst, ◌∙◌, arith, inl, inr}
-use Rattle.std.proofs.lemmas.Bool.Decides.{nat_tests}
-use Rattle.std.proofs.lemmas.List.{length-set}
-use Rattle.std.specs.List.{fold, range_with_len}
+use Rattle.std.specs.Prelude.{◌≡◌, ℕ, ◌+◌, ◌-◌, ◌^◌, ◌==◌, ◌≤◌, ◌<◌, ◌⊎◌, Bool, true, false, cond, not, ◌&&◌, nat_lt, List, length, Option, Some, None, is_some, IsSome, Result, Ok, Err, IfOk, refl}
+use Rattle.std.proofs.Common.{sym, ap, subst, ◌∙◌, arith}
 use Rattle.std.specs.Option.{option_and_then, option_map, option_map_or}
-use Rattle.std.specs.FinMap.{empty, get, get-empty, len}
-use Rattle.std.specs.Ordering.{nat_cmp}
-use Rattle.number_maps.specs.Views.{get_viewed, len_viewed, viewed, viewed_empty}
-use Rattle.sizes.specs.declared.TheConstants.{FRAME_UNITS, LAST_SPACE, MOST_FRAMES, PAGE_LINES}
-use Rattle.page_table.specs.Table.{Pages, is_within}
+use Rattle.std.specs.FinMap.{empty, get}
+use Rattle.number_maps.specs.Views.{get_viewed}
+use Rattle.sizes.specs.declared.TheConstants.{PAGE_LINES}
+use Rattle.page_table.specs.Table.{Pages}
 use Rattle.page_table.specs.declared.entry.PageEntry.{PageEntry}
 use Rattle.overlay_mapping_table.specs.declared.entry.Entry.{Entry}
 use Rattle.unit_map.specs.declared.map.Block.{Block}
 use Rattle.space_ledger.proofs.Keeping.{some_is}
-use Rattle.frame_pool.specs.Counts.{held, none_shared, released, sharers_of}
-use Rattle.frame_pool.specs.Laws.{none_at}
-use Rattle.ledger.specs.Ledger.{Holding, Ledger, all_holdings, has_origin, holding_at, is_alone, is_unused, with_page, without_page}
-use Rattle.ledger.specs.Units.{class, own_lines, sharers, units, units_of}
-use Rattle.ledger.specs.Changes.{has_own}
-use Rattle.ledger.specs.ClassLaws.{class_most, class_none}
-use Rattle.ledger.specs.UnitLaws.{alone_is, no_units, frame_for, lines_at, lines_put, units_at, units_put}
-use Rattle.ledger.specs.AloneLaws.{origin_with, without_absent}
-use Rattle.ledger.specs.TallyLaws.{no_holdings, tally_none, lines_tally, sharers_at, sharers_few, sharers_put, units_few}
-use Rattle.space_ledger.specs.View.{LedgerView, PageView, SpaceView, frame_at, frame_awaiting, has_space, holding_of, ledger_of, lines_of, no_pages, origin_of, overlay_at, page_at, space_at, with_block, with_entry_at, with_frame, with_overlay, with_page_at, with_page_shared, with_shared, with_space, with_zero_pages, without_page_at}
-use Rattle.space_ledger.specs.ViewLaws.{changed_there, space_absent, ledger_gone, ledger_page, ledger_put, ledger_spaces, page_of, view_beside, view_shared}
-use Rattle.space_ledger.specs.Calls.{AreSharersCounted, AreFree, IsApart, IsBooked, IsFreeFor, IsSound, NamesOnce, entries_of, given_up}
+use Rattle.frame_pool.specs.Counts.{sharers_of}
+use Rattle.ledger.specs.Ledger.{holding_at, is_alone, is_unused}
+use Rattle.ledger.specs.Units.{class}
+use Rattle.ledger.specs.ClassLaws.{class_most}
+use Rattle.space_ledger.specs.View.{LedgerView, PageView, frame_at, frame_awaiting, has_space, holding_of, ledger_of, lines_of, origin_of, overlay_at, page_at, space_at, with_block, with_entry_at, with_frame, with_overlay, with_page_at, with_page_shared, with_shared, with_space, without_page_at}
+use Rattle.space_ledger.specs.ViewLaws.{changed_there, ledger_page, view_shared}
+use Rattle.space_ledger.specs.Calls.{IsBooked, IsFreeFor, IsSound, NamesOnce, entries_of, given_up}
 use Rattle.space_ledger.specs.Frames.{frame_units, held_by, released_by}
-use Rattle.space_ledger.proofs.Mapping.{there_still}
-use Rattle.space_ledger.proofs.Booking.{alone_frame, counts_held, counts_released, eq_false, eq_true, has_frame, some_sharer, units_by_count}
-use Rattle.space_ledger.proofs.Booked.{FitsIn, nothing_apart, booked_gone, booked_put, booked_shared, fits_same, in_pages, page_in}
+use Rattle.space_ledger.proofs.Booking.{alone_frame, units_by_count}
+use Rattle.space_ledger.proofs.Booked.{page_in}
 use Rattle.space_ledger.proofs.Numbers.{added_is, class_fits, entry_page, frame_low, frame_most, framed_answer, framed_books, framed_fits, freed_fits, freed_is, held_few, held_low, lines_fit, lines_less, over_books, own_is, removed_answer, removed_books, shared_books, shared_few, some_left, units_fit}
 
 -- What the calls leave, in the words of the calls below them.
@@ -42,12 +32,25 @@ before_release v counts u n kept s p z e zero_is is =
           (subst (λ k. (found.0.entry.frame ≡ k) ⊎ (0 < sharers_of counts found.0.entry.frame)) (sym zero_is) (some_left v counts u n kept s p found.0 found.1)),
     )
 
-pub alone_call : (v : LedgerView) (counts : List ℕ) (u n : ℕ) → IsBooked v counts u n → (s p z : ℕ) (e : PageEntry) → z ≡ v.zero_frame
-    → Some e ≡ option_map (λ (x : PageView). x.entry) (page_at v s p) → (not (e.frame == z) && (sharers_of counts e.frame == 1)) ≡ is_alone (ledger_of v) s p
-alone_call v counts u n kept s p z e zero_is is =
-    let found = entry_page v s p e is in
-    ap (λ k. not (e.frame == k) && (sharers_of counts e.frame == 1)) zero_is
-    ∙ ap (λ (k : PageEntry). not (k.frame == v.zero_frame) && (sharers_of counts k.frame == 1)) found.2
+-- a page that names a frame
+on_frame : (v : LedgerView) (s p f : ℕ) → frame_at v s p ≡ Some f → (x : PageView) × (page_at v s p ≡ Some x) × (f ≡ x.entry.frame)
+on_frame v s p f is = at (page_at v s p) refl is
+  where
+    at : (o : Option PageView) → page_at v s p ≡ o → option_map (λ (x : PageView). x.entry.frame) o ≡ Some f → (x : PageView) × (page_at v s p ≡ Some x) × (f ≡ x.entry.frame)
+    at None there h = let no = ap is_some h in cc
+    at (Some x) there h = (x, there, ap (λ (o : Option ℕ). option_map_or (λ (n : ℕ). n) o f) (sym h))
+
+pub entry_inside : (v : LedgerView) (counts : List ℕ) (u n : ℕ) → IsBooked v counts u n → (s p : ℕ) (e : PageEntry)
+    → Some e ≡ option_map (λ (x : PageView). x.entry) (page_at v s p) → e.frame < v.frames
+entry_inside v counts u n kept s p e is =
+    let found = entry_page v s p e is in subst (λ (k : PageEntry). k.frame < v.frames) (sym found.2) (kept.inside s p found.0 found.1)
+
+pub alone_call : (v : LedgerView) (counts : List ℕ) (u n : ℕ) → IsBooked v counts u n → (s p z f : ℕ) → z ≡ v.zero_frame → frame_at v s p ≡ Some f
+    → (not (f == z) && (sharers_of counts f == 1)) ≡ is_alone (ledger_of v) s p
+alone_call v counts u n kept s p z f zero_is is =
+    let found = on_frame v s p f is in
+    ap (λ k. not (f == k) && (sharers_of counts f == 1)) zero_is
+    ∙ ap (λ k. not (k == v.zero_frame) && (sharers_of counts k == 1)) found.2
     ∙ alone_frame (ledger_of v) v.zero_frame v.frames s p found.0.entry.frame (holding_of v.zero_frame found.0) counts kept.counted (page_in v s p found.0 found.1) refl (kept.inside s p found.0 found.1)
 
 pub record Released (v : LedgerView) (less : List ℕ) (u n s p freed frame : ℕ) : Type 0 where

@@ -6,9 +6,10 @@ use Rattle.std.specs.FinMap.{empty, get, get-empty, insert, remove}
 use Rattle.number_maps.specs.Keys.{by_key, get_other, get_same, insert_kept, removed_other, removed_same}
 use Rattle.number_maps.specs.Views.{get_viewed, viewed, viewed_empty, viewed_gone, viewed_put}
 use Rattle.page_table.specs.Table.{Pages}
+use Rattle.page_table.specs.declared.entry.PageEntry.{PageEntry}
 use Rattle.ledger.specs.Ledger.{Space, holding_at, pages_of, with_page, without_page}
 use Rattle.ledger.specs.PlaceLaws.{page_is, pages_absent, pages_there}
-use Rattle.space_ledger.specs.View.{LedgerView, PageView, SpaceView, changed_at, has_space, holding_of, ledger_of, no_pages, page_at, space_at, with_awaiting, with_mark, with_page_at, with_pages, with_shared, with_space, without_page_at, without_space}
+use Rattle.space_ledger.specs.View.{LedgerView, PageView, SpaceView, changed_at, frame_at, has_space, holding_of, ledger_of, no_pages, page_at, space_at, with_awaiting, with_mark, with_page_at, with_pages, with_shared, with_space, without_page_at, without_space}
 
 -- Laws of views, and of their ledgers.
 
@@ -24,6 +25,14 @@ space_absent v s absent = ap (λ (o : Option SpaceView). unwrap_or o no_pages) a
 pub page_of : (v : LedgerView) (s p : ℕ) → page_at v s p ≡ get (space_at v s).pages p
 unfolding page_at
 page_of v s p = refl
+
+-- the frame of an entry that was looked up
+pub entry_frame : (v : LedgerView) (s p : ℕ) (e : PageEntry) → Some e ≡ option_map (λ (x : PageView). x.entry) (page_at v s p) → frame_at v s p ≡ Some e.frame
+entry_frame v s p e is = at (page_at v s p) is
+  where
+    at : (o : Option PageView) → Some e ≡ option_map (λ (x : PageView). x.entry) o → option_map (λ (x : PageView). x.entry.frame) o ≡ Some e.frame
+    at None h = cc
+    at (Some x) h = sym (ap (option_map (λ (k : PageEntry). k.frame)) h)
 
 no_page : (p : ℕ) → get (empty {X = PageView} {R = nat_cmp}) p ≡ None
 no_page p = get-empty nat_cmp p

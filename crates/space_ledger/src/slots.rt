@@ -63,6 +63,7 @@ pub(crate) fn len_in(slots: &Slots, space: u16) -> u32
 }
 
 /// Whether a space is speculating.
+#[inline]
 pub(crate) fn marked_in(slots: &Slots, space: u16) -> bool
     ensures { result ≡ option_map_or (λ table. table.speculating)
         (table_in slots.now.items space) false }

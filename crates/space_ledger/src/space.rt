@@ -172,6 +172,7 @@ impl Space {
         }
     }
 
+    #[inline]
     pub(crate) fn is_speculating(&self) -> bool
         ensures { result ≡ self.now.speculating }
     {

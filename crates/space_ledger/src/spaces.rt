@@ -173,9 +173,19 @@ impl SpaceLedger {
         ensures { result ≡ book.is_alone (ledger_of self.now) space page }
     {
         match self.tables.entry(space, page) {
-            Some(entry) => is_only(&self.pool, self.tables.zero(), entry.frame),
+            Some(entry) => self.is_alone_frame(entry.frame),
             None => unreachable!(),
         }
+    }
+
+    /// Whether each page on a frame is alone: it isn't the zero frame, and one page names it. Costs a step.
+    #[inline]
+    pub fn is_alone_frame(&self, frame: u32) -> bool
+        requires { frame < self.now.frames }
+        ensures { (space page : ℕ) → frame_at self.now space page ≡ Some frame
+            → result ≡ book.is_alone (ledger_of self.now) space page }
+    {
+        is_only(&self.pool, self.tables.zero(), frame)
     }
 
     /// The least page of a space that awaits `share_page`, with its entry. None exactly where none does. Costs a look-up.

@@ -101,6 +101,7 @@ impl Tables {
         self.overlays.get(OverlayPage::of(space, page))
     }
 
+    #[inline]
     pub(crate) fn is_speculating(&self, space: u16) -> bool
         ensures { result ≡ (space_at self.now space).speculating }
     {

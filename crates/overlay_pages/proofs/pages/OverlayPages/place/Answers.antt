@@ -1,15 +1,24 @@
 use Rattle.std.proofs.Common.{sym, ap, subst, ◌∙◌, arith}
-use Rattle.std.specs.Option.{IsSome}
+use Rattle.std.specs.Option.{IsSome, is_some}
+use Rattle.space_ledger.specs.ViewLaws.{entry_frame}
 use Rattle.overlay_pages.specs.State.{page_in}
 use Rattle.overlay_pages.specs.View.{HasOwnPlace, MemoryView, state_of, view_of}
 use Rattle.overlay_pages.specs.ViewLaws.{state_frames}
 use Rattle.overlay_pages.proofs.OwnPlaces.{has_own_place}
-use Rattle.overlay_pages.proofs.Tables.{page_some}
+use Rattle.overlay_pages.proofs.Tables.{absent_state, page_some}
 use Rattle.overlay_pages.proofs.Lending.{frame_low, outside_inside, segment_has, segment_inside, segment_there}
 use Rattle.overlay_pages.proofs.pages.OverlayPages.place.Goals as goal
 
-pub spot_of-requires-clause-there : goal.spot_of-requires-clause-there
-spot_of-requires-clause-there c = page_some (view_of c.self.inside.store c.self.inside.ledger) c.args.space c.args.page (subst (λ (m : MemoryView). IsSome (page_in (state_of m) c.args.space c.args.page)) (sym c.self.view_is) c.requires.there)
+pub spot_of-requires-clause-frame : goal.spot_of-requires-clause-frame
+spot_of-requires-clause-frame c = entry_frame c.self.inside.ledger c.args.space c.args.page c.in-Some.entry c.in-Some.ensures
+
+pub unreachable-requires : goal.unreachable-requires
+unreachable-requires c =
+    let none =
+    ap (λ (m : MemoryView). page_in (state_of m) c.args.space c.args.page) (sym c.self.view_is)
+    ∙ absent_state (view_of c.self.inside.store c.self.inside.ledger) c.args.space c.args.page c.in-None.ensures in
+    let no = sym c.requires.there ∙ ap is_some none in
+    cc
 
 pub place-requires-clause-there : goal.place-requires-clause-there
 place-requires-clause-there c = segment_there (view_of c.self.inside.store c.self.inside.ledger) c.args.space c.args.page c.args.line c.in-Segment.block c.self.invariant c.in-Segment.ensures

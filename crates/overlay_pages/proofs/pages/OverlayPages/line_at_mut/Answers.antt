@@ -1,0 +1,47 @@
+use Rattle.std.proofs.Common.{Some, refl, sym, ap, ◌∙◌}
+use Rattle.std.specs.Option.{option_map}
+use Rattle.overlay_pages.specs.Lines.{line_in_page}
+use Rattle.overlay_pages.specs.State.{PageState, page_in}
+use Rattle.overlay_pages.specs.Changes.{is_writable}
+use Rattle.overlay_pages.specs.View.{MemoryView, state_of, view_of}
+use Rattle.overlay_pages.specs.declared.spots.Spot.TheVariants.{Segment, Frame}
+use Rattle.overlay_pages.proofs.Found.{found_spot}
+use Rattle.overlay_pages.proofs.Lending.{frame_joined, frame_there, left_frame, left_segment, lent_frame, lent_segment, outside_value, segment_has, segment_joined, segment_there, segment_value, writable_outside}
+use Rattle.overlay_pages.proofs.pages.OverlayPages.line_at_mut.Goals as goal
+
+pub get_mut-requires-clause-there : goal.get_mut-requires-clause-there
+get_mut-requires-clause-there c = segment_there (view_of c.self.inside.store c.self.inside.ledger) c.args.found.space c.args.found.page c.args.found.line c.in-Segment.block c.self.invariant (found_spot (view_of c.self.inside.store c.self.inside.ledger) c.args.self.now c.args.found (Segment c.in-Segment.block) c.self.view_is c.requires.found c.in-Segment.is)
+
+pub get_mut-requires-clause-line : goal.get_mut-requires-clause-line
+get_mut-requires-clause-line c = segment_has (view_of c.self.inside.store c.self.inside.ledger) c.args.found.space c.args.found.page c.args.found.line c.in-Segment.block c.self.invariant (found_spot (view_of c.self.inside.store c.self.inside.ledger) c.args.self.now c.args.found (Segment c.in-Segment.block) c.self.view_is c.requires.found c.in-Segment.is)
+
+pub invariant_of-self-lent : goal.invariant_of-self-lent
+invariant_of-self-lent c w = segment_joined (view_of c.self.inside.store c.self.inside.ledger) c.args.found.space c.args.found.page c.args.found.line c.in-Segment.block w c.self.invariant (found_spot (view_of c.self.inside.store c.self.inside.ledger) c.args.self.now c.args.found (Segment c.in-Segment.block) c.self.view_is c.requires.found c.in-Segment.is)
+
+pub frame_line_mut-requires-clause-frame : goal.frame_line_mut-requires-clause-frame
+frame_line_mut-requires-clause-frame c = frame_there (view_of c.self.inside.store c.self.inside.ledger) c.args.found.space c.args.found.page c.args.found.line c.in-Frame.frame c.self.invariant (found_spot (view_of c.self.inside.store c.self.inside.ledger) c.args.self.now c.args.found (Frame c.in-Frame.frame) c.self.view_is c.requires.found c.in-Frame.is)
+
+pub invariant_of-self-lent-in-Frame : goal.invariant_of-self-lent-in-Frame
+invariant_of-self-lent-in-Frame c w =
+    frame_joined (view_of c.self.inside.store c.self.inside.ledger) c.args.found.space c.args.found.page c.args.found.line c.in-Frame.frame w c.self.invariant (found_spot (view_of c.self.inside.store c.self.inside.ledger) c.args.self.now c.args.found (Frame c.in-Frame.frame) c.self.view_is c.requires.found c.in-Frame.is) c.requires.found.line
+    (sym (writable_outside (view_of c.self.inside.store c.self.inside.ledger) c.args.found.space c.args.found.page c.args.found.line c.in-Frame.frame (found_spot (view_of c.self.inside.store c.self.inside.ledger) c.args.self.now c.args.found (Frame c.in-Frame.frame) c.self.view_is c.requires.found c.in-Frame.is)) ∙ ap (λ (m : MemoryView). is_writable (state_of m) c.args.found.space c.args.found.page c.args.found.line) c.self.view_is ∙ c.requires.writable)
+
+pub returns-in-Segment : goal.returns-in-Segment
+returns-in-Segment c = (
+  (refl, λ w. lent_segment (view_of c.self.inside.store c.self.inside.ledger) c.args.self.now c.args.found.space c.args.found.page c.args.found.line c.in-Segment.block c.self.invariant (found_spot (view_of c.self.inside.store c.self.inside.ledger) c.args.self.now c.args.found (Segment c.in-Segment.block) c.self.view_is c.requires.found c.in-Segment.is) c.self.view_is w),
+  record {
+    writes_back = tt;
+    value = ap (λ (m : MemoryView). option_map (λ (x : PageState). line_in_page x.lines c.args.found.line) (page_in (state_of m) c.args.found.space c.args.found.page)) (sym c.self.view_is) ∙ segment_value (view_of c.self.inside.store c.self.inside.ledger) c.args.found.space c.args.found.page c.args.found.line c.in-Segment.block c.self.invariant (found_spot (view_of c.self.inside.store c.self.inside.ledger) c.args.self.now c.args.found (Segment c.in-Segment.block) c.self.view_is c.requires.found c.in-Segment.is) c.requires.found.line ∙ ap Some (sym c.get_mut.ensures.value);
+    state = λ bytes. left_segment (view_of c.self.inside.store c.self.inside.ledger) c.args.self.now c.args.found.space c.args.found.page c.args.found.line c.in-Segment.block c.self.invariant (found_spot (view_of c.self.inside.store c.self.inside.ledger) c.args.self.now c.args.found (Segment c.in-Segment.block) c.self.view_is c.requires.found c.in-Segment.is) c.self.view_is c.requires.found.line bytes;
+  },
+)
+
+pub returns-in-Frame : goal.returns-in-Frame
+returns-in-Frame c = (
+  (refl, λ w. lent_frame (view_of c.self.inside.store c.self.inside.ledger) c.args.self.now c.args.found.space c.args.found.page c.args.found.line c.in-Frame.frame c.self.invariant (found_spot (view_of c.self.inside.store c.self.inside.ledger) c.args.self.now c.args.found (Frame c.in-Frame.frame) c.self.view_is c.requires.found c.in-Frame.is) c.self.view_is w),
+  record {
+    writes_back = tt;
+    value = ap (λ (m : MemoryView). option_map (λ (x : PageState). line_in_page x.lines c.args.found.line) (page_in (state_of m) c.args.found.space c.args.found.page)) (sym c.self.view_is) ∙ outside_value (view_of c.self.inside.store c.self.inside.ledger) c.args.found.space c.args.found.page c.args.found.line c.in-Frame.frame c.self.invariant (found_spot (view_of c.self.inside.store c.self.inside.ledger) c.args.self.now c.args.found (Frame c.in-Frame.frame) c.self.view_is c.requires.found c.in-Frame.is) c.requires.found.line ∙ ap Some (sym c.frame_line_mut.ensures.value);
+    state = λ bytes. left_frame (view_of c.self.inside.store c.self.inside.ledger) c.args.self.now c.args.found.space c.args.found.page c.args.found.line c.in-Frame.frame c.self.invariant (found_spot (view_of c.self.inside.store c.self.inside.ledger) c.args.self.now c.args.found (Frame c.in-Frame.frame) c.self.view_is c.requires.found c.in-Frame.is) c.self.view_is c.requires.found.line c.requires.writable bytes;
+  },
+)

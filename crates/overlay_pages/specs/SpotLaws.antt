@@ -1,0 +1,25 @@
+use Rattle.std.specs.Prelude.{◌≡◌, ℕ, Option, Some, None, refl}
+use Rattle.std.proofs.Common.{subst, ap}
+use Rattle.std.specs.Option.{option_map, option_map_or}
+use Rattle.ovl_io.specs.declared.perms.Perms.{Perms}
+use Rattle.overlay_pages.specs.declared.spots.FoundLine.{FoundLine}
+use Rattle.overlay_pages.specs.Spots.{IsFoundAt}
+use Rattle.overlay_pages.specs.State.{PageState, page_in}
+use Rattle.overlay_pages.specs.View.{MemoryView, state_of}
+
+-- Laws of lines that were found.
+
+module _ (view : MemoryView) (space page line : ℕ) (found : FoundLine) (it : IsFoundAt view space page line found) where
+  -- what holds of the line that was found holds of the one that was looked for
+  pub found_at : (P : ℕ → ℕ → ℕ → Type 0) → P found.space found.page found.line → P space page line
+  found_at P holds =
+      subst (λ s. P s page line) it.space_is (subst (λ p. P found.space p line) it.page_is (subst (λ l. P found.space found.page l) it.line_is holds))
+
+  -- its page is there, with these permissions
+  pub found_page : (x : PageState) × (page_in (state_of view) space page ≡ Some x) × (x.entry.perms ≡ found.perms)
+  found_page = at (page_in (state_of view) space page) refl (found_at (λ s p l. option_map (λ (x : PageState). x.entry.perms) (page_in (state_of view) s p) ≡ Some found.perms) it.is.perms)
+    where
+      at : (o : Option PageState) → page_in (state_of view) space page ≡ o → option_map (λ (x : PageState). x.entry.perms) o ≡ Some found.perms
+          → (x : PageState) × (page_in (state_of view) space page ≡ Some x) × (x.entry.perms ≡ found.perms)
+      at None there h = cc
+      at (Some x) there h = (x, there, ap (λ (o : Option Perms). option_map_or (λ (k : Perms). k) o found.perms) h)
