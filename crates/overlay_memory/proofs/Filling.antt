@@ -1,5 +1,5 @@
 use Rattle.std.proofs.Common.{◌≡◌, ℕ, ◌+◌, ◌*◌, ◌<◌, ◌≤◌, Bool, true, false, cond, List, ◌++◌, length, take, drop, slice_set, Option, Some, None, sym, ap, subst, ◌∙◌, refl, arith}
-use Rattle.std.specs.Prelude.{not, ◌&&◌, IsSome}
+use Rattle.std.specs.Prelude.{not, ◌&&◌}
 use Rattle.std.proofs.Math.Seq.{take-add}
 use Rattle.std.proofs.lemmas.List.{drop-drop, length-take-le}
 use Rattle.std.specs.Option.{option_map}
@@ -85,20 +85,21 @@ written_filled v s p line at bytes old x there is all low whole fits can =
         ∙ line_written x.lines line at bytes all low (ap length it ∙ whole) fits
 
 -- bytes were copied into a line that was lent
-pub line_put : (view : MemoryView) (s p line at k : ℕ) (bytes old new : List ℕ) (after : State) → IsSome (page_in (state_of view) s p)
+pub line_put : (view : MemoryView) (s p line at k : ℕ) (bytes old new : List ℕ) (after : State)
     → option_map (λ (x : PageState). line_in_page x.lines line) (page_in (state_of view) s p) ≡ Some old
     → after ≡ with_written (state_of view) s p line (take at old ++ (new ++ drop k (drop at old))) → new ≡ bytes → k ≡ length bytes → length old ≡ LINE_BYTES
     → line < PAGE_LINES → at + length bytes ≤ LINE_BYTES → is_writable (state_of view) s p line ≡ true
     → IsFilled (state_of view) after s (PAGE_BYTES * p + (LINE_BYTES * line + at)) bytes
-line_put view s p line at k bytes old new after there is put same count whole low fits can = by_page (page_in (state_of view) s p) refl there
+line_put view s p line at k bytes old new after is put same count whole low fits can = by_page (page_in (state_of view) s p) refl is
   where
     lists : take at old ++ (new ++ drop k (drop at old)) ≡ overwritten old at bytes
     lists =
         ap (λ n. take at old ++ (n ++ drop k (drop at old))) same ∙ ap (λ d. take at old ++ (bytes ++ d)) (drop-drop k at old)
         ∙ ap (λ n. take at old ++ (bytes ++ drop (at + n) old)) count
 
-    by_page : (o : Option PageState) → page_in (state_of view) s p ≡ o → IsSome o → IsFilled (state_of view) after s (4096 * p + (64 * line + at)) bytes
-    by_page None absent some = cc
+    by_page : (o : Option PageState) → page_in (state_of view) s p ≡ o → option_map (λ (x : PageState). line_in_page x.lines line) o ≡ Some old
+        → IsFilled (state_of view) after s (4096 * p + (64 * line + at)) bytes
+    by_page None absent none = cc
     by_page (Some x) at_page some =
         subst (λ new. IsFilled (state_of view) new s (4096 * p + (64 * line + at)) bytes)
         (sym (put ∙ ap (with_written (state_of view) s p line) lists))

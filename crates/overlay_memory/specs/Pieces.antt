@@ -1,6 +1,6 @@
-use Rattle.std.specs.Prelude.{◌≡◌, ℕ, ◌+◌, ◌-◌, ◌*◌, ◌/◌, ◌<◌, true, false, List, Some, None, Result, Ok, Err}
+use Rattle.std.specs.Prelude.{◌≡◌, ℕ, ◌+◌, ◌-◌, ◌*◌, ◌/◌, ◌%◌, ◌<◌, true, false, List, Some, None, Result, Ok, Err}
 use Rattle.std.specs.FinMap as map
-use Rattle.sizes.specs.declared.TheConstants.{LINE_BYTES, PAGE_BYTES}
+use Rattle.sizes.specs.declared.TheConstants.{LINE_BYTES, PAGE_BYTES, PAGE_LINES}
 use Rattle.ovl_io.specs.Memory.{with_bytes}
 use Rattle.ovl_io.specs.Permissions.{permits}
 use Rattle.overlay_bits.specs.Lines.{lines_between}
@@ -8,6 +8,8 @@ use Rattle.overlay_pages.specs.State.{PageState, State, base_of, books, cut_spac
 use Rattle.overlay_pages.specs.Changes.{is_writable}
 use Rattle.overlay_pages.specs.Calls.{entries_in}
 use Rattle.overlay_pages.specs.View.{IsJoined, MemoryView, state_of}
+use Rattle.overlay_pages.specs.declared.spots.FoundLine.{FoundLine}
+use Rattle.overlay_pages.specs.Spots.{IsFoundAt}
 use Rattle.overlay_memory.specs.declared.error.MemoryError.{MemoryError}
 use Rattle.overlay_memory.specs.declared.error.MemoryError.TheVariants.{Unmapped, Forbidden, Full}
 
@@ -31,6 +33,15 @@ Permits view space need address (Ok done) = IsPermitted view space need address
 Permits view space need address (Err (Unmapped at)) = (at ≡ address) × (page_in (state_of view) space (address / PAGE_BYTES) ≡ None)
 Permits view space need address (Err (Forbidden at)) = (at ≡ address) × IsLacking view space need address
 Permits view space need address (Err (Full needed limit)) = ⊥
+
+-- the line with the byte at an address was found, which may be used so; or why it may not
+pub record IsFoundFor (view : MemoryView) (space need address : ℕ) (found : FoundLine) : Type 0 where
+  pub may : IsPermitted view space need address
+  pub at : IsFoundAt view space (address / PAGE_BYTES) (address / LINE_BYTES % PAGE_LINES) found
+
+abbrev pub Finds : MemoryView → ℕ → ℕ → ℕ → Result FoundLine MemoryError → Type 0
+Finds view space need address (Ok found) = IsFoundFor view space need address found
+Finds view space need address (Err error) = Permits view space need address (Err error)
 
 -- the lines of a page in which some bytes lie that begin at a place of it
 abbrev pub lines_under : ℕ → ℕ → List ℕ

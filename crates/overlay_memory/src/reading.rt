@@ -6,15 +6,38 @@ ghost use Rattle.ovl_io.specs.Memory.{bytes_at};
 ghost use Rattle.overlay_pages.specs.State.{memory_of};
 ghost use Rattle.overlay_pages.specs.View.{state_of};
 ghost use Rattle.overlay_memory.specs.Access.{Reads};
-ghost use Rattle.overlay_memory.specs.Pieces.{Permits};
+ghost use Rattle.overlay_memory.specs.Pieces.{Finds, Permits};
 
 use crate::error::MemoryError;
 use bitflags::Flags;
-use overlay_pages::OverlayPages;
+use overlay_pages::{FoundLine, OverlayPages};
 use ovl_io::Perms;
 use sizes::{LINE_BYTES, PAGE_BYTES, PAGE_LINES};
 
-/// Whether the byte at an address may be used so: its page is there and has the permission.
+/// Finds the line with the byte at an address, which may be used so: its page is there and has the permission.
+#[inline]
+pub(crate) fn find(
+    pages: &OverlayPages,
+    space: u16,
+    address: u64,
+    need: Perms,
+) -> Result<FoundLine, MemoryError>
+    ensures { Finds pages.now space need.0 address result }
+{
+    let line = (address / LINE_BYTES as u64 % PAGE_LINES as u64) as u8;
+    match pages.find(space, address / PAGE_BYTES as u64, line) {
+        Some(found) => {
+            if found.perms.contains(need) {
+                Ok(found)
+            } else {
+                Err(MemoryError::Forbidden(address))
+            }
+        }
+        None => Err(MemoryError::Unmapped(address)),
+    }
+}
+
+/// Whether the byte at an address may be used so.
 #[inline]
 pub(crate) fn permit(
     pages: &OverlayPages,
@@ -24,15 +47,9 @@ pub(crate) fn permit(
 ) -> Result<(), MemoryError>
     ensures { Permits pages.now space need.0 address result }
 {
-    match pages.entry(space, address / PAGE_BYTES as u64) {
-        Some(entry) => {
-            if entry.perms.contains(need) {
-                Ok(())
-            } else {
-                Err(MemoryError::Forbidden(address))
-            }
-        }
-        None => Err(MemoryError::Unmapped(address)),
+    match find(pages, space, address, need) {
+        Ok(_) => Ok(()),
+        Err(error) => Err(error),
     }
 }
 
@@ -53,11 +70,10 @@ fn read_line(
     ensures kept { length into.new ≡ length into.old }
     ensures low { OnOk result (address < ADDRESS_END) }
 {
-    match permit(pages, space, address, need) {
-        Ok(()) => {
-            let line = (address / LINE_BYTES as u64 % PAGE_LINES as u64) as u8;
+    match find(pages, space, address, need) {
+        Ok(found) => {
             let at = (address % LINE_BYTES as u64) as usize;
-            let bytes = pages.line(space, address / PAGE_BYTES as u64, line);
+            let bytes = pages.line_at(found);
             into.copy_from_slice(&bytes[at..at + into.len()]);
             Ok(())
         }

@@ -6,14 +6,15 @@ ghost use Rattle.ovl_io.specs.Permissions.{writable};
 ghost use Rattle.overlay_pages.specs.State.{page_in};
 ghost use Rattle.overlay_pages.specs.Changes.{is_writable};
 ghost use Rattle.overlay_pages.specs.View.{state_of};
+ghost use Rattle.overlay_pages.specs.Spots.{IsFound};
 ghost use Rattle.overlay_memory.specs.Access.{Stores};
 ghost use Rattle.overlay_memory.specs.Pieces.{AreWritable, IsFilled, Permits, lines_under};
 
 use crate::error::MemoryError;
-use crate::reading::permit;
+use crate::reading::{find, permit};
 use crate::room::excess_of;
 use overlay_bits::Bits;
-use overlay_pages::OverlayPages;
+use overlay_pages::{FoundLine, OverlayPages};
 use ovl_io::Perms;
 use sizes::{LINE_BYTES, PAGE_BYTES, PAGE_LINES};
 
@@ -36,9 +37,20 @@ fn lines_at(at: usize, count: usize) -> Bits
     Bits::range(first, last + 1)
 }
 
-/// Replaces bytes of a line of a page that is there, where the line can be written.
+/// Replaces bytes of a line that was found and can be written.
 #[inline]
-fn put(pages: &mut OverlayPages, space: u16, page: u64, line: u8, at: usize, bytes: &[u8])
+fn put(pages: &mut OverlayPages, found: FoundLine, at: usize, bytes: &[u8])
+    requires found { IsFound pages.old found }
+    requires fits { at + length bytes.now ≤ LINE_BYTES }
+    requires writable { is_writable (state_of pages.old) found.space found.page found.line ≡ true }
+    ensures { IsFilled (state_of pages.old) (state_of pages.new) found.space
+        (PAGE_BYTES * found.page + (LINE_BYTES * found.line + at)) bytes.now }
+{
+    pages.line_at_mut(found)[at..at + bytes.len()].copy_from_slice(bytes);
+}
+
+/// Replaces bytes of a line of a page that is there, where the line can be written.
+fn fill_line(pages: &mut OverlayPages, space: u16, page: u64, line: u8, at: usize, bytes: &[u8])
     requires there { IsSome (page_in (state_of pages.old) space page) }
     requires line { line < PAGE_LINES }
     requires fits { at + length bytes.now ≤ LINE_BYTES }
@@ -46,7 +58,10 @@ fn put(pages: &mut OverlayPages, space: u16, page: u64, line: u8, at: usize, byt
     ensures { IsFilled (state_of pages.old) (state_of pages.new) space
         (PAGE_BYTES * page + (LINE_BYTES * line + at)) bytes.now }
 {
-    pages.line_mut(space, page, line)[at..at + bytes.len()].copy_from_slice(bytes);
+    match pages.find(space, page, line) {
+        Some(found) => put(pages, found, at, bytes),
+        None => unreachable!(),
+    }
 }
 
 /// Replaces bytes of a page that is there, where the lines in which they lie can be written.
@@ -62,7 +77,7 @@ fn fill_page(pages: &mut OverlayPages, space: u16, page: u64, at: usize, bytes: 
         let line = ((at + done) / LINE_BYTES) as u8;
         let from = (at + done) % LINE_BYTES;
         let n = (LINE_BYTES - from).min(bytes.len() - done);
-        put(pages, space, page, line, from, &bytes[done..done + n]);
+        fill_line(pages, space, page, line, from, &bytes[done..done + n]);
         done += n;
     }
 }
@@ -166,13 +181,10 @@ fn write_line(
     requires one_line { address % LINE_BYTES + length bytes.now ≤ LINE_BYTES }
     ensures { Stores pages.old pages.new space address bytes.now result }
 {
-    match permit_store(pages, space, address) {
-        Ok(()) => {
-            let page = address / PAGE_BYTES as u64;
-            let line = (address / LINE_BYTES as u64 % PAGE_LINES as u64) as u8;
-            if pages.is_writable(space, page, line) {
-                let at = (address % LINE_BYTES as u64) as usize;
-                put(pages, space, page, line, at, bytes);
+    match find(pages, space, address, Perms::W) {
+        Ok(found) => {
+            if pages.is_writable_at(found) {
+                put(pages, found, (address % LINE_BYTES as u64) as usize, bytes);
                 Ok(())
             } else {
                 write_pages(pages, space, address, bytes)

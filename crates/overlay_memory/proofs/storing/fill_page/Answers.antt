@@ -4,8 +4,8 @@ use Rattle.overlay_memory.specs.StateMemory.{still_there}
 use Rattle.overlay_memory.proofs.Filling.{fill_more}
 use Rattle.overlay_memory.proofs.storing.fill_page.Goals as goal
 
-pub put-requires-clause-there : goal.put-requires-clause-there
-put-requires-clause-there c =
+pub fill_line-requires-clause-there : goal.fill_line-requires-clause-there
+fill_line-requires-clause-there c =
     still_there (state_of c.args.pages.now) (state_of c.filling.pages) c.args.space c.args.page c.filling.invariant.filled.beside c.requires.there
 
 pub filling-preserved : goal.filling-preserved
@@ -18,7 +18,7 @@ filling-preserved c =
     let next = 4096 * c.args.page + (64 * (from / 64) + from % 64) in
     record {
       within = omega (arith, so_far.within, least);
-      filled = fill_more (state_of c.args.pages.now) (state_of c.filling.pages) (state_of c.put.new.pages) c.args.space
+      filled = fill_more (state_of c.args.pages.now) (state_of c.filling.pages) (state_of c.fill_line.new.pages) c.args.space
           (4096 * c.args.page + c.args.at) next done n (done + n - done)
-          c.args.bytes.now so_far.within (omega arith) (omega arith) so_far.filled c.put.ensures;
+          c.args.bytes.now so_far.within (omega arith) (omega arith) so_far.filled c.fill_line.ensures;
     }

@@ -6,8 +6,8 @@ pub returns : goal.returns
 returns c =
     let at = c.args.at in
     let bytes = c.args.bytes.now in
-    let old = c.line_mut.result.now in
+    let old = c.line_at_mut.result.now in
     let new = c.copy_from_slice.new.self in
-    line_put c.args.pages.now c.args.space c.args.page c.args.line at (at + length bytes - at) bytes old new _ c.requires.there c.line_mut.ensures.value
-    (c.line_mut.ensures.state (take at old ++ (new ++ drop (at + length bytes - at) (drop at old)))) c.copy_from_slice.ensures.after (omega arith) (omega arith)
-    c.requires.line c.requires.fits c.requires.writable
+    line_put c.args.pages.now c.args.found.space c.args.found.page c.args.found.line at (at + length bytes - at) bytes old new _ c.line_at_mut.ensures.value
+    (c.line_at_mut.ensures.state (take at old ++ (new ++ drop (at + length bytes - at) (drop at old)))) c.copy_from_slice.ensures.after (omega arith) (omega arith)
+    c.requires.found.line c.requires.fits c.requires.writable
