@@ -5,3 +5,5 @@ pub mod Rans
 pub mod Stretches
 pub mod Stretching
 pub mod Standing
+pub mod Loadings
+pub mod Dropping

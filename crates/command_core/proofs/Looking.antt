@@ -1,17 +1,18 @@
 use Rattle.std.proofs.Common.{◌≡◌, ℕ, ◌+◌, ◌<◌, ◌≤◌, suc, Bool, true, false, cond, List, [], ◌∷◌, map, sym, ap, subst, ◌∙◌, refl, arith, inl, inr, Option, Some, None}
 use Rattle.std.specs.Prelude.{nat_le, slice_get, IfSome, Ok}
-use Rattle.std.specs.Option.{is_some, option_and_then, option_map, option_map_or, MatchOption}
+use Rattle.std.specs.Option.{is_some, option_map, option_map_or, MatchOption}
 use Rattle.std.specs.List.{filter}
 use Rattle.std.specs.Ordering.{nat_cmp}
 use Rattle.std.specs.FinMap.{find, get, len, entries, get-entries}
 use Rattle.std.proofs.lemmas.Bool.{cases_lt}
 use Rattle.std.proofs.lemmas.Bool.Decides.{nat_tests}
 use Rattle.ovl_io.specs.Keys.{ties, differs}
-use Rattle.ovl_io.specs.Memory.{Memory}
+use Rattle.number_maps.specs.Views.{len_viewed}
+use Rattle.overlay_pages.specs.State.{State, memory_of, seen_page, space_in}
 use Rattle.machine_core.specs.Process.{Process}
 use Rattle.machine_core.specs.declared.process.Process as declared
-use Rattle.machine_core.specs.Machine.{Machine, Processes, keys_from, shown_at, shown_process, whole, wholes}
-use Rattle.machine_core.specs.Laws.{wholes_at}
+use Rattle.machine_core.specs.Machine.{Machine, Processes, Wholes, keys_from, shown_at, shown_process, spaces_of, whole_in, wholes}
+use Rattle.machine_core.specs.Laws.{processes_at}
 use Rattle.machine_core.specs.NumberLaws.{Rises, entries_rise}
 use Rattle.command_core.specs.declared.session.ProcessView.{ProcessView}
 use Rattle.sizes.specs.declared.TheConstants.{LAST_SPACE}
@@ -79,23 +80,23 @@ no_key : {X : Type 0} (es : List (ℕ × X)) → map (λ e. e.0) es ≡ [] → e
 no_key [] h = refl
 no_key (e ∷ es) h = cc
 
-pub next_is : (processes : Processes) (from : ℕ) (r : Option ℕ)
-    → MatchOption r (keys_from from processes ≡ []) (λ p. slice_get (keys_from from processes) 0 ≡ Some p) → NextProcess processes from r
-next_is processes from None none = no_key (passing from (entries processes)) none
-next_is processes from (Some p) starts =
-    let (process, not_below, found, splits) = first_from from 0 p (entries processes) (entries_rise processes) starts in
-    (process, get-entries processes p ∙ found, splits)
+pub next_is : (all : Wholes) (from : ℕ) (r : Option ℕ)
+    → MatchOption r (keys_from from all ≡ []) (λ p. slice_get (keys_from from all) 0 ≡ Some p) → NextProcess all.processes from r
+next_is all from None none = no_key (passing from (entries all.processes)) none
+next_is all from (Some p) starts =
+    let (process, not_below, found, splits) = first_from from 0 p (entries all.processes) (entries_rise all.processes) starts in
+    (process, get-entries all.processes p ∙ found, splits)
 
-next_from : (processes : Processes) (from p : ℕ) → slice_get (keys_from from processes) 0 ≡ Some p → (from ≤ p) × (is_some (get processes p) ≡ true)
-next_from processes from p starts =
-    let (process, not_below, found, splits) = first_from from 0 p (entries processes) (entries_rise processes) starts in
-    (not_below, ap is_some (get-entries processes p ∙ found))
+next_from : (all : Wholes) (from p : ℕ) → slice_get (keys_from from all) 0 ≡ Some p → (from ≤ p) × (is_some (get all.processes p) ≡ true)
+next_from all from p starts =
+    let (process, not_below, found, splits) = first_from from 0 p (entries all.processes) (entries_rise all.processes) starts in
+    (not_below, ap is_some (get-entries all.processes p ∙ found))
 
 -- where a number is the next one, it isn't above those drawn
-few : (machine : Machine) (drawn p : ℕ) → IsSession machine drawn → is_some (get (wholes machine) p) ≡ true → p ≤ LAST_SPACE
+few : (machine : Machine) (drawn p : ℕ) → IsSession machine drawn → is_some (get (wholes machine).processes p) ≡ true → p ≤ LAST_SPACE
 few machine drawn p is has = elim (cases_lt drawn p) [
-  | inl above ↦ absurd (let no = ap is_some (ap (λ process. option_and_then (λ q. option_map (whole q) (get machine.spaces p)) process) (is.no_process p above)) in
-      let both : false ≡ true = sym (ap is_some (wholes_at machine p) ∙ no) ∙ has in cc)
+  | inl above ↦ absurd (let lacks = ap is_some (ap (option_map (whole_in (spaces_of machine) p)) (is.no_process p above)) in
+      let both : false ≡ true = sym (ap is_some (processes_at machine p) ∙ lacks) ∙ has in cc)
   | inr le ↦ omega (arith, le, is.few)
 ]
 
@@ -106,22 +107,25 @@ next_within machine drawn from None is starts = tt
 next_within machine drawn from (Some p) is starts =
     let (not_below, has) = next_from (wholes machine) from p starts in (not_below, few machine drawn p is has)
 
--- A process as it is shown, of its parts: its registers and its state, and how many pages its space has.
-abbrev pub shown : declared.Process → ℕ → ProcessView
-shown process pages = record { regs = process.regs; state = process.state; speculating = false; pages = pages }
+-- A process as it is shown, of its parts: its registers and its state, whether its space is marked, and how many pages that has.
+abbrev pub shown : declared.Process → Bool → ℕ → ProcessView
+shown process speculating pages = record { regs = process.regs; state = process.state; speculating = speculating; pages = pages }
 
-by_parts : (space : Option Memory) (process : Option declared.Process) (found : Option Process) (there : declared.Process) (pages : ℕ)
-    → found ≡ option_and_then (λ p. option_map (whole p) space) process → Some there ≡ option_map shown_process found
-    → pages ≡ option_map_or len space 0 → Ok (shown there pages) ≡ looked_at found
-by_parts space process None there pages is shows count = cc
-by_parts space None (Some found) there pages is shows count = cc
-by_parts None (Some process) (Some found) there pages is shows count = cc
-by_parts (Some memory) (Some process) (Some found) there pages is shows count =
-    let whole_is : found ≡ whole process memory = cc in
-    let there_is : there ≡ shown_process found = cc in
-    ap Ok (ap (λ p. shown p pages) there_is ∙ ap (λ n. shown (shown_process found) n) (count ∙ sym (ap (λ (p : Process). len p.memory) whole_is)))
+by_parts : (spaces : State) (p : ℕ) (o : Option declared.Process) (there : declared.Process) (mark : Bool) (pages : ℕ)
+    → Some there ≡ option_map shown_process (option_map (whole_in spaces p) o) → mark ≡ (space_in spaces p).speculating → pages ≡ len (memory_of spaces p)
+    → Ok (shown there mark pages) ≡ looked_at (option_map (whole_in spaces p) o)
+by_parts spaces p None there mark pages shows is count = cc
+by_parts spaces p (Some process) there mark pages shows is count =
+    let same : there ≡ process = cc in
+    ap (λ x. Ok (shown x mark pages)) same ∙ ap (λ m. Ok (shown process m pages)) is ∙ ap (λ n. Ok (shown process (space_in spaces p).speculating n)) count
 
-pub looked_is : (machine : Machine) (p : ℕ) (there : declared.Process) (pages : ℕ) → Some there ≡ shown_at (wholes machine) p
-    → pages ≡ option_map_or len (get machine.spaces p) 0 → Ok (shown there pages) ≡ looked_at (get (wholes machine) p)
-looked_is machine p there pages shows count =
-    by_parts (get machine.spaces p) (get machine.processes p) (get (wholes machine) p) there pages (wholes_at machine p) shows count
+pages_are : (spaces : State) (p : ℕ) → len (memory_of spaces p) ≡ len (space_in spaces p).pages
+unfolding memory_of
+pages_are spaces p = len_viewed (λ _ x. seen_page x) (space_in spaces p).pages
+
+pub looked_is : (machine : Machine) (p : ℕ) (there : declared.Process) (mark : Bool) (pages : ℕ) → Some there ≡ shown_at (wholes machine) p
+    → mark ≡ (space_in (spaces_of machine) p).speculating → pages ≡ len (space_in (spaces_of machine) p).pages
+    → Ok (shown there mark pages) ≡ looked_at (get (wholes machine).processes p)
+looked_is machine p there mark pages shows is count =
+    by_parts (spaces_of machine) p (get machine.processes p) there mark pages (shows ∙ ap (option_map shown_process) (processes_at machine p)) is (count ∙ sym (pages_are (spaces_of machine) p))
+    ∙ ap looked_at (sym (processes_at machine p))

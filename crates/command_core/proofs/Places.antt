@@ -1,16 +1,21 @@
-use Rattle.std.proofs.Common.{◌≡◌, ℕ, ◌+◌, ◌≤◌, ◌==◌, Bool, true, false, sym, ap, subst, ◌∙◌, refl, arith, Option, Some, None}
-use Rattle.std.specs.Option.{is_some, option_and_then, option_map, option_map_or}
+use Rattle.std.proofs.Common.{◌≡◌, ℕ, ◌+◌, ◌≤◌, ◌==◌, Bool, true, false, sym, ap, subst, ◌∙◌, refl, arith, Option, Some, None, List}
+use Rattle.std.specs.Option.{is_some, option_map, option_map_or}
 use Rattle.std.specs.Ordering.{nat_cmp}
 use Rattle.std.proofs.lemmas.Bool.Decides.{nat_tests}
-use Rattle.std.specs.FinMap.{empty, get, insert, get-empty}
-use Rattle.ovl_io.specs.Keys.{alike, by_key, get_other, get_same, removed_other, removed_same}
-use Rattle.ovl_io.specs.Memory.{Memory}
+use Rattle.std.specs.FinMap.{FinMap, empty, get, insert, get-empty}
+use Rattle.number_maps.specs.Keys.{alike, by_key, get_other, get_same, removed_other, removed_same}
+use Rattle.number_maps.specs.Views.{viewed, viewed_empty}
 use Rattle.sizes.specs.declared.TheConstants.{LAST_SPACE}
+use Rattle.ledger.specs.Ledger.{Ledger}
+use Rattle.overlay_pages.specs.Calls.{IsEmptyState}
+use Rattle.overlay_pages.specs.State.{SpaceState, State, books, cut_space, held_page, holds_space, space_in}
+use Rattle.overlay_pages.specs.StateLaws.{space_absent, space_left}
 use Rattle.machine_core.specs.Process.{Process, runs}
 use Rattle.machine_core.specs.declared.process.Process as declared
-use Rattle.machine_core.specs.Machine.{Machine, Processes, StaysBut, after_turn, is_running, process_after, whole, wholes, with_whole_at, without_process_at, without_space_at}
-use Rattle.machine_core.specs.Laws.{wholes_at}
-use Rattle.command_core.specs.State.{IsSession, SamePlaces}
+use Rattle.machine_core.specs.Machine.{IsDropped, KeepsPlaces, Machine, Processes, Wholes, has_space, is_running, processes_of, shown_process, spaces_of, whole_in, wholes, without_process_at}
+use Rattle.machine_core.specs.Laws.{processes_at, runs_shown}
+use Rattle.machine_core.specs.Load.{IsLoaded, loaded_process}
+use Rattle.command_core.specs.State.{IsSession, OwnSpaces}
 
 -- Which spaces and processes are there.
 
@@ -18,104 +23,112 @@ none_is : {X : Type 0} (o : Option X) → is_some o ≡ false → o ≡ None
 none_is None h = refl
 none_is (Some x) h = cc
 
--- where a whole process is, its space and its process are
-parts_there : (memory : Option Memory) (process : Option declared.Process)
-    → is_some (option_and_then (λ p. option_map (whole p) memory) process) ≡ true → (is_some memory ≡ true) × (is_some process ≡ true)
-parts_there None None h = cc
-parts_there (Some memory) None h = cc
-parts_there None (Some process) h = cc
-parts_there (Some memory) (Some process) h = (refl, refl)
+pub same_start : (machine : Machine) → KeepsPlaces machine machine
+same_start machine = record { spaces = λ q. refl; awaiting = λ q. refl; processes = λ q. refl }
 
-there : (machine : Machine) (p : ℕ) → is_some (get (wholes machine) p) ≡ true → (is_some (get machine.spaces p) ≡ true) × (is_some (get machine.processes p) ≡ true)
-there machine p h = parts_there (get machine.spaces p) (get machine.processes p) (ap is_some (sym (wholes_at machine p)) ∙ h)
-
-running_there : (found : Option Process) → option_map_or (λ (process : Process). runs process.state) found false ≡ true → is_some found ≡ true
-running_there None h = cc
-running_there (Some process) h = refl
-
-turned_there : (processes : Processes) (p : ℕ) (found : Option Process) → get processes p ≡ found → is_some found ≡ true
-    → is_some (get (option_map_or (λ (process : Process). insert processes p (process_after p process)) found processes) p) ≡ true
-turned_there processes p None h some = cc
-turned_there processes p (Some process) h some = ap is_some (get_same processes p p (process_after p process) refl)
-
-pub same_start : (machine : Machine) → SamePlaces machine machine
-same_start machine = record { spaces = λ q. refl; processes = λ q. refl }
-
-pub same_then : (a b c : Machine) → SamePlaces a b → SamePlaces b c → SamePlaces a c
+pub same_then : (a b c : Machine) → KeepsPlaces a b → KeepsPlaces b c → KeepsPlaces a c
 same_then a b c first second = record {
   spaces = λ q. second.spaces q ∙ first.spaces q;
+  awaiting = λ q. second.awaiting q ∙ first.awaiting q;
   processes = λ q. second.processes q ∙ first.processes q;
 }
 
-pub same_change : (old new : Machine) (p : ℕ) → is_running (wholes old) p ≡ true → is_some (get (wholes new) p) ≡ true → StaysBut p old new → SamePlaces old new
-same_change old new p running some stays =
-    let before = there old p (running_there (get (wholes old) p) running) in
-    let after = there new p some in
-    record {
-      spaces = λ q. by_key q p (λ same. ap (λ n. is_some (get new.spaces n)) same ∙ after.0 ∙ sym (ap (λ n. is_some (get old.spaces n)) same ∙ before.0))
-          (λ other. ap is_some (stays.spaces q other));
-      processes = λ q. by_key q p (λ same. ap (λ n. is_some (get new.processes n)) same ∙ after.1 ∙ sym (ap (λ n. is_some (get old.processes n)) same ∙ before.1))
-          (λ other. ap is_some (stays.processes q other));
-    }
+-- a process that runs is there, and so is its space
 
-pub same_turn : (old new : Machine) (p : ℕ) → is_running (wholes old) p ≡ true → wholes new ≡ after_turn (wholes old) p → StaysBut p old new → SamePlaces old new
-same_turn old new p running turned stays =
-    same_change old new p running
-    (ap (λ (ps : Processes). is_some (get ps p)) turned ∙ turned_there (wholes old) p (get (wholes old) p) refl (running_there (get (wholes old) p) running)) stays
+process_there : (machine : Machine) (p : ℕ) → is_running (wholes machine) p ≡ true → is_some (get machine.processes p) ≡ true
+process_there machine p running = by_process (get machine.processes p) (sym (runs_shown machine p) ∙ running)
+  where
+    by_process : (o : Option declared.Process) → option_map_or (λ (process : declared.Process). runs process.state) o false ≡ true → is_some o ≡ true
+    by_process None h = cc
+    by_process (Some process) h = refl
 
-pub stays_then : (p : ℕ) (a b c : Machine) → StaysBut p a b → StaysBut p b c → StaysBut p a c
-stays_then p a b c first second = record {
-  spaces = λ q other. second.spaces q other ∙ first.spaces q other;
-  processes = λ q other. second.processes q other ∙ first.processes q other;
-}
+pub space_there : (machine : Machine) (p : ℕ) → OwnSpaces machine → is_running (wholes machine) p ≡ true → has_space machine p ≡ true
+space_there machine p own running = own p (process_there machine p running)
+
+-- and stays so where the same ones are there
+pub own_kept : (old new : Machine) → OwnSpaces old → KeepsPlaces old new → OwnSpaces new
+own_kept old new own same p some = same.spaces p ∙ own p (sym (same.processes p) ∙ some)
 
 -- what a session keeps stays so
 
-pub session_kept : (old new : Machine) (drawn : ℕ) → IsSession old drawn → SamePlaces old new → IsSession new drawn
+pub session_kept : (old new : Machine) (drawn : ℕ) → IsSession old drawn → KeepsPlaces old new → IsSession new drawn
 session_kept old new drawn is same = record {
   few = is.few;
-  no_space = λ p above. none_is (get new.spaces p) (same.spaces p ∙ ap is_some (is.no_space p above));
+  no_space = λ p above. same.spaces p ∙ is.no_space p above;
   no_process = λ p above. none_is (get new.processes p) (same.processes p ∙ ap is_some (is.no_process p above));
-  has_space = λ p some. same.spaces p ∙ is.has_space p (sym (same.processes p) ∙ some);
+  own_space = λ p some. same.spaces p ∙ is.own_space p (sym (same.processes p) ∙ some);
+  settled = λ p. same.awaiting p ∙ is.settled p;
 }
 
-pub session_start : (machine : Machine) → machine.spaces ≡ empty → machine.processes ≡ empty → IsSession machine 0
-session_start machine no_spaces no_processes = record {
-  few = omega arith;
-  no_space = λ p above. ap (λ m. get m p) no_spaces ∙ get-empty nat_cmp p;
-  no_process = λ p above. ap (λ m. get m p) no_processes ∙ get-empty nat_cmp p;
-  has_space = λ p some. let no = ap is_some (ap (λ m. get m p) no_processes ∙ get-empty nat_cmp p) in let both : false ≡ true = sym no ∙ some in cc;
+module _ (machine : Machine) (frames : ℕ) (none : IsEmptyState frames (spaces_of machine)) (no_processes : machine.processes ≡ empty) where
+  no_space_yet : (p : ℕ) → get (spaces_of machine).spaces p ≡ None
+  no_space_yet p = ap (λ m. get m p) none.spaces ∙ get-empty nat_cmp p
+
+  no_process_yet : (p : ℕ) → get machine.processes p ≡ None
+  no_process_yet p = ap (λ m. get m p) no_processes ∙ get-empty nat_cmp p
+
+  pub session_start : IsSession machine 0
+  session_start = record {
+    few = omega arith;
+    no_space = λ p above. ap is_some (no_space_yet p);
+    no_process = λ p above. no_process_yet p;
+    own_space = λ p some. let lacks = ap is_some (no_process_yet p) in let both : false ≡ true = sym lacks ∙ some in cc;
+    settled = λ p. ap (λ (x : SpaceState). x.awaiting) (space_absent (spaces_of machine) p (no_space_yet p));
+  }
+
+  no_books : books (spaces_of machine) ≡ empty
+  unfolding books
+  no_books =
+      ap (viewed (λ _ (x : SpaceState). viewed (λ _ y. held_page (spaces_of machine).zero_frame y) x.pages)) none.spaces
+      ∙ viewed_empty (λ _ (x : SpaceState). viewed (λ _ y. held_page (spaces_of machine).zero_frame y) x.pages)
+
+  no_wholes : processes_of machine ≡ empty
+  no_wholes = alike _ _ (λ q. processes_at machine q ∙ ap (option_map (whole_in (spaces_of machine) q)) (no_process_yet q) ∙ sym (get-empty nat_cmp q))
+
+  pub wholes_start : wholes machine ≡ record { processes = empty; ledger = empty; frames = frames }
+  wholes_start = λ i. record { processes = no_wholes i; ledger = no_books i; frames = none.count i }
+
+pub session_load : (old new : Machine) (drawn : ℕ) (file : List ℕ) → IsSession old drawn → drawn + 1 ≤ LAST_SPACE → IsLoaded (drawn + 1) file old new → IsSession new (drawn + 1)
+session_load old new drawn file is below loaded = record {
+  few = below;
+  no_space = λ p above. loaded.others.there p (λ same. omega (arith, above, same)) ∙ is.no_space p (omega (arith, above));
+  no_process = λ p above. loaded.others.processes p (λ same. omega (arith, above, same)) ∙ is.no_process p (omega (arith, above));
+  own_space = λ p some. by_key p (drawn + 1)
+      (λ same. ap (has_space new) same ∙ loaded.there)
+      (λ other. loaded.others.there p other ∙ is.own_space p (sym (ap is_some (loaded.others.processes p other)) ∙ some));
+  settled = λ p. by_key p (drawn + 1)
+      (λ same. ap (λ n. (space_in (spaces_of new) n).awaiting) same ∙ loaded.settled)
+      (λ other. ap (λ (x : SpaceState). x.awaiting) (loaded.others.spaces p other) ∙ is.settled p);
 }
 
-pub wholes_start : (machine : Machine) → machine.processes ≡ empty → wholes machine ≡ empty
-wholes_start machine no_processes =
-    alike (wholes machine) empty (λ q. wholes_at machine q
-    ∙ ap (λ process. option_and_then (λ p. option_map (whole p) (get machine.spaces q)) process) (ap (λ m. get m q) no_processes ∙ get-empty nat_cmp q)
-    ∙ sym (get-empty nat_cmp q))
+-- after want of memory
+pub session_same : (old new : Machine) (drawn : ℕ) → IsSession old drawn → spaces_of new ≡ spaces_of old → new.processes ≡ old.processes → IsSession new drawn
+session_same old new drawn is spaces processes = session_kept old new drawn is (record {
+  spaces = λ q. ap (λ (s : State). holds_space s q) spaces;
+  awaiting = λ q. ap (λ (s : State). (space_in s q).awaiting) spaces;
+  processes = λ q. ap (λ (m : FinMap nat_cmp declared.Process). is_some (get m q)) processes;
+})
 
-pub session_load : (old new : Machine) (drawn : ℕ) (process : Process) → IsSession old drawn → drawn + 1 ≤ LAST_SPACE
-    → new ≡ with_whole_at old (drawn + 1) process → IsSession new (drawn + 1)
-session_load old new drawn process is below made =
-    subst (λ m. IsSession m (drawn + 1)) (sym made) (record {
-      few = below;
-      no_space = λ p above. get_other old.spaces (drawn + 1) p _ (λ same. omega (arith, above, same)) ∙ is.no_space p (omega (arith, above));
-      no_process = λ p above. get_other old.processes (drawn + 1) p _ (λ same. omega (arith, above, same)) ∙ is.no_process p (omega (arith, above));
-      has_space = λ p some. by_key p (drawn + 1)
-          (λ same. ap is_some (get_same old.spaces (drawn + 1) p _ same))
-          (λ other. ap is_some (get_other old.spaces (drawn + 1) p _ other)
-          ∙ is.has_space p (sym (ap is_some (get_other old.processes (drawn + 1) p _ other)) ∙ some));
-    })
-
-pub session_drop : (old mid new : Machine) (drawn p : ℕ) → IsSession old drawn → mid ≡ without_process_at old p → new ≡ without_space_at mid p → IsSession new drawn
+pub session_drop : (old mid new : Machine) (drawn p : ℕ) → IsSession old drawn → mid ≡ without_process_at old p → IsDropped p mid new → IsSession new drawn
+unfolding cut_space
 session_drop old mid new drawn p is removed dropped =
-    subst (λ m. IsSession m drawn) (sym (dropped ∙ ap (λ m. without_space_at m p) removed)) (record {
+    let spaces : spaces_of new ≡ cut_space (spaces_of old) p = dropped.spaces ∙ ap (λ (m : Machine). cut_space (spaces_of m) p) removed in
+    let processes = dropped.processes ∙ ap (λ (m : Machine). m.processes) removed in
+    record {
       few = is.few;
-      no_space = λ q above. by_key q p (λ same. removed_same old.spaces p q same) (λ other. removed_other old.spaces p q other ∙ is.no_space q above);
-      no_process = λ q above. by_key q p (λ same. removed_same old.processes p q same) (λ other. removed_other old.processes p q other ∙ is.no_process q above);
-      has_space = λ q some. by_key q p
-          (λ same. let no = ap is_some (removed_same old.processes p q same) in let both : false ≡ true = sym no ∙ some in cc)
-          (λ other. ap is_some (removed_other old.spaces p q other) ∙ is.has_space q (sym (ap is_some (removed_other old.processes p q other)) ∙ some));
-    })
+      no_space = λ q above. ap (λ (s : State). holds_space s q) spaces ∙ by_key q p
+          (λ same. ap is_some (removed_same (spaces_of old).spaces p q same))
+          (λ other. ap is_some (removed_other (spaces_of old).spaces p q other) ∙ is.no_space q above);
+      no_process = λ q above. ap (λ m. get m q) processes ∙ by_key q p
+          (λ same. removed_same old.processes p q same) (λ other. removed_other old.processes p q other ∙ is.no_process q above);
+      own_space = λ q some. ap (λ (s : State). holds_space s q) spaces ∙ by_key q p
+          (λ same. let lacks = ap is_some (ap (λ m. get m q) processes ∙ removed_same old.processes p q same) in let both : false ≡ true = sym lacks ∙ some in cc)
+          (λ other. ap is_some (removed_other (spaces_of old).spaces p q other)
+          ∙ is.own_space q (sym (ap is_some (ap (λ m. get m q) processes ∙ removed_other old.processes p q other)) ∙ some));
+      settled = λ q. by_key q p
+          (λ same. ap (λ (x : SpaceState). x.awaiting) (space_absent (spaces_of new) q (ap (λ (s : State). get s.spaces q) spaces ∙ removed_same (spaces_of old).spaces p q same)))
+          (λ other. ap (λ (s : State). (space_in s q).awaiting) spaces ∙ ap (λ (x : SpaceState). x.awaiting) (space_left (spaces_of old) p q other) ∙ is.settled q);
+    }
 
 -- a number is left
 pub is_below : (inside drawn : ℕ) (all : Bool) → inside ≡ drawn → all ≡ (drawn == LAST_SPACE) → all ≡ false → inside ≤ LAST_SPACE → inside + 1 ≤ LAST_SPACE

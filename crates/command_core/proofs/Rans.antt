@@ -1,14 +1,22 @@
-use Rattle.std.proofs.Common.{◌≡◌, ℕ, zero, suc, ◌+◌, ◌-◌, ◌<◌, ◌≤◌, ◌==◌, Bool, true, false, cond, List, [], ◌++◌, sym, ap, ◌∙◌, refl, arith, append_assoc, Option, Some, None, nat_lt, ◌⊎◌, inl, inr, eqb-true}
+use Rattle.std.proofs.Common.{◌≡◌, ℕ, suc, ◌+◌, ◌-◌, ◌<◌, ◌≤◌, ◌==◌, ◌||◌, Bool, true, false, cond, List, [], ◌∷◌, ◌++◌, sym, ap, subst, ◌∙◌, refl, arith, append_assoc, Option, Some, None, nat_lt, ◌⊎◌, inl, inr}
 use Rattle.std.specs.Option.{option_map_or}
 use Rattle.std.proofs.lemmas.Bool.Decides.{nat_tests}
 use Rattle.std.specs.Prelude.{flat_map}
 use Rattle.ovl_io.specs.declared.turn.Turn.{Turn}
-use Rattle.machine_core.specs.Machine.{Processes, turn_of, after_turn}
+use Rattle.ovl_io.specs.declared.turn.Turn.TheVariants as turn
+use Rattle.machine_core.specs.Machine.{AreLike, Wholes}
+use Rattle.machine_core.specs.Laws.{like_itself}
+use Rattle.ovl_io.specs.Memory.{Access, Memory, denied_at}
+use Rattle.rv_execute.specs.Registers.{Registers, register}
+use Rattle.rv_execute.specs.Step.{Request, buffered, request, write_count}
+use Rattle.rv_execute.specs.Calls.{load_at}
+use Rattle.machine_core.specs.Turns.{Guest, after_turn, asked_found, guest_at, turn_asked, turn_of}
 use Rattle.command_core.specs.declared.turns.Order.{Order}
 use Rattle.report_text.specs.declared.answer.Stop.{Stop}
-use Rattle.report_text.specs.declared.answer.Stop.TheVariants.{Limit}
+use Rattle.report_text.specs.declared.answer.Stop.TheVariants.{Full, Limit}
 use Rattle.report_text.specs.Answers.{turn_text, stop_text}
-use Rattle.command_core.specs.Turns.{EndsRun, InRun, Progress, Ran, ending, ending_by, first_event, next_of, ran, ran_from, ran_text, rest_of, run_after, stopped, turns_by}
+use Rattle.command_core.specs.LikeLaws.{ran_ended}
+use Rattle.command_core.specs.Turns.{EndsRun, InRun, Progress, Ran, Speaks, ending, ending_by, event_then, first_event, left_by, left_of, lines_left, next_of, ran, ran_from, ran_text, rest_of, run_after, stopped, turns_by}
 
 -- Turns, one after the other.
 
@@ -20,66 +28,94 @@ is_left b taken turns is left = below taken turns (sym is ∙ left)
     below m n h = grind (arith, nat_tests)
 
 -- the next number, by the order that a run has
-pub next_is : (processes : Processes) (order other : Order) (next : Option ℕ) → next ≡ next_of processes order → order ≡ other → next_of processes other ≡ next
+pub next_is : (processes : Wholes) (order other : Order) (next : Option ℕ) → next ≡ next_of processes order → order ≡ other → next_of processes other ≡ next
 next_is processes order other next is same = ap (next_of processes) (sym same) ∙ sym is
 
 left_more : (turns taken : ℕ) → taken < turns → turns - taken ≡ suc (turns - (taken + 1))
 left_more turns taken h = omega arith
 
 -- the first of some turns
-pub ran_first : (processes : Processes) (run : Progress) (p : ℕ) → run.taken < run.turns → next_of processes run.order ≡ Some p
-    → ran_from processes run ≡ first_event p (turn_of processes p) (ran_from (after_turn processes p) (run_after p run))
+pub ran_first : (processes : Wholes) (run : Progress) (p : ℕ) → run.taken < run.turns → next_of processes run.order ≡ Some p
+    → ran_from processes run ≡ event_then p (turn_of processes p) (ran_from (after_turn processes p) (run_after p run)) processes run
 ran_first processes run p below next =
     ap (λ left. ran left processes run) (left_more run.turns run.taken below)
     ∙ ap (λ n. turns_by n (λ q. ran (run.turns - (run.taken + 1)) (after_turn processes q) (run_after q run)) processes run) next
 
-text_first : (p : ℕ) (turn : Turn) (others : Ran) → ran_text (first_event p turn others) ≡ turn_text p turn ++ ran_text others
+-- one that isn't answered Full is counted
+abbrev pub is_counted : Turn → Bool
+is_counted turn.Stepped = true
+is_counted (turn.Wrote written) = true
+is_counted (turn.Exited code) = true
+is_counted (turn.Faulted kind at) = true
+is_counted (turn.Full units limit) = false
+
+goes_on : (p : ℕ) (t : Turn) (others : Ran) (processes : Wholes) (run : Progress) → is_counted t ≡ true → event_then p t others processes run ≡ first_event p t others
+goes_on p turn.Stepped others processes run counted = refl
+goes_on p (turn.Wrote written) others processes run counted = refl
+goes_on p (turn.Exited code) others processes run counted = refl
+goes_on p (turn.Faulted kind at) others processes run counted = refl
+goes_on p (turn.Full units limit) others processes run counted = cc
+
+-- what a process asked for is
+cond_counted : (b : Bool) (x y : Request) → is_counted x.turn ≡ true → is_counted y.turn ≡ true → is_counted (cond b x y).turn ≡ true
+cond_counted true x y h k = h
+cond_counted false x y h k = k
+
+buffered_counted : (o : Option ℕ) (n : ℕ) (regs : Registers) (memory : Memory) (accesses : List Access) → is_counted (buffered o n regs memory accesses).turn ≡ true
+buffered_counted None n regs memory accesses = cond_counted (n == 0) _ _ refl refl
+buffered_counted (Some at) n regs memory accesses = refl
+
+request_counted : (p : ℕ) (regs : Registers) (memory : Memory) → is_counted (request p regs memory).turn ≡ true
+request_counted p regs memory =
+    cond_counted (register regs 17 == 64) _ _
+    (cond_counted ((register regs 10 == 1) || (register regs 10 == 2)) _ _ (buffered_counted (denied_at memory (load_at (register regs 11) (write_count regs))) (write_count regs) regs memory (load_at (register regs 11) (write_count regs) ∷ [])) refl)
+    (cond_counted ((register regs 17 == 93) || (register regs 17 == 94)) _ _ refl (cond_counted (register regs 17 == 172) _ _ refl refl))
+
+pub asked_counted : (processes : Wholes) (p : ℕ) → is_counted (turn_asked processes p) ≡ true
+asked_counted processes p = by_found (guest_at processes p)
+  where
+    by_found : (o : Option Guest) → is_counted (asked_found p o) ≡ true
+    by_found None = refl
+    by_found (Some guest) = request_counted p guest.process.registers guest.process.memory
+
+-- the first of some turns, where it is counted
+pub ran_counted : (processes : Wholes) (run : Progress) (p : ℕ) → run.taken < run.turns → next_of processes run.order ≡ Some p → is_counted (turn_of processes p) ≡ true
+    → ran_from processes run ≡ first_event p (turn_of processes p) (ran_from (after_turn processes p) (run_after p run))
+ran_counted processes run p below next counted =
+    ran_first processes run p below next
+    ∙ goes_on p (turn_of processes p) (ran_from (after_turn processes p) (run_after p run)) processes run counted
+
+-- one that is answered Full is the last
+pub ran_full : (processes : Wholes) (run : Progress) (p units limit : ℕ) → run.taken < run.turns → next_of processes run.order ≡ Some p → turn_of processes p ≡ turn.Full units limit
+    → ran_from processes run ≡ first_event p (turn.Full units limit) (stopped Full processes run)
+ran_full processes run p units limit below next full =
+    ran_first processes run p below next
+    ∙ ap (λ t. event_then p t (ran_from (after_turn processes p) (run_after p run)) processes run) full
+
+pub text_first : (p : ℕ) (turn : Turn) (others : Ran) → ran_text (first_event p turn others) ≡ turn_text p turn ++ ran_text others
 text_first p turn others =
     append_assoc (turn_text p turn) (flat_map (λ event. turn_text event.0 event.1) others.events) (stop_text others.taken others.stop)
 
 -- a turn that has a line, and one that has none
-pub ran_says : (processes after : Processes) (run : Progress) (p : ℕ) (line : List ℕ) → run.taken < run.turns → next_of processes run.order ≡ Some p
-    → line ≡ turn_text p (turn_of processes p) → after ≡ after_turn processes p
+pub ran_says : (processes after : Wholes) (run : Progress) (p : ℕ) (line : List ℕ) → run.taken < run.turns → next_of processes run.order ≡ Some p
+    → is_counted (turn_of processes p) ≡ true → line ≡ turn_text p (turn_of processes p) → after ≡ after_turn processes p
     → ran_text (ran_from processes run) ≡ line ++ ran_text (ran_from after (run_after p run))
-ran_says processes after run p line below next says turned =
-    ap ran_text (ran_first processes run p below next)
+ran_says processes after run p line below next counted says turned =
+    ap ran_text (ran_counted processes run p below next counted)
     ∙ text_first p (turn_of processes p) (ran_from (after_turn processes p) (run_after p run))
     ∙ ap (λ bs. bs ++ ran_text (ran_from (after_turn processes p) (run_after p run))) (sym says)
-    ∙ ap (λ (ps : Processes). line ++ ran_text (ran_from ps (run_after p run))) (sym turned)
+    ∙ ap (λ (ps : Wholes). line ++ ran_text (ran_from ps (run_after p run))) (sym turned)
 
-pub ran_quiet : (processes after : Processes) (run : Progress) (p : ℕ) → run.taken < run.turns → next_of processes run.order ≡ Some p
-    → turn_text p (turn_of processes p) ≡ [] → after ≡ after_turn processes p
+pub ran_quiet : (processes after : Wholes) (run : Progress) (p : ℕ) → run.taken < run.turns → next_of processes run.order ≡ Some p
+    → is_counted (turn_of processes p) ≡ true → turn_text p (turn_of processes p) ≡ [] → after ≡ after_turn processes p
     → ran_text (ran_from processes run) ≡ ran_text (ran_from after (run_after p run))
-ran_quiet processes after run p below next quiet turned = ran_says processes after run p [] below next (sym quiet) turned
+ran_quiet processes after run p below next counted quiet turned = ran_says processes after run p [] below next counted (sym quiet) turned
 
-pub ran_after : (processes after : Processes) (run : Progress) (p : ℕ) → run.taken < run.turns → next_of processes run.order ≡ Some p
-    → after ≡ after_turn processes p → (ran_from processes run).after ≡ (ran_from after (run_after p run)).after
-ran_after processes after run p below next turned =
-    ap (λ (r : Ran). r.after) (ran_first processes run p below next)
-    ∙ ap (λ (ps : Processes). (ran_from ps (run_after p run)).after) (sym turned)
-
-limit_of : (b : Bool) (stop : Stop) → cond b (Some Limit) None ≡ Some stop → (b ≡ true) × (Limit ≡ stop)
-limit_of true stop is = (refl, cc)
-limit_of false stop is = cc
-
--- turns that have ended
-by_next : (processes : Processes) (run : Progress) (next : Option ℕ) (stop : Stop) (left : ℕ) → next_of processes run.order ≡ next
-    → left ≡ run.turns - run.taken → run.taken ≤ run.turns → ending_by next run ≡ Some stop → ran left processes run ≡ stopped stop processes run
-by_next processes run None stop zero is many below ends =
-    let same : rest_of run.order ≡ stop = cc in
-    ap (λ n. stopped (option_map_or (λ p. Limit) n (rest_of run.order)) processes run) is ∙ ap (λ s. stopped s processes run) same
-by_next processes run None stop (suc left) is many below ends =
-    let same : rest_of run.order ≡ stop = cc in
-    ap (λ n. turns_by n (λ p. ran left (after_turn processes p) (run_after p run)) processes run) is ∙ ap (λ s. stopped s processes run) same
-by_next processes run (Some p) stop left is many below ends =
-    let parts = limit_of (run.taken == run.turns) stop ends in
-    let none : left ≡ 0 = omega (arith, many, eqb-true run.taken run.turns parts.0) in
-    ap (λ n. ran n processes run) none
-    ∙ ap (λ n. stopped (option_map_or (λ q. Limit) n (rest_of run.order)) processes run) is ∙ ap (λ s. stopped s processes run) parts.1
-
-pub ran_ended : (processes : Processes) (run : Progress) (stop : Stop) → run.taken ≤ run.turns → ending processes run ≡ Some stop
-    → ran_from processes run ≡ stopped stop processes run
-ran_ended processes run stop below ends = by_next processes run (next_of processes run.order) stop (run.turns - run.taken) refl refl below ends
+pub ran_after : (processes after : Wholes) (run : Progress) (p : ℕ) → run.taken < run.turns → next_of processes run.order ≡ Some p
+    → is_counted (turn_of processes p) ≡ true → after ≡ after_turn processes p → (ran_from processes run).after ≡ (ran_from after (run_after p run)).after
+ran_after processes after run p below next counted turned =
+    ap (λ (r : Ran). r.after) (ran_counted processes run p below next counted)
+    ∙ ap (λ (ps : Wholes). (ran_from ps (run_after p run)).after) (sym turned)
 
 -- an ending holds where no process has the next turn, or none is left to be taken
 pub has_ending : (next : Option ℕ) (run : Progress) → (next ≡ None) ⊎ (nat_lt run.taken run.turns ≡ false) → run.taken ≤ run.turns
@@ -90,24 +126,67 @@ has_ending (Some p) run (inr none) below =
     let all : (run.taken == run.turns) ≡ true = grind (arith, nat_tests, none, below) in
     (Limit, ap (λ (b : Bool). cond b (Some Limit) None) all)
 
+-- what is left of a run of which no ending was found
+pub left_all : (processes : Wholes) (running : InRun) → running.stop ≡ None → left_of processes running ≡ ran_from processes running.run
+left_all processes running none = ap (λ (o : Option Stop). left_by o processes running.run) none
+
+pub same_like : (a b : Wholes) → a ≡ b → AreLike a b
+same_like a b same = subst (AreLike a) same (like_itself a)
+
+-- a line, and then what is left of a run that goes on, and of one that has ended
+pub speaks_on : (old new : Wholes) (running after : InRun) (line : List ℕ) → running.stop ≡ None → after.stop ≡ None
+    → (ran_text (ran_from old running.run) ≡ line ++ ran_text (ran_from new after.run)) × ((ran_from old running.run).after ≡ (ran_from new after.run).after)
+    → Speaks old running line new after
+speaks_on old new running after line none still (text, left) =
+    let before = left_all old running none in
+    let behind = left_all new after still in (
+      ap ran_text before ∙ text ∙ ap (λ r. line ++ ran_text r) (sym behind),
+      same_like _ _ (ap (λ (r : Ran). r.after) before ∙ left ∙ ap (λ (r : Ran). r.after) (sym behind)),
+    )
+
+pub speaks_last : (old new : Wholes) (running after : InRun) (line : List ℕ) (stop : Stop) → running.stop ≡ None → after.stop ≡ Some stop
+    → (ran_text (ran_from old running.run) ≡ line ++ ran_text (stopped stop new after.run)) × ((ran_from old running.run).after ≡ new)
+    → Speaks old running line new after
+speaks_last old new running after line stop none ended (text, left) =
+    let before = left_all old running none in
+    let behind = ap (λ (o : Option Stop). left_by o new after.run) ended in (
+      ap ran_text before ∙ text ∙ ap (λ r. line ++ ran_text r) (sym behind),
+      same_like _ _ (ap (λ (r : Ran). r.after) before ∙ left ∙ ap (λ (r : Ran). r.after) (sym behind)),
+    )
+
+-- fewer lines are left
+pub fewer_left : (old new : InRun) → old.stop ≡ None → new.stop ≡ None → new.run.turns ≡ old.run.turns → old.run.taken < new.run.taken → new.run.taken ≤ new.run.turns
+    → lines_left new < lines_left old
+fewer_left old new none still turns more within =
+    let before : lines_left old ≡ old.run.turns - old.run.taken + 1 = ap (λ (o : Option Stop). option_map_or (λ s. 0) o (old.run.turns - old.run.taken + 1)) none in
+    let after : lines_left new ≡ new.run.turns - new.run.taken + 1 = ap (λ (o : Option Stop). option_map_or (λ s. 0) o (new.run.turns - new.run.taken + 1)) still in
+    omega (arith, before, after, turns, more, within)
+
 -- what is found at the end of a run
-pub run_ended : (start processes : Processes) (first : InRun) (run : Progress) (found : Option Stop) → found ≡ ending processes run
+pub run_ended : (start processes : Wholes) (first : InRun) (run : Progress) (found : Option Stop) → first.stop ≡ None → found ≡ ending processes run
     → ran_text (ran_from start first.run) ≡ ran_text (ran_from processes run) → (ran_from start first.run).after ≡ (ran_from processes run).after
     → (next_of processes run.order ≡ None) ⊎ (nat_lt run.taken run.turns ≡ false) → run.taken ≤ run.turns
     → EndsRun start first processes (record { run = run; stop = found })
-run_ended start processes first run found is text after why below =
+run_ended start processes first run found none is text after why below =
     let ends = has_ending (next_of processes run.order) run why below in
     let all = ran_ended processes run ends.0 below ends.1 in
-    (ends.0, is ∙ ends.1, text ∙ ap ran_text all, after ∙ ap (λ (r : Ran). r.after) all)
+    let left = left_all start first none in
+    (ends.0, is ∙ ends.1, ap ran_text left ∙ text ∙ ap ran_text all, same_like _ _ (ap (λ (r : Ran). r.after) left ∙ after ∙ ap (λ (r : Ran). r.after) all))
 
-pub limit_is : (processes : Processes) (run : Progress) (p : ℕ) → next_of processes run.order ≡ Some p → nat_lt run.taken run.turns ≡ false
+-- one that had ended before
+pub ended_before : (processes : Wholes) (running : InRun) (stop : Stop) → running.stop ≡ Some stop → EndsRun processes running processes running
+ended_before processes running stop is =
+    let left = ap (λ (o : Option Stop). left_by o processes running.run) is in
+    (stop, is, ap ran_text left, same_like _ _ (ap (λ (r : Ran). r.after) left))
+
+pub limit_is : (processes : Wholes) (run : Progress) (p : ℕ) → next_of processes run.order ≡ Some p → nat_lt run.taken run.turns ≡ false
     → run.taken ≤ run.turns → Some Limit ≡ ending processes run
 limit_is processes run p next none below =
     let all : (run.taken == run.turns) ≡ true = grind (arith, nat_tests, none, below) in
     sym (ap (λ n. ending_by n run) next ∙ ap (λ (b : Bool). cond b (Some Limit) None) all)
 
 -- a turn is left where no ending holds
-pub unended : (processes : Processes) (run : Progress) (p : ℕ) (found : Option Stop) → found ≡ ending processes run → found ≡ None
+pub unended : (processes : Wholes) (run : Progress) (p : ℕ) (found : Option Stop) → found ≡ ending processes run → found ≡ None
     → next_of processes run.order ≡ Some p → run.taken ≤ run.turns → run.taken < run.turns
 unended processes run p found is none next below = by_test (run.taken == run.turns) refl
   where

@@ -1,12 +1,114 @@
-use Rattle.std.proofs.Common.{◌≡◌, refl, subst}
-use Rattle.command_core.specs.State.{InSession, State}
-use Rattle.command_core.specs.Standing.{SessionStandsFor, TurnsAs}
+use Rattle.std.proofs.Common.{◌≡◌, ℕ, true, cond, List, ◌++◌, sym, ap, ◌∙◌, refl, subst, Option, Some, None}
+use Rattle.std.specs.Prelude.{Result, Ok, Err}
+use Rattle.std.specs.Option.{option_or}
+use Rattle.std.specs.FinMap.{get}
+use Rattle.ledger.specs.AlikeLaws.{alike_turned}
+use Rattle.ovl_io.specs.declared.turn.Turn.{Turn}
+use Rattle.ovl_io.specs.declared.turn.Turn.TheVariants as turn
+use Rattle.machine_core.specs.Process.{Process, runs}
+use Rattle.machine_core.specs.Machine.{AreLike, Processes, Wholes}
+use Rattle.machine_core.specs.Turns.{after_turn, turn_of}
+use Rattle.machine_core.specs.Laws.{like_after_turn, like_chain, like_itself, like_turn}
+use Rattle.report_text.specs.declared.answer.Code.{Code}
+use Rattle.report_text.specs.declared.answer.Code.TheVariants.{Ended}
+use Rattle.command_core.specs.State.{AreLikeStates, InSession, State}
+use Rattle.command_core.specs.Looks.{BeginsStep, begun}
+use Rattle.command_core.specs.LikeLaws.{like_ending, like_found, like_left, like_next, like_text}
+use Rattle.command_core.specs.Standing.{SessionAnswersAs, SessionStandsFor, TurnsAs, begun_step, ends_run, speaks, takes_turn}
+use Rattle.command_core.specs.Turns.{EndsRun, InRun, Progress, alone, Speaks, TakesTurn, found_before, left_of, next_of, ran_text, run_after, run_found, run_turned}
 
--- What holds of a session's own state holds of each state that it stands for.
+-- What holds of a session's own processes holds of those of each state that it stands for.
 
-pub for_each : (fact : State → Type 0) (session : InSession) → fact session.state → (state : State) → SessionStandsFor session state → fact state
-for_each fact session holds state stands = subst fact stands holds
+pub for_each : (fact : Processes → Type 0) (session : InSession) → fact session.state.wholes.processes → (state : State) → SessionStandsFor session state → fact state.wholes.processes
+for_each fact session holds state stands = subst fact stands.wholes.processes holds
 
-pub turns_each : (turns : State → State → Type 0) (old new : InSession) → turns old.state new.state → new.state.drawn ≡ old.state.drawn → TurnsAs turns old new
-turns_each turns old new holds drawn state stands =
-    subst (λ (s : State). (after : State) × SessionStandsFor new after × (after.drawn ≡ s.drawn) × turns s after) stands (new.state, refl, drawn, holds)
+-- turns that are begun
+like_begun : (a b : Wholes) (p turns : ℕ) → AreLike a b → begun a p turns (get a.processes p) ≡ begun b p turns (get b.processes p)
+like_begun a b p turns like = by_found (get a.processes p) ∙ ap (λ (ps : Processes). begun b p turns (get ps p)) like.processes
+  where
+    by_found : (o : Option Process) → begun a p turns o ≡ begun b p turns o
+    by_found None = refl
+    by_found (Some process) = ap (λ r. cond (runs process.state) (Ok r) (Err Ended)) (like_found a b like (alone p turns))
+
+pub step_begun : (session : InSession) (p turns : ℕ) (result : Result InRun Code) → BeginsStep session.state.wholes p turns result → SessionAnswersAs (begun_step p turns) session result
+step_begun session p turns result is state stands = is ∙ like_begun session.state.wholes state.wholes p turns stands.wholes
+
+pub run_begun : (session : InSession) (run : Progress) (result : InRun) → result ≡ run_found session.state.wholes run → (state : State) → SessionStandsFor session state
+    → result ≡ run_found state.wholes run
+run_begun session run result is state stands = is ∙ like_found session.state.wholes state.wholes stands.wholes run
+
+-- a turn
+
+like_turned : (t : Turn) (p : ℕ) (a b : Wholes) (run : Progress) → AreLike a b → run_turned t p a run ≡ run_turned t p b run
+like_turned turn.Stepped p a b run like = like_found a b like (run_after p run)
+like_turned (turn.Wrote written) p a b run like = like_found a b like (run_after p run)
+like_turned (turn.Exited code) p a b run like = like_found a b like (run_after p run)
+like_turned (turn.Faulted kind at) p a b run like = like_found a b like (run_after p run)
+like_turned (turn.Full units limit) p a b run like = refl
+
+found_same : (a b : Wholes) (running : InRun) → AreLike a b → found_before b running ≡ found_before a running
+found_same a b running like = sym (ap (option_or running.stop) (like_ending a b like running.run))
+
+takes_like : (a b new : Wholes) (running after : InRun) (r : Option (ℕ × Turn)) → AreLike a b → TakesTurn a running r new after
+    → (left : Wholes) × AreLike new left × TakesTurn b running r left after
+takes_like a b new running after None like (same, (stop, found, is)) =
+    (b, subst (λ (w : Wholes). AreLike w b) (sym same) like, (refl, (stop, found_same a b running like ∙ found, is)))
+takes_like a b new running after (Some (p, t)) like (none, next, came, turned, is) =
+    let left = subst (λ (w : Wholes). AreLike w (after_turn b p)) (sym turned) (like_after_turn p a b like) in (
+      after_turn b p,
+      left,
+      (
+        found_same a b running like ∙ none,
+        sym (like_next a b like running.run.order) ∙ next,
+        came ∙ like_turn p a b like,
+        refl,
+        is ∙ like_turned t p new (after_turn b p) running.run left,
+      ),
+    )
+
+pub turns_as : (old new : InSession) (running after : InRun) (r : Option (ℕ × Turn)) → takes_turn running r after old.state new.state → new.state.drawn ≡ old.state.drawn
+    → TurnsAs (takes_turn running r after) old new
+turns_as old new running after r took drawn state stands =
+    let (left, like, turned) = takes_like old.state.wholes state.wholes new.state.wholes running after r stands.wholes took in
+    (record { wholes = left; drawn = state.drawn }, record { wholes = like; drawn = drawn ∙ stands.drawn }, refl, turned)
+
+-- turns with a line, and the last ones
+like_back : (a b : Wholes) → AreLike a b → AreLike b a
+like_back a b like = record { processes = sym like.processes; ledger = alike_turned a.ledger b.ledger like.ledger; frames = sym like.frames }
+
+module _ (a b : Wholes) (running : InRun) (like : AreLike a b) where
+  same_text : ran_text (left_of b running) ≡ ran_text (left_of a running)
+  same_text = sym (like_text (left_of a running) (left_of b running) (like_left a b running like))
+
+  same_after : AreLike (left_of b running).after (left_of a running).after
+  same_after = like_back (left_of a running).after (left_of b running).after (like_left a b running like).after
+
+pub speaks_as : (old new : InSession) (running after : InRun) (line : List ℕ) → speaks running line after old.state new.state → new.state.drawn ≡ old.state.drawn
+    → TurnsAs (speaks running line after) old new
+speaks_as old new running after line (text, left) drawn state stands =
+    let a = old.state.wholes in
+    let b = state.wholes in (
+      record { wholes = new.state.wholes; drawn = state.drawn },
+      record { wholes = like_itself new.state.wholes; drawn = drawn ∙ stands.drawn },
+      refl,
+      (
+        same_text a b running stands.wholes ∙ text,
+        like_chain (left_of b running).after (left_of a running).after (left_of new.state.wholes after).after (same_after a b running stands.wholes) left,
+      ),
+    )
+
+pub ends_as : (old new : InSession) (running after : InRun) → ends_run running after old.state new.state → new.state.drawn ≡ old.state.drawn
+    → TurnsAs (ends_run running after) old new
+ends_as old new running after (stop, found, text, left) drawn state stands =
+    let a = old.state.wholes in
+    let b = state.wholes in (
+      record { wholes = new.state.wholes; drawn = state.drawn },
+      record { wholes = like_itself new.state.wholes; drawn = drawn ∙ stands.drawn },
+      refl,
+      (
+        stop,
+        found,
+        same_text a b running stands.wholes ∙ text,
+        like_chain (left_of b running).after (left_of a running).after new.state.wholes (same_after a b running stands.wholes) left,
+      ),
+    )

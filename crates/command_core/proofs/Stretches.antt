@@ -1,12 +1,14 @@
 use Rattle.std.proofs.Common.{◌≡◌, ℕ, zero, suc, ◌+◌, ◌-◌, ◌<◌, ◌≤◌, Bool, true, false, cond, sym, ap, subst, ◌∙◌, refl, arith, Option, Some, None}
 use Rattle.std.specs.FinMap.{get, insert}
-use Rattle.std.specs.Option.{option_map_or}
-use Rattle.ovl_io.specs.Keys.{get_same, insert_kept, insert_over}
+use Rattle.std.specs.Option.{option_map, option_map_or}
+use Rattle.number_maps.specs.Keys.{get_same, insert_kept, insert_over}
+use Rattle.rv_execute.specs.declared.outcome.Outcome.{Outcome}
 use Rattle.rv_execute.specs.declared.outcome.Outcome.TheVariants as outcome
 use Rattle.rv_execute.specs.Execution.{Upshot, Steps, Asks, Faults, outcome_by}
 use Rattle.machine_core.specs.Process.{Process, runs}
-use Rattle.machine_core.specs.Machine.{Processes, after_execution, after_turn, came_to, executed, execution_of, is_running, running_numbers, state_executed, upshot_of}
-use Rattle.machine_core.specs.Executions.{Executions, executions, first_execution}
+use Rattle.machine_core.specs.Machine.{Processes, Wholes, is_running, limit_of, running_numbers}
+use Rattle.machine_core.specs.Turns.{Guest, after_execution, after_turn, came_to, executed, execution_of, guest_at, guest_executed, guest_of, is_full, outcome_found, outcome_of, state_executed, turn_of, units_needed, with_guest}
+use Rattle.machine_core.specs.Executions.{Executions, executions, first_execution, last_execution, no_execution}
 use Rattle.machine_core.specs.Laws.{turn_law}
 use Rattle.machine_core.specs.NumberLaws.{numbers_are}
 use Rattle.round_robin.specs.Turns.{after_turns_of}
@@ -15,7 +17,7 @@ use Rattle.report_text.specs.Answers.{turn_text}
 use Rattle.command_core.specs.declared.turns.Order.{Order}
 use Rattle.command_core.specs.declared.turns.Order.TheVariants.{ByTurns, Alone}
 use Rattle.command_core.specs.Turns.{GoesOn, Progress, next_of, order_after, order_left, order_took, ran_from, ran_text, run_after, run_took, stretch}
-use Rattle.command_core.proofs.Rans.{ran_after, ran_quiet}
+use Rattle.command_core.proofs.Rans.{is_counted, ran_after, ran_quiet}
 
 -- Turns of one process, one after the other.
 
@@ -64,7 +66,7 @@ alone_is true c p q is runs =
     let same : q ≡ p = cc in ap (λ b. cond b (Some q) None) (runs same) ∙ ap Some same
 alone_is false c p q is runs = cc
 
-next_by : (p : ℕ) (order : Order) (turns taken : ℕ) (ps after : Processes) → next_of ps order ≡ Some p → 2 ≤ order_left p order (turns - taken)
+next_by : (p : ℕ) (order : Order) (turns taken : ℕ) (ps after : Wholes) → next_of ps order ≡ Some p → 2 ≤ order_left p order (turns - taken)
     → is_running after p ≡ true → next_of after (order_after p order) ≡ Some p
 next_by p (ByTurns rounds) turns taken ps after next left runs =
     goes_on_next p rounds (running_numbers after) (omega (arith, left)) (numbers_are after p ∙ runs)
@@ -75,40 +77,73 @@ some_left : (p : ℕ) (order : Order) (turns taken : ℕ) → 1 ≤ order_left p
 some_left p (ByTurns rounds) turns taken left = omega (arith, left)
 some_left p (Alone q) turns taken left = omega (arith, left)
 
--- a process that is there
-is_there : (ps : Processes) (p : ℕ) (process : Process) → get ps p ≡ Some process → runs process.state ≡ true → is_running ps p ≡ true
-is_there ps p process there running = ap (λ (o : Option Process). option_map_or (λ (q : Process). runs q.state) o false) there ∙ running
+-- a process that is there, in its place
+pub record IsAt (ps : Wholes) (p : ℕ) (guest : Guest) : Type 0 where
+  pub there : guest_at ps p ≡ Some guest
+  pub same : with_guest ps p guest ≡ ps
 
-came_there : (ps : Processes) (p : ℕ) (process : Process) → get ps p ≡ Some process → came_to ps p ≡ (execution_of process).upshot
-came_there ps p process there = ap upshot_of there
+pub is_at : (ps : Wholes) (p : ℕ) (process : Process) → get ps.processes p ≡ Some process → IsAt ps p (guest_of ps process)
+is_at ps p process there = record {
+  there = ap (option_map (guest_of ps)) there;
+  same = ap (λ (m : Processes). record { processes = m; ledger = ps.ledger; frames = ps.frames }) (insert_kept ps.processes p process there);
+}
 
-executed_there : (ps : Processes) (p : ℕ) (process : Process) → get ps p ≡ Some process → after_execution ps p ≡ insert ps p (executed process)
-executed_there ps p process there = ap (λ (o : Option Process). option_map_or (λ (q : Process). insert ps p (executed q)) o ps) there
+put_over : (ps : Wholes) (p : ℕ) (a b : Guest) → with_guest (with_guest ps p a) p b ≡ with_guest ps p b
+put_over ps p a b = ap (λ (m : Processes). record { processes = m; ledger = b.ledger; frames = b.frames }) (insert_over ps.processes p a.process b.process)
+
+put_at : (ps : Wholes) (p : ℕ) (guest : Guest) → IsAt (with_guest ps p guest) p guest
+put_at ps p guest = record {
+  there = ap (option_map (guest_of (with_guest ps p guest))) (get_same ps.processes p p guest.process refl);
+  same = put_over ps p guest guest;
+}
+
+process_at : (ps : Wholes) (p : ℕ) (guest : Guest) → IsAt ps p guest → get ps.processes p ≡ Some guest.process
+process_at ps p guest at =
+    sym (ap (λ (w : Wholes). get w.processes p) at.same) ∙ get_same ps.processes p p guest.process refl
+
+is_there : (ps : Wholes) (p : ℕ) (guest : Guest) → IsAt ps p guest → runs guest.process.state ≡ true → is_running ps p ≡ true
+is_there ps p guest at running = ap (λ (o : Option Process). option_map_or (λ (q : Process). runs q.state) o false) (process_at ps p guest at) ∙ running
+
+came_there : (ps : Wholes) (p : ℕ) (guest : Guest) → IsAt ps p guest → came_to ps p ≡ outcome_of p guest
+came_there ps p guest at = ap (outcome_found p) at.there
+
+executed_there : (ps : Wholes) (p : ℕ) (guest : Guest) → IsAt ps p guest → after_execution ps p ≡ with_guest ps p (executed p guest)
+executed_there ps p guest at = ap (λ (o : Option Guest). option_map_or (λ g. with_guest ps p (executed p g)) o ps) at.there
+
+-- one that took a step runs
+steps_by : (b : Bool) (u : Upshot) (needed limit : ℕ) → cond b (outcome.Full needed limit) (outcome_by u) ≡ outcome.Stepped → (b ≡ false) × (u ≡ Steps)
+steps_by true u needed limit is = cc
+steps_by false Steps needed limit is = (refl, refl)
+steps_by false Asks needed limit is = cc
+steps_by false (Faults kind address) needed limit is = cc
+
+still_runs : (p : ℕ) (guest : Guest) → outcome_of p guest ≡ outcome.Stepped → runs (executed p guest).process.state ≡ true
+still_runs p guest is =
+    let parts = steps_by (is_full p guest) (execution_of guest.process).upshot (units_needed p guest) (limit_of guest.frames) is in
+    ap (λ b. runs (cond b guest (guest_executed p guest)).process.state) parts.0 ∙ ap (λ u. runs (state_executed u)) parts.1
 
 -- The steps of some executions are turns without a line; the last one, where it is no step, is the next turn's.
-pub record IsStretch (ps : Processes) (p most : ℕ) (run : Progress) (e : Executions) : Type 0 where
-  pub quiet : GoesOn ps run (insert ps p e.before) (run_took e.steps p run)
+pub record IsStretch (ps : Wholes) (p most : ℕ) (run : Progress) (e : Executions) : Type 0 where
+  pub quiet : GoesOn ps run (with_guest ps p e.before) (run_took e.steps p run)
   pub fits : e.steps ≤ most
-  pub all : e.upshot ≡ Steps → (e.steps ≡ most) × (e.before ≡ e.after)
-  pub fewer : (e.upshot ≡ Steps → ⊥) → e.steps < most
-  pub runs : (e.upshot ≡ Steps → ⊥) → is_running (insert ps p e.before) p ≡ true
-  pub next : (e.upshot ≡ Steps → ⊥) → next_of (insert ps p e.before) (run_took e.steps p run).order ≡ Some p
-  pub came : (e.upshot ≡ Steps → ⊥) → came_to (insert ps p e.before) p ≡ e.upshot
-  pub after : (e.upshot ≡ Steps → ⊥) → after_execution (insert ps p e.before) p ≡ insert ps p e.after
+  pub all : e.outcome ≡ outcome.Stepped → (e.steps ≡ most) × (e.before ≡ e.after)
+  pub fewer : (e.outcome ≡ outcome.Stepped → ⊥) → e.steps < most
+  pub runs : (e.outcome ≡ outcome.Stepped → ⊥) → is_running (with_guest ps p e.before) p ≡ true
+  pub next : (e.outcome ≡ outcome.Stepped → ⊥) → next_of (with_guest ps p e.before) (run_took e.steps p run).order ≡ Some p
+  pub came : (e.outcome ≡ outcome.Stepped → ⊥) → came_to (with_guest ps p e.before) p ≡ e.outcome
+  pub after : (e.outcome ≡ outcome.Stepped → ⊥) → after_execution (with_guest ps p e.before) p ≡ with_guest ps p e.after
 
-none_quiet : (ps : Processes) (p : ℕ) (process : Process) (run : Progress) → get ps p ≡ Some process → GoesOn ps run (insert ps p process) (run_took 0 p run)
-none_quiet ps p process run there =
-    let same : insert ps p process ≡ ps = insert_kept ps p process there in
+none_quiet : (ps : Wholes) (p : ℕ) (guest : Guest) (run : Progress) → IsAt ps p guest → GoesOn ps run (with_guest ps p guest) (run_took 0 p run)
+none_quiet ps p guest run at =
     let none = took_none p run in (
-      sym (ap (λ (q : Processes). ran_text (ran_from q (run_took 0 p run))) same ∙ ap (λ r. ran_text (ran_from ps r)) none),
-      sym (ap (λ (q : Processes). (ran_from q (run_took 0 p run)).after) same ∙ ap (λ r. (ran_from ps r).after) none),
+      sym (ap (λ (q : Wholes). ran_text (ran_from q (run_took 0 p run))) at.same ∙ ap (λ r. ran_text (ran_from ps r)) none),
+      sym (ap (λ (q : Wholes). (ran_from q (run_took 0 p run)).after) at.same ∙ ap (λ r. (ran_from ps r).after) none),
     )
 
 -- no execution
-none_done : (ps : Processes) (p : ℕ) (process : Process) (run : Progress) → get ps p ≡ Some process
-    → IsStretch ps p 0 run (record { steps = 0; before = process; upshot = Steps; after = process })
-none_done ps p process run there = record {
-  quiet = none_quiet ps p process run there;
+none_done : (ps : Wholes) (p : ℕ) (guest : Guest) (run : Progress) → IsAt ps p guest → IsStretch ps p 0 run (no_execution guest)
+none_done ps p guest run at = record {
+  quiet = none_quiet ps p guest run at;
   fits = omega arith;
   all = λ is. (refl, refl);
   fewer = λ other. absurd (other refl);
@@ -119,78 +154,80 @@ none_done ps p process run there = record {
 }
 
 -- an execution that is no step
-last_done : (ps : Processes) (p most : ℕ) (process : Process) (run : Progress) (u : Upshot) → get ps p ≡ Some process → runs process.state ≡ true
-    → next_of ps run.order ≡ Some p → (execution_of process).upshot ≡ u → (u ≡ Steps → ⊥)
-    → IsStretch ps p (most + 1) run (record { steps = 0; before = process; upshot = u; after = executed process })
-last_done ps p most process run u there running next is other =
-    let same : insert ps p process ≡ ps = insert_kept ps p process there in
+last_done : (ps : Wholes) (p most : ℕ) (guest : Guest) (run : Progress) (o : Outcome) → IsAt ps p guest → runs guest.process.state ≡ true
+    → next_of ps run.order ≡ Some p → outcome_of p guest ≡ o → (o ≡ outcome.Stepped → ⊥)
+    → IsStretch ps p (most + 1) run (last_execution o guest (executed p guest))
+last_done ps p most guest run o at running next is other =
     record {
-      quiet = none_quiet ps p process run there;
+      quiet = none_quiet ps p guest run at;
       fits = omega arith;
       all = λ steps. absurd (other steps);
-      fewer = λ no. omega arith;
-      runs = λ no. ap (λ (q : Processes). is_running q p) same ∙ is_there ps p process there running;
-      next = λ no. ap (λ (q : Processes). next_of q (run_took 0 p run).order) same ∙ ap (λ (r : Progress). next_of ps r.order) (took_none p run) ∙ next;
-      came = λ no. ap (λ (q : Processes). came_to q p) same ∙ came_there ps p process there ∙ is;
-      after = λ no. ap (λ (q : Processes). after_execution q p) same ∙ executed_there ps p process there;
+      fewer = λ _. omega arith;
+      runs = λ _. ap (λ (q : Wholes). is_running q p) at.same ∙ is_there ps p guest at running;
+      next = λ _. ap (λ (q : Wholes). next_of q (run_took 0 p run).order) at.same ∙ ap (λ (r : Progress). next_of ps r.order) (took_none p run) ∙ next;
+      came = λ _. ap (λ (q : Wholes). came_to q p) at.same ∙ came_there ps p guest at ∙ is;
+      after = λ _. ap (λ (q : Wholes). after_execution q p) at.same ∙ executed_there ps p guest at;
     }
 
 -- a step, and then the others
-first_done : (ps : Processes) (p most : ℕ) (process : Process) (run : Progress) (e : Executions) → get ps p ≡ Some process → runs process.state ≡ true
-    → next_of ps run.order ≡ Some p → run.taken < run.turns → (execution_of process).upshot ≡ Steps
-    → IsStretch (insert ps p (executed process)) p most (run_after p run) e
-    → IsStretch ps p (most + 1) run (record { steps = e.steps + 1; before = e.before; upshot = e.upshot; after = e.after })
-first_done ps p most process run e there running next below is rest =
-    let law = turn_law outcome.Stepped ps p (is_there ps p process there running) (ap outcome_by (came_there ps p process there ∙ is)) in
-    let turned : insert ps p (executed process) ≡ after_turn ps p = sym (executed_there ps p process there) ∙ sym law.after_is in
+first_done : (ps : Wholes) (p most : ℕ) (guest : Guest) (run : Progress) (e : Executions) → IsAt ps p guest → runs guest.process.state ≡ true
+    → next_of ps run.order ≡ Some p → run.taken < run.turns → outcome_of p guest ≡ outcome.Stepped
+    → IsStretch (with_guest ps p (executed p guest)) p most (run_after p run) e
+    → IsStretch ps p (most + 1) run (record { steps = e.steps + 1; before = e.before; outcome = e.outcome; after = e.after })
+first_done ps p most guest run e at running next below is rest =
+    let law = turn_law outcome.Stepped ps p (is_there ps p guest at running) (came_there ps p guest at ∙ is) in
+    let turned : with_guest ps p (executed p guest) ≡ after_turn ps p = sym (executed_there ps p guest at) ∙ sym law.after_is in
     let silent = ap (turn_text p) law.turn_is in
-    let over = insert_over ps p (executed process) e.before in
+    let counted = ap is_counted law.turn_is in
+    let over = put_over ps p (executed p guest) e.before in
     let took = sym (took_first e.steps p run) in
     record {
       quiet = (
-        ran_quiet ps (insert ps p (executed process)) run p below next silent turned ∙ rest.quiet.0
-            ∙ ap (λ (q : Processes). ran_text (ran_from q (run_took e.steps p (run_after p run)))) over
-            ∙ ap (λ r. ran_text (ran_from (insert ps p e.before) r)) took,
-        ran_after ps (insert ps p (executed process)) run p below next turned ∙ rest.quiet.1
-            ∙ ap (λ (q : Processes). (ran_from q (run_took e.steps p (run_after p run))).after) over
-            ∙ ap (λ r. (ran_from (insert ps p e.before) r).after) took,
+        ran_quiet ps (with_guest ps p (executed p guest)) run p below next counted silent turned ∙ rest.quiet.0
+            ∙ ap (λ (q : Wholes). ran_text (ran_from q (run_took e.steps p (run_after p run)))) over
+            ∙ ap (λ r. ran_text (ran_from (with_guest ps p e.before) r)) took,
+        ran_after ps (with_guest ps p (executed p guest)) run p below next counted turned ∙ rest.quiet.1
+            ∙ ap (λ (q : Wholes). (ran_from q (run_took e.steps p (run_after p run))).after) over
+            ∙ ap (λ r. (ran_from (with_guest ps p e.before) r).after) took,
       );
       fits = omega (arith, rest.fits);
       all = λ steps. (omega (arith, (rest.all steps).0), (rest.all steps).1);
       fewer = λ other. omega (arith, rest.fewer other);
-      runs = λ other. sym (ap (λ (q : Processes). is_running q p) over) ∙ rest.runs other;
-      next = λ other. ap (λ (r : Progress). next_of (insert ps p e.before) r.order) (sym took)
-          ∙ sym (ap (λ (q : Processes). next_of q (run_took e.steps p (run_after p run)).order) over) ∙ rest.next other;
-      came = λ other. sym (ap (λ (q : Processes). came_to q p) over) ∙ rest.came other;
-      after = λ other. sym (ap (λ (q : Processes). after_execution q p) over) ∙ rest.after other ∙ insert_over ps p (executed process) e.after;
+      runs = λ other. sym (ap (λ (q : Wholes). is_running q p) over) ∙ rest.runs other;
+      next = λ other. ap (λ (r : Progress). next_of (with_guest ps p e.before) r.order) (sym took)
+          ∙ sym (ap (λ (q : Wholes). next_of q (run_took e.steps p (run_after p run)).order) over) ∙ rest.next other;
+      came = λ other. sym (ap (λ (q : Wholes). came_to q p) over) ∙ rest.came other;
+      after = λ other. sym (ap (λ (q : Wholes). after_execution q p) over) ∙ rest.after other ∙ put_over ps p (executed p guest) e.after;
     }
 
-by_upshot : (u : Upshot) (ps : Processes) (p most : ℕ) (process : Process) (run : Progress) → get ps p ≡ Some process → runs process.state ≡ true
-    → next_of ps run.order ≡ Some p → run.taken < run.turns → (execution_of process).upshot ≡ u
-    → (u ≡ Steps → IsStretch (insert ps p (executed process)) p most (run_after p run) (executions most (executed process)))
-    → IsStretch ps p (most + 1) run (first_execution u process (executed process) (executions most (executed process)))
-by_upshot Steps ps p most process run there running next below is rest =
-    first_done ps p most process run (executions most (executed process)) there running next below is (rest refl)
-by_upshot Asks ps p most process run there running next below is rest =
-    last_done ps p most process run Asks there running next is (λ same. cc)
-by_upshot (Faults kind address) ps p most process run there running next below is rest =
-    last_done ps p most process run (Faults kind address) there running next is (λ same. cc)
+by_outcome : (o : Outcome) (ps : Wholes) (p most : ℕ) (guest : Guest) (run : Progress) → IsAt ps p guest → runs guest.process.state ≡ true
+    → next_of ps run.order ≡ Some p → run.taken < run.turns → outcome_of p guest ≡ o
+    → (o ≡ outcome.Stepped → IsStretch (with_guest ps p (executed p guest)) p most (run_after p run) (executions p most (executed p guest)))
+    → IsStretch ps p (most + 1) run (first_execution o guest (executed p guest) (executions p most (executed p guest)))
+by_outcome outcome.Stepped ps p most guest run at running next below is rest =
+    first_done ps p most guest run (executions p most (executed p guest)) at running next below is (rest refl)
+by_outcome outcome.Asked ps p most guest run at running next below is rest =
+    last_done ps p most guest run outcome.Asked at running next is (λ same. cc)
+by_outcome (outcome.Fault kind address) ps p most guest run at running next below is rest =
+    last_done ps p most guest run (outcome.Fault kind address) at running next is (λ same. cc)
+by_outcome (outcome.Full units limit) ps p most guest run at running next below is rest =
+    last_done ps p most guest run (outcome.Full units limit) at running next is (λ same. cc)
 
-pub is_stretch : (most : ℕ) (ps : Processes) (p : ℕ) (process : Process) (run : Progress) → get ps p ≡ Some process → runs process.state ≡ true
-    → (0 < most → next_of ps run.order ≡ Some p) → most ≤ stretch p run → IsStretch ps p most run (executions most process)
-is_stretch zero ps p process run there running next left = none_done ps p process run there
-is_stretch (suc most) ps p process run there running next left =
+pub is_stretch : (most : ℕ) (ps : Wholes) (p : ℕ) (guest : Guest) (run : Progress) → IsAt ps p guest → runs guest.process.state ≡ true
+    → (0 < most → next_of ps run.order ≡ Some p) → most ≤ stretch p run → IsStretch ps p most run (executions p most guest)
+is_stretch zero ps p guest run at running next left = none_done ps p guest run at
+is_stretch (suc most) ps p guest run at running next left =
     let more : most + 1 ≡ suc most = omega arith in
     let enough : most + 1 ≤ stretch p run = omega (arith, left) in
     let first : next_of ps run.order ≡ Some p = next (omega arith) in
-    let after = insert ps p (executed process) in
-    let now = get_same ps p p (executed process) refl in
-    ap_stretch more (by_upshot (execution_of process).upshot ps p most process run there running first (some_left p run.order run.turns run.taken (omega (arith, left))) refl
+    let after = with_guest ps p (executed p guest) in
+    let now = put_at ps p (executed p guest) in
+    ap_stretch more (by_outcome (outcome_of p guest) ps p most guest run at running first (some_left p run.order run.turns run.taken (omega (arith, left))) refl
     (λ steps.
-    let goes = ap (λ u. runs (state_executed u)) steps in
-    is_stretch most after p (executed process) (run_after p run) now goes
-    (λ some. next_by p run.order run.turns run.taken ps after first (omega (arith, left, some)) (is_there after p (executed process) now goes))
+    let goes = still_runs p guest steps in
+    is_stretch most after p (executed p guest) (run_after p run) now goes
+    (λ some. next_by p run.order run.turns run.taken ps after first (omega (arith, left, some)) (is_there after p (executed p guest) now goes))
     (left_goes most p run enough)))
   where
-    ap_stretch : most + 1 ≡ suc most → IsStretch ps p (most + 1) run (executions (suc most) process) → IsStretch ps p (suc most) run (executions (suc most) process)
-    ap_stretch same h = subst (λ n. IsStretch ps p n run (executions (suc most) process)) same h
+    ap_stretch : most + 1 ≡ suc most → IsStretch ps p (most + 1) run (executions p (suc most) guest) → IsStretch ps p (suc most) run (executions p (suc most) guest)
+    ap_stretch same h = subst (λ n. IsStretch ps p n run (executions p (suc most) guest)) same h

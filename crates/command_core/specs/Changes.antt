@@ -1,10 +1,13 @@
 use Rattle.std.specs.Prelude.{◌≡◌, ℕ, ◌+◌, ◌==◌, Bool, true, false, List, if◌then◌else◌}
 use Rattle.std.specs.Option.{option_map_or}
-use Rattle.std.specs.FinMap.{get, insert, remove}
+use Rattle.std.specs.FinMap.{get}
 use Rattle.sizes.specs.declared.TheConstants.{LAST_SPACE}
 use Rattle.elf_loader.specs.Accepted.{file_refusal}
 use Rattle.elf_loader.specs.Fields.{entry_of}
-use Rattle.machine_core.specs.Load.{loaded_process, page_count}
+use Rattle.machine_core.specs.Load.{is_load_full, load_needs, page_count, with_loaded}
+use Rattle.machine_core.specs.Machine.{limit_of, without_pages, without_process}
+use Rattle.overlay_memory.specs.declared.error.SpaceError.{SpaceError}
+use Rattle.overlay_memory.specs.declared.error.SpaceError.TheVariants as error
 use Rattle.report_text.specs.declared.answer.Answer.{Answer}
 use Rattle.report_text.specs.declared.answer.Answer.TheVariants.{Done, Loaded, Forked, Saved, Refused, Full, Memory}
 use Rattle.report_text.specs.declared.answer.Code.{Code}
@@ -12,7 +15,7 @@ use Rattle.report_text.specs.declared.answer.Code.TheVariants.{NoProcess, Number
 use Rattle.script_text.specs.declared.command.Command.{Command}
 use Rattle.script_text.specs.declared.command.Command.TheVariants.{Drop as DropOf}
 use Rattle.report_text.specs.Answers.{HasAnswerLine}
-use Rattle.command_core.specs.State.{State}
+use Rattle.command_core.specs.State.{AreLikeStates, State, with_wholes}
 
 -- What a change of the copying machine comes to: its answer, and the state after it.
 pub record Changed : Type 0 where
@@ -26,23 +29,31 @@ comes_to answer after = record { answer = answer; after = after }
 abbrev pub refuses : Code → State → Changed
 refuses code state = record { answer = Refused code; after = state }
 
--- `load`: the file's refusals in their order, then that all numbers were drawn; else a process under the next number
+-- `load`: the file's refusals in their order, then that all numbers were drawn, and then that there aren't units enough; else a
+-- process under the next number
 abbrev pub loads : ℕ → List ℕ → State → Changed
 loads p file state = record {
   answer = Loaded p (page_count file) (entry_of file);
-  after = record { processes = insert state.processes p (loaded_process file); drawn = p };
+  after = record { wholes = with_loaded p file state.wholes; drawn = p };
 }
+
+-- where there aren't units enough for it, both numbers are told, and nothing changes
+abbrev pub loads_full : ℕ → List ℕ → State → Changed
+loads_full p file state = record { answer = Full (load_needs p file state.wholes) (limit_of state.wholes.frames); after = state }
+
+abbrev pub loads_within : ℕ → List ℕ → State → Changed
+loads_within p file state = if is_load_full p file state.wholes then loads_full p file state else loads p file state
 
 abbrev pub load_done : List ℕ → State → Changed
 load_done file state =
     option_map_or (λ error. refuses (Elf error) state) (file_refusal file)
-    (if state.drawn == LAST_SPACE then refuses NumbersUsed state else loads (state.drawn + 1) file state)
+    (if state.drawn == LAST_SPACE then refuses NumbersUsed state else loads_within (state.drawn + 1) file state)
 
--- `drop`: the process goes, where there is one
+-- `drop`: the process goes, where there is one, and its pages
 abbrev pub drop_done : ℕ → State → Changed
 drop_done p state =
-    option_map_or (λ process. record { answer = Done; after = record { processes = remove state.processes p; drawn = state.drawn } })
-    (get state.processes p) (refuses NoProcess state)
+    option_map_or (λ process. record { answer = Done; after = with_wholes (without_pages p (without_process p state.wholes)) state })
+    (get state.wholes.processes p) (refuses NoProcess state)
 
 -- the changes, a row each; none of the others is one
 abbrev pub change_done : Command → State → Changed
@@ -53,15 +64,25 @@ abbrev pub is_change : Command → Bool
 is_change (DropOf p) = true
 is_change other = false
 
+-- a change came to what it is to come to
+pub record ComesTo (wanted : Changed) (answer : Answer) (new : State) : Type 0 where
+  pub answer_is : answer ≡ wanted.answer
+  pub after_is : AreLikeStates new wanted.after
+
 -- what a change gives by the object that does it: what it is to give; or want of memory, and everything is as before
 abbrev pub GivesChange : Changed → State → Answer → State → Type 0
 GivesChange wanted old Memory new = new ≡ old
-GivesChange wanted old Done new = comes_to Done new ≡ wanted
-GivesChange wanted old (Loaded p pages entry) new = comes_to (Loaded p pages entry) new ≡ wanted
-GivesChange wanted old (Forked p q) new = comes_to (Forked p q) new ≡ wanted
-GivesChange wanted old (Saved p name space) new = comes_to (Saved p name space) new ≡ wanted
-GivesChange wanted old (Refused code) new = comes_to (Refused code) new ≡ wanted
-GivesChange wanted old (Full units limit) new = comes_to (Full units limit) new ≡ wanted
+GivesChange wanted old Done new = ComesTo wanted Done new
+GivesChange wanted old (Loaded p pages entry) new = ComesTo wanted (Loaded p pages entry) new
+GivesChange wanted old (Forked p q) new = ComesTo wanted (Forked p q) new
+GivesChange wanted old (Saved p name space) new = ComesTo wanted (Saved p name space) new
+GivesChange wanted old (Refused code) new = ComesTo wanted (Refused code) new
+GivesChange wanted old (Full units limit) new = ComesTo wanted (Full units limit) new
+
+-- what is answered where a machine doesn't load a file
+abbrev pub answer_of : SpaceError → Answer
+answer_of (error.Full units limit) = Full units limit
+answer_of error.Memory = Memory
 
 -- an answer that has a line, or want of memory
 abbrev pub CanBeTold : Answer → Type 0

@@ -1,12 +1,13 @@
-use Rattle.std.specs.Prelude.{ℕ, List, refl}
-use Rattle.std.specs.Coded.{Coded, code_by, coded×, coded_ℕ, coded_list}
+use Rattle.std.specs.Prelude.{ℕ, Bool, List, refl}
+use Rattle.std.specs.Coded.{Coded, code_by, coded×, coded_ℕ, coded_bool, coded_list}
 use Rattle.std.specs.FinMap.{code}
 use Rattle.ovl_io.specs.Memory.{Memory}
 use Rattle.ovl_io.specs.declared.process_state.ProcessState.{ProcessState}
 use Rattle.ovl_io.specs.contracts.process_state.ProcessState as state
 use Rattle.rv_execute.specs.Registers.{Registers}
 use Rattle.machine_core.specs.Process.{Process}
-use Rattle.machine_core.specs.Machine.{Processes}
+use Rattle.ledger.specs.Ledger.{Holding, Ledger}
+use Rattle.machine_core.specs.Machine.{Processes, Wholes}
 use Rattle.machine_core.specs.Codes.{memory_code}
 use Rattle.command_core.specs.State.{State, InSession}
 
@@ -17,15 +18,27 @@ registers_code = code_by (ℕ × List ℕ) (coded× coded_ℕ (coded_list coded_
 
 abbrev pub process_code : Coded Process
 process_code =
-    code_by (Registers × (ProcessState × Memory)) (coded× registers_code (coded× state.the_row.coded memory_code))
-    (λ p. (p.registers, (p.state, p.memory))) (λ t. record { registers = t.0; state = t.1.0; memory = t.1.1 }) (λ _. refl)
+    code_by (Registers × (ProcessState × (Memory × Bool))) (coded× registers_code (coded× state.the_row.coded (coded× memory_code coded_bool)))
+    (λ p. (p.registers, (p.state, (p.memory, p.speculating))))
+    (λ t. record { registers = t.0; state = t.1.0; memory = t.1.1.0; speculating = t.1.1.1 }) (λ _. refl)
 
 abbrev pub processes_code : Coded Processes
 processes_code = code coded_ℕ process_code
 
+abbrev pub holding_code : Coded Holding
+holding_code = code_by (ℕ × List ℕ) (coded× coded_ℕ (coded_list coded_ℕ)) (λ h. (h.origin, h.own)) (λ t. record { origin = t.0; own = t.1 }) (λ _. refl)
+
+abbrev pub ledger_code : Coded Ledger
+ledger_code = code coded_ℕ (code coded_ℕ holding_code)
+
+abbrev pub wholes_code : Coded Wholes
+wholes_code =
+    code_by (Processes × (Ledger × ℕ)) (coded× processes_code (coded× ledger_code coded_ℕ)) (λ w. (w.processes, (w.ledger, w.frames)))
+    (λ t. record { processes = t.0; ledger = t.1.0; frames = t.1.1 }) (λ _. refl)
+
 abbrev pub state_code : Coded State
 state_code =
-    code_by (Processes × ℕ) (coded× processes_code coded_ℕ) (λ s. (s.processes, s.drawn)) (λ t. record { processes = t.0; drawn = t.1 }) (λ _. refl)
+    code_by (Wholes × ℕ) (coded× wholes_code coded_ℕ) (λ s. (s.wholes, s.drawn)) (λ t. record { wholes = t.0; drawn = t.1 }) (λ _. refl)
 
 abbrev pub session_code : Coded InSession
 session_code = code_by (State × ℕ) (coded× state_code coded_ℕ) (λ s. (s.state, s.quantum)) (λ t. record { state = t.0; quantum = t.1 }) (λ _. refl)

@@ -10,9 +10,9 @@ use Rattle.report_text.specs.declared.answer.Answer.TheVariants.{Done, Loaded, F
 use Rattle.report_text.specs.declared.answer.Code.TheVariants.{NoProcess, Ended}
 use Rattle.report_text.specs.Answers.{answer_text}
 use Rattle.report_text.specs.Lines.{list_line, process_line}
-use Rattle.command_core.specs.State.{InSession, State, with_processes}
+use Rattle.command_core.specs.State.{InSession, State, with_wholes}
 use Rattle.command_core.specs.Changes.{Changed, change_done, load_done, drop_done, refuses}
-use Rattle.command_core.specs.Turns.{Progress, alone, by_turns, ran_from, ran_text}
+use Rattle.command_core.specs.Turns.{InRun, Progress, alone, by_turns, left_of, ran_from, ran_text}
 
 -- What a command asks of the shelf, by the file that it names: nothing; or the file is there, isn't there, or
 -- has more bytes than a file may have.
@@ -74,8 +74,15 @@ change_told command state = told (change_done command state)
 -- turns, with their lines
 abbrev pub takes_turns : Progress → State → Performed
 takes_turns run state = record {
-  text = ran_text (ran_from state.processes run);
-  after = with_processes (ran_from state.processes run).after state;
+  text = ran_text (ran_from state.wholes run);
+  after = with_wholes (ran_from state.wholes run).after state;
+}
+
+-- those that are left of a run in progress
+abbrev pub takes_left : InRun → State → Performed
+takes_left running state = record {
+  text = ran_text (left_of state.wholes running);
+  after = with_wholes (left_of state.wholes running).after state;
 }
 
 -- one thing after another
@@ -104,7 +111,7 @@ tells_exec turns answer state = record {
 
 -- a process that was just loaded is there, and runs
 abbrev pub RunsLoaded : Answer → State → Type 0
-RunsLoaded (Loaded p pages entry) state = (process : Process) × (get state.processes p ≡ Some process) × (runs process.state ≡ true)
+RunsLoaded (Loaded p pages entry) state = (process : Process) × (get state.wholes.processes p ≡ Some process) × (runs process.state ≡ true)
 RunsLoaded Done state = Unit {0}
 RunsLoaded (Forked p q) state = Unit {0}
 RunsLoaded (Saved p name space) state = Unit {0}
@@ -118,21 +125,21 @@ steps p turns None state = told (refuses NoProcess state)
 steps p turns (Some process) state = if runs process.state then takes_turns (alone p turns) state else told (refuses Ended state)
 
 abbrev pub step_done : ℕ → ℕ → State → Performed
-step_done p turns state = steps p turns (get state.processes p) state
+step_done p turns state = steps p turns (get state.wholes.processes p) state
 
 -- the turns of all that run, by round robin
 abbrev pub run_done : ℕ → ℕ → State → Performed
 run_done quantum turns state = takes_turns (by_turns quantum turns) state
 
--- the lines of all processes, by number; none is speculating, and there are no checkpoints
+-- the lines of all processes, by number; there are no checkpoints
 unfoldable pub process_text : ℕ × Process → List ℕ
-process_text entry = process_line entry.0 entry.1.state false (len entry.1.memory)
+process_text entry = process_line entry.0 entry.1.state entry.1.speculating (len entry.1.memory)
 
 unfoldable pub list_head : State → List ℕ
-list_head state = list_line (length (entries state.processes)) 0
+list_head state = list_line (length (entries state.wholes.processes)) 0
 
 abbrev pub processes_text : State → List ℕ
-processes_text state = flat_map process_text (entries state.processes)
+processes_text state = flat_map process_text (entries state.wholes.processes)
 
 abbrev pub list_text : State → List ℕ
 list_text state = list_head state ++ processes_text state

@@ -7,3 +7,4 @@ pub mod Turns
 pub mod Commands
 pub mod Looks
 pub mod Standing
+pub mod LikeLaws

@@ -1,7 +1,7 @@
-use Rattle.std.specs.Prelude.{◌≡◌, ℕ, ◌+◌, nat_le, List, [], ◌∷◌, if◌then◌else◌, false, Option, Some, None, Result, Ok, Err}
+use Rattle.std.specs.Prelude.{◌≡◌, ℕ, ◌+◌, nat_le, List, [], ◌∷◌, if◌then◌else◌, Option, Some, None, Result, Ok, Err}
 use Rattle.std.specs.List.{filter}
 use Rattle.std.specs.FinMap.{entries, get, len}
-use Rattle.machine_core.specs.Machine.{Processes}
+use Rattle.machine_core.specs.Machine.{Processes, Wholes}
 use Rattle.machine_core.specs.Process.{Process, runs}
 use Rattle.report_text.specs.declared.answer.Code.{Code}
 use Rattle.report_text.specs.declared.answer.Code.TheVariants.{NoProcess, Ended}
@@ -12,7 +12,7 @@ use Rattle.command_core.specs.Turns.{InRun, alone, run_found}
 
 -- a process, as it is shown
 abbrev pub view_of : Process → ProcessView
-view_of process = record { regs = process.registers; state = process.state; speculating = false; pages = len process.memory }
+view_of process = record { regs = process.registers; state = process.state; speculating = process.speculating; pages = len process.memory }
 
 abbrev pub looked_at : Option Process → Result ProcessView Code
 looked_at None = Err NoProcess
@@ -22,12 +22,12 @@ abbrev pub LooksAt : Processes → ℕ → Result ProcessView Code → Type 0
 LooksAt processes p result = result ≡ looked_at (get processes p)
 
 -- the turns of one process are begun: refused where it isn't there, or has ended
-abbrev pub begun : Processes → ℕ → ℕ → Option Process → Result InRun Code
-begun processes p turns None = Err NoProcess
-begun processes p turns (Some process) = if runs process.state then Ok (run_found processes (alone p turns)) else Err Ended
+abbrev pub begun : Wholes → ℕ → ℕ → Option Process → Result InRun Code
+begun state p turns None = Err NoProcess
+begun state p turns (Some process) = if runs process.state then Ok (run_found state (alone p turns)) else Err Ended
 
-abbrev pub BeginsStep : Processes → ℕ → ℕ → Result InRun Code → Type 0
-BeginsStep processes p turns result = result ≡ begun processes p turns (get processes p)
+abbrev pub BeginsStep : Wholes → ℕ → ℕ → Result InRun Code → Type 0
+BeginsStep state p turns result = result ≡ begun state p turns (get state.processes p)
 
 -- the processes from a number on, ascending
 abbrev pub from_number : ℕ → Processes → List (ℕ × Process)

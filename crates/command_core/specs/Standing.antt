@@ -3,16 +3,16 @@ use Rattle.std.specs.FinMap.{get}
 use Rattle.ovl_io.specs.declared.turn.Turn.{Turn}
 use Rattle.report_text.specs.declared.answer.Answer.{Answer}
 use Rattle.report_text.specs.declared.answer.Answer.TheVariants.{Done, Loaded, Forked, Saved, Refused, Full, Memory}
-use Rattle.command_core.specs.State.{InSession, State}
+use Rattle.command_core.specs.State.{AreLikeStates, InSession, State}
 use Rattle.command_core.specs.Changes.{Changed}
 use Rattle.report_text.specs.declared.answer.Code.{Code}
 use Rattle.command_core.specs.Looks.{begun}
 use Rattle.command_core.specs.Turns.{EndsRun, InRun, Speaks, TakesTurn, by_turns, run_found}
 
--- A session stands for a state of the copying machine where its processes and the numbers drawn are the state's. What a call
--- does is said of each state that the session stood for.
+-- A session stands for a state of the copying machine where its processes, memories included, its frames and the numbers drawn
+-- are the state's, and the ledgers are alike. What a call does is said of each state that the session stood for.
 abbrev pub SessionStandsFor : InSession → State → Type 0
-SessionStandsFor session state = session.state ≡ state
+SessionStandsFor session state = AreLikeStates session.state state
 
 -- what is answered is the answer of each of them
 abbrev pub SessionAnswersAs : {Answer : Type 0} → (State → Answer) → InSession → Answer → Type 0
@@ -41,17 +41,17 @@ abbrev pub TurnsAs : (State → State → Type 0) → InSession → InSession �
 TurnsAs turns old new = (state : State) → SessionStandsFor old state → (after : State) × SessionStandsFor new after × (after.drawn ≡ state.drawn) × turns state after
 
 abbrev pub takes_turn : InRun → Option (ℕ × Turn) → InRun → State → State → Type 0
-takes_turn running turn after_run state after = TakesTurn state.processes running turn after.processes after_run
+takes_turn running turn after_run state after = TakesTurn state.wholes running turn after.wholes after_run
 
 abbrev pub speaks : InRun → List ℕ → InRun → State → State → Type 0
-speaks running line after_run state after = Speaks state.processes running line after.processes after_run
+speaks running line after_run state after = Speaks state.wholes running line after.wholes after_run
 
 abbrev pub ends_run : InRun → InRun → State → State → Type 0
-ends_run running after_run state after = EndsRun state.processes running after.processes after_run
+ends_run running after_run state after = EndsRun state.wholes running after.wholes after_run
 
 -- the turns of all processes, begun, and those of one
 abbrev pub begun_run : ℕ → ℕ → State → InRun
-begun_run quantum turns state = run_found state.processes (by_turns quantum turns)
+begun_run quantum turns state = run_found state.wholes (by_turns quantum turns)
 
 abbrev pub begun_step : ℕ → ℕ → State → Result InRun Code
-begun_step p turns state = begun state.processes p turns (get state.processes p)
+begun_step p turns state = begun state.wholes p turns (get state.wholes.processes p)

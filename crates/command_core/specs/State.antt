@@ -1,32 +1,40 @@
-use Rattle.std.specs.Prelude.{◌≡◌, ℕ, ◌<◌, ◌≤◌, true, None}
+use Rattle.std.specs.Prelude.{◌≡◌, ℕ, ◌<◌, ◌≤◌, true, false, None}
 use Rattle.std.specs.Option.{is_some}
 use Rattle.std.specs.FinMap.{empty, get}
 use Rattle.sizes.specs.declared.TheConstants.{LAST_SPACE}
-use Rattle.machine_core.specs.Machine.{Machine, Processes}
+use Rattle.overlay_pages.specs.State.{space_in}
+use Rattle.machine_core.specs.Machine.{AreLike, Machine, Wholes, has_space, spaces_of}
 
--- The copying machine: the processes by number, each with its whole memory, and how many numbers were drawn.
+-- The copying machine: the processes by number, each with its whole memory, with the ledger of their pages, and how many numbers
+-- were drawn.
 pub record State : Type 0 where
-  pub processes : Processes
+  pub wholes : Wholes
   pub drawn : ℕ
 
--- the state at the start
-abbrev pub fresh : State
-fresh = record { processes = empty; drawn = 0 }
+-- the state at the start, with so many frames
+abbrev pub fresh : ℕ → State
+fresh frames = record { wholes = record { processes = empty; ledger = empty; frames = frames }; drawn = 0 }
 
-abbrev pub with_processes : Processes → State → State
-with_processes processes state = record { processes = processes; drawn = state.drawn }
+abbrev pub with_wholes : Wholes → State → State
+with_wholes wholes state = record { wholes = wholes; drawn = state.drawn }
 
--- A session keeps a machine: the numbers above those drawn are free, and each process has its memory.
+-- states that differ in the numbers of origins alone
+pub record AreLikeStates (a b : State) : Type 0 where
+  pub wholes : AreLike a.wholes b.wholes
+  pub drawn : a.drawn ≡ b.drawn
+
+-- each process has its memory
+abbrev pub OwnSpaces : Machine → Type 0
+OwnSpaces machine = (p : ℕ) → is_some (get machine.processes p) ≡ true → has_space machine p ≡ true
+
+-- A session keeps a machine: the numbers above those drawn are free, each process has its memory, and no page awaits being
+-- shared.
 pub record IsSession (machine : Machine) (drawn : ℕ) : Type 0 where
   pub few : drawn ≤ LAST_SPACE
-  pub no_space : (p : ℕ) → drawn < p → get machine.spaces p ≡ None
+  pub no_space : (p : ℕ) → drawn < p → has_space machine p ≡ false
   pub no_process : (p : ℕ) → drawn < p → get machine.processes p ≡ None
-  pub has_space : (p : ℕ) → is_some (get machine.processes p) ≡ true → is_some (get machine.spaces p) ≡ true
-
--- the same spaces and the same processes are there
-pub record SamePlaces (old new : Machine) : Type 0 where
-  pub spaces : (q : ℕ) → is_some (get new.spaces q) ≡ is_some (get old.spaces q)
-  pub processes : (q : ℕ) → is_some (get new.processes q) ≡ is_some (get old.processes q)
+  pub own_space : OwnSpaces machine
+  pub settled : (p : ℕ) → (space_in (spaces_of machine) p).awaiting ≡ empty
 
 -- A session: the state, and the quantum of turns by round robin.
 pub record InSession : Type 0 where

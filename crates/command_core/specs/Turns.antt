@@ -1,12 +1,14 @@
 use Rattle.std.specs.Prelude.{◌≡◌, ℕ, zero, suc, ◌+◌, ◌-◌, ◌==◌, List, [], ◌∷◌, ◌++◌, flat_map, min, Option, Some, None, if◌then◌else◌}
 use Rattle.std.specs.Option.{option_map_or, option_or}
 use Rattle.ovl_io.specs.declared.turn.Turn.{Turn}
-use Rattle.machine_core.specs.Machine.{Processes, is_running, running_numbers, turn_of, after_turn}
+use Rattle.ovl_io.specs.declared.turn.Turn.TheVariants as turn
+use Rattle.machine_core.specs.Machine.{AreLike, Wholes, is_running, running_numbers}
+use Rattle.machine_core.specs.Turns.{after_turn, turn_of}
 use Rattle.round_robin.specs.Turns.{next_number, after_turn_of, after_turns_of, left_for}
 use Rattle.command_core.specs.declared.turns.Order.{Order}
 use Rattle.command_core.specs.declared.turns.Order.TheVariants.{ByTurns, Alone}
 use Rattle.report_text.specs.declared.answer.Stop.{Stop}
-use Rattle.report_text.specs.declared.answer.Stop.TheVariants.{Limit, Idle, Ended}
+use Rattle.report_text.specs.declared.answer.Stop.TheVariants.{Limit, Idle, Ended, Full}
 use Rattle.report_text.specs.Answers.{turn_text, stop_text}
 
 -- The turns of `run` and `step`.
@@ -18,9 +20,9 @@ pub record Progress : Type 0 where
   pub taken : ℕ
 
 -- the number whose turn is next
-abbrev pub next_of : Processes → Order → Option ℕ
-next_of processes (ByTurns turns) = next_number turns (running_numbers processes)
-next_of processes (Alone p) = if is_running processes p then Some p else None
+abbrev pub next_of : Wholes → Order → Option ℕ
+next_of state (ByTurns turns) = next_number turns (running_numbers state)
+next_of state (Alone p) = if is_running state p then Some p else None
 
 abbrev pub order_after : ℕ → Order → Order
 order_after p (ByTurns turns) = ByTurns (after_turn_of p turns)
@@ -36,8 +38,8 @@ abbrev pub ending_by : Option ℕ → Progress → Option Stop
 ending_by None run = Some (rest_of run.order)
 ending_by (Some p) run = if run.taken == run.turns then Some Limit else None
 
-abbrev pub ending : Processes → Progress → Option Stop
-ending processes run = ending_by (next_of processes run.order) run
+abbrev pub ending : Wholes → Progress → Option Stop
+ending state run = ending_by (next_of state run.order) run
 
 -- the run after a turn of a process
 abbrev pub run_after : ℕ → Progress → Progress
@@ -60,33 +62,41 @@ abbrev pub run_took : ℕ → ℕ → Progress → Progress
 run_took n p run = record { order = order_took n p run.order; turns = run.turns; taken = run.taken + n }
 
 -- What turns come to: the events in order, each the process and what came of its turn; why they ended, how many
--- were taken, and the processes after them.
+-- were taken, and the copying machine after them.
 pub record Ran : Type 0 where
   pub events : List (ℕ × Turn)
   pub stop : Stop
   pub taken : ℕ
-  pub after : Processes
+  pub after : Wholes
 
-abbrev pub stopped : Stop → Processes → Progress → Ran
-stopped stop processes run = record { events = []; stop = stop; taken = run.taken; after = processes }
+abbrev pub stopped : Stop → Wholes → Progress → Ran
+stopped stop state run = record { events = []; stop = stop; taken = run.taken; after = state }
 
 -- one event, and then the others
 abbrev pub first_event : ℕ → Turn → Ran → Ran
 first_event p turn others = record { events = (p, turn) ∷ others.events; stop = others.stop; taken = others.taken; after = others.after }
 
-abbrev pub turns_by : Option ℕ → (ℕ → Ran) → Processes → Progress → Ran
-turns_by None others processes run = stopped (rest_of run.order) processes run
-turns_by (Some p) others processes run = first_event p (turn_of processes p) (others p)
+-- One that is answered Full ends the turns: it isn't counted, and nothing changed.
+abbrev pub event_then : ℕ → Turn → Ran → Wholes → Progress → Ran
+event_then p turn.Stepped others state run = first_event p turn.Stepped others
+event_then p (turn.Wrote written) others state run = first_event p (turn.Wrote written) others
+event_then p (turn.Exited code) others state run = first_event p (turn.Exited code) others
+event_then p (turn.Faulted kind at) others state run = first_event p (turn.Faulted kind at) others
+event_then p (turn.Full units limit) others state run = first_event p (turn.Full units limit) (stopped Full state run)
+
+abbrev pub turns_by : Option ℕ → (ℕ → Ran) → Wholes → Progress → Ran
+turns_by None others state run = stopped (rest_of run.order) state run
+turns_by (Some p) others state run = event_then p (turn_of state p) (others p) state run
 
 -- up to so many more turns
-abbrev pub ran : ℕ → Processes → Progress → Ran
-ran zero processes run = stopped (option_map_or (λ p. Limit) (next_of processes run.order) (rest_of run.order)) processes run
-ran (suc left) processes run =
-    turns_by (next_of processes run.order) (λ p. ran left (after_turn processes p) (run_after p run)) processes run
+abbrev pub ran : ℕ → Wholes → Progress → Ran
+ran zero state run = stopped (option_map_or (λ p. Limit) (next_of state run.order) (rest_of run.order)) state run
+ran (suc left) state run =
+    turns_by (next_of state run.order) (λ p. ran left (after_turn state p) (run_after p run)) state run
 
 -- all that are left of a run
-abbrev pub ran_from : Processes → Progress → Ran
-ran_from processes run = ran (run.turns - run.taken) processes run
+abbrev pub ran_from : Wholes → Progress → Ran
+ran_from state run = ran (run.turns - run.taken) state run
 
 -- the lines of turns, in their order, and the last one
 abbrev pub ran_text : Ran → List ℕ
@@ -108,39 +118,59 @@ pub record InRun : Type 0 where
   pub stop : Option Stop
 
 -- an ending that was found is the one that holds
-abbrev pub IsFound : Processes → InRun → Type 0
-IsFound processes running = (stop : Stop) → running.stop ≡ Some stop → ending processes running.run ≡ Some stop
+abbrev pub IsFound : Wholes → InRun → Type 0
+IsFound state running = (stop : Stop) → running.stop ≡ Some stop → ending state running.run ≡ Some stop
 
--- A turn of a run, where none of the endings holds: whose it is and what came of it, the processes after it, and
+-- A turn of a run, where none of the endings holds: whose it is and what came of it, the copying machine after it, and
 -- the run, with the ending that holds then.
-abbrev pub run_found : Processes → Progress → InRun
-run_found processes run = record { run = run; stop = ending processes run }
+abbrev pub run_found : Wholes → Progress → InRun
+run_found state run = record { run = run; stop = ending state run }
 
 -- `turn`: where an ending was found before, or one holds, there is no turn, and that ending is found; else the next
 -- process takes one.
-abbrev pub found_before : Processes → InRun → Option Stop
-found_before processes running = option_or running.stop (ending processes running.run)
+abbrev pub found_before : Wholes → InRun → Option Stop
+found_before state running = option_or running.stop (ending state running.run)
 
-abbrev pub TakesTurn : Processes → InRun → Option (ℕ × Turn) → Processes → InRun → Type 0
+-- the run after a turn of p, which left this state
+abbrev pub run_turned : Turn → ℕ → Wholes → Progress → InRun
+run_turned turn.Stepped p state run = run_found state (run_after p run)
+run_turned (turn.Wrote written) p state run = run_found state (run_after p run)
+run_turned (turn.Exited code) p state run = run_found state (run_after p run)
+run_turned (turn.Faulted kind at) p state run = run_found state (run_after p run)
+run_turned (turn.Full units limit) p state run = record { run = run; stop = Some Full }
+
+abbrev pub TakesTurn : Wholes → InRun → Option (ℕ × Turn) → Wholes → InRun → Type 0
 TakesTurn old running None new after =
     (new ≡ old) × ((stop : Stop) × (found_before old running ≡ Some stop) × (after ≡ record { run = running.run; stop = Some stop }))
 TakesTurn old running (Some (p, turn)) new after =
     (found_before old running ≡ None) × (next_of old running.run.order ≡ Some p) × (turn ≡ turn_of old p) × (new ≡ after_turn old p)
-    × (after ≡ run_found new (run_after p running.run))
+    × (after ≡ run_turned turn p new running.run)
+
+-- What is left of a run in progress: nothing, where an ending was found.
+abbrev pub left_by : Option Stop → Wholes → Progress → Ran
+left_by None state run = ran_from state run
+left_by (Some stop) state run = stopped stop state run
+
+abbrev pub left_of : Wholes → InRun → Ran
+left_of state running = left_by running.stop state running.run
+
+-- how often a line may still come
+abbrev pub lines_left : InRun → ℕ
+lines_left running = option_map_or (λ stop. 0) running.stop (running.run.turns - running.run.taken + 1)
 
 -- Turns up to one that has a line: its line comes first, and then what the others come to. Where none has one, the
 -- run has ended.
-abbrev pub Speaks : Processes → InRun → List ℕ → Processes → InRun → Type 0
+abbrev pub Speaks : Wholes → InRun → List ℕ → Wholes → InRun → Type 0
 Speaks old running line new after =
-    (ran_text (ran_from old running.run) ≡ line ++ ran_text (ran_from new after.run))
-    × ((ran_from old running.run).after ≡ (ran_from new after.run).after)
+    (ran_text (left_of old running) ≡ line ++ ran_text (left_of new after))
+    × AreLike (left_of old running).after (left_of new after).after
 
 -- turns without a line: what is left comes to what all came to
-abbrev pub GoesOn : Processes → Progress → Processes → Progress → Type 0
+abbrev pub GoesOn : Wholes → Progress → Wholes → Progress → Type 0
 GoesOn old run new after =
     (ran_text (ran_from old run) ≡ ran_text (ran_from new after)) × ((ran_from old run).after ≡ (ran_from new after).after)
 
-abbrev pub EndsRun : Processes → InRun → Processes → InRun → Type 0
+abbrev pub EndsRun : Wholes → InRun → Wholes → InRun → Type 0
 EndsRun old running new after =
-    (stop : Stop) × (after.stop ≡ Some stop) × (ran_text (ran_from old running.run) ≡ stop_text after.run.taken stop)
-    × ((ran_from old running.run).after ≡ new)
+    (stop : Stop) × (after.stop ≡ Some stop) × (ran_text (left_of old running) ≡ stop_text after.run.taken stop)
+    × AreLike (left_of old running).after new

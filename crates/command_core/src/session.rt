@@ -1,18 +1,19 @@
 ghost use Rattle.std.specs.Prelude.{◌≡◌, ◌==◌, ◌≢◌, ◌+◌, ◌≤◌, ◌<◌, [], Some, None, true, false, IfOk, IfSome, IsTrue};
 ghost use Rattle.report_text.specs.Answers.{HasAnswerLine, turn_text};
-ghost use Rattle.machine_core.specs.Machine.{StaysBut, is_running, turn_of, after_turn, turn_asked, after_asked, wholes};
-ghost use Rattle.sizes.specs.declared.TheConstants.{LAST_SPACE};
-ghost use Rattle.command_core.specs.State.{KeepsRest, SamePlaces, fresh};
-ghost use Rattle.command_core.specs.Changes.{CanBeTold, GivesChange, change_done, comes_to, drop_done, is_change, load_done};
+ghost use Rattle.machine_core.specs.Machine.{KeepsPlaces, has_space, is_running, wholes};
+ghost use Rattle.machine_core.specs.Turns.{after_asked, turn_asked};
+ghost use Rattle.sizes.specs.declared.TheConstants.{LAST_SPACE, MOST_FRAMES};
+ghost use Rattle.command_core.specs.State.{KeepsRest, OwnSpaces, fresh};
+ghost use Rattle.command_core.specs.Changes.{CanBeTold, answer_of, GivesChange, change_done, comes_to, drop_done, is_change, load_done};
 ghost use Rattle.command_core.specs.Commands.{RunsLoaded};
 ghost use Rattle.command_core.specs.Looks.{BeginsStep, LooksAt, NextProcess, looked_at};
 ghost use Rattle.command_core.specs.Standing.{SessionAnswersAs, ChangesAs, GivesAs, HoldsFor, SessionStandsFor, TurnsAs, begun_run, begun_step, ends_run, speaks, takes_turn};
 ghost use Rattle.std.specs.FinMap.{get};
-ghost use Rattle.command_core.specs.Turns.{EndsRun, GoesOn, Speaks, TakesTurn, begun_by, by_turns, ending, next_of, rest_of, run_found};
+ghost use Rattle.command_core.specs.Turns.{EndsRun, GoesOn, Speaks, TakesTurn, begun_by, by_turns, ending, lines_left, next_of, rest_of, run_found, run_turned};
 
 use crate::turns::{Order, Running};
 use elf_loader::{ElfError, read_image};
-use machine_core::Machine;
+use machine_core::{Machine, SpaceError};
 use ovl_io::{FaultKind, ProcessState, Turn};
 use report_text::{Answer, Code, Line, Stop, turn_line};
 use round_robin::RoundRobin;
@@ -53,7 +54,7 @@ impl Model for Session {
     ghost coded = { session_code };
 
     ghost view = { λ s. record {
-      state = record { processes = wholes s.machine; drawn = s.drawn };
+      state = record { wholes = wholes s.machine; drawn = s.drawn };
       quantum = s.quantum;
     } };
 
@@ -63,11 +64,12 @@ impl Model for Session {
 /// Does what a process asked for. Where that has a line, sets it and answers true.
 #[inline(never)]
 fn answer_request(machine: &mut Machine, p: u16, line: &mut Line) -> bool
-    requires { is_running (wholes machine.old) p ≡ true }
+    requires runs { is_running (wholes machine.old) p ≡ true }
+    requires there { has_space machine.old p ≡ true }
     ensures says { result ≡ true → line.new.items ≡ turn_text p (turn_asked (wholes machine.old) p) }
     ensures quiet { result ≡ false → turn_text p (turn_asked (wholes machine.old) p) ≡ [] }
     ensures after { wholes machine.new ≡ after_asked (wholes machine.old) p }
-    ensures others { StaysBut p machine.old machine.new }
+    ensures kept { KeepsPlaces machine.old machine.new }
 {
     turn_line(p, &machine.answer(p), line)
 }
@@ -80,21 +82,33 @@ fn fault_line(p: u16, kind: FaultKind, address: u64, line: &mut Line)
     turn_line(p, &Turn::Faulted(kind, address), line);
 }
 
+/// Sets the line of a turn for which there aren't units enough.
+#[inline(never)]
+fn full_line(p: u16, units: u32, limit: u32, line: &mut Line)
+    ensures { line.new.items ≡ turn_text p (Turn.Full units limit) }
+{
+    turn_line(p, &Turn::Full(units, limit), line);
+}
+
 /// Takes turns of a running process, whose turn is next: until one has a line, which it sets, and answers true; or as
-/// many as there are until another's turn may be next.
+/// many as there are until another's turn may be next. One for which there aren't units enough isn't counted, and ends the
+/// run.
 #[inline]
 fn take_turns(machine: &mut Machine, running: &mut Running, p: u16, line: &mut Line) -> bool
     requires runs { is_running (wholes machine.old) p ≡ true }
+    requires there { has_space machine.old p ≡ true }
     requires next { next_of (wholes machine.old) running.old.run.order ≡ Some p }
     requires left { running.old.run.taken < running.old.run.turns }
+    requires goes { running.old.stop ≡ None }
     ensures says { result ≡ true →
         Speaks (wholes machine.old) running.old line.new.items (wholes machine.new) running.new }
     ensures quiet { result ≡ false →
         GoesOn (wholes machine.old) running.old.run (wholes machine.new) running.new.run }
-    ensures further { running.old.run.taken < running.new.run.taken }
+    ensures goes { result ≡ false → running.new.stop ≡ None }
+    ensures fewer { lines_left running.new < lines_left running.old }
     ensures asked { running.new.run.turns ≡ running.old.run.turns }
     ensures within { running.new.run.taken ≤ running.new.run.turns }
-    ensures kept { SamePlaces machine.old machine.new }
+    ensures kept { KeepsPlaces machine.old machine.new }
 {
     let (steps, outcome) = machine.execute_up_to(p, running.stretch(p));
     match outcome {
@@ -111,7 +125,12 @@ fn take_turns(machine: &mut Machine, running: &mut Running, p: u16, line: &mut L
             fault_line(p, kind, address, line);
             true
         }
-        Outcome::Full(_, _) => unreachable!(),
+        Outcome::Full(units, limit) => {
+            running.took_turns(p, steps);
+            running.set_stop(Some(Stop::Full));
+            full_line(p, units, limit, line);
+            true
+        }
     }
 }
 
@@ -159,10 +178,27 @@ fn ending(machine: &Machine, running: &Running) -> Option<Stop>
     }
 }
 
+/// Counts a turn of a process, and finds the ending that holds then. One for which there weren't units enough isn't counted, and
+/// ends the run.
+fn end_turn(machine: &Machine, running: &mut Running, p: u16, turn: &Turn)
+    requires { running.old.run.taken < running.old.run.turns }
+    ensures { running.new ≡ run_turned turn.now p (wholes machine.now) running.old.run }
+{
+    match turn {
+        Turn::Full(_, _) => running.set_stop(Some(Stop::Full)),
+        Turn::Stepped | Turn::Wrote(_) | Turn::Exited(_) | Turn::Faulted(_, _) => {
+            running.took(p);
+            let stop = ending(machine, running);
+            running.set_stop(stop);
+        }
+    }
+}
+
 /// Takes the next turn. None exactly where an ending was found before, or one holds; then no turn is taken.
 fn next_turn(machine: &mut Machine, running: &mut Running) -> Option<(u16, Turn)>
+    requires { OwnSpaces machine.old }
     ensures turn { TakesTurn (wholes machine.old) running.old result (wholes machine.new) running.new }
-    ensures kept { SamePlaces machine.old machine.new }
+    ensures kept { KeepsPlaces machine.old machine.new }
 {
     match running.stop() {
         Some(_) => return None,
@@ -179,24 +215,25 @@ fn next_turn(machine: &mut Machine, running: &mut Running) -> Option<(u16, Turn)
         None => None,
         Some(p) => {
             let turn = machine.event(p);
-            running.took(p);
-            let stop = ending(machine, running);
-            running.set_stop(stop);
+            end_turn(machine, running, p, &turn);
             Some((p, turn))
         }
     }
 }
 
-/// Takes turns until one has a line, which it sets, and answers true; or until the run has ended.
-fn turns_to_line(machine: &mut Machine, running: &mut Running, line: &mut Line) -> bool
+/// Takes turns of a run of which no ending was found, until one has a line, which it sets, and answers true; or until the run
+/// has ended.
+fn quiet_turns(machine: &mut Machine, running: &mut Running, line: &mut Line) -> bool
+    requires spaces { OwnSpaces machine.old }
+    requires goes { running.old.stop ≡ None }
     ensures says { result ≡ true →
         Speaks (wholes machine.old) running.old line.new.items (wholes machine.new) running.new }
     ensures ends { result ≡ false →
         EndsRun (wholes machine.old) running.old (wholes machine.new) running.new }
-    ensures further { result ≡ true → running.old.run.taken < running.new.run.taken }
+    ensures fewer { result ≡ true → lines_left running.new < lines_left running.old }
     ensures asked { running.new.run.turns ≡ running.old.run.turns }
     ensures within { running.new.run.taken ≤ running.new.run.turns }
-    ensures kept { SamePlaces machine.old machine.new }
+    ensures kept { KeepsPlaces machine.old machine.new }
 {
     'quiet: while running.has_left() {
         match next(machine, running.order()) {
@@ -213,23 +250,55 @@ fn turns_to_line(machine: &mut Machine, running: &mut Running, line: &mut Line) 
     false
 }
 
+/// Takes turns until one has a line, which it sets, and answers true; or until the run has ended. Where an ending was found
+/// before, nothing changes.
+fn turns_to_line(machine: &mut Machine, running: &mut Running, line: &mut Line) -> bool
+    requires { OwnSpaces machine.old }
+    ensures says { result ≡ true →
+        Speaks (wholes machine.old) running.old line.new.items (wholes machine.new) running.new }
+    ensures ends { result ≡ false →
+        EndsRun (wholes machine.old) running.old (wholes machine.new) running.new }
+    ensures fewer { result ≡ true → lines_left running.new < lines_left running.old }
+    ensures asked { running.new.run.turns ≡ running.old.run.turns }
+    ensures within { running.new.run.taken ≤ running.new.run.turns }
+    ensures kept { KeepsPlaces machine.old machine.new }
+{
+    if running.has_ended() {
+        return false;
+    }
+    quiet_turns(machine, running, line)
+}
+
+/// What a load that wasn't done answers.
+fn not_loaded(error: SpaceError) -> Answer
+    ensures { result ≡ answer_of error }
+{
+    match error {
+        SpaceError::Full(units, limit) => Answer::Full(units, limit),
+        SpaceError::Memory => Answer::Memory,
+    }
+}
+
 impl Session {
-    /// A session without a process, whose turns have this quantum: 1 to 1,000,000.
-    pub fn new(alloc: Global, quantum: u32) -> Result<Session, AllocError>
-        requires { 1 ≤ quantum }
-        ensures session { IfOk result (λ session. session ≡ record { state = fresh; quantum = quantum }) }
-        ensures stands { IfOk result (λ session. SessionStandsFor session fresh) }
+    /// A session without a process, of 1 to 65,536 frames, whose turns have this quantum: 1 to 1,000,000.
+    pub fn new(alloc: Global, frames: u32, quantum: u32) -> Result<Session, AllocError>
+        requires some { 0 < frames }
+        requires few { frames ≤ MOST_FRAMES }
+        requires quantum { 1 ≤ quantum }
+        ensures session { IfOk result (λ session. session
+            ≡ record { state = fresh frames; quantum = quantum }) }
+        ensures stands { IfOk result (λ session. SessionStandsFor session (fresh frames)) }
     {
         Ok(Session {
             alloc,
-            machine: Machine::new(alloc)?,
+            machine: Machine::new(alloc, frames)?,
             drawn: 0,
             quantum,
         })
     }
 
-    /// Makes a process of a file, under the next number: `Loaded`, or why not. After want of memory
-    /// everything is as before.
+    /// Makes a process of a file, under the next number: `Loaded`, or why not. `Full` exactly where the file is taken, a number is
+    /// left and the units after the load would exceed the limit. After want of memory everything is as before.
     pub fn load(&mut self, file: &[u8]) -> Answer
         ensures gives { GivesChange (load_done file.now self.old.state) self.old.state result self.new.state }
         ensures stands { GivesAs (load_done file.now) self.old result self.new }
@@ -251,7 +320,7 @@ impl Session {
                 self.drawn = p;
                 Answer::Loaded(p, pages, image.entry())
             }
-            Err(_) => Answer::Memory,
+            Err(error) => not_loaded(error),
         }
     }
 
@@ -269,8 +338,9 @@ impl Session {
         ensures told { HasAnswerLine result }
         ensures quantum { self.new.quantum ≡ self.old.quantum }
     {
-        if self.machine.process(p).is_none() {
-            return Answer::Refused(Code::NoProcess);
+        match self.machine.process(p) {
+            None => return Answer::Refused(Code::NoProcess),
+            Some(_) => {}
         }
         self.machine.remove(p);
         self.machine.drop_space(p);
@@ -301,7 +371,7 @@ impl Session {
 
     /// Begins so many turns, at least 1, of one process. Refused where there is none, or where it has ended.
     pub fn begin_step(&self, p: u16, turns: u32) -> Result<Running, Code>
-        ensures begun { BeginsStep self.now.state.processes p turns result }
+        ensures begun { BeginsStep self.now.state.wholes p turns result }
         ensures stands { SessionAnswersAs (begun_step p turns) self.now result }
     {
         match self.machine.process(p) {
@@ -315,7 +385,7 @@ impl Session {
 
     /// A run of which no turn was taken, with the ending that holds.
     fn begin(&self, order: Order, turns: u32) -> Running
-        ensures { result ≡ run_found self.now.state.processes (begun_by order turns) }
+        ensures { result ≡ run_found self.now.state.wholes (begun_by order turns) }
     {
         let mut running = Running::new(order, turns);
         let stop = ending(&self.machine, &running);
@@ -343,7 +413,7 @@ impl Session {
         ensures stands { result ≡ true →
             TurnsAs (speaks running.old line.new.items running.new) self.old self.new }
         ensures rests { result ≡ false → TurnsAs (ends_run running.old running.new) self.old self.new }
-        ensures further { result ≡ true → running.old.run.taken < running.new.run.taken }
+        ensures fewer { result ≡ true → lines_left running.new < lines_left running.old }
         ensures asked { running.new.run.turns ≡ running.old.run.turns }
         ensures within { running.new.run.taken ≤ running.new.run.turns }
         ensures others { KeepsRest self.old self.new }
@@ -353,24 +423,25 @@ impl Session {
 
     /// A process, by its number; refused where there is none.
     pub fn look_process(&self, p: u16) -> Result<ProcessView, Code>
-        ensures looks { LooksAt self.now.state.processes p result }
-        ensures stands { SessionAnswersAs (λ state. looked_at (get state.processes p)) self.now result }
+        ensures looks { LooksAt self.now.state.wholes.processes p result }
+        ensures stands { SessionAnswersAs
+            (λ state. looked_at (get state.wholes.processes p)) self.now result }
     {
         match self.machine.process(p) {
             None => return Err(Code::NoProcess),
             Some(process) => Ok(ProcessView {
                 regs: process.regs,
                 state: process.state,
-                speculating: false,
-                pages: self.machine.pages(p),
+                speculating: self.machine.memory().is_speculating(p),
+                pages: self.machine.memory().pages(p),
             }),
         }
     }
 
     /// The least process number from `from` on; none exactly where there is none.
     pub fn next_process(&self, from: u16) -> Option<u16>
-        ensures next { NextProcess self.now.state.processes from result }
-        ensures stands { HoldsFor (λ state. NextProcess state.processes from result) self.now }
+        ensures next { NextProcess self.now.state.wholes.processes from result }
+        ensures stands { HoldsFor (λ state. NextProcess state.wholes.processes from result) self.now }
         ensures within { IfSome result (λ p. (from ≤ p) × (p ≤ LAST_SPACE)) }
     {
         self.machine.next_process(from)

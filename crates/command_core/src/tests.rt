@@ -72,7 +72,7 @@ fn two_processes_take_turns(rt: HostRuntime) -> Result<(), Fail> {
     let file = file_of(rt.alloc(), HI, 39)?;
     for (quantum, want) in rows {
         assert!(rt; quantum >= 1);
-        let mut session = Session::new(rt.alloc(), quantum)?;
+        let mut session = Session::new(rt.alloc(), 1024, quantum)?;
         for p in [1u16, 2] {
             match session.load(file.as_slice()) {
                 Answer::Loaded(q, 17, 0x10078) => assert_eq!(rt; q, p),

@@ -1,4 +1,5 @@
 ghost use Rattle.std.specs.Prelude.{◌≡◌, ◌<◌, ◌≤◌, None, nat_lt};
+ghost use Rattle.std.specs.Option.{is_some};
 ghost use Rattle.command_core.specs.Turns.{run_after, run_took, stretch};
 
 use report_text::Stop;
@@ -65,6 +66,14 @@ impl Running {
         self.taken < self.turns
     }
 
+    /// Whether an ending was found.
+    pub(crate) fn has_ended(&self) -> bool
+        ensures ended { result ≡ is_some self.now.stop }
+        ensures within { self.now.run.taken ≤ self.now.run.turns }
+    {
+        self.stop.is_some()
+    }
+
     /// A turn of a process was taken.
     pub(crate) fn took(&mut self, p: u16)
         requires { self.old.run.taken < self.old.run.turns }
@@ -93,13 +102,14 @@ impl Running {
     /// So many turns of `p`, whose turn was next, were taken.
     #[inline]
     pub(crate) fn took_turns(&mut self, p: u16, n: u32)
-        requires some { 1 ≤ n }
         requires fits { n ≤ stretch p self.old.run }
         ensures took { self.new ≡ record { run = run_took n p self.old.run; stop = self.old.stop } }
         ensures within { self.new.run.taken ≤ self.new.run.turns }
     {
-        if let Order::ByTurns(turns) = &mut self.order {
-            turns.took_turns(p, n);
+        if n > 0 {
+            if let Order::ByTurns(turns) = &mut self.order {
+                turns.took_turns(p, n);
+            }
         }
         self.taken += n;
     }

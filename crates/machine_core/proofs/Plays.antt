@@ -1,11 +1,14 @@
-use Rattle.std.proofs.Common.{◌≡◌, ℕ, ◌+◌, ◌<◌, ◌==◌, ◌&&◌, zero, suc, Bool, true, false, cond, List, [], ◌∷◌, length, drop, get_or, sym, ap, subst, ◌∙◌, refl, arith, Option, Some, None}
-use Rattle.std.specs.Option.{option_map, option_map_or}
+use Rattle.std.proofs.Common.{◌≡◌, ℕ, ◌+◌, ◌<◌, ◌==◌, ◌&&◌, not, zero, suc, Bool, true, false, cond, List, [], ◌∷◌, length, drop, get_or, sym, ap, subst, ◌∙◌, refl, arith, Option, Some, None}
+use Rattle.std.specs.Option.{is_some, option_map, option_map_or}
 use Rattle.std.specs.FinMap.{get, insert}
 use Rattle.std.proofs.Math.Seq.{drop-cons}
 use Rattle.ovl_io.specs.Keys.{by_key, get_same, get_other}
+use Rattle.machine_core.specs.declared.process.Process as declared
 use Rattle.machine_core.specs.Process.{Process, runs}
-use Rattle.machine_core.specs.Machine.{Processes, is_running, after_turn, process_after}
-use Rattle.machine_core.specs.Play.{after_number, run_over, turns_of, own_turns, AreOwnTurns}
+use Rattle.machine_core.specs.Machine.{HaveSpaces, KeepsPlaces, Machine, StaysBut, Wholes, has_space, is_running, processes_of, spaces_of, whole_in, wholes}
+use Rattle.machine_core.specs.Turns.{Guest, after_turn, guest_after, guest_at, guest_of, is_full, ledger_executed, process_after, with_guest}
+use Rattle.machine_core.specs.Laws.{runs_shown}
+use Rattle.machine_core.specs.Play.{AreOwnTurns, after_number, is_full_at, own_turns, run_over, turns_of}
 use Rattle.machine_core.specs.NumberLaws.{other_is, same_is}
 
 -- Turns of several processes.
@@ -14,58 +17,82 @@ none_more : (p : ℕ) (o : Option Process) → o ≡ option_map (own_turns p 0) 
 none_more p None = refl
 none_more p (Some process) = refl
 
--- what a turn of a running process does to each
-after_own : (state : Processes) (p : ℕ) (n : ℕ) (o : Option Process) → get state p ≡ o → is_running state p ≡ true
-    → option_map (own_turns p n) (get (after_turn state p) p) ≡ option_map (own_turns p (suc n)) o
-after_own state p n (Some process) there running =
-    ap (λ (o : Option Process). option_map (own_turns p n) (get (option_map_or (λ (w : Process). insert state p (process_after p w)) o state) p)) there
-    ∙ ap (option_map (own_turns p n)) (get_same state p p (process_after p process) refl)
+-- what a turn of a process that is there does to it: a step, or nothing where it is answered Full
+module _ (state : Wholes) (p : ℕ) (process : Process) (there : get state.processes p ≡ Some process) where
+  abbrev guest : Guest
+  guest = guest_of state process
+
+  after_there : get (after_turn state p).processes p ≡ Some (guest_after p guest).process
+  after_there =
+      ap (λ (o : Option Process). get (option_map_or (λ guest. with_guest state p (guest_after p guest)) (option_map (guest_of state) o) state).processes p) there
+      ∙ get_same state.processes p p (guest_after p guest).process refl
+
+  full_is : is_full_at state p ≡ is_full p guest
+  full_is = ap (λ (o : Option Process). option_map_or (is_full p) (option_map (guest_of state) o) false) there
+
+  own_by : (n : ℕ) (b : Bool) → is_full p guest ≡ b
+      → own_turns p n (guest_after p guest).process ≡ own_turns p (cond (not b) 1 0 + n) process
+  own_by n true full =
+      let none : n ≡ 0 + n = omega arith in
+      ap (λ b. own_turns p n (cond b guest (record { process = process_after p process; ledger = ledger_executed p guest; frames = state.frames })).process) full
+      ∙ ap (λ k. own_turns p k process) none
+  own_by n false enough =
+      let one : suc n ≡ 1 + n = omega arith in
+      ap (λ b. own_turns p n (cond b guest (record { process = process_after p process; ledger = ledger_executed p guest; frames = state.frames })).process) enough
+      ∙ ap (λ k. own_turns p k process) one
+
+  own_there : (n : ℕ) → option_map (own_turns p n) (get (after_turn state p).processes p)
+      ≡ option_map (own_turns p (cond (not (is_full_at state p)) 1 0 + n)) (get state.processes p)
+  own_there n =
+      ap (option_map (own_turns p n)) after_there ∙ ap Some (own_by n (is_full p guest) refl)
+      ∙ ap (λ b. Some (own_turns p (cond (not b) 1 0 + n) process)) (sym full_is)
+      ∙ sym (ap (option_map (own_turns p (cond (not (is_full_at state p)) 1 0 + n))) there)
+
+after_own : (state : Wholes) (p n : ℕ) (o : Option Process) → get state.processes p ≡ o → is_running state p ≡ true
+    → option_map (own_turns p n) (get (after_turn state p).processes p) ≡ option_map (own_turns p (cond (not (is_full_at state p)) 1 0 + n)) (get state.processes p)
+after_own state p n (Some process) there running = own_there state p process there n
 after_own state p n None absent running =
     absurd (let stopped = ap (λ (o : Option Process). option_map_or (λ (w : Process). runs w.state) o false) absent in cc)
 
-after_others : (state : Processes) (q p : ℕ) → (p ≡ q → ⊥) → get (after_turn state q) p ≡ get state p
-after_others state q p other = by_found (get state q)
+after_others : (state : Wholes) (q p : ℕ) → (p ≡ q → ⊥) → get (after_turn state q).processes p ≡ get state.processes p
+after_others state q p other = by_found (get state.processes q)
   where
-    by_found : (o : Option Process) → get (option_map_or (λ (w : Process). insert state q (process_after q w)) o state) p ≡ get state p
+    by_found : (o : Option Process) → get (option_map_or (λ guest. with_guest state q (guest_after q guest)) (option_map (guest_of state) o) state).processes p ≡ get state.processes p
     by_found None = refl
-    by_found (Some process) = get_other state q p (process_after q process) other
+    by_found (Some process) = get_other state.processes q p _ other
 
 -- one turn more at the front
-one_turn : (state : Processes) (q p n : ℕ) (b : Bool) → is_running state q ≡ b
-    → option_map (own_turns p n) (get (cond b (after_turn state q) state) p) ≡ option_map (own_turns p (cond ((q == p) && b) 1 0 + n)) (get state p)
+one_turn : (state : Wholes) (q p n : ℕ) (b : Bool) → is_running state q ≡ b
+    → option_map (own_turns p n) (get (cond b (after_turn state q) state).processes p)
+    ≡ option_map (own_turns p (cond ((q == p) && (b && not (is_full_at state q))) 1 0 + n)) (get state.processes p)
 one_turn state q p n true running = by_key p q
     (λ same.
-    let more : suc n ≡ cond ((q == p) && true) 1 0 + n = one (q == p) (same_is q p (sym same)) in
-    subst (λ k. option_map (own_turns p n) (get (after_turn state k) p) ≡ option_map (own_turns p (suc n)) (get state p)) same
-    (after_own state p n (get state p) refl (ap (is_running state) same ∙ running))
-    ∙ ap (λ k. option_map (own_turns p k) (get state p)) more)
+    subst (λ k. option_map (own_turns p n) (get (after_turn state k).processes p) ≡ option_map (own_turns p (cond (not (is_full_at state k)) 1 0 + n)) (get state.processes p)) same
+    (after_own state p n (get state.processes p) refl (ap (is_running state) same ∙ running))
+    ∙ ap (λ t. option_map (own_turns p (cond t 1 0 + n)) (get state.processes p)) (sym (ap (λ b. b && not (is_full_at state q)) (same_is q p (sym same)))))
     (λ other.
-    let none : n ≡ cond ((q == p) && true) 1 0 + n = zero_more (q == p) (other_is q p (λ e. other (sym e))) in
-    ap (option_map (own_turns p n)) (after_others state q p other) ∙ ap (λ k. option_map (own_turns p k) (get state p)) none)
+    let none : n ≡ cond ((q == p) && not (is_full_at state q)) 1 0 + n = zero_more (q == p) (not (is_full_at state q)) (other_is q p (λ e. other (sym e))) in
+    ap (option_map (own_turns p n)) (after_others state q p other) ∙ ap (λ k. option_map (own_turns p k) (get state.processes p)) none)
   where
-    one : (b : Bool) → b ≡ true → suc n ≡ cond (b && true) 1 0 + n
-    one true h = omega arith
-    one false h = cc
-
-    zero_more : (b : Bool) → b ≡ false → n ≡ cond (b && true) 1 0 + n
-    zero_more false h = omega arith
-    zero_more true h = cc
+    zero_more : (b c : Bool) → b ≡ false → n ≡ cond (b && c) 1 0 + n
+    zero_more false c h = omega arith
+    zero_more true c h = cc
 one_turn state q p n false stopped =
     let none : n ≡ cond ((q == p) && false) 1 0 + n = nothing (q == p) in
-    ap (λ k. option_map (own_turns p k) (get state p)) none
+    ap (λ k. option_map (own_turns p k) (get state.processes p)) none
   where
     nothing : (b : Bool) → n ≡ cond (b && false) 1 0 + n
     nothing true = omega arith
     nothing false = omega arith
 
-pub each_own : (turns : List ℕ) (state : Processes) → AreOwnTurns turns state (run_over turns state)
-each_own [] state = λ p. none_more p (get state p)
+pub each_own : (turns : List ℕ) (state : Wholes) → AreOwnTurns turns state (run_over turns state)
+each_own [] state = λ p. none_more p (get state.processes p)
 each_own (q ∷ turns) state = λ p.
     each_own turns (after_number q state) p
     ∙ one_turn state q p (turns_of p turns (after_number q state)) (is_running state q) refl
 
 -- the run over what is left of a list
-pub run_more : (turns : List ℕ) (i : ℕ) (state : Processes) → i < length turns
+pub run_more : (turns : List ℕ) (i : ℕ) (state : Wholes) → i < length turns
     → run_over (drop i turns) state ≡ run_over (drop (i + 1) turns) (after_number (get_or turns i 0) state)
 run_more turns i state below =
     let next : suc i ≡ i + 1 = omega arith in
@@ -78,11 +105,29 @@ drop_past [] (suc i) h = refl
 drop_past (x ∷ turns) zero h = absurd (omega arith)
 drop_past (x ∷ turns) (suc i) h = drop_past turns i (omega arith)
 
-pub run_all : (turns : List ℕ) (i : ℕ) (state : Processes) → length turns < i + 1 → run_over (drop i turns) state ≡ state
+pub run_all : (turns : List ℕ) (i : ℕ) (state : Wholes) → length turns < i + 1 → run_over (drop i turns) state ≡ state
 run_all turns i state past = ap (λ rest. run_over rest state) (drop_past turns i past)
 
-pub run_running : (state after : Processes) (p : ℕ) → is_running state p ≡ true → after ≡ after_turn state p → after ≡ after_number p state
+pub run_running : (state after : Wholes) (p : ℕ) → is_running state p ≡ true → after ≡ after_turn state p → after ≡ after_number p state
 run_running state after p running is = is ∙ sym (ap (λ b. cond b (after_turn state p) state) running)
 
-pub run_passed : (state : Processes) (p : ℕ) → is_running state p ≡ false → state ≡ after_number p state
+pub run_passed : (state : Wholes) (p : ℕ) → is_running state p ≡ false → state ≡ after_number p state
 run_passed state p stopped = sym (ap (λ b. cond b (after_turn state p) state) stopped)
+
+-- What two changes of one process leave.
+
+pub both_stay : (p : ℕ) (a b c : Machine) → StaysBut p a b → StaysBut p b c → StaysBut p a c
+both_stay p a b c h k = record {
+  spaces = λ q other. k.spaces q other ∙ h.spaces q other;
+  there = λ q other. k.there q other ∙ h.there q other;
+  processes = λ q other. k.processes q other ∙ h.processes q other;
+}
+
+pub both_places : (a b c : Machine) → KeepsPlaces a b → KeepsPlaces b c → KeepsPlaces a c
+both_places a b c h k = record { spaces = λ q. k.spaces q ∙ h.spaces q; awaiting = λ q. k.awaiting q ∙ h.awaiting q; processes = λ q. k.processes q ∙ h.processes q }
+
+-- where one still runs, its space is still there
+pub spaces_kept : (p : ℕ) (old new : Machine) → HaveSpaces old → is_running (wholes old) p ≡ true → StaysBut p old new → KeepsPlaces old new → HaveSpaces new
+spaces_kept p old new have running stay places q runs_now = by_key q p
+    (λ same. ap (has_space new) same ∙ places.spaces p ∙ have p running)
+    (λ other. places.spaces q ∙ have q (runs_shown old q ∙ ap (λ (o : Option declared.Process). option_map_or (λ (process : declared.Process). runs process.state) o false) (sym (stay.processes q other)) ∙ sym (runs_shown new q) ∙ runs_now))

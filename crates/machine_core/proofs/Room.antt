@@ -7,7 +7,6 @@ use Rattle.std.proofs.lemmas.Bool.{cases_lt}
 use Rattle.std.proofs.lemmas.List.{get_or_past}
 use Rattle.machine_core.specs.Process.{runs}
 use Rattle.machine_core.specs.declared.process.Process as declared
-use Rattle.machine_core.specs.declared.slots.Slot.{Slot}
 use Rattle.machine_core.specs.Slots.{Slots, slot_at, slot_process, slot_runs, is_in, IsRunningList}
 use Rattle.machine_core.proofs.Rising.{rises, fewer}
 
@@ -17,10 +16,10 @@ use Rattle.machine_core.proofs.Rising.{rises, fewer}
 has_place : (slots : Slots) (p : ℕ) → is_some (slot_process (slot_at slots p)) ≡ true → p < length slots
 has_place slots p has = elim (cases_lt p (length slots)) [
   | inl below ↦ below
-  | inr past ↦ absurd (let none = ap (λ (s : Option (Box Slot)). is_some (slot_process s)) (get_or_past slots p None past) in cc)
+  | inr past ↦ absurd (let none = ap (λ (s : Option (Box declared.Process)). is_some (slot_process s)) (get_or_past slots p None past) in cc)
 ]
 
-runs_there : (slot : Option (Box Slot)) → slot_runs slot ≡ true → is_some (slot_process slot) ≡ true
+runs_there : (slot : Option (Box declared.Process)) → slot_runs slot ≡ true → is_some (slot_process slot) ≡ true
 runs_there slot h = by_process (slot_process slot) h
   where
     by_process : (o : Option declared.Process) → option_map_or (λ (process : declared.Process). runs process.state) o false ≡ true → is_some o ≡ true

@@ -3,180 +3,202 @@ use Rattle.std.specs.Option.{option_map, option_map_or}
 use Rattle.std.specs.Global.{Box, Vec}
 use Rattle.std.specs.Vec.{vec_capacity}
 use Rattle.std.specs.List.Sorted.{IsStrictlyIncreasing}
-use Rattle.std.specs.FinMap.{get, insert}
+use Rattle.std.specs.FinMap.{get}
 use Rattle.ovl_io.specs.Keys.{by_key}
 use Rattle.ovl_io.specs.declared.process_state.ProcessState.{ProcessState}
 use Rattle.ovl_io.specs.declared.process_state.ProcessState.TheVariants as state
 use Rattle.rv_execute.specs.declared.outcome.Outcome.{Outcome}
 use Rattle.rv_execute.specs.declared.outcome.Outcome.TheVariants as outcome
 use Rattle.rv_execute.specs.Execution.{Upshot, Steps, Asks, Faults, outcome_by}
+use Rattle.overlay_pages.specs.State.{State}
 use Rattle.machine_core.specs.declared.process.Process as declared
-use Rattle.machine_core.specs.declared.slots.Slot.{Slot}
-use Rattle.machine_core.specs.Process.{Process, runs}
-use Rattle.machine_core.specs.Kept.{process_of}
-use Rattle.machine_core.specs.Machine.{Processes, after_execution, execution_of, executed, state_executed, upshot_of}
-use Rattle.machine_core.specs.Executions.{Executions, after_executions, executions, first_execution, last_upshot, all_executed, no_execution}
-use Rattle.machine_core.specs.Slots.{Slots, slot_at, slot_whole, slot_runs, is_in, HasLeft, IsChanged, IsRunningList}
+use Rattle.machine_core.specs.Process.{runs}
+use Rattle.machine_core.specs.Machine.{Wholes, limit_of}
+use Rattle.machine_core.specs.Turns.{Guest, after_execution, execution_of, executed, guest_at, guest_executed, is_full, outcome_found, outcome_of, state_executed, units_needed, with_guest}
+use Rattle.machine_core.specs.Executions.{Executions, after_executions, all_executed, came_to_last, executions, first_execution, last_outcome, no_execution}
+use Rattle.machine_core.specs.Slots.{Slots, guest_in, slot_at, slot_guest, slot_process, slot_runs, is_in, HasLeft, IsChanged, IsRunningList}
 use Rattle.machine_core.specs.NumberLaws.{other_is, same_is}
 
 -- Executions so far, and those that are left.
 
 abbrev pub behind : ℕ → Executions → Executions
-behind k others = record { steps = k + others.steps; before = others.before; upshot = others.upshot; after = others.after }
-
-pub none_yet : (most : ℕ) (now : Process) → executions most now ≡ behind 0 (executions (most - 0) now)
-none_yet most now =
-    let all = executions most now in
-    let none : all.steps ≡ 0 + all.steps = omega arith in
-    let whole : most ≡ most - 0 = omega arith in
-    ap (λ n. record { steps = n; before = all.before; upshot = all.upshot; after = all.after }) none
-    ∙ ap (λ n. behind 0 (executions n now)) whole
-
-left_more : (most k : ℕ) → k < most → most - k ≡ suc (most - (k + 1))
-left_more most k below = omega arith
-
-unrolled : (all : Executions) (most k : ℕ) (now : Process) (u : Upshot) → k < most → all ≡ behind k (executions (most - k) now)
-    → (execution_of now).upshot ≡ u → all ≡ behind k (first_execution u now (executed now) (executions (most - (k + 1)) (executed now)))
-unrolled all most k now u below is came =
-    is ∙ ap (λ n. behind k (executions n now)) (left_more most k below)
-    ∙ ap (λ v. behind k (first_execution v now (executed now) (executions (most - (k + 1)) (executed now)))) came
-
-steps_by : (u : Upshot) → outcome.Stepped ≡ outcome_by u → u ≡ Steps
-steps_by Steps is = refl
-steps_by Asks is = cc
-steps_by (Faults kind address) is = cc
-
--- one more step
-pub one_step : (all : Executions) (most k : ℕ) (now next : Process) → k < most → all ≡ behind k (executions (most - k) now)
-    → outcome.Stepped ≡ outcome_by (execution_of now).upshot → next ≡ executed now → all ≡ behind (k + 1) (executions (most - (k + 1)) next)
-one_step all most k now next below is stepped moved =
-    let others = executions (most - (k + 1)) (executed now) in
-    let more : k + (others.steps + 1) ≡ k + 1 + others.steps = omega arith in
-    unrolled all most k now Steps below is (steps_by (execution_of now).upshot stepped)
-    ∙ ap (λ n. record { steps = n; before = others.before; upshot = others.upshot; after = others.after }) more
-    ∙ ap (λ p. behind (k + 1) (executions (most - (k + 1)) p)) (sym moved)
+behind k others = record { steps = k + others.steps; before = others.before; outcome = others.outcome; after = others.after }
 
 -- the last one, which is no step
-pub record IsLast (all : Executions) (k : ℕ) (o : Outcome) (after : Process) : Type 0 where
+pub record IsLast (all : Executions) (k : ℕ) (o : Outcome) (after : Guest) : Type 0 where
   pub steps : k ≡ all.steps
-  pub outcome_is : o ≡ outcome_by all.upshot
+  pub outcome_is : o ≡ all.outcome
   pub after_is : after ≡ all.after
 
-pub no_step : (o : Outcome) (u : Upshot) (all : Executions) (most k : ℕ) (now next : Process) → k < most → all ≡ behind k (executions (most - k) now)
-    → o ≡ outcome_by u → (execution_of now).upshot ≡ u → (o ≡ outcome.Stepped → ⊥) → next ≡ executed now → IsLast all k o next
-no_step o Steps all most k now next below is came same other moved = absurd (other came)
-no_step o Asks all most k now next below is came same other moved =
-    let last = unrolled all most k now Asks below is same in
-    record {
-      steps = omega (arith, ap (λ (e : Executions). e.steps) last);
-      outcome_is = came ∙ sym (ap (λ (e : Executions). outcome_by e.upshot) last);
-      after_is = moved ∙ sym (ap (λ (e : Executions). e.after) last);
-    }
-no_step o (Faults kind address) all most k now next below is came same other moved =
-    let last = unrolled all most k now (Faults kind address) below is same in
-    record {
-      steps = omega (arith, ap (λ (e : Executions). e.steps) last);
-      outcome_is = came ∙ sym (ap (λ (e : Executions). outcome_by e.upshot) last);
-      after_is = moved ∙ sym (ap (λ (e : Executions). e.after) last);
-    }
+single : (o : Outcome) (now next : Guest) → (first_execution o now next (no_execution next)).outcome ≡ o
+single outcome.Stepped now next = refl
+single outcome.Asked now next = refl
+single (outcome.Fault kind address) now next = refl
+single (outcome.Full units limit) now next = refl
 
--- all were steps
-pub all_steps : (all : Executions) (most k : ℕ) (now : Process) → most ≡ k → all ≡ behind k (executions (most - k) now)
-    → IsLast all k outcome.Stepped now
-all_steps all most k now same is =
-    let none : most - k ≡ 0 = omega (arith, same) in
-    let last : all ≡ behind k (no_execution now) = is ∙ ap (λ n. behind k (executions n now)) none in
-    record {
-      steps = omega (arith, ap (λ (e : Executions). e.steps) last);
-      outcome_is = sym (ap (λ (e : Executions). outcome_by e.upshot) last);
-      after_is = sym (ap (λ (e : Executions). e.after) last);
-    }
+single_after : (o : Outcome) (now next : Guest) → (first_execution o now next (no_execution next)).after ≡ next
+single_after outcome.Stepped now next = refl
+single_after outcome.Asked now next = refl
+single_after (outcome.Fault kind address) now next = refl
+single_after (outcome.Full units limit) now next = refl
 
--- a single one
-single : (u : Upshot) (now next : Process) → (first_execution u now next (no_execution next)).upshot ≡ u
-single Steps now next = refl
-single Asks now next = refl
-single (Faults kind address) now next = refl
+module _ (p : ℕ) where
+  pub none_yet : (most : ℕ) (now : Guest) → executions p most now ≡ behind 0 (executions p (most - 0) now)
+  none_yet most now =
+      let all = executions p most now in
+      let none : all.steps ≡ 0 + all.steps = omega arith in
+      let whole : most ≡ most - 0 = omega arith in
+      ap (λ n. record { steps = n; before = all.before; outcome = all.outcome; after = all.after }) none
+      ∙ ap (λ n. behind 0 (executions p n now)) whole
 
-single_after : (u : Upshot) (now next : Process) → (first_execution u now next (no_execution next)).after ≡ next
-single_after Steps now next = refl
-single_after Asks now next = refl
-single_after (Faults kind address) now next = refl
+  left_more : (most k : ℕ) → k < most → most - k ≡ suc (most - (k + 1))
+  left_more most k below = omega arith
 
-pub single_upshot : (found : Option Process) → last_upshot 1 found ≡ upshot_of found
-single_upshot None = refl
-single_upshot (Some process) = single (execution_of process).upshot process (executed process)
+  unrolled : (all : Executions) (most k : ℕ) (now : Guest) (o : Outcome) → k < most → all ≡ behind k (executions p (most - k) now)
+      → outcome_of p now ≡ o → all ≡ behind k (first_execution o now (executed p now) (executions p (most - (k + 1)) (executed p now)))
+  unrolled all most k now o below is came =
+      is ∙ ap (λ n. behind k (executions p n now)) (left_more most k below)
+      ∙ ap (λ v. behind k (first_execution v now (executed p now) (executions p (most - (k + 1)) (executed p now)))) came
 
-pub single_executed : (process : Process) → all_executed 1 process ≡ executed process
-single_executed process = single_after (execution_of process).upshot process (executed process)
+  -- one more step
+  pub one_step : (all : Executions) (most k : ℕ) (now next : Guest) → k < most → all ≡ behind k (executions p (most - k) now)
+      → outcome.Stepped ≡ outcome_of p now → next ≡ executed p now → all ≡ behind (k + 1) (executions p (most - (k + 1)) next)
+  one_step all most k now next below is stepped moved =
+      let others = executions p (most - (k + 1)) (executed p now) in
+      let more : k + (others.steps + 1) ≡ k + 1 + others.steps = omega arith in
+      unrolled all most k now outcome.Stepped below is (sym stepped)
+      ∙ ap (λ n. record { steps = n; before = others.before; outcome = others.outcome; after = others.after }) more
+      ∙ ap (λ g. behind (k + 1) (executions p (most - (k + 1)) g)) (sym moved)
 
-of_found : (found : Option Process) (processes : Processes) (p : ℕ)
-    → option_map_or (λ (process : Process). insert processes p (all_executed 1 process)) found processes
-    ≡ option_map_or (λ (process : Process). insert processes p (executed process)) found processes
-of_found None processes p = refl
-of_found (Some process) processes p = ap (insert processes p) (single_executed process)
+  pub no_step : (o : Outcome) (all : Executions) (most k : ℕ) (now next : Guest) → k < most → all ≡ behind k (executions p (most - k) now)
+      → o ≡ outcome_of p now → (o ≡ outcome.Stepped → ⊥) → next ≡ executed p now → IsLast all k o next
+  no_step outcome.Stepped all most k now next below is came other moved = absurd (other refl)
+  no_step outcome.Asked all most k now next below is came other moved =
+      let last = unrolled all most k now outcome.Asked below is (sym came) in
+      record {
+        steps = omega (arith, ap (λ (e : Executions). e.steps) last);
+        outcome_is = sym (ap (λ (e : Executions). e.outcome) last);
+        after_is = moved ∙ sym (ap (λ (e : Executions). e.after) last);
+      }
+  no_step (outcome.Fault kind address) all most k now next below is came other moved =
+      let last = unrolled all most k now (outcome.Fault kind address) below is (sym came) in
+      record {
+        steps = omega (arith, ap (λ (e : Executions). e.steps) last);
+        outcome_is = sym (ap (λ (e : Executions). e.outcome) last);
+        after_is = moved ∙ sym (ap (λ (e : Executions). e.after) last);
+      }
+  no_step (outcome.Full units limit) all most k now next below is came other moved =
+      let last = unrolled all most k now (outcome.Full units limit) below is (sym came) in
+      record {
+        steps = omega (arith, ap (λ (e : Executions). e.steps) last);
+        outcome_is = sym (ap (λ (e : Executions). e.outcome) last);
+        after_is = moved ∙ sym (ap (λ (e : Executions). e.after) last);
+      }
 
-pub single_after_all : (processes : Processes) (p : ℕ) → after_executions 1 processes p ≡ after_execution processes p
-single_after_all processes p = of_found (get processes p) processes p
+  -- all were steps
+  pub all_steps : (all : Executions) (most k : ℕ) (now : Guest) → most ≡ k → all ≡ behind k (executions p (most - k) now)
+      → IsLast all k outcome.Stepped now
+  all_steps all most k now same is =
+      let none : most - k ≡ 0 = omega (arith, same) in
+      let last : all ≡ behind k (no_execution now) = is ∙ ap (λ n. behind k (executions p n now)) none in
+      record {
+        steps = omega (arith, ap (λ (e : Executions). e.steps) last);
+        outcome_is = sym (ap (λ (e : Executions). e.outcome) last);
+        after_is = sym (ap (λ (e : Executions). e.after) last);
+      }
 
--- a process that took a step runs
-pub still_runs : (now next : Process) → outcome.Stepped ≡ outcome_by (execution_of now).upshot → next ≡ executed now → next.state ≡ state.Running
-still_runs now next stepped moved =
-    ap (λ (p : Process). p.state) moved ∙ ap state_executed (steps_by (execution_of now).upshot stepped)
+  -- a single one
+  pub single_outcome : (found : Option Guest) → last_outcome p 1 found ≡ outcome_found p found
+  single_outcome None = refl
+  single_outcome (Some guest) = single (outcome_of p guest) guest (executed p guest)
 
--- the state of a process that ran, by what came of the last execution
-state_by : (u : Upshot) (now next : Process) (others : Executions) → next.state ≡ state_executed u
-    → (next.state ≡ state.Running → others.after.state ≡ state_executed others.upshot)
-    → (first_execution u now next others).after.state ≡ state_executed (first_execution u now next others).upshot
-state_by Steps now next others is rest = rest is
-state_by Asks now next others is rest = is
-state_by (Faults kind address) now next others is rest = is
+  pub single_executed : (guest : Guest) → all_executed p 1 guest ≡ executed p guest
+  single_executed guest = single_after (outcome_of p guest) guest (executed p guest)
 
-pub state_after : (most : ℕ) (now : Process) → now.state ≡ state.Running
-    → (executions most now).after.state ≡ state_executed (executions most now).upshot
-state_after zero now running = running
-state_after (suc most) now running =
-    state_by (execution_of now).upshot now (executed now) (executions most (executed now)) refl (λ is. state_after most (executed now) is)
+  of_found : (found : Option Guest) (state : Wholes)
+      → option_map_or (λ (guest : Guest). with_guest state p (all_executed p 1 guest)) found state
+      ≡ option_map_or (λ (guest : Guest). with_guest state p (executed p guest)) found state
+  of_found None state = refl
+  of_found (Some guest) state = ap (with_guest state p) (single_executed guest)
 
--- whether it runs then
+  pub single_after_all : (state : Wholes) → after_executions 1 state p ≡ after_execution state p
+  single_after_all state = of_found (guest_at state p) state
+
+-- one more step, and the last one, in a space that has the number p
+pub step_in : (p q : ℕ) → q ≡ p → (all : Executions) (most k : ℕ) (now next : Guest) → k < most → all ≡ behind k (executions p (most - k) now)
+    → outcome.Stepped ≡ outcome_of q now → next ≡ executed q now → all ≡ behind (k + 1) (executions p (most - (k + 1)) next)
+step_in p q same all most k now next below is stepped moved =
+    one_step p all most k now next below is (stepped ∙ ap (λ n. outcome_of n now) same) (moved ∙ ap (λ n. executed n now) same)
+
+pub last_in : (p q : ℕ) → q ≡ p → (o : Outcome) (all : Executions) (most k : ℕ) (now next : Guest) → k < most → all ≡ behind k (executions p (most - k) now)
+    → o ≡ outcome_of q now → (o ≡ outcome.Stepped → ⊥) → next ≡ executed q now → IsLast all k o next
+last_in p q same o all most k now next below is came other moved =
+    no_step p o all most k now next below is (came ∙ ap (λ n. outcome_of n now) same) other (moved ∙ ap (λ n. executed n now) same)
+
+-- Whether it runs then.
+
 abbrev pub runs_on : Outcome → Bool
 runs_on outcome.Stepped = true
 runs_on outcome.Asked = true
 runs_on (outcome.Fault kind address) = false
 runs_on (outcome.Full units limit) = true
 
-runs_by : (u : Upshot) → runs (state_executed u) ≡ runs_on (outcome_by u)
-runs_by Steps = refl
-runs_by Asks = refl
-runs_by (Faults kind address) = refl
-
 of_running : (s : ProcessState) → runs s ≡ true → s ≡ state.Running
 of_running state.Running is = refl
 of_running (state.Exited code) is = cc
 of_running (state.Faulted kind address) is = cc
 
-slot_by : (old new : Option Process) (most : ℕ) (o : Outcome) → option_map_or (λ (p : Process). runs p.state) old false ≡ true
-    → o ≡ outcome_by (last_upshot most old) → new ≡ option_map (all_executed most) old
-    → option_map_or (λ (p : Process). runs p.state) new false ≡ runs_on o
-slot_by None new most o run came is = cc
-slot_by (Some now) new most o run came is =
-    ap (λ (found : Option Process). option_map_or (λ (p : Process). runs p.state) found false) is
-    ∙ ap runs (state_after most now (of_running now.state run)) ∙ runs_by (executions most now).upshot ∙ sym (ap runs_on came)
+runs_by : (u : Upshot) → runs (state_executed u) ≡ runs_on (outcome_by u)
+runs_by Steps = refl
+runs_by Asks = refl
+runs_by (Faults kind address) = refl
 
-whole_runs : (slot : Option (Box Slot)) → slot_runs slot ≡ option_map_or (λ (p : Process). runs p.state) (slot_whole slot) false
-whole_runs None = refl
-whole_runs (Some slot) = by_test slot.value.taken
-  where
-    by_test : (b : Bool) → option_map_or (λ (p : declared.Process). runs p.state) (cond b (Some slot.value.guest.process) None) false
-        ≡ option_map_or (λ (p : Process). runs p.state) (cond b (Some (process_of slot.value.guest)) None) false
-    by_test true = refl
-    by_test false = refl
+module _ (p : ℕ) where
+  runs_after_one : (guest : Guest) → guest.process.state ≡ state.Running → runs (executed p guest).process.state ≡ runs_on (outcome_of p guest)
+  runs_after_one guest running = by_test (is_full p guest)
+    where
+      by_test : (b : Bool) → runs (cond b guest (guest_executed p guest)).process.state
+          ≡ runs_on (cond b (outcome.Full (units_needed p guest) (limit_of guest.frames)) (outcome_by (execution_of guest.process).upshot))
+      by_test true = ap runs running
+      by_test false = runs_by (execution_of guest.process).upshot
 
-pub slot_after : (old new : Slots) (p most : ℕ) (o : Outcome) → slot_runs (slot_at old p) ≡ true → IsChanged (all_executed most) old new p
-    → o ≡ outcome_by (last_upshot most (slot_whole (slot_at old p))) → slot_runs (slot_at new p) ≡ runs_on o
-slot_after old new p most o run changed came =
-    whole_runs (slot_at new p)
-    ∙ slot_by (slot_whole (slot_at old p)) (slot_whole (slot_at new p)) most o (sym (whole_runs (slot_at old p)) ∙ run) came changed.here
+  -- one that took a step runs
+  pub still_runs : (now next : Guest) → now.process.state ≡ state.Running → outcome.Stepped ≡ outcome_of p now → next ≡ executed p now → next.process.state ≡ state.Running
+  still_runs now next running stepped moved =
+      of_running next.process.state (ap (λ (g : Guest). runs g.process.state) moved ∙ runs_after_one now running ∙ sym (ap runs_on stepped))
+
+  runs_first : (o : Outcome) (now next : Guest) (others : Executions) → runs next.process.state ≡ runs_on o
+      → (runs next.process.state ≡ true → runs others.after.process.state ≡ runs_on others.outcome)
+      → runs (first_execution o now next others).after.process.state ≡ runs_on (first_execution o now next others).outcome
+  runs_first outcome.Stepped now next others is rest = rest is
+  runs_first outcome.Asked now next others is rest = is
+  runs_first (outcome.Fault kind address) now next others is rest = is
+  runs_first (outcome.Full units limit) now next others is rest = is
+
+  pub runs_after : (most : ℕ) (now : Guest) → runs now.process.state ≡ true → runs (executions p most now).after.process.state ≡ runs_on (executions p most now).outcome
+  runs_after zero now running = running
+  runs_after (suc most) now running =
+      runs_first (outcome_of p now) now (executed p now) (executions p most (executed p now)) (runs_after_one now (of_running now.process.state running))
+      (λ is. runs_after most (executed p now) is)
+
+  guest_runs : (o : Option declared.Process) (spaces : State) → option_map_or (λ (process : declared.Process). runs process.state) o false
+      ≡ option_map_or (λ (guest : Guest). runs guest.process.state) (option_map (guest_in p spaces) o) false
+  guest_runs None spaces = refl
+  guest_runs (Some process) spaces = refl
+
+  slot_by : (old new : Option Guest) (most : ℕ) (o : Outcome) → option_map_or (λ (g : Guest). runs g.process.state) old false ≡ true
+      → o ≡ last_outcome p most old → new ≡ option_map (all_executed p most) old
+      → option_map_or (λ (g : Guest). runs g.process.state) new false ≡ runs_on o
+  slot_by None new most o run came is = cc
+  slot_by (Some now) new most o run came is =
+      ap (λ (found : Option Guest). option_map_or (λ (g : Guest). runs g.process.state) found false) is
+      ∙ runs_after most now run ∙ sym (ap runs_on came)
+
+  pub slot_after : (old new : Slots) (before after : State) (most : ℕ) (o : Outcome) → slot_runs (slot_at old p) ≡ true → IsChanged (all_executed p most) p old new before after
+      → o ≡ last_outcome p most (slot_guest p before (slot_at old p)) → slot_runs (slot_at new p) ≡ runs_on o
+  slot_after old new before after most o run changed came =
+      guest_runs (slot_process (slot_at new p)) after
+      ∙ slot_by (slot_guest p before (slot_at old p)) (slot_guest p after (slot_at new p)) most o (sym (guest_runs (slot_process (slot_at old p)) before) ∙ run) came changed.here
 
 -- The list of running numbers, where one still runs and where one has ended.
 pub list_kept : (old new : Slots) (running : Vec ℕ) (p : ℕ) → IsRunningList old running → slot_runs (slot_at old p) ≡ true

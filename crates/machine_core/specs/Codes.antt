@@ -3,11 +3,13 @@ use Rattle.std.specs.Coded.{Coded, code_by, coded×, coded_ℕ, coded_list}
 use Rattle.std.specs.Ordering.{nat_cmp}
 use Rattle.std.specs.FinMap.{FinMap, code}
 use Rattle.ovl_io.specs.Memory.{Memory, Page}
+use Rattle.overlay_pages.specs.Codes as pages
+use Rattle.overlay_pages.specs.View.{MemoryView}
 use Rattle.machine_core.specs.Machine.{Machine}
 use Rattle.machine_core.specs.declared.process.Process as declared
 use Rattle.machine_core.specs.contracts.process.Process as process
 
--- How pages, memories and processes are told apart as values: by their parts.
+-- How pages, memories and machines are told apart as values: by their parts.
 
 abbrev pub page_code : Coded Page
 page_code = code_by (ℕ × List ℕ) (coded× coded_ℕ (coded_list coded_ℕ)) (λ p. (p.perms, p.bytes)) (λ t. record { perms = t.0; bytes = t.1 }) (λ _. refl)
@@ -17,6 +19,6 @@ memory_code = code coded_ℕ page_code
 
 abbrev pub machine_code : Coded Machine
 machine_code =
-    code_by (FinMap nat_cmp Memory × FinMap nat_cmp declared.Process)
-    (coded× (code coded_ℕ memory_code) (code coded_ℕ process.the_row.coded))
-    (λ m. (m.spaces, m.processes)) (λ t. record { spaces = t.0; processes = t.1 }) (λ _. refl)
+    code_by (MemoryView × FinMap nat_cmp declared.Process)
+    (coded× pages.memory_code (code coded_ℕ process.the_row.coded))
+    (λ m. (m.memory, m.processes)) (λ t. record { memory = t.0; processes = t.1 }) (λ _. refl)

@@ -1,205 +1,397 @@
-use Rattle.std.specs.Prelude.{◌≡◌, ℕ, Bool, true, false, cond, List, [], ◌∷◌, Option, Some, None, refl, map}
+use Rattle.std.specs.Prelude.{◌≡◌, ℕ, zero, suc, ◌+◌, Bool, true, false, cond, List, [], ◌∷◌, Option, Some, None, refl, map}
 use Rattle.std.proofs.Common.{sym, ap, subst, ◌∙◌}
-use Rattle.std.specs.Option.{option_map, option_map_or, option_and_then}
-use Rattle.std.specs.List.{cons_option, filter_map}
-use Rattle.std.specs.Ordering.{nat_cmp, is_eq}
-use Rattle.std.specs.Cmp.{nat_cmp_total}
-use Rattle.ovl_io.specs.Keys.{tied, by_key, alike, get_same, get_other, insert_over, removed_same, removed_other}
-use Rattle.ovl_io.specs.Memory.{Memory}
-use Rattle.std.specs.FinMap.{FinMap, find, get, insert, remove, entries, get-entries, get-from_entries}
+use Rattle.std.specs.Option.{option_map, option_map_or}
+use Rattle.std.specs.FinMap.{FinMap, get, insert, remove}
+use Rattle.std.specs.Ordering.{nat_cmp}
+use Rattle.number_maps.specs.Keys.{alike, by_key, get_same, insert_kept, insert_over}
+use Rattle.number_maps.specs.Views.{get_viewed, viewed, viewed_gone, viewed_put}
+use Rattle.ledger.specs.Ledger.{Ledger}
+use Rattle.ledger.specs.Alike.{AreAlike}
+use Rattle.ledger.specs.AlikeLaws.{alike_itself, alike_chain}
+use Rattle.ledger.specs.AlikeUnits.{alike_dropped, units_alike}
+use Rattle.ledger.specs.Events as event
+use Rattle.ledger.specs.RowLaws.{alike_after}
+use Rattle.ledger.specs.Touched.{touched}
+use Rattle.ledger.specs.Units.{units}
+use Rattle.overlay_pages.specs.State.{SpaceState, State, books, cut_space, memory_of, seen_page, space_in}
+use Rattle.overlay_pages.specs.StateLaws.{ledger_without, space_left}
 use Rattle.machine_core.specs.declared.process.Process as declared
 use Rattle.ovl_io.specs.declared.process_state.ProcessState.TheVariants as state
 use Rattle.ovl_io.specs.declared.turn.Turn.{Turn}
-use Rattle.ovl_io.specs.declared.turn.Turn.TheVariants.{Stepped, Faulted}
+use Rattle.ovl_io.specs.declared.turn.Turn.TheVariants as turn
 use Rattle.rv_execute.specs.declared.outcome.Outcome.{Outcome}
 use Rattle.rv_execute.specs.declared.outcome.Outcome.TheVariants as outcome
 use Rattle.rv_execute.specs.Calls.{access_of}
-use Rattle.rv_execute.specs.Execution.{Upshot, Steps, Asks, Faults, outcome_by}
-use Rattle.rv_execute.specs.Step.{request, turned}
+use Rattle.rv_execute.specs.Execution.{Execution, Upshot, Steps, Asks, Faults, outcome_by}
+use Rattle.rv_execute.specs.Step.{Request, request, turned}
 use Rattle.machine_core.specs.Process.{Process, runs}
-use Rattle.machine_core.specs.Machine.{Machine, Processes, shown_process, with_process_at, without_process_at, without_space_at, with_whole_at, whole, whole_at, wholes, AnswersAs, LeadsTo, is_running, execution_of, executed, state_executed, came_to, after_execution, after_request, after_step, step_of, process_after, request_of, turn_of, after_turn, turn_asked, after_asked}
+use Rattle.machine_core.specs.Machine.{AnswersAs, AreLike, IsDropped, LeadsTo, Machine, Processes, Wholes, is_running, limit_of, processes_of, spaces_of, whole_in, wholes, with_process_at, without_pages, without_process, without_process_at}
+use Rattle.machine_core.specs.Turns.{Guest, asked_found, after_asked, after_execution, after_request, after_step, after_turn, came_to, exceeds, executed, execution_of, guest_after, guest_answered, guest_at, guest_executed, guest_of, is_full, ledger_executed, ledger_stored, outcome_found, outcome_of, process_after, process_executed, request_of, state_executed, step_of, store_of, turn_asked, turn_in, turn_of, units_needed, with_guest}
+use Rattle.machine_core.specs.Executions.{Executions, after_executions, all_executed, came_to_last, executions, first_execution, last_outcome, steps_of, steps_to}
+use Rattle.machine_core.specs.Play.{after_number, run_over}
 
--- What the wholes have, and a turn by its two parts.
+-- What the copying machine has of a machine, what states that differ in the numbers of origins alone have in common, and a turn by
+-- its two parts.
 
-without : (o : Option declared.Process) → option_and_then (λ process. option_map (whole process) None) o ≡ None
-without None = refl
-without (Some found) = refl
+pub processes_at : (machine : Machine) (q : ℕ) → get (processes_of machine) q ≡ option_map (whole_in (spaces_of machine) q) (get machine.processes q)
+unfolding processes_of
+processes_at machine q = get_viewed (λ p process. whole_in (spaces_of machine) p process) machine.processes q
 
--- the wholes of an entry and of those behind it
-first_whole : (spaces : FinMap nat_cmp Memory) (q : ℕ) (e : ℕ × declared.Process) (es : List (ℕ × declared.Process))
-    → find nat_cmp q (filter_map (λ e. option_map (λ memory. (e.0, whole e.1 memory)) (get spaces e.0)) es)
-    ≡ option_and_then (λ process. option_map (whole process) (get spaces q)) (find nat_cmp q es)
-    → find nat_cmp q (filter_map (λ e. option_map (λ memory. (e.0, whole e.1 memory)) (get spaces e.0)) (e ∷ es))
-    ≡ option_and_then (λ process. option_map (whole process) (get spaces q)) (find nat_cmp q (e ∷ es))
-first_whole spaces q e es others = by_test (is_eq (nat_cmp q e.0)) refl (get spaces e.0) refl
+-- the whole process of a space is that of its pages and its mark
+memory_by : (x y : State) (q : ℕ) → space_in x q ≡ space_in y q → memory_of x q ≡ memory_of y q
+unfolding memory_of
+memory_by x y q same = ap (λ (s : SpaceState). viewed (λ _ x. seen_page x) s.pages) same
+
+pub whole_by : (x y : State) (q : ℕ) → space_in x q ≡ space_in y q → (process : declared.Process) → whole_in x q process ≡ whole_in y q process
+whole_by x y q same process =
+    let memory = memory_by x y q same in
+    let mark = ap (λ (s : SpaceState). s.speculating) same in
+    λ i. record { registers = process.regs; state = process.state; memory = memory i; speculating = mark i }
+
+-- a process put, and taken away
+pub processes_with : (machine : Machine) (p : ℕ) (process : declared.Process)
+    → processes_of (with_process_at machine p process) ≡ insert (processes_of machine) p (whole_in (spaces_of machine) p process)
+unfolding processes_of
+processes_with machine p process = viewed_put (λ q process. whole_in (spaces_of machine) q process) machine.processes p process
+
+pub wholes_without : (machine : Machine) (p : ℕ) → wholes (without_process_at machine p) ≡ without_process p (wholes machine)
+unfolding processes_of
+wholes_without machine p =
+    let gone = viewed_gone (λ q process. whole_in (spaces_of machine) q process) machine.processes p in
+    ap (λ (ps : Processes). record { processes = ps; ledger = (wholes machine).ledger; frames = (wholes machine).frames }) gone
+
+-- whether a process runs, by what is kept of it
+pub runs_shown : (machine : Machine) (q : ℕ) → is_running (wholes machine) q ≡ option_map_or (λ (process : declared.Process). runs process.state) (get machine.processes q) false
+runs_shown machine q =
+    ap (λ (o : Option Process). option_map_or (λ (process : Process). runs process.state) o false) (processes_at machine q) ∙ by_process (get machine.processes q)
   where
-    rest : List (ℕ × Process)
-    rest = filter_map (λ e. option_map (λ memory. (e.0, whole e.1 memory)) (get spaces e.0)) es
+    by_process : (o : Option declared.Process) → option_map_or (λ (process : Process). runs process.state) (option_map (whole_in (spaces_of machine) q) o) false
+        ≡ option_map_or (λ (process : declared.Process). runs process.state) o false
+    by_process None = refl
+    by_process (Some process) = refl
 
-    of_found : Option declared.Process → Option Process
-    of_found found = option_and_then (λ process. option_map (whole process) (get spaces q)) found
+-- a space without a process given up
+pub wholes_dropped : (p : ℕ) (old new : Machine) → get old.processes p ≡ None → IsDropped p old new → wholes new ≡ without_pages p (wholes old)
+unfolding cut_space
+wholes_dropped p old new absent dropped =
+    let processes : processes_of new ≡ processes_of old = alike _ _ (λ q. processes_at new q
+    ∙ ap (λ (m : FinMap nat_cmp declared.Process). option_map (whole_in (spaces_of new) q) (get m q)) dropped.processes
+    ∙ by_key q p
+    (λ same. ap (option_map (whole_in (spaces_of new) q)) (ap (get old.processes) same ∙ absent)
+    ∙ sym (ap (option_map (whole_in (spaces_of old) q)) (ap (get old.processes) same ∙ absent)))
+    (λ other. by_process q other (get old.processes q))
+    ∙ sym (processes_at old q)) in
+    let ledger : books (spaces_of new) ≡ remove (books (spaces_of old)) p = ap books dropped.spaces ∙ ledger_without (spaces_of old) p in
+    let frames : (spaces_of new).frames ≡ (spaces_of old).frames = ap (λ (s : State). s.frames) dropped.spaces in
+    λ i. record { processes = processes i; ledger = ledger i; frames = frames i }
+  where
+    by_process : (q : ℕ) → (q ≡ p → ⊥) → (o : Option declared.Process) → option_map (whole_in (spaces_of new) q) o ≡ option_map (whole_in (spaces_of old) q) o
+    by_process q other None = refl
+    by_process q other (Some process) =
+        ap Some (whole_by (spaces_of new) (spaces_of old) q (ap (λ (s : State). space_in s q) dropped.spaces ∙ space_left (spaces_of old) p q other) process)
 
-    by_test : (b : Bool) → is_eq (nat_cmp q e.0) ≡ b → (o : Option Memory) → get spaces e.0 ≡ o
-        → find nat_cmp q (cons_option (option_map (λ memory. (e.0, whole e.1 memory)) o) rest)
-        ≡ of_found (cond (is_eq (nat_cmp q e.0)) (Some e.1) (find nat_cmp q es))
-    by_test true h (Some memory) has =
-        ap (λ b. cond b (Some (whole e.1 memory)) (find nat_cmp q rest)) h
-        ∙ sym (ap (λ (o : Option Memory). option_map (whole e.1) o) (ap (get spaces) (tied q e.0 h) ∙ has))
-        ∙ sym (ap (λ b. of_found (cond b (Some e.1) (find nat_cmp q es))) h)
-    by_test true h None has =
-        let none : get spaces q ≡ None = ap (get spaces) (tied q e.0 h) ∙ has in
-        others
-        ∙ ap (λ (o : Option Memory). option_and_then (λ process. option_map (whole process) o) (find nat_cmp q es)) none
-        ∙ without (find nat_cmp q es)
-        ∙ sym (ap (λ (o : Option Memory). option_map (whole e.1) o) none)
-        ∙ sym (ap (λ b. of_found (cond b (Some e.1) (find nat_cmp q es))) h)
-    by_test false h (Some memory) has =
-        ap (λ b. cond b (Some (whole e.1 memory)) (find nat_cmp q rest)) h
-        ∙ others
-        ∙ sym (ap (λ b. of_found (cond b (Some e.1) (find nat_cmp q es))) h)
-    by_test false h None has = others ∙ sym (ap (λ b. of_found (cond b (Some e.1) (find nat_cmp q es))) h)
+-- States that are like each other.
 
-found_whole : (spaces : FinMap nat_cmp Memory) (q : ℕ) (es : List (ℕ × declared.Process))
-    → find nat_cmp q (filter_map (λ e. option_map (λ memory. (e.0, whole e.1 memory)) (get spaces e.0)) es)
-    ≡ option_and_then (λ process. option_map (whole process) (get spaces q)) (find nat_cmp q es)
-found_whole spaces q [] = refl
-found_whole spaces q (e ∷ es) = first_whole spaces q e es (found_whole spaces q es)
+pub like_itself : (a : Wholes) → AreLike a a
+like_itself a = record { processes = refl; ledger = alike_itself a.ledger; frames = refl }
 
--- what the wholes have
-pub wholes_at : (machine : Machine) (q : ℕ) → get (wholes machine) q ≡ whole_at machine q
-unfolding wholes
-wholes_at machine q =
-    get-from_entries nat_cmp_total _ q ∙ found_whole machine.spaces q (entries machine.processes)
-    ∙ ap (option_and_then (λ process. option_map (whole process) (get machine.spaces q))) (sym (get-entries machine.processes q))
+pub like_chain : (a b c : Wholes) → AreLike a b → AreLike b c → AreLike a c
+like_chain a b c h k = record {
+  processes = h.processes ∙ k.processes;
+  ledger = alike_chain a.ledger b.ledger c.ledger h.ledger k.ledger;
+  frames = h.frames ∙ k.frames;
+}
 
--- a process's whole, put, changed and taken away
-pub wholes_with_process : (machine : Machine) (p : ℕ) (process : declared.Process) (memory : Memory) → get machine.spaces p ≡ Some memory
-    → wholes (with_process_at machine p process) ≡ insert (wholes machine) p (whole process memory)
-wholes_with_process machine p process memory there = alike _ _ (λ q. by_key q p
-    (λ same. wholes_at (with_process_at machine p process) q
-    ∙ ap (λ (o : Option declared.Process). option_and_then (λ process. option_map (whole process) (get machine.spaces q)) o) (get_same machine.processes p q process same)
-    ∙ ap (λ (o : Option Memory). option_map (whole process) o) (ap (get machine.spaces) same ∙ there)
-    ∙ sym (get_same (wholes machine) p q (whole process memory) same))
-    (λ other. wholes_at (with_process_at machine p process) q
-    ∙ ap (λ (o : Option declared.Process). option_and_then (λ process. option_map (whole process) (get machine.spaces q)) o) (get_other machine.processes p q process other)
-    ∙ sym (wholes_at machine q) ∙ sym (get_other (wholes machine) p q (whole process memory) other)))
+-- what holds of a machine's own state holds of each that it stands for
+pub answers : {Answer : Type 0} (f : Wholes → Answer) (machine : Machine) (result : Answer) → ((a b : Wholes) → AreLike a b → f a ≡ f b)
+    → result ≡ f (wholes machine) → AnswersAs f machine result
+answers f machine result same is state stands = is ∙ same (wholes machine) state stands
 
-pub wholes_without_process : (machine : Machine) (p : ℕ) → wholes (without_process_at machine p) ≡ remove (wholes machine) p
-wholes_without_process machine p = alike _ _ (λ q. by_key q p
-    (λ same. wholes_at (without_process_at machine p) q
-    ∙ ap (λ (o : Option declared.Process). option_and_then (λ process. option_map (whole process) (get machine.spaces q)) o) (removed_same machine.processes p q same)
-    ∙ sym (removed_same (wholes machine) p q same))
-    (λ other. wholes_at (without_process_at machine p) q
-    ∙ ap (λ (o : Option declared.Process). option_and_then (λ process. option_map (whole process) (get machine.spaces q)) o) (removed_other machine.processes p q other)
-    ∙ sym (wholes_at machine q) ∙ sym (removed_other (wholes machine) p q other)))
+pub leads : (f : Wholes → Wholes) (old new : Machine) → ((a b : Wholes) → AreLike a b → AreLike (f a) (f b)) → wholes new ≡ f (wholes old) → LeadsTo f old new
+leads f old new like is state stands = subst (λ (a : Wholes). AreLike a (f state)) (sym is) (like (wholes old) state stands)
 
-pub wholes_without_space : (machine : Machine) (p : ℕ) → get machine.processes p ≡ None → wholes (without_space_at machine p) ≡ wholes machine
-wholes_without_space machine p absent = alike _ _ (λ q. by_key q p
-    (λ same.
-    let none : get machine.processes q ≡ None = ap (get machine.processes) same ∙ absent in
-    wholes_at (without_space_at machine p) q
-    ∙ ap (λ (o : Option declared.Process). option_and_then (λ process. option_map (whole process) (get (without_space_at machine p).spaces q)) o) none
-    ∙ sym (ap (λ (o : Option declared.Process). option_and_then (λ process. option_map (whole process) (get machine.spaces q)) o) none)
-    ∙ sym (wholes_at machine q))
-    (λ other. wholes_at (without_space_at machine p) q
-    ∙ ap (λ (o : Option Memory). option_and_then (λ process. option_map (whole process) o) (get machine.processes q)) (removed_other machine.spaces p q other)
-    ∙ sym (wholes_at machine q)))
+-- the same where the new state is but like it
+pub leads_to : (f : Wholes → Wholes) (old new : Machine) → ((a b : Wholes) → AreLike a b → AreLike (f a) (f b)) → AreLike (wholes new) (f (wholes old)) → LeadsTo f old new
+leads_to f old new like is state stands = like_chain (wholes new) (f (wholes old)) (f state) is (like (wholes old) state stands)
 
-pub wholes_with_whole : (machine : Machine) (p : ℕ) (w : Process) → wholes (with_whole_at machine p w) ≡ insert (wholes machine) p w
-wholes_with_whole machine p w =
-    let made : Machine = with_whole_at machine p w in
-    alike _ _ (λ q. by_key q p
-    (λ same. wholes_at made q
-    ∙ ap (λ (o : Option declared.Process). option_and_then (λ (process : declared.Process). option_map (whole process) (get made.spaces q)) o) (get_same machine.processes p q (shown_process w) same)
-    ∙ ap (λ (o : Option Memory). option_map (whole (shown_process w)) o) (get_same machine.spaces p q w.memory same)
-    ∙ sym (get_same (wholes machine) p q w same))
-    (λ other. wholes_at made q
-    ∙ ap (λ (o : Option declared.Process). option_and_then (λ (process : declared.Process). option_map (whole process) (get made.spaces q)) o) (get_other machine.processes p q (shown_process w) other)
-    ∙ ap (λ (o : Option Memory). option_and_then (λ (process : declared.Process). option_map (whole process) o) (get machine.processes q)) (get_other machine.spaces p q w.memory other)
-    ∙ sym (wholes_at machine q) ∙ sym (get_other (wholes machine) p q w other)))
+-- what is read off the processes alone
+pub of_processes : {Answer : Type 0} (f : Processes → Answer) (a b : Wholes) → AreLike a b → f a.processes ≡ f b.processes
+of_processes f a b like = ap f like.processes
 
--- what holds of the wholes holds of each state that the machine stands for
-pub answers : {Answer : Type 0} (f : Processes → Answer) (machine : Machine) (result : Answer) → result ≡ f (wholes machine) → AnswersAs f machine result
-answers f machine result is state stands = is ∙ ap f stands
+pub like_without : (p : ℕ) (a b : Wholes) → AreLike a b → AreLike (without_process p a) (without_process p b)
+like_without p a b like = record { processes = ap (λ (ps : Processes). remove ps p) like.processes; ledger = like.ledger; frames = like.frames }
 
-pub leads : (f : Processes → Processes) (old new : Machine) → wholes new ≡ f (wholes old) → LeadsTo f old new
-leads f old new is state stands = is ∙ ap f stands
+pub like_without_pages : (p : ℕ) (a b : Wholes) → AreLike a b → AreLike (without_pages p a) (without_pages p b)
+like_without_pages p a b like = record { processes = like.processes; ledger = alike_dropped a.ledger b.ledger like.ledger p; frames = like.frames }
+
+-- processes in their places
+pub record AreLikeGuests (a b : Guest) : Type 0 where
+  pub process : a.process ≡ b.process
+  pub ledger : AreAlike a.ledger b.ledger
+  pub frames : a.frames ≡ b.frames
+
+alike_stored : (p : ℕ) (speculating : Bool) (store : Option (ℕ × ℕ)) (k l : Ledger) → AreAlike k l → AreAlike (ledger_stored p speculating store k) (ledger_stored p speculating store l)
+alike_stored p speculating None k l alike = alike
+alike_stored p speculating (Some store) k l alike = alike_after (event.Store speculating p (touched store.0 store.1)) k l alike
+
+pub like_ledger : (p : ℕ) (a b : Guest) → AreLikeGuests a b → AreAlike (ledger_executed p a) (ledger_executed p b)
+unfolding ledger_executed
+like_ledger p a b like =
+    subst (λ (process : Process). AreAlike (ledger_stored p a.process.speculating (store_of a.process) a.ledger) (ledger_stored p process.speculating (store_of process) b.ledger)) like.process
+    (alike_stored p a.process.speculating (store_of a.process) a.ledger b.ledger like.ledger)
+
+pub like_needed : (p : ℕ) (a b : Guest) → AreLikeGuests a b → units_needed p a ≡ units_needed p b
+like_needed p a b like = units_alike (ledger_executed p a) (ledger_executed p b) (like_ledger p a b like)
+
+pub like_full : (p : ℕ) (a b : Guest) → AreLikeGuests a b → is_full p a ≡ is_full p b
+unfolding is_full
+like_full p a b like =
+    ap (λ n. exceeds (store_of a.process) n (limit_of a.frames)) (like_needed p a b like)
+    ∙ ap (λ (process : Process). exceeds (store_of process) (units_needed p b) (limit_of a.frames)) like.process
+    ∙ ap (λ n. exceeds (store_of b.process) (units_needed p b) (limit_of n)) like.frames
+
+pub like_outcome : (p : ℕ) (a b : Guest) → AreLikeGuests a b → outcome_of p a ≡ outcome_of p b
+like_outcome p a b like =
+    ap (λ f. cond f (outcome.Full (units_needed p a) (limit_of a.frames)) (outcome_by (execution_of a.process).upshot)) (like_full p a b like)
+    ∙ ap (λ n. cond (is_full p b) (outcome.Full n (limit_of a.frames)) (outcome_by (execution_of a.process).upshot)) (like_needed p a b like)
+    ∙ ap (λ n. cond (is_full p b) (outcome.Full (units_needed p b) (limit_of n)) (outcome_by (execution_of a.process).upshot)) like.frames
+    ∙ ap (λ (process : Process). cond (is_full p b) (outcome.Full (units_needed p b) (limit_of b.frames)) (outcome_by (execution_of process).upshot)) like.process
+
+pub like_turn_in : (p : ℕ) (a b : Guest) → AreLikeGuests a b → turn_in p a ≡ turn_in p b
+like_turn_in p a b like =
+    ap (λ f. cond f (turn.Full (units_needed p a) (limit_of a.frames)) (step_of p a.process).turn) (like_full p a b like)
+    ∙ ap (λ n. cond (is_full p b) (turn.Full n (limit_of a.frames)) (step_of p a.process).turn) (like_needed p a b like)
+    ∙ ap (λ n. cond (is_full p b) (turn.Full (units_needed p b) (limit_of n)) (step_of p a.process).turn) like.frames
+    ∙ ap (λ (process : Process). cond (is_full p b) (turn.Full (units_needed p b) (limit_of b.frames)) (step_of p process).turn) like.process
+
+like_cond : (c d : Bool) (a b x y : Guest) → c ≡ d → AreLikeGuests a b → AreLikeGuests x y → AreLikeGuests (cond c a x) (cond d b y)
+like_cond true true a b x y e h k = h
+like_cond false false a b x y e h k = k
+like_cond true false a b x y e h k = cc
+like_cond false true a b x y e h k = cc
+
+pub like_executed : (p : ℕ) (a b : Guest) → AreLikeGuests a b → AreLikeGuests (executed p a) (executed p b)
+like_executed p a b like =
+    like_cond (is_full p a) (is_full p b) a b (guest_executed p a) (guest_executed p b) (like_full p a b like) like
+    (record { process = ap process_executed like.process; ledger = like_ledger p a b like; frames = like.frames })
+
+pub like_after : (p : ℕ) (a b : Guest) → AreLikeGuests a b → AreLikeGuests (guest_after p a) (guest_after p b)
+like_after p a b like =
+    like_cond (is_full p a) (is_full p b) a b _ _ (like_full p a b like) like
+    (record { process = ap (process_after p) like.process; ledger = like_ledger p a b like; frames = like.frames })
+
+pub like_answered : (p : ℕ) (a b : Guest) → AreLikeGuests a b → AreLikeGuests (guest_answered p a) (guest_answered p b)
+like_answered p a b like =
+    record { process = ap (λ (process : Process). after_request process.memory process.speculating (request_of p process)) like.process; ledger = like.ledger; frames = like.frames }
+
+-- executions one after the other
+pub record AreLikeExecutions (a b : Executions) : Type 0 where
+  pub steps : a.steps ≡ b.steps
+  pub before : AreLikeGuests a.before b.before
+  pub outcome_is : a.outcome ≡ b.outcome
+  pub after : AreLikeGuests a.after b.after
+
+like_first : (o : Outcome) (a b x y : Guest) (r s : Executions) → AreLikeGuests a b → AreLikeGuests x y → AreLikeExecutions r s
+    → AreLikeExecutions (first_execution o a x r) (first_execution o b y s)
+like_first outcome.Stepped a b x y r s h k more = record { steps = ap (λ n. n + 1) more.steps; before = more.before; outcome_is = more.outcome_is; after = more.after }
+like_first outcome.Asked a b x y r s h k more = record { steps = refl; before = h; outcome_is = refl; after = k }
+like_first (outcome.Fault kind address) a b x y r s h k more = record { steps = refl; before = h; outcome_is = refl; after = k }
+like_first (outcome.Full units limit) a b x y r s h k more = record { steps = refl; before = h; outcome_is = refl; after = k }
+
+pub like_executions : (p most : ℕ) (a b : Guest) → AreLikeGuests a b → AreLikeExecutions (executions p most a) (executions p most b)
+like_executions p zero a b like = record { steps = refl; before = like; outcome_is = refl; after = like }
+like_executions p (suc most) a b like =
+    subst (λ o. AreLikeExecutions (executions p (suc most) a) (first_execution o b (executed p b) (executions p most (executed p b)))) (like_outcome p a b like)
+    (like_first (outcome_of p a) a b (executed p a) (executed p b) _ _ like (like_executed p a b like)
+    (like_executions p most (executed p a) (executed p b) (like_executed p a b like)))
+
+-- of a process that may be there
+module _ (p : ℕ) (a b : Wholes) (like : AreLike a b) where
+  at_both : {X : Type 0} (f : Guest → X) (d : X) → ((g h : Guest) → AreLikeGuests g h → f g ≡ f h)
+      → option_map_or f (guest_at a p) d ≡ option_map_or f (guest_at b p) d
+  at_both {X = X} f d same = by_found (get a.processes p) ∙ ap (λ (o : Option Process). option_map_or f (option_map (guest_of b) o) d) (ap (λ (ps : Processes). get ps p) like.processes)
+    where
+      by_found : (o : Option Process) → option_map_or f (option_map (guest_of a) o) d ≡ option_map_or f (option_map (guest_of b) o) d
+      by_found None = refl
+      by_found (Some process) = same (guest_of a process) (guest_of b process) (record { process = refl; ledger = like.ledger; frames = like.frames })
+
+  after_both : (f : Guest → Guest) → ((g h : Guest) → AreLikeGuests g h → AreLikeGuests (f g) (f h))
+      → AreLike (option_map_or (λ guest. with_guest a p (f guest)) (guest_at a p) a) (option_map_or (λ guest. with_guest b p (f guest)) (guest_at b p) b)
+  after_both f same =
+      subst (λ (o : Option Process). AreLike (option_map_or (λ guest. with_guest a p (f guest)) (guest_at a p) a) (option_map_or (λ guest. with_guest b p (f guest)) (option_map (guest_of b) o) b))
+      (ap (λ (ps : Processes). get ps p) like.processes) (by_found (get a.processes p))
+    where
+      by_found : (o : Option Process)
+          → AreLike (option_map_or (λ guest. with_guest a p (f guest)) (option_map (guest_of a) o) a) (option_map_or (λ guest. with_guest b p (f guest)) (option_map (guest_of b) o) b)
+      by_found None = like
+      by_found (Some process) =
+          let more = same (guest_of a process) (guest_of b process) (record { process = refl; ledger = like.ledger; frames = like.frames }) in
+          record {
+            processes = ap (λ (ps : Processes). insert ps p (f (guest_of a process)).process) like.processes ∙ ap (insert b.processes p) more.process;
+            ledger = more.ledger;
+            frames = more.frames;
+          }
+
+  pub like_steps : (most : ℕ) → steps_to most a p ≡ steps_to most b p
+  like_steps most = at_both (λ guest. (executions p most guest).steps) 0 (λ g h k. (like_executions p most g h k).steps)
+
+  pub like_came : (most : ℕ) → came_to_last most a p ≡ came_to_last most b p
+  like_came most = at_both (λ guest. (executions p most guest).outcome) outcome.Stepped (λ g h k. (like_executions p most g h k).outcome_is)
+
+  pub like_after_executions : (most : ℕ) → AreLike (after_executions most a p) (after_executions most b p)
+  like_after_executions most = after_both (all_executed p most) (λ g h k. (like_executions p most g h k).after)
+
+  pub like_asked : turn_asked a p ≡ turn_asked b p
+  like_asked = at_both (λ guest. (request_of p guest.process).turn) turn.Stepped (λ g h k. ap (λ (process : Process). (request_of p process).turn) k.process)
+
+  pub like_after_asked : AreLike (after_asked a p) (after_asked b p)
+  like_after_asked = after_both (guest_answered p) (like_answered p)
+
+  pub like_turn : turn_of a p ≡ turn_of b p
+  like_turn = at_both (turn_in p) turn.Stepped (like_turn_in p)
+
+  pub like_after_turn : AreLike (after_turn a p) (after_turn b p)
+  like_after_turn = after_both (guest_after p) (like_after p)
+
+  pub like_running : is_running a p ≡ is_running b p
+  like_running = ap (λ (ps : Processes). option_map_or (λ (process : Process). runs process.state) (get ps p) false) like.processes
+
+like_either : (c d : Bool) (a b x y : Wholes) → c ≡ d → AreLike a b → AreLike x y → AreLike (cond c a x) (cond d b y)
+like_either true true a b x y e h k = h
+like_either false false a b x y e h k = k
+like_either true false a b x y e h k = cc
+like_either false true a b x y e h k = cc
+
+pub like_number : (p : ℕ) (a b : Wholes) → AreLike a b → AreLike (after_number p a) (after_number p b)
+like_number p a b like = like_either (is_running a p) (is_running b p) _ _ a b (like_running p a b like) (like_after_turn p a b like) like
+
+pub like_run : (turns : List ℕ) (a b : Wholes) → AreLike a b → AreLike (run_over turns a) (run_over turns b)
+like_run [] a b like = like
+like_run (p ∷ turns) a b like = like_run turns (after_number p a) (after_number p b) (like_number p a b like)
+
+-- A turn by its two parts.
 
 -- an execution that is no request is the whole turn
-pub record IsTurn (processes : Processes) (p : ℕ) (turn : Turn) : Type 0 where
-  pub turn_is : turn_of processes p ≡ turn
-  pub after_is : after_turn processes p ≡ after_execution processes p
+pub record IsTurn (state : Wholes) (p : ℕ) (turn : Turn) : Type 0 where
+  pub turn_is : turn_of state p ≡ turn
+  pub after_is : after_turn state p ≡ after_execution state p
 
 -- a request's turn is that of what it asks for
-pub record IsRequest (processes : Processes) (p : ℕ) : Type 0 where
-  pub turn_is : turn_of processes p ≡ turn_asked (after_execution processes p) p
-  pub after_is : after_turn processes p ≡ after_asked (after_execution processes p) p
-  pub running : is_running (after_execution processes p) p ≡ true
+pub record IsRequest (state : Wholes) (p : ℕ) : Type 0 where
+  pub turn_is : turn_of state p ≡ turn_asked (after_execution state p) p
+  pub after_is : after_turn state p ≡ after_asked (after_execution state p) p
+  pub running : is_running (after_execution state p) p ≡ true
 
--- by the outcome of the execution; none is for want of units
-abbrev pub IsTurnOf : Processes → ℕ → Outcome → Type 0
-IsTurnOf processes p outcome.Stepped = IsTurn processes p Stepped
-IsTurnOf processes p outcome.Asked = IsRequest processes p
-IsTurnOf processes p (outcome.Fault kind address) = IsTurn processes p (Faulted kind address)
-IsTurnOf processes p (outcome.Full units limit) = ⊥
+-- one for which there aren't units enough changes nothing
+pub record IsFullTurn (state : Wholes) (p units limit : ℕ) : Type 0 where
+  pub turn_is : turn_of state p ≡ turn.Full units limit
+  pub after_is : after_turn state p ≡ state
+  pub kept : after_execution state p ≡ state
+
+-- by the outcome of the execution
+abbrev pub IsTurnOf : Wholes → ℕ → Outcome → Type 0
+IsTurnOf state p outcome.Stepped = IsTurn state p turn.Stepped
+IsTurnOf state p outcome.Asked = IsRequest state p
+IsTurnOf state p (outcome.Fault kind address) = IsTurn state p (turn.Faulted kind address)
+IsTurnOf state p (outcome.Full units limit) = IsFullTurn state p units limit
 
 -- of a process that is there
-turn_there : (processes : Processes) (p : ℕ) (process : Process) → get processes p ≡ Some process → turn_of processes p ≡ (step_of p process).turn
-turn_there processes p process there = ap (λ (o : Option Process). option_map_or (λ (q : Process). (step_of p q).turn) o Stepped) there
+module _ (all : Wholes) (p : ℕ) (process : Process) (there : get all.processes p ≡ Some process) where
+  abbrev guest : Guest
+  guest = guest_of all process
 
-after_there : (processes : Processes) (p : ℕ) (process : Process) → get processes p ≡ Some process → after_turn processes p ≡ insert processes p (process_after p process)
-after_there processes p process there = ap (λ (o : Option Process). option_map_or (λ (q : Process). insert processes p (process_after p q)) o processes) there
+  abbrev e : Execution
+  e = execution_of process
 
-executed_there : (processes : Processes) (p : ℕ) (process : Process) → get processes p ≡ Some process → after_execution processes p ≡ insert processes p (executed process)
-executed_there processes p process there = ap (λ (o : Option Process). option_map_or (λ (q : Process). insert processes p (executed q)) o processes) there
+  at_there : {X : Type 0} (f : Option Guest → X) → f (guest_at all p) ≡ f (Some guest)
+  at_there f = ap (λ (o : Option Process). f (option_map (guest_of all) o)) there
 
-upshot_there : (processes : Processes) (p : ℕ) (process : Process) → get processes p ≡ Some process → came_to processes p ≡ (execution_of process).upshot
-upshot_there processes p process there = ap (λ (o : Option Process). option_map_or (λ (q : Process). (execution_of q).upshot) o Steps) there
+  put_same : with_guest all p guest ≡ all
+  put_same = ap (λ (ps : Processes). record { processes = ps; ledger = all.ledger; frames = all.frames }) (insert_kept all.processes p process there)
 
-law_there : (u : Upshot) (processes : Processes) (p : ℕ) (process : Process) → get processes p ≡ Some process → came_to processes p ≡ u
-    → IsTurnOf processes p (outcome_by u)
-law_there Steps processes p process there is =
-    let e = execution_of process in
-    let said = sym (upshot_there processes p process there) ∙ is in
-    record {
-      turn_is = turn_there processes p process there ∙ ap (λ u. (turned p u e.registers e.memory (map access_of e.calls)).turn) said;
-      after_is = after_there processes p process there
-          ∙ ap (λ u. insert processes p (after_step (turned p u e.registers e.memory (map access_of e.calls)))) said
-          ∙ sym (executed_there processes p process there ∙ ap (λ u. insert processes p (record { registers = e.registers; state = state_executed u; memory = e.memory })) said);
-    }
-law_there (Faults kind address) processes p process there is =
-    let e = execution_of process in
-    let said = sym (upshot_there processes p process there) ∙ is in
-    record {
-      turn_is = turn_there processes p process there ∙ ap (λ u. (turned p u e.registers e.memory (map access_of e.calls)).turn) said;
-      after_is = after_there processes p process there
-          ∙ ap (λ u. insert processes p (after_step (turned p u e.registers e.memory (map access_of e.calls)))) said
-          ∙ sym (executed_there processes p process there ∙ ap (λ u. insert processes p (record { registers = e.registers; state = state_executed u; memory = e.memory })) said);
-    }
-law_there Asks processes p process there is =
-    let e = execution_of process in
-    let accesses = map access_of e.calls in
-    let said = sym (upshot_there processes p process there) ∙ is in
-    let left : Process = record { registers = e.registers; state = state.Running; memory = e.memory } in
-    let at : after_execution processes p ≡ insert processes p left =
-    executed_there processes p process there ∙ ap (λ u. insert processes p (record { registers = e.registers; state = state_executed u; memory = e.memory })) said in
-    let now : get (after_execution processes p) p ≡ Some left = ap (λ (ps : Processes). get ps p) at ∙ get_same processes p p left refl in
-    record {
-      turn_is = turn_there processes p process there ∙ ap (λ u. (turned p u e.registers e.memory accesses).turn) said
-          ∙ sym (ap (λ (o : Option Process). option_map_or (λ (q : Process). (request_of p q).turn) o Stepped) now);
-      after_is = after_there processes p process there
-          ∙ ap (λ u. insert processes p (after_step (turned p u e.registers e.memory accesses))) said
-          ∙ sym (insert_over processes p left (after_request e.memory (request p e.registers e.memory)))
-          ∙ ap (λ (ps : Processes). insert ps p (after_request e.memory (request p e.registers e.memory))) (sym at)
-          ∙ sym (ap (λ (o : Option Process). option_map_or (λ (q : Process). insert (after_execution processes p) p (after_request q.memory (request_of p q))) o (after_execution processes p)) now);
-      running = ap (λ (o : Option Process). option_map_or (λ (q : Process). runs q.state) o false) now;
-    }
+  turn_there : turn_of all p ≡ turn_in p guest
+  turn_there = at_there (λ o. option_map_or (turn_in p) o turn.Stepped)
+
+  after_there : after_turn all p ≡ with_guest all p (guest_after p guest)
+  after_there = at_there (λ o. option_map_or (λ g. with_guest all p (guest_after p g)) o all)
+
+  executed_there : after_execution all p ≡ with_guest all p (executed p guest)
+  executed_there = at_there (λ o. option_map_or (λ g. with_guest all p (executed p g)) o all)
+
+  -- where there aren't units enough
+  full_there : is_full p guest ≡ true → IsFullTurn all p (units_needed p guest) (limit_of all.frames)
+  full_there full = record {
+    turn_is = turn_there ∙ ap (λ b. cond b (turn.Full (units_needed p guest) (limit_of all.frames)) (step_of p process).turn) full;
+    after_is = after_there
+        ∙ ap (λ b. with_guest all p (cond b guest (record { process = process_after p process; ledger = ledger_executed p guest; frames = all.frames }))) full ∙ put_same;
+    kept = executed_there ∙ ap (λ b. with_guest all p (cond b guest (guest_executed p guest))) full ∙ put_same;
+  }
+
+  -- where there are, by what comes of the execution
+  module _ (enough : is_full p guest ≡ false) where
+    turn_by : (u : Upshot) → e.upshot ≡ u → turn_of all p ≡ (turned p u e.registers e.memory (map access_of e.calls)).turn
+    turn_by u is =
+        turn_there ∙ ap (λ b. cond b (turn.Full (units_needed p guest) (limit_of all.frames)) (step_of p process).turn) enough
+        ∙ ap (λ v. (turned p v e.registers e.memory (map access_of e.calls)).turn) is
+
+    left_by : Process → Wholes
+    left_by left = with_guest all p (record { process = left; ledger = ledger_executed p guest; frames = all.frames })
+
+    after_by : (u : Upshot) → e.upshot ≡ u
+        → after_turn all p ≡ left_by (after_step process.speculating (turned p u e.registers e.memory (map access_of e.calls)))
+    unfolding left_by
+    after_by u is =
+        after_there
+        ∙ ap (λ b. with_guest all p (cond b guest (record { process = process_after p process; ledger = ledger_executed p guest; frames = all.frames }))) enough
+        ∙ ap (λ v. left_by (after_step process.speculating (turned p v e.registers e.memory (map access_of e.calls)))) is
+
+    executed_by : (u : Upshot) → e.upshot ≡ u
+        → after_execution all p ≡ left_by (record { registers = e.registers; state = state_executed u; memory = e.memory; speculating = process.speculating })
+    unfolding left_by
+    executed_by u is =
+        executed_there ∙ ap (λ b. with_guest all p (cond b guest (guest_executed p guest))) enough
+        ∙ ap (λ v. left_by (record { registers = e.registers; state = state_executed v; memory = e.memory; speculating = process.speculating })) is
+
+    asked_there : (u : Upshot) → e.upshot ≡ u → u ≡ Asks → IsRequest all p
+    unfolding left_by
+    asked_there u is same =
+        let left : Process = record { registers = e.registers; state = state.Running; memory = e.memory; speculating = process.speculating } in
+        let now : after_execution all p ≡ left_by left = executed_by Asks (is ∙ same) in
+        let found : get (left_by left).processes p ≡ Some left = get_same all.processes p p left refl in
+        let asks : Request = request p e.registers e.memory in
+        record {
+          turn_is = turn_by Asks (is ∙ same)
+              ∙ sym (ap (λ (s : Wholes). turn_asked s p) now ∙ ap (λ (o : Option Process). asked_found p (option_map (guest_of (left_by left)) o)) found);
+          after_is = after_by Asks (is ∙ same)
+              ∙ sym (ap (λ (s : Wholes). after_asked s p) now
+              ∙ ap (λ (o : Option Process). option_map_or (λ g. with_guest (left_by left) p (guest_answered p g)) (option_map (guest_of (left_by left)) o) (left_by left)) found
+              ∙ ap (λ (ps : Processes). record { processes = ps; ledger = ledger_executed p guest; frames = all.frames })
+              (insert_over all.processes p left (after_request e.memory process.speculating asks)));
+          running = ap (λ (s : Wholes). is_running s p) now ∙ ap (λ (o : Option Process). option_map_or (λ (q : Process). runs q.state) o false) found;
+        }
+
+    enough_there : (u : Upshot) → e.upshot ≡ u → IsTurnOf all p (outcome_by u)
+    enough_there Steps is = record { turn_is = turn_by Steps is; after_is = after_by Steps is ∙ sym (executed_by Steps is) }
+    enough_there (Faults kind address) is =
+        record { turn_is = turn_by (Faults kind address) is; after_is = after_by (Faults kind address) is ∙ sym (executed_by (Faults kind address) is) }
+    enough_there Asks is = asked_there Asks is refl
+
+  came_there : came_to all p ≡ outcome_of p guest
+  came_there = at_there (outcome_found p)
+
+  law_there : (f : Bool) → is_full p guest ≡ f → IsTurnOf all p (cond f (outcome.Full (units_needed p guest) (limit_of all.frames)) (outcome_by e.upshot))
+  law_there true full = full_there full
+  law_there false enough = enough_there enough e.upshot refl
+
+  pub law_of : IsTurnOf all p (came_to all p)
+  law_of =
+      let shown = law_there (is_full p guest) refl in subst (IsTurnOf all p) (sym came_there) shown
 
 -- a turn is what the outcome of its execution says
-pub turn_law : (o : Outcome) (processes : Processes) (p : ℕ) → is_running processes p ≡ true → outcome_by (came_to processes p) ≡ o → IsTurnOf processes p o
-turn_law o processes p running is = subst (IsTurnOf processes p) is (by_process (get processes p) refl)
+pub turn_law : (o : Outcome) (all : Wholes) (p : ℕ) → is_running all p ≡ true → came_to all p ≡ o → IsTurnOf all p o
+turn_law o all p running is = subst (IsTurnOf all p) is (by_process (get all.processes p) refl)
   where
-    by_process : (found : Option Process) → get processes p ≡ found → IsTurnOf processes p (outcome_by (came_to processes p))
-    by_process (Some process) there = law_there (came_to processes p) processes p process there refl
+    by_process : (found : Option Process) → get all.processes p ≡ found → IsTurnOf all p (came_to all p)
+    by_process (Some process) there = law_of all p process there
     by_process None absent =
         let stopped = sym (ap (λ (o : Option Process). option_map_or (λ (q : Process). runs q.state) o false) absent) ∙ running in cc

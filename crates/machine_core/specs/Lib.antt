@@ -1,10 +1,13 @@
 pub mod Process
 pub mod Machine
+pub mod Turns
 pub mod Executions
+pub mod Play
 pub mod Codes
-pub mod Laws
+pub mod Access
 pub mod Load
-pub mod Kept
+pub mod Loading
+pub mod Laws
+pub mod LoadLaws
 pub mod Slots
 pub mod NumberLaws
-pub mod Play

@@ -1,166 +1,138 @@
-use Rattle.std.specs.Prelude.{◌≡◌, ℕ, nat_le, Bool, false, List, map, Option}
-use Rattle.std.specs.List.{filter, filter_map}
-use Rattle.std.specs.Option.{option_and_then, option_map, option_map_or}
+use Rattle.std.specs.Prelude.{◌≡◌, ℕ, ◌*◌, nat_le, Bool, true, false, List, map, Option, Some}
+use Rattle.std.specs.List.{filter}
+use Rattle.std.specs.Option.{is_some, option_map, option_map_or}
 use Rattle.std.specs.Ordering.{nat_cmp}
-use Rattle.std.specs.FinMap.{FinMap, get, insert, remove, entries, from_entries}
-use Rattle.ovl_io.specs.declared.process_state.ProcessState.{ProcessState}
-use Rattle.ovl_io.specs.declared.process_state.ProcessState.TheVariants as state
-use Rattle.ovl_io.specs.declared.turn.Turn.{Turn}
-use Rattle.ovl_io.specs.declared.turn.Turn.TheVariants.{Stepped, Wrote, Exited, Faulted, Full}
+use Rattle.std.specs.FinMap.{FinMap, get, insert, remove, entries}
+use Rattle.number_maps.specs.Views.{viewed}
+use Rattle.sizes.specs.declared.TheConstants.{FRAME_UNITS}
+use Rattle.ledger.specs.Ledger.{Ledger}
+use Rattle.ledger.specs.Alike.{AreAlike}
+use Rattle.overlay_pages.specs.State.{State, books, cut_space, holds_space, memory_of, space_in}
+use Rattle.overlay_pages.specs.View.{MemoryView, state_of}
+use Rattle.ovl_io.specs.Memory.{Memory}
 use Rattle.machine_core.specs.Process.{Process, runs}
 use Rattle.machine_core.specs.declared.process.Process as declared
-use Rattle.ovl_io.specs.Memory.{Memory}
-use Rattle.rv_execute.specs.Execution.{Execution, Upshot, Steps, Asks, Faults, execution}
-use Rattle.rv_execute.specs.Step.{Request, Step, request, step}
 
 -- Whole processes by number: each with a memory of its own.
 abbrev pub Processes : Type 0
 Processes = FinMap nat_cmp Process
 
--- The machine has spaces by number, each a memory, and processes by number, each with its registers and its state. A
--- process has the space of its own number.
+-- The copying machine: whole processes by number, with the ledger of the pages of all spaces, and how many frames there are.
+pub record Wholes : Type 0 where
+  pub processes : Processes
+  pub ledger : Ledger
+  pub frames : ℕ
+
+-- how many units there may be
+abbrev pub limit_of : ℕ → ℕ
+limit_of frames = FRAME_UNITS * frames
+
+-- The machine has the memories of spaces by number, and processes by number, each with its registers and its state. A process
+-- has the space of its own number.
 pub record Machine : Type 0 where
-  pub spaces : FinMap nat_cmp Memory
+  pub memory : MemoryView
   pub processes : FinMap nat_cmp declared.Process
+
+-- what its memories are, page by page
+abbrev pub spaces_of : Machine → State
+spaces_of machine = state_of machine.memory
+
+-- whether a space is there
+abbrev pub has_space : Machine → ℕ → Bool
+has_space machine p = holds_space (spaces_of machine) p
 
 -- what is shown of a process: without its memory
 abbrev pub shown_process : Process → declared.Process
 shown_process process = record { regs = process.registers; state = process.state }
 
 -- a process with its memory
-abbrev pub whole : declared.Process → Memory → Process
-whole process memory = record { registers = process.regs; state = process.state; memory = memory }
+abbrev pub whole : declared.Process → Memory → Bool → Process
+whole process memory speculating =
+    record { registers = process.regs; state = process.state; memory = memory; speculating = speculating }
 
--- the process of a number with its memory, where both are there
-abbrev pub whole_at : Machine → ℕ → Option Process
-whole_at machine p = option_and_then (λ process. option_map (whole process) (get machine.spaces p)) (get machine.processes p)
+-- a process with the space of its number; with no page, where that isn't there
+abbrev pub whole_in : State → ℕ → declared.Process → Process
+whole_in spaces p process = whole process (memory_of spaces p) (space_in spaces p).speculating
 
--- the whole processes: those whose space is there
-unfoldable pub wholes : Machine → Processes
+-- the whole processes, and all of the copying machine that a machine shows
+unfoldable pub processes_of : Machine → Processes
+processes_of machine = viewed (λ p process. whole_in (spaces_of machine) p process) machine.processes
+
+abbrev pub wholes : Machine → Wholes
 wholes machine =
-    from_entries (filter_map (λ e. option_map (λ memory. (e.0, whole e.1 memory)) (get machine.spaces e.0)) (entries machine.processes))
+    record { processes = processes_of machine; ledger = books (spaces_of machine); frames = (spaces_of machine).frames }
 
--- The machine stands for a state of the processes: their wholes are that state.
-abbrev pub StandsFor : Machine → Processes → Type 0
-StandsFor machine state = wholes machine ≡ state
+-- states of the copying machine that differ in the numbers of origins alone
+pub record AreLike (a b : Wholes) : Type 0 where
+  pub processes : a.processes ≡ b.processes
+  pub ledger : AreAlike a.ledger b.ledger
+  pub frames : a.frames ≡ b.frames
+
+-- The machine stands for a state of the copying machine: the processes are that state's, memories included, the frames are
+-- as many, and the ledgers are alike.
+abbrev pub StandsFor : Machine → Wholes → Type 0
+StandsFor machine state = AreLike (wholes machine) state
 
 -- what is answered is the answer of each state that the machine stands for
-abbrev pub AnswersAs : {Answer : Type 0} → (Processes → Answer) → Machine → Answer → Type 0
-AnswersAs answer machine result = (state : Processes) → StandsFor machine state → result ≡ answer state
+abbrev pub AnswersAs : {Answer : Type 0} → (Wholes → Answer) → Machine → Answer → Type 0
+AnswersAs answer machine result = (state : Wholes) → StandsFor machine state → result ≡ answer state
 
 -- of each state that the machine stood for, it stands for the one that it leads to
-abbrev pub LeadsTo : (Processes → Processes) → Machine → Machine → Type 0
-LeadsTo after old new = (state : Processes) → StandsFor old state → StandsFor new (after state)
+abbrev pub LeadsTo : (Wholes → Wholes) → Machine → Machine → Type 0
+LeadsTo after old new = (state : Wholes) → StandsFor old state → StandsFor new (after state)
 
 -- each other space and process is as it was
 pub record StaysBut (p : ℕ) (old new : Machine) : Type 0 where
-  pub spaces : (q : ℕ) → (q ≡ p → ⊥) → get new.spaces q ≡ get old.spaces q
+  pub spaces : (q : ℕ) → (q ≡ p → ⊥) → space_in (spaces_of new) q ≡ space_in (spaces_of old) q
+  pub there : (q : ℕ) → (q ≡ p → ⊥) → has_space new q ≡ has_space old q
   pub processes : (q : ℕ) → (q ≡ p → ⊥) → get new.processes q ≡ get old.processes q
+
+-- the same spaces and the same processes are there, and the same pages await being shared
+pub record KeepsPlaces (old new : Machine) : Type 0 where
+  pub spaces : (q : ℕ) → has_space new q ≡ has_space old q
+  pub awaiting : (q : ℕ) → (space_in (spaces_of new) q).awaiting ≡ (space_in (spaces_of old) q).awaiting
+  pub processes : (q : ℕ) → is_some (get new.processes q) ≡ is_some (get old.processes q)
 
 -- a process in its place, over the space that it has
 abbrev pub with_process_at : Machine → ℕ → declared.Process → Machine
-with_process_at machine p process = record { spaces = machine.spaces; processes = insert machine.processes p process }
+with_process_at machine p process = record { memory = machine.memory; processes = insert machine.processes p process }
 
 -- a process taken away, whose space stays
 abbrev pub without_process_at : Machine → ℕ → Machine
-without_process_at machine p = record { spaces = machine.spaces; processes = remove machine.processes p }
+without_process_at machine p = record { memory = machine.memory; processes = remove machine.processes p }
 
--- a space taken away
-abbrev pub without_space_at : Machine → ℕ → Machine
-without_space_at machine p = record { spaces = remove machine.spaces p; processes = machine.processes }
+-- with another memory
+abbrev pub with_memory : Machine → MemoryView → Machine
+with_memory machine memory = record { memory = memory; processes = machine.processes }
 
--- a whole process, and its space, made
-abbrev pub with_whole_at : Machine → ℕ → Process → Machine
-with_whole_at machine p process = record {
-  spaces = insert machine.spaces p process.memory;
-  processes = insert machine.processes p (shown_process process);
-}
+-- the space of a number is given up; nothing else changes
+pub record IsDropped (p : ℕ) (old new : Machine) : Type 0 where
+  pub spaces : spaces_of new ≡ cut_space (spaces_of old) p
+  pub processes : new.processes ≡ old.processes
 
 -- the numbers of the processes that run, ascending
-abbrev pub running_numbers : Processes → List ℕ
-running_numbers processes = map (λ e. e.0) (filter (λ e. runs e.1.state) (entries processes))
+abbrev pub running_numbers : Wholes → List ℕ
+running_numbers state = map (λ e. e.0) (filter (λ e. runs e.1.state) (entries state.processes))
 
 -- the numbers of the processes that are not below one, ascending
-abbrev pub keys_from : ℕ → Processes → List ℕ
-keys_from from processes = map (λ e. e.0) (filter (λ e. nat_le from e.0) (entries processes))
+abbrev pub keys_from : ℕ → Wholes → List ℕ
+keys_from from state = map (λ e. e.0) (filter (λ e. nat_le from e.0) (entries state.processes))
 
 -- whether there is a process of that number, and it runs
-abbrev pub is_running : Processes → ℕ → Bool
-is_running processes p = option_map_or (λ process. runs process.state) (get processes p) false
+abbrev pub is_running : Wholes → ℕ → Bool
+is_running state p = option_map_or (λ process. runs process.state) (get state.processes p) false
 
-abbrev pub shown_at : Processes → ℕ → Option declared.Process
-shown_at processes p = option_map shown_process (get processes p)
+abbrev pub shown_at : Wholes → ℕ → Option declared.Process
+shown_at state p = option_map shown_process (get state.processes p)
 
--- An instruction is done in two parts: its execution, and then what it asks for, where it is a request.
+-- the space of each process that runs is there
+abbrev pub HaveSpaces : Machine → Type 0
+HaveSpaces machine = (p : ℕ) → is_running (wholes machine) p ≡ true → has_space machine p ≡ true
 
--- what the execution of a process's next instruction does
-abbrev pub execution_of : Process → Execution
-execution_of process = execution process.registers process.memory
+-- the copying machine without a process
+abbrev pub without_process : ℕ → Wholes → Wholes
+without_process p state = record { processes = remove state.processes p; ledger = state.ledger; frames = state.frames }
 
-abbrev pub state_executed : Upshot → ProcessState
-state_executed Steps = state.Running
-state_executed Asks = state.Running
-state_executed (Faults kind address) = state.Faulted kind address
-
-abbrev pub executed : Process → Process
-executed process =
-    let e = execution_of process in
-    record { registers = e.registers; state = state_executed e.upshot; memory = e.memory }
-
--- what the execution of a process's next instruction comes to
-abbrev pub upshot_of : Option Process → Upshot
-upshot_of found = option_map_or (λ process. (execution_of process).upshot) found Steps
-
-abbrev pub came_to : Processes → ℕ → Upshot
-came_to processes p = upshot_of (get processes p)
-
-abbrev pub after_execution : Processes → ℕ → Processes
-after_execution processes p = option_map_or (λ process. insert processes p (executed process)) (get processes p) processes
-
--- the state of a running process after a turn
-abbrev pub state_after : Turn → ProcessState
-state_after Stepped = state.Running
-state_after (Wrote written) = state.Running
-state_after (Exited code) = state.Exited code
-state_after (Faulted kind address) = state.Faulted kind address
-state_after (Full units limit) = state.Running
-
--- one instruction of a process
-abbrev pub step_of : ℕ → Process → Step
-step_of p process = step p process.registers process.memory
-
--- the process after a step
-abbrev pub after_step : Step → Process
-after_step s = record { registers = s.registers; state = state_after s.turn; memory = s.memory }
-
--- the process afterwards
-abbrev pub process_after : ℕ → Process → Process
-process_after p process = after_step (step_of p process)
-
--- An event is one instruction of one process: what came of it, and the processes afterwards.
-abbrev pub turn_of : Processes → ℕ → Turn
-turn_of processes p = option_map_or (λ process. (step_of p process).turn) (get processes p) Stepped
-
-abbrev pub after_turn : Processes → ℕ → Processes
-after_turn processes p = option_map_or (λ process. insert processes p (process_after p process)) (get processes p) processes
-
--- a process that has this memory, after what it asked for
-abbrev pub after_request : Memory → Request → Process
-after_request memory asked = record { registers = asked.registers; state = state_after asked.turn; memory = memory }
-
-abbrev pub request_of : ℕ → Process → Request
-request_of p process = request p process.registers process.memory
-
--- what comes of a process's request
-abbrev pub asked_of : ℕ → Option Process → Turn
-asked_of p found = option_map_or (λ process. (request_of p process).turn) found Stepped
-
-abbrev pub turn_asked : Processes → ℕ → Turn
-turn_asked processes p = asked_of p (get processes p)
-
--- the process after what it asked for
-abbrev pub answered_process : ℕ → Process → Process
-answered_process p process = after_request process.memory (request_of p process)
-
-abbrev pub after_asked : Processes → ℕ → Processes
-after_asked processes p = option_map_or (λ process. insert processes p (answered_process p process)) (get processes p) processes
+-- without the pages of a space in the ledger
+abbrev pub without_pages : ℕ → Wholes → Wholes
+without_pages p state = record { processes = state.processes; ledger = remove state.ledger p; frames = state.frames }

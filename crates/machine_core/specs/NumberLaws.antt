@@ -11,7 +11,7 @@ use Rattle.std.specs.FinMap.Entries.{is_sorted}
 use Rattle.std.proofs.lemmas.Bool.Decides.{nat_tests}
 use Rattle.ovl_io.specs.Keys.{by_key, ties, differs}
 use Rattle.machine_core.specs.Process.{Process, runs}
-use Rattle.machine_core.specs.Machine.{Processes, is_running, running_numbers}
+use Rattle.machine_core.specs.Machine.{Processes, Wholes, is_running, running_numbers}
 use Rattle.machine_core.specs.Slots.{is_in}
 
 -- Numbers that rise, as those of processes do.
@@ -88,10 +88,10 @@ in_passing {X = X} test k (e ∷ es) q h = by_key q e.0
 pub entries_rise : (processes : Processes) → Rises 0 (map (λ e. e.0) (entries processes))
 entries_rise processes = rises_sorted 0 (entries processes) (entries_sorted processes) (omega arith)
 
-pub numbers_rise : (processes : Processes) → Rises 0 (running_numbers processes)
-numbers_rise processes = rises_passing (λ e. runs e.1.state) 0 (entries processes) (entries_rise processes)
+pub numbers_rise : (all : Wholes) → Rises 0 (running_numbers all)
+numbers_rise all = rises_passing (λ e. runs e.1.state) 0 (entries all.processes) (entries_rise all.processes)
 
-pub numbers_are : (processes : Processes) (q : ℕ) → is_in (running_numbers processes) q ≡ is_running processes q
-numbers_are processes q =
-    in_passing (λ e. runs e.1.state) 0 (entries processes) q (entries_rise processes)
-    ∙ ap (λ (o : Option Process). option_map_or (λ (process : Process). runs process.state) o false) (sym (get-entries processes q))
+pub numbers_are : (all : Wholes) (q : ℕ) → is_in (running_numbers all) q ≡ is_running all q
+numbers_are all q =
+    in_passing (λ e. runs e.1.state) 0 (entries all.processes) q (entries_rise all.processes)
+    ∙ ap (λ (o : Option Process). option_map_or (λ (process : Process). runs process.state) o false) (sym (get-entries all.processes q))

@@ -1,17 +1,21 @@
 //! One process, and its turn.
 
-ghost use Rattle.std.specs.Prelude.{◌≡◌, ◌≤◌, length};
+ghost use Rattle.std.specs.Prelude.{◌≡◌, ℕ, ◌≤◌, length, true};
 ghost use Rattle.sizes.specs.declared.TheConstants.{MOST_WRITTEN};
+ghost use Rattle.rv_execute.specs.Registers.{with_register};
 ghost use Rattle.rv_execute.specs.Step.{exit, request, write};
-ghost use Rattle.rv_execute.specs.Execution.{outcome_by};
-ghost use Rattle.machine_core.specs.Machine.{after_request, executed, execution_of};
+ghost use Rattle.overlay_pages.specs.State.{holds_space, memory_of};
+ghost use Rattle.overlay_pages.specs.View.{state_of};
+ghost use Rattle.machine_core.specs.Turns.{answered_by, executed, outcome_of};
 ghost use Rattle.machine_core.specs.Executions.{all_executed, executions};
-ghost use Rattle.machine_core.specs.Kept.{process_of, with_answer};
+ghost use Rattle.machine_core.specs.Access.{IsReadyView, spaces_lent};
+ghost use Rattle.machine_core.specs.Slots.{IsBeside, guest_in, guest_lent};
 
-use crate::memory::PlainMemory;
 use crate::process::Process;
+use crate::view::View;
 use arrayvec::ArrayVec;
 use bitflags::Flags;
+use overlay_memory::OverlayMemory;
 use ovl_io::{Perms, ProcessState, Turn, Written};
 use rv_execute::{Outcome, execute};
 use sizes::MOST_WRITTEN;
@@ -34,13 +38,6 @@ const BAD_ADDRESS: u64 = u64::MAX - 13;
 /// What a request that there is none of answers: -38.
 const NO_SUCH_REQUEST: u64 = u64::MAX - 37;
 
-/// A process as it is kept.
-#[derive(Drop)]
-pub struct Guest {
-    pub(crate) process: Process,
-    pub(crate) memory: PlainMemory,
-}
-
 /// The line of bytes that a process writes to a port.
 fn written(port: u8, bytes: &[u8]) -> Written
     requires { length bytes.now ≤ MOST_WRITTEN }
@@ -51,101 +48,141 @@ fn written(port: u8, bytes: &[u8]) -> Written
     Written { port, bytes: kept }
 }
 
-impl Guest {
-    /// Gives a request its answer, in a0.
-    fn answer(&mut self, value: u64) -> Turn
-        requires { self.old.process.state ≡ ProcessState.Running }
-        ensures turn { result ≡ Turn.Stepped }
-        ensures after { self.new ≡ with_answer value self.old }
-    {
-        self.process.regs.set(10, value);
-        Turn::Stepped
-    }
+/// Gives a request its answer, in a0.
+fn answer(process: &mut Process, value: u64) -> Turn
+    ensures turn { result ≡ Turn.Stepped }
+    ensures after { process.new
+        ≡ record { regs = with_register process.old.regs 10 value; state = process.old.state } }
+{
+    process.regs.set(10, value);
+    Turn::Stepped
+}
 
-    /// Prints bytes, as many as one write prints at most.
-    fn write(&mut self) -> Turn
-        requires { self.old.process.state ≡ ProcessState.Running }
-        ensures turn { result ≡ (write self.old.process.regs self.old.memory).turn }
-        ensures after { process_of self.new
-            ≡ after_request self.old.memory (write self.old.process.regs self.old.memory) }
-    {
-        let descriptor = self.process.regs.get(10);
-        if descriptor != 1 && descriptor != 2 {
-            return self.answer(BAD_DESCRIPTOR);
-        }
-        let count = self.process.regs.get(12).min(MOST_WRITTEN as u64);
-        if count == 0 {
-            return self.answer(0);
-        }
-        let mut buffer = [0; MOST_WRITTEN];
-        let bytes = &mut buffer[..count as usize];
-        match self.memory.read(self.process.regs.get(11), bytes, Perms::R) {
-            Ok(()) => {
-                self.process.regs.set(10, count);
-                Turn::Wrote(written(descriptor as u8, bytes))
-            }
-            Err(_) => self.answer(BAD_ADDRESS),
-        }
+/// Prints bytes of space `p`, which is there: as many as one write prints at most.
+fn write(process: &mut Process, memory: &mut OverlayMemory, p: u16) -> Turn
+    requires runs { process.old.state ≡ ProcessState.Running }
+    requires there { holds_space (state_of memory.old) p ≡ true }
+    ensures turn { result ≡ (write process.old.regs (memory_of (state_of memory.old) p)).turn }
+    ensures after { process.new
+        ≡ answered_by (write process.old.regs (memory_of (state_of memory.old) p)) }
+    ensures same { state_of memory.new ≡ state_of memory.old }
+{
+    let descriptor = process.regs.get(10);
+    if descriptor != 1 && descriptor != 2 {
+        return answer(process, BAD_DESCRIPTOR);
     }
+    let count = process.regs.get(12).min(MOST_WRITTEN as u64);
+    if count == 0 {
+        return answer(process, 0);
+    }
+    let mut buffer = [0; MOST_WRITTEN];
+    let bytes = &mut buffer[..count as usize];
+    match memory.load(p, process.regs.get(11), bytes, Perms::R) {
+        Ok(()) => {
+            process.regs.set(10, count);
+            Turn::Wrote(written(descriptor as u8, bytes))
+        }
+        Err(_) => answer(process, BAD_ADDRESS),
+    }
+}
 
-    /// Exits with the low 8 bits of a0.
-    fn exit(&mut self) -> Turn
-        ensures turn { result ≡ (exit self.old.process.regs).turn }
-        ensures after { process_of self.new
-            ≡ after_request self.old.memory (exit self.old.process.regs) }
-    {
-        let code = (self.process.regs.get(10) % 256) as u8;
-        self.process.state = ProcessState::Exited(code);
-        Turn::Exited(code)
-    }
+/// Exits with the low 8 bits of a0.
+fn exit(process: &mut Process) -> Turn
+    ensures turn { result ≡ (exit process.old.regs).turn }
+    ensures after { process.new ≡ answered_by (exit process.old.regs) }
+{
+    let code = (process.regs.get(10) % 256) as u8;
+    process.state = ProcessState::Exited(code);
+    Turn::Exited(code)
+}
 
-    /// Does what ECALL asked for, as process `p`.
-    pub(crate) fn answer_request(&mut self, p: u16) -> Turn
-        requires { self.old.process.state ≡ ProcessState.Running }
-        ensures turn { result ≡ (request p self.old.process.regs self.old.memory).turn }
-        ensures after { process_of self.new
-            ≡ after_request self.old.memory (request p self.old.process.regs self.old.memory) }
-    {
-        match self.process.regs.get(17) {
-            WRITE => self.write(),
-            EXIT => self.exit(),
-            EXIT_GROUP => self.exit(),
-            PROCESS_NUMBER => self.answer(u64::from(p)),
-            _ => self.answer(NO_SUCH_REQUEST),
+/// Does what ECALL asked for, as process `p`, whose space is there.
+pub(crate) fn answer_request(process: &mut Process, memory: &mut OverlayMemory, p: u16) -> Turn
+    requires runs { process.old.state ≡ ProcessState.Running }
+    requires there { holds_space (state_of memory.old) p ≡ true }
+    ensures turn { result ≡ (request p process.old.regs (memory_of (state_of memory.old) p)).turn }
+    ensures after { process.new
+        ≡ answered_by (request p process.old.regs (memory_of (state_of memory.old) p)) }
+    ensures same { state_of memory.new ≡ state_of memory.old }
+{
+    match process.regs.get(17) {
+        WRITE => write(process, memory, p),
+        EXIT => exit(process),
+        EXIT_GROUP => exit(process),
+        PROCESS_NUMBER => answer(process, u64::from(p)),
+        _ => answer(process, NO_SUCH_REQUEST),
+    }
+}
+
+/// Executes the instruction at its pc, in the space that is lent, which is there.
+#[inline]
+fn execute_one(process: &mut Process, view: &mut View) -> Outcome
+    requires runs { process.old.state ≡ ProcessState.Running }
+    requires ready { IsReadyView view.old }
+    ensures ready { IsReadyView view.new }
+    ensures loan { view.new.memory.ghost_name ≡ view.old.memory.ghost_name }
+    ensures space { view.new.space ≡ view.old.space }
+    ensures outcome { result ≡ outcome_of view.old.space (guest_lent view.old process.old) }
+    ensures after { guest_lent view.new process.new
+        ≡ executed view.old.space (guest_lent view.old process.old) }
+    ensures beside { IsBeside view.old.space (spaces_lent view.old) (spaces_lent view.new) }
+{
+    let outcome = execute(&mut process.regs, view);
+    if let Outcome::Fault(kind, address) = outcome {
+        process.state = ProcessState::Faulted(kind, address);
+    }
+    outcome
+}
+
+/// Executes up to so many instructions in the space that is lent, which is there, as long as each is a step. Answers how many
+/// were steps, and what came of the last one.
+fn step_up_to(process: &mut Process, view: &mut View, most: u32) -> (u32, Outcome)
+    requires runs { process.old.state ≡ ProcessState.Running }
+    requires ready { IsReadyView view.old }
+    ensures loan { view.new.memory.ghost_name ≡ view.old.memory.ghost_name }
+    ensures space { view.new.space ≡ view.old.space }
+    ensures steps { result.0 ≡ (executions view.old.space most (guest_lent view.old process.old)).steps }
+    ensures outcome { result.1
+        ≡ (executions view.old.space most (guest_lent view.old process.old)).outcome }
+    ensures after { guest_lent view.new process.new
+        ≡ all_executed view.old.space most (guest_lent view.old process.old) }
+    ensures beside { IsBeside view.old.space (spaces_lent view.old) (spaces_lent view.new) }
+{
+    let mut steps = 0u32;
+    'stepping: while steps < most {
+        match execute_one(process, view) {
+            Outcome::Stepped => steps += 1,
+            Outcome::Asked => return (steps, Outcome::Asked),
+            Outcome::Fault(kind, address) => return (steps, Outcome::Fault(kind, address)),
+            Outcome::Full(units, limit) => return (steps, Outcome::Full(units, limit)),
         }
     }
+    (steps, Outcome::Stepped)
+}
 
-    /// Executes the instruction at its pc.
-    #[inline]
-    pub(crate) fn execute(&mut self) -> Outcome
-        requires { self.old.process.state ≡ ProcessState.Running }
-        ensures outcome { result ≡ outcome_by (execution_of (process_of self.old)).upshot }
-        ensures after { process_of self.new ≡ executed (process_of self.old) }
-    {
-        let outcome = execute(&mut self.process.regs, &mut self.memory);
-        if let Outcome::Fault(kind, address) = outcome {
-            self.process.state = ProcessState::Faulted(kind, address);
-        }
-        outcome
-    }
-
-    /// Executes up to so many instructions, as long as each is a step. Answers how many were steps, and what came of the
-    /// last one.
-    pub(crate) fn execute_up_to(&mut self, most: u32) -> (u32, Outcome)
-        requires { self.old.process.state ≡ ProcessState.Running }
-        ensures steps { result.0 ≡ (executions most (process_of self.old)).steps }
-        ensures outcome { result.1 ≡ outcome_by (executions most (process_of self.old)).upshot }
-        ensures after { process_of self.new ≡ all_executed most (process_of self.old) }
-    {
-        let mut steps = 0u32;
-        'stepping: while steps < most {
-            match self.execute() {
-                Outcome::Stepped => steps += 1,
-                Outcome::Asked => return (steps, Outcome::Asked),
-                Outcome::Fault(kind, address) => return (steps, Outcome::Fault(kind, address)),
-                Outcome::Full(units, limit) => return (steps, Outcome::Full(units, limit)),
-            }
-        }
-        (steps, Outcome::Stepped)
-    }
+/// Executes up to so many instructions in space `p`, which is there, as long as each is a step. Answers how many were steps,
+/// and what came of the last one.
+#[inline]
+pub(crate) fn execute_up_to(
+    process: &mut Process,
+    memory: &mut OverlayMemory,
+    p: u16,
+    most: u32,
+) -> (u32, Outcome)
+    requires runs { process.old.state ≡ ProcessState.Running }
+    requires there { holds_space (state_of memory.old) p ≡ true }
+    ensures steps { result.0
+        ≡ (executions p most (guest_in p (state_of memory.old) process.old)).steps }
+    ensures outcome { result.1
+        ≡ (executions p most (guest_in p (state_of memory.old) process.old)).outcome }
+    ensures after { guest_in p (state_of memory.new) process.new
+        ≡ all_executed p most (guest_in p (state_of memory.old) process.old) }
+    ensures beside { IsBeside p (state_of memory.old) (state_of memory.new) }
+{
+    let mut view = View {
+        memory,
+        space: p,
+        code: None,
+    };
+    step_up_to(process, &mut view, most)
 }

@@ -1,15 +1,14 @@
 //! The machine: spaces and processes by number, and what one instruction does to them.
 //!
-//! The model of a `Machine` is a record of two finite maps: the memory of each space, whole, and the registers
-//! and the state of each process, which has the space of its own number. `event` is the step over such a memory,
-//! and `play` takes many. The code keeps slots by number and a list of the numbers that run; a memory is a page
-//! table and a list of frames, and only the pages of an access are looked up.
+//! The model of a `Machine` is a record of the memories of all spaces, as `overlay_memory` shows them, and of a finite map of
+//! processes: the registers and the state of each, which has the space of its own number. `event` is the step over
+//! a whole memory, with the ledger of all pages after it, and `play` takes many.
 //!
 //! - `process`: what is shown of a process
-//! - `memory`: memories of plain pages
-//! - `guest`: one process with its memory, its turn, and what it asks for
+//! - `view`: the memory of one space, as an instruction sees it
+//! - `guest`: one process, its turn, and what it asks for
 //! - `load`: what a load makes of an image
-//! - `slots`: spaces by number, with their processes
+//! - `slots`: processes by number
 //! - `running`: the numbers that run, ascending
 //! - `keeping`: slots and that list, kept together
 //! - `machine`: `Machine` with its calls
@@ -19,12 +18,13 @@ mod guest;
 mod keeping;
 mod load;
 mod machine;
-mod memory;
 mod process;
 mod running;
 mod slots;
+mod view;
 
 pub use machine::Machine;
+pub use overlay_memory::SpaceError;
 pub use process::Process;
 
 #[cfg(test)]

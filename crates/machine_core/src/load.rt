@@ -1,96 +1,175 @@
 //! What a load makes of an image: its pages, and the stack.
 
-ghost use Rattle.std.specs.Prelude.{◌≡◌, ℕ, ◌<◌, length, map, Contains, cond, IfOk, OnOk, Some, None};
+ghost use Rattle.std.specs.Prelude.{◌≡◌, ℕ, ◌+◌, ◌*◌, ◌<◌, ◌≤◌, length, map, Contains, true, false, OnOk, OnErr, None};
 ghost use Rattle.std.specs.FinMap as map;
-ghost use Rattle.std.specs.List.{list_any};
-ghost use Rattle.std.specs.Ordering.{nat_cmp, is_eq};
-ghost use Rattle.sizes.specs.declared.TheConstants.{STACK_PAGES};
-ghost use Rattle.ovl_io.specs.PageBytes.{IsMemory};
+ghost use Rattle.sizes.specs.declared.TheConstants.{FRAME_UNITS, LAST_SPACE, MOST_IMAGE_PAGES, STACK_PAGE};
 ghost use Rattle.elf_loader.specs.Image.{IsImageOf, is_stored, page_bytes};
-ghost use Rattle.machine_core.specs.Load.{stack_page, stack_pages, image_memory, IsPlacedOver};
-ghost use Rattle.machine_core.specs.Kept.{IsPlaced, kept_memory};
+ghost use Rattle.ledger.specs.Units.{units};
+ghost use Rattle.overlay_pages.specs.Changes.{limit_of, units_of};
+ghost use Rattle.overlay_pages.specs.State.{bare_space, books, holds_space, page_in, space_in};
+ghost use Rattle.overlay_pages.specs.View.{state_of};
+ghost use Rattle.machine_core.specs.Load.{loaded_ledger, stored_count, stored_pages};
+ghost use Rattle.machine_core.specs.Loading.{HasImage, HasStack, IsAdded, IsOpen, IsReady, HasPages, IsSpaceOf, zero_content};
 
-use crate::memory::{Frame, PlainMemory, add_page};
 use bitflags::Flags;
 use elf_loader::{Image, ImagePage};
+use overlay_memory::{OverlayMemory, SpaceError};
 use ovl_io::Perms;
-use page_table::PageTable;
 use sizes::{PAGE_BYTES, PAGE_END, STACK_PAGE};
-use std::alloc::{AllocError, Global};
+use std::alloc::AllocError;
 
-/// Adds the stack: zero pages.
-fn add_stack(table: &mut PageTable, frames: &mut Vec<Frame>) -> Result<(), AllocError>
-    requires table { table.old ≡ map.empty }
-    requires frames { length frames.old.items ≡ 0 }
-    ensures placed { OnOk result (IsPlaced table.new frames.new.items) }
-    ensures as_many { OnOk result (map.len table.new ≡ length frames.new.items) }
-    ensures count { OnOk result (map.len table.new ≡ STACK_PAGES) }
-    ensures stack { OnOk result ((q : ℕ) → map.get (kept_memory table.new frames.new.items) q
-        ≡ cond (list_any (λ p. is_eq (nat_cmp q p)) stack_pages) (Some stack_page) None) }
+/// How many of some pages are stored.
+pub(crate) fn stored_in(pages: &[ImagePage]) -> u32
+    requires { length pages.now ≤ MOST_IMAGE_PAGES }
+    ensures count { result ≡ stored_count (map (λ page. page.stored) pages.now) }
+    ensures few { result ≤ MOST_IMAGE_PAGES }
 {
-    for page in STACK_PAGE..PAGE_END {
-        add_page(
-            table,
-            frames,
-            page,
-            Perms::R.union(Perms::W),
-            [0; PAGE_BYTES],
-        )?;
+    let mut count = 0u32;
+    'counting: for page in pages {
+        if page.stored {
+            count += 1;
+        }
     }
-    Ok(())
+    count
 }
 
-/// The bytes of a page of an image; a page that isn't stored is zero.
-fn page_bytes(image: &Image, file: &[u8], image_page: ImagePage) -> Frame
+/// Places a page that isn't there in a frame of its own; the units for it are there. After want of memory the spaces are as
+/// before.
+fn place(
+    memory: &mut OverlayMemory,
+    p: u16,
+    page: u64,
+    perms: Perms,
+    bytes: &[u8; PAGE_BYTES],
+) -> Result<(), AllocError>
+    requires ready { IsReady (state_of memory.old) p page }
+    requires fits { units_of (state_of memory.old) + FRAME_UNITS ≤ limit_of (state_of memory.old) }
+    ensures added { OnOk result (IsAdded (state_of memory.old) (state_of memory.new) p page
+        (record { perms = perms.0; bytes = bytes.now }) true) }
+    ensures kept { OnErr result (state_of memory.new ≡ state_of memory.old) }
+{
+    match memory.place_page(p, page, perms, bytes) {
+        Ok(()) => Ok(()),
+        Err(SpaceError::Memory) => Err(AllocError),
+        Err(SpaceError::Full(_, _)) => unreachable!(),
+    }
+}
+
+/// Maps a zero page that isn't there. After want of memory the spaces are as before.
+fn zero(memory: &mut OverlayMemory, p: u16, page: u64, perms: Perms) -> Result<(), AllocError>
+    requires ready { IsReady (state_of memory.old) p page }
+    ensures added { OnOk result (IsAdded (state_of memory.old) (state_of memory.new) p page
+        (zero_content perms.0) false) }
+    ensures kept { OnErr result (state_of memory.new ≡ state_of memory.old) }
+{
+    memory.map_zero(p, page, 1, perms)
+}
+
+/// Adds a page of an image, which isn't there: in a frame of its own where it is stored, else on the zero frame.
+fn add_page(
+    memory: &mut OverlayMemory,
+    p: u16,
+    image: &Image,
+    file: &[u8],
+    image_page: ImagePage,
+) -> Result<(), AllocError>
+    requires ready { IsReady (state_of memory.old) p image_page.page }
     requires of_file { IsImageOf file.now image.now }
-    requires is_there { Contains (map (λ p. p.page) image.now.pages) image_page.page }
+    requires there { Contains (map (λ p. p.page) image.now.pages) image_page.page }
     requires marked { image_page.stored ≡ is_stored file.now image_page.page }
-    ensures { result ≡ page_bytes file.now image_page.page }
+    requires fits { image_page.stored ≡ true
+        → units_of (state_of memory.old) + FRAME_UNITS ≤ limit_of (state_of memory.old) }
+    ensures added { OnOk result (IsAdded (state_of memory.old) (state_of memory.new) p image_page.page
+        (record { perms = image_page.perms.0; bytes = page_bytes file.now image_page.page }) image_page.stored) }
+    ensures kept { OnErr result (state_of memory.new ≡ state_of memory.old) }
 {
-    let mut bytes = [0; PAGE_BYTES];
     if image_page.stored {
+        let mut bytes = [0; PAGE_BYTES];
         image.fill_page(file, image_page.page, &mut bytes);
+        place(memory, p, image_page.page, image_page.perms, &bytes)
+    } else {
+        zero(memory, p, image_page.page, image_page.perms)
     }
-    bytes
 }
 
-/// Adds the pages of an image to those of the stack.
+/// Adds the pages of an image to a space that has none. The units for them are there.
 fn add_image(
-    table: &mut PageTable,
-    frames: &mut Vec<Frame>,
+    memory: &mut OverlayMemory,
+    p: u16,
     image: &Image,
     file: &[u8],
 ) -> Result<(), AllocError>
     requires of_file { IsImageOf file.now image.now }
-    requires placed { IsPlaced table.old frames.old.items }
-    requires as_many { map.len table.old ≡ length frames.old.items }
-    requires count { map.len table.old ≡ STACK_PAGES }
-    requires stack { (q : ℕ) → map.get (kept_memory table.old frames.old.items) q
-        ≡ cond (list_any (λ p. is_eq (nat_cmp q p)) stack_pages) (Some stack_page) None }
-    ensures placed { OnOk result (IsPlaced table.new frames.new.items) }
-    ensures image { OnOk result (IsPlacedOver file.now
-        (kept_memory table.old frames.old.items) (kept_memory table.new frames.new.items)) }
+    requires there { holds_space (state_of memory.old) p ≡ true }
+    requires bare { space_in (state_of memory.old) p ≡ bare_space }
+    requires fits { units_of (state_of memory.old) + FRAME_UNITS * stored_pages file.now
+        ≤ limit_of (state_of memory.old) }
+    ensures added { OnOk result (HasImage file.now p (state_of memory.old) (state_of memory.new)) }
+    ensures open { IsOpen p (state_of memory.old) (state_of memory.new) }
 {
-    for image_page in image.pages() {
-        let bytes = page_bytes(image, file, *image_page);
-        add_page(table, frames, image_page.page, image_page.perms, bytes)?;
+    'adding: for image_page in image.pages() {
+        add_page(memory, p, image, file, *image_page)?;
     }
     Ok(())
 }
 
-/// The whole memory of a process that is loaded: the stack, and the image.
-pub(crate) fn load_memory(
-    alloc: Global,
+/// Adds the stack: zero pages.
+fn add_stack(memory: &mut OverlayMemory, p: u16) -> Result<(), AllocError>
+    requires there { holds_space (state_of memory.old) p ≡ true }
+    requires settled { (space_in (state_of memory.old) p).awaiting ≡ map.empty }
+    requires few { map.len (space_in (state_of memory.old) p).pages ≤ MOST_IMAGE_PAGES }
+    requires absent { (q : ℕ) → STACK_PAGE ≤ q → page_in (state_of memory.old) p q ≡ None }
+    ensures added { OnOk result (HasStack p (state_of memory.old) (state_of memory.new)) }
+    ensures open { IsOpen p (state_of memory.old) (state_of memory.new) }
+{
+    'adding: for page in STACK_PAGE..PAGE_END {
+        zero(memory, p, page, Perms::R.union(Perms::W))?;
+    }
+    Ok(())
+}
+
+/// Adds the pages of an image and the stack to a space that has no page. The units for them are there.
+fn add_pages(
+    memory: &mut OverlayMemory,
+    p: u16,
     image: &Image,
     file: &[u8],
-) -> Result<PlainMemory, AllocError>
-    requires { IsImageOf file.now image.now }
-    ensures memory { IfOk result (λ memory. memory ≡ image_memory file.now) }
-    ensures is_memory { IfOk result IsMemory }
+) -> Result<(), AllocError>
+    requires of_file { IsImageOf file.now image.now }
+    requires there { holds_space (state_of memory.old) p ≡ true }
+    requires bare { space_in (state_of memory.old) p ≡ bare_space }
+    requires fits { units_of (state_of memory.old) + FRAME_UNITS * stored_pages file.now
+        ≤ limit_of (state_of memory.old) }
+    ensures added { OnOk result (HasPages file.now p (state_of memory.old) (state_of memory.new)) }
+    ensures open { IsOpen p (state_of memory.old) (state_of memory.new) }
 {
-    let mut table = PageTable::new(alloc);
-    let mut frames = Vec::new(alloc);
-    add_stack(&mut table, &mut frames)?;
-    add_image(&mut table, &mut frames, image, file)?;
-    Ok(PlainMemory { table, frames })
+    add_image(memory, p, image, file)?;
+    add_stack(memory, p)
+}
+
+/// Makes a space, of a number from 1 to 32767 that isn't there, with the pages of an image and the stack. The units for them are
+/// there. After want of memory the spaces are as before.
+pub(crate) fn load_space(
+    memory: &mut OverlayMemory,
+    p: u16,
+    image: &Image,
+    file: &[u8],
+) -> Result<(), AllocError>
+    requires some { 0 < p }
+    requires last { p ≤ LAST_SPACE }
+    requires absent { holds_space (state_of memory.old) p ≡ false }
+    requires of_file { IsImageOf file.now image.now }
+    requires fits { units (loaded_ledger p file.now (books (state_of memory.old)))
+        ≤ limit_of (state_of memory.old) }
+    ensures made { OnOk result (IsSpaceOf file.now p (state_of memory.old) (state_of memory.new)) }
+    ensures kept { OnErr result (state_of memory.new ≡ state_of memory.old) }
+{
+    memory.add_space(p)?;
+    match add_pages(memory, p, image, file) {
+        Ok(()) => Ok(()),
+        Err(AllocError) => {
+            memory.drop_space(p);
+            Err(AllocError)
+        }
+    }
 }

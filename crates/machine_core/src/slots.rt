@@ -1,29 +1,22 @@
-//! Slots: spaces by number, each with the process that has it.
+//! Slots: processes by number.
 
-ghost use Rattle.std.specs.Prelude.{◌≡◌, ℕ, ◌+◌, ◌≤◌, ◌<◌, length, max, Some, None, true, IfOk, OnOk, OnErr};
-ghost use Rattle.std.specs.Option.{option_copied, option_map, option_map_or, is_some};
-ghost use Rattle.std.specs.FinMap as map;
-ghost use Rattle.sizes.specs.declared.TheConstants.{LAST_SPACE};
-ghost use Rattle.rv_execute.specs.Execution.{outcome_by};
-ghost use Rattle.machine_core.specs.Machine.{asked_of, answered_process};
-ghost use Rattle.machine_core.specs.Executions.{all_executed, last_upshot, steps_of};
-ghost use Rattle.machine_core.specs.Slots.{slot_at, slot_space, slot_process, slot_whole, slot_runs, IsChanged, IsEdited, IsNextProcess};
+ghost use Rattle.std.specs.Prelude.{◌≡◌, ℕ, ◌^◌, ◌≤◌, ◌<◌, length, max, Some, None, true, IfOk, OnOk, OnErr};
+ghost use Rattle.std.specs.Option.{option_copied, option_map, is_some};
+ghost use Rattle.overlay_pages.specs.State.{holds_space};
+ghost use Rattle.overlay_pages.specs.View.{state_of};
+ghost use Rattle.machine_core.specs.Turns.{asked_found, guest_answered};
+ghost use Rattle.machine_core.specs.Executions.{all_executed, last_outcome, steps_of};
+ghost use Rattle.machine_core.specs.Slots.{slot_at, slot_guest, slot_process, slot_runs, IsBeside, IsChanged, IsEdited, IsNextProcess};
 
-use crate::guest::Guest;
+use crate::guest::{answer_request, execute_up_to};
 use crate::process::{Process, is_running};
+use overlay_memory::OverlayMemory;
 use ovl_io::Turn;
 use rv_execute::Outcome;
 use std::alloc::{AllocError, Global};
 
-/// A space, and the process that has it. Where none has it, `guest.process` is nobody's.
-#[derive(Drop)]
-pub struct Slot {
-    pub(crate) guest: Guest,
-    pub(crate) taken: bool,
-}
-
-/// Spaces by number, with their processes.
-pub(crate) type Slots = Vec<Option<Box<Slot>>>;
+/// Processes by number.
+pub(crate) type Slots = Vec<Option<Box<Process>>>;
 
 /// The process of a number.
 #[inline]
@@ -31,13 +24,7 @@ pub(crate) fn process_in(slots: &Slots, p: u16) -> Option<&Process>
     ensures { option_copied result ≡ slot_process (slot_at slots.now.items p) }
 {
     match slots.get(p as usize) {
-        Some(Some(slot)) => {
-            if slot.taken {
-                Some(&slot.guest.process)
-            } else {
-                None
-            }
-        }
+        Some(Some(slot)) => Some(&**slot),
         Some(None) => None,
         None => None,
     }
@@ -49,120 +36,92 @@ pub(crate) fn runs_in(slots: &Slots, p: u16) -> bool
     ensures { result ≡ slot_runs (slot_at slots.now.items p) }
 {
     match slots.get(p as usize) {
-        Some(Some(slot)) => slot.taken && is_running(&slot.guest.process),
+        Some(Some(slot)) => is_running(slot),
         Some(None) => false,
         None => false,
     }
 }
 
-/// Executes up to so many instructions of a slot's process, which runs, as long as each is a step.
+/// Executes up to so many instructions of a slot's process, which runs and whose space is there, as long as each is a step.
 #[inline]
-fn execute_slot(slot: &mut Option<Box<Slot>>, most: u32) -> (u32, Outcome)
-    requires { slot_runs slot.old ≡ true }
-    ensures steps { result.0 ≡ steps_of most (slot_whole slot.old) }
-    ensures outcome { result.1 ≡ outcome_by (last_upshot most (slot_whole slot.old)) }
-    ensures changed { slot_whole slot.new ≡ option_map (all_executed most) (slot_whole slot.old) }
+fn execute_slot(
+    slot: &mut Option<Box<Process>>,
+    memory: &mut OverlayMemory,
+    p: u16,
+    most: u32,
+) -> (u32, Outcome)
+    requires runs { slot_runs slot.old ≡ true }
+    requires there { holds_space (state_of memory.old) p ≡ true }
+    ensures steps { result.0 ≡ steps_of p most (slot_guest p (state_of memory.old) slot.old) }
+    ensures outcome { result.1 ≡ last_outcome p most (slot_guest p (state_of memory.old) slot.old) }
+    ensures changed { slot_guest p (state_of memory.new) slot.new
+        ≡ option_map (all_executed p most) (slot_guest p (state_of memory.old) slot.old) }
+    ensures beside { IsBeside p (state_of memory.old) (state_of memory.new) }
 {
     match slot {
-        Some(slot) => slot.guest.execute_up_to(most),
+        Some(slot) => execute_up_to(slot, memory, p, most),
         None => unreachable!(),
     }
 }
 
-/// Executes up to so many instructions of a running process, as long as each is a step.
+/// Executes up to so many instructions of a running process, whose space is there, as long as each is a step.
 #[inline]
-pub(crate) fn execute_in(slots: &mut Slots, p: u16, most: u32) -> (u32, Outcome)
-    requires { slot_runs (slot_at slots.old.items p) ≡ true }
-    ensures steps { result.0 ≡ steps_of most (slot_whole (slot_at slots.old.items p)) }
-    ensures outcome { result.1 ≡ outcome_by (last_upshot most (slot_whole (slot_at slots.old.items p))) }
-    ensures changed { IsChanged (all_executed most) slots.old.items slots.new.items p }
+pub(crate) fn execute_in(
+    slots: &mut Slots,
+    memory: &mut OverlayMemory,
+    p: u16,
+    most: u32,
+) -> (u32, Outcome)
+    requires runs { slot_runs (slot_at slots.old.items p) ≡ true }
+    requires there { holds_space (state_of memory.old) p ≡ true }
+    ensures steps { result.0
+        ≡ steps_of p most (slot_guest p (state_of memory.old) (slot_at slots.old.items p)) }
+    ensures outcome { result.1
+        ≡ last_outcome p most (slot_guest p (state_of memory.old) (slot_at slots.old.items p)) }
+    ensures changed { IsChanged (all_executed p most) p slots.old.items slots.new.items
+        (state_of memory.old) (state_of memory.new) }
     ensures length { length slots.new.items ≡ length slots.old.items }
 {
     match slots.get_mut(p as usize) {
-        Some(slot) => execute_slot(slot, most),
+        Some(slot) => execute_slot(slot, memory, p, most),
         None => unreachable!(),
     }
 }
 
-/// Does what a slot's process, which runs, asked for as process `p`.
-fn answer_slot(slot: &mut Option<Box<Slot>>, p: u16) -> Turn
-    requires { slot_runs slot.old ≡ true }
-    ensures turn { result ≡ asked_of p (slot_whole slot.old) }
-    ensures changed { slot_whole slot.new ≡ option_map (answered_process p) (slot_whole slot.old) }
+/// Does what a slot's process, which runs and whose space is there, asked for as process `p`.
+fn answer_slot(slot: &mut Option<Box<Process>>, memory: &mut OverlayMemory, p: u16) -> Turn
+    requires runs { slot_runs slot.old ≡ true }
+    requires there { holds_space (state_of memory.old) p ≡ true }
+    ensures turn { result ≡ asked_found p (slot_guest p (state_of memory.old) slot.old) }
+    ensures changed { slot_guest p (state_of memory.new) slot.new
+        ≡ option_map (guest_answered p) (slot_guest p (state_of memory.old) slot.old) }
+    ensures same { state_of memory.new ≡ state_of memory.old }
 {
     match slot {
-        Some(slot) => slot.guest.answer_request(p),
+        Some(slot) => answer_request(slot, memory, p),
         None => unreachable!(),
     }
 }
 
-/// Does what a running process asked for.
-pub(crate) fn answer_in(slots: &mut Slots, p: u16) -> Turn
-    requires { slot_runs (slot_at slots.old.items p) ≡ true }
-    ensures turn { result ≡ asked_of p (slot_whole (slot_at slots.old.items p)) }
-    ensures changed { IsChanged (answered_process p) slots.old.items slots.new.items p }
+/// Does what a running process, whose space is there, asked for.
+pub(crate) fn answer_in(slots: &mut Slots, memory: &mut OverlayMemory, p: u16) -> Turn
+    requires runs { slot_runs (slot_at slots.old.items p) ≡ true }
+    requires there { holds_space (state_of memory.old) p ≡ true }
+    ensures turn { result
+        ≡ asked_found p (slot_guest p (state_of memory.old) (slot_at slots.old.items p)) }
+    ensures changed { IsChanged (guest_answered p) p slots.old.items slots.new.items
+        (state_of memory.old) (state_of memory.new) }
     ensures length { length slots.new.items ≡ length slots.old.items }
 {
     match slots.get_mut(p as usize) {
-        Some(slot) => answer_slot(slot, p),
+        Some(slot) => answer_slot(slot, memory, p),
         None => unreachable!(),
     }
 }
 
-/// Puts a process into the space of a slot.
-fn set_slot(slot: &mut Option<Box<Slot>>, process: Process)
-    requires { is_some (slot_space slot.old) ≡ true }
-    ensures space { slot_space slot.new ≡ slot_space slot.old }
-    ensures process { slot_process slot.new ≡ Some process }
-{
-    match slot {
-        Some(slot) => {
-            slot.guest.process = process;
-            slot.taken = true;
-        }
-        None => unreachable!(),
-    }
-}
-
-/// Puts a process into the space of a number.
-pub(crate) fn set_in(slots: &mut Slots, p: u16, process: Process)
-    requires { is_some (slot_space (slot_at slots.old.items p)) ≡ true }
-    ensures set { IsEdited slots.old.items slots.new.items p
-        (slot_space (slot_at slots.old.items p)) (Some process) }
-    ensures length { length slots.new.items ≡ length slots.old.items }
-{
-    match slots.get_mut(p as usize) {
-        Some(slot) => set_slot(slot, process),
-        None => unreachable!(),
-    }
-}
-
-/// Takes away the process of a slot.
-fn remove_slot(slot: &mut Option<Box<Slot>>)
-    ensures space { slot_space slot.new ≡ slot_space slot.old }
-    ensures process { slot_process slot.new ≡ None }
-{
-    match slot {
-        Some(slot) => slot.taken = false,
-        None => (),
-    }
-}
-
-/// Takes away the process of a number. Its space stays.
+/// Takes away the process of a number.
 pub(crate) fn remove_in(slots: &mut Slots, p: u16)
-    ensures removed { IsEdited slots.old.items slots.new.items p
-        (slot_space (slot_at slots.old.items p)) None }
-    ensures length { length slots.new.items ≡ length slots.old.items }
-{
-    match slots.get_mut(p as usize) {
-        Some(slot) => remove_slot(slot),
-        None => (),
-    }
-}
-
-/// Takes away the space of a number that has no process, and gives up its memory.
-pub(crate) fn drop_in(slots: &mut Slots, p: u16)
-    ensures dropped { IsEdited slots.old.items slots.new.items p None None }
+    ensures removed { IsEdited slots.old.items slots.new.items p None }
     ensures length { length slots.new.items ≡ length slots.old.items }
 {
     match slots.get_mut(p as usize) {
@@ -171,25 +130,47 @@ pub(crate) fn drop_in(slots: &mut Slots, p: u16)
     }
 }
 
-/// A slot for a space with its process.
-pub(crate) fn new_slot(alloc: Global, guest: Guest) -> Result<Box<Slot>, AllocError>
-    ensures { IfOk result (λ slot. slot.value ≡ record { guest = guest; taken = true }) }
+/// A slot for a process.
+pub(crate) fn new_slot(alloc: Global, process: Process) -> Result<Box<Process>, AllocError>
+    ensures { IfOk result (λ slot. slot.value ≡ process) }
 {
-    match Box::new(alloc, Slot { guest, taken: true }) {
+    match Box::new(alloc, process) {
         Ok(slot) => Ok(slot),
         Err(_) => Err(AllocError),
     }
 }
 
 /// Puts a slot in its place, for which there is room.
-pub(crate) fn fill(slots: &mut Slots, p: u16, slot: Box<Slot>)
+pub(crate) fn fill(slots: &mut Slots, p: u16, slot: Box<Process>)
     requires { p < length slots.old.items }
-    ensures filled { IsEdited slots.old.items slots.new.items p
-        (slot_space (Some slot)) (slot_process (Some slot)) }
+    ensures filled { IsEdited slots.old.items slots.new.items p (Some slot.value) }
     ensures length { length slots.new.items ≡ length slots.old.items }
 {
     match slots.get_mut(p as usize) {
         Some(place) => *place = Some(slot),
+        None => unreachable!(),
+    }
+}
+
+/// Puts a process in the place of a slot's.
+fn set_slot(slot: &mut Option<Box<Process>>, process: Process)
+    requires { is_some (slot_process slot.old) ≡ true }
+    ensures { slot_process slot.new ≡ Some process }
+{
+    match slot {
+        Some(slot) => **slot = process,
+        None => unreachable!(),
+    }
+}
+
+/// Puts a process in the place of that of a number.
+pub(crate) fn set_in(slots: &mut Slots, p: u16, process: Process)
+    requires { is_some (slot_process (slot_at slots.old.items p)) ≡ true }
+    ensures set { IsEdited slots.old.items slots.new.items p (Some process) }
+    ensures length { length slots.new.items ≡ length slots.old.items }
+{
+    match slots.get_mut(p as usize) {
+        Some(slot) => set_slot(slot, process),
         None => unreachable!(),
     }
 }
@@ -211,7 +192,7 @@ fn has_process(slots: &Slots, p: usize) -> bool
     ensures { result ≡ is_some (slot_process (slot_at slots.now.items p)) }
 {
     match slots.get(p) {
-        Some(Some(slot)) => slot.taken,
+        Some(Some(_)) => true,
         Some(None) => false,
         None => false,
     }
@@ -219,7 +200,7 @@ fn has_process(slots: &Slots, p: usize) -> bool
 
 /// The least number with a process, of those not below one.
 pub(crate) fn next_in(slots: &Slots, from: u16) -> Option<u16>
-    requires { length slots.now.items ≤ LAST_SPACE + 1 }
+    requires { length slots.now.items ≤ 2 ^ 16 }
     ensures { IsNextProcess slots.now.items from result }
 {
     let mut p = from as usize;
@@ -230,16 +211,4 @@ pub(crate) fn next_in(slots: &Slots, from: u16) -> Option<u16>
         p += 1;
     }
     None
-}
-
-/// How many pages the space of a number has.
-pub(crate) fn pages_in(slots: &Slots, p: u16) -> u32
-    requires { is_some (slot_space (slot_at slots.now.items p)) ≡ true }
-    ensures { result ≡ option_map_or map.len (slot_space (slot_at slots.now.items p)) 0 }
-{
-    match slots.get(p as usize) {
-        Some(Some(slot)) => slot.guest.memory.pages(),
-        Some(None) => unreachable!(),
-        None => unreachable!(),
-    }
 }

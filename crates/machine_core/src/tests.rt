@@ -1,12 +1,11 @@
-use crate::Machine;
-use crate::guest::Guest;
-use crate::load::load_memory;
-use crate::memory::PlainMemory;
-use crate::process::is_running;
-use bitflags::Flags;
+ghost use Rattle.std.specs.Prelude.{◌≡◌, ◌<◌, ◌≤◌, Ok};
+ghost use Rattle.sizes.specs.declared.TheConstants.{MOST_FRAMES};
+
+use crate::view::View;
+use crate::{Machine, SpaceError};
 use elf_loader::read_image;
-use ovl_io::{FaultKind, Perms, ProcessState, Turn};
-use rv_execute::{Denied, GuestMemory, Outcome, Refused, Regs};
+use ovl_io::{FaultKind, ProcessState, Turn};
+use rv_execute::{Denied, GuestMemory, Outcome, Refused};
 use std::alloc::{AllocError, Global};
 use std::process::Abort;
 use std::test::Fail;
@@ -75,6 +74,7 @@ fn code_with(alloc: Global, words: &[u32], others: &[Empty]) -> Result<Vec<u8>, 
 fn run(rt: &impl Abort, machine: &mut Machine, p: u16) -> (usize, ProcessState) {
     for steps in 0..20 {
         assert!(rt; machine.is_running(p), "{p} has ended after {steps} steps");
+        assert!(rt; machine.memory().has_space(p), "{p} has no space");
         match machine.event(p) {
             Turn::Stepped => (),
             Turn::Exited(code) => return (steps, ProcessState::Exited(code)),
@@ -85,11 +85,24 @@ fn run(rt: &impl Abort, machine: &mut Machine, p: u16) -> (usize, ProcessState) 
     (20, ProcessState::Running)
 }
 
-// A machine in which a file is process 1, and how many pages that has.
-fn loaded(alloc: Global, file: &[u8]) -> Result<(Machine, u32), Fail> {
+// How many pages a load made.
+fn pages_of(rt: &impl Abort, loaded: Result<u32, SpaceError>) -> u32
+    ensures { loaded ≡ Ok result }
+{
+    match loaded {
+        Ok(pages) => pages,
+        Err(_) => panic!(rt; "it isn't loaded"),
+    }
+}
+
+// A machine of 1 to 65,536 frames in which a file is process 1, and how many pages that has.
+fn loaded(rt: &impl Abort, alloc: Global, frames: u32, file: &[u8]) -> Result<(Machine, u32), Fail>
+    requires some { 0 < frames }
+    requires few { frames ≤ MOST_FRAMES }
+{
     let image = read_image(alloc, file)?;
-    let mut machine = Machine::new(alloc)?;
-    let pages = machine.load(1, &image, file)?;
+    let mut machine = Machine::new(alloc, frames)?;
+    let pages = pages_of(rt, machine.load(1, &image, file));
     Ok((machine, pages))
 }
 
@@ -101,7 +114,7 @@ fn assert_run(
     pages: u32,
     end: (usize, ProcessState),
 ) -> Result<(), Fail> {
-    let (mut machine, count) = loaded(alloc, file)?;
+    let (mut machine, count) = loaded(rt, alloc, 1024, file)?;
     assert_eq!(rt; count, pages);
     assert!(rt; machine.is_running(1));
     assert!(rt; !machine.is_running(0) && !machine.is_running(2));
@@ -269,10 +282,13 @@ fn processes_do_not_disturb_each_other(rt: HostRuntime) -> Result<(), Fail> {
     let illegal = file_of(rt.alloc(), CODE + 4, 5, CODE, EXIT_7, &[])?;
     let first = read_image(rt.alloc(), seven.as_slice())?;
     let last = read_image(rt.alloc(), illegal.as_slice())?;
-    let mut machine = Machine::new(rt.alloc())?;
-    assert_eq!(rt; machine.load(1, &first, seven.as_slice())?, 17);
-    assert_eq!(rt; machine.load(32767, &last, illegal.as_slice())?, 17);
+    let mut machine = Machine::new(rt.alloc(), 1024)?;
+    let pages = pages_of(&rt, machine.load(1, &first, seven.as_slice()));
+    assert_eq!(rt; pages, 17);
+    let pages = pages_of(&rt, machine.load(32767, &last, illegal.as_slice()));
+    assert_eq!(rt; pages, 17);
     assert!(rt; machine.is_running(1) && machine.is_running(32767));
+    assert!(rt; machine.memory().has_space(1));
     assert!(rt; matches!(machine.event(1), Turn::Stepped));
     assert_eq!(rt;
         run(&rt, &mut machine, 32767),
@@ -282,31 +298,6 @@ fn processes_do_not_disturb_each_other(rt: HostRuntime) -> Result<(), Fail> {
     assert_eq!(rt; run(&rt, &mut machine, 1), (1, ProcessState::Exited(7)));
     assert!(rt; !machine.is_running(1) && !machine.is_running(32767));
     Ok(())
-}
-
-// A running process with a memory, at an address, with these values in a0, a1, a2 and a7.
-fn guest_of(memory: PlainMemory, pc: u64, [a0, a1, a2, a7]: [u64; 4]) -> Guest {
-    let mut regs = Regs::new(pc, 0);
-    regs.set(10, a0);
-    regs.set(11, a1);
-    regs.set(12, a2);
-    regs.set(17, a7);
-    Guest {
-        process: crate::Process {
-            regs,
-            state: ProcessState::Running,
-        },
-        memory,
-    }
-}
-
-// The memory of a file with one ECALL, and 0x2004 bytes from 0x11000 on that may be written.
-fn ecall_memory(rt: &impl Abort, alloc: Global) -> Result<PlainMemory, Fail> {
-    let file = code_with(alloc, &[0x0000_0073], &[(6, 0x11000, 0x2004)])?;
-    let image = read_image(alloc, file.as_slice())?;
-    let mut memory = load_memory(alloc, &image, file.as_slice())?;
-    assert!(rt; memory.store(0x11FFE, b"over").is_ok());
-    Ok(memory)
 }
 
 #[test]
@@ -330,13 +321,22 @@ fn a_write_prints_its_buffer(rt: HostRuntime) -> Result<(), Fail> {
         ([1, 0x13FFF, 2], 0xFFFF_FFFF_FFFF_FFF2, None),
         ([1, 0xFFFF_FFFF_FFFF_FFFF, 1], 0xFFFF_FFFF_FFFF_FFF2, None),
     ];
+    let file = code_with(rt.alloc(), &[0x0000_0073], &[(6, 0x11000, 0x2004)])?;
     for ([a0, a1, a2], answer, printed) in rows {
-        let memory = ecall_memory(&rt, rt.alloc())?;
-        let mut guest = guest_of(memory, CODE, [a0, a1, a2, 64]);
-        assert!(rt; is_running(&guest.process));
-        assert_eq!(rt; guest.execute(), Outcome::Asked);
-        assert!(rt; is_running(&guest.process));
-        match (guest.answer_request(1), printed) {
+        let (mut machine, _) = loaded(&rt, rt.alloc(), 1024, file.as_slice())?;
+        assert!(rt; machine.memory().has_space(1));
+        assert!(rt; machine.memory_mut().write(1, 0x11FFE, b"over").is_ok());
+        let mut process = match machine.process(1) {
+            Some(process) => *process,
+            None => panic!(rt; "no process"),
+        };
+        for (register, value) in [(10, a0), (11, a1), (12, a2), (17, 64)] {
+            process.regs.set(register, value);
+        }
+        machine.set_process(1, process);
+        assert!(rt; machine.is_running(1));
+        assert!(rt; machine.memory().has_space(1));
+        match (machine.event(1), printed) {
             (Turn::Wrote(written), Some((port, front, count))) => {
                 assert_eq!(rt; (written.port, written.bytes.len()), (port, count));
                 assert!(rt; written.bytes.as_slice().starts_with(front), "from {a1:#x}");
@@ -344,12 +344,9 @@ fn a_write_prints_its_buffer(rt: HostRuntime) -> Result<(), Fail> {
             (Turn::Stepped, None) => (),
             _ => panic!(rt; "another turn for {a0}, {a1:#x}, {a2}"),
         }
-        assert_eq!(rt;
-            guest.process.regs.get(10),
-            answer,
-            "for {a0}, {a1:#x}, {a2}"
-        );
-        assert_eq!(rt; guest.process.regs.pc(), CODE + 4);
+        let process = *machine.process(1).ok_or("no process")?;
+        assert_eq!(rt; process.regs.get(10), answer, "for {a0}, {a1:#x}, {a2}");
+        assert_eq!(rt; process.regs.pc(), CODE + 4);
     }
     Ok(())
 }
@@ -357,29 +354,33 @@ fn a_write_prints_its_buffer(rt: HostRuntime) -> Result<(), Fail> {
 #[test]
 fn a_refused_store_changes_nothing(rt: HostRuntime) -> Result<(), Fail> {
     let file = code_with(rt.alloc(), EXIT_7, &[(6, 0x11000, 1), (5, 0x12000, 1)])?;
-    let image = read_image(rt.alloc(), file.as_slice())?;
-    let mut memory = load_memory(rt.alloc(), &image, file.as_slice())?;
+    let (mut machine, _) = loaded(&rt, rt.alloc(), 1024, file.as_slice())?;
+    assert!(rt; machine.memory().has_space(1));
+    let mut view = View {
+        memory: machine.memory_mut(),
+        space: 1,
+    };
     let mut word = [0xFF; 4];
     assert_eq!(rt;
-        memory.store(0x11FFE, &[1, 2, 3, 4]),
+        view.store(0x11FFE, &[1, 2, 3, 4]),
         Err(Refused::At(0x12000))
     );
-    assert_eq!(rt; memory.load(0x11FFE, &mut word), Ok(()));
-    assert_eq!(rt; word, [0, 0, 0, 0]);
-    assert_eq!(rt; memory.store(0x11FFC, &[1, 2, 3, 4]), Ok(()));
-    assert_eq!(rt; memory.load(0x11FFD, &mut word), Ok(()));
+    assert_eq!(rt; view.load(0x11FFE, &mut word[..2]), Ok(()));
+    assert_eq!(rt; word, [0, 0, 0xFF, 0xFF]);
+    assert_eq!(rt; view.store(0x11FFC, &[1, 2, 3, 4]), Ok(()));
+    assert_eq!(rt; view.load(0x11FFD, &mut word), Ok(()));
     assert_eq!(rt; word, [2, 3, 4, 0]);
     // the code's bytes, as they are fetched
-    assert_eq!(rt; memory.fetch(CODE), Ok(0x05D0_0893));
-    assert_eq!(rt; memory.fetch(0x12000), Ok(0));
-    assert_eq!(rt; memory.fetch(0x11000), Err(Denied { address: 0x11000 }));
+    assert_eq!(rt; view.fetch(CODE), Ok(0x05D0_0893));
+    assert_eq!(rt; view.fetch(0x12000), Ok(0));
+    assert_eq!(rt; view.fetch(0x11000), Err(Denied { address: 0x11000 }));
     // over the end of the last page that is there
     assert_eq!(rt;
-        memory.load(STACK_TOP - 1, &mut word),
+        view.load(STACK_TOP - 1, &mut word),
         Err(Denied { address: STACK_TOP })
     );
     assert_eq!(rt;
-        memory.read(0xFFFF_FFFF_FFFF_FFFF, &mut word, Perms::R),
+        view.load(0xFFFF_FFFF_FFFF_FFFF, &mut word),
         Err(Denied {
             address: 0xFFFF_FFFF_FFFF_FFFF
         })
@@ -388,9 +389,53 @@ fn a_refused_store_changes_nothing(rt: HostRuntime) -> Result<(), Fail> {
 }
 
 #[test]
+fn a_store_that_needs_too_many_units_is_full(rt: HostRuntime) -> Result<(), Fail> {
+    // addi x5, x0, 1; sb x5, 0(x2); and the same at sp - 64, sp - 128 and sp - 192; then exit with 0
+    let words: &[u32] = &[
+        0x0010_0293,
+        0x0051_0023,
+        0xFC51_0023,
+        0xF851_0023,
+        0xF451_0023,
+        0x05D0_0893,
+        0x0000_0513,
+        0x0000_0073,
+    ];
+    let file = code_with(rt.alloc(), words, &[])?;
+    let (mut machine, pages) = loaded(&rt, rt.alloc(), 2, file.as_slice())?;
+    assert_eq!(rt; pages, 17);
+    assert!(rt; machine.is_running(1));
+    assert!(rt; machine.memory().has_space(1));
+    assert!(rt; matches!(machine.event(1), Turn::Stepped));
+    assert!(rt; machine.is_running(1));
+    assert!(rt; machine.memory().has_space(1));
+    assert!(rt; matches!(machine.event(1), Turn::Full(33, 32)));
+    assert_eq!(rt; machine.memory().units(), 32);
+    let process = *machine.process(1).ok_or("no process")?;
+    assert_eq!(rt; process.regs.pc(), CODE + 4);
+    assert_eq!(rt; process.state, ProcessState::Running);
+    Ok(())
+}
+
+#[test]
+fn a_load_that_needs_too_many_units_is_full(rt: HostRuntime) -> Result<(), Fail> {
+    let file = code_with(rt.alloc(), EXIT_7, &[])?;
+    let image = read_image(rt.alloc(), file.as_slice())?;
+    let mut machine = Machine::new(rt.alloc(), 1)?;
+    assert_eq!(rt;
+        machine.load(1, &image, file.as_slice()),
+        Err(SpaceError::Full(32, 16))
+    );
+    assert!(rt; machine.process(1).is_none());
+    assert!(rt; !machine.memory().has_space(1));
+    assert_eq!(rt; machine.memory().units(), 16);
+    Ok(())
+}
+
+#[test]
 fn a_process_is_shown(rt: HostRuntime) -> Result<(), Fail> {
     let file = code_with(rt.alloc(), EXIT_7, &[])?;
-    let (mut machine, _) = loaded(rt.alloc(), file.as_slice())?;
+    let (mut machine, _) = loaded(&rt, rt.alloc(), 1024, file.as_slice())?;
     assert!(rt; machine.process(2).is_none());
     for (pc, x10, x17, outcome) in [
         (CODE, 0, 0, (1, Outcome::Stepped)),
@@ -403,9 +448,11 @@ fn a_process_is_shown(rt: HostRuntime) -> Result<(), Fail> {
         assert_eq!(rt; (regs.pc(), regs.get(10), regs.get(17)), (pc, x10, x17));
         assert_eq!(rt; (regs.get(0), regs.get(2)), (0, STACK_TOP - 16));
         assert!(rt; machine.is_running(1));
+        assert!(rt; machine.memory().has_space(1));
         assert_eq!(rt; machine.execute_up_to(1, 1), outcome, "at {pc:#x}");
     }
     assert!(rt; machine.is_running(1));
+    assert!(rt; machine.memory().has_space(1));
     assert!(rt; matches!(machine.answer(1), Turn::Exited(7)));
     let process = *machine.process(1).ok_or("no process")?;
     assert_eq!(rt; process.state, ProcessState::Exited(7));
@@ -417,9 +464,9 @@ fn a_process_is_shown(rt: HostRuntime) -> Result<(), Fail> {
 fn processes_take_turns(rt: HostRuntime) -> Result<(), Fail> {
     let file = code_with(rt.alloc(), EXIT_7, &[])?;
     let image = read_image(rt.alloc(), file.as_slice())?;
-    let mut machine = Machine::new(rt.alloc())?;
-    machine.load(5, &image, file.as_slice())?;
-    machine.load(2, &image, file.as_slice())?;
+    let mut machine = Machine::new(rt.alloc(), 1024)?;
+    pages_of(&rt, machine.load(5, &image, file.as_slice()));
+    pages_of(&rt, machine.load(2, &image, file.as_slice()));
     assert!(rt; machine.running() == [2, 5].as_slice());
     // 7 isn't there, and 2 has ended when its last turn comes
     machine.play(&[2, 5, 7, 2, 2, 2]);
@@ -437,9 +484,9 @@ fn processes_take_turns(rt: HostRuntime) -> Result<(), Fail> {
 fn a_process_changes_and_leaves(rt: HostRuntime) -> Result<(), Fail> {
     let file = code_with(rt.alloc(), EXIT_7, &[])?;
     let image = read_image(rt.alloc(), file.as_slice())?;
-    let mut machine = Machine::new(rt.alloc())?;
-    machine.load(5, &image, file.as_slice())?;
-    assert_eq!(rt; machine.pages(5), 17);
+    let mut machine = Machine::new(rt.alloc(), 1024)?;
+    pages_of(&rt, machine.load(5, &image, file.as_slice()));
+    assert_eq!(rt; machine.memory().pages(5), 17);
     let running = *machine.process(5).ok_or("no process")?;
     let mut ended = running;
     ended.state = ProcessState::Exited(1);

@@ -1,4 +1,4 @@
-use Rattle.std.proofs.Common.{◌≡◌, ℕ, ◌+◌, ◌*◌, ◌/◌, ◌%◌, ◌<◌, ◌≤◌, Bool, true, false, List, length, take, drop, Some, None, sym, ap, ◌∙◌, refl, arith}
+use Rattle.std.proofs.Common.{◌≡◌, ℕ, ◌+◌, ◌*◌, ◌/◌, ◌%◌, ◌<◌, ◌≤◌, Bool, true, false, List, length, take, drop, Some, None, sym, ap, subst, ◌∙◌, refl, arith}
 use Rattle.std.specs.Prelude.{Result, Ok, Err, is_some}
 use Rattle.std.specs.Option.{option_map, option_map_or}
 use Rattle.std.specs.FinMap.{get}
@@ -6,14 +6,17 @@ use Rattle.sizes.specs.declared.TheConstants.{ADDRESS_END, LINE_BYTES, PAGE_BYTE
 use Rattle.ovl_io.specs.Memory.{Page, bytes_at, first_denied}
 use Rattle.ovl_io.specs.MemoryLaws.{all_allowed, bytes_in, first_refused}
 use Rattle.ovl_io.specs.PageBytes.{page_allows}
+use Rattle.ovl_io.specs.declared.perms.Perms.{Perms}
 use Rattle.ovl_io.specs.Permissions.{permits}
 use Rattle.overlay_pages.specs.Lines.{line_in_page}
 use Rattle.overlay_pages.specs.State.{PageState, State, memory_of, page_in, seen_page}
-use Rattle.overlay_pages.specs.View.{MemoryView, state_of}
 use Rattle.overlay_memory.specs.declared.error.MemoryError.{MemoryError}
 use Rattle.overlay_memory.specs.declared.error.MemoryError.TheVariants.{Unmapped, Forbidden, Full}
-use Rattle.overlay_memory.specs.Access.{Reads}
-use Rattle.overlay_memory.specs.Pieces.{IsPermitted, Permits}
+use Rattle.overlay_pages.specs.View.{IsJoined, MemoryView, state_of}
+use Rattle.overlay_pages.specs.SpotLaws.{found_page}
+use Rattle.overlay_pages.specs.declared.spots.FoundLine.{FoundLine}
+use Rattle.overlay_memory.specs.Access.{IsFoundIn, Reads}
+use Rattle.overlay_memory.specs.Pieces.{IsLacking, IsPermitted, Permits}
 use Rattle.overlay_memory.specs.StateMemory.{memory_at}
 use Rattle.overlay_memory.proofs.LineBytes.{line_part, page_count}
 use Rattle.overlay_memory.proofs.Views.{page_low}
@@ -55,6 +58,24 @@ reads_of view s need address n (Err (Forbidden at)) some fits h = record {
 }
 reads_of view s need address n (Err (Full needed limit)) some fits h = absurd h
 
+-- whether it may be used, where the line with it was found
+found_perms : (view : MemoryView) (space address need : ℕ) (found : FoundLine) (b : Bool) (it : IsFoundIn view space address found) → permits found.perms.0 need ≡ b
+    → permits (found_page view space (address / PAGE_BYTES) (address / LINE_BYTES % PAGE_LINES) found it).0.entry.perms.0 need ≡ b
+found_perms view space address need found b it is =
+    ap (λ (k : Perms). permits k.0 need) (found_page view space (address / PAGE_BYTES) (address / LINE_BYTES % PAGE_LINES) found it).2 ∙ is
+
+pub found_permits : (view : MemoryView) (space address need : ℕ) (found : FoundLine) → IsFoundIn view space address found → IsJoined view
+    → permits found.perms.0 need ≡ true → IsPermitted view space need address
+found_permits view space address need found it joined is =
+    let x = found_page view space (address / PAGE_BYTES) (address / LINE_BYTES % PAGE_LINES) found it in
+    record { page = x.0; there = x.1; may = found_perms view space address need found true it is; joined = joined }
+
+pub found_lacks : (view : MemoryView) (space address need : ℕ) (found : FoundLine) → IsFoundIn view space address found
+    → permits found.perms.0 need ≡ false → IsLacking view space need address
+found_lacks view space address need found it is =
+    let x = found_page view space (address / PAGE_BYTES) (address / LINE_BYTES % PAGE_LINES) found it in
+    record { page = x.0; there = x.1; lacks = found_perms view space address need found false it is }
+
 pub low_address : (view : MemoryView) (s need address : ℕ) → IsPermitted view s need address → address < ADDRESS_END
 low_address view s need address may = let low = page_low view s (address / 4096) may.page may.joined may.there in omega (arith, low)
 
@@ -69,3 +90,18 @@ read_piece v s q line at n address x bytes there is whole low fits place =
     ap (λ l. take n (drop at l)) (sym it)
     ∙ line_part x.lines line at n (ap length it ∙ whole) low fits
     ∙ sym (bytes_in (memory_of v s) q address (64 * line + at) n (seen_page x) (seen_there v s q x there) (page_count x.lines) place (omega (arith, low, fits)))
+
+-- the same of a line that was found
+pub found_piece : (view : MemoryView) (address n : ℕ) (found : FoundLine) (bytes : List ℕ) → IsFoundIn view found.space address found
+    → address % LINE_BYTES + n ≤ LINE_BYTES
+    → option_map (λ (x : PageState). line_in_page x.lines found.line) (page_in (state_of view) found.space found.page) ≡ Some bytes → length bytes ≡ LINE_BYTES
+    → take n (drop (address % LINE_BYTES) bytes) ≡ bytes_at (memory_of (state_of view) found.space) address n
+found_piece view address n found bytes it fits is whole =
+    let page = address / 4096 in
+    let line = address / 64 % 64 in
+    let place : address ≡ 4096 * page + (64 * line + address % 64) = omega arith in
+    let x = found_page view found.space page line found it in
+    let here : option_map (λ (x : PageState). line_in_page x.lines line) (page_in (state_of view) found.space page) ≡ Some bytes =
+    subst (λ l. option_map (λ (x : PageState). line_in_page x.lines l) (page_in (state_of view) found.space page) ≡ Some bytes) it.line_is
+    (subst (λ p. option_map (λ (x : PageState). line_in_page x.lines found.line) (page_in (state_of view) found.space p) ≡ Some bytes) it.page_is is) in
+    read_piece (state_of view) found.space page line (address % 64) n address x.0 bytes x.1 here whole (omega arith) fits place

@@ -1,6 +1,6 @@
-use Rattle.std.specs.Prelude.{◌≡◌, ℕ, ◌+◌, ◌/◌, ◌<◌, true, List, length, Some, None, IsSome, Result, Ok, Err}
+use Rattle.std.specs.Prelude.{◌≡◌, ℕ, ◌+◌, ◌/◌, ◌%◌, ◌<◌, true, List, length, Option, Some, None, IsSome, Result, Ok, Err}
 use Rattle.std.specs.FinMap.{get}
-use Rattle.sizes.specs.declared.TheConstants.{FRAME_UNITS, PAGE_BYTES}
+use Rattle.sizes.specs.declared.TheConstants.{FRAME_UNITS, LINE_BYTES, PAGE_BYTES, PAGE_LINES}
 use Rattle.ovl_io.specs.Memory.{first_denied, with_bytes}
 use Rattle.ovl_io.specs.Permissions.{writable}
 use Rattle.ledger.specs.Ledger.{Ledger}
@@ -13,6 +13,8 @@ use Rattle.overlay_pages.specs.State.{State, base_of, books, holds_space, memory
 use Rattle.overlay_pages.specs.Changes.{IsPlaced, limit_of, units_of, whole_page}
 use Rattle.overlay_pages.specs.Calls.{entries_in}
 use Rattle.overlay_pages.specs.View.{MemoryView, state_of}
+use Rattle.overlay_pages.specs.Spots.{FindsLine, IsFound, IsFoundAt}
+use Rattle.overlay_pages.specs.declared.spots.FoundLine.{FoundLine}
 use Rattle.overlay_memory.specs.declared.error.MemoryError.{MemoryError}
 use Rattle.overlay_memory.specs.declared.error.MemoryError.TheVariants.{Unmapped, Forbidden, Full}
 use Rattle.overlay_memory.specs.declared.error.SpaceError.{SpaceError}
@@ -38,6 +40,17 @@ Reads state space need address count (Ok done) = IsAllowed state space need addr
 Reads state space need address count (Err (Unmapped at)) = IsUnmappedAt state space need address count at
 Reads state space need address count (Err (Forbidden at)) = IsForbiddenAt state space need address count at
 Reads state space need address count (Err (Full needed limit)) = ⊥
+
+-- The line with the byte at an address was found, and what looking for it comes to.
+abbrev pub IsFoundIn : MemoryView → ℕ → ℕ → FoundLine → Type 0
+IsFoundIn view space address found = IsFoundAt view space (address / PAGE_BYTES) (address / LINE_BYTES % PAGE_LINES) found
+
+abbrev pub FindsIn : MemoryView → ℕ → ℕ → Option FoundLine → Type 0
+FindsIn view space address result = FindsLine view space (address / PAGE_BYTES) (address / LINE_BYTES % PAGE_LINES) result
+
+-- what was found stands as it was found
+abbrev pub KeepsFound : MemoryView → MemoryView → Type 0
+KeepsFound old new = (found : FoundLine) → IsFound old found → IsFound new found
 
 -- the ledger after a store
 abbrev pub stored_books : State → ℕ → ℕ → ℕ → Ledger

@@ -1,6 +1,6 @@
-use Rattle.std.specs.Prelude.{◌≡◌, ℕ, ◌+◌, ◌-◌, ◌*◌, ◌/◌, ◌%◌, ◌<◌, true, false, List, Some, None, Result, Ok, Err}
+use Rattle.std.specs.Prelude.{◌≡◌, ℕ, ◌+◌, ◌-◌, ◌*◌, ◌/◌, ◌<◌, true, false, List, Some, None, Result, Ok, Err}
 use Rattle.std.specs.FinMap as map
-use Rattle.sizes.specs.declared.TheConstants.{LINE_BYTES, PAGE_BYTES, PAGE_LINES}
+use Rattle.sizes.specs.declared.TheConstants.{LINE_BYTES, PAGE_BYTES}
 use Rattle.ovl_io.specs.Memory.{with_bytes}
 use Rattle.ovl_io.specs.Permissions.{permits}
 use Rattle.overlay_bits.specs.Lines.{lines_between}
@@ -9,7 +9,7 @@ use Rattle.overlay_pages.specs.Changes.{is_writable}
 use Rattle.overlay_pages.specs.Calls.{entries_in}
 use Rattle.overlay_pages.specs.View.{IsJoined, MemoryView, state_of}
 use Rattle.overlay_pages.specs.declared.spots.FoundLine.{FoundLine}
-use Rattle.overlay_pages.specs.Spots.{IsFoundAt}
+use Rattle.overlay_memory.specs.Access.{IsFoundIn}
 use Rattle.overlay_memory.specs.declared.error.MemoryError.{MemoryError}
 use Rattle.overlay_memory.specs.declared.error.MemoryError.TheVariants.{Unmapped, Forbidden, Full}
 
@@ -37,7 +37,7 @@ Permits view space need address (Err (Full needed limit)) = ⊥
 -- the line with the byte at an address was found, which may be used so; or why it may not
 pub record IsFoundFor (view : MemoryView) (space need address : ℕ) (found : FoundLine) : Type 0 where
   pub may : IsPermitted view space need address
-  pub at : IsFoundAt view space (address / PAGE_BYTES) (address / LINE_BYTES % PAGE_LINES) found
+  pub at : IsFoundIn view space address found
 
 abbrev pub Finds : MemoryView → ℕ → ℕ → ℕ → Result FoundLine MemoryError → Type 0
 Finds view space need address (Ok found) = IsFoundFor view space need address found

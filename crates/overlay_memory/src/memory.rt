@@ -1,10 +1,10 @@
 //! The memories of all spaces.
 
-ghost use Rattle.std.specs.Prelude.{◌≡◌, ℕ, ◌+◌, ◌*◌, ◌<◌, ◌≤◌, List, IfOk, IfSome, IsSome, OnOk, OnErr, None, true, false, length};
+ghost use Rattle.std.specs.Prelude.{◌≡◌, ℕ, ◌+◌, ◌*◌, ◌%◌, ◌<◌, ◌≤◌, List, IfOk, IfSome, IsSome, OnOk, OnErr, None, true, false, length};
 ghost use Rattle.std.specs.Borrow.{Lends, sem, Array, u8 as byte};
 ghost use Rattle.std.specs.FinMap as map;
 ghost use Rattle.std.specs.Option.{option_map};
-ghost use Rattle.sizes.specs.declared.TheConstants.{LAST_SPACE, MOST_FRAMES, MOST_SPACE_PAGES, MOST_UNITS, PAGE_BYTES, PAGE_END, PAGE_LINES};
+ghost use Rattle.sizes.specs.declared.TheConstants.{LAST_SPACE, LINE_BYTES, MOST_FRAMES, MOST_SPACE_PAGES, MOST_UNITS, PAGE_BYTES, PAGE_END, PAGE_LINES};
 ghost use Rattle.ovl_io.specs.Memory.{bytes_at};
 ghost use Rattle.ledger.specs.Ledger.{is_alone};
 ghost use Rattle.ledger.specs.Units.{own_lines};
@@ -15,17 +15,17 @@ ghost use Rattle.overlay_pages.specs.State.{bare_space, books, cut_space, holds_
 ghost use Rattle.overlay_pages.specs.Changes.{AreAbsent, Fits, HasCopyRoom, HasShareRoom, IsPlaced, committed, copied, discarded, is_writable, limit_of, units_of, with_shared, with_written, with_zeros};
 ghost use Rattle.overlay_pages.specs.View.{HasOwnPlace, IsJoined, place_at, state_of};
 ghost use Rattle.overlay_pages.specs.Calls.{AwaitsLike, IsEmptyState, IsNextPage, entries_in, with_line_at_place};
-ghost use Rattle.overlay_memory.specs.Access.{Places, Reads, Stores};
+ghost use Rattle.overlay_memory.specs.Access.{FindsIn, IsFoundIn, KeepsFound, Places, Reads, Stores};
 ghost use Rattle.overlay_memory.specs.Pieces.{IsEmptied};
 ghost use Rattle.overlay_memory.specs.contracts.memory.OverlayMemory.{the_row};
 
 use crate::error::{MemoryError, SpaceError};
-use crate::reading::read_bytes;
+use crate::reading::{find_line, read_bytes, read_found};
 use crate::room::excess_of;
 use crate::storing::write_bytes;
 use bitflags::Flags;
 use overlay_bits::Bits;
-use overlay_pages::OverlayPages;
+use overlay_pages::{FoundLine, OverlayPages};
 use ovl_io::Perms;
 use page_table::PageTable;
 use sizes::{FRAME_UNITS, PAGE_BYTES};
@@ -181,8 +181,38 @@ impl OverlayMemory {
             ≡ bytes_at (memory_of (state_of self.old) space) address (length into.old)) }
         ensures kept { length into.new ≡ length into.old }
         ensures same { state_of self.new ≡ state_of self.old }
+        ensures found { KeepsFound self.old self.new }
     {
         read_bytes(&self.pages, space, address, into, need)
+    }
+
+    /// Finds the line with the byte at an address. None exactly where its page isn't there. Costs a look-up of the page, and one
+    /// of its overlay. What was found stands until the memory is changed.
+    #[inline]
+    pub fn find(&self, space: u16, address: u64) -> Option<FoundLine>
+        ensures { FindsIn self.now space address result }
+    {
+        find_line(&self.pages, space, address)
+    }
+
+    /// As `load`, of some bytes that are all in a line that was found. Costs a step.
+    #[inline]
+    pub fn load_found(
+        &self,
+        found: FoundLine,
+        address: u64,
+        into: &mut [u8],
+        need: Perms,
+    ) -> Result<(), MemoryError>
+        requires found { IsFoundIn self.now found.space address found }
+        requires some { 0 < length into.old }
+        requires one_line { address % LINE_BYTES + length into.old ≤ LINE_BYTES }
+        ensures access { Reads (state_of self.now) found.space need.0 address (length into.old) result }
+        ensures bytes { OnOk result (into.new
+            ≡ bytes_at (memory_of (state_of self.now) found.space) address (length into.old)) }
+        ensures kept { length into.new ≡ length into.old }
+    {
+        read_found(&self.pages, found, address, into, need)
     }
 
     /// As `write`, for an instruction.

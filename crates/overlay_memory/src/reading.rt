@@ -4,8 +4,8 @@ ghost use Rattle.std.specs.Prelude.{◌≡◌, ◌+◌, ◌/◌, ◌%◌, ◌<�
 ghost use Rattle.sizes.specs.declared.TheConstants.{ADDRESS_END, LINE_BYTES};
 ghost use Rattle.ovl_io.specs.Memory.{bytes_at};
 ghost use Rattle.overlay_pages.specs.State.{memory_of};
-ghost use Rattle.overlay_pages.specs.View.{state_of};
-ghost use Rattle.overlay_memory.specs.Access.{Reads};
+ghost use Rattle.overlay_pages.specs.View.{IsJoined, state_of};
+ghost use Rattle.overlay_memory.specs.Access.{FindsIn, IsFoundIn, Reads};
 ghost use Rattle.overlay_memory.specs.Pieces.{Finds, Permits};
 
 use crate::error::MemoryError;
@@ -13,6 +13,16 @@ use bitflags::Flags;
 use overlay_pages::{FoundLine, OverlayPages};
 use ovl_io::Perms;
 use sizes::{LINE_BYTES, PAGE_BYTES, PAGE_LINES};
+
+/// Finds the line with the byte at an address. None exactly where its page isn't there.
+#[inline]
+pub(crate) fn find_line(pages: &OverlayPages, space: u16, address: u64) -> Option<FoundLine>
+    ensures found { FindsIn pages.now space address result }
+    ensures joined { IsJoined pages.now }
+{
+    let line = (address / LINE_BYTES as u64 % PAGE_LINES as u64) as u8;
+    pages.find(space, address / PAGE_BYTES as u64, line)
+}
 
 /// Finds the line with the byte at an address, which may be used so: its page is there and has the permission.
 #[inline]
@@ -24,8 +34,7 @@ pub(crate) fn find(
 ) -> Result<FoundLine, MemoryError>
     ensures { Finds pages.now space need.0 address result }
 {
-    let line = (address / LINE_BYTES as u64 % PAGE_LINES as u64) as u8;
-    match pages.find(space, address / PAGE_BYTES as u64, line) {
+    match find_line(pages, space, address) {
         Some(found) => {
             if found.perms.contains(need) {
                 Ok(found)
@@ -53,6 +62,34 @@ pub(crate) fn permit(
     }
 }
 
+/// Fills `into`, of some bytes, with those from an address on, all in a line that was found.
+#[inline]
+pub(crate) fn read_found(
+    pages: &OverlayPages,
+    found: FoundLine,
+    address: u64,
+    into: &mut [u8],
+    need: Perms,
+) -> Result<(), MemoryError>
+    requires found { IsFoundIn pages.now found.space address found }
+    requires some { 0 < length into.old }
+    requires one_line { address % LINE_BYTES + length into.old ≤ LINE_BYTES }
+    ensures access { Reads (state_of pages.now) found.space need.0 address (length into.old) result }
+    ensures bytes { OnOk result (into.new
+        ≡ bytes_at (memory_of (state_of pages.now) found.space) address (length into.old)) }
+    ensures kept { length into.new ≡ length into.old }
+    ensures low { OnOk result (address < ADDRESS_END) }
+{
+    let at = (address % LINE_BYTES as u64) as usize;
+    let bytes = pages.line_at(found);
+    if found.perms.contains(need) {
+        into.copy_from_slice(&bytes[at..at + into.len()]);
+        Ok(())
+    } else {
+        Err(MemoryError::Forbidden(address))
+    }
+}
+
 /// Fills `into`, of some bytes, with those from an address on, all in one line.
 #[inline]
 fn read_line(
@@ -70,14 +107,9 @@ fn read_line(
     ensures kept { length into.new ≡ length into.old }
     ensures low { OnOk result (address < ADDRESS_END) }
 {
-    match find(pages, space, address, need) {
-        Ok(found) => {
-            let at = (address % LINE_BYTES as u64) as usize;
-            let bytes = pages.line_at(found);
-            into.copy_from_slice(&bytes[at..at + into.len()]);
-            Ok(())
-        }
-        Err(error) => Err(error),
+    match find_line(pages, space, address) {
+        Some(found) => read_found(pages, found, address, into, need),
+        None => Err(MemoryError::Unmapped(address)),
     }
 }
 

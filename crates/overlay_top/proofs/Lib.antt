@@ -7,4 +7,5 @@ pub mod Calls
 pub mod Codes
 pub mod Listing
 pub mod Given
+pub mod Beginnings
 pub mod Endings

@@ -46,6 +46,6 @@ line_is processes p process view line there looks is =
     ok_is : (v u : ProcessView) → ◌≡◌ {A = Result ProcessView Code} (Ok v) (Ok u) → v ≡ u
     ok_is v u e = cc
 
-pub head_is : (state : State) (count : ℕ) (line : List ℕ) → count ≡ length (entries state.processes) → line ≡ list_line count 0 → line ≡ list_head state
+pub head_is : (state : State) (count : ℕ) (line : List ℕ) → count ≡ length (entries state.wholes.processes) → line ≡ list_line count 0 → line ≡ list_head state
 unfolding list_head
 head_is state count line counted is = is ∙ ap (λ n. list_line n 0) counted

@@ -12,9 +12,10 @@ use Rattle.overlay_top.specs.declared.running.Halt.TheVariants.{Missing, FetchFa
 use Rattle.script_text.specs.declared.command.Command.{Command}
 use Rattle.overlay_top.specs.declared.status.Status.{Status}
 use Rattle.overlay_top.specs.declared.status.Status.TheVariants as ending
-use Rattle.command_core.specs.State.{State, fresh}
+use Rattle.command_core.specs.State.{AreLikeStates, State, fresh}
 use Rattle.command_core.specs.Commands.{FileAsked, AsksNothing, HasFile, IsMissing, IsTooLong, asked_by, asked_for, asks, file_asked, file_in, has_all, performed}
-use Rattle.overlay_top.specs.declared.running.TheConstants.{QUANTUM}
+use Rattle.command_core.specs.LikeLaws.{AreLikePerformed, like_performed, states_chain, states_same}
+use Rattle.overlay_top.specs.declared.running.TheConstants.{FRAMES, QUANTUM}
 use Rattle.overlay_top.specs.Sending.{IsSent, IsCut}
 use Rattle.overlay_top.specs.Outcome.{RunOutcome, report_of, text_after, first_report, ended, done, with_asked, run_from, named, command_done}
 use Rattle.overlay_top.specs.Running.{FailedAt, FailedFor, WasGiven, RunEnds, Sends}
@@ -37,8 +38,18 @@ behind texts outcome = record { texts = texts ++ outcome.texts; last = outcome.l
 pub record HasRun (all : List Command) (index : ℕ) (files : List ℕ → Option (List ℕ)) (state : State) (tells : Type 0) (start now : List ℕ) : Type 0 where
   pub texts : List (List ℕ)
   pub as_many : length texts ≡ index
-  pub comes : run_from all fresh files ≡ behind texts (run_from (drop index all) state files)
+  pub comes : run_from all (fresh FRAMES) files ≡ behind texts (run_from (drop index all) state files)
   pub sent : tells → now ≡ start ++ flat_map (λ text. text) texts
+
+-- The same of a session, which stands for the state that those commands come to.
+pub record SessionHasRun (all : List Command) (index : ℕ) (files : List ℕ → Option (List ℕ)) (session : State) (tells : Type 0) (start now : List ℕ) : Type 0 where
+  pub state : State
+  pub stands : AreLikeStates session state
+  pub run : HasRun all index files state tells start now
+
+-- what a command comes to on states that are alike
+like_done : (files : List ℕ → Option (List ℕ)) (command : Command) (a b : State) → AreLikeStates a b → AreLikePerformed (command_done files command a) (command_done files command b)
+like_done files command a b like = like_performed QUANTUM (file_in (file_asked files command)) command a b like
 
 -- an outcome that has more texts in front
 outcome_behind : (texts : List (List ℕ)) (text : List ℕ) (outcome : RunOutcome) → behind texts (done text outcome) ≡ behind (texts ++ text ∷ []) outcome
@@ -103,7 +114,7 @@ failed_name h new (Some name) failed = (name, refl, failed)
 comes_at : (all : List Command) (index : ℕ) (command : Command) (files now_files : List ℕ → Option (List ℕ)) (state : State) (tells : Type 0)
     (start now : List ℕ) → index < length all → command ≡ get_or all index command → ((name : List ℕ) → now_files name ≡ files name)
     → (run : HasRun all index files state tells start now)
-    → run_from all fresh files ≡ behind run.texts (with_asked (file_asked now_files command) (command_done now_files command state).text
+    → run_from all (fresh FRAMES) files ≡ behind run.texts (with_asked (file_asked now_files command) (command_done now_files command state).text
     (run_from (drop (index + 1) all) (command_done now_files command state).after files))
 comes_at all index command files now_files state tells start now below is same run =
     run.comes ∙ ap (λ left. behind run.texts (run_from left state files)) (left_at all index command below is)
@@ -112,12 +123,12 @@ comes_at all index command files now_files state tells start now below is same r
     (sym (same_asked files now_files command same))
 
 -- one command more is done
-pub step : (all : List Command) (index : ℕ) (command : Command) (files now_files : List ℕ → Option (List ℕ)) (state after : State) (tells : Type 0)
+one_step : (all : List Command) (index : ℕ) (command : Command) (files now_files : List ℕ → Option (List ℕ)) (state : State) (tells : Type 0)
     (start now new : List ℕ) → index < length all → command ≡ get_or all index command → ((name : List ℕ) → now_files name ≡ files name)
     → HasRun all index files state tells start now → has_all (file_asked now_files command) ≡ true
-    → (tells → IsSent now (command_done now_files command state).text new) → after ≡ (command_done now_files command state).after
-    → HasRun all (index + 1) files after tells start new
-step all index command files now_files state after tells start now new below is same run has sends is_after =
+    → (tells → IsSent now (command_done now_files command state).text new)
+    → HasRun all (index + 1) files (command_done now_files command state).after tells start new
+one_step all index command files now_files state tells start now new below is same run has sends =
     let text = (command_done now_files command state).text in
     let left = run_from (drop (index + 1) all) (command_done now_files command state).after files in
     record {
@@ -125,36 +136,50 @@ step all index command files now_files state after tells start now new below is 
       as_many = length-append run.texts (text ∷ []) ∙ ap (λ n. n + 1) run.as_many;
       comes = comes_at all index command files now_files state tells start now below is same run
           ∙ ap (behind run.texts) (has_asked (file_asked now_files command) text left has)
-          ∙ outcome_behind run.texts text left
-          ∙ ap (λ s. behind (run.texts ++ text ∷ []) (run_from (drop (index + 1) all) s files)) (sym is_after);
+          ∙ outcome_behind run.texts text left;
       sent = λ is_told.
           sends is_told ∙ ap (λ bs. bs ++ text) (run.sent is_told) ∙ append_assoc start (all_of run.texts) text
           ∙ ap (λ bs. start ++ bs) (sym (one_more run.texts text));
     }
 
-pub none_run : (all : List Command) (files : List ℕ → Option (List ℕ)) (state : State) (tells : Type 0) (start : List ℕ) → state ≡ fresh
-    → HasRun all 0 files state tells start start
-none_run all files state tells start is = record {
-  texts = [];
-  as_many = refl;
-  comes = ap (λ s. run_from all s files) (sym is);
-  sent = λ is_told. sym (append-nil start);
+pub step : (all : List Command) (index : ℕ) (command : Command) (files now_files : List ℕ → Option (List ℕ)) (session after : State) (tells : Type 0)
+    (start now new : List ℕ) → index < length all → command ≡ get_or all index command → ((name : List ℕ) → now_files name ≡ files name)
+    → SessionHasRun all index files session tells start now → has_all (file_asked now_files command) ≡ true
+    → (tells → IsSent now (command_done now_files command session).text new) → AreLikeStates after (command_done now_files command session).after
+    → SessionHasRun all (index + 1) files after tells start new
+step all index command files now_files session after tells start now new below is same has_run has sends leaves =
+    let state = has_run.state in
+    let like = like_done now_files command session state has_run.stands in
+    record {
+      state = (command_done now_files command state).after;
+      stands = states_chain after (command_done now_files command session).after (command_done now_files command state).after leaves like.after;
+      run = one_step all index command files now_files state tells start now new below is same has_run.run has
+          (λ is_told. subst (λ text. IsSent now text new) like.text (sends is_told));
+    }
+
+pub none_run : (all : List Command) (files : List ℕ → Option (List ℕ)) (session : State) (tells : Type 0) (start : List ℕ) → session ≡ fresh FRAMES
+    → SessionHasRun all 0 files session tells start start
+none_run all files session tells start is = record {
+  state = fresh FRAMES;
+  stands = states_same session (fresh FRAMES) is;
+  run = record { texts = []; as_many = refl; comes = refl; sent = λ is_told. sym (append-nil start) };
 }
 
 -- all commands are done
-pub all_done : {H K : Type 0} (h : ShelfOf H) (k : SinkOf K) (all : List Command) (index : ℕ) (files : List ℕ → Option (List ℕ)) (state : State)
+pub all_done : {H K : Type 0} (h : ShelfOf H) (k : SinkOf K) (all : List Command) (index : ℕ) (files : List ℕ → Option (List ℕ)) (session : State)
     (shelf_old shelf_new : H) (start now : K) → length all ≤ index → drop index all ≡ []
-    → HasRun all index files state k.tells (k.taken start) (k.taken now)
+    → SessionHasRun all index files session k.tells (k.taken start) (k.taken now)
     → AsksFor h.fetched (named (take index (map asks all))) shelf_old shelf_new
-    → RunEnds h k (run_from all fresh files) (map asks all) shelf_old shelf_new start now (Ok tt)
-all_done h k all index files state shelf_old shelf_new start now last none run asked =
-    let comes = run.comes ∙ ap (λ left. behind run.texts (run_from left state files)) none in
+    → RunEnds h k (run_from all (fresh FRAMES) files) (map asks all) shelf_old shelf_new start now (Ok tt)
+all_done h k all index files session shelf_old shelf_new start now last none has_run asked =
+    let run = has_run.run in
+    let comes = run.comes ∙ ap (λ left. behind run.texts (run_from left has_run.state files)) none in
     let many : length (map asks all) ≤ index = omega (arith, last, length-map all asks) in
-    let enough : length (map asks all) ≤ length (run_from all fresh files).texts + 1 =
-    omega (arith, last, length-map all asks, run.as_many, as_long (run_from all fresh files) run.texts ending.Done comes) in (
+    let enough : length (map asks all) ≤ length (run_from all (fresh FRAMES) files).texts + 1 =
+    omega (arith, last, length-map all asks, run.as_many, as_long (run_from all (fresh FRAMES) files) run.texts ending.Done comes) in (
       ap (λ (o : RunOutcome). o.status) comes,
-      fetches_all h.fetched (map asks all) index (length (run_from all fresh files).texts + 1) shelf_old shelf_new many enough asked,
-      λ is_told. run.sent is_told ∙ ap (λ bs. k.taken start ++ bs) (sym (reported (run_from all fresh files) run.texts ending.Done comes)),
+      fetches_all h.fetched (map asks all) index (length (run_from all (fresh FRAMES) files).texts + 1) shelf_old shelf_new many enough asked,
+      λ is_told. run.sent is_told ∙ ap (λ bs. k.taken start ++ bs) (sym (reported (run_from all (fresh FRAMES) files) run.texts ending.Done comes)),
     )
 
 -- the next command isn't done
@@ -165,24 +190,24 @@ halted : {H K : Type 0} (h : ShelfOf H) (k : SinkOf K) (halt : Halt) (all : List
     → (k.tells → Sends (k.taken now) (command_done now_files command state).text (k.taken new) (Err halt))
     → FailedFor h shelf_new (asks command) (Err halt)
     → AsksFor h.fetched (named (take (index + 1) (map asks all))) shelf_old shelf_new
-    → RunEnds h k (run_from all fresh files) (map asks all) shelf_old shelf_new start new (Err halt)
+    → RunEnds h k (run_from all (fresh FRAMES) files) (map asks all) shelf_old shelf_new start new (Err halt)
 halted h k Missing all index command files now_files state shelf_old shelf_new start now new below is same run given sends failed asked =
     let text = (command_done now_files command state).text in
     let left = run_from (drop (index + 1) all) (command_done now_files command state).after files in
     let comes = comes_at all index command files now_files state k.tells (k.taken start) (k.taken now) below is same run ∙ ap (λ a. behind run.texts (with_asked a text left)) given in
-    let long : index + 1 ≡ length (run_from all fresh files).texts + 1 = ap (λ n. n + 1) (sym run.as_many ∙ sym (as_long (run_from all fresh files) run.texts ending.ReadFailed comes)) in (
+    let long : index + 1 ≡ length (run_from all (fresh FRAMES) files).texts + 1 = ap (λ n. n + 1) (sym run.as_many ∙ sym (as_long (run_from all (fresh FRAMES) files) run.texts ending.ReadFailed comes)) in (
       ap (λ (o : RunOutcome). o.status) comes,
       subst (λ n. AsksFor h.fetched (named (take n (map asks all))) shelf_old shelf_new) long asked,
-      λ is_told. sends is_told ∙ run.sent is_told ∙ ap (λ bs. k.taken start ++ bs) (sym (reported (run_from all fresh files) run.texts ending.ReadFailed comes)),
+      λ is_told. sends is_told ∙ run.sent is_told ∙ ap (λ bs. k.taken start ++ bs) (sym (reported (run_from all (fresh FRAMES) files) run.texts ending.ReadFailed comes)),
     )
 halted h k TooLong all index command files now_files state shelf_old shelf_new start now new below is same run given sends failed asked =
     let text = (command_done now_files command state).text in
     let left = run_from (drop (index + 1) all) (command_done now_files command state).after files in
     let comes = comes_at all index command files now_files state k.tells (k.taken start) (k.taken now) below is same run ∙ ap (λ a. behind run.texts (with_asked a text left)) given in
-    let long : index + 1 ≡ length (run_from all fresh files).texts + 1 = ap (λ n. n + 1) (sym run.as_many ∙ sym (as_long (run_from all fresh files) run.texts ending.TooLong comes)) in (
+    let long : index + 1 ≡ length (run_from all (fresh FRAMES) files).texts + 1 = ap (λ n. n + 1) (sym run.as_many ∙ sym (as_long (run_from all (fresh FRAMES) files) run.texts ending.TooLong comes)) in (
       ap (λ (o : RunOutcome). o.status) comes,
       subst (λ n. AsksFor h.fetched (named (take n (map asks all))) shelf_old shelf_new) long asked,
-      λ is_told. sends is_told ∙ run.sent is_told ∙ ap (λ bs. k.taken start ++ bs) (sym (reported (run_from all fresh files) run.texts ending.TooLong comes)),
+      λ is_told. sends is_told ∙ run.sent is_told ∙ ap (λ bs. k.taken start ++ bs) (sym (reported (run_from all (fresh FRAMES) files) run.texts ending.TooLong comes)),
     )
 halted h k FetchFailed all index command files now_files state shelf_old shelf_new start now new below is same run given sends failed asked =
     let left = run_from (drop index all) state files in
@@ -190,25 +215,25 @@ halted h k FetchFailed all index command files now_files state shelf_old shelf_n
     let at : ◌≡◌ {A = ℕ} index (length run.texts) = sym run.as_many in (
       index,
       named_by.0,
-      subst (λ n. n ≤ length (run_from all fresh files).texts) run.as_many (within _ run.texts left run.comes),
+      subst (λ n. n ≤ length (run_from all (fresh FRAMES) files).texts) run.as_many (within _ run.texts left run.comes),
       asked_at asks all index command below is ∙ ap Some named_by.1,
       asked,
       named_by.2,
-      λ is_told. sends is_told ∙ run.sent is_told ∙ ap (λ bs. k.taken start ++ bs) (sym (ap (λ n. first_report n (run_from all fresh files)) at ∙ first_texts _ run.texts left run.comes)),
+      λ is_told. sends is_told ∙ run.sent is_told ∙ ap (λ bs. k.taken start ++ bs) (sym (ap (λ n. first_report n (run_from all (fresh FRAMES) files)) at ∙ first_texts _ run.texts left run.comes)),
     )
 halted h k Memory all index command files now_files state shelf_old shelf_new start now new below is same run given sends failed asked =
     let left = run_from (drop index all) state files in (
       index,
       index + 1,
-      subst (λ n. n ≤ length (run_from all fresh files).texts) run.as_many (within _ run.texts left run.comes),
+      subst (λ n. n ≤ length (run_from all (fresh FRAMES) files).texts) run.as_many (within _ run.texts left run.comes),
       omega arith,
       asked,
-      λ is_told. sends is_told ∙ run.sent is_told ∙ ap (λ bs. k.taken start ++ bs) (sym (ap (λ n. first_report n (run_from all fresh files)) (sym run.as_many) ∙ first_texts _ run.texts left run.comes)),
+      λ is_told. sends is_told ∙ run.sent is_told ∙ ap (λ bs. k.taken start ++ bs) (sym (ap (λ n. first_report n (run_from all (fresh FRAMES) files)) (sym run.as_many) ∙ first_texts _ run.texts left run.comes)),
     )
 halted h k SendFailed all index command files now_files state shelf_old shelf_new start now new below is same run given sends failed asked =
     let text = (command_done now_files command state).text in
     let left = run_from (drop (index + 1) all) (command_done now_files command state).after files in
-    let out = run_from all fresh files in
+    let out = run_from all (fresh FRAMES) files in
     let comes = comes_at all index command files now_files state k.tells (k.taken start) (k.taken now) below is same run
     ∙ ap (behind run.texts) (has_asked (file_asked now_files command) text left given) in
     let first = ap (λ n. first_report n out) (sym run.as_many) ∙ first_texts out run.texts (done text left) comes in
@@ -222,13 +247,15 @@ halted h k SendFailed all index command files now_files state shelf_old shelf_ne
     )
 
 pub stop : {H K : Type 0} (h : ShelfOf H) (k : SinkOf K) (r : Result (Unit {0}) Halt) (halt : Halt) (all : List Command) (index : ℕ) (command : Command)
-    (files now_files : List ℕ → Option (List ℕ)) (state : State) (shelf_old shelf_new : H) (start now new : K) → r ≡ Err halt
+    (files now_files : List ℕ → Option (List ℕ)) (session : State) (shelf_old shelf_new : H) (start now new : K) → r ≡ Err halt
     → index < length all → command ≡ get_or all index command → ((name : List ℕ) → now_files name ≡ files name)
-    → HasRun all index files state k.tells (k.taken start) (k.taken now) → WasGiven (file_asked now_files command) (Err halt)
-    → (k.tells → Sends (k.taken now) (command_done now_files command state).text (k.taken new) (Err halt))
+    → SessionHasRun all index files session k.tells (k.taken start) (k.taken now) → WasGiven (file_asked now_files command) (Err halt)
+    → (k.tells → Sends (k.taken now) (command_done now_files command session).text (k.taken new) (Err halt))
     → FailedFor h shelf_new (asks command) (Err halt)
     → AsksFor h.fetched (named (take (index + 1) (map asks all))) shelf_old shelf_new
-    → RunEnds h k (run_from all fresh files) (map asks all) shelf_old shelf_new start new r
-stop h k r halt all index command files now_files state shelf_old shelf_new start now new is_err below is same run given sends failed asked =
-    subst (RunEnds h k (run_from all fresh files) (map asks all) shelf_old shelf_new start new) (sym is_err)
-    (halted h k halt all index command files now_files state shelf_old shelf_new start now new below is same run given sends failed asked)
+    → RunEnds h k (run_from all (fresh FRAMES) files) (map asks all) shelf_old shelf_new start new r
+stop h k r halt all index command files now_files session shelf_old shelf_new start now new is_err below is same has_run given sends failed asked =
+    let like = like_done now_files command session has_run.state has_run.stands in
+    subst (RunEnds h k (run_from all (fresh FRAMES) files) (map asks all) shelf_old shelf_new start new) (sym is_err)
+    (halted h k halt all index command files now_files has_run.state shelf_old shelf_new start now new below is same has_run.run given
+    (λ is_told. subst (λ text. Sends (k.taken now) text (k.taken new) (Err halt)) like.text (sends is_told)) failed asked)

@@ -64,3 +64,7 @@ on_err (Err e) f h = f h
 pub at_err : {T E P : Type 0} (r : Result T E) → P → OnErr r P
 at_err (Ok x) h = tt
 at_err (Err e) h = h
+
+pub at_ok : {T E P : Type 0} (r : Result T E) → P → OnOk r P
+at_ok (Ok x) h = h
+at_ok (Err e) h = tt

@@ -6,7 +6,7 @@ use Rattle.script_text.specs.Script.{commands_of}
 use Rattle.report_text.specs.Lines.{bad_line}
 use Rattle.command_core.specs.State.{State, fresh}
 use Rattle.command_core.specs.Commands.{FileAsked, AsksNothing, HasFile, IsMissing, IsTooLong, Performed, asks, file_asked, file_in, performed}
-use Rattle.overlay_top.specs.declared.running.TheConstants.{QUANTUM}
+use Rattle.overlay_top.specs.declared.running.TheConstants.{FRAMES, QUANTUM}
 use Rattle.overlay_top.specs.declared.status.Status.{Status}
 use Rattle.overlay_top.specs.declared.status.Status.TheVariants.{Done, BadWords, ReadFailed, BadLine, TooLong}
 
@@ -71,7 +71,7 @@ said script = if is_too_much script then SaysTooMuch else read_by (commands_of s
 -- the outcome of a script, as it reads
 abbrev pub said_outcome : ScriptSays → (List ℕ → Option (List ℕ)) → RunOutcome
 said_outcome SaysTooMuch files = ended [] TooLong
-said_outcome (SaysCommands commands) files = run_from commands fresh files
+said_outcome (SaysCommands commands) files = run_from commands (fresh FRAMES) files
 said_outcome (SaysOutside line) files = ended (bad_line line) BadLine
 
 -- whether the words are the command's: there are none yet

@@ -7,7 +7,7 @@ use Rattle.overlay_top.specs.declared.running.Halt.{Halt}
 use Rattle.overlay_top.specs.declared.running.Halt.TheVariants.{Missing, FetchFailed, TooLong, Memory, SendFailed}
 use Rattle.overlay_top.specs.declared.status.Status.TheVariants as status
 use Rattle.overlay_top.specs.Sending.{IsSent, IsCut}
-use Rattle.command_core.specs.State.{InSession}
+use Rattle.command_core.specs.State.{AreLikeStates, InSession}
 use Rattle.command_core.specs.Commands.{Performed, FileAsked, HasFile, IsMissing, IsTooLong, file_in, has_all}
 use Rattle.overlay_top.specs.Outcome.{RunOutcome, named, report_of, first_report, text_after}
 use Rattle.overlay_top.specs.Outside.{RefusedFor}
@@ -93,9 +93,10 @@ Cut k old text new result = k.tells → OnErr result (IsCut (k.taken old) text (
 abbrev pub SendsOn : {K : Type 0} → SinkOf K → K → List ℕ → K → Result (Unit {0}) Halt → Type 0
 SendsOn k old text new result = k.tells → Sends (k.taken old) text (k.taken new) result
 
--- where something was done, the session has the state that it comes to
+-- where something was done, the session stands for the state that it comes to: it has that state, but for the numbers of the
+-- ledger's origins
 abbrev pub LeavesOn : {T E : Type 0} → Performed → InSession → Result T E → Type 0
-LeavesOn done session result = OnOk result (session.state ≡ done.after)
+LeavesOn done session result = OnOk result (AreLikeStates session.state done.after)
 
 -- What the sink holds, where it tells its bytes.
 abbrev pub Reported : {K : Type 0} → SinkOf K → K → List ℕ → K → Type 0

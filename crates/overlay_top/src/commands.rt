@@ -3,7 +3,7 @@ ghost use Rattle.std.specs.FinMap.{entries};
 ghost use Rattle.script_text.specs.Given.{IsGiven};
 ghost use Rattle.report_text.specs.Answers.{HasAnswerLine, answer_text};
 ghost use Rattle.command_core.specs.Changes.{is_change};
-ghost use Rattle.command_core.specs.Commands.{RunsLoaded, change_told, exec_done, exec_turns, list_text, load_told, performed_in, processes_text, run_done, step_done, takes_turns, tells_exec};
+ghost use Rattle.command_core.specs.Commands.{RunsLoaded, change_told, exec_done, exec_turns, list_text, load_told, performed_in, processes_text, run_done, step_done, takes_left, tells_exec};
 ghost use Rattle.overlay_top.specs.Outside.{SinkBy, SinkRose, SinkSound};
 ghost use Rattle.overlay_top.specs.Running.{Cut, IsDoing, LeavesOn, SendsOn, Sent};
 
@@ -27,17 +27,17 @@ fn send_answer<K: Sink>(answer: &Answer, report: &mut Report<K>) -> Result<(), F
     report.send()
 }
 
-/// Takes the turns of a run, and sends each line as it arises, with the last one.
+/// Takes the turns that are left of a run, and sends each line as it arises, with the last one.
 fn take_turns<K: Sink>(
     session: &mut Session,
     running: &mut Running,
     report: &mut Report<K>,
 ) -> Result<(), Failed>
     ensures sent { Sent K.Sink report.old.sink.now
-        (takes_turns running.old.run session.old.state).text report.new.sink.now result }
+        (takes_left running.old session.old.state).text report.new.sink.now result }
     ensures cut { Cut K.Sink report.old.sink.now
-        (takes_turns running.old.run session.old.state).text report.new.sink.now result }
-    ensures after { LeavesOn (takes_turns running.old.run session.old.state) session.new result }
+        (takes_left running.old session.old.state).text report.new.sink.now result }
+    ensures after { LeavesOn (takes_left running.old session.old.state) session.new result }
     ensures quantum { session.new.quantum ≡ session.old.quantum }
     ensures cause { OnErr result (SinkRose K.Sink report.old.sink.now report.new.sink.now) }
     ensures no_fault { OnOk result (SinkSound K.Sink report.old.sink.now report.new.sink.now) }
@@ -223,7 +223,7 @@ fn drop_process<K: Sink>(
 
 /// How many processes there are.
 fn count_processes(session: &Session) -> u32
-    ensures { result ≡ length (entries session.now.state.processes) }
+    ensures { result ≡ length (entries session.now.state.wholes.processes) }
 {
     let mut count = 0u32;
     let mut from = 0u16;

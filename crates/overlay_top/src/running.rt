@@ -16,6 +16,9 @@ use ovl_io::{Bytes, Failed, Shelf, ShelfError, Sink};
 use script_text::Command;
 use std::alloc::{AllocError, Global};
 
+/// How many frames the machine has.
+pub const FRAMES: u32 = 1024;
+
 /// How many turns a process takes before the next one does.
 pub const QUANTUM: u32 = 100;
 
@@ -127,7 +130,8 @@ fn perform<H: Shelf, K: Sink>(
     do_command(session, command, file.as_slice(), report)
 }
 
-/// Does the commands in order, from a state without a process. Each line is sent as it arises.
+/// Does the commands in order, from a machine of `FRAMES` frames without a process. Each line is sent
+/// as it arises.
 pub(crate) fn run<H: Shelf, K: Sink>(
     alloc: Global,
     commands: &[Command],
@@ -136,14 +140,14 @@ pub(crate) fn run<H: Shelf, K: Sink>(
 ) -> Result<(), Halt>
     requires { All IsGiven commands.now }
     ensures ends { H.tells →
-        RunEnds H.Shelf K.Sink (run_from commands.now fresh (H.files shelf.old)) (map asks commands.now)
-        shelf.old shelf.new report.old.sink.now report.new.sink.now result }
+        RunEnds H.Shelf K.Sink (run_from commands.now (fresh FRAMES) (H.files shelf.old))
+        (map asks commands.now) shelf.old shelf.new report.old.sink.now report.new.sink.now result }
     ensures asked { AsksInOrder H.Shelf (map asks commands.now) shelf.old shelf.new }
     ensures shelf { ShelfBy H.Shelf shelf.old shelf.new result }
     ensures sink { SinkBy K.Sink report.old.sink.now report.new.sink.now result }
     ensures same { report.new.sink.ghost_name ≡ report.old.sink.ghost_name }
 {
-    let mut session = Session::new(alloc, QUANTUM)?;
+    let mut session = Session::new(alloc, FRAMES, QUANTUM)?;
     'running: for command in commands {
         perform(alloc, &mut session, command, shelf, report)?;
     }

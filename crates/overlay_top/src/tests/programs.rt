@@ -1,6 +1,8 @@
+ghost use Rattle.std.specs.Prelude.{◌≤◌};
+
 use crate::tests::{SURE, assert_call, code_of, file_of, program_of};
 use ovl_io::OneFileShelf;
-use std::alloc::Global;
+use std::alloc::{AllocError, Global};
 use std::process::Abort;
 use std::test::Fail;
 
@@ -224,4 +226,43 @@ fn segments_have_their_pages(rt: HostRuntime) -> Result<(), Fail> {
         b"exec two.elf 20",
         (report, 0),
     )
+}
+
+// A file of a page of STORES, and so many pages of data without a byte that is 0.
+fn large_file(alloc: Global, pages: usize) -> Result<Vec<u8>, AllocError>
+    requires { pages ≤ 2048 }
+{
+    let data = Vec::from_elem(alloc, 1u8, 4096 * pages)?;
+    let size = data.len() as u64;
+    let code = code_of(alloc, STORES, &data)?;
+    let headers = [
+        (1, 5, 176, 0x100B0, 32, 32),
+        (1, 6, 208, 0x20000, size, size),
+    ];
+    file_of(alloc, 0x100B0, &headers, &code)
+}
+
+#[test]
+fn what_needs_more_units_than_there_are_is_answered_full(rt: HostRuntime) -> Result<(), Fail> {
+    let script = b"exec big.elf 20\nlist\nexec big.elf 3\nrun 3\ndrop 1\nexec big.elf 1\nlist";
+    // how many pages of data the file has, and the report
+    let rows: [(usize, &[u8]); 3] = [
+        (
+            1021,
+            b"loaded 1 pages 1038 entry 0x100b0\nexited 1 0\nran 8 ended\nlist 1 0\nprocess 1 exited 0 pages 1038\nfull 32722 16384\nran 0 idle\nok\nloaded 2 pages 1038 entry 0x100b0\nran 1 limit\nlist 1 0\nprocess 2 running pages 1038\n",
+        ),
+        (
+            1022,
+            b"loaded 1 pages 1039 entry 0x100b0\nfull 1 16385 16384\nran 1 full\nlist 1 0\nprocess 1 running pages 1039\nfull 32752 16384\nfull 1 16385 16384\nran 0 full\nok\nloaded 2 pages 1039 entry 0x100b0\nran 1 limit\nlist 1 0\nprocess 2 running pages 1039\n",
+        ),
+        (
+            1023,
+            b"full 16400 16384\nlist 0 0\nfull 16400 16384\nran 0 idle\nrefused C1 no-process\nfull 16400 16384\nlist 0 0\n",
+        ),
+    ];
+    for (pages, report) in rows {
+        let mut shelf = OneFileShelf::new(large_file(rt.alloc(), pages)?);
+        assert_call(&rt, rt.alloc(), &SURE, &mut shelf, script, (report, 0))?;
+    }
+    Ok(())
 }

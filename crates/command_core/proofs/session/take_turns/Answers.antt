@@ -1,28 +1,18 @@
 use Rattle.std.proofs.Common.{[], ap, sym, ◌∙◌, arith}
-use Rattle.std.specs.FinMap.{get}
-use Rattle.std.specs.Option.{is_some}
-use Rattle.rv_execute.specs.declared.outcome.Outcome.TheVariants.{Asked, Fault}
+use Rattle.rv_execute.specs.declared.outcome.Outcome.TheVariants.{Asked, Fault, Full}
 use Rattle.report_text.specs.Answers.{turn_text}
-use Rattle.machine_core.specs.Machine.{Processes, after_asked, is_running, turn_asked, wholes}
+use Rattle.machine_core.specs.Machine.{Wholes, is_running, wholes}
+use Rattle.machine_core.specs.Turns.{after_asked, turn_asked}
 use Rattle.command_core.specs.Turns.{InRun}
-use Rattle.command_core.proofs.Places.{same_change, same_then}
-use Rattle.command_core.proofs.Stretching.{all_taken, goes_on, last_turn, one_more, says_last, there_after, there_asked}
+use Rattle.report_text.specs.declared.answer.Stop.TheVariants as stop
+use Rattle.command_core.proofs.Rans.{asked_counted, fewer_left, is_counted, speaks_last, speaks_on}
+use Rattle.command_core.proofs.Stretching.{all_taken, goes_on, last_turn, one_more, says_full, says_last}
 use Rattle.command_core.proofs.session.take_turns.Goals as goal
 
 -- as many steps as there were turns
 
-pub took_turns-requires-clause-some : goal.took_turns-requires-clause-some
-took_turns-requires-clause-some c =
-    let done = c.execute_up_to-steps in
-    omega (
-      arith,
-      c.stretch.ensures.some,
-      all_taken (wholes c.args.machine.now) c.args.p c.stretch.result done.result.0 c.args.running.now.run c.requires.runs c.requires.next c.stretch.ensures.stretch done.ensures.steps
-          (sym c.in-Stepped.is ∙ done.ensures.outcome),
-    )
-
-pub took_turns-requires-clause-fits : goal.took_turns-requires-clause-fits
-took_turns-requires-clause-fits c =
+pub took_turns-requires : goal.took_turns-requires
+took_turns-requires c =
     let done = c.execute_up_to-steps in
     omega (
       arith,
@@ -37,22 +27,14 @@ returns-in-Stepped-clause-quiet c silent =
     goes_on (wholes c.args.machine.now) c.args.p c.stretch.result done.result.0 c.args.running.now.run c.requires.runs c.requires.next c.stretch.ensures.stretch done.ensures.steps
     (wholes done.new.self) c.took_turns.new.self.run (sym c.in-Stepped.is ∙ done.ensures.outcome) done.ensures.after (ap (λ (r : InRun). r.run) c.took_turns.ensures.took)
 
-pub returns-in-Stepped-clause-further : goal.returns-in-Stepped-clause-further
-returns-in-Stepped-clause-further c =
+pub returns-in-Stepped-clause-fewer : goal.returns-in-Stepped-clause-fewer
+returns-in-Stepped-clause-fewer c =
     let done = c.execute_up_to-steps in
-    omega (
-      arith,
-      c.stretch.ensures.some,
-      ap (λ (r : InRun). r.run.taken) c.took_turns.ensures.took,
-      all_taken (wholes c.args.machine.now) c.args.p c.stretch.result done.result.0 c.args.running.now.run c.requires.runs c.requires.next c.stretch.ensures.stretch done.ensures.steps
-          (sym c.in-Stepped.is ∙ done.ensures.outcome),
-    )
-
-pub returns-in-Stepped-clause-kept : goal.returns-in-Stepped-clause-kept
-returns-in-Stepped-clause-kept c =
-    let done = c.execute_up_to-steps in
-    same_change c.args.machine.now done.new.self c.args.p c.requires.runs
-    (ap (λ (ps : Processes). is_some (get ps c.args.p)) done.ensures.after ∙ there_after (wholes c.args.machine.now) c.args.p c.stretch.result c.requires.runs) done.ensures.others
+    let all = all_taken (wholes c.args.machine.now) c.args.p c.stretch.result done.result.0 c.args.running.now.run c.requires.runs c.requires.next c.stretch.ensures.stretch done.ensures.steps
+    (sym c.in-Stepped.is ∙ done.ensures.outcome) in
+    let took = c.took_turns.ensures.took in
+    fewer_left c.args.running.now c.took_turns.new.self c.requires.goes (ap (λ (r : InRun). r.stop) took ∙ c.requires.goes) (ap (λ (r : InRun). r.run.turns) took)
+    (omega (arith, all, c.stretch.ensures.some, ap (λ (r : InRun). r.run.taken) took)) c.took_turns.ensures.within
 
 -- a request is one turn more
 
@@ -63,8 +45,8 @@ overflow_add-steps c =
     done.ensures.steps Asked (sym c.in-Asked.is ∙ done.ensures.outcome) (λ same. cc) in
     record { fits = omega (arith, more, c.stretch.type_inv) }
 
-pub took_turns-requires-in-Asked-clause-fits : goal.took_turns-requires-in-Asked-clause-fits
-took_turns-requires-in-Asked-clause-fits c =
+pub took_turns-requires-in-Asked : goal.took_turns-requires-in-Asked
+took_turns-requires-in-Asked c =
     let done = c.execute_up_to-steps in
     omega (
       arith,
@@ -73,12 +55,15 @@ took_turns-requires-in-Asked-clause-fits c =
           Asked (sym c.in-Asked.is ∙ done.ensures.outcome) (λ same. cc),
     )
 
-pub answer_request-requires : goal.answer_request-requires
-answer_request-requires c =
+pub answer_request-requires-clause-runs : goal.answer_request-requires-clause-runs
+answer_request-requires-clause-runs c =
     let done = c.execute_up_to-steps in
     let last = last_turn (wholes c.args.machine.now) c.args.p c.stretch.result done.result.0 c.args.running.now.run c.requires.runs c.requires.next c.stretch.ensures.stretch
     done.ensures.steps Asked (wholes done.new.self) (sym c.in-Asked.is ∙ done.ensures.outcome) (λ same. cc) done.ensures.after in
-    ap (λ (ps : Processes). is_running ps c.args.p) last.executed ∙ last.law.running
+    ap (λ (ps : Wholes). is_running ps c.args.p) last.executed ∙ last.law.running
+
+pub answer_request-requires-clause-there : goal.answer_request-requires-clause-there
+answer_request-requires-clause-there c = c.execute_up_to-steps.ensures.places.spaces c.args.p ∙ c.requires.there
 
 pub returns-in-Asked-clause-says : goal.returns-in-Asked-clause-says
 returns-in-Asked-clause-says c spoke =
@@ -86,10 +71,13 @@ returns-in-Asked-clause-says c spoke =
     let p = c.args.p in
     let last = last_turn (wholes c.args.machine.now) p c.stretch.result done.result.0 c.args.running.now.run c.requires.runs c.requires.next c.stretch.ensures.stretch
     done.ensures.steps Asked (wholes done.new.self) (sym c.in-Asked.is ∙ done.ensures.outcome) (λ same. cc) done.ensures.after in
-    says_last (wholes c.args.machine.now) p done.result.0 c.args.running.now.run Asked (wholes done.new.self) (wholes c.answer_request.new.machine) c.answer_request.new.line.items
+    speaks_on (wholes c.args.machine.now) (wholes c.answer_request.new.machine) c.args.running.now c.took_turns-in-Asked.new.self c.answer_request.new.line.items c.requires.goes
+    (ap (λ (r : InRun). r.stop) c.took_turns-in-Asked.ensures.took ∙ c.requires.goes)
+    (says_last (wholes c.args.machine.now) p done.result.0 c.args.running.now.run Asked (wholes done.new.self) (wholes c.answer_request.new.machine) c.answer_request.new.line.items
     c.took_turns-in-Asked.new.self.run last
-    (c.answer_request.ensures.says spoke ∙ ap (λ (ps : Processes). turn_text p (turn_asked ps p)) last.executed ∙ sym (ap (turn_text p) last.law.turn_is))
-    (c.answer_request.ensures.after ∙ ap (λ (ps : Processes). after_asked ps p) last.executed ∙ sym last.law.after_is) (ap (λ (r : InRun). r.run) c.took_turns-in-Asked.ensures.took)
+    (ap is_counted last.law.turn_is ∙ asked_counted _ p)
+    (c.answer_request.ensures.says spoke ∙ ap (λ (ps : Wholes). turn_text p (turn_asked ps p)) last.executed ∙ sym (ap (turn_text p) last.law.turn_is))
+    (c.answer_request.ensures.after ∙ ap (λ (ps : Wholes). after_asked ps p) last.executed ∙ sym last.law.after_is) (ap (λ (r : InRun). r.run) c.took_turns-in-Asked.ensures.took))
 
 pub returns-in-Asked-clause-quiet : goal.returns-in-Asked-clause-quiet
 returns-in-Asked-clause-quiet c silent =
@@ -99,22 +87,9 @@ returns-in-Asked-clause-quiet c silent =
     done.ensures.steps Asked (wholes done.new.self) (sym c.in-Asked.is ∙ done.ensures.outcome) (λ same. cc) done.ensures.after in
     says_last (wholes c.args.machine.now) p done.result.0 c.args.running.now.run Asked (wholes done.new.self) (wholes c.answer_request.new.machine) []
     c.took_turns-in-Asked.new.self.run last
-    (sym (c.answer_request.ensures.quiet silent) ∙ ap (λ (ps : Processes). turn_text p (turn_asked ps p)) last.executed ∙ sym (ap (turn_text p) last.law.turn_is))
-    (c.answer_request.ensures.after ∙ ap (λ (ps : Processes). after_asked ps p) last.executed ∙ sym last.law.after_is) (ap (λ (r : InRun). r.run) c.took_turns-in-Asked.ensures.took)
-
-pub returns-in-Asked-clause-kept : goal.returns-in-Asked-clause-kept
-returns-in-Asked-clause-kept c =
-    let done = c.execute_up_to-steps in
-    let p = c.args.p in
-    let last = last_turn (wholes c.args.machine.now) p c.stretch.result done.result.0 c.args.running.now.run c.requires.runs c.requires.next c.stretch.ensures.stretch
-    done.ensures.steps Asked (wholes done.new.self) (sym c.in-Asked.is ∙ done.ensures.outcome) (λ same. cc) done.ensures.after in
-    let runs = ap (λ (ps : Processes). is_running ps p) last.executed ∙ last.law.running in
-    same_then c.args.machine.now done.new.self c.answer_request.new.machine
-    (same_change c.args.machine.now done.new.self p c.requires.runs
-    (ap (λ (ps : Processes). is_some (get ps p)) done.ensures.after ∙ there_after (wholes c.args.machine.now) p c.stretch.result c.requires.runs) done.ensures.others)
-    (same_change done.new.self c.answer_request.new.machine p runs
-    (ap (λ (ps : Processes). is_some (get ps p)) c.answer_request.ensures.after ∙ there_asked (wholes done.new.self) p runs)
-    c.answer_request.ensures.others)
+    (ap is_counted last.law.turn_is ∙ asked_counted _ p)
+    (sym (c.answer_request.ensures.quiet silent) ∙ ap (λ (ps : Wholes). turn_text p (turn_asked ps p)) last.executed ∙ sym (ap (turn_text p) last.law.turn_is))
+    (c.answer_request.ensures.after ∙ ap (λ (ps : Wholes). after_asked ps p) last.executed ∙ sym last.law.after_is) (ap (λ (r : InRun). r.run) c.took_turns-in-Asked.ensures.took)
 
 -- and so is a fault
 
@@ -125,8 +100,8 @@ overflow_add-steps-in-Fault c =
     done.ensures.steps (Fault c.in-Fault.kind c.in-Fault.address) (sym c.in-Fault.is ∙ done.ensures.outcome) (λ same. cc) in
     record { fits = omega (arith, more, c.stretch.type_inv) }
 
-pub took_turns-requires-in-Fault-clause-fits : goal.took_turns-requires-in-Fault-clause-fits
-took_turns-requires-in-Fault-clause-fits c =
+pub took_turns-requires-in-Fault : goal.took_turns-requires-in-Fault
+took_turns-requires-in-Fault c =
     let done = c.execute_up_to-steps in
     omega (
       arith,
@@ -142,12 +117,33 @@ returns-in-Fault-clause-says c spoke =
     let fault = Fault c.in-Fault.kind c.in-Fault.address in
     let last = last_turn (wholes c.args.machine.now) p c.stretch.result done.result.0 c.args.running.now.run c.requires.runs c.requires.next c.stretch.ensures.stretch
     done.ensures.steps fault (wholes done.new.self) (sym c.in-Fault.is ∙ done.ensures.outcome) (λ same. cc) done.ensures.after in
-    says_last (wholes c.args.machine.now) p done.result.0 c.args.running.now.run fault (wholes done.new.self) (wholes done.new.self) c.fault_line.new.line.items
-    c.took_turns-in-Fault.new.self.run last (c.fault_line.ensures ∙ sym (ap (turn_text p) last.law.turn_is)) (last.executed ∙ sym last.law.after_is)
-    (ap (λ (r : InRun). r.run) c.took_turns-in-Fault.ensures.took)
+    speaks_on (wholes c.args.machine.now) (wholes done.new.self) c.args.running.now c.took_turns-in-Fault.new.self c.fault_line.new.line.items c.requires.goes
+    (ap (λ (r : InRun). r.stop) c.took_turns-in-Fault.ensures.took ∙ c.requires.goes)
+    (says_last (wholes c.args.machine.now) p done.result.0 c.args.running.now.run fault (wholes done.new.self) (wholes done.new.self) c.fault_line.new.line.items
+    c.took_turns-in-Fault.new.self.run last (ap is_counted last.law.turn_is) (c.fault_line.ensures ∙ sym (ap (turn_text p) last.law.turn_is)) (last.executed ∙ sym last.law.after_is)
+    (ap (λ (r : InRun). r.run) c.took_turns-in-Fault.ensures.took))
 
-pub returns-in-Fault-clause-kept : goal.returns-in-Fault-clause-kept
-returns-in-Fault-clause-kept c =
+-- one for which there weren't units enough isn't counted
+
+pub took_turns-requires-in-Full : goal.took_turns-requires-in-Full
+took_turns-requires-in-Full c =
     let done = c.execute_up_to-steps in
-    same_change c.args.machine.now done.new.self c.args.p c.requires.runs
-    (ap (λ (ps : Processes). is_some (get ps c.args.p)) done.ensures.after ∙ there_after (wholes c.args.machine.now) c.args.p c.stretch.result c.requires.runs) done.ensures.others
+    omega (
+      arith,
+      c.stretch.ensures.stretch,
+      one_more (wholes c.args.machine.now) c.args.p c.stretch.result done.result.0 c.args.running.now.run c.requires.runs c.requires.next c.stretch.ensures.stretch done.ensures.steps
+          (Full c.in-Full.units c.in-Full.limit) (sym c.in-Full.is ∙ done.ensures.outcome) (λ same. cc),
+    )
+
+pub returns-in-Full-clause-says : goal.returns-in-Full-clause-says
+returns-in-Full-clause-says c spoke =
+    let done = c.execute_up_to-steps in
+    let p = c.args.p in
+    let full = Full c.in-Full.units c.in-Full.limit in
+    let last = last_turn (wholes c.args.machine.now) p c.stretch.result done.result.0 c.args.running.now.run c.requires.runs c.requires.next c.stretch.ensures.stretch
+    done.ensures.steps full (wholes done.new.self) (sym c.in-Full.is ∙ done.ensures.outcome) (λ same. cc) done.ensures.after in
+    let ended = ap (λ (r : InRun). r.run) c.set_stop.ensures ∙ ap (λ (r : InRun). r.run) c.took_turns-in-Full.ensures.took in
+    speaks_last (wholes c.args.machine.now) (wholes done.new.self) c.args.running.now c.set_stop.new.self c.full_line.new.line.items stop.Full c.requires.goes
+    (ap (λ (r : InRun). r.stop) c.set_stop.ensures)
+    (says_full (wholes c.args.machine.now) p done.result.0 c.args.running.now.run c.in-Full.units c.in-Full.limit (wholes done.new.self) c.full_line.new.line.items
+    c.set_stop.new.self.run last c.full_line.ensures ended)

@@ -1,61 +1,54 @@
-use Rattle.std.proofs.Common.{sym, length, ap, ◌∙◌, cond, Some, arith}
-use Rattle.std.proofs.lemmas.List.{take_all, length-map}
-use Rattle.std.specs.FinMap.{get}
-use Rattle.elf_loader.specs.Image.{image_pages, image_page, listed_page, is_stored}
-use Rattle.machine_core.specs.Kept.{kept_memory}
-use Rattle.machine_core.proofs.Placing.{no_page, page_at, placed_more, no_entry, is_among}
-use Rattle.elf_loader.specs.TakenLaws.{low_page}
-use Rattle.machine_core.proofs.Images.{few_items, not_there}
+use Rattle.std.proofs.Common.{sym, ap, subst, ◌∙◌, length, arith, get_or, take}
+use Rattle.std.proofs.lemmas.List.{length-map, take_all, take_more}
+use Rattle.elf_loader.specs.Image.{image_page, image_pages, is_stored, listed_page, page_bytes}
+use Rattle.elf_loader.specs.declared.image.ImagePage.{ImagePage}
+use Rattle.overlay_pages.specs.View.{state_of}
+use Rattle.overlay_pages.specs.State.{State}
+use Rattle.machine_core.specs.Loading.{HasAdded, IsAdded, IsOpen, IsReady}
+use Rattle.machine_core.proofs.Adding.{added_more, added_none, open_itself}
+use Rattle.machine_core.proofs.Images.{next_fits, next_ready, no_page, page_at}
+use Rattle.machine_core.proofs.Results.{on_ok}
 use Rattle.machine_core.proofs.load.add_image.Goals as goal
 
-pub add_page-requires-clause-few : goal.add_page-requires-clause-few
-add_page-requires-clause-few c =
-    let few = few_items c.args.file.now c.pages-image_page-items.result.now c.requires.of_file.taken (c.pages-image_page-items.ensures ∙ c.requires.of_file.pages) in
-    omega (arith, few, c.loop-image_page.invariant.count, c.loop-image_page-test.true)
+pub adding-init : goal.adding-init
+adding-init c =
+    let s = state_of c.args.memory.now in
+    added_none c.args.p s (image_page c.args.file.now) (is_stored c.args.file.now)
+    (open_itself c.args.p s c.requires.there (ap (λ x. x.awaiting) c.requires.bare))
 
-pub add_page-requires-clause-low : goal.add_page-requires-clause-low
-add_page-requires-clause-low c =
+pub add_page-requires-clause-ready : goal.add_page-requires-clause-ready
+add_page-requires-clause-ready c =
     let file = c.args.file.now in
-    let i = c.loop-image_page.image_page-index in
-    let at = page_at file c.pages-image_page-items.result.now i no_page (c.pages-image_page-items.ensures ∙ c.requires.of_file.pages) c.loop-image_page-test.true in
-    omega (arith, ap (λ p. p.page) at.1, low_page file i c.requires.of_file.taken at.0)
+    let i = c.adding.image_page-index in
+    let at = page_at file c.pages-image_page-items.result.now i no_page (c.pages-image_page-items.ensures ∙ c.requires.of_file.pages) c.adding-test.true in
+    subst (IsReady (state_of c.adding.memory) c.args.p) (sym (ap (λ (p : ImagePage). p.page) at.1))
+    (next_ready file c.args.p (state_of c.args.memory.now) (state_of c.adding.memory) i c.requires.of_file.taken c.requires.there c.requires.bare at.0 c.adding.invariant)
 
-pub add_page-requires-clause-free : goal.add_page-requires-clause-free
-add_page-requires-clause-free c =
+pub add_page-requires-clause-marked : goal.add_page-requires-clause-marked
+add_page-requires-clause-marked c =
     let file = c.args.file.now in
-    let i = c.loop-image_page.image_page-index in
-    let table = c.loop-image_page.table in
-    let frames = c.loop-image_page.frames.items in
-    let at = page_at file c.pages-image_page-items.result.now i no_page (c.pages-image_page-items.ensures ∙ c.requires.of_file.pages) c.loop-image_page-test.true in
-    no_entry table frames _
-    (ap (get (kept_memory table frames)) (ap (λ p. p.page) at.1)
-    ∙ not_there file (kept_memory table frames) (kept_memory c.args.table.now c.args.frames.now.items) i c.requires.of_file.taken at.0 c.requires.stack c.loop-image_page.invariant.image)
+    let i = c.adding.image_page-index in
+    let at = page_at file c.pages-image_page-items.result.now i no_page (c.pages-image_page-items.ensures ∙ c.requires.of_file.pages) c.adding-test.true in
+    ap (λ (p : ImagePage). p.stored) at.1 ∙ sym (ap (λ (p : ImagePage). is_stored file p.page) at.1)
 
-pub page_bytes-bytes-requires-clause-marked : goal.page_bytes-bytes-requires-clause-marked
-page_bytes-bytes-requires-clause-marked c =
+pub add_page-requires-clause-fits : goal.add_page-requires-clause-fits
+add_page-requires-clause-fits c stored =
     let file = c.args.file.now in
-    let i = c.loop-image_page.image_page-index in
-    let at = page_at file c.pages-image_page-items.result.now i no_page (c.pages-image_page-items.ensures ∙ c.requires.of_file.pages) c.loop-image_page-test.true in
-    ap (λ p. p.stored) at.1 ∙ sym (ap (λ p. is_stored file p.page) at.1)
+    let i = c.adding.image_page-index in
+    let at = page_at file c.pages-image_page-items.result.now i no_page (c.pages-image_page-items.ensures ∙ c.requires.of_file.pages) c.adding-test.true in
+    next_fits file c.args.p (state_of c.args.memory.now) (state_of c.adding.memory) i c.requires.of_file.taken c.requires.there c.requires.bare at.0 c.adding.invariant
+    c.requires.fits (sym (ap (λ (p : ImagePage). p.stored) at.1) ∙ stored)
 
-pub loop-image_page-preserved : goal.loop-image_page-preserved
-loop-image_page-preserved c =
+pub adding-preserved : goal.adding-preserved
+adding-preserved c =
     let file = c.args.file.now in
-    let i = c.loop-image_page.image_page-index in
-    let at = page_at file c.pages-image_page-items.result.now i no_page (c.pages-image_page-items.ensures ∙ c.requires.of_file.pages) c.loop-image_page-test.true in
-    record {
-      placed = c.in_ok-add_page.ensures.placed;
-      as_many = c.in_ok-add_page.ensures.as_many;
-      count = omega (arith, c.in_ok-add_page.ensures.one_more, c.loop-image_page.invariant.count);
-      image = placed_more file (kept_memory c.loop-image_page.table c.loop-image_page.frames.items) (kept_memory c.add_page.new.table c.add_page.new.frames.items)
-          (kept_memory c.args.table.now c.args.frames.now.items) i _ c.page_bytes-bytes.result at.0 at.1 c.page_bytes-bytes.ensures c.in_ok-add_page.ensures.added c.loop-image_page.invariant.image;
-    }
-
-pub returns-clause-image : goal.returns-clause-image
-returns-clause-image c page =
-    let file = c.args.file.now in
-    let same = c.pages-image_page-items.ensures ∙ c.requires.of_file.pages in
-    let len = ap length same ∙ length-map (image_pages file) (listed_page file) in
-    c.loop-image_page.invariant.image page
-    ∙ ap (λ ps. cond (is_among ps page) (Some (image_page file page)) (get (kept_memory c.args.table.now c.args.frames.now.items) page))
-    (take_all c.loop-image_page.image_page-index (image_pages file) (omega (arith, len)))
+    let i = c.adding.image_page-index in
+    let before = state_of c.args.memory.now in
+    let now = state_of c.adding.memory in
+    let new = state_of c.add_page.new.memory in
+    let at = page_at file c.pages-image_page-items.result.now i no_page (c.pages-image_page-items.ensures ∙ c.requires.of_file.pages) c.adding-test.true in
+    let k = get_or (image_pages file) i 0 in
+    let ready = next_ready file c.args.p before now i c.requires.of_file.taken c.requires.there c.requires.bare at.0 c.adding.invariant in
+    let added = subst (λ (it : ImagePage). IsAdded now new c.args.p it.page (record { perms = it.perms.0; bytes = page_bytes file it.page }) it.stored) at.1 c.in_ok-add_page.ensures.added in
+    subst (HasAdded before new c.args.p (image_page file) (is_stored file)) (sym (take_more (image_pages file) i 0 at.0))
+    (added_more before now new c.args.p (image_page file) (is_stored file) (take i (image_pages file)) k c.adding.invariant added ready.absent)

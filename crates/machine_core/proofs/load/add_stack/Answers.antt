@@ -1,44 +1,29 @@
-use Rattle.std.proofs.Common.{◌≡◌, ◌-◌, ap, ◌∙◌, sym, cond, Some, None, arith}
+use Rattle.std.proofs.Common.{◌≡◌, ◌-◌, false, subst, arith}
 use Rattle.std.specs.List.{range_with_len}
-use Rattle.std.specs.Ordering.{nat_cmp}
-use Rattle.std.specs.FinMap.{len, len-empty}
-use Rattle.page_table.specs.Table.{Pages}
-use Rattle.page_table.specs.declared.entry.PageEntry.{PageEntry}
+use Rattle.overlay_pages.specs.View.{state_of}
 use Rattle.machine_core.specs.Load.{stack_page, stack_pages}
-use Rattle.machine_core.specs.Kept.{kept_memory}
-use Rattle.machine_core.proofs.Placing.{placed_none, none_there, no_entry, stack_free, stack_more, none_above, is_among}
+use Rattle.machine_core.specs.Loading.{HasAdded}
+use Rattle.machine_core.proofs.Adding.{added_none, open_itself}
+use Rattle.machine_core.proofs.Images.{stack_more, stack_ready}
 use Rattle.machine_core.proofs.load.add_stack.Goals as goal
 
-pub loop-page-init : goal.loop-page-init
-loop-page-init c =
-    let none = ap (λ (t : Pages). len t) c.requires.table ∙ len-empty nat_cmp PageEntry in
-    record {
-      placed = placed_none c.args.table.now c.args.frames.now.items c.requires.table c.requires.frames;
-      as_many = none ∙ sym c.requires.frames;
-      count = none;
-      stack = λ q. none_there c.args.table.now c.args.frames.now.items q c.requires.table;
-    }
+pub adding-init : goal.adding-init
+adding-init c =
+    let s = state_of c.args.memory.now in
+    added_none c.args.p s (λ page. stack_page) (λ page. false) (open_itself c.args.p s c.requires.there c.requires.settled)
 
-pub add_page-requires-clause-free : goal.add_page-requires-clause-free
-add_page-requires-clause-free c =
-    let table = c.loop-page.table in
-    let frames = c.loop-page.frames.items in
-    let page = c.loop-page.page in
-    let n = page - 67108848 in
-    no_entry table frames page
-    (stack_free (kept_memory table frames) page n c.loop-page.invariant.stack (none_above page 67108848 n (omega arith)))
-
-pub loop-page-preserved : goal.loop-page-preserved
-loop-page-preserved c = record {
-  placed = c.in_ok-add_page.ensures.placed;
-  as_many = c.in_ok-add_page.ensures.as_many;
-  count = omega (arith, c.in_ok-add_page.ensures.one_more, c.loop-page.invariant.count);
-  stack = stack_more (kept_memory c.loop-page.table c.loop-page.frames.items) (kept_memory c.add_page.new.table c.add_page.new.frames.items) c.loop-page.page
-      c.union.result.0 (omega arith) (c.union.ensures tt) c.in_ok-add_page.ensures.added c.loop-page.invariant.stack;
+pub zero-requires : goal.zero-requires
+zero-requires c = record {
+  ready = stack_ready c.args.p (state_of c.args.memory.now) (state_of c.adding.memory) c.adding.page (omega arith) (omega arith) c.requires.few c.requires.absent c.adding.invariant;
 }
 
-pub returns-clause-stack : goal.returns-clause-stack
+pub adding-preserved : goal.adding-preserved
+adding-preserved c =
+    stack_more c.args.p (state_of c.args.memory.now) (state_of c.adding.memory) c.adding.page (omega arith) (omega arith) c.requires.few c.requires.absent c.adding.invariant
+    (state_of c.zero.new.memory) c.union.result.0 (c.union.ensures tt) c.in_ok-zero.ensures.added
+
+pub returns-clause-added : goal.returns-clause-added
 unfolding stack_pages
-returns-clause-stack c q =
-    let all : c.loop-page.page - 67108848 ≡ 16 = omega arith in
-    c.loop-page.invariant.stack q ∙ ap (λ n. cond (is_among (range_with_len 67108848 n) q) (Some stack_page) None) all
+returns-clause-added c =
+    let all : c.adding.page - 67108848 ≡ 16 = omega arith in
+    subst (λ n. HasAdded (state_of c.args.memory.now) (state_of c.adding.memory) c.args.p (λ page. stack_page) (λ page. false) (range_with_len 67108848 n)) all c.adding.invariant

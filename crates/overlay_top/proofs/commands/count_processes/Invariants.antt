@@ -7,10 +7,10 @@ use Rattle.overlay_top.proofs.commands.count_processes.Given as goal
 -- those counted, and those from the number on, are all
 abbrev pub invariant-counting : goal.invariant-counting
 invariant-counting l = record {
-  all : l.count + length (from_number l.from l.session.state.processes) ≡ length (entries l.session.state.processes);
+  all : l.count + length (from_number l.from l.session.state.wholes.processes) ≡ length (entries l.session.state.wholes.processes);
   few : l.count ≤ l.from;
   low : l.from ≤ LAST_SPACE + 1;
 }
 
 abbrev pub decreases-counting : goal.decreases-counting
-decreases-counting l = length (from_number l.from l.session.state.processes)
+decreases-counting l = length (from_number l.from l.session.state.wholes.processes)

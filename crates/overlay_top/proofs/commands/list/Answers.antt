@@ -11,7 +11,7 @@ returns-in_err-send-clause-cut g c tells =
     let state = c.args.session.now.state in
     let start = g.K.Sink.taken c.args.report.now.sink.now in
     let line = head_is state c.count_processes.result c.list_line.new.out.items c.count_processes.ensures c.list_line.ensures in
-    let rest = flat_map process_text (entries state.processes) in
+    let rest = flat_map process_text (entries state.wholes.processes) in
     at_err c.from_residual.result
     (cut_done start start (g.K.Sink.taken c.send.new.self.sink.now) _ c.list_line.new.out.items rest (list_head state ++ rest)
     (ap (λ bs. bs ++ rest) (sym line)) (c.in_err-send.ensures.cut tells) (none_done start (list_head state ++ rest)))
@@ -21,7 +21,7 @@ returns-clause-cut g c tells =
     let state = c.args.session.now.state in
     let start = g.K.Sink.taken c.args.report.now.sink.now in
     let line = head_is state c.count_processes.result c.list_line.new.out.items c.count_processes.ensures c.list_line.ensures in
-    let rest = flat_map process_text (entries state.processes) in
+    let rest = flat_map process_text (entries state.wholes.processes) in
     on_err c.list_processes.result
     (λ cut. last_cut start (g.K.Sink.taken c.send.new.self.sink.now) (g.K.Sink.taken c.list_processes.new.report.sink.now) rest rest (list_head state ++ rest) refl cut
     (more_done start start (g.K.Sink.taken c.send.new.self.sink.now) _ c.list_line.new.out.items rest (list_head state ++ rest)
@@ -33,7 +33,7 @@ returns-clause-sent g c tells =
     let state = c.args.session.now.state in
     let start = g.K.Sink.taken c.args.report.now.sink.now in
     let line = head_is state c.count_processes.result c.list_line.new.out.items c.count_processes.ensures c.list_line.ensures in
-    let rest = flat_map process_text (entries state.processes) in
+    let rest = flat_map process_text (entries state.wholes.processes) in
     on_ok c.list_processes.result
     (λ sent. last_done start (g.K.Sink.taken c.send.new.self.sink.now) (g.K.Sink.taken c.list_processes.new.report.sink.now) rest rest (list_head state ++ rest) refl sent
     (more_done start start (g.K.Sink.taken c.send.new.self.sink.now) _ c.list_line.new.out.items rest (list_head state ++ rest)

@@ -13,14 +13,14 @@ listing-init g c = record {
   sound = refl;
   low = omega arith;
   text = λ tells.
-      subst (λ left. IsDone (g.K.Sink.taken c.args.report.now.sink.now) (g.K.Sink.taken c.args.report.now.sink.now) left (flat_map process_text (entries c.args.session.now.state.processes)))
-      (ap (flat_map process_text) (sym (from_first c.args.session.now.state.processes)))
-      (none_done (g.K.Sink.taken c.args.report.now.sink.now) (flat_map process_text (entries c.args.session.now.state.processes)));
+      subst (λ left. IsDone (g.K.Sink.taken c.args.report.now.sink.now) (g.K.Sink.taken c.args.report.now.sink.now) left (flat_map process_text (entries c.args.session.now.state.wholes.processes)))
+      (ap (flat_map process_text) (sym (from_first c.args.session.now.state.wholes.processes)))
+      (none_done (g.K.Sink.taken c.args.report.now.sink.now) (flat_map process_text (entries c.args.session.now.state.wholes.processes)));
 }
 
 pub listing-preserved : goal.listing-preserved
 listing-preserved g c =
-    let ps = c.args.session.now.state.processes in
+    let ps = c.args.session.now.state.wholes.processes in
     let p = c.in-Some.p in
     let next = c.in-Some.ensures.next in
     let line = line_is ps p next.0 c.in-Ok.view c.process_line.new.out.items next.1 c.in-Ok.ensures.looks c.process_line.ensures in
@@ -37,7 +37,7 @@ listing-preserved g c =
 
 pub returns-in_err-send-clause-cut : goal.returns-in_err-send-clause-cut
 returns-in_err-send-clause-cut g c tells =
-    let ps = c.args.session.now.state.processes in
+    let ps = c.args.session.now.state.wholes.processes in
     let p = c.in-Some.p in
     let next = c.in-Some.ensures.next in
     let line = line_is ps p next.0 c.in-Ok.view c.process_line.new.out.items next.1 c.in-Ok.ensures.looks c.process_line.ensures in

@@ -13,9 +13,9 @@ invariant-listing g l = record {
   same : l.report.sink.ghost_name ≡ l.fn.report.sink.ghost_name;
   sound : g.K.Sink.faults l.report.sink.now ≡ g.K.Sink.faults l.fn.report.sink.now;
   low : l.from ≤ LAST_SPACE + 1;
-  text : g.K.Sink.tells → IsDone (g.K.Sink.taken l.fn.report.sink.now) (g.K.Sink.taken l.report.sink.now) (flat_map process_text (from_number l.from l.session.state.processes))
-      (flat_map process_text (entries l.session.state.processes));
+  text : g.K.Sink.tells → IsDone (g.K.Sink.taken l.fn.report.sink.now) (g.K.Sink.taken l.report.sink.now) (flat_map process_text (from_number l.from l.session.state.wholes.processes))
+      (flat_map process_text (entries l.session.state.wholes.processes));
 }
 
 abbrev pub decreases-listing : goal.decreases-listing
-decreases-listing g l = length (from_number l.from l.session.state.processes)
+decreases-listing g l = length (from_number l.from l.session.state.wholes.processes)

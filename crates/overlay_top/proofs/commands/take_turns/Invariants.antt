@@ -1,5 +1,6 @@
-use Rattle.std.proofs.Common.{◌≡◌, ◌-◌}
-use Rattle.command_core.specs.Turns.{ran_from, ran_text}
+use Rattle.std.proofs.Common.{◌≡◌}
+use Rattle.machine_core.specs.Machine.{AreLike}
+use Rattle.command_core.specs.Turns.{left_of, lines_left, ran_text}
 use Rattle.overlay_top.proofs.Texts.{IsDone}
 use Rattle.overlay_top.proofs.commands.take_turns.Given as goal
 
@@ -10,10 +11,10 @@ invariant-turns g l = record {
   sound : g.K.Sink.faults l.report.sink.now ≡ g.K.Sink.faults l.fn.report.sink.now;
   drawn : l.session.state.drawn ≡ l.fn.session.state.drawn;
   quantum : l.session.quantum ≡ l.fn.session.quantum;
-  after : (ran_from l.fn.session.state.processes l.fn.running.run).after ≡ (ran_from l.session.state.processes l.running.run).after;
-  text : g.K.Sink.tells → IsDone (g.K.Sink.taken l.fn.report.sink.now) (g.K.Sink.taken l.report.sink.now) (ran_text (ran_from l.session.state.processes l.running.run))
-      (ran_text (ran_from l.fn.session.state.processes l.fn.running.run));
+  after : AreLike (left_of l.fn.session.state.wholes l.fn.running).after (left_of l.session.state.wholes l.running).after;
+  text : g.K.Sink.tells → IsDone (g.K.Sink.taken l.fn.report.sink.now) (g.K.Sink.taken l.report.sink.now) (ran_text (left_of l.session.state.wholes l.running))
+      (ran_text (left_of l.fn.session.state.wholes l.fn.running));
 }
 
 abbrev pub decreases-turns : goal.decreases-turns
-decreases-turns g l = l.running.run.turns - l.running.run.taken
+decreases-turns g l = lines_left l.running

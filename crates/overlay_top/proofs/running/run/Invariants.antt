@@ -3,7 +3,7 @@ use Rattle.ovl_io.specs.Outside.{AsksFor}
 use Rattle.overlay_top.specs.declared.running.TheConstants.{QUANTUM}
 use Rattle.command_core.specs.Commands.{asks}
 use Rattle.overlay_top.specs.Outcome.{named}
-use Rattle.overlay_top.proofs.Runs.{HasRun}
+use Rattle.overlay_top.proofs.Runs.{SessionHasRun}
 use Rattle.overlay_top.proofs.running.run.Given as goal
 
 -- the commands so far are done, and reported where the sink tells its bytes
@@ -16,5 +16,5 @@ invariant-running g l = record {
   kept : g.H.Shelf.tells → (other : List ℕ) → g.H.Shelf.files l.shelf other ≡ g.H.Shelf.files l.fn.shelf other;
   asked : AsksFor g.H.Shelf.fetched (named (take l.command-index (map asks l.commands))) l.fn.shelf l.shelf;
   runs : g.H.Shelf.tells →
-      HasRun l.commands l.command-index (g.H.Shelf.files l.fn.shelf) l.session.state g.K.Sink.tells (g.K.Sink.taken l.fn.report.sink.now) (g.K.Sink.taken l.report.sink.now);
+      SessionHasRun l.commands l.command-index (g.H.Shelf.files l.fn.shelf) l.session.state g.K.Sink.tells (g.K.Sink.taken l.fn.report.sink.now) (g.K.Sink.taken l.report.sink.now);
 }

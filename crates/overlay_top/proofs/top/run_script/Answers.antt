@@ -3,6 +3,7 @@ use Rattle.std.specs.Prelude.{map}
 use Rattle.sizes.specs.declared.TheConstants.{MOST_SCRIPT_BYTES, MOST_SCRIPT_LINES}
 use Rattle.overlay_top.specs.declared.status.Status.TheVariants.{TooLong, Done}
 use Rattle.command_core.specs.State.{fresh}
+use Rattle.overlay_top.specs.declared.running.TheConstants.{FRAMES}
 use Rattle.command_core.specs.Commands.{asks}
 use Rattle.overlay_top.specs.Outcome.{ended, run_from, names_asked, names_said, said, said_outcome}
 use Rattle.overlay_top.specs.Reading.{IsUnread}
@@ -82,7 +83,7 @@ returns-in-Ok-run-clause-ends g c s h =
     let sink_is = c.sink-2-1.given.1 (sym c.in-Ok-run.ensures.same) in
     subst (λ sink. Ends g.S.Source g.H.Shelf g.K.Sink (said_outcome (said left) files) (names_asked left) (world_of c.args.script.now c.args.shelf.now c.args.sink.now)
     (world_of c.read_script.new.source c.run.new.shelf sink) Done) (sym sink_is) (
-    ends_as g.S.Source g.H.Shelf g.K.Sink _ (run_from commands fresh files) _ (map asks commands) _ _ Done
+    ends_as g.S.Source g.H.Shelf g.K.Sink _ (run_from commands (fresh FRAMES) files) _ (map asks commands) _ _ Done
     (ap (λ says. said_outcome says files) says) (ap names_said says)
     (commands_ended g.S.Source g.H.Shelf g.K.Sink _ _ _ _ (c.in-Ok.ensures.no_fault (read_it c.in-Ok.bytes)) (taken_whole left bytes _ is small none) c.in-Ok-run.ensures.shelf c.in-Ok-run.ensures.sink
     (c.in-Ok-run.ensures.ends h)))
@@ -103,5 +104,5 @@ returns-clause-ends g c s h =
     let sink_is = c.sink-2-1.given.1 (sym c.in-Err-run.ensures.same) in
     subst (λ sink. Ends g.S.Source g.H.Shelf g.K.Sink (said_outcome (said left) files) (names_asked left) (world_of c.args.script.now c.args.shelf.now c.args.sink.now)
     (world_of c.read_script.new.source c.run.new.shelf sink) c.status_of.result) (sym sink_is) (
-    ends_as g.S.Source g.H.Shelf g.K.Sink _ (run_from commands fresh files) _ (map asks commands) _ _ c.status_of.result
+    ends_as g.S.Source g.H.Shelf g.K.Sink _ (run_from commands (fresh FRAMES) files) _ (map asks commands) _ _ c.status_of.result
     (ap (λ says. said_outcome says files) says) (ap names_said says) (subst (Ends _ _ _ _ _ _ _) (sym c.status_of.ensures) ends))

@@ -1,21 +1,34 @@
-use Rattle.std.proofs.Common.{◌+◌, ap, ◌∙◌, refl}
-use Rattle.std.specs.FinMap.{get}
-use Rattle.ovl_io.specs.Keys.{get_same}
-use Rattle.machine_core.specs.Machine.{Processes, wholes}
-use Rattle.machine_core.specs.Load.{loaded_process}
+use Rattle.std.proofs.Common.{◌+◌, ◌==◌, ap, subst, sym, ◌∙◌, refl}
+use Rattle.sizes.specs.declared.TheConstants.{LAST_SPACE}
 use Rattle.command_core.specs.State.{InSession}
+use Rattle.command_core.specs.Changes.{GivesChange, answer_of, load_done}
+use Rattle.report_text.specs.declared.answer.Answer.TheVariants.{Loaded}
+use Rattle.command_core.specs.LikeLaws.{gives_as, like_load_done}
+use Rattle.command_core.proofs.Loadings.{gives_loaded, gives_other, runs_loaded, session_other, state_of, told_other}
 use Rattle.command_core.proofs.Places.{is_below, session_load}
 use Rattle.command_core.proofs.session.Session.load.Goals as goal
 
 pub returns-in-Ok-load-clause-runs : goal.returns-in-Ok-load-clause-runs
 returns-in-Ok-load-clause-runs c =
-    let p = c.self.inside.drawn + 1 in
-    let process = loaded_process c.args.file.now in
-    (process, ap (λ (ps : Processes). get ps p) c.in-Ok-load.ensures.ok ∙ get_same (wholes c.self.inside.machine) p p process refl, refl)
+    runs_loaded c.args.file.now c.self.inside.machine c.load.new.self c.self.inside.drawn c.in-Ok.ensures.taken
+    (ap (λ (s : InSession). s.state.drawn == LAST_SPACE) c.self.view_is ∙ sym c.are_all_drawn.ensures ∙ c.if-are_all_drawn.false)
+    c.in-Ok-load.pages c.entry.result c.in-Ok-load.ensures.loads
 
-pub invariant_of-self : goal.invariant_of-self
-invariant_of-self c = (
-  session_load c.self.inside.machine c.load.new.self c.self.inside.drawn (loaded_process c.args.file.now) c.self.invariant.0
-      (is_below c.self.inside.drawn c.args.self.now.state.drawn c.are_all_drawn.result (ap (λ (s : InSession). s.state.drawn) c.self.view_is) c.are_all_drawn.ensures c.if-are_all_drawn.false c.self.invariant.0.few) c.in-Ok-load.ensures.made,
-  c.self.invariant.1,
-)
+pub returns-in-Ok-load-clause-gives : goal.returns-in-Ok-load-clause-gives
+returns-in-Ok-load-clause-gives c =
+    let file = c.args.file.now in
+    let drawn = c.self.inside.drawn in
+    subst (λ (s : InSession). GivesChange (load_done file s.state) s.state (Loaded (drawn + 1) c.in-Ok-load.pages c.entry.result) (state_of c.load.new.self (drawn + 1))) c.self.view_is
+    (gives_loaded file c.self.inside.machine c.load.new.self drawn c.in-Ok.ensures.taken
+    (ap (λ (s : InSession). s.state.drawn == LAST_SPACE) c.self.view_is ∙ sym c.are_all_drawn.ensures ∙ c.if-are_all_drawn.false)
+    c.in-Ok-load.pages c.entry.result c.in-Ok-load.ensures.loads (c.entry.ensures ∙ c.in-Ok.ensures.entry))
+
+pub returns-clause-gives : goal.returns-clause-gives
+returns-clause-gives c =
+    let file = c.args.file.now in
+    let drawn = c.self.inside.drawn in
+    let given = gives_other file c.self.inside.machine c.load.new.self drawn c.in-Ok.ensures.taken
+    (ap (λ (s : InSession). s.state.drawn == LAST_SPACE) c.self.view_is ∙ sym c.are_all_drawn.ensures ∙ c.if-are_all_drawn.false)
+    c.in-Err-load.error c.in-Err-load.ensures.loads in
+    subst (λ (s : InSession). GivesChange (load_done file s.state) s.state c.not_loaded.result (state_of c.load.new.self drawn)) c.self.view_is
+    (subst (λ a. GivesChange (load_done file (state_of c.self.inside.machine drawn)) (state_of c.self.inside.machine drawn) a (state_of c.load.new.self drawn)) (sym c.not_loaded.ensures) given)

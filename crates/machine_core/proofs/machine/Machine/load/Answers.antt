@@ -1,41 +1,65 @@
-use Rattle.std.proofs.Common.{ap, ◌∙◌, arith}
-use Rattle.sizes.specs.declared.TheConstants.{STACK_POINTER}
-use Rattle.std.specs.FinMap.{insert}
-use Rattle.rv_execute.specs.Registers.{first_registers}
-use Rattle.ovl_io.specs.declared.process_state.ProcessState.TheVariants.{Running}
-use Rattle.machine_core.specs.declared.process.Process as declared
-use Rattle.machine_core.specs.Machine.{Machine, whole, wholes, with_whole_at}
-use Rattle.machine_core.specs.Laws.{wholes_with_whole, leads}
-use Rattle.machine_core.specs.Load.{loaded_process}
-use Rattle.machine_core.specs.Slots.{seen}
-use Rattle.machine_core.proofs.Images.{few_items, as_loaded}
-use Rattle.machine_core.proofs.Results.{at_err}
-use Rattle.machine_core.proofs.Seen.{same_seen, seen_made, with_whole_stays}
+use Rattle.std.proofs.Common.{◌≡◌, ◌+◌, ◌*◌, List, length, ap, ◌∙◌, refl, arith, Ok, Err}
+use Rattle.std.proofs.lemmas.List.{length-map}
+use Rattle.elf_loader.specs.declared.image.ImagePage.{ImagePage}
+use Rattle.elf_loader.specs.Image.{image_pages, listed_page}
+use Rattle.overlay_memory.specs.declared.error.SpaceError.TheVariants.{Full, Memory}
+use Rattle.overlay_pages.specs.View.{state_of}
+use Rattle.machine_core.specs.Machine.{Machine, spaces_of}
+use Rattle.machine_core.specs.LoadLaws.{loads_as, loads_stays}
+use Rattle.machine_core.proofs.Images.{few_items}
+use Rattle.machine_core.proofs.Loaded.{counted, full_by, not_full_by}
 use Rattle.machine_core.proofs.machine.Machine.load.Goals as goal
 
-pub overflow_cast-pages : goal.overflow_cast-pages
-overflow_cast-pages c = omega (arith, few_items c.args.file.now c.pages.result.now c.requires.of_file.taken (c.pages.ensures ∙ c.requires.of_file.pages))
+pub stored_in-requires : goal.stored_in-requires
+stored_in-requires c = few_items c.args.file.now c.pages.result.now c.requires.of_file.taken (c.pages.ensures ∙ c.requires.of_file.pages)
 
-pub overflow_add-pages : goal.overflow_add-pages
-overflow_add-pages c = omega (arith, few_items c.args.file.now c.pages.result.now c.requires.of_file.taken (c.pages.ensures ∙ c.requires.of_file.pages))
+pub make-requires-clause-fits : goal.make-requires-clause-fits
+make-requires-clause-fits c =
+    let numbers = counted c.args.file.now c.args.p c.args.self.now (state_of c.self.inside.memory) c.pages.result.now c.units.result c.stored_in.result c.limit-limit.result
+    c.requires.of_file.taken c.requires.no_space (ap (λ (m : Machine). spaces_of m) c.self.view_is) (c.pages.ensures ∙ c.requires.of_file.pages)
+    c.units.ensures.sum c.stored_in.ensures.count c.limit-limit.ensures.limit in
+    not_full_by _ _ (omega (arith, c.if-limit-needed.false, numbers.needed_is, numbers.limit_is))
 
-pub returns-in_err-make-clause-err : goal.returns-in_err-make-clause-err
-returns-in_err-make-clause-err c = at_err _ (same_seen c.self.inside.slots.items c.make.new.slots.items c.in_err-make.ensures.err ∙ c.self.view_is)
+pub overflow_add-needed : goal.overflow_add-needed
+overflow_add-needed c = omega (arith, c.limit-limit.ensures.limit, c.limit-limit.ensures.few, c.units.ensures.sum, c.units.ensures.fits, c.stored_in.ensures.few)
 
-pub returns-clause-made : goal.returns-clause-made
-returns-clause-made c =
-    let process : declared.Process = record { regs = c.new.result; state = Running } in
+pub overflow_cast-result : goal.overflow_cast-result
+overflow_cast-result c = omega (arith, few_items c.args.file.now c.pages-in-Ok.result.now c.requires.of_file.taken (c.pages-in-Ok.ensures ∙ c.requires.of_file.pages))
+
+pub overflow_add-result : goal.overflow_add-result
+overflow_add-result c = omega (arith, few_items c.args.file.now c.pages-in-Ok.result.now c.requires.of_file.taken (c.pages-in-Ok.ensures ∙ c.requires.of_file.pages))
+
+pub returns-then-limit-needed-clause-loads : goal.returns-then-limit-needed-clause-loads
+returns-then-limit-needed-clause-loads c =
+    let numbers = counted c.args.file.now c.args.p c.args.self.now (state_of c.self.inside.memory) c.pages.result.now c.units.result c.stored_in.result c.limit-limit.result
+    c.requires.of_file.taken c.requires.no_space (ap (λ (m : Machine). spaces_of m) c.self.view_is) (c.pages.ensures ∙ c.requires.of_file.pages)
+    c.units.ensures.sum c.stored_in.ensures.count c.limit-limit.ensures.limit in
+    (numbers.needed_is, numbers.limit_is, full_by _ _ (omega (arith, c.if-limit-needed.true, numbers.needed_is, numbers.limit_is)), refl)
+
+pub returns-then-limit-needed-clause-stands : goal.returns-then-limit-needed-clause-stands
+returns-then-limit-needed-clause-stands c =
+    loads_as c.args.p c.args.file.now c.args.self.now c.args.self.now (Err (Full (c.units.result + 16 * c.stored_in.result) c.limit-limit.result)) (returns-then-limit-needed-clause-loads c)
+
+pub returns-in-Ok-clause-loads : goal.returns-in-Ok-clause-loads
+returns-in-Ok-clause-loads c =
     let file = c.args.file.now in
-    seen_made c.self.inside.slots.items c.make.new.slots.items c.args.p process c.in_ok-memory.memory c.in_ok-make.ensures.made
-    ∙ ap (λ (m : Machine). with_whole_at m c.args.p (whole process c.in_ok-memory.memory)) c.self.view_is
-    ∙ ap (with_whole_at c.args.self.now c.args.p)
-    (as_loaded file c.new.result c.in_ok-memory.memory (c.new.ensures ∙ ap (λ pc. first_registers pc STACK_POINTER) (c.entry.ensures ∙ c.requires.of_file.entry)) c.in_ok-memory.ensures.memory)
+    let numbers = counted c.args.file.now c.args.p c.args.self.now (state_of c.self.inside.memory) c.pages.result.now c.units.result c.stored_in.result c.limit-limit.result
+    c.requires.of_file.taken c.requires.no_space (ap (λ (m : Machine). spaces_of m) c.self.view_is) (c.pages.ensures ∙ c.requires.of_file.pages)
+    c.units.ensures.sum c.stored_in.ensures.count c.limit-limit.ensures.limit in (
+      ap (λ (xs : List ImagePage). length xs + 16) (c.pages-in-Ok.ensures ∙ c.requires.of_file.pages) ∙ ap (λ n. n + 16) (length-map (image_pages file) (listed_page file)),
+      not_full_by _ _ (omega (arith, c.if-limit-needed.false, numbers.needed_is, numbers.limit_is)),
+      c.in-Ok.ensures.made,
+    )
 
-pub returns-clause-ok : goal.returns-clause-ok
-returns-clause-ok c = ap wholes (returns-clause-made c) ∙ wholes_with_whole c.args.self.now c.args.p (loaded_process c.args.file.now)
+pub returns-in-Ok-clause-stands : goal.returns-in-Ok-clause-stands
+returns-in-Ok-clause-stands c =
+    loads_as c.args.p c.args.file.now c.args.self.now c.make.new.self (Ok (length c.pages-in-Ok.result.now + 16)) (returns-in-Ok-clause-loads c)
 
-pub returns-clause-stands : goal.returns-clause-stands
-returns-clause-stands c = leads (λ state. insert state c.args.p (loaded_process c.args.file.now)) c.args.self.now (seen c.make.new.slots.items) (returns-clause-ok c)
+pub returns-in-Err-clause-stands : goal.returns-in-Err-clause-stands
+returns-in-Err-clause-stands c = loads_as c.args.p c.args.file.now c.args.self.now c.make.new.self (Err Memory) c.in-Err.ensures.kept
 
-pub returns-clause-others : goal.returns-clause-others
-returns-clause-others c = with_whole_stays c.args.self.now (seen c.make.new.slots.items) c.args.p (loaded_process c.args.file.now) (returns-clause-made c)
+pub returns-in-Ok-clause-others : goal.returns-in-Ok-clause-others
+returns-in-Ok-clause-others c = c.in-Ok.ensures.made.others
+
+pub returns-in-Err-clause-others : goal.returns-in-Err-clause-others
+returns-in-Err-clause-others c = loads_stays c.args.p c.args.file.now c.args.self.now c.make.new.self (Err Memory) c.in-Err.ensures.kept

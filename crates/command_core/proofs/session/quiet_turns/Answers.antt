@@ -1,0 +1,40 @@
+use Rattle.std.proofs.Common.{◌≡◌, ◌∙◌, sym, subst, Some, None, ◌⊎◌, inl, inr, false, nat_lt, arith}
+use Rattle.command_core.specs.Turns.{EndsRun, next_of}
+use Rattle.machine_core.specs.Machine.{wholes}
+use Rattle.command_core.proofs.Places.{own_kept, same_then, space_there}
+use Rattle.command_core.proofs.Rans.{next_is, run_ended}
+use Rattle.command_core.proofs.session.quiet_turns.Goals as goal
+use Rattle.command_core.proofs.session.quiet_turns.Goals.{else-quiet-test, then-quiet-test+in-None}
+
+pub take_turns-requires-clause-next : goal.take_turns-requires-clause-next
+take_turns-requires-clause-next c =
+    next_is (wholes c.quiet.machine) c.order.result.now c.quiet.running.run.order (Some c.in-Some.p) c.in-Some.ensures.number c.order.ensures.order
+
+pub take_turns-requires-clause-there : goal.take_turns-requires-clause-there
+take_turns-requires-clause-there c = space_there c.quiet.machine c.in-Some.p c.quiet.invariant.spaces c.in-Some.ensures.runs
+
+pub quiet-preserved : goal.quiet-preserved
+quiet-preserved c =
+    let done = c.take_turns in
+    let quiet = done.ensures.quiet c.if-take_turns.false in
+    record {
+      text = c.quiet.invariant.text ∙ quiet.0;
+      after = c.quiet.invariant.after ∙ quiet.1;
+      fewer = omega (arith, c.quiet.invariant.fewer, done.ensures.fewer);
+      goes = done.ensures.goes c.if-take_turns.false;
+      asked = done.ensures.asked ∙ c.quiet.invariant.asked;
+      kept = same_then c.args.machine.now c.quiet.machine done.new.machine c.quiet.invariant.kept done.ensures.kept;
+      spaces = own_kept c.quiet.machine done.new.machine c.quiet.invariant.spaces done.ensures.kept;
+    }
+
+pub returns-clause-ends : goal.returns-clause-ends
+returns-clause-ends c silent =
+    let run = c.quiet.running.run in
+    let why : (next_of (wholes c.quiet.machine) run.order ≡ None) ⊎ (nat_lt run.taken run.turns ≡ false) = elim c.quiet-test.branch [
+      | else-quiet-test w ↦ inr (sym c.has_left.ensures.left ∙ w.quiet-test.false)
+      | then-quiet-test+in-None w ↦ inl (next_is (wholes c.quiet.machine) w.order.result.now run.order None w.in-None.ensures.number w.order.ensures.order)
+    ] in
+    let found = c.ending-stop.result in
+    let ends = run_ended (wholes c.args.machine.now) (wholes c.quiet.machine) c.args.running.now run found c.requires.goes c.ending-stop.ensures c.quiet.invariant.text c.quiet.invariant.after why
+    c.has_left.ensures.within in
+    subst (EndsRun (wholes c.args.machine.now) c.args.running.now (wholes c.quiet.machine)) (sym c.set_stop.ensures) ends

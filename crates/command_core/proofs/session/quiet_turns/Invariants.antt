@@ -1,0 +1,20 @@
+use Rattle.std.proofs.Common.{◌≡◌, ◌-◌, ◌≤◌, None}
+use Rattle.machine_core.specs.Machine.{KeepsPlaces, wholes}
+use Rattle.command_core.specs.State.{OwnSpaces}
+use Rattle.command_core.specs.Turns.{lines_left, ran_from, ran_text}
+use Rattle.command_core.proofs.session.quiet_turns.Given as goal
+
+-- the turns so far had no line: what is left comes to what all come to
+abbrev pub invariant-quiet : goal.invariant-quiet
+invariant-quiet l = record {
+  text : ran_text (ran_from (wholes l.fn.machine) l.fn.running.run) ≡ ran_text (ran_from (wholes l.machine) l.running.run);
+  after : (ran_from (wholes l.fn.machine) l.fn.running.run).after ≡ (ran_from (wholes l.machine) l.running.run).after;
+  fewer : lines_left l.running ≤ lines_left l.fn.running;
+  goes : l.running.stop ≡ None;
+  asked : l.running.run.turns ≡ l.fn.running.run.turns;
+  kept : KeepsPlaces l.fn.machine l.machine;
+  spaces : OwnSpaces l.machine;
+}
+
+abbrev pub decreases-quiet : goal.decreases-quiet
+decreases-quiet l = lines_left l.running

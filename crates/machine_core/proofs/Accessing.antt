@@ -1,0 +1,243 @@
+use Rattle.std.proofs.Common.{◌≡◌, ℕ, ◌*◌, ◌<◌, ◌≤◌, Bool, true, false, cond, List, [], ◌∷◌, length, nat_lt, sym, ap, subst, ◌∙◌, refl, arith, Option, Some, None}
+use Rattle.std.specs.Prelude.{Result, Ok, Err}
+use Rattle.std.specs.Option.{option_map_or}
+use Rattle.std.proofs.lemmas.Bool.Decides.{nat_tests}
+use Rattle.ledger.specs.Ledger.{Ledger}
+use Rattle.ledger.specs.Units.{units}
+use Rattle.ovl_io.specs.Memory.{Memory, denied_at}
+use Rattle.ovl_io.specs.declared.process_state.FaultKind.{FaultKind}
+use Rattle.ovl_io.specs.declared.process_state.ProcessState.{ProcessState}
+use Rattle.ovl_io.specs.declared.process_state.ProcessState.TheVariants as state
+use Rattle.rv_execute.specs.Calls.{Call, Fetch, Load, Store, Performs, full_of, store_at}
+use Rattle.rv_execute.specs.Registers.{Registers}
+use Rattle.rv_execute.specs.Execution.{Execution, Upshot, Steps, Asks, Faults, Executes, execution, full_in, outcome_by}
+use Rattle.rv_execute.specs.declared.memory.Refused.{Refused}
+use Rattle.rv_execute.specs.declared.memory.Refused.TheVariants as refused
+use Rattle.rv_execute.specs.declared.outcome.Outcome.{Outcome}
+use Rattle.rv_execute.specs.declared.outcome.Outcome.TheVariants as outcome
+use Rattle.overlay_memory.specs.Access.{IsStored, stored_books}
+use Rattle.overlay_pages.specs.Changes.{Fits, limit_of}
+use Rattle.overlay_pages.specs.State.{State, books, memory_of, space_in}
+use Rattle.machine_core.specs.declared.process.Process as declared
+use Rattle.machine_core.specs.declared.view.View.{View}
+use Rattle.machine_core.specs.Process.{Process}
+use Rattle.machine_core.specs.Access.{IsSameLoan, IsStoredBy, IsUnchanged, Leaves, spaces_lent}
+use Rattle.machine_core.specs.Turns.{Guest, executed, execution_of, exceeds, guest_executed, is_full, ledger_executed, ledger_stored, outcome_of, state_executed, store_made, store_of, units_needed}
+use Rattle.machine_core.specs.Slots.{IsBeside, guest_in, guest_lent}
+
+-- What the calls of one instruction make of the memory of all spaces.
+
+-- its store was done
+pub record HasStored (p : ℕ) (store : ℕ × ℕ) (old new : State) : Type 0 where
+  pub ledger : books new ≡ stored_books old p store.0 store.1
+  pub mark : (space_in new p).speculating ≡ (space_in old p).speculating
+  pub frames : new.frames ≡ old.frames
+  pub beside : IsBeside p old new
+
+-- or there weren't units enough for it
+abbrev pub CameBy : ℕ → State → State → ℕ × ℕ → Bool → Option (ℕ × ℕ) → Type 0
+CameBy p old new store true full = (full ≡ Some (units (stored_books old p store.0 store.1), limit_of old)) × (new ≡ old)
+CameBy p old new store false full = (full ≡ None) × HasStored p store old new
+
+abbrev pub Came : ℕ → State → State → Option (ℕ × ℕ) → Option (ℕ × ℕ) → Type 0
+Came p old new None full = (full ≡ None) × (new ≡ old)
+Came p old new (Some store) full = CameBy p old new store (nat_lt (limit_of old) (units (stored_books old p store.0 store.1))) full
+
+pub record IsPerformed (calls : List Call) (old new : View) (full : Option (ℕ × ℕ)) : Type 0 where
+  pub same : IsSameLoan old new
+  pub came : Came old.space (spaces_lent old) (spaces_lent new) (store_made (memory_of (spaces_lent old) old.space) calls) full
+
+is_over : (l u : ℕ) → l < u → nat_lt l u ≡ true
+is_over l u h = grind (arith, nat_tests)
+
+not_over : (l u : ℕ) → u ≤ l → nat_lt l u ≡ false
+not_over l u h = by_test (nat_lt l u) refl
+  where
+    by_test : (b : Bool) → nat_lt l u ≡ b → b ≡ false
+    by_test true e = absurd (grind (arith, nat_tests))
+    by_test false e = refl
+
+-- by the answer of the store
+stored_came : (p : ℕ) (old new : State) (address : ℕ) (bytes : List ℕ) (answer : Result (Unit {0}) Refused) (full : Option (ℕ × ℕ))
+    → Leaves p old address bytes answer new → full ≡ full_of answer
+    → Came p old new (option_map_or (λ at. None) (denied_at (memory_of old p) (store_at address (length bytes))) (Some (address, length bytes))) full
+stored_came p old new address bytes (Ok done) full (allowed, stored, fits) is =
+    let frames : new.frames ≡ old.frames = stored.frames in
+    let limit = ap (λ n. 16 * n) frames in
+    let needed = ap units stored.ledger in
+    let test = not_over (limit_of old) (units (stored_books old p address (length bytes))) (omega (arith, fits, limit, needed)) in
+    subst (λ (o : Option ℕ). Came p old new (option_map_or (λ at. None) o (Some (address, length bytes))) full) (sym allowed)
+    (subst (λ b. CameBy p old new (address, length bytes) b full) (sym test)
+    (is, record { ledger = stored.ledger; mark = stored.mark; frames = frames; beside = record { spaces = stored.others; there = stored.spaces; awaiting = stored.awaiting } }))
+stored_came p old new address bytes (Err (refused.At at)) full (denied, same) is =
+    subst (λ (o : Option ℕ). Came p old new (option_map_or (λ at. None) o (Some (address, length bytes))) full) (sym denied) (is, same)
+stored_came p old new address bytes (Err (refused.Full needed limit)) full (allowed, needed_is, limit_is, over, same) is =
+    let u = units (stored_books old p address (length bytes)) in
+    let test = is_over (limit_of old) u (omega (arith, over, needed_is, limit_is)) in
+    subst (λ (o : Option ℕ). Came p old new (option_map_or (λ at. None) o (Some (address, length bytes))) full) (sym allowed)
+    (subst (λ b. CameBy p old new (address, length bytes) b full) (sym test)
+    (is ∙ ap (λ n. Some (n, limit)) needed_is ∙ ap (λ n. Some (u, n)) limit_is, same))
+
+carried : (calls : List Call) (old next new : View) (full : Option (ℕ × ℕ)) → IsUnchanged old next → IsPerformed calls next new full → IsPerformed calls old new full
+carried calls old next new full (same, kept) done = record {
+  same = record { loan = done.same.loan ∙ same.loan; space = done.same.space ∙ same.space };
+  came = subst (λ (s : State). Came old.space s (spaces_lent new) (store_made (memory_of s old.space) calls) full) kept
+      (subst (λ p. Came p (spaces_lent next) (spaces_lent new) (store_made (memory_of (spaces_lent next) p) calls) full) same.space done.came);
+}
+
+pub performed : (calls : List Call) (old new : View) (full : Option (ℕ × ℕ))
+    → Performs (λ old address new. IsUnchanged old new) (λ old address count new. IsUnchanged old new) (λ old address bytes answer new. IsStoredBy old address bytes answer new)
+    calls old full new
+    → IsPerformed calls old new full
+performed [] old new full (none, is) = record {
+  same = record { loan = ap (λ (v : View). v.memory.ghost_name) is; space = ap (λ (v : View). v.space) is };
+  came = (none, ap spaces_lent is);
+}
+performed (Fetch address ∷ calls) old new full (next, unchanged, more) =
+    let all = carried calls old next new full unchanged (performed calls next new full more) in record { same = all.same; came = all.came }
+performed (Load address count ∷ calls) old new full (next, unchanged, more) =
+    let all = carried calls old next new full unchanged (performed calls next new full more) in record { same = all.same; came = all.came }
+performed (Store address bytes ∷ calls) old new full (answer, stored, is, last) =
+    record { same = stored.0; came = stored_came old.space (spaces_lent old) (spaces_lent new) address bytes answer full stored.1 is }
+
+-- One execution.
+
+pub record IsExecuted (p : ℕ) (old new : State) (before after : declared.Process) (o : Outcome) : Type 0 where
+  pub outcome_is : o ≡ outcome_of p (guest_in p old before)
+  pub after_is : guest_in p new after ≡ executed p (guest_in p old before)
+  pub beside : IsBeside p old new
+
+abbrev pub state_left : Outcome → ProcessState → ProcessState
+state_left outcome.Stepped before = before
+state_left outcome.Asked before = before
+state_left (outcome.Fault kind address) before = state.Faulted kind address
+state_left (outcome.Full units limit) before = before
+
+-- what an outcome that isn't for want of units says
+record IsDone (e : Execution) (regs : Registers) (memory : Memory) (o : Outcome) : Type 0 where
+  outcome_is : o ≡ outcome_by e.upshot
+  state_is : state_left o state.Running ≡ state_executed e.upshot
+  registers : regs ≡ e.registers
+  memory_is : memory ≡ e.memory
+
+is_done : (e : Execution) (old : Registers) (old_memory : Memory) (regs : Registers) (memory : Memory) (o : Outcome) → full_in o ≡ None
+    → Executes e old old_memory regs memory o → IsDone e regs memory o
+is_done e old old_memory regs memory outcome.Stepped none (is, r, m) =
+    record { outcome_is = sym (ap outcome_by is); state_is = sym (ap state_executed is); registers = r; memory_is = m }
+is_done e old old_memory regs memory outcome.Asked none (is, r, m) =
+    record { outcome_is = sym (ap outcome_by is); state_is = sym (ap state_executed is); registers = r; memory_is = m }
+is_done e old old_memory regs memory (outcome.Fault kind address) none (is, r, m) =
+    record { outcome_is = sym (ap outcome_by is); state_is = sym (ap state_executed is); registers = r; memory_is = m }
+is_done e old old_memory regs memory (outcome.Full needed limit) none done = cc
+
+record IsFull (old : Registers) (old_memory : Memory) (regs : Registers) (memory : Memory) (o : Outcome) (needed limit : ℕ) : Type 0 where
+  outcome_is : o ≡ outcome.Full needed limit
+  state_is : state_left o state.Running ≡ state.Running
+  registers : regs ≡ old
+  memory_is : memory ≡ old_memory
+
+full_by : (e : Execution) (old : Registers) (old_memory : Memory) (regs : Registers) (memory : Memory) (o : Outcome) (needed limit : ℕ) → full_in o ≡ Some (needed, limit)
+    → Executes e old old_memory regs memory o → IsFull old old_memory regs memory o needed limit
+full_by e old old_memory regs memory outcome.Stepped needed limit is done = cc
+full_by e old old_memory regs memory outcome.Asked needed limit is done = cc
+full_by e old old_memory regs memory (outcome.Fault kind address) needed limit is done = cc
+full_by e old old_memory regs memory (outcome.Full n l) needed limit is (steps, r, m) =
+    record {
+      outcome_is = ap (λ o. option_map_or (λ (x : ℕ × ℕ). outcome.Full x.0 x.1) o outcome.Stepped) is;
+      state_is = refl;
+      registers = r;
+      memory_is = m;
+    }
+
+made : (r s : Registers) (t u : ProcessState) (m n : Memory) (a b : Bool) (k l : Ledger) (f g : ℕ) → r ≡ s → t ≡ u → m ≡ n → a ≡ b → k ≡ l → f ≡ g
+    → ◌≡◌ {A = Guest} (record { process = record { registers = r; state = t; memory = m; speculating = a }; ledger = k; frames = f })
+    (record { process = record { registers = s; state = u; memory = n; speculating = b }; ledger = l; frames = g })
+made r s t u m n a b k l f g rs tu mn ab kl fg = λ i. record { process = record { registers = rs i; state = tu i; memory = mn i; speculating = ab i }; ledger = kl i; frames = fg i }
+
+module _ (p : ℕ) (old new : State) (process : declared.Process) (regs : Registers) (o : Outcome)
+    (done : Executes (execution process.regs (memory_of old p)) process.regs (memory_of old p) regs (memory_of new p) o) (runs : process.state ≡ state.Running) where
+  abbrev guest : Guest
+  guest = guest_in p old process
+
+  abbrev left : declared.Process
+  left = record { regs = regs; state = state_left o process.state }
+
+  full_is : (store : Option (ℕ × ℕ)) → store_of guest.process ≡ store → is_full p guest ≡ exceeds store (units (ledger_stored p (space_in old p).speculating store (books old))) (limit_of old)
+  unfolding is_full ledger_executed
+  full_is store is = ap (λ (s : Option (ℕ × ℕ)). exceeds s (units (ledger_stored p (space_in old p).speculating s (books old))) (limit_of old)) is
+
+  ledger_is : (store : Option (ℕ × ℕ)) → store_of guest.process ≡ store → ledger_executed p guest ≡ ledger_stored p (space_in old p).speculating store (books old)
+  unfolding ledger_executed
+  ledger_is store is = ap (λ (s : Option (ℕ × ℕ)). ledger_stored p (space_in old p).speculating s (books old)) is
+
+  enough : (store : Option (ℕ × ℕ)) → store_of guest.process ≡ store → is_full p guest ≡ false → full_in o ≡ None → books new ≡ ledger_stored p (space_in old p).speculating store (books old)
+      → (space_in new p).speculating ≡ (space_in old p).speculating → new.frames ≡ old.frames → IsBeside p old new → IsExecuted p old new process left o
+  enough store is not_full none ledger mark frames beside =
+      let e = execution process.regs (memory_of old p) in
+      let d = is_done e process.regs (memory_of old p) regs (memory_of new p) o none done in
+      record {
+        outcome_is = d.outcome_is ∙ sym (ap (λ b. cond b (outcome.Full (units_needed p guest) (limit_of old)) (outcome_by e.upshot)) not_full);
+        after_is = made regs e.registers (state_left o process.state) (state_executed e.upshot) (memory_of new p) e.memory _ _ (books new) (ledger_executed p guest) _ _
+            d.registers (ap (state_left o) runs ∙ d.state_is) d.memory_is mark (ledger ∙ sym (ledger_is store is)) frames
+            ∙ sym (ap (λ b. cond b guest (guest_executed p guest)) not_full);
+        beside = beside;
+      }
+
+  same_beside : new ≡ old → IsBeside p old new
+  same_beside same = subst (IsBeside p old) (sym same) (record { spaces = λ q other. refl; there = λ q. refl; awaiting = refl })
+
+  by_store : (store : Option (ℕ × ℕ)) → store_of guest.process ≡ store → Came p old new store (full_in o) → IsExecuted p old new process left o
+  by_store None is (none, same) =
+      enough None is (full_is None is) none (ap books same) (ap (λ (s : State). (space_in s p).speculating) same) (ap (λ (s : State). s.frames) same) (same_beside same)
+  by_store (Some store) is came = by_test (nat_lt (limit_of old) (units (stored_books old p store.0 store.1))) refl came
+    where
+      by_test : (b : Bool) → nat_lt (limit_of old) (units (stored_books old p store.0 store.1)) ≡ b → CameBy p old new store b (full_in o) → IsExecuted p old new process left o
+      by_test true over (full, same) =
+          let f = full_by (execution process.regs (memory_of old p)) process.regs (memory_of old p) regs (memory_of new p) o _ _ full done in
+          let test = full_is (Some store) is ∙ over in
+          record {
+            outcome_is = f.outcome_is ∙ ap (λ l. outcome.Full (units l) (limit_of old)) (sym (ledger_is (Some store) is))
+                ∙ sym (ap (λ b. cond b (outcome.Full (units_needed p guest) (limit_of old)) (outcome_by (execution_of guest.process).upshot)) test);
+            after_is = made regs process.regs (state_left o process.state) process.state (memory_of new p) (memory_of old p) _ _ (books new) (books old) _ _
+                f.registers (ap (state_left o) runs ∙ f.state_is ∙ sym runs) f.memory_is (ap (λ (s : State). (space_in s p).speculating) same) (ap books same) (ap (λ (s : State). s.frames) same)
+                ∙ sym (ap (λ b. cond b guest (guest_executed p guest)) test);
+            beside = same_beside same;
+          }
+      by_test false under (none, has) = enough (Some store) is (full_is (Some store) is ∙ under) none has.ledger has.mark has.frames has.beside
+
+  pub executes : Came p old new (store_made (memory_of old p) (execution process.regs (memory_of old p)).calls) (full_in o) → IsExecuted p old new process left o
+  unfolding store_of
+  executes came = by_store _ refl came
+
+-- the same in the space that is lent
+pub record IsExecutedLent (old new : View) (before after : declared.Process) (o : Outcome) : Type 0 where
+  pub loan : new.memory.ghost_name ≡ old.memory.ghost_name
+  pub space : new.space ≡ old.space
+  pub outcome_is : o ≡ outcome_of old.space (guest_lent old before)
+  pub after_is : guest_lent new after ≡ executed old.space (guest_lent old before)
+  pub beside : IsBeside old.space (spaces_lent old) (spaces_lent new)
+
+pub lent : (old new : View) (process : declared.Process) (regs : Registers) (o : Outcome)
+    → Executes (execution process.regs (memory_of (spaces_lent old) old.space)) process.regs (memory_of (spaces_lent old) old.space) regs (memory_of (spaces_lent new) new.space) o
+    → process.state ≡ state.Running
+    → Performs (λ old address new. IsUnchanged old new) (λ old address count new. IsUnchanged old new) (λ old address bytes answer new. IsStoredBy old address bytes answer new)
+    (execution process.regs (memory_of (spaces_lent old) old.space)).calls old (full_in o) new
+    → IsExecutedLent old new process (record { regs = regs; state = state_left o process.state }) o
+lent old new process regs o done runs made =
+    let all = performed _ old new (full_in o) made in
+    let moved = ap (memory_of (spaces_lent new)) all.same.space in
+    let one = executes old.space (spaces_lent old) (spaces_lent new) process regs o
+    (subst (λ (m : Memory). Executes (execution process.regs (memory_of (spaces_lent old) old.space)) process.regs (memory_of (spaces_lent old) old.space) regs m o) moved done) runs all.came in
+    record {
+      loan = all.same.loan;
+      space = all.same.space;
+      outcome_is = one.outcome_is;
+      after_is = ap (λ p. guest_in p (spaces_lent new) (record { regs = regs; state = state_left o process.state })) all.same.space ∙ one.after_is;
+      beside = one.beside;
+    }
+
+pub state_kept : (o : Outcome) (s : ProcessState) → ((kind : FaultKind) (address : ℕ) → o ≡ outcome.Fault kind address → ⊥) → state_left o s ≡ s
+state_kept outcome.Stepped s other = refl
+state_kept outcome.Asked s other = refl
+state_kept (outcome.Fault kind address) s other = absurd (other kind address refl)
+state_kept (outcome.Full units limit) s other = refl

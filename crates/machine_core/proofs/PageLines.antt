@@ -1,0 +1,63 @@
+use Rattle.std.proofs.Common.{◌≡◌, ℕ, ◌+◌, ◌*◌, ◌/◌, ◌%◌, ◌<◌, List, [], length, map, get_or, take, drop, replicate, sym, ap, ◌∙◌, refl, arith, slice_index, slice_index_or}
+use Rattle.std.proofs.lemmas.Grind.{same_number_lists}
+use Rattle.std.proofs.lemmas.List.{get_or-drop, get_or-replicate, get_or-take, length-replicate}
+use Rattle.std.proofs.lemmas.List.FromFn.{get_or-map-range_with_len, length-map-range_with_len}
+use Rattle.sizes.specs.declared.TheConstants.{LINE_BYTES}
+use Rattle.elf_loader.specs.Image.{page_length}
+use Rattle.overlay_pages.specs.Lines.{bytes_in_lines, bytes_of_line, bytes_of_page, line_in_page, lines_of_bytes, lines_of_page, page_lines, zero_line, zero_page}
+
+-- The bytes of a page that is placed as a whole, and of a zero page.
+
+bytes_of_page_is : bytes_of_page ≡ 4096
+unfolding bytes_of_page
+bytes_of_page_is = refl
+
+lines_of_page_is : lines_of_page ≡ 64
+unfolding lines_of_page
+lines_of_page_is = refl
+
+bytes_of_line_is : bytes_of_line ≡ 64
+unfolding bytes_of_line
+bytes_of_line_is = refl
+
+pub page_length_is : page_length ≡ 4096
+unfolding page_length
+page_length_is = refl
+
+byte_count : (lines : List (List ℕ)) → length (bytes_in_lines lines) ≡ 4096
+unfolding bytes_in_lines
+byte_count lines =
+    length-map-range_with_len (λ i. slice_index (line_in_page lines (i / LINE_BYTES)) (i % LINE_BYTES)) 0 bytes_of_page ∙ bytes_of_page_is
+
+byte_at : (lines : List (List ℕ)) (i : ℕ) → i < 4096 → get_or (bytes_in_lines lines) i 0 ≡ get_or (line_in_page lines (i / 64)) (i % 64) 0
+unfolding bytes_in_lines
+byte_at lines i low =
+    get_or-map-range_with_len (λ i. slice_index (line_in_page lines (i / LINE_BYTES)) (i % LINE_BYTES)) 0 bytes_of_page i i 0
+    (omega (arith, low, bytes_of_page_is)) (omega arith)
+
+line_at : (line : ℕ → List ℕ) (k : ℕ) → k < 64 → line_in_page (page_lines line) k ≡ line k
+unfolding page_lines
+line_at line k low = get_or-map-range_with_len line 0 lines_of_page k k [] (omega (arith, low, lines_of_page_is)) (omega arith)
+
+-- lines that are made of bytes have those bytes
+pub lines_joined : (bytes : List ℕ) → length bytes ≡ 4096 → bytes_in_lines (lines_of_bytes bytes) ≡ bytes
+unfolding lines_of_bytes
+lines_joined bytes whole =
+    same_number_lists _ _ (byte_count (lines_of_bytes bytes) ∙ sym whole) (λ i below.
+    let low : i < 4096 = omega (arith, below, byte_count (lines_of_bytes bytes)) in
+    let same : 64 * (i / 64) + i % 64 ≡ i = omega arith in
+    byte_at (lines_of_bytes bytes) i low
+    ∙ ap (λ xs. get_or xs (i % 64) 0) (line_at (λ i. take LINE_BYTES (drop (LINE_BYTES * i) bytes)) (i / 64) (omega (arith, low)))
+    ∙ get_or-take 64 (drop (64 * (i / 64)) bytes) (i % 64) 0 (omega arith)
+    ∙ get_or-drop (64 * (i / 64)) bytes (i % 64) 0
+    ∙ ap (λ n. get_or bytes n 0) same)
+
+pub zero_bytes_are : bytes_in_lines zero_page ≡ replicate page_length 0
+unfolding zero_page zero_line
+zero_bytes_are =
+    same_number_lists _ _ (byte_count zero_page ∙ sym (length-replicate page_length 0 ∙ page_length_is)) (λ i below.
+    let low : i < 4096 = omega (arith, below, byte_count zero_page) in
+    byte_at zero_page i low
+    ∙ ap (λ xs. get_or xs (i % 64) 0) (line_at (λ _. zero_line) (i / 64) (omega (arith, low)))
+    ∙ get_or-replicate bytes_of_line (i % 64) 0 0 (omega (arith, bytes_of_line_is))
+    ∙ sym (get_or-replicate page_length i 0 0 (omega (arith, low, page_length_is))))

@@ -1,0 +1,72 @@
+use Rattle.std.proofs.Common.{rules, ◌∙◌, arith}
+use Rattle.rv_execute.specs.declared.outcome.Outcome.TheVariants.{Asked, Fault, Full}
+use Rattle.machine_core.specs.Executions.{executions}
+use Rattle.machine_core.specs.Slots.{guest_lent}
+use Rattle.machine_core.proofs.Stepping.{last_in, step_in, still_runs}
+use Rattle.machine_core.proofs.guest.step_up_to.Goals as goal
+
+pub returns-in-Asked-clause-steps : goal.returns-in-Asked-clause-steps
+returns-in-Asked-clause-steps c =
+    let p = c.args.view.now.space in
+    let all = executions p c.args.most (guest_lent c.args.view.now c.args.process.now) in
+    (last_in p c.stepping.view.space c.stepping.invariant.space Asked all c.args.most c.stepping.steps (guest_lent c.stepping.view c.stepping.process)
+    (guest_lent c.execute_one.new.view c.execute_one.new.process) (omega (arith, c.stepping-test.true)) c.stepping.invariant.all
+    c.in-Asked.ensures.outcome (λ same. cc) c.in-Asked.ensures.after).steps
+
+pub returns-in-Asked-clause-outcome : goal.returns-in-Asked-clause-outcome
+returns-in-Asked-clause-outcome c =
+    let p = c.args.view.now.space in
+    let all = executions p c.args.most (guest_lent c.args.view.now c.args.process.now) in
+    (last_in p c.stepping.view.space c.stepping.invariant.space Asked all c.args.most c.stepping.steps (guest_lent c.stepping.view c.stepping.process)
+    (guest_lent c.execute_one.new.view c.execute_one.new.process) (omega (arith, c.stepping-test.true)) c.stepping.invariant.all
+    c.in-Asked.ensures.outcome (λ same. cc) c.in-Asked.ensures.after).outcome_is
+
+pub returns-in-Asked-clause-after : goal.returns-in-Asked-clause-after
+returns-in-Asked-clause-after c =
+    let p = c.args.view.now.space in
+    let all = executions p c.args.most (guest_lent c.args.view.now c.args.process.now) in
+    (last_in p c.stepping.view.space c.stepping.invariant.space Asked all c.args.most c.stepping.steps (guest_lent c.stepping.view c.stepping.process)
+    (guest_lent c.execute_one.new.view c.execute_one.new.process) (omega (arith, c.stepping-test.true)) c.stepping.invariant.all
+    c.in-Asked.ensures.outcome (λ same. cc) c.in-Asked.ensures.after).after_is
+
+pub returns-in-Full-clause-steps : goal.returns-in-Full-clause-steps
+returns-in-Full-clause-steps c =
+    let p = c.args.view.now.space in
+    let all = executions p c.args.most (guest_lent c.args.view.now c.args.process.now) in
+    (last_in p c.stepping.view.space c.stepping.invariant.space (Full c.in-Full.units c.in-Full.limit) all c.args.most c.stepping.steps (guest_lent c.stepping.view c.stepping.process)
+    (guest_lent c.execute_one.new.view c.execute_one.new.process) (omega (arith, c.stepping-test.true)) c.stepping.invariant.all
+    c.in-Full.ensures.outcome (λ same. cc) c.in-Full.ensures.after).steps
+
+pub returns-in-Full-clause-outcome : goal.returns-in-Full-clause-outcome
+returns-in-Full-clause-outcome c =
+    let p = c.args.view.now.space in
+    let all = executions p c.args.most (guest_lent c.args.view.now c.args.process.now) in
+    (last_in p c.stepping.view.space c.stepping.invariant.space (Full c.in-Full.units c.in-Full.limit) all c.args.most c.stepping.steps (guest_lent c.stepping.view c.stepping.process)
+    (guest_lent c.execute_one.new.view c.execute_one.new.process) (omega (arith, c.stepping-test.true)) c.stepping.invariant.all
+    c.in-Full.ensures.outcome (λ same. cc) c.in-Full.ensures.after).outcome_is
+
+pub returns-in-Full-clause-after : goal.returns-in-Full-clause-after
+returns-in-Full-clause-after c =
+    let p = c.args.view.now.space in
+    let all = executions p c.args.most (guest_lent c.args.view.now c.args.process.now) in
+    (last_in p c.stepping.view.space c.stepping.invariant.space (Full c.in-Full.units c.in-Full.limit) all c.args.most c.stepping.steps (guest_lent c.stepping.view c.stepping.process)
+    (guest_lent c.execute_one.new.view c.execute_one.new.process) (omega (arith, c.stepping-test.true)) c.stepping.invariant.all
+    c.in-Full.ensures.outcome (λ same. cc) c.in-Full.ensures.after).after_is
+
+pub stepping-preserved : goal.stepping-preserved
+stepping-preserved c =
+    let p = c.args.view.now.space in
+    let so_far = c.stepping.invariant in
+    let now = guest_lent c.stepping.view c.stepping.process in
+    let next = guest_lent c.execute_one.new.view c.execute_one.new.process in
+    record {
+      loan = c.in-Stepped.ensures.loan ∙ so_far.loan;
+      space = c.in-Stepped.ensures.space ∙ so_far.space;
+      there = search rules;
+      in_hand = c.in-Stepped.ensures.ready.in_hand;
+      all = step_in p c.stepping.view.space so_far.space (executions p c.args.most (guest_lent c.args.view.now c.args.process.now)) c.args.most c.stepping.steps now next
+          (omega (arith, c.stepping-test.true)) so_far.all c.in-Stepped.ensures.outcome c.in-Stepped.ensures.after;
+      running = still_runs c.stepping.view.space now next so_far.running c.in-Stepped.ensures.outcome c.in-Stepped.ensures.after;
+      beside = search rules;
+      within = omega (arith, c.stepping-test.true);
+    }

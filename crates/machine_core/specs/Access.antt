@@ -1,0 +1,66 @@
+use Rattle.std.specs.Prelude.{◌≡◌, ℕ, ◌<◌, true, List, length, Option, Some, None, Result, Ok, Err}
+use Rattle.ledger.specs.Units.{units}
+use Rattle.ovl_io.specs.Memory.{denied_at}
+use Rattle.rv_execute.specs.Calls.{store_at}
+use Rattle.rv_execute.specs.declared.memory.Refused.{Refused}
+use Rattle.rv_execute.specs.declared.memory.Refused.TheVariants as refused
+use Rattle.overlay_memory.specs.Access.{IsStored, stored_books}
+use Rattle.overlay_memory.specs.declared.error.MemoryError.{MemoryError}
+use Rattle.overlay_memory.specs.declared.error.MemoryError.TheVariants.{Unmapped, Forbidden, Full}
+use Rattle.overlay_pages.specs.State.{State, holds_space, memory_of}
+use Rattle.overlay_pages.specs.Changes.{Fits, limit_of}
+use Rattle.overlay_pages.specs.View.{MemoryView, state_of}
+use Rattle.overlay_pages.specs.Spots.{IsFound}
+use Rattle.overlay_pages.specs.declared.spots.FoundLine.{FoundLine}
+use Rattle.machine_core.specs.declared.view.View.{View}
+
+-- What the calls of an instruction make of the memory of all spaces.
+
+-- where bytes may not be used; there is no such place where there aren't units enough
+abbrev pub failed_at : MemoryError → Option ℕ
+failed_at (Unmapped at) = Some at
+failed_at (Forbidden at) = Some at
+failed_at (Full needed limit) = None
+
+-- the same, as an instruction sees it
+abbrev pub refusal_of : MemoryError → Refused
+refusal_of (Unmapped at) = refused.At at
+refusal_of (Forbidden at) = refused.At at
+refusal_of (Full needed limit) = refused.Full needed limit
+
+-- what is lent, page by page
+abbrev pub spaces_lent : View → State
+spaces_lent view = state_of view.memory.now
+
+-- The line in hand, where there is one, is of this space, and stands as it was found.
+abbrev pub IsInHand : MemoryView → ℕ → Option FoundLine → Type 0
+IsInHand view space None = Unit {0}
+IsInHand view space (Some found) = (found.space ≡ space) × IsFound view found
+
+-- its space is there
+pub record IsReadyView (view : View) : Type 0 where
+  pub there : holds_space (spaces_lent view) view.space ≡ true
+  pub in_hand : IsInHand view.memory.now view.space view.code
+
+-- the same loan of the same space
+pub record IsSameLoan (old new : View) : Type 0 where
+  pub loan : new.memory.ghost_name ≡ old.memory.ghost_name
+  pub space : new.space ≡ old.space
+
+-- nothing changed of it
+abbrev pub IsUnchanged : View → View → Type 0
+IsUnchanged old new = IsSameLoan old new × (spaces_lent new ≡ spaces_lent old)
+
+-- what a store leaves, by its answer
+abbrev pub Leaves : ℕ → State → ℕ → List ℕ → Result (Unit {0}) Refused → State → Type 0
+Leaves space old address bytes (Ok done) new =
+    (denied_at (memory_of old space) (store_at address (length bytes)) ≡ None) × IsStored old new space address bytes × Fits new
+Leaves space old address bytes (Err (refused.At at)) new =
+    (denied_at (memory_of old space) (store_at address (length bytes)) ≡ Some at) × (new ≡ old)
+Leaves space old address bytes (Err (refused.Full needed limit)) new =
+    (denied_at (memory_of old space) (store_at address (length bytes)) ≡ None)
+    × (needed ≡ units (stored_books old space address (length bytes))) × (limit ≡ limit_of old) × (limit < needed) × (new ≡ old)
+
+abbrev pub IsStoredBy : View → ℕ → List ℕ → Result (Unit {0}) Refused → View → Type 0
+IsStoredBy old address bytes answer new =
+    IsSameLoan old new × Leaves old.space (spaces_lent old) address bytes answer (spaces_lent new)

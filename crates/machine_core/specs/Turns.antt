@@ -1,0 +1,178 @@
+use Rattle.std.specs.Prelude.{ℕ, nat_lt, Bool, false, if◌then◌else◌, List, [], ◌∷◌, length, Option, Some, None}
+use Rattle.std.specs.Option.{option_map, option_map_or}
+use Rattle.std.specs.FinMap.{get, insert}
+use Rattle.ledger.specs.Ledger.{Ledger}
+use Rattle.ledger.specs.Events.{ledger_after}
+use Rattle.ledger.specs.Events as event
+use Rattle.ledger.specs.Touched.{touched}
+use Rattle.ledger.specs.Units.{units}
+use Rattle.ovl_io.specs.Memory.{Memory, denied_at}
+use Rattle.ovl_io.specs.declared.process_state.ProcessState.{ProcessState}
+use Rattle.ovl_io.specs.declared.process_state.ProcessState.TheVariants as state
+use Rattle.ovl_io.specs.declared.turn.Turn.{Turn}
+use Rattle.ovl_io.specs.declared.turn.Turn.TheVariants.{Stepped, Wrote, Exited, Faulted, Full}
+use Rattle.rv_execute.specs.Calls.{Call, Fetch, Load, Store, store_at}
+use Rattle.rv_execute.specs.Execution.{Execution, Upshot, Steps, Asks, Faults, execution, outcome_by}
+use Rattle.rv_execute.specs.declared.outcome.Outcome.{Outcome}
+use Rattle.rv_execute.specs.declared.outcome.Outcome.TheVariants as outcome
+use Rattle.rv_execute.specs.Step.{Request, Step, request, step}
+use Rattle.machine_core.specs.Process.{Process}
+use Rattle.machine_core.specs.Machine.{Wholes, limit_of}
+use Rattle.machine_core.specs.declared.process.Process as declared
+
+-- What an instruction of a process does in the copying machine.
+
+-- A process in its place: with the ledger of all spaces, and how many frames there are.
+pub record Guest : Type 0 where
+  pub process : Process
+  pub ledger : Ledger
+  pub frames : ℕ
+
+abbrev pub guest_of : Wholes → Process → Guest
+guest_of state process = record { process = process; ledger = state.ledger; frames = state.frames }
+
+abbrev pub guest_at : Wholes → ℕ → Option Guest
+guest_at state p = option_map (guest_of state) (get state.processes p)
+
+-- the copying machine with a process and the ledger that it left
+abbrev pub with_guest : Wholes → ℕ → Guest → Wholes
+with_guest state p guest =
+    record { processes = insert state.processes p guest.process; ledger = guest.ledger; frames = guest.frames }
+
+-- An instruction is done in two parts: its execution, and then what it asks for, where it is a request.
+
+-- what the execution of a process's next instruction does
+abbrev pub execution_of : Process → Execution
+execution_of process = execution process.registers process.memory
+
+abbrev pub state_executed : Upshot → ProcessState
+state_executed Steps = state.Running
+state_executed Asks = state.Running
+state_executed (Faults kind address) = state.Faulted kind address
+
+abbrev pub process_executed : Process → Process
+process_executed process =
+    let e = execution_of process in
+    record { registers = e.registers; state = state_executed e.upshot; memory = e.memory; speculating = process.speculating }
+
+-- The store that some calls make of a memory, where each of its bytes may be written: its address, and how many bytes it has.
+abbrev pub store_made : Memory → List Call → Option (ℕ × ℕ)
+store_made memory [] = None
+store_made memory (Fetch address ∷ calls) = store_made memory calls
+store_made memory (Load address count ∷ calls) = store_made memory calls
+store_made memory (Store address bytes ∷ calls) =
+    option_map_or (λ at. None) (denied_at memory (store_at address (length bytes))) (Some (address, length bytes))
+
+unfoldable pub store_of : Process → Option (ℕ × ℕ)
+store_of process = store_made process.memory (execution_of process).calls
+
+-- the ledger after it: the touched lines become the process's own
+abbrev pub ledger_stored : ℕ → Bool → Option (ℕ × ℕ) → Ledger → Ledger
+ledger_stored p speculating None ledger = ledger
+ledger_stored p speculating (Some store) ledger = ledger_after (event.Store speculating p (touched store.0 store.1)) ledger
+
+-- whether that needs more units than there may be
+abbrev pub exceeds : Option (ℕ × ℕ) → ℕ → ℕ → Bool
+exceeds None needed limit = false
+exceeds (Some store) needed limit = nat_lt limit needed
+
+-- of the next instruction of a process: the ledger after its store, and whether there aren't units enough for that
+unfoldable pub ledger_executed : ℕ → Guest → Ledger
+ledger_executed p guest = ledger_stored p guest.process.speculating (store_of guest.process) guest.ledger
+
+abbrev pub units_needed : ℕ → Guest → ℕ
+units_needed p guest = units (ledger_executed p guest)
+
+unfoldable pub is_full : ℕ → Guest → Bool
+is_full p guest = exceeds (store_of guest.process) (units_needed p guest) (limit_of guest.frames)
+
+-- Where there aren't, nothing changes, and both numbers are told. Else it is what the execution says.
+abbrev pub outcome_of : ℕ → Guest → Outcome
+outcome_of p guest =
+    if is_full p guest
+    then outcome.Full (units_needed p guest) (limit_of guest.frames)
+    else outcome_by (execution_of guest.process).upshot
+
+abbrev pub guest_executed : ℕ → Guest → Guest
+guest_executed p guest =
+    record { process = process_executed guest.process; ledger = ledger_executed p guest; frames = guest.frames }
+
+abbrev pub executed : ℕ → Guest → Guest
+executed p guest = if is_full p guest then guest else guest_executed p guest
+
+-- what the execution of a process's next instruction comes to
+abbrev pub outcome_found : ℕ → Option Guest → Outcome
+outcome_found p found = option_map_or (outcome_of p) found outcome.Stepped
+
+abbrev pub came_to : Wholes → ℕ → Outcome
+came_to state p = outcome_found p (guest_at state p)
+
+abbrev pub after_execution : Wholes → ℕ → Wholes
+after_execution state p = option_map_or (λ guest. with_guest state p (executed p guest)) (guest_at state p) state
+
+-- the state of a running process after a turn
+abbrev pub state_after : Turn → ProcessState
+state_after Stepped = state.Running
+state_after (Wrote written) = state.Running
+state_after (Exited code) = state.Exited code
+state_after (Faulted kind address) = state.Faulted kind address
+state_after (Full units limit) = state.Running
+
+-- one instruction of a process, where there are units enough
+abbrev pub step_of : ℕ → Process → Step
+step_of p process = step p process.registers process.memory
+
+-- the process after a step
+abbrev pub after_step : Bool → Step → Process
+after_step speculating s =
+    record { registers = s.registers; state = state_after s.turn; memory = s.memory; speculating = speculating }
+
+-- the process afterwards
+abbrev pub process_after : ℕ → Process → Process
+process_after p process = after_step process.speculating (step_of p process)
+
+-- An event is one instruction of one process: what came of it, and the copying machine afterwards.
+abbrev pub turn_in : ℕ → Guest → Turn
+turn_in p guest =
+    if is_full p guest then Full (units_needed p guest) (limit_of guest.frames) else (step_of p guest.process).turn
+
+abbrev pub guest_after : ℕ → Guest → Guest
+guest_after p guest =
+    if is_full p guest
+    then guest
+    else record { process = process_after p guest.process; ledger = ledger_executed p guest; frames = guest.frames }
+
+abbrev pub turn_of : Wholes → ℕ → Turn
+turn_of state p = option_map_or (turn_in p) (guest_at state p) Stepped
+
+abbrev pub after_turn : Wholes → ℕ → Wholes
+after_turn state p = option_map_or (λ guest. with_guest state p (guest_after p guest)) (guest_at state p) state
+
+-- a process that has this memory, after what it asked for
+abbrev pub after_request : Memory → Bool → Request → Process
+after_request memory speculating asked =
+    record { registers = asked.registers; state = state_after asked.turn; memory = memory; speculating = speculating }
+
+-- the same, without the memory
+abbrev pub answered_by : Request → declared.Process
+answered_by asked = record { regs = asked.registers; state = state_after asked.turn }
+
+abbrev pub request_of : ℕ → Process → Request
+request_of p process = request p process.registers process.memory
+
+-- the process after what it asked for
+abbrev pub answered_process : ℕ → Process → Process
+answered_process p process = after_request process.memory process.speculating (request_of p process)
+
+-- what comes of a process's request
+abbrev pub asked_found : ℕ → Option Guest → Turn
+asked_found p found = option_map_or (λ guest. (request_of p guest.process).turn) found Stepped
+
+abbrev pub guest_answered : ℕ → Guest → Guest
+guest_answered p guest = record { process = answered_process p guest.process; ledger = guest.ledger; frames = guest.frames }
+
+abbrev pub turn_asked : Wholes → ℕ → Turn
+turn_asked state p = asked_found p (guest_at state p)
+
+abbrev pub after_asked : Wholes → ℕ → Wholes
+after_asked state p = option_map_or (λ guest. with_guest state p (guest_answered p guest)) (guest_at state p) state

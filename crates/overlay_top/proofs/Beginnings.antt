@@ -1,0 +1,39 @@
+use Rattle.std.proofs.Common.{◌≡◌, ℕ, ◌≤◌, Bool, true, false, cond, ap, ◌∙◌, arith, Option, Some, None, Result, Ok, Err}
+use Rattle.std.specs.FinMap.{get}
+use Rattle.machine_core.specs.Process.{Process, runs}
+use Rattle.report_text.specs.declared.answer.Code.{Code}
+use Rattle.report_text.specs.declared.answer.Code.TheVariants.{Ended}
+use Rattle.command_core.specs.State.{State, with_wholes}
+use Rattle.command_core.specs.Changes.{refuses}
+use Rattle.command_core.specs.Commands.{step_done, steps, takes_left, takes_turns, told}
+use Rattle.command_core.specs.LikeLaws.{left_found}
+use Rattle.command_core.specs.Looks.{BeginsStep, begun}
+use Rattle.command_core.specs.Turns.{InRun, Progress, Ran, alone, ran_text, run_found}
+
+-- Turns that were just begun: all of them are left.
+
+pub left_begun : (run : Progress) (state : State) → run.taken ≤ run.turns → takes_left (run_found state.wholes run) state ≡ takes_turns run state
+left_begun run state within =
+    ap (λ (r : Ran). record { text = ran_text r; after = with_wholes r.after state }) (left_found state.wholes run within)
+
+pub takes_begun : (running : InRun) (run : Progress) (state : State) → running ≡ run_found state.wholes run → run.taken ≤ run.turns
+    → takes_left running state ≡ takes_turns run state
+takes_begun running run state is within = ap (λ (r : InRun). takes_left r state) is ∙ left_begun run state within
+
+ok_is : (a b : InRun) → ◌≡◌ {A = Result InRun Code} (Ok a) (Ok b) → a ≡ b
+ok_is a b e = cc
+
+-- the turns of one process, which is there and runs
+module _ (p turns : ℕ) (state : State) where
+  runs_begun : (running : InRun) (b : Bool) → Ok running ≡ cond b (Ok (run_found state.wholes (alone p turns))) (Err Ended)
+      → takes_left running state ≡ cond b (takes_turns (alone p turns) state) (told (refuses Ended state))
+  runs_begun running true is = takes_begun running (alone p turns) state (ok_is running (run_found state.wholes (alone p turns)) is) (omega arith)
+  runs_begun running false is = cc
+
+  found_begun : (running : InRun) (found : Option Process) → Ok running ≡ begun state.wholes p turns found
+      → takes_left running state ≡ steps p turns found state
+  found_begun running None is = cc
+  found_begun running (Some process) is = runs_begun running (runs process.state) is
+
+  pub step_begun : (running : InRun) → BeginsStep state.wholes p turns (Ok running) → takes_left running state ≡ step_done p turns state
+  step_begun running is = found_begun running (get state.wholes.processes p) is
