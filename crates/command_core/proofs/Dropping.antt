@@ -7,8 +7,8 @@ use Rattle.machine_core.specs.Machine.{IsDropped, Machine, Wholes, spaces_of, wh
 use Rattle.machine_core.specs.Laws.{processes_at, wholes_dropped}
 use Rattle.report_text.specs.declared.answer.Answer.TheVariants.{Done, Refused}
 use Rattle.report_text.specs.declared.answer.Code.TheVariants.{NoProcess}
-use Rattle.command_core.specs.State.{InSession, State, with_wholes}
-use Rattle.command_core.specs.Changes.{Changed, comes_to, drop_done}
+use Rattle.command_core.specs.State.{with_wholes}
+use Rattle.command_core.specs.Changes.{comes_to, drop_done}
 use Rattle.command_core.proofs.Loadings.{state_of}
 
 -- What a drop comes to.

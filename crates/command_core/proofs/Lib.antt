@@ -7,3 +7,5 @@ pub mod Stretching
 pub mod Standing
 pub mod Loadings
 pub mod Dropping
+pub mod Copies
+pub mod Forkings

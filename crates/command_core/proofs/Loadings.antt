@@ -1,7 +1,7 @@
 use Rattle.std.proofs.Common.{◌≡◌, ℕ, ◌+◌, ◌==◌, Bool, true, false, cond, List, sym, ap, subst, ◌∙◌, refl, Option, Some, None}
-use Rattle.std.specs.Prelude.{Result, Ok, Err}
+use Rattle.std.specs.Prelude.{Ok, Err}
 use Rattle.std.specs.Option.{option_map_or}
-use Rattle.std.specs.FinMap.{get, insert}
+use Rattle.std.specs.FinMap.{get}
 use Rattle.number_maps.specs.Keys.{get_same}
 use Rattle.sizes.specs.declared.TheConstants.{LAST_SPACE}
 use Rattle.elf_loader.specs.Accepted.{file_refusal}
@@ -9,17 +9,16 @@ use Rattle.elf_loader.specs.Fields.{entry_of}
 use Rattle.elf_loader.specs.declared.image.ElfError.{ElfError}
 use Rattle.overlay_memory.specs.declared.error.SpaceError.{SpaceError}
 use Rattle.overlay_memory.specs.declared.error.SpaceError.TheVariants as error
-use Rattle.machine_core.specs.Process.{Process, runs}
-use Rattle.machine_core.specs.Machine.{Machine, Processes, Wholes, limit_of, spaces_of, wholes, with_memory}
-use Rattle.machine_core.specs.Load.{IsLoaded, Loads, is_load_full, load_needs, loaded_process, page_count, with_loaded}
+use Rattle.machine_core.specs.Machine.{Machine, Processes, Wholes, wholes}
+use Rattle.machine_core.specs.Load.{Loads, is_load_full, load_needs, loaded_process, page_count}
 use Rattle.machine_core.specs.LoadLaws.{same_wholes}
-use Rattle.report_text.specs.declared.answer.Answer.TheVariants.{Full, Loaded, Memory, Refused}
+use Rattle.report_text.specs.declared.answer.Answer.TheVariants.{Full, Loaded, Refused}
 use Rattle.report_text.specs.declared.answer.Code.TheVariants.{Elf, NumbersUsed}
 use Rattle.command_core.specs.State.{AreLikeStates, IsSession, State}
 use Rattle.command_core.specs.Changes.{Changed, ComesTo, GivesChange, answer_of, load_done, loads, loads_full, loads_within}
 use Rattle.command_core.specs.Commands.{RunsLoaded}
 use Rattle.command_core.specs.LikeLaws.{states_itself}
-use Rattle.command_core.proofs.Places.{session_kept, session_same}
+use Rattle.command_core.proofs.Places.{session_same}
 
 -- What a load comes to.
 

@@ -1,6 +1,6 @@
 use Rattle.std.proofs.Common.{◌≡◌, ℕ, ◌+◌, ◌<◌, ◌≤◌, suc, Bool, true, false, cond, List, [], ◌∷◌, map, sym, ap, subst, ◌∙◌, refl, arith, inl, inr, Option, Some, None}
 use Rattle.std.specs.Prelude.{nat_le, slice_get, IfSome, Ok}
-use Rattle.std.specs.Option.{is_some, option_map, option_map_or, MatchOption}
+use Rattle.std.specs.Option.{is_some, option_map, MatchOption}
 use Rattle.std.specs.List.{filter}
 use Rattle.std.specs.Ordering.{nat_cmp}
 use Rattle.std.specs.FinMap.{find, get, len, entries, get-entries}
@@ -9,9 +9,8 @@ use Rattle.std.proofs.lemmas.Bool.Decides.{nat_tests}
 use Rattle.ovl_io.specs.Keys.{ties, differs}
 use Rattle.number_maps.specs.Views.{len_viewed}
 use Rattle.overlay_pages.specs.State.{State, memory_of, seen_page, space_in}
-use Rattle.machine_core.specs.Process.{Process}
 use Rattle.machine_core.specs.declared.process.Process as declared
-use Rattle.machine_core.specs.Machine.{Machine, Processes, Wholes, keys_from, shown_at, shown_process, spaces_of, whole_in, wholes}
+use Rattle.machine_core.specs.Machine.{Machine, Wholes, keys_from, shown_at, shown_process, spaces_of, whole_in, wholes}
 use Rattle.machine_core.specs.Laws.{processes_at}
 use Rattle.machine_core.specs.NumberLaws.{Rises, entries_rise}
 use Rattle.command_core.specs.declared.session.ProcessView.{ProcessView}

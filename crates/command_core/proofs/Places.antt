@@ -1,25 +1,24 @@
-use Rattle.std.proofs.Common.{◌≡◌, ℕ, ◌+◌, ◌≤◌, ◌==◌, Bool, true, false, sym, ap, subst, ◌∙◌, refl, arith, Option, Some, None, List}
+use Rattle.std.proofs.Common.{◌≡◌, ℕ, ◌+◌, ◌≤◌, ◌==◌, Bool, true, false, sym, ap, ◌∙◌, refl, arith, Option, Some, None, List}
 use Rattle.std.specs.Option.{is_some, option_map, option_map_or}
 use Rattle.std.specs.Ordering.{nat_cmp}
 use Rattle.std.proofs.lemmas.Bool.Decides.{nat_tests}
-use Rattle.std.specs.FinMap.{FinMap, empty, get, insert, get-empty}
-use Rattle.number_maps.specs.Keys.{alike, by_key, get_other, get_same, removed_other, removed_same}
+use Rattle.std.specs.FinMap.{FinMap, empty, get, get-empty}
+use Rattle.number_maps.specs.Keys.{alike, by_key, removed_other, removed_same}
 use Rattle.number_maps.specs.Views.{viewed, viewed_empty}
 use Rattle.sizes.specs.declared.TheConstants.{LAST_SPACE}
-use Rattle.ledger.specs.Ledger.{Ledger}
 use Rattle.overlay_pages.specs.Calls.{IsEmptyState}
 use Rattle.overlay_pages.specs.State.{SpaceState, State, books, cut_space, held_page, holds_space, space_in}
 use Rattle.overlay_pages.specs.StateLaws.{space_absent, space_left}
-use Rattle.machine_core.specs.Process.{Process, runs}
+use Rattle.machine_core.specs.Process.{runs}
 use Rattle.machine_core.specs.declared.process.Process as declared
-use Rattle.machine_core.specs.Machine.{IsDropped, KeepsPlaces, Machine, Processes, Wholes, has_space, is_running, processes_of, shown_process, spaces_of, whole_in, wholes, without_process_at}
+use Rattle.machine_core.specs.Machine.{IsDropped, KeepsPlaces, Machine, StaysBut, has_space, is_running, processes_of, spaces_of, whole_in, wholes, without_process_at}
 use Rattle.machine_core.specs.Laws.{processes_at, runs_shown}
-use Rattle.machine_core.specs.Load.{IsLoaded, loaded_process}
+use Rattle.machine_core.specs.Load.{IsLoaded}
 use Rattle.command_core.specs.State.{IsSession, OwnSpaces}
 
 -- Which spaces and processes are there.
 
-none_is : {X : Type 0} (o : Option X) → is_some o ≡ false → o ≡ None
+pub none_is : {X : Type 0} (o : Option X) → is_some o ≡ false → o ≡ None
 none_is None h = refl
 none_is (Some x) h = cc
 
@@ -88,18 +87,23 @@ module _ (machine : Machine) (frames : ℕ) (none : IsEmptyState frames (spaces_
   pub wholes_start : wholes machine ≡ record { processes = empty; ledger = empty; frames = frames }
   wholes_start = λ i. record { processes = no_wholes i; ledger = no_books i; frames = none.count i }
 
-pub session_load : (old new : Machine) (drawn : ℕ) (file : List ℕ) → IsSession old drawn → drawn + 1 ≤ LAST_SPACE → IsLoaded (drawn + 1) file old new → IsSession new (drawn + 1)
-session_load old new drawn file is below loaded = record {
+-- a further process, with its space, under the next number
+pub session_more : (old new : Machine) (drawn : ℕ) → IsSession old drawn → drawn + 1 ≤ LAST_SPACE → has_space new (drawn + 1) ≡ true
+    → (space_in (spaces_of new) (drawn + 1)).awaiting ≡ empty → StaysBut (drawn + 1) old new → IsSession new (drawn + 1)
+session_more old new drawn is below there settled others = record {
   few = below;
-  no_space = λ p above. loaded.others.there p (λ same. omega (arith, above, same)) ∙ is.no_space p (omega (arith, above));
-  no_process = λ p above. loaded.others.processes p (λ same. omega (arith, above, same)) ∙ is.no_process p (omega (arith, above));
+  no_space = λ p above. others.there p (λ same. omega (arith, above, same)) ∙ is.no_space p (omega (arith, above));
+  no_process = λ p above. others.processes p (λ same. omega (arith, above, same)) ∙ is.no_process p (omega (arith, above));
   own_space = λ p some. by_key p (drawn + 1)
-      (λ same. ap (has_space new) same ∙ loaded.there)
-      (λ other. loaded.others.there p other ∙ is.own_space p (sym (ap is_some (loaded.others.processes p other)) ∙ some));
+      (λ same. ap (has_space new) same ∙ there)
+      (λ other. others.there p other ∙ is.own_space p (sym (ap is_some (others.processes p other)) ∙ some));
   settled = λ p. by_key p (drawn + 1)
-      (λ same. ap (λ n. (space_in (spaces_of new) n).awaiting) same ∙ loaded.settled)
-      (λ other. ap (λ (x : SpaceState). x.awaiting) (loaded.others.spaces p other) ∙ is.settled p);
+      (λ same. ap (λ n. (space_in (spaces_of new) n).awaiting) same ∙ settled)
+      (λ other. ap (λ (x : SpaceState). x.awaiting) (others.spaces p other) ∙ is.settled p);
 }
+
+pub session_load : (old new : Machine) (drawn : ℕ) (file : List ℕ) → IsSession old drawn → drawn + 1 ≤ LAST_SPACE → IsLoaded (drawn + 1) file old new → IsSession new (drawn + 1)
+session_load old new drawn file is below loaded = session_more old new drawn is below loaded.there loaded.settled loaded.others
 
 -- after want of memory
 pub session_same : (old new : Machine) (drawn : ℕ) → IsSession old drawn → spaces_of new ≡ spaces_of old → new.processes ≡ old.processes → IsSession new drawn

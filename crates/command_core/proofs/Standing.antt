@@ -1,4 +1,4 @@
-use Rattle.std.proofs.Common.{◌≡◌, ℕ, true, cond, List, ◌++◌, sym, ap, ◌∙◌, refl, subst, Option, Some, None}
+use Rattle.std.proofs.Common.{◌≡◌, ℕ, cond, List, sym, ap, ◌∙◌, refl, subst, Option, Some, None}
 use Rattle.std.specs.Prelude.{Result, Ok, Err}
 use Rattle.std.specs.Option.{option_or}
 use Rattle.std.specs.FinMap.{get}
@@ -7,15 +7,15 @@ use Rattle.ovl_io.specs.declared.turn.Turn.{Turn}
 use Rattle.ovl_io.specs.declared.turn.Turn.TheVariants as turn
 use Rattle.machine_core.specs.Process.{Process, runs}
 use Rattle.machine_core.specs.Machine.{AreLike, Processes, Wholes}
-use Rattle.machine_core.specs.Turns.{after_turn, turn_of}
+use Rattle.machine_core.specs.Turns.{after_turn}
 use Rattle.machine_core.specs.Laws.{like_after_turn, like_chain, like_itself, like_turn}
 use Rattle.report_text.specs.declared.answer.Code.{Code}
 use Rattle.report_text.specs.declared.answer.Code.TheVariants.{Ended}
-use Rattle.command_core.specs.State.{AreLikeStates, InSession, State}
+use Rattle.command_core.specs.State.{InSession, State}
 use Rattle.command_core.specs.Looks.{BeginsStep, begun}
 use Rattle.command_core.specs.LikeLaws.{like_ending, like_found, like_left, like_next, like_text}
 use Rattle.command_core.specs.Standing.{SessionAnswersAs, SessionStandsFor, TurnsAs, begun_step, ends_run, speaks, takes_turn}
-use Rattle.command_core.specs.Turns.{EndsRun, InRun, Progress, alone, Speaks, TakesTurn, found_before, left_of, next_of, ran_text, run_after, run_found, run_turned}
+use Rattle.command_core.specs.Turns.{InRun, Progress, alone, TakesTurn, found_before, left_of, ran_text, run_after, run_found, run_turned}
 
 -- What holds of a session's own processes holds of those of each state that it stands for.
 

@@ -1,5 +1,5 @@
 use Rattle.std.proofs.Common.{◌≡◌, ℕ, zero, suc, ◌+◌, ◌-◌, ◌<◌, ◌≤◌, Bool, true, false, cond, sym, ap, subst, ◌∙◌, refl, arith, Option, Some, None}
-use Rattle.std.specs.FinMap.{get, insert}
+use Rattle.std.specs.FinMap.{get}
 use Rattle.std.specs.Option.{option_map, option_map_or}
 use Rattle.number_maps.specs.Keys.{get_same, insert_kept, insert_over}
 use Rattle.rv_execute.specs.declared.outcome.Outcome.{Outcome}
@@ -7,7 +7,7 @@ use Rattle.rv_execute.specs.declared.outcome.Outcome.TheVariants as outcome
 use Rattle.rv_execute.specs.Execution.{Upshot, Steps, Asks, Faults, outcome_by}
 use Rattle.machine_core.specs.Process.{Process, runs}
 use Rattle.machine_core.specs.Machine.{Processes, Wholes, is_running, limit_of, running_numbers}
-use Rattle.machine_core.specs.Turns.{Guest, after_execution, after_turn, came_to, executed, execution_of, guest_at, guest_executed, guest_of, is_full, outcome_found, outcome_of, state_executed, turn_of, units_needed, with_guest}
+use Rattle.machine_core.specs.Turns.{Guest, after_execution, after_turn, came_to, executed, execution_of, guest_at, guest_executed, guest_of, is_full, outcome_found, outcome_of, state_executed, units_needed, with_guest}
 use Rattle.machine_core.specs.Executions.{Executions, executions, first_execution, last_execution, no_execution}
 use Rattle.machine_core.specs.Laws.{turn_law}
 use Rattle.machine_core.specs.NumberLaws.{numbers_are}

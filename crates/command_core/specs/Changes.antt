@@ -4,6 +4,7 @@ use Rattle.std.specs.FinMap.{get}
 use Rattle.sizes.specs.declared.TheConstants.{LAST_SPACE}
 use Rattle.elf_loader.specs.Accepted.{file_refusal}
 use Rattle.elf_loader.specs.Fields.{entry_of}
+use Rattle.machine_core.specs.Process.{Process}
 use Rattle.machine_core.specs.Load.{is_load_full, load_needs, page_count, with_loaded}
 use Rattle.machine_core.specs.Machine.{limit_of, without_pages, without_process}
 use Rattle.overlay_memory.specs.declared.error.SpaceError.{SpaceError}
@@ -13,8 +14,9 @@ use Rattle.report_text.specs.declared.answer.Answer.TheVariants.{Done, Loaded, F
 use Rattle.report_text.specs.declared.answer.Code.{Code}
 use Rattle.report_text.specs.declared.answer.Code.TheVariants.{NoProcess, NumbersUsed, Elf}
 use Rattle.script_text.specs.declared.command.Command.{Command}
-use Rattle.script_text.specs.declared.command.Command.TheVariants.{Drop as DropOf}
+use Rattle.script_text.specs.declared.command.Command.TheVariants.{Drop as DropOf, Fork as ForkOf}
 use Rattle.report_text.specs.Answers.{HasAnswerLine}
+use Rattle.command_core.specs.Forks.{fork_needs, fork_refusal, is_fork_full, with_forked}
 use Rattle.command_core.specs.State.{AreLikeStates, State, with_wholes}
 
 -- What a change of the copying machine comes to: its answer, and the state after it.
@@ -49,6 +51,27 @@ load_done file state =
     option_map_or (λ error. refuses (Elf error) state) (file_refusal file)
     (if state.drawn == LAST_SPACE then refuses NumbersUsed state else loads_within (state.drawn + 1) file state)
 
+-- `fork`: that there is no such process, and the refusals of one that is there, in their order, and then that there aren't units
+-- enough; else the same process under the next number too
+abbrev pub forks : ℕ → ℕ → Process → State → Changed
+forks p q process state = record {
+  answer = Forked p q;
+  after = record { wholes = with_forked p q process state.wholes; drawn = q };
+}
+
+abbrev pub forks_full : ℕ → ℕ → State → Changed
+forks_full p q state = record { answer = Full (fork_needs p q state.wholes) (limit_of state.wholes.frames); after = state }
+
+abbrev pub forks_within : ℕ → ℕ → Process → State → Changed
+forks_within p q process state = if is_fork_full p q state.wholes then forks_full p q state else forks p q process state
+
+abbrev pub fork_of : ℕ → Process → State → Changed
+fork_of p process state =
+    option_map_or (λ code. refuses code state) (fork_refusal process.state process.speculating state.drawn) (forks_within p (state.drawn + 1) process state)
+
+abbrev pub fork_done : ℕ → State → Changed
+fork_done p state = option_map_or (λ process. fork_of p process state) (get state.wholes.processes p) (refuses NoProcess state)
+
 -- `drop`: the process goes, where there is one, and its pages
 abbrev pub drop_done : ℕ → State → Changed
 drop_done p state =
@@ -57,12 +80,19 @@ drop_done p state =
 
 -- the changes, a row each; none of the others is one
 abbrev pub change_done : Command → State → Changed
+change_done (ForkOf p) state = fork_done p state
 change_done (DropOf p) state = drop_done p state
 change_done other state = record { answer = Done; after = state }
 
 abbrev pub is_change : Command → Bool
+is_change (ForkOf p) = true
 is_change (DropOf p) = true
 is_change other = false
+
+-- those that may want memory
+abbrev pub takes_memory : Command → Bool
+takes_memory (ForkOf p) = true
+takes_memory other = false
 
 -- a change came to what it is to come to
 pub record ComesTo (wanted : Changed) (answer : Answer) (new : State) : Type 0 where
@@ -79,7 +109,7 @@ GivesChange wanted old (Saved p name space) new = ComesTo wanted (Saved p name s
 GivesChange wanted old (Refused code) new = ComesTo wanted (Refused code) new
 GivesChange wanted old (Full units limit) new = ComesTo wanted (Full units limit) new
 
--- what is answered where a machine doesn't load a file
+-- what is answered where a machine doesn't load a file, or doesn't fork a process
 abbrev pub answer_of : SpaceError → Answer
 answer_of (error.Full units limit) = Full units limit
 answer_of error.Memory = Memory

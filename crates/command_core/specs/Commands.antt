@@ -3,7 +3,7 @@ use Rattle.std.specs.FinMap.{entries, get, len}
 use Rattle.sizes.specs.declared.TheConstants.{MOST_FILE_BYTES}
 use Rattle.machine_core.specs.Process.{Process, runs}
 use Rattle.script_text.specs.declared.command.Command.{Command}
-use Rattle.script_text.specs.declared.command.Command.TheVariants.{Exec, Load, Run, Step, Drop}
+use Rattle.script_text.specs.declared.command.Command.TheVariants.{Exec, Load, Fork, Run, Step, Drop}
 use Rattle.script_text.specs.declared.command.Command.TheVariants as command
 use Rattle.report_text.specs.declared.answer.Answer.{Answer}
 use Rattle.report_text.specs.declared.answer.Answer.TheVariants.{Done, Loaded, Forked, Saved, Refused, Full, Memory}
@@ -11,7 +11,7 @@ use Rattle.report_text.specs.declared.answer.Code.TheVariants.{NoProcess, Ended}
 use Rattle.report_text.specs.Answers.{answer_text}
 use Rattle.report_text.specs.Lines.{list_line, process_line}
 use Rattle.command_core.specs.State.{InSession, State, with_wholes}
-use Rattle.command_core.specs.Changes.{Changed, change_done, load_done, drop_done, refuses}
+use Rattle.command_core.specs.Changes.{Changed, change_done, load_done, fork_done, drop_done, refuses}
 use Rattle.command_core.specs.Turns.{InRun, Progress, alone, by_turns, left_of, ran_from, ran_text}
 
 -- What a command asks of the shelf, by the file that it names: nothing; or the file is there, isn't there, or
@@ -30,6 +30,7 @@ asked_by (Some file) = if nat_lt MOST_FILE_BYTES (length file) then IsTooLong el
 abbrev pub asks : Command → Option (List ℕ)
 asks (Exec name turns) = Some name
 asks (Load name) = Some name
+asks (Fork p) = None
 asks (Run turns) = None
 asks (Step p turns) = None
 asks (Drop p) = None
@@ -148,6 +149,7 @@ list_text state = list_head state ++ processes_text state
 abbrev pub performed : ℕ → List ℕ → Command → State → Performed
 performed quantum file (Exec name turns) state = exec_done file turns state
 performed quantum file (Load name) state = load_told file state
+performed quantum file (Fork p) state = told (fork_done p state)
 performed quantum file (Run turns) state = run_done quantum turns state
 performed quantum file (Step p turns) state = step_done p turns state
 performed quantum file (Drop p) state = told (drop_done p state)

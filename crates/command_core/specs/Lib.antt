@@ -1,7 +1,8 @@
--- In reading order: the copying machine's state, its changes, the turns of processes, what each command comes
+-- In reading order: the copying machine's state, what a fork makes, its changes, the turns of processes, what each command comes
 -- to, and what is looked up.
 pub mod State
 pub mod Codes
+pub mod Forks
 pub mod Changes
 pub mod Turns
 pub mod Commands

@@ -1,12 +1,16 @@
-use Rattle.std.specs.Prelude.{◌≡◌, ℕ, zero, suc, ◌+◌, ◌-◌, ◌≤◌, ◌==◌, Bool, true, false, cond, List, ◌∷◌, ◌++◌, flat_map, length, Option, Some, None, refl}
+use Rattle.std.specs.Prelude.{◌≡◌, ℕ, zero, suc, ◌+◌, ◌-◌, ◌==◌, nat_lt, Bool, true, false, cond, List, ◌∷◌, ◌++◌, flat_map, length, Option, Some, None, refl, ◌≤◌}
 use Rattle.std.proofs.Common.{sym, ap, subst, ◌∙◌, arith, eqb-true}
 use Rattle.std.specs.Option.{option_map_or}
-use Rattle.std.specs.FinMap.{entries, get}
+use Rattle.std.specs.FinMap.{entries, get, insert}
 use Rattle.sizes.specs.declared.TheConstants.{LAST_SPACE}
 use Rattle.elf_loader.specs.Accepted.{file_refusal}
 use Rattle.elf_loader.specs.declared.image.ElfError.{ElfError}
 use Rattle.ovl_io.specs.declared.turn.Turn.{Turn}
 use Rattle.ovl_io.specs.declared.turn.Turn.TheVariants as turn
+use Rattle.ledger.specs.Alike.{AreAlike}
+use Rattle.ledger.specs.AlikeUnits.{units_alike}
+use Rattle.ledger.specs.Events.{Copy}
+use Rattle.ledger.specs.RowLaws.{alike_after}
 use Rattle.machine_core.specs.Process.{Process, runs}
 use Rattle.machine_core.specs.Machine.{AreLike, Processes, Wholes, limit_of, running_numbers, without_pages, without_process}
 use Rattle.machine_core.specs.Turns.{after_turn, turn_of}
@@ -16,6 +20,7 @@ use Rattle.machine_core.specs.LoadLaws.{like_load_full, like_loaded, like_needs}
 use Rattle.round_robin.specs.Turns.{next_number}
 use Rattle.report_text.specs.declared.answer.Answer.{Answer}
 use Rattle.report_text.specs.declared.answer.Answer.TheVariants.{Done, Loaded, Forked, Saved, Refused, Full, Memory}
+use Rattle.report_text.specs.declared.answer.Code.{Code}
 use Rattle.report_text.specs.declared.answer.Code.TheVariants.{Elf, Ended, NoProcess, NumbersUsed}
 use Rattle.report_text.specs.Lines.{list_line}
 use Rattle.report_text.specs.declared.answer.Stop.{Stop}
@@ -26,8 +31,9 @@ use Rattle.script_text.specs.declared.command.Command.TheVariants as command
 use Rattle.command_core.specs.declared.turns.Order.{Order}
 use Rattle.command_core.specs.declared.turns.Order.TheVariants.{ByTurns, Alone}
 use Rattle.command_core.specs.State.{AreLikeStates, InSession, State}
-use Rattle.command_core.specs.Changes.{Changed, ComesTo, GivesChange, change_done, comes_to, drop_done, load_done, loads, loads_full, loads_within}
-use Rattle.command_core.specs.Turns.{InRun, Progress, Ran, ending, ending_by, event_then, first_event, left_by, left_of, next_of, alone, by_turns, ran, ran_from, ran_text, rest_of, run_after, run_found, stopped, turns_by}
+use Rattle.command_core.specs.Forks.{fork_needs, fork_refusal, forked_ledger, is_fork_full}
+use Rattle.command_core.specs.Changes.{Changed, ComesTo, GivesChange, change_done, comes_to, drop_done, fork_done, fork_of, forks, forks_full, forks_within, load_done, loads, loads_full, loads_within, refuses}
+use Rattle.command_core.specs.Turns.{InRun, Progress, Ran, ending, ending_by, event_then, first_event, left_by, left_of, next_of, alone, by_turns, ran, ran_text, rest_of, run_after, run_found, stopped, turns_by, ran_from}
 use Rattle.command_core.specs.Commands.{Performed, exec_done, exec_turns, list_head, list_text, performed, process_text, step_done, steps, takes_turns, told}
 use Rattle.command_core.specs.Standing.{ChangesAs, GivesAs}
 
@@ -176,6 +182,62 @@ like_load_done file a b like = by_refusal (file_refusal file)
     by_refusal (Some error) = record { answer_is = refl; after = like }
     by_refusal None = like_cond (a.drawn == LAST_SPACE) (b.drawn == LAST_SPACE) _ _ _ _ (ap (λ n. n == LAST_SPACE) like.drawn) (record { answer_is = refl; after = like }) (drawn_one a.drawn b.drawn like.drawn)
 
+-- a fork
+module _ (p q : ℕ) (a b : State) (like : AreLikeStates a b) where
+  like_forked_ledger : AreAlike (forked_ledger p q a.wholes.ledger) (forked_ledger p q b.wholes.ledger)
+  unfolding forked_ledger
+  like_forked_ledger = alike_after (Copy p q) a.wholes.ledger b.wholes.ledger like.wholes.ledger
+
+  like_fork_needs : fork_needs p q a.wholes ≡ fork_needs p q b.wholes
+  like_fork_needs = units_alike _ _ like_forked_ledger
+
+  like_fork_full : is_fork_full p q a.wholes ≡ is_fork_full p q b.wholes
+  like_fork_full =
+      ap (λ n. nat_lt (limit_of a.wholes.frames) n) like_fork_needs ∙ ap (λ n. nat_lt (limit_of n) (fork_needs p q b.wholes)) like.wholes.frames
+
+  like_forks : (process : Process) → AreLikeChanges (forks p q process a) (forks p q process b)
+  like_forks process = record {
+    answer_is = refl;
+    after = record {
+      wholes = record {
+        processes = ap (λ (ps : Processes). insert ps q process) like.wholes.processes;
+        ledger = like_forked_ledger;
+        frames = like.wholes.frames;
+      };
+      drawn = refl;
+    };
+  }
+
+  like_forks_full : AreLikeChanges (forks_full p q a) (forks_full p q b)
+  like_forks_full = record {
+    answer_is = ap (λ n. Full n (limit_of a.wholes.frames)) like_fork_needs ∙ ap (λ n. Full (fork_needs p q b.wholes) (limit_of n)) like.wholes.frames;
+    after = like;
+  }
+
+  like_forks_within : (process : Process) → AreLikeChanges (forks_within p q process a) (forks_within p q process b)
+  like_forks_within process = like_cond (is_fork_full p q a.wholes) (is_fork_full p q b.wholes) _ _ _ _ like_fork_full like_forks_full (like_forks process)
+
+like_refused : (a b : State) → AreLikeStates a b → (o : Option Code) (c d : Changed) → AreLikeChanges c d
+    → AreLikeChanges (option_map_or (λ code. refuses code a) o c) (option_map_or (λ code. refuses code b) o d)
+like_refused a b like None c d same = same
+like_refused a b like (Some code) c d same = record { answer_is = refl; after = like }
+
+like_fork_of : (p : ℕ) (process : Process) (a b : State) → AreLikeStates a b → AreLikeChanges (fork_of p process a) (fork_of p process b)
+like_fork_of p process a b like =
+    subst (λ n. AreLikeChanges (fork_of p process a)
+    (option_map_or (λ code. refuses code b) (fork_refusal process.state process.speculating n) (forks_within p (n + 1) process b))) like.drawn
+    (like_refused a b like (fork_refusal process.state process.speculating a.drawn) _ _ (like_forks_within p (a.drawn + 1) a b like process))
+
+pub like_fork_done : (p : ℕ) (a b : State) → AreLikeStates a b → AreLikeChanges (fork_done p a) (fork_done p b)
+like_fork_done p a b like =
+    subst (λ (o : Option Process). AreLikeChanges (fork_done p a) (option_map_or (λ process. fork_of p process b) o (refuses NoProcess b)))
+    (ap (λ (ps : Processes). get ps p) like.wholes.processes) (by_found (get a.wholes.processes p))
+  where
+    by_found : (o : Option Process) → AreLikeChanges
+        (option_map_or (λ process. fork_of p process a) o (refuses NoProcess a)) (option_map_or (λ process. fork_of p process b) o (refuses NoProcess b))
+    by_found None = record { answer_is = refl; after = like }
+    by_found (Some process) = like_fork_of p process a b like
+
 pub like_drop_done : (p : ℕ) (a b : State) → AreLikeStates a b → AreLikeChanges (drop_done p a) (drop_done p b)
 like_drop_done p a b like =
     subst (λ (o : Option Process). AreLikeChanges (drop_done p a) (option_map_or (λ process. record { answer = Done; after = record { wholes = without_pages p (without_process p b.wholes); drawn = b.drawn } }) o (record { answer = Refused NoProcess; after = b })))
@@ -191,7 +253,7 @@ like_drop_done p a b like =
 pub like_change_done : (c : Command) (a b : State) → AreLikeStates a b → AreLikeChanges (change_done c a) (change_done c b)
 like_change_done (command.Exec x y) a b like = record { answer_is = refl; after = like }
 like_change_done (command.Load x) a b like = record { answer_is = refl; after = like }
-like_change_done (command.Fork x) a b like = record { answer_is = refl; after = like }
+like_change_done (command.Fork p) a b like = like_fork_done p a b like
 like_change_done (command.Run x) a b like = record { answer_is = refl; after = like }
 like_change_done (command.Step x y) a b like = record { answer_is = refl; after = like }
 like_change_done (command.Checkpoint x y) a b like = record { answer_is = refl; after = like }
@@ -291,7 +353,7 @@ list_same a b like = ap (λ (ps : Processes). list_line (length (entries ps)) 0 
 pub like_performed : (quantum : ℕ) (file : List ℕ) (c : Command) (a b : State) → AreLikeStates a b → AreLikePerformed (performed quantum file c a) (performed quantum file c b)
 like_performed quantum file (command.Exec x y) a b like = like_exec file y a b like
 like_performed quantum file (command.Load x) a b like = like_told _ _ (like_load_done file a b like)
-like_performed quantum file (command.Fork x) a b like = record { text = refl; after = like }
+like_performed quantum file (command.Fork x) a b like = like_told _ _ (like_fork_done x a b like)
 like_performed quantum file (command.Run x) a b like = like_takes (by_turns quantum x) a b like
 like_performed quantum file (command.Step x y) a b like = like_step x y a b like
 like_performed quantum file (command.Checkpoint x y) a b like = record { text = refl; after = like }

@@ -4,9 +4,11 @@
 //! were drawn; for each command what it comes to, as one value.
 //!
 //! - `session`: loads, changes, and what is looked up
+//! - `forking`: a process under a second number
 //! - `turns`: the turns of `run` and `step`
 #![tactic(auto)]
 
+mod forking;
 mod session;
 mod turns;
 

@@ -4,13 +4,14 @@ ghost use Rattle.machine_core.specs.Machine.{KeepsPlaces, has_space, is_running,
 ghost use Rattle.machine_core.specs.Turns.{after_asked, turn_asked};
 ghost use Rattle.sizes.specs.declared.TheConstants.{LAST_SPACE, MOST_FRAMES};
 ghost use Rattle.command_core.specs.State.{KeepsRest, OwnSpaces, fresh};
-ghost use Rattle.command_core.specs.Changes.{CanBeTold, answer_of, GivesChange, change_done, comes_to, drop_done, is_change, load_done};
+ghost use Rattle.command_core.specs.Changes.{CanBeTold, answer_of, GivesChange, change_done, comes_to, drop_done, fork_done, is_change, load_done, takes_memory};
 ghost use Rattle.command_core.specs.Commands.{RunsLoaded};
 ghost use Rattle.command_core.specs.Looks.{BeginsStep, LooksAt, NextProcess, looked_at};
 ghost use Rattle.command_core.specs.Standing.{SessionAnswersAs, ChangesAs, GivesAs, HoldsFor, SessionStandsFor, TurnsAs, begun_run, begun_step, ends_run, speaks, takes_turn};
 ghost use Rattle.std.specs.FinMap.{get};
 ghost use Rattle.command_core.specs.Turns.{EndsRun, GoesOn, Speaks, TakesTurn, begun_by, by_turns, ending, lines_left, next_of, rest_of, run_found, run_turned};
 
+use crate::forking::{fork_process, fork_refusal};
 use crate::turns::{Order, Running};
 use elf_loader::{ElfError, read_image};
 use machine_core::{Machine, SpaceError};
@@ -269,8 +270,8 @@ fn turns_to_line(machine: &mut Machine, running: &mut Running, line: &mut Line) 
     quiet_turns(machine, running, line)
 }
 
-/// What a load that wasn't done answers.
-fn not_loaded(error: SpaceError) -> Answer
+/// What a load or a fork that wasn't done answers.
+fn not_made(error: SpaceError) -> Answer
     ensures { result ≡ answer_of error }
 {
     match error {
@@ -320,7 +321,7 @@ impl Session {
                 self.drawn = p;
                 Answer::Loaded(p, pages, image.entry())
             }
-            Err(error) => not_loaded(error),
+            Err(error) => not_made(error),
         }
     }
 
@@ -329,6 +330,34 @@ impl Session {
         ensures { result ≡ (self.now.state.drawn == LAST_SPACE) }
     {
         self.drawn == LAST_SPACE
+    }
+
+    /// Makes a process under the next number, with the registers and the memory of a process, whose frames it shares: `Forked`, or why
+    /// not. `Full` exactly where it isn't refused and the units after the fork would exceed the limit. After want of memory
+    /// everything is as before.
+    fn fork(&mut self, p: u16) -> Answer
+        ensures gives { GivesChange (fork_done p self.old.state) self.old.state result self.new.state }
+        ensures stands { GivesAs (fork_done p) self.old result self.new }
+        ensures told { CanBeTold result }
+        ensures quantum { self.new.quantum ≡ self.old.quantum }
+    {
+        let process = match self.machine.process(p) {
+            None => return Answer::Refused(Code::NoProcess),
+            Some(process) => *process,
+        };
+        let speculating = self.machine.memory().is_speculating(p);
+        match fork_refusal(process.state, speculating, self.drawn) {
+            Some(code) => return Answer::Refused(code),
+            None => {}
+        }
+        let q = self.drawn + 1;
+        match fork_process(&mut self.machine, p, q, process) {
+            Ok(()) => {
+                self.drawn = q;
+                Answer::Forked(p, q)
+            }
+            Err(error) => not_made(error),
+        }
     }
 
     /// Gives up a process.
@@ -347,15 +376,18 @@ impl Session {
         Answer::Done
     }
 
-    /// Does a change: a command that isn't `exec`, `load`, `run`, `step` or a printing one. Answers `Done`, or why not.
+    /// Does a change: a command that isn't `exec`, `load`, `run`, `step` or a printing one. Answers what came of it, or why it wasn't
+    /// done. Want of memory comes of `fork` alone, and then everything is as before.
     pub fn change(&mut self, command: &Command) -> Answer
         requires { IsTrue (is_change command.now) }
-        ensures changes { comes_to result self.new.state ≡ change_done command.now self.old.state }
-        ensures stands { ChangesAs (change_done command.now) self.old result self.new }
-        ensures told { HasAnswerLine result }
+        ensures gives { GivesChange (change_done command.now self.old.state) self.old.state result self.new.state }
+        ensures stands { GivesAs (change_done command.now) self.old result self.new }
+        ensures takes { result ≡ Answer.Memory → IsTrue (takes_memory command.now) }
+        ensures told { CanBeTold result }
         ensures quantum { self.new.quantum ≡ self.old.quantum }
     {
         match command {
+            Command::Fork(p) => self.fork(*p),
             Command::Drop(p) => self.drop_process(*p),
             _ => unreachable!(),
         }

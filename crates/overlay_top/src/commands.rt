@@ -200,25 +200,29 @@ fn run_all<K: Sink>(session: &mut Session, turns: u32, report: &mut Report<K>) -
     take_turns(session, &mut running, report)
 }
 
-/// Gives up a process.
-fn drop_process<K: Sink>(
+/// Does a change, and sends the line of its answer.
+fn change<K: Sink>(
     session: &mut Session,
     command: &Command,
     report: &mut Report<K>,
-) -> Result<(), Failed>
+) -> Result<(), Halt>
     requires { IsTrue (is_change command.now) }
-    ensures sent { Sent K.Sink report.old.sink.now
-        (change_told command.now session.old.state).text report.new.sink.now result }
-    ensures cut { Cut K.Sink report.old.sink.now
+    ensures sends { SendsOn K.Sink report.old.sink.now
         (change_told command.now session.old.state).text report.new.sink.now result }
     ensures after { LeavesOn (change_told command.now session.old.state) session.new result }
     ensures quantum { session.new.quantum ≡ session.old.quantum }
-    ensures cause { OnErr result (SinkRose K.Sink report.old.sink.now report.new.sink.now) }
-    ensures no_fault { OnOk result (SinkSound K.Sink report.old.sink.now report.new.sink.now) }
+    ensures doing { IsDoing result }
+    ensures faults { SinkBy K.Sink report.old.sink.now report.new.sink.now result }
     ensures same { report.new.sink.ghost_name ≡ report.old.sink.ghost_name }
 {
     let answer = session.change(command);
-    send_answer(&answer, report)
+    if let Answer::Memory = answer {
+        return Err(Halt::Memory);
+    }
+    match send_answer(&answer, report) {
+        Ok(()) => Ok(()),
+        Err(_) => Err(Halt::SendFailed),
+    }
 }
 
 /// How many processes there are.
@@ -296,7 +300,8 @@ pub(crate) fn do_command<K: Sink>(
         Command::Load(_) => return load(session, file, report),
         Command::Run(turns) => run_all(session, *turns, report),
         Command::Step(p, turns) => step(session, *p, *turns, report),
-        Command::Drop(_) => drop_process(session, command, report),
+        Command::Fork(_) => return change(session, command, report),
+        Command::Drop(_) => return change(session, command, report),
         Command::List => list(session, report),
         _ => unreachable!(),
     };

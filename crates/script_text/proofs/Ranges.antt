@@ -8,7 +8,7 @@ use Rattle.ovl_io.specs.Outside.{HasName}
 use Rattle.script_text.specs.declared.TheConstants.{MOST_TURNS}
 use Rattle.sizes.specs.declared.TheConstants.{LAST_SPACE, MOST_FILE_NAME}
 use Rattle.script_text.specs.declared.command.Command.{Command}
-use Rattle.script_text.specs.declared.command.Command.TheVariants.{Exec, Load, Run, Step, Drop}
+use Rattle.script_text.specs.declared.command.Command.TheVariants.{Exec, Load, Fork, Run, Step, Drop}
 use Rattle.script_text.specs.declared.command.Meaning.TheVariants.{Does, Nothing}
 use Rattle.script_text.specs.Words.{words_of}
 use Rattle.script_text.specs.Lines.{without_return}
@@ -97,12 +97,15 @@ all_give = (
   (
     one_given HasName file_word Load file_given (λ a h. h),
     (
-      one_given IsTurns turns_word Run turns_given (λ a h. h),
+      one_given IsProcess process_word Fork process_given (λ a h. h),
       (
-        two_given IsProcess IsTurns process_word turns_word Step process_given turns_given (λ a b h k. (h, k)),
+        one_given IsTurns turns_word Run turns_given (λ a h. h),
         (
-          one_given IsProcess process_word Drop process_given (λ a h. h),
-          (none_given _ tt, tt),
+          two_given IsProcess IsTurns process_word turns_word Step process_given turns_given (λ a b h k. (h, k)),
+          (
+            one_given IsProcess process_word Drop process_given (λ a h. h),
+            (none_given _ tt, tt),
+          ),
         ),
       ),
     ),

@@ -2,7 +2,7 @@ use Rattle.std.specs.Prelude.{ℕ, nat_eq, List, [], ◌∷◌, Option, Some, No
 use Rattle.std.specs.Option.{option_map, option_or}
 use lib.Pointwise.{pointwise}
 use Rattle.script_text.specs.declared.command.Command.{Command}
-use Rattle.script_text.specs.declared.command.Command.TheVariants.{Exec, Load, Run, Step, Drop}
+use Rattle.script_text.specs.declared.command.Command.TheVariants.{Exec, Load, Fork, Run, Step, Drop}
 use Rattle.script_text.specs.declared.command.Command.TheVariants as command
 use Rattle.script_text.specs.Kinds.{Kind, file_word, turns_word, process_word}
 
@@ -41,6 +41,7 @@ abbrev pub forms : List Form
 forms =
     form (codes "exec") (two_words file_word turns_word Exec)
     ∷ form (codes "load") (one_word file_word Load)
+    ∷ form (codes "fork") (one_word process_word Fork)
     ∷ form (codes "run") (one_word turns_word Run)
     ∷ form (codes "step") (two_words process_word turns_word Step)
     ∷ form (codes "drop") (one_word process_word Drop)

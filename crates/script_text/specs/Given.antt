@@ -3,7 +3,7 @@ use Rattle.ovl_io.specs.Outside.{HasName}
 use Rattle.sizes.specs.declared.TheConstants.{LAST_SPACE}
 use Rattle.script_text.specs.declared.TheConstants.{MOST_TURNS}
 use Rattle.script_text.specs.declared.command.Command.{Command}
-use Rattle.script_text.specs.declared.command.Command.TheVariants.{Exec, Load, Run, Step, Drop}
+use Rattle.script_text.specs.declared.command.Command.TheVariants.{Exec, Load, Fork, Run, Step, Drop}
 use Rattle.script_text.specs.declared.command.Command.TheVariants as command
 
 -- What holds of each command that a script gives.
@@ -18,11 +18,11 @@ IsProcess p = (1 ≤ p) × (p ≤ LAST_SPACE)
 abbrev pub IsGiven : Command → Type 0
 IsGiven (Exec name turns) = HasName name × IsTurns turns
 IsGiven (Load name) = HasName name
+IsGiven (Fork p) = IsProcess p
 IsGiven (Run turns) = IsTurns turns
 IsGiven (Step p turns) = IsProcess p × IsTurns turns
 IsGiven (Drop p) = IsProcess p
 IsGiven command.List = Unit {0}
-IsGiven (command.Fork p) = ⊥
 IsGiven (command.Checkpoint p name) = ⊥
 IsGiven (command.Restore p name) = ⊥
 IsGiven (command.Forget name) = ⊥

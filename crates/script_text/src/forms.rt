@@ -3,7 +3,7 @@ ghost use Rattle.script_text.specs.Words.{words_of};
 ghost use Rattle.script_text.specs.Kinds.{file_word, turns_word, process_word};
 ghost use Rattle.script_text.specs.Forms.{no_words, one_word, two_words, command_of};
 ghost use Rattle.script_text.specs.Script.{is_comment, meaning_of};
-ghost use Rattle.script_text.specs.declared.command.Command.TheVariants.{Exec, Load, Run, Step, Drop};
+ghost use Rattle.script_text.specs.declared.command.Command.TheVariants.{Exec, Load, Fork, Run, Step, Drop};
 ghost use Rattle.script_text.specs.declared.command.Command.TheVariants as command;
 
 use crate::command::{Command, Meaning};
@@ -43,6 +43,20 @@ fn load(alloc: Global, words: &[u8]) -> Result<Option<Command>, AllocError>
     match file_word(alloc, name)? {
         Some(name) => Ok(Some(Command::Load(name))),
         None => Ok(None),
+    }
+}
+
+/// `fork P`
+fn fork(words: &[u8]) -> Option<Command>
+    ensures { result ≡ one_word process_word Fork (words_of words.now) }
+{
+    let p = match one_word(words) {
+        Some(p) => p,
+        None => return None,
+    };
+    match process_word(p) {
+        Some(p) => Some(Command::Fork(p)),
+        None => None,
     }
 }
 
@@ -111,6 +125,8 @@ fn command_of(alloc: Global, first: &[u8], words: &[u8]) -> Result<Option<Comman
         exec(alloc, words)
     } else if first == b"load".as_slice() {
         load(alloc, words)
+    } else if first == b"fork".as_slice() {
+        Ok(fork(words))
     } else if first == b"run".as_slice() {
         Ok(run(words))
     } else if first == b"step".as_slice() {

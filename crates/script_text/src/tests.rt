@@ -23,6 +23,9 @@ fn show(alloc: Global, command: &Command, out: &mut Vec<u8>) -> Result<(), Alloc
             out.extend_from_slice(b"load ")?;
             out.extend_from_slice(name.as_slice())?;
         }
+        Command::Fork(p) => {
+            out.extend_from_slice(format!(in alloc; "fork {p}")?.as_bytes())?;
+        }
         Command::Run(turns) => {
             out.extend_from_slice(format!(in alloc; "run {turns}")?.as_bytes())?;
         }
@@ -100,7 +103,7 @@ fn scripts_say_what_the_grammar_says(rt: HostRuntime) -> Result<(), Fail> {
             rows = rows.saturating_add(1);
         }
     }
-    assert_eq!(rt; rows, 686);
+    assert_eq!(rt; rows, 757);
     Ok(())
 }
 

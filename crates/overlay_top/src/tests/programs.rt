@@ -101,6 +101,26 @@ fn what_a_program_writes_is_printed(rt: HostRuntime) -> Result<(), Fail> {
     Ok(())
 }
 
+#[test]
+fn a_fork_goes_on_where_the_process_was(rt: HostRuntime) -> Result<(), Fail> {
+    let mut shelf = OneFileShelf::new(program_of(rt.alloc(), 5, HI, b"hi\n")?);
+    // a script, and its report
+    let rows: [(&[u8], &[u8]); 2] = [
+        (
+            b"load h.elf\nstep 1 2\nfork 1\nrun 100",
+            b"loaded 1 pages 17 entry 0x10078\nran 2 limit\nforked 1 2\nout 1 hi\\0a\nexited 1 0\nout 2 hi\\0a\nexited 2 0\nran 14 idle\n",
+        ),
+        (
+            b"fork 1\nload h.elf\nfork 1\nstep 1 9\nfork 1\nfork 3\nfork 2\nlist",
+            b"refused C1 no-process\nloaded 1 pages 17 entry 0x10078\nforked 1 2\nout 1 hi\\0a\nexited 1 0\nran 9 ended\nrefused C2 ended\nrefused C1 no-process\nforked 2 3\nlist 3 0\nprocess 1 exited 0 pages 17\nprocess 2 running pages 17\nprocess 3 running pages 17\n",
+        ),
+    ];
+    for (script, report) in rows {
+        assert_call(&rt, rt.alloc(), &SURE, &mut shelf, script, (report, 0))?;
+    }
+    Ok(())
+}
+
 // Writes 5000 bytes of the stack, of which 4096 are taken:
 // addi x11, x2, -2048; addi x11, x11, -2048; lui x12, 1; addi x12, x12, 904; addi x10, x0, 1;
 // addi x17, x0, 64; ecall; addi x17, x0, 93; ecall

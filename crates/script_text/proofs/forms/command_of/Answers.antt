@@ -1,5 +1,5 @@
 use Rattle.std.proofs.Common.{refl, codes, ◌∙◌}
-use Rattle.script_text.specs.declared.command.Command.TheVariants.{Exec, Load, Run, Step, Drop}
+use Rattle.script_text.specs.declared.command.Command.TheVariants.{Exec, Load, Fork, Run, Step, Drop}
 use Rattle.script_text.specs.declared.command.Command.TheVariants as command
 use Rattle.script_text.specs.Words.{words_of}
 use Rattle.script_text.specs.Kinds.{file_word, turns_word, process_word}
@@ -21,37 +21,45 @@ returns-then-eq-2 c =
 
 pub returns-then-eq-3 : goal.returns-then-eq-3
 returns-then-eq-3 c =
-    c.run.ensures
-    ∙ at_row (codes "run") c.as_slice-else-eq-2.result.now (one_word turns_word Run) c.args.first.now (words_of c.args.words.now) (λ ws. refl) c.as_slice-else-eq-2.ensures c.if-eq-3.ensures
+    c.fork.ensures
+    ∙ at_row (codes "fork") c.as_slice-else-eq-2.result.now (one_word process_word Fork) c.args.first.now (words_of c.args.words.now) (λ ws. refl) c.as_slice-else-eq-2.ensures c.if-eq-3.ensures
 
 pub returns-then-eq-4 : goal.returns-then-eq-4
 returns-then-eq-4 c =
-    c.step.ensures
-    ∙ at_row (codes "step") c.as_slice-else-eq-3.result.now (two_words process_word turns_word Step) c.args.first.now (words_of c.args.words.now) (λ ws. refl) c.as_slice-else-eq-3.ensures c.if-eq-4.ensures
+    c.run.ensures
+    ∙ at_row (codes "run") c.as_slice-else-eq-3.result.now (one_word turns_word Run) c.args.first.now (words_of c.args.words.now) (λ ws. refl) c.as_slice-else-eq-3.ensures c.if-eq-4.ensures
 
 pub returns-then-eq-5 : goal.returns-then-eq-5
 returns-then-eq-5 c =
-    c.give_up.ensures
-    ∙ at_row (codes "drop") c.as_slice-else-eq-4.result.now (one_word process_word Drop) c.args.first.now (words_of c.args.words.now) (λ ws. refl) c.as_slice-else-eq-4.ensures c.if-eq-5.ensures
+    c.step.ensures
+    ∙ at_row (codes "step") c.as_slice-else-eq-4.result.now (two_words process_word turns_word Step) c.args.first.now (words_of c.args.words.now) (λ ws. refl) c.as_slice-else-eq-4.ensures c.if-eq-5.ensures
 
 pub returns-then-eq-6 : goal.returns-then-eq-6
 returns-then-eq-6 c =
-    c.list.ensures
-    ∙ at_row (codes "list") c.as_slice-else-eq-5.result.now (no_words command.List) c.args.first.now (words_of c.args.words.now) (λ ws. refl) c.as_slice-else-eq-5.ensures c.if-eq-6.ensures
+    c.give_up.ensures
+    ∙ at_row (codes "drop") c.as_slice-else-eq-5.result.now (one_word process_word Drop) c.args.first.now (words_of c.args.words.now) (λ ws. refl) c.as_slice-else-eq-5.ensures c.if-eq-6.ensures
 
-pub returns-else-eq-6 : goal.returns-else-eq-6
-returns-else-eq-6 c =
+pub returns-then-eq-7 : goal.returns-then-eq-7
+returns-then-eq-7 c =
+    c.list.ensures
+    ∙ at_row (codes "list") c.as_slice-else-eq-6.result.now (no_words command.List) c.args.first.now (words_of c.args.words.now) (λ ws. refl) c.as_slice-else-eq-6.ensures c.if-eq-7.ensures
+
+pub returns-else-eq-7 : goal.returns-else-eq-7
+returns-else-eq-7 c =
     at_no_row c.args.first.now (words_of c.args.words.now) (
       not_text (codes "exec") c.as_slice.result.now c.args.first.now c.as_slice.ensures c.if-eq.ensures,
       (
         not_text (codes "load") c.as_slice-else-eq.result.now c.args.first.now c.as_slice-else-eq.ensures c.if-eq-2.ensures,
         (
-          not_text (codes "run") c.as_slice-else-eq-2.result.now c.args.first.now c.as_slice-else-eq-2.ensures c.if-eq-3.ensures,
+          not_text (codes "fork") c.as_slice-else-eq-2.result.now c.args.first.now c.as_slice-else-eq-2.ensures c.if-eq-3.ensures,
           (
-            not_text (codes "step") c.as_slice-else-eq-3.result.now c.args.first.now c.as_slice-else-eq-3.ensures c.if-eq-4.ensures,
+            not_text (codes "run") c.as_slice-else-eq-3.result.now c.args.first.now c.as_slice-else-eq-3.ensures c.if-eq-4.ensures,
             (
-              not_text (codes "drop") c.as_slice-else-eq-4.result.now c.args.first.now c.as_slice-else-eq-4.ensures c.if-eq-5.ensures,
-              (not_text (codes "list") c.as_slice-else-eq-5.result.now c.args.first.now c.as_slice-else-eq-5.ensures c.if-eq-6.ensures, tt),
+              not_text (codes "step") c.as_slice-else-eq-4.result.now c.args.first.now c.as_slice-else-eq-4.ensures c.if-eq-5.ensures,
+              (
+                not_text (codes "drop") c.as_slice-else-eq-5.result.now c.args.first.now c.as_slice-else-eq-5.ensures c.if-eq-6.ensures,
+                (not_text (codes "list") c.as_slice-else-eq-6.result.now c.args.first.now c.as_slice-else-eq-6.ensures c.if-eq-7.ensures, tt),
+              ),
             ),
           ),
         ),

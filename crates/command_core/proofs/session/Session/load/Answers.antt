@@ -1,11 +1,9 @@
-use Rattle.std.proofs.Common.{◌+◌, ◌==◌, ap, subst, sym, ◌∙◌, refl}
+use Rattle.std.proofs.Common.{◌+◌, ◌==◌, ap, subst, sym, ◌∙◌}
 use Rattle.sizes.specs.declared.TheConstants.{LAST_SPACE}
 use Rattle.command_core.specs.State.{InSession}
-use Rattle.command_core.specs.Changes.{GivesChange, answer_of, load_done}
+use Rattle.command_core.specs.Changes.{GivesChange, load_done}
 use Rattle.report_text.specs.declared.answer.Answer.TheVariants.{Loaded}
-use Rattle.command_core.specs.LikeLaws.{gives_as, like_load_done}
-use Rattle.command_core.proofs.Loadings.{gives_loaded, gives_other, runs_loaded, session_other, state_of, told_other}
-use Rattle.command_core.proofs.Places.{is_below, session_load}
+use Rattle.command_core.proofs.Loadings.{gives_loaded, gives_other, runs_loaded, state_of}
 use Rattle.command_core.proofs.session.Session.load.Goals as goal
 
 pub returns-in-Ok-load-clause-runs : goal.returns-in-Ok-load-clause-runs
@@ -30,5 +28,5 @@ returns-clause-gives c =
     let given = gives_other file c.self.inside.machine c.load.new.self drawn c.in-Ok.ensures.taken
     (ap (λ (s : InSession). s.state.drawn == LAST_SPACE) c.self.view_is ∙ sym c.are_all_drawn.ensures ∙ c.if-are_all_drawn.false)
     c.in-Err-load.error c.in-Err-load.ensures.loads in
-    subst (λ (s : InSession). GivesChange (load_done file s.state) s.state c.not_loaded.result (state_of c.load.new.self drawn)) c.self.view_is
-    (subst (λ a. GivesChange (load_done file (state_of c.self.inside.machine drawn)) (state_of c.self.inside.machine drawn) a (state_of c.load.new.self drawn)) (sym c.not_loaded.ensures) given)
+    subst (λ (s : InSession). GivesChange (load_done file s.state) s.state c.not_made.result (state_of c.load.new.self drawn)) c.self.view_is
+    (subst (λ a. GivesChange (load_done file (state_of c.self.inside.machine drawn)) (state_of c.self.inside.machine drawn) a (state_of c.load.new.self drawn)) (sym c.not_made.ensures) given)

@@ -1,4 +1,4 @@
-use Rattle.std.proofs.Common.{ap, refl}
+use Rattle.std.proofs.Common.{ap}
 use Rattle.machine_core.specs.Machine.{Wholes}
 use Rattle.command_core.specs.State.{InSession, State, fresh}
 use Rattle.command_core.specs.LikeLaws.{states_same}
