@@ -353,12 +353,14 @@ fn a_write_prints_its_buffer(rt: HostRuntime) -> Result<(), Fail> {
 
 #[test]
 fn a_refused_store_changes_nothing(rt: HostRuntime) -> Result<(), Fail> {
-    let file = code_with(rt.alloc(), EXIT_7, &[(6, 0x11000, 1), (5, 0x12000, 1)])?;
+    let others: &[Empty] = &[(6, 0x11000, 1), (5, 0x12000, 1), (7, 0x13000, 1)];
+    let file = code_with(rt.alloc(), EXIT_7, others)?;
     let (mut machine, _) = loaded(&rt, rt.alloc(), 1024, file.as_slice())?;
     assert!(rt; machine.memory().has_space(1));
     let mut view = View {
         memory: machine.memory_mut(),
         space: 1,
+        code: None,
     };
     let mut word = [0xFF; 4];
     assert_eq!(rt;
@@ -374,6 +376,11 @@ fn a_refused_store_changes_nothing(rt: HostRuntime) -> Result<(), Fail> {
     assert_eq!(rt; view.fetch(CODE), Ok(0x05D0_0893));
     assert_eq!(rt; view.fetch(0x12000), Ok(0));
     assert_eq!(rt; view.fetch(0x11000), Err(Denied { address: 0x11000 }));
+    // a store into the line that was fetched last puts it into an overlay
+    assert_eq!(rt; view.fetch(0x13004), Ok(0));
+    assert_eq!(rt; view.store(0x13004, &[1, 2, 3, 4]), Ok(()));
+    assert_eq!(rt; view.fetch(0x13004), Ok(0x0403_0201));
+    assert_eq!(rt; view.fetch(0x13000), Ok(0));
     // over the end of the last page that is there
     assert_eq!(rt;
         view.load(STACK_TOP - 1, &mut word),
