@@ -1,4 +1,4 @@
-use Rattle.std.proofs.Common.{◌≡◌, ℕ, ◌≤◌, ◌<◌, nat_lt, Bool, true, false, sym, ap, subst, ◌∙◌, refl, arith, Option, Some, None}
+use Rattle.std.proofs.Common.{◌≡◌, ℕ, ◌≤◌, ◌<◌, nat_lt, Bool, true, false, cond, sym, ap, subst, ◌∙◌, refl, arith, Option, Some, None}
 use Rattle.std.specs.Prelude.{◌==◌, ◌||◌, Result, Ok, Err}
 use Rattle.std.specs.Option.{is_some, option_map, unwrap_or}
 use Rattle.std.specs.FinMap.{get, insert, remove}
@@ -6,7 +6,7 @@ use Rattle.std.proofs.lemmas.Bool.Decides.{nat_tests}
 use Rattle.number_maps.specs.Keys.{alike, by_key, get_other, removed_other, removed_same}
 use Rattle.ledger.specs.Events.{Copy}
 use Rattle.overlay_pages.specs.Changes.{limit_of}
-use Rattle.overlay_pages.specs.State.{SpaceState, State, bare_space, cut_space, holds_space, space_in}
+use Rattle.overlay_pages.specs.State.{SpaceState, State, bare_space, base_of, cut_space, holds_space, space_in}
 use Rattle.overlay_pages.specs.View.{MemoryView, state_of}
 use Rattle.overlay_memory.specs.declared.error.SpaceError.{SpaceError}
 use Rattle.overlay_memory.specs.declared.error.SpaceError.TheVariants as error
@@ -69,7 +69,8 @@ module _ (p q : ℕ) (old : Machine) (memory : MemoryView) (forked : HasForked (
     whole_is : whole_in (state_of memory) q process ≡ whole_in (spaces_of old) p process
     whole_is =
         let mark = forked.mark ∙ sym unmarked in
-        λ i. record { registers = process.regs; state = process.state; memory = forked.memory i; speculating = mark i }
+        let kept = ap (λ b. cond b (Some (base_of (state_of memory) q)) None) forked.mark ∙ sym (ap (λ b. cond b (Some (base_of (spaces_of old) p)) None) unmarked) in
+        λ i. record { registers = process.regs; state = process.state; memory = forked.memory i; speculating = mark i; saved = process.saved; kept = kept i }
 
     others_by : (r : ℕ) → (r ≡ q → ⊥) → (o : Option declared.Process) → option_map (whole_in (state_of memory) r) o ≡ option_map (whole_in (spaces_of old) r) o
     others_by r other None = refl

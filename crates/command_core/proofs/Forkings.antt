@@ -1,7 +1,8 @@
-use Rattle.std.proofs.Common.{◌≡◌, ℕ, ◌+◌, ◌≤◌, Bool, true, false, cond, sym, ap, subst, ◌∙◌, Option, Some, None}
+use Rattle.std.proofs.Common.{◌≡◌, ℕ, ◌+◌, ◌≤◌, Bool, true, false, cond, sym, ap, subst, ◌∙◌, refl, Option, Some, None}
 use Rattle.std.specs.Prelude.{Ok, Err}
-use Rattle.std.specs.Option.{option_map, option_map_or}
+use Rattle.std.specs.Option.{is_some, option_map, option_map_or}
 use Rattle.std.specs.FinMap.{get}
+use Rattle.number_maps.specs.Keys.{get_same}
 use Rattle.sizes.specs.declared.TheConstants.{LAST_SPACE}
 use Rattle.overlay_pages.specs.State.{space_in}
 use Rattle.overlay_pages.specs.View.{MemoryView, state_of as spaces_in}
@@ -20,7 +21,7 @@ use Rattle.command_core.specs.Forks.{ForksProcess, fork_needs, fork_refusal, is_
 use Rattle.command_core.specs.Changes.{GivesChange, answer_of, fork_done, fork_of, forks, forks_full, forks_within, refuses}
 use Rattle.command_core.specs.LikeLaws.{states_itself, states_same}
 use Rattle.command_core.proofs.Loadings.{comes_to_be, state_of}
-use Rattle.command_core.proofs.Places.{session_more, session_same}
+use Rattle.command_core.proofs.Places.{kept_at, session_more, session_same}
 
 -- What a fork comes to.
 
@@ -90,9 +91,15 @@ module _ (old : Machine) (drawn p : ℕ) where
       gives_unforked error.Memory same = ap (λ (w : Wholes). record { wholes = w; drawn = drawn }) (same_wholes old new same)
 
 -- what a session keeps
-pub session_forked : (old new : Machine) (drawn p : ℕ) (process : declared.Process) → IsSession old drawn → drawn + 1 ≤ LAST_SPACE
+pub session_forked : (old new : Machine) (drawn p : ℕ) (process : declared.Process) → IsSession old drawn → drawn + 1 ≤ LAST_SPACE → get old.processes p ≡ Some process
     → ForksProcess p (drawn + 1) process old new (Ok tt) → IsSession new (drawn + 1)
-session_forked old new drawn p process is below (enough, forked) = session_more old new drawn is below forked.there forked.settled forked.others
+session_forked old new drawn p process is below there (enough, forked) =
+    let q = drawn + 1 in
+    let whole : Process = whole_in (spaces_of old) p process in
+    session_more old new drawn is below forked.there forked.settled
+    (kept_at new q whole (ap (λ (w : Wholes). get w.processes q) forked.after ∙ get_same (wholes old).processes q q whole refl)
+    (sym (is.kept p ∙ ap (λ (o : Option declared.Process). option_map_or (λ (x : declared.Process). is_some x.saved) o false) there)))
+    forked.others
 
 pub session_unforked : (old new : Machine) (drawn p q : ℕ) (process : declared.Process) (e : SpaceError) → IsSession old drawn
     → ForksProcess p q process old new (Err e) → IsSession new drawn

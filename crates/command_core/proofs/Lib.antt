@@ -9,3 +9,5 @@ pub mod Loadings
 pub mod Dropping
 pub mod Copies
 pub mod Forkings
+pub mod Speculating
+pub mod OverlayChanges

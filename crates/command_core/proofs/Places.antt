@@ -3,17 +3,17 @@ use Rattle.std.specs.Option.{is_some, option_map, option_map_or}
 use Rattle.std.specs.Ordering.{nat_cmp}
 use Rattle.std.proofs.lemmas.Bool.Decides.{nat_tests}
 use Rattle.std.specs.FinMap.{FinMap, empty, get, get-empty}
-use Rattle.number_maps.specs.Keys.{alike, by_key, removed_other, removed_same}
+use Rattle.number_maps.specs.Keys.{alike, by_key, get_same, removed_other, removed_same}
 use Rattle.number_maps.specs.Views.{viewed, viewed_empty}
 use Rattle.sizes.specs.declared.TheConstants.{LAST_SPACE}
 use Rattle.overlay_pages.specs.Calls.{IsEmptyState}
 use Rattle.overlay_pages.specs.State.{SpaceState, State, books, cut_space, held_page, holds_space, space_in}
 use Rattle.overlay_pages.specs.StateLaws.{space_absent, space_left}
-use Rattle.machine_core.specs.Process.{runs}
+use Rattle.machine_core.specs.Process.{Process, runs}
 use Rattle.machine_core.specs.declared.process.Process as declared
-use Rattle.machine_core.specs.Machine.{IsDropped, KeepsPlaces, Machine, StaysBut, has_space, is_running, processes_of, spaces_of, whole_in, wholes, without_process_at}
+use Rattle.machine_core.specs.Machine.{IsDropped, KeepsPlaces, Machine, Processes, StaysBut, has_saved, has_space, is_marked, is_running, processes_of, spaces_of, whole_in, wholes, without_process_at}
 use Rattle.machine_core.specs.Laws.{processes_at, runs_shown}
-use Rattle.machine_core.specs.Load.{IsLoaded}
+use Rattle.machine_core.specs.Load.{IsLoaded, loaded_process}
 use Rattle.command_core.specs.State.{IsSession, OwnSpaces}
 
 -- Which spaces and processes are there.
@@ -23,14 +23,31 @@ none_is None h = refl
 none_is (Some x) h = cc
 
 pub same_start : (machine : Machine) → KeepsPlaces machine machine
-same_start machine = record { spaces = λ q. refl; awaiting = λ q. refl; processes = λ q. refl }
+same_start machine = record { spaces = λ q. refl; awaiting = λ q. refl; processes = λ q. refl; marks = λ q. refl; saves = λ q. refl }
 
 pub same_then : (a b c : Machine) → KeepsPlaces a b → KeepsPlaces b c → KeepsPlaces a c
 same_then a b c first second = record {
   spaces = λ q. second.spaces q ∙ first.spaces q;
   awaiting = λ q. second.awaiting q ∙ first.awaiting q;
   processes = λ q. second.processes q ∙ first.processes q;
+  marks = λ q. second.marks q ∙ first.marks q;
+  saves = λ q. second.saves q ∙ first.saves q;
 }
+
+-- whether registers and state are kept, of a process that may be there
+abbrev saved_of : Option declared.Process → Bool
+saved_of found = option_map_or (λ (process : declared.Process). is_some process.saved) found false
+
+-- of a process with its memory
+pub kept_at : (machine : Machine) (p : ℕ) (whole : Process) → get (processes_of machine) p ≡ Some whole → is_some whole.saved ≡ whole.speculating
+    → is_marked machine p ≡ has_saved machine p
+kept_at machine p whole there same = by_found (get machine.processes p) refl (sym (processes_at machine p) ∙ there)
+  where
+    by_found : (o : Option declared.Process) → get machine.processes p ≡ o → option_map (whole_in (spaces_of machine) p) o ≡ Some whole → is_marked machine p ≡ has_saved machine p
+    by_found None is shown = cc
+    by_found (Some process) is shown =
+        ap (λ (o : Option Process). option_map_or (λ (q : Process). q.speculating) o false) shown ∙ sym same
+        ∙ sym (ap (λ (o : Option Process). option_map_or (λ (q : Process). is_some q.saved) o false) shown) ∙ sym (ap saved_of is)
 
 -- a process that runs is there, and so is its space
 
@@ -57,6 +74,7 @@ session_kept old new drawn is same = record {
   no_process = λ p above. none_is (get new.processes p) (same.processes p ∙ ap is_some (is.no_process p above));
   own_space = λ p some. same.spaces p ∙ is.own_space p (sym (same.processes p) ∙ some);
   settled = λ p. same.awaiting p ∙ is.settled p;
+  kept = λ p. same.marks p ∙ is.kept p ∙ sym (same.saves p);
 }
 
 module _ (machine : Machine) (frames : ℕ) (none : IsEmptyState frames (spaces_of machine)) (no_processes : machine.processes ≡ empty) where
@@ -73,6 +91,7 @@ module _ (machine : Machine) (frames : ℕ) (none : IsEmptyState frames (spaces_
     no_process = λ p above. no_process_yet p;
     own_space = λ p some. let lacks = ap is_some (no_process_yet p) in let both : false ≡ true = sym lacks ∙ some in cc;
     settled = λ p. ap (λ (x : SpaceState). x.awaiting) (space_absent (spaces_of machine) p (no_space_yet p));
+    kept = λ p. ap (λ (x : SpaceState). x.speculating) (space_absent (spaces_of machine) p (no_space_yet p)) ∙ sym (ap saved_of (no_process_yet p));
   }
 
   no_books : books (spaces_of machine) ≡ empty
@@ -89,8 +108,9 @@ module _ (machine : Machine) (frames : ℕ) (none : IsEmptyState frames (spaces_
 
 -- a further process, with its space, under the next number
 pub session_more : (old new : Machine) (drawn : ℕ) → IsSession old drawn → drawn + 1 ≤ LAST_SPACE → has_space new (drawn + 1) ≡ true
-    → (space_in (spaces_of new) (drawn + 1)).awaiting ≡ empty → StaysBut (drawn + 1) old new → IsSession new (drawn + 1)
-session_more old new drawn is below there settled others = record {
+    → (space_in (spaces_of new) (drawn + 1)).awaiting ≡ empty → is_marked new (drawn + 1) ≡ has_saved new (drawn + 1) → StaysBut (drawn + 1) old new
+    → IsSession new (drawn + 1)
+session_more old new drawn is below there settled kept others = record {
   few = below;
   no_space = λ p above. others.there p (λ same. omega (arith, above, same)) ∙ is.no_space p (omega (arith, above));
   no_process = λ p above. others.processes p (λ same. omega (arith, above, same)) ∙ is.no_process p (omega (arith, above));
@@ -100,10 +120,17 @@ session_more old new drawn is below there settled others = record {
   settled = λ p. by_key p (drawn + 1)
       (λ same. ap (λ n. (space_in (spaces_of new) n).awaiting) same ∙ settled)
       (λ other. ap (λ (x : SpaceState). x.awaiting) (others.spaces p other) ∙ is.settled p);
+  kept = λ p. by_key p (drawn + 1)
+      (λ same. ap (is_marked new) same ∙ kept ∙ sym (ap (has_saved new) same))
+      (λ other. ap (λ (x : SpaceState). x.speculating) (others.spaces p other) ∙ is.kept p ∙ sym (ap saved_of (others.processes p other)));
 }
 
 pub session_load : (old new : Machine) (drawn : ℕ) (file : List ℕ) → IsSession old drawn → drawn + 1 ≤ LAST_SPACE → IsLoaded (drawn + 1) file old new → IsSession new (drawn + 1)
-session_load old new drawn file is below loaded = session_more old new drawn is below loaded.there loaded.settled loaded.others
+session_load old new drawn file is below loaded =
+    session_more old new drawn is below loaded.there loaded.settled
+    (kept_at new (drawn + 1) (loaded_process file)
+    (ap (λ (ps : Processes). get ps (drawn + 1)) loaded.like.processes ∙ get_same (wholes old).processes (drawn + 1) (drawn + 1) (loaded_process file) refl) refl)
+    loaded.others
 
 -- after want of memory
 pub session_same : (old new : Machine) (drawn : ℕ) → IsSession old drawn → spaces_of new ≡ spaces_of old → new.processes ≡ old.processes → IsSession new drawn
@@ -111,6 +138,8 @@ session_same old new drawn is spaces processes = session_kept old new drawn is (
   spaces = λ q. ap (λ (s : State). holds_space s q) spaces;
   awaiting = λ q. ap (λ (s : State). (space_in s q).awaiting) spaces;
   processes = λ q. ap (λ (m : FinMap nat_cmp declared.Process). is_some (get m q)) processes;
+  marks = λ q. ap (λ (s : State). (space_in s q).speculating) spaces;
+  saves = λ q. ap (λ (m : FinMap nat_cmp declared.Process). saved_of (get m q)) processes;
 })
 
 pub session_drop : (old mid new : Machine) (drawn p : ℕ) → IsSession old drawn → mid ≡ without_process_at old p → IsDropped p mid new → IsSession new drawn
@@ -132,6 +161,11 @@ session_drop old mid new drawn p is removed dropped =
       settled = λ q. by_key q p
           (λ same. ap (λ (x : SpaceState). x.awaiting) (space_absent (spaces_of new) q (ap (λ (s : State). get s.spaces q) spaces ∙ removed_same (spaces_of old).spaces p q same)))
           (λ other. ap (λ (s : State). (space_in s q).awaiting) spaces ∙ ap (λ (x : SpaceState). x.awaiting) (space_left (spaces_of old) p q other) ∙ is.settled q);
+      kept = λ q. by_key q p
+          (λ same. ap (λ (x : SpaceState). x.speculating) (space_absent (spaces_of new) q (ap (λ (s : State). get s.spaces q) spaces ∙ removed_same (spaces_of old).spaces p q same))
+          ∙ sym (ap saved_of (ap (λ m. get m q) processes ∙ removed_same old.processes p q same)))
+          (λ other. ap (λ (s : State). (space_in s q).speculating) spaces ∙ ap (λ (x : SpaceState). x.speculating) (space_left (spaces_of old) p q other) ∙ is.kept q
+          ∙ sym (ap saved_of (ap (λ m. get m q) processes ∙ removed_other old.processes p q other)));
     }
 
 -- a number is left

@@ -14,9 +14,13 @@ use Rattle.report_text.specs.declared.answer.Answer.TheVariants.{Done, Loaded, F
 use Rattle.report_text.specs.declared.answer.Code.{Code}
 use Rattle.report_text.specs.declared.answer.Code.TheVariants.{NoProcess, NumbersUsed, Elf}
 use Rattle.script_text.specs.declared.command.Command.{Command}
+use Rattle.script_text.specs.declared.command.Command.TheVariants as command
 use Rattle.script_text.specs.declared.command.Command.TheVariants.{Drop as DropOf, Fork as ForkOf}
 use Rattle.report_text.specs.Answers.{HasAnswerLine}
 use Rattle.command_core.specs.Forks.{fork_needs, fork_refusal, is_fork_full, with_forked}
+use Rattle.command_core.specs.Overlays.{event_needs, is_overlay_full, overlay_event, overlay_refusal, with_overlays}
+use Rattle.command_core.specs.declared.overlays.OverlayChange.{OverlayChange}
+use Rattle.command_core.specs.declared.overlays.OverlayChange.TheVariants.{Speculate, Commit, Discard, Promote, PromoteAll}
 use Rattle.command_core.specs.State.{AreLikeStates, State, with_wholes}
 
 -- What a change of the copying machine comes to: its answer, and the state after it.
@@ -72,6 +76,27 @@ fork_of p process state =
 abbrev pub fork_done : ℕ → State → Changed
 fork_done p state = option_map_or (λ process. fork_of p process state) (get state.wholes.processes p) (refuses NoProcess state)
 
+-- `speculate`, `commit`, `discard` and both forms of `promote`: that there is no such process, and the refusals of one that is there,
+-- in their order, and then that there aren't units enough; else what is left of it
+abbrev pub leaves_overlays : ℕ → OverlayChange → Process → State → Changed
+leaves_overlays p change process state = record { answer = Done; after = with_wholes (with_overlays p change process state.wholes) state }
+
+abbrev pub overlays_full : ℕ → OverlayChange → State → Changed
+overlays_full p change state =
+    record { answer = Full (event_needs (overlay_event p change) state.wholes) (limit_of state.wholes.frames); after = state }
+
+abbrev pub overlays_within : ℕ → OverlayChange → Process → State → Changed
+overlays_within p change process state =
+    if is_overlay_full p change state.wholes then overlays_full p change state else leaves_overlays p change process state
+
+abbrev pub overlays_of : ℕ → OverlayChange → Process → State → Changed
+overlays_of p change process state =
+    option_map_or (λ code. refuses code state) (overlay_refusal change process) (overlays_within p change process state)
+
+abbrev pub overlays_done : ℕ → OverlayChange → State → Changed
+overlays_done p change state =
+    option_map_or (λ process. overlays_of p change process state) (get state.wholes.processes p) (refuses NoProcess state)
+
 -- `drop`: the process goes, where there is one, and its pages
 abbrev pub drop_done : ℕ → State → Changed
 drop_done p state =
@@ -81,11 +106,21 @@ drop_done p state =
 -- the changes, a row each; none of the others is one
 abbrev pub change_done : Command → State → Changed
 change_done (ForkOf p) state = fork_done p state
+change_done (command.Speculate p) state = overlays_done p Speculate state
+change_done (command.Commit p) state = overlays_done p Commit state
+change_done (command.Discard p) state = overlays_done p Discard state
+change_done (command.Promote p address) state = overlays_done p (Promote address) state
+change_done (command.PromoteAll p) state = overlays_done p PromoteAll state
 change_done (DropOf p) state = drop_done p state
 change_done other state = record { answer = Done; after = state }
 
 abbrev pub is_change : Command → Bool
 is_change (ForkOf p) = true
+is_change (command.Speculate p) = true
+is_change (command.Commit p) = true
+is_change (command.Discard p) = true
+is_change (command.Promote p address) = true
+is_change (command.PromoteAll p) = true
 is_change (DropOf p) = true
 is_change other = false
 

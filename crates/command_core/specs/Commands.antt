@@ -11,7 +11,8 @@ use Rattle.report_text.specs.declared.answer.Code.TheVariants.{NoProcess, Ended}
 use Rattle.report_text.specs.Answers.{answer_text}
 use Rattle.report_text.specs.Lines.{list_line, process_line}
 use Rattle.command_core.specs.State.{InSession, State, with_wholes}
-use Rattle.command_core.specs.Changes.{Changed, change_done, load_done, fork_done, drop_done, refuses}
+use Rattle.command_core.specs.Changes.{Changed, change_done, load_done, fork_done, drop_done, overlays_done, refuses}
+use Rattle.command_core.specs.declared.overlays.OverlayChange.TheVariants.{Speculate, Commit, Discard, Promote, PromoteAll}
 use Rattle.command_core.specs.Turns.{InRun, Progress, alone, by_turns, left_of, ran_from, ran_text}
 
 -- What a command asks of the shelf, by the file that it names: nothing; or the file is there, isn't there, or
@@ -33,6 +34,11 @@ asks (Load name) = Some name
 asks (Fork p) = None
 asks (Run turns) = None
 asks (Step p turns) = None
+asks (command.Speculate p) = None
+asks (command.Commit p) = None
+asks (command.Discard p) = None
+asks (command.Promote p address) = None
+asks (command.PromoteAll p) = None
 asks (Drop p) = None
 asks command.List = None
 asks other = None
@@ -152,6 +158,11 @@ performed quantum file (Load name) state = load_told file state
 performed quantum file (Fork p) state = told (fork_done p state)
 performed quantum file (Run turns) state = run_done quantum turns state
 performed quantum file (Step p turns) state = step_done p turns state
+performed quantum file (command.Speculate p) state = told (overlays_done p Speculate state)
+performed quantum file (command.Commit p) state = told (overlays_done p Commit state)
+performed quantum file (command.Discard p) state = told (overlays_done p Discard state)
+performed quantum file (command.Promote p address) state = told (overlays_done p (Promote address) state)
+performed quantum file (command.PromoteAll p) state = told (overlays_done p PromoteAll state)
 performed quantum file (Drop p) state = told (drop_done p state)
 performed quantum file command.List state = record { text = list_text state; after = state }
 performed quantum file other state = record { text = []; after = state }

@@ -1,8 +1,9 @@
--- In reading order: the copying machine's state, what a fork makes, its changes, the turns of processes, what each command comes
--- to, and what is looked up.
+-- In reading order: the copying machine's state, what a fork makes, and what speculation and promotion make of a process, its
+-- changes, the turns of processes, what each command comes to, and what is looked up.
 pub mod State
 pub mod Codes
 pub mod Forks
+pub mod Overlays
 pub mod Changes
 pub mod Turns
 pub mod Commands

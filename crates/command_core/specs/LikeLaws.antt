@@ -1,4 +1,4 @@
-use Rattle.std.specs.Prelude.{◌≡◌, ℕ, zero, suc, ◌+◌, ◌-◌, ◌==◌, nat_lt, Bool, true, false, cond, List, ◌∷◌, ◌++◌, flat_map, length, Option, Some, None, refl, ◌≤◌}
+use Rattle.std.specs.Prelude.{◌≡◌, ℕ, zero, suc, ◌+◌, ◌-◌, ◌==◌, nat_lt, ◌&&◌, Bool, true, false, cond, List, ◌∷◌, ◌++◌, flat_map, length, Option, Some, None, refl, ◌≤◌}
 use Rattle.std.proofs.Common.{sym, ap, subst, ◌∙◌, arith, eqb-true}
 use Rattle.std.specs.Option.{option_map_or}
 use Rattle.std.specs.FinMap.{entries, get, insert}
@@ -9,7 +9,7 @@ use Rattle.ovl_io.specs.declared.turn.Turn.{Turn}
 use Rattle.ovl_io.specs.declared.turn.Turn.TheVariants as turn
 use Rattle.ledger.specs.Alike.{AreAlike}
 use Rattle.ledger.specs.AlikeUnits.{units_alike}
-use Rattle.ledger.specs.Events.{Copy}
+use Rattle.ledger.specs.Events.{Copy, Event}
 use Rattle.ledger.specs.RowLaws.{alike_after}
 use Rattle.machine_core.specs.Process.{Process, runs}
 use Rattle.machine_core.specs.Machine.{AreLike, Processes, Wholes, limit_of, running_numbers, without_pages, without_process}
@@ -31,8 +31,11 @@ use Rattle.script_text.specs.declared.command.Command.TheVariants as command
 use Rattle.command_core.specs.declared.turns.Order.{Order}
 use Rattle.command_core.specs.declared.turns.Order.TheVariants.{ByTurns, Alone}
 use Rattle.command_core.specs.State.{AreLikeStates, InSession, State}
+use Rattle.command_core.specs.Overlays.{event_needs, is_overlay_full, ledger_by, may_need_units, overlay_event, overlay_refusal, process_left}
+use Rattle.command_core.specs.declared.overlays.OverlayChange.{OverlayChange}
+use Rattle.command_core.specs.declared.overlays.OverlayChange.TheVariants as overlays
 use Rattle.command_core.specs.Forks.{fork_needs, fork_refusal, forked_ledger, is_fork_full}
-use Rattle.command_core.specs.Changes.{Changed, ComesTo, GivesChange, change_done, comes_to, drop_done, fork_done, fork_of, forks, forks_full, forks_within, load_done, loads, loads_full, loads_within, refuses}
+use Rattle.command_core.specs.Changes.{Changed, ComesTo, GivesChange, change_done, comes_to, drop_done, fork_done, fork_of, forks, forks_full, forks_within, leaves_overlays, load_done, loads, loads_full, loads_within, overlays_done, overlays_full, overlays_of, refuses}
 use Rattle.command_core.specs.Turns.{InRun, Progress, Ran, ending, ending_by, event_then, first_event, left_by, left_of, next_of, alone, by_turns, ran, ran_text, rest_of, run_after, run_found, stopped, turns_by, ran_from}
 use Rattle.command_core.specs.Commands.{Performed, exec_done, exec_turns, list_head, list_text, performed, process_text, step_done, steps, takes_turns, told}
 use Rattle.command_core.specs.Standing.{ChangesAs, GivesAs}
@@ -238,6 +241,54 @@ like_fork_done p a b like =
     by_found None = record { answer_is = refl; after = like }
     by_found (Some process) = like_fork_of p process a b like
 
+-- speculation and promotion
+like_ledger_by : (event : Event) (a b : State) → AreLikeStates a b → AreAlike (ledger_by event a.wholes.ledger) (ledger_by event b.wholes.ledger)
+unfolding ledger_by
+like_ledger_by event a b like = alike_after event a.wholes.ledger b.wholes.ledger like.wholes.ledger
+
+module _ (p : ℕ) (change : OverlayChange) (a b : State) (like : AreLikeStates a b) where
+  like_event_needs : event_needs (overlay_event p change) a.wholes ≡ event_needs (overlay_event p change) b.wholes
+  like_event_needs = units_alike _ _ (like_ledger_by (overlay_event p change) a b like)
+
+  like_overlay_full : is_overlay_full p change a.wholes ≡ is_overlay_full p change b.wholes
+  like_overlay_full =
+      ap (λ n. may_need_units change && nat_lt (limit_of a.wholes.frames) n) like_event_needs
+      ∙ ap (λ n. may_need_units change && nat_lt (limit_of n) (event_needs (overlay_event p change) b.wholes)) like.wholes.frames
+
+  like_leaves : (process : Process) → AreLikeChanges (leaves_overlays p change process a) (leaves_overlays p change process b)
+  like_leaves process = record {
+    answer_is = refl;
+    after = record {
+      wholes = record {
+        processes = ap (λ (ps : Processes). insert ps p (process_left change process)) like.wholes.processes;
+        ledger = like_ledger_by (overlay_event p change) a b like;
+        frames = like.wholes.frames;
+      };
+      drawn = like.drawn;
+    };
+  }
+
+  like_overlays_full : AreLikeChanges (overlays_full p change a) (overlays_full p change b)
+  like_overlays_full = record {
+    answer_is = ap (λ n. Full n (limit_of a.wholes.frames)) like_event_needs ∙ ap (λ n. Full (event_needs (overlay_event p change) b.wholes) (limit_of n)) like.wholes.frames;
+    after = like;
+  }
+
+  like_overlays_of : (process : Process) → AreLikeChanges (overlays_of p change process a) (overlays_of p change process b)
+  like_overlays_of process =
+      like_refused a b like (overlay_refusal change process) _ _
+      (like_cond (is_overlay_full p change a.wholes) (is_overlay_full p change b.wholes) _ _ _ _ like_overlay_full like_overlays_full (like_leaves process))
+
+  pub like_overlays_done : AreLikeChanges (overlays_done p change a) (overlays_done p change b)
+  like_overlays_done =
+      subst (λ (o : Option Process). AreLikeChanges (overlays_done p change a) (option_map_or (λ process. overlays_of p change process b) o (refuses NoProcess b)))
+      (ap (λ (ps : Processes). get ps p) like.wholes.processes) (by_found (get a.wholes.processes p))
+    where
+      by_found : (o : Option Process) → AreLikeChanges
+          (option_map_or (λ process. overlays_of p change process a) o (refuses NoProcess a)) (option_map_or (λ process. overlays_of p change process b) o (refuses NoProcess b))
+      by_found None = record { answer_is = refl; after = like }
+      by_found (Some process) = like_overlays_of process
+
 pub like_drop_done : (p : ℕ) (a b : State) → AreLikeStates a b → AreLikeChanges (drop_done p a) (drop_done p b)
 like_drop_done p a b like =
     subst (λ (o : Option Process). AreLikeChanges (drop_done p a) (option_map_or (λ process. record { answer = Done; after = record { wholes = without_pages p (without_process p b.wholes); drawn = b.drawn } }) o (record { answer = Refused NoProcess; after = b })))
@@ -259,11 +310,11 @@ like_change_done (command.Step x y) a b like = record { answer_is = refl; after 
 like_change_done (command.Checkpoint x y) a b like = record { answer_is = refl; after = like }
 like_change_done (command.Restore x y) a b like = record { answer_is = refl; after = like }
 like_change_done (command.Forget x) a b like = record { answer_is = refl; after = like }
-like_change_done (command.Speculate x) a b like = record { answer_is = refl; after = like }
-like_change_done (command.Commit x) a b like = record { answer_is = refl; after = like }
-like_change_done (command.Discard x) a b like = record { answer_is = refl; after = like }
-like_change_done (command.Promote x y) a b like = record { answer_is = refl; after = like }
-like_change_done (command.PromoteAll x) a b like = record { answer_is = refl; after = like }
+like_change_done (command.Speculate x) a b like = like_overlays_done x overlays.Speculate a b like
+like_change_done (command.Commit x) a b like = like_overlays_done x overlays.Commit a b like
+like_change_done (command.Discard x) a b like = like_overlays_done x overlays.Discard a b like
+like_change_done (command.Promote x y) a b like = like_overlays_done x (overlays.Promote y) a b like
+like_change_done (command.PromoteAll x) a b like = like_overlays_done x overlays.PromoteAll a b like
 like_change_done command.Compact a b like = record { answer_is = refl; after = like }
 like_change_done (command.Map x y z w) a b like = record { answer_is = refl; after = like }
 like_change_done (command.Unmap x y z) a b like = record { answer_is = refl; after = like }
@@ -359,11 +410,11 @@ like_performed quantum file (command.Step x y) a b like = like_step x y a b like
 like_performed quantum file (command.Checkpoint x y) a b like = record { text = refl; after = like }
 like_performed quantum file (command.Restore x y) a b like = record { text = refl; after = like }
 like_performed quantum file (command.Forget x) a b like = record { text = refl; after = like }
-like_performed quantum file (command.Speculate x) a b like = record { text = refl; after = like }
-like_performed quantum file (command.Commit x) a b like = record { text = refl; after = like }
-like_performed quantum file (command.Discard x) a b like = record { text = refl; after = like }
-like_performed quantum file (command.Promote x y) a b like = record { text = refl; after = like }
-like_performed quantum file (command.PromoteAll x) a b like = record { text = refl; after = like }
+like_performed quantum file (command.Speculate x) a b like = like_told _ _ (like_overlays_done x overlays.Speculate a b like)
+like_performed quantum file (command.Commit x) a b like = like_told _ _ (like_overlays_done x overlays.Commit a b like)
+like_performed quantum file (command.Discard x) a b like = like_told _ _ (like_overlays_done x overlays.Discard a b like)
+like_performed quantum file (command.Promote x y) a b like = like_told _ _ (like_overlays_done x (overlays.Promote y) a b like)
+like_performed quantum file (command.PromoteAll x) a b like = like_told _ _ (like_overlays_done x overlays.PromoteAll a b like)
 like_performed quantum file command.Compact a b like = record { text = refl; after = like }
 like_performed quantum file (command.Map x y z w) a b like = record { text = refl; after = like }
 like_performed quantum file (command.Unmap x y z) a b like = record { text = refl; after = like }

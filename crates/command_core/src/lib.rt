@@ -5,10 +5,12 @@
 //!
 //! - `session`: loads, changes, and what is looked up
 //! - `forking`: a process under a second number
+//! - `overlays`: speculation and promotion
 //! - `turns`: the turns of `run` and `step`
 #![tactic(auto)]
 
 mod forking;
+mod overlays;
 mod session;
 mod turns;
 

@@ -4,7 +4,7 @@ ghost use Rattle.machine_core.specs.Machine.{KeepsPlaces, has_space, is_running,
 ghost use Rattle.machine_core.specs.Turns.{after_asked, turn_asked};
 ghost use Rattle.sizes.specs.declared.TheConstants.{LAST_SPACE, MOST_FRAMES};
 ghost use Rattle.command_core.specs.State.{KeepsRest, OwnSpaces, fresh};
-ghost use Rattle.command_core.specs.Changes.{CanBeTold, answer_of, GivesChange, change_done, comes_to, drop_done, fork_done, is_change, load_done, takes_memory};
+ghost use Rattle.command_core.specs.Changes.{CanBeTold, answer_of, GivesChange, change_done, comes_to, drop_done, fork_done, is_change, load_done, overlays_done, takes_memory};
 ghost use Rattle.command_core.specs.Commands.{RunsLoaded};
 ghost use Rattle.command_core.specs.Looks.{BeginsStep, LooksAt, NextProcess, looked_at};
 ghost use Rattle.command_core.specs.Standing.{SessionAnswersAs, ChangesAs, GivesAs, HoldsFor, SessionStandsFor, TurnsAs, begun_run, begun_step, ends_run, speaks, takes_turn};
@@ -12,6 +12,7 @@ ghost use Rattle.std.specs.FinMap.{get};
 ghost use Rattle.command_core.specs.Turns.{EndsRun, GoesOn, Speaks, TakesTurn, begun_by, by_turns, ending, lines_left, next_of, rest_of, run_found, run_turned};
 
 use crate::forking::{fork_process, fork_refusal};
+use crate::overlays::{OverlayChange, change_overlays};
 use crate::turns::{Order, Running};
 use elf_loader::{ElfError, read_image};
 use machine_core::{Machine, SpaceError};
@@ -360,6 +361,25 @@ impl Session {
         }
     }
 
+    /// Does a change to the overlays of a process: a speculation begins or ends, or pages are promoted. Answers what came of it, or why
+    /// it wasn't done. `Full` exactly where it isn't refused and the units after it would exceed the limit.
+    fn change_overlays(&mut self, p: u16, change: OverlayChange) -> Answer
+        ensures gives { GivesChange (overlays_done p change self.old.state) self.old.state
+            result self.new.state }
+        ensures stands { GivesAs (overlays_done p change) self.old result self.new }
+        ensures told { CanBeTold result }
+        ensures never { result ≡ Answer.Memory → ⊥ }
+        ensures quantum { self.new.quantum ≡ self.old.quantum }
+    {
+        match self.machine.process(p) {
+            None => Answer::Refused(Code::NoProcess),
+            Some(process) => {
+                let process = *process;
+                change_overlays(&mut self.machine, p, process, change)
+            }
+        }
+    }
+
     /// Gives up a process.
     fn drop_process(&mut self, p: u16) -> Answer
         ensures changes { comes_to result self.new.state ≡ drop_done p self.old.state }
@@ -388,6 +408,13 @@ impl Session {
     {
         match command {
             Command::Fork(p) => self.fork(*p),
+            Command::Speculate(p) => self.change_overlays(*p, OverlayChange::Speculate),
+            Command::Commit(p) => self.change_overlays(*p, OverlayChange::Commit),
+            Command::Discard(p) => self.change_overlays(*p, OverlayChange::Discard),
+            Command::Promote(p, address) => {
+                self.change_overlays(*p, OverlayChange::Promote(*address))
+            }
+            Command::PromoteAll(p) => self.change_overlays(*p, OverlayChange::PromoteAll),
             Command::Drop(p) => self.drop_process(*p),
             _ => unreachable!(),
         }

@@ -5,6 +5,8 @@ use std::alloc::{AllocError, Global};
 use std::process::Abort;
 use std::test::Fail;
 
+mod overlays;
+
 // Writes `hi` and a line end, and exits with 0: the words, and then the three bytes.
 const HI: &[u32] = &[
     0x0000_0597,

@@ -1,9 +1,8 @@
-use Rattle.std.proofs.Common.{◌≡◌, ℕ, ◌+◌, ◌*◌, ◌<◌, ◌≤◌, nat_lt, Bool, true, false, cond, List, [], ◌∷◌, length, map, sym, ap, subst, ◌∙◌, refl, arith, Option, Some, None}
+use Rattle.std.proofs.Common.{◌≡◌, ℕ, ◌+◌, ◌*◌, ◌<◌, ◌≤◌, nat_lt, Bool, true, false, cond, List, [], ◌∷◌, map, sym, ap, ◌∙◌, refl, arith, Option, Some, None}
 use Rattle.std.specs.Option.{is_some, option_map, unwrap_or}
-use Rattle.std.specs.FinMap.{FinMap, empty, get, insert, remove}
+use Rattle.std.specs.FinMap.{FinMap, get, insert, remove}
 use Rattle.std.specs.Ordering.{nat_cmp}
 use Rattle.std.proofs.lemmas.Bool.Decides.{nat_tests}
-use Rattle.std.proofs.lemmas.List.{length-map}
 use Rattle.number_maps.specs.Keys.{alike, by_key, get_other, get_same, removed_other, removed_same}
 use Rattle.sizes.specs.declared.TheConstants.{STACK_POINTER}
 use Rattle.ovl_io.specs.declared.process_state.ProcessState.TheVariants.{Running}
@@ -15,13 +14,11 @@ use Rattle.ledger.specs.AlikeLaws.{alike_turned}
 use Rattle.ledger.specs.Units.{units}
 use Rattle.rv_execute.specs.Registers.{Registers, first_registers}
 use Rattle.overlay_pages.specs.Changes.{limit_of, units_of}
-use Rattle.overlay_pages.specs.State.{SpaceState, State, bare_space, books, cut_space, holds_space, memory_of, space_in}
-use Rattle.overlay_pages.specs.View.{MemoryView, state_of}
-use Rattle.machine_core.specs.Process.{Process}
+use Rattle.overlay_pages.specs.State.{SpaceState, State, bare_space, base_of, books, cut_space, holds_space, space_in}
 use Rattle.machine_core.specs.declared.process.Process as declared
-use Rattle.machine_core.specs.Machine.{Machine, Processes, has_space, processes_of, shown_process, spaces_of, whole_in, wholes}
+use Rattle.machine_core.specs.Machine.{Machine, has_space, processes_of, shown_process, spaces_of, whole_in, wholes}
 use Rattle.machine_core.specs.Laws.{processes_at, whole_by}
-use Rattle.machine_core.specs.Load.{IsAsBefore, IsLoaded, is_load_full, load_needs, loaded_ledger, loaded_process, stored_count, stored_pages}
+use Rattle.machine_core.specs.Load.{IsLoaded, load_needs, loaded_process, stored_count, stored_pages}
 use Rattle.machine_core.specs.Loading.{IsSpaceOf}
 use Rattle.machine_core.proofs.Marks.{units_after_load}
 use Rattle.machine_core.proofs.Spaces.{absent_at, ledger_absent}
@@ -35,7 +32,9 @@ space_by x y q same = ap (λ (o : Option SpaceState). unwrap_or o bare_space) sa
 module _ (file : List ℕ) (p : ℕ) (old new : Machine) (has : IsSpaceOf file p (spaces_of old) (spaces_of new))
     (processes : new.processes ≡ insert old.processes p (shown_process (loaded_process file))) where
   whole_is : whole_in (spaces_of new) p (shown_process (loaded_process file)) ≡ loaded_process file
-  whole_is = λ i. record { registers = first_registers (entry_of file) STACK_POINTER; state = Running; memory = has.memory i; speculating = has.mark i }
+  whole_is =
+      let kept = ap (λ b. cond b (Some (base_of (spaces_of new) p)) None) has.mark in
+      λ i. record { registers = first_registers (entry_of file) STACK_POINTER; state = Running; memory = has.memory i; speculating = has.mark i; saved = None; kept = kept i }
 
   others_by : (q : ℕ) → (q ≡ p → ⊥) → (o : Option declared.Process) → option_map (whole_in (spaces_of new) q) o ≡ option_map (whole_in (spaces_of old) q) o
   others_by q other None = refl
@@ -75,8 +74,8 @@ taken_back file p old now new absent has cut =
 
 -- the process that a load makes
 pub made_process : (file : List ℕ) (regs : Registers) → regs ≡ first_registers (entry_of file) STACK_POINTER
-    → ◌≡◌ {A = declared.Process} (record { regs = regs; state = Running }) (shown_process (loaded_process file))
-made_process file regs is = ap (λ r. record { regs = r; state = Running }) is
+    → ◌≡◌ {A = declared.Process} (record { regs = regs; state = Running; saved = None }) (shown_process (loaded_process file))
+made_process file regs is = ap (λ r. record { regs = r; state = Running; saved = None }) is
 
 -- how many units a load needs
 marks_are : (file : List ℕ) (ps : List ℕ) → map (λ (page : ImagePage). page.stored) (map (listed_page file) ps) ≡ map (is_stored file) ps

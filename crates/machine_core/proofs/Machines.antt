@@ -13,10 +13,10 @@ use Rattle.overlay_pages.specs.State.{SpaceState, State, books, space_in}
 use Rattle.overlay_pages.specs.View.{MemoryView, state_of}
 use Rattle.machine_core.specs.Process.{Process, runs}
 use Rattle.machine_core.specs.declared.process.Process as declared
-use Rattle.machine_core.specs.Machine.{AreLike, KeepsPlaces, Machine, Processes, StaysBut, Wholes, is_running, keys_from, processes_of, running_numbers, shown_at, shown_process, spaces_of, whole_in, wholes, with_process_at, without_process_at}
+use Rattle.machine_core.specs.Machine.{AreLike, KeepsPlaces, Machine, Processes, StaysBut, Wholes, is_running, keys_from, processes_of, running_numbers, shown_at, shown_process, whole_in, wholes, with_process_at, without_process_at}
 use Rattle.machine_core.specs.Turns.{Guest, guest_at, guest_of, with_guest}
 use Rattle.machine_core.specs.Laws.{processes_at, whole_by}
-use Rattle.machine_core.specs.Slots.{IsBeside, IsChanged, IsEdited, IsNextProcess, IsRunningList, Slots, guest_in, is_in, seen, slot_at, slot_guest, slot_process, slot_runs}
+use Rattle.machine_core.specs.Slots.{IsChanged, IsEdited, IsNextProcess, IsRunningList, Slots, guest_in, is_in, seen, slot_at, slot_guest, slot_process, slot_runs}
 use Rattle.machine_core.specs.NumberLaws.{Rises, entries_rise, in_passing, none_below, numbers_are, numbers_rise, rises_passing}
 use Rattle.machine_core.specs.NumberLaws as numbers
 use Rattle.machine_core.proofs.Rising.{rises, found_in, same_rising}
@@ -137,8 +137,27 @@ module _ (self : Machine) (memory : MemoryView) (old : Slots) (view : kept memor
     some_mapped g None = refl
     some_mapped g (Some z) = refl
 
-    pub places : KeepsPlaces self (kept after new)
-    places = subst (λ (m : Machine). KeepsPlaces m (kept after new)) view (record {
+    -- whether registers and state are kept, by what is kept of the process in its place
+    saves_seen : (o : Option declared.Process) (s : State) → option_map_or (λ (process : declared.Process). is_some process.saved) o false
+        ≡ option_map_or (λ (guest : Guest). is_some guest.process.saved) (option_map (guest_in p s) o) false
+    saves_seen None s = refl
+    saves_seen (Some process) s = refl
+
+    saves_mapped : ((guest : Guest) → (f guest).process.saved ≡ guest.process.saved) → (o : Option Guest)
+        → option_map_or (λ (guest : Guest). is_some guest.process.saved) (option_map f o) false ≡ option_map_or (λ (guest : Guest). is_some guest.process.saved) o false
+    saves_mapped same None = refl
+    saves_mapped same (Some guest) = ap is_some (same guest)
+
+    saved_here : ((guest : Guest) → (f guest).process.saved ≡ guest.process.saved)
+        → option_map_or (λ (process : declared.Process). is_some process.saved) (slot_process (slot_at new p)) false
+        ≡ option_map_or (λ (process : declared.Process). is_some process.saved) (slot_process (slot_at old p)) false
+    saved_here same =
+        saves_seen (slot_process (slot_at new p)) y
+        ∙ ap (λ (o : Option Guest). option_map_or (λ (guest : Guest). is_some guest.process.saved) o false) changed.here
+        ∙ saves_mapped same (slot_guest p x (slot_at old p)) ∙ sym (saves_seen (slot_process (slot_at old p)) x)
+
+    pub places : ((guest : Guest) → (f guest).process.saved ≡ guest.process.saved) → KeepsPlaces self (kept after new)
+    places same_saved = subst (λ (m : Machine). KeepsPlaces m (kept after new)) view (record {
       spaces = changed.beside.there;
       awaiting = λ q. by_key q p
           (λ same. ap (λ n. (space_in y n).awaiting) same ∙ changed.beside.awaiting ∙ sym (ap (λ n. (space_in x n).awaiting) same))
@@ -148,6 +167,14 @@ module _ (self : Machine) (memory : MemoryView) (old : Slots) (view : kept memor
           ∙ sym (some_mapped f (slot_guest p x (slot_at old p))) ∙ sym (some_mapped (guest_in p x) (slot_process (slot_at old p))) ∙ sym (ap (λ n. is_some (slot_process (slot_at old n))) same))
           (λ other. ap (λ s. is_some (slot_process s)) (changed.others q other))
           ∙ sym (ap is_some (process_at old q));
+      marks = λ q. by_key q p
+          (λ same. ap (λ n. (space_in y n).speculating) same ∙ changed.beside.mark ∙ sym (ap (λ n. (space_in x n).speculating) same))
+          (λ other. ap (λ (s : SpaceState). s.speculating) (changed.beside.spaces q other));
+      saves = λ q. ap (λ (o : Option declared.Process). option_map_or (λ (process : declared.Process). is_some process.saved) o false) (process_at new q) ∙ by_key q p
+          (λ same. ap (λ n. option_map_or (λ (process : declared.Process). is_some process.saved) (slot_process (slot_at new n)) false) same ∙ saved_here same_saved
+          ∙ sym (ap (λ n. option_map_or (λ (process : declared.Process). is_some process.saved) (slot_process (slot_at old n)) false) same))
+          (λ other. ap (λ s. option_map_or (λ (process : declared.Process). is_some process.saved) (slot_process s) false) (changed.others q other))
+          ∙ sym (ap (λ (o : Option declared.Process). option_map_or (λ (process : declared.Process). is_some process.saved) o false) (process_at old q));
     })
 
 -- edits

@@ -1,12 +1,12 @@
 use Rattle.std.proofs.Common.{◌≡◌, ℕ, ◌+◌, ◌<◌, ◌==◌, ◌&&◌, not, zero, suc, Bool, true, false, cond, List, [], ◌∷◌, length, drop, get_or, sym, ap, subst, ◌∙◌, refl, arith, Option, Some, None}
-use Rattle.std.specs.Option.{is_some, option_map, option_map_or}
-use Rattle.std.specs.FinMap.{get, insert}
+use Rattle.std.specs.Option.{option_map, option_map_or}
+use Rattle.std.specs.FinMap.{get}
 use Rattle.std.proofs.Math.Seq.{drop-cons}
 use Rattle.ovl_io.specs.Keys.{by_key, get_same, get_other}
 use Rattle.machine_core.specs.declared.process.Process as declared
 use Rattle.machine_core.specs.Process.{Process, runs}
-use Rattle.machine_core.specs.Machine.{HaveSpaces, KeepsPlaces, Machine, StaysBut, Wholes, has_space, is_running, processes_of, spaces_of, whole_in, wholes}
-use Rattle.machine_core.specs.Turns.{Guest, after_turn, guest_after, guest_at, guest_of, is_full, ledger_executed, process_after, with_guest}
+use Rattle.machine_core.specs.Machine.{HaveSpaces, KeepsPlaces, Machine, StaysBut, Wholes, has_space, is_running, wholes}
+use Rattle.machine_core.specs.Turns.{Guest, after_turn, guest_after, guest_of, is_full, ledger_executed, process_after, with_guest}
 use Rattle.machine_core.specs.Laws.{runs_shown}
 use Rattle.machine_core.specs.Play.{AreOwnTurns, after_number, is_full_at, own_turns, run_over, turns_of}
 use Rattle.machine_core.specs.NumberLaws.{other_is, same_is}
@@ -124,7 +124,7 @@ both_stay p a b c h k = record {
 }
 
 pub both_places : (a b c : Machine) → KeepsPlaces a b → KeepsPlaces b c → KeepsPlaces a c
-both_places a b c h k = record { spaces = λ q. k.spaces q ∙ h.spaces q; awaiting = λ q. k.awaiting q ∙ h.awaiting q; processes = λ q. k.processes q ∙ h.processes q }
+both_places a b c h k = record { spaces = λ q. k.spaces q ∙ h.spaces q; awaiting = λ q. k.awaiting q ∙ h.awaiting q; processes = λ q. k.processes q ∙ h.processes q; marks = λ q. k.marks q ∙ h.marks q; saves = λ q. k.saves q ∙ h.saves q }
 
 -- where one still runs, its space is still there
 pub spaces_kept : (p : ℕ) (old new : Machine) → HaveSpaces old → is_running (wholes old) p ≡ true → StaysBut p old new → KeepsPlaces old new → HaveSpaces new

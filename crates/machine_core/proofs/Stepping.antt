@@ -1,9 +1,8 @@
 use Rattle.std.proofs.Common.{◌≡◌, ℕ, zero, suc, ◌+◌, ◌-◌, ◌<◌, Bool, true, false, cond, length, sym, ap, ◌∙◌, refl, arith, Option, Some, None}
 use Rattle.std.specs.Option.{option_map, option_map_or}
-use Rattle.std.specs.Global.{Box, Vec}
+use Rattle.std.specs.Global.{Vec}
 use Rattle.std.specs.Vec.{vec_capacity}
 use Rattle.std.specs.List.Sorted.{IsStrictlyIncreasing}
-use Rattle.std.specs.FinMap.{get}
 use Rattle.ovl_io.specs.Keys.{by_key}
 use Rattle.ovl_io.specs.declared.process_state.ProcessState.{ProcessState}
 use Rattle.ovl_io.specs.declared.process_state.ProcessState.TheVariants as state
@@ -15,7 +14,7 @@ use Rattle.machine_core.specs.declared.process.Process as declared
 use Rattle.machine_core.specs.Process.{runs}
 use Rattle.machine_core.specs.Machine.{Wholes, limit_of}
 use Rattle.machine_core.specs.Turns.{Guest, after_execution, execution_of, executed, guest_at, guest_executed, is_full, outcome_found, outcome_of, state_executed, units_needed, with_guest}
-use Rattle.machine_core.specs.Executions.{Executions, after_executions, all_executed, came_to_last, executions, first_execution, last_outcome, no_execution}
+use Rattle.machine_core.specs.Executions.{Executions, after_executions, all_executed, executions, first_execution, last_outcome, no_execution}
 use Rattle.machine_core.specs.Slots.{Slots, guest_in, slot_at, slot_guest, slot_process, slot_runs, is_in, HasLeft, IsChanged, IsRunningList}
 use Rattle.machine_core.specs.NumberLaws.{other_is, same_is}
 
@@ -199,6 +198,27 @@ module _ (p : ℕ) where
   slot_after old new before after most o run changed came =
       guest_runs (slot_process (slot_at new p)) after
       ∙ slot_by (slot_guest p before (slot_at old p)) (slot_guest p after (slot_at new p)) most o (sym (guest_runs (slot_process (slot_at old p)) before) ∙ run) came changed.here
+
+-- What is kept of a process stays.
+saved_one : (p : ℕ) (guest : Guest) → (executed p guest).process.saved ≡ guest.process.saved
+saved_one p guest = by_test (is_full p guest)
+  where
+    by_test : (b : Bool) → (cond b guest (guest_executed p guest)).process.saved ≡ guest.process.saved
+    by_test true = refl
+    by_test false = refl
+
+saved_first : (o : Outcome) (now next : Guest) (others : Executions) → next.process.saved ≡ now.process.saved → others.after.process.saved ≡ now.process.saved
+    → (first_execution o now next others).after.process.saved ≡ now.process.saved
+saved_first outcome.Stepped now next others one rest = rest
+saved_first outcome.Asked now next others one rest = one
+saved_first (outcome.Fault kind address) now next others one rest = one
+saved_first (outcome.Full units limit) now next others one rest = one
+
+pub saved_all : (p most : ℕ) (guest : Guest) → (all_executed p most guest).process.saved ≡ guest.process.saved
+saved_all p zero guest = refl
+saved_all p (suc most) guest =
+    saved_first (outcome_of p guest) guest (executed p guest) (executions p most (executed p guest)) (saved_one p guest)
+    (saved_all p most (executed p guest) ∙ saved_one p guest)
 
 -- The list of running numbers, where one still runs and where one has ended.
 pub list_kept : (old new : Slots) (running : Vec ℕ) (p : ℕ) → IsRunningList old running → slot_runs (slot_at old p) ≡ true

@@ -13,7 +13,7 @@ use Rattle.ledger.specs.Events as event
 use Rattle.ledger.specs.RowLaws.{alike_after}
 use Rattle.ledger.specs.Touched.{touched}
 use Rattle.ledger.specs.Units.{units}
-use Rattle.overlay_pages.specs.State.{SpaceState, State, books, cut_space, memory_of, seen_page, space_in}
+use Rattle.overlay_pages.specs.State.{SpaceState, State, base_of, base_page, books, cut_space, memory_of, seen_page, space_in}
 use Rattle.overlay_pages.specs.StateLaws.{ledger_without, space_left}
 use Rattle.machine_core.specs.declared.process.Process as declared
 use Rattle.ovl_io.specs.declared.process_state.ProcessState.TheVariants as state
@@ -25,9 +25,9 @@ use Rattle.rv_execute.specs.Calls.{access_of}
 use Rattle.rv_execute.specs.Execution.{Execution, Upshot, Steps, Asks, Faults, outcome_by}
 use Rattle.rv_execute.specs.Step.{Request, request, turned}
 use Rattle.machine_core.specs.Process.{Process, runs}
-use Rattle.machine_core.specs.Machine.{AnswersAs, AreLike, IsDropped, LeadsTo, Machine, Processes, Wholes, is_running, limit_of, processes_of, spaces_of, whole_in, wholes, with_process_at, without_pages, without_process, without_process_at}
+use Rattle.machine_core.specs.Machine.{AnswersAs, AreLike, IsDropped, LeadsTo, Machine, Processes, Wholes, is_running, kept_in, limit_of, processes_of, spaces_of, whole_in, wholes, with_process_at, without_pages, without_process, without_process_at}
 use Rattle.machine_core.specs.Turns.{Guest, asked_found, after_asked, after_execution, after_request, after_step, after_turn, came_to, exceeds, executed, execution_of, guest_after, guest_answered, guest_at, guest_executed, guest_of, is_full, ledger_executed, ledger_stored, outcome_found, outcome_of, process_after, process_executed, request_of, state_executed, step_of, store_of, turn_asked, turn_in, turn_of, units_needed, with_guest}
-use Rattle.machine_core.specs.Executions.{Executions, after_executions, all_executed, came_to_last, executions, first_execution, last_outcome, steps_of, steps_to}
+use Rattle.machine_core.specs.Executions.{Executions, after_executions, all_executed, came_to_last, executions, first_execution, steps_to}
 use Rattle.machine_core.specs.Play.{after_number, run_over}
 
 -- What the copying machine has of a machine, what states that differ in the numbers of origins alone have in common, and a turn by
@@ -42,11 +42,16 @@ memory_by : (x y : State) (q : ℕ) → space_in x q ≡ space_in y q → memory
 unfolding memory_of
 memory_by x y q same = ap (λ (s : SpaceState). viewed (λ _ x. seen_page x) s.pages) same
 
+kept_by : (x y : State) (q : ℕ) → space_in x q ≡ space_in y q → kept_in x q ≡ kept_in y q
+unfolding base_of
+kept_by x y q same = ap (λ (s : SpaceState). cond s.speculating (Some (viewed (λ _ x. base_page x) s.pages)) None) same
+
 pub whole_by : (x y : State) (q : ℕ) → space_in x q ≡ space_in y q → (process : declared.Process) → whole_in x q process ≡ whole_in y q process
 whole_by x y q same process =
     let memory = memory_by x y q same in
     let mark = ap (λ (s : SpaceState). s.speculating) same in
-    λ i. record { registers = process.regs; state = process.state; memory = memory i; speculating = mark i }
+    let kept = kept_by x y q same in
+    λ i. record { registers = process.regs; state = process.state; memory = memory i; speculating = mark i; saved = process.saved; kept = kept i }
 
 -- a process put, and taken away
 pub processes_with : (machine : Machine) (p : ℕ) (process : declared.Process)
@@ -182,7 +187,7 @@ like_after p a b like =
 
 pub like_answered : (p : ℕ) (a b : Guest) → AreLikeGuests a b → AreLikeGuests (guest_answered p a) (guest_answered p b)
 like_answered p a b like =
-    record { process = ap (λ (process : Process). after_request process.memory process.speculating (request_of p process)) like.process; ledger = like.ledger; frames = like.frames }
+    record { process = ap (λ (process : Process). after_request process.memory process (request_of p process)) like.process; ledger = like.ledger; frames = like.frames }
 
 -- executions one after the other
 pub record AreLikeExecutions (a b : Executions) : Type 0 where
@@ -338,24 +343,24 @@ module _ (all : Wholes) (p : ℕ) (process : Process) (there : get all.processes
     left_by left = with_guest all p (record { process = left; ledger = ledger_executed p guest; frames = all.frames })
 
     after_by : (u : Upshot) → e.upshot ≡ u
-        → after_turn all p ≡ left_by (after_step process.speculating (turned p u e.registers e.memory (map access_of e.calls)))
+        → after_turn all p ≡ left_by (after_step process (turned p u e.registers e.memory (map access_of e.calls)))
     unfolding left_by
     after_by u is =
         after_there
         ∙ ap (λ b. with_guest all p (cond b guest (record { process = process_after p process; ledger = ledger_executed p guest; frames = all.frames }))) enough
-        ∙ ap (λ v. left_by (after_step process.speculating (turned p v e.registers e.memory (map access_of e.calls)))) is
+        ∙ ap (λ v. left_by (after_step process (turned p v e.registers e.memory (map access_of e.calls)))) is
 
     executed_by : (u : Upshot) → e.upshot ≡ u
-        → after_execution all p ≡ left_by (record { registers = e.registers; state = state_executed u; memory = e.memory; speculating = process.speculating })
+        → after_execution all p ≡ left_by (record { registers = e.registers; state = state_executed u; memory = e.memory; speculating = process.speculating; saved = process.saved; kept = process.kept })
     unfolding left_by
     executed_by u is =
         executed_there ∙ ap (λ b. with_guest all p (cond b guest (guest_executed p guest))) enough
-        ∙ ap (λ v. left_by (record { registers = e.registers; state = state_executed v; memory = e.memory; speculating = process.speculating })) is
+        ∙ ap (λ v. left_by (record { registers = e.registers; state = state_executed v; memory = e.memory; speculating = process.speculating; saved = process.saved; kept = process.kept })) is
 
     asked_there : (u : Upshot) → e.upshot ≡ u → u ≡ Asks → IsRequest all p
     unfolding left_by
     asked_there u is same =
-        let left : Process = record { registers = e.registers; state = state.Running; memory = e.memory; speculating = process.speculating } in
+        let left : Process = record { registers = e.registers; state = state.Running; memory = e.memory; speculating = process.speculating; saved = process.saved; kept = process.kept } in
         let now : after_execution all p ≡ left_by left = executed_by Asks (is ∙ same) in
         let found : get (left_by left).processes p ≡ Some left = get_same all.processes p p left refl in
         let asks : Request = request p e.registers e.memory in
@@ -366,7 +371,7 @@ module _ (all : Wholes) (p : ℕ) (process : Process) (there : get all.processes
               ∙ sym (ap (λ (s : Wholes). after_asked s p) now
               ∙ ap (λ (o : Option Process). option_map_or (λ g. with_guest (left_by left) p (guest_answered p g)) (option_map (guest_of (left_by left)) o) (left_by left)) found
               ∙ ap (λ (ps : Processes). record { processes = ps; ledger = ledger_executed p guest; frames = all.frames })
-              (insert_over all.processes p left (after_request e.memory process.speculating asks)));
+              (insert_over all.processes p left (after_request e.memory process asks)));
           running = ap (λ (s : Wholes). is_running s p) now ∙ ap (λ (o : Option Process). option_map_or (λ (q : Process). runs q.state) o false) found;
         }
 

@@ -1,4 +1,4 @@
-use Rattle.std.specs.Prelude.{◌≡◌, ℕ, ◌+◌, nat_lt, Bool, true, false, List, [], ◌∷◌, ◌++◌, length, map, replicate, if◌then◌else◌, Result, Ok, Err}
+use Rattle.std.specs.Prelude.{◌≡◌, ℕ, ◌+◌, nat_lt, Bool, true, false, List, [], ◌∷◌, ◌++◌, length, map, replicate, if◌then◌else◌, Result, Ok, Err, None}
 use Rattle.std.specs.List.{range_with_len}
 use Rattle.std.specs.FinMap.{empty, from_entries, insert}
 use Rattle.sizes.specs.declared.TheConstants.{STACK_PAGE, STACK_PAGES, STACK_POINTER}
@@ -48,7 +48,7 @@ stored_pages file = stored_count (map (is_stored file) (image_pages file))
 -- the process, at its entry
 abbrev pub loaded_process : List ℕ → Process
 loaded_process file =
-    record { registers = first_registers (entry_of file) STACK_POINTER; state = Running; memory = image_memory file; speculating = false }
+    record { registers = first_registers (entry_of file) STACK_POINTER; state = Running; memory = image_memory file; speculating = false; saved = None; kept = None }
 
 -- the ledger with its pages, and how many units that needs
 unfoldable pub loaded_ledger : ℕ → List ℕ → Ledger → Ledger

@@ -1,4 +1,4 @@
-use Rattle.std.specs.Prelude.{◌≡◌, ℕ, ◌*◌, nat_le, Bool, true, false, List, map, Option, Some}
+use Rattle.std.specs.Prelude.{◌≡◌, ℕ, ◌*◌, nat_le, Bool, true, false, List, map, if◌then◌else◌, Option, Some, None}
 use Rattle.std.specs.List.{filter}
 use Rattle.std.specs.Option.{is_some, option_map, option_map_or}
 use Rattle.std.specs.Ordering.{nat_cmp}
@@ -7,7 +7,7 @@ use Rattle.number_maps.specs.Views.{viewed}
 use Rattle.sizes.specs.declared.TheConstants.{FRAME_UNITS}
 use Rattle.ledger.specs.Ledger.{Ledger}
 use Rattle.ledger.specs.Alike.{AreAlike}
-use Rattle.overlay_pages.specs.State.{State, books, cut_space, holds_space, memory_of, space_in}
+use Rattle.overlay_pages.specs.State.{State, base_of, books, cut_space, holds_space, memory_of, space_in}
 use Rattle.overlay_pages.specs.View.{MemoryView, state_of}
 use Rattle.ovl_io.specs.Memory.{Memory}
 use Rattle.machine_core.specs.Process.{Process, runs}
@@ -43,16 +43,20 @@ has_space machine p = holds_space (spaces_of machine) p
 
 -- what is shown of a process: without its memory
 abbrev pub shown_process : Process → declared.Process
-shown_process process = record { regs = process.registers; state = process.state }
+shown_process process = record { regs = process.registers; state = process.state; saved = process.saved }
 
 -- a process with its memory
-abbrev pub whole : declared.Process → Memory → Bool → Process
-whole process memory speculating =
-    record { registers = process.regs; state = process.state; memory = memory; speculating = speculating }
+abbrev pub whole : declared.Process → Memory → Bool → Option Memory → Process
+whole process memory speculating kept =
+    record { registers = process.regs; state = process.state; memory = memory; speculating = speculating; saved = process.saved; kept = kept }
+
+-- the memory that is kept of a space: its base, where it is marked as speculating
+abbrev pub kept_in : State → ℕ → Option Memory
+kept_in spaces p = if (space_in spaces p).speculating then Some (base_of spaces p) else None
 
 -- a process with the space of its number; with no page, where that isn't there
 abbrev pub whole_in : State → ℕ → declared.Process → Process
-whole_in spaces p process = whole process (memory_of spaces p) (space_in spaces p).speculating
+whole_in spaces p process = whole process (memory_of spaces p) (space_in spaces p).speculating (kept_in spaces p)
 
 -- the whole processes, and all of the copying machine that a machine shows
 unfoldable pub processes_of : Machine → Processes
@@ -87,11 +91,20 @@ pub record StaysBut (p : ℕ) (old new : Machine) : Type 0 where
   pub there : (q : ℕ) → (q ≡ p → ⊥) → has_space new q ≡ has_space old q
   pub processes : (q : ℕ) → (q ≡ p → ⊥) → get new.processes q ≡ get old.processes q
 
--- the same spaces and the same processes are there, and the same pages await being shared
+-- whether the space of a number is marked as speculating, and whether registers and state are kept of its process
+abbrev pub is_marked : Machine → ℕ → Bool
+is_marked machine p = (space_in (spaces_of machine) p).speculating
+
+abbrev pub has_saved : Machine → ℕ → Bool
+has_saved machine p = option_map_or (λ (process : declared.Process). is_some process.saved) (get machine.processes p) false
+
+-- the same spaces and the same processes are there, the same pages await being shared, and the same ones are speculating
 pub record KeepsPlaces (old new : Machine) : Type 0 where
   pub spaces : (q : ℕ) → has_space new q ≡ has_space old q
   pub awaiting : (q : ℕ) → (space_in (spaces_of new) q).awaiting ≡ (space_in (spaces_of old) q).awaiting
   pub processes : (q : ℕ) → is_some (get new.processes q) ≡ is_some (get old.processes q)
+  pub marks : (q : ℕ) → is_marked new q ≡ is_marked old q
+  pub saves : (q : ℕ) → has_saved new q ≡ has_saved old q
 
 -- a process in its place, over the space that it has
 abbrev pub with_process_at : Machine → ℕ → declared.Process → Machine

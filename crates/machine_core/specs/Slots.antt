@@ -52,6 +52,7 @@ pub record IsBeside (p : ℕ) (old new : State) : Type 0 where
   pub spaces : (q : ℕ) → (q ≡ p → ⊥) → space_in new q ≡ space_in old q
   pub there : (q : ℕ) → holds_space new q ≡ holds_space old q
   pub awaiting : (space_in new p).awaiting ≡ (space_in old p).awaiting
+  pub mark : (space_in new p).speculating ≡ (space_in old p).speculating
 
 -- the process of a slot is changed with its space, and each other slot is as it was
 pub record IsChanged (f : Guest → Guest) (p : ℕ) (old new : Slots) (before after : State) : Type 0 where

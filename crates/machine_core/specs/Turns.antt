@@ -19,6 +19,7 @@ use Rattle.rv_execute.specs.Step.{Request, Step, request, step}
 use Rattle.machine_core.specs.Process.{Process}
 use Rattle.machine_core.specs.Machine.{Wholes, limit_of}
 use Rattle.machine_core.specs.declared.process.Process as declared
+use Rattle.machine_core.specs.declared.process.SavedRegs.{SavedRegs}
 
 -- What an instruction of a process does in the copying machine.
 
@@ -53,7 +54,7 @@ state_executed (Faults kind address) = state.Faulted kind address
 abbrev pub process_executed : Process → Process
 process_executed process =
     let e = execution_of process in
-    record { registers = e.registers; state = state_executed e.upshot; memory = e.memory; speculating = process.speculating }
+    record { registers = e.registers; state = state_executed e.upshot; memory = e.memory; speculating = process.speculating; saved = process.saved; kept = process.kept }
 
 -- The store that some calls make of a memory, where each of its bytes may be written: its address, and how many bytes it has.
 abbrev pub store_made : Memory → List Call → Option (ℕ × ℕ)
@@ -122,14 +123,20 @@ state_after (Full units limit) = state.Running
 abbrev pub step_of : ℕ → Process → Step
 step_of p process = step p process.registers process.memory
 
--- the process after a step
-abbrev pub after_step : Bool → Step → Process
-after_step speculating s =
-    record { registers = s.registers; state = state_after s.turn; memory = s.memory; speculating = speculating }
+-- the process after a step, which leaves what is kept of it
+abbrev pub after_step : Process → Step → Process
+after_step process s = record {
+  registers = s.registers;
+  state = state_after s.turn;
+  memory = s.memory;
+  speculating = process.speculating;
+  saved = process.saved;
+  kept = process.kept;
+}
 
 -- the process afterwards
 abbrev pub process_after : ℕ → Process → Process
-process_after p process = after_step process.speculating (step_of p process)
+process_after p process = after_step process (step_of p process)
 
 -- An event is one instruction of one process: what came of it, and the copying machine afterwards.
 abbrev pub turn_in : ℕ → Guest → Turn
@@ -149,20 +156,26 @@ abbrev pub after_turn : Wholes → ℕ → Wholes
 after_turn state p = option_map_or (λ guest. with_guest state p (guest_after p guest)) (guest_at state p) state
 
 -- a process that has this memory, after what it asked for
-abbrev pub after_request : Memory → Bool → Request → Process
-after_request memory speculating asked =
-    record { registers = asked.registers; state = state_after asked.turn; memory = memory; speculating = speculating }
+abbrev pub after_request : Memory → Process → Request → Process
+after_request memory process asked = record {
+  registers = asked.registers;
+  state = state_after asked.turn;
+  memory = memory;
+  speculating = process.speculating;
+  saved = process.saved;
+  kept = process.kept;
+}
 
 -- the same, without the memory
-abbrev pub answered_by : Request → declared.Process
-answered_by asked = record { regs = asked.registers; state = state_after asked.turn }
+abbrev pub answered_by : Option SavedRegs → Request → declared.Process
+answered_by saved asked = record { regs = asked.registers; state = state_after asked.turn; saved = saved }
 
 abbrev pub request_of : ℕ → Process → Request
 request_of p process = request p process.registers process.memory
 
 -- the process after what it asked for
 abbrev pub answered_process : ℕ → Process → Process
-answered_process p process = after_request process.memory process.speculating (request_of p process)
+answered_process p process = after_request process.memory process (request_of p process)
 
 -- what comes of a process's request
 abbrev pub asked_found : ℕ → Option Guest → Turn

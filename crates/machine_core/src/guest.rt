@@ -52,7 +52,7 @@ fn written(port: u8, bytes: &[u8]) -> Written
 fn answer(process: &mut Process, value: u64) -> Turn
     ensures turn { result ≡ Turn.Stepped }
     ensures after { process.new
-        ≡ record { regs = with_register process.old.regs 10 value; state = process.old.state } }
+        ≡ record { regs = with_register process.old.regs 10 value; state = process.old.state; saved = process.old.saved } }
 {
     process.regs.set(10, value);
     Turn::Stepped
@@ -64,7 +64,7 @@ fn write(process: &mut Process, memory: &mut OverlayMemory, p: u16) -> Turn
     requires there { holds_space (state_of memory.old) p ≡ true }
     ensures turn { result ≡ (write process.old.regs (memory_of (state_of memory.old) p)).turn }
     ensures after { process.new
-        ≡ answered_by (write process.old.regs (memory_of (state_of memory.old) p)) }
+        ≡ answered_by process.old.saved (write process.old.regs (memory_of (state_of memory.old) p)) }
     ensures same { state_of memory.new ≡ state_of memory.old }
 {
     let descriptor = process.regs.get(10);
@@ -89,7 +89,7 @@ fn write(process: &mut Process, memory: &mut OverlayMemory, p: u16) -> Turn
 /// Exits with the low 8 bits of a0.
 fn exit(process: &mut Process) -> Turn
     ensures turn { result ≡ (exit process.old.regs).turn }
-    ensures after { process.new ≡ answered_by (exit process.old.regs) }
+    ensures after { process.new ≡ answered_by process.old.saved (exit process.old.regs) }
 {
     let code = (process.regs.get(10) % 256) as u8;
     process.state = ProcessState::Exited(code);
@@ -102,7 +102,7 @@ pub(crate) fn answer_request(process: &mut Process, memory: &mut OverlayMemory, 
     requires there { holds_space (state_of memory.old) p ≡ true }
     ensures turn { result ≡ (request p process.old.regs (memory_of (state_of memory.old) p)).turn }
     ensures after { process.new
-        ≡ answered_by (request p process.old.regs (memory_of (state_of memory.old) p)) }
+        ≡ answered_by process.old.saved (request p process.old.regs (memory_of (state_of memory.old) p)) }
     ensures same { state_of memory.new ≡ state_of memory.old }
 {
     match process.regs.get(17) {

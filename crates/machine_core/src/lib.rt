@@ -25,7 +25,7 @@ mod view;
 
 pub use machine::Machine;
 pub use overlay_memory::SpaceError;
-pub use process::Process;
+pub use process::{Process, SavedRegs};
 
 #[cfg(test)]
 mod tests;

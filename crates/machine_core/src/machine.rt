@@ -108,6 +108,7 @@ impl Machine {
         let process = Process {
             regs: Regs::new(image.entry(), STACK_POINTER),
             state: ProcessState::Running,
+            saved: None,
         };
         load_space(&mut self.memory, p, image, file)?;
         match adopt(self.alloc, &mut self.slots, &mut self.running, p, process) {
@@ -129,7 +130,7 @@ impl Machine {
         adopt(self.alloc, &mut self.slots, &mut self.running, p, process)
     }
 
-    /// The registers and the state of a process; none exactly where there is no process of that number.
+    /// What is kept of a process beside its memory; none exactly where there is no process of that number.
     pub fn process(&self, p: u16) -> Option<&Process>
         ensures kept { option_copied result ≡ map.get self.now.processes p }
         ensures shown { option_copied result ≡ shown_at (wholes self.now) p }

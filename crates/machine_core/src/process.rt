@@ -4,11 +4,19 @@ ghost use Rattle.machine_core.specs.Process.{runs};
 use ovl_io::ProcessState;
 use rv_execute::Regs;
 
-/// A process without its memory: its registers, and whether it runs.
+/// What is kept of a process while it is speculating: its registers and its state at the start.
+#[derive(Clone, Copy, Debug)]
+pub struct SavedRegs {
+    pub regs: Regs,
+    pub state: ProcessState,
+}
+
+/// A process without its memory: its registers, whether it runs, and what is kept while it is speculating.
 #[derive(Clone, Copy, Debug)]
 pub struct Process {
     pub regs: Regs,
     pub state: ProcessState,
+    pub saved: Option<SavedRegs>,
 }
 
 /// Whether a process runs.

@@ -1,4 +1,4 @@
-use Rattle.std.proofs.Common.{◌≡◌, ℕ, ◌≤◌, ◌&&◌, nat_le, nat_eq, refl, Bool, true, false, cond, List, [], ◌∷◌, length, subst, arith, Option, Some, None}
+use Rattle.std.proofs.Common.{◌≡◌, ℕ, ◌≤◌, ◌-◌, ◌^◌, ◌&&◌, nat_le, nat_eq, refl, Bool, true, false, cond, List, [], ◌∷◌, length, subst, arith, Option, Some, None}
 use Rattle.std.specs.Option.{IfSome, option_or, option_map}
 use Rattle.std.specs.List.{list_all}
 use Rattle.std.proofs.lemmas.Bool.{and_parts}
@@ -8,15 +8,16 @@ use Rattle.ovl_io.specs.Outside.{HasName}
 use Rattle.script_text.specs.declared.TheConstants.{MOST_TURNS}
 use Rattle.sizes.specs.declared.TheConstants.{LAST_SPACE, MOST_FILE_NAME}
 use Rattle.script_text.specs.declared.command.Command.{Command}
-use Rattle.script_text.specs.declared.command.Command.TheVariants.{Exec, Load, Fork, Run, Step, Drop}
+use Rattle.script_text.specs.declared.command.Command.TheVariants.{Exec, Load, Fork, Run, Step, Speculate, Commit, Discard, Promote, Drop}
 use Rattle.script_text.specs.declared.command.Meaning.TheVariants.{Does, Nothing}
 use Rattle.script_text.specs.Words.{words_of}
 use Rattle.script_text.specs.Lines.{without_return}
 use Rattle.script_text.specs.Numbers.{within, number_in}
-use Rattle.script_text.specs.Kinds.{Kind, is_file_name, file_word, turns_word, process_word}
-use Rattle.script_text.specs.Forms.{Form, forms, no_words, one_word, two_words, both, made_by, command_of}
+use Rattle.script_text.specs.Kinds.{Kind, is_file_name, file_word, turns_word, process_word, address_word, is_all, all_word}
+use Rattle.script_text.specs.Forms.{Form, forms, no_words, one_word, two_words, both, promote_all, made_by, command_of}
 use Rattle.script_text.specs.Script.{is_comment, as_command, meaning_of_words, meaning_of}
-use Rattle.script_text.specs.Given.{IsGiven, IsTurns, IsProcess}
+use Rattle.script_text.specs.FormLaws.{◌beside◌}
+use Rattle.script_text.specs.Given.{IsGiven, IsTurns, IsProcess, IsAddress}
 
 -- Each command of a script has its values in the ranges of their kinds.
 
@@ -46,6 +47,20 @@ turns_given word = in_range 1 MOST_TURNS (number_in word)
 
 process_given : (word : List ℕ) → IfSome (process_word word) IsProcess
 process_given word = in_range 1 LAST_SPACE (number_in word)
+
+below : (o : Option ℕ) → IfSome o (λ n. (0 ≤ n) × (n ≤ 2 ^ 64 - 1)) → IfSome o IsAddress
+below None h = tt
+below (Some n) h = omega (arith, h.1)
+
+address_given : (word : List ℕ) → IfSome (address_word word) IsAddress
+address_given word = below (address_word word) (in_range 0 (2 ^ 64 - 1) (number_in word))
+
+-- the word `all` says nothing more
+abbrev IsNamed : Unit {0} → Type 0
+IsNamed all = Unit {0}
+
+all_given : (word : List ℕ) → IfSome (all_word word) IsNamed
+all_given word = where_true IsNamed (is_all word) tt (λ h. tt)
 
 -- what a row gives
 
@@ -92,25 +107,20 @@ made_given (f ∷ fs) first words h =
     either_given (pointwise nat_eq first f.first) (f.makes words) (made_by fs first words) (h.0 words) (made_given fs first words h.1)
 
 all_give : AllGive forms
-all_give = (
-  two_given HasName IsTurns file_word turns_word Exec file_given turns_given (λ a b h k. (h, k)),
-  (
-    one_given HasName file_word Load file_given (λ a h. h),
-    (
-      one_given IsProcess process_word Fork process_given (λ a h. h),
-      (
-        one_given IsTurns turns_word Run turns_given (λ a h. h),
-        (
-          two_given IsProcess IsTurns process_word turns_word Step process_given turns_given (λ a b h k. (h, k)),
-          (
-            one_given IsProcess process_word Drop process_given (λ a h. h),
-            (none_given _ tt, tt),
-          ),
-        ),
-      ),
-    ),
-  ),
-)
+all_give =
+    two_given HasName IsTurns file_word turns_word Exec file_given turns_given (λ a b h k. (h, k))
+    beside one_given HasName file_word Load file_given (λ a h. h)
+    beside one_given IsProcess process_word Fork process_given (λ a h. h)
+    beside one_given IsTurns turns_word Run turns_given (λ a h. h)
+    beside two_given IsProcess IsTurns process_word turns_word Step process_given turns_given (λ a b h k. (h, k))
+    beside one_given IsProcess process_word Speculate process_given (λ a h. h)
+    beside one_given IsProcess process_word Commit process_given (λ a h. h)
+    beside one_given IsProcess process_word Discard process_given (λ a h. h)
+    beside two_given IsProcess IsAddress process_word address_word Promote process_given address_given (λ a b h k. (h, k))
+    beside two_given IsProcess IsNamed process_word all_word promote_all process_given all_given (λ a b h k. h)
+    beside one_given IsProcess process_word Drop process_given (λ a h. h)
+    beside none_given _ tt
+    beside tt
 
 -- what a line gives
 

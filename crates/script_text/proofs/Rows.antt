@@ -7,6 +7,10 @@ use Rattle.script_text.specs.Forms.{Form, forms, made_by, command_of}
 
 -- The rows of the table of forms.
 
+or_none : (o : Option Command) → o ≡ option_or o None
+or_none None = refl
+or_none (Some command) = refl
+
 -- what the row of a first word makes, where no other row has that word
 pub at_row : (row text : List ℕ) (makes : List (List ℕ) → Option Command) (first : List ℕ) (words : List (List ℕ))
     → ((ws : List (List ℕ)) → option_or (makes ws) None ≡ made_by forms row ws) → text ≡ row → true ≡ pointwise nat_eq first text
@@ -14,10 +18,14 @@ pub at_row : (row text : List ℕ) (makes : List (List ℕ) → Option Command) 
 unfolding command_of
 at_row row text makes first words alone same is =
     or_none (makes words) ∙ alone words ∙ ap (λ (w : List ℕ). made_by forms w words) (sym (same_text first text is ∙ same))
-  where
-    or_none : (o : Option Command) → o ≡ option_or o None
-    or_none None = refl
-    or_none (Some command) = refl
+
+-- what two rows of a first word make, where no third row has that word
+pub at_rows : (row text : List ℕ) (makes others : List (List ℕ) → Option Command) (first : List ℕ) (words : List (List ℕ))
+    → ((ws : List (List ℕ)) → option_or (makes ws) (option_or (others ws) None) ≡ made_by forms row ws) → text ≡ row → true ≡ pointwise nat_eq first text
+    → option_or (makes words) (others words) ≡ command_of first words
+unfolding command_of
+at_rows row text makes others first words alone same is =
+    ap (option_or (makes words)) (or_none (others words)) ∙ alone words ∙ ap (λ (w : List ℕ). made_by forms w words) (sym (same_text first text is ∙ same))
 
 -- a first word that is none of a text
 pub not_text : (row text first : List ℕ) → text ≡ row → false ≡ pointwise nat_eq first text → false ≡ pointwise nat_eq first row

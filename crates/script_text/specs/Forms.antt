@@ -1,10 +1,11 @@
 use Rattle.std.specs.Prelude.{ℕ, nat_eq, List, [], ◌∷◌, Option, Some, None, codes, if◌then◌else◌}
 use Rattle.std.specs.Option.{option_map, option_or}
+use Rattle.std.specs.List.{filter_map}
 use lib.Pointwise.{pointwise}
 use Rattle.script_text.specs.declared.command.Command.{Command}
-use Rattle.script_text.specs.declared.command.Command.TheVariants.{Exec, Load, Fork, Run, Step, Drop}
+use Rattle.script_text.specs.declared.command.Command.TheVariants.{Exec, Load, Fork, Run, Step, Speculate, Commit, Discard, Promote, PromoteAll, Drop}
 use Rattle.script_text.specs.declared.command.Command.TheVariants as command
-use Rattle.script_text.specs.Kinds.{Kind, file_word, turns_word, process_word}
+use Rattle.script_text.specs.Kinds.{Kind, file_word, turns_word, process_word, address_word, all_word}
 
 -- The forms of commands.
 
@@ -36,6 +37,10 @@ two_words kind other make (w ∷ []) = None
 two_words kind other make (w ∷ x ∷ []) = both (kind w) (other x) make
 two_words kind other make (w ∷ x ∷ y ∷ ws) = None
 
+-- the command of `promote P all`
+abbrev pub promote_all : ℕ → Unit {0} → Command
+promote_all p all = PromoteAll p
+
 -- The table: a row a form, with its first word, the kinds of the words behind it, and the command.
 abbrev pub forms : List Form
 forms =
@@ -44,15 +49,27 @@ forms =
     ∷ form (codes "fork") (one_word process_word Fork)
     ∷ form (codes "run") (one_word turns_word Run)
     ∷ form (codes "step") (two_words process_word turns_word Step)
+    ∷ form (codes "speculate") (one_word process_word Speculate)
+    ∷ form (codes "commit") (one_word process_word Commit)
+    ∷ form (codes "discard") (one_word process_word Discard)
+    ∷ form (codes "promote") (two_words process_word address_word Promote)
+    ∷ form (codes "promote") (two_words process_word all_word promote_all)
     ∷ form (codes "drop") (one_word process_word Drop)
     ∷ form (codes "list") (no_words command.List)
     ∷ []
 
--- the command of the first of some forms that a first word and the words behind it fit
+-- the command that a form makes of a first word and the words behind it, where they fit it
+abbrev pub made_at : List ℕ → List (List ℕ) → Form → Option Command
+made_at first words f = if pointwise nat_eq first f.first then f.makes words else None
+
+-- the commands that some forms make of them, one for each that they fit
+abbrev pub made_by_each : List Form → List ℕ → List (List ℕ) → List Command
+made_by_each fs first words = filter_map (made_at first words) fs
+
+-- the command of the first of some forms that they fit
 abbrev pub made_by : List Form → List ℕ → List (List ℕ) → Option Command
 made_by [] first words = None
-made_by (f ∷ fs) first words =
-    option_or (if pointwise nat_eq first f.first then f.makes words else None) (made_by fs first words)
+made_by (f ∷ fs) first words = option_or (made_at first words f) (made_by fs first words)
 
 -- the command that a first word and the words behind it are
 unfoldable pub command_of : List ℕ → List (List ℕ) → Option Command

@@ -1,9 +1,9 @@
-use Rattle.std.specs.Prelude.{ℕ, ◌≤◌}
+use Rattle.std.specs.Prelude.{ℕ, ◌≤◌, ◌<◌, ◌^◌}
 use Rattle.ovl_io.specs.Outside.{HasName}
 use Rattle.sizes.specs.declared.TheConstants.{LAST_SPACE}
 use Rattle.script_text.specs.declared.TheConstants.{MOST_TURNS}
 use Rattle.script_text.specs.declared.command.Command.{Command}
-use Rattle.script_text.specs.declared.command.Command.TheVariants.{Exec, Load, Fork, Run, Step, Drop}
+use Rattle.script_text.specs.declared.command.Command.TheVariants.{Exec, Load, Fork, Run, Step, Speculate, Commit, Discard, Promote, PromoteAll, Drop}
 use Rattle.script_text.specs.declared.command.Command.TheVariants as command
 
 -- What holds of each command that a script gives.
@@ -14,6 +14,9 @@ IsTurns n = (1 ≤ n) × (n ≤ MOST_TURNS)
 abbrev pub IsProcess : ℕ → Type 0
 IsProcess p = (1 ≤ p) × (p ≤ LAST_SPACE)
 
+abbrev pub IsAddress : ℕ → Type 0
+IsAddress address = address < 2 ^ 64
+
 -- Each value lies in the range of its kind. No form makes one of the other commands yet.
 abbrev pub IsGiven : Command → Type 0
 IsGiven (Exec name turns) = HasName name × IsTurns turns
@@ -21,16 +24,16 @@ IsGiven (Load name) = HasName name
 IsGiven (Fork p) = IsProcess p
 IsGiven (Run turns) = IsTurns turns
 IsGiven (Step p turns) = IsProcess p × IsTurns turns
+IsGiven (Speculate p) = IsProcess p
+IsGiven (Commit p) = IsProcess p
+IsGiven (Discard p) = IsProcess p
+IsGiven (Promote p address) = IsProcess p × IsAddress address
+IsGiven (PromoteAll p) = IsProcess p
 IsGiven (Drop p) = IsProcess p
 IsGiven command.List = Unit {0}
 IsGiven (command.Checkpoint p name) = ⊥
 IsGiven (command.Restore p name) = ⊥
 IsGiven (command.Forget name) = ⊥
-IsGiven (command.Speculate p) = ⊥
-IsGiven (command.Commit p) = ⊥
-IsGiven (command.Discard p) = ⊥
-IsGiven (command.Promote p address) = ⊥
-IsGiven (command.PromoteAll p) = ⊥
 IsGiven command.Compact = ⊥
 IsGiven (command.Map p address pages perms) = ⊥
 IsGiven (command.Unmap p address pages) = ⊥

@@ -1,5 +1,6 @@
-use Rattle.std.specs.Prelude.{ℕ, ◌&&◌, nat_le, Bool, List, length, Option, Some, None, if◌then◌else◌}
+use Rattle.std.specs.Prelude.{ℕ, ◌-◌, ◌^◌, ◌&&◌, nat_le, nat_eq, Bool, List, length, Option, Some, None, codes, if◌then◌else◌}
 use Rattle.std.specs.List.{list_all}
+use lib.Pointwise.{pointwise}
 use Rattle.script_text.specs.declared.TheConstants.{MOST_TURNS}
 use Rattle.sizes.specs.declared.TheConstants.{LAST_SPACE, MOST_FILE_NAME}
 use Rattle.script_text.specs.Numbers.{number_between}
@@ -24,3 +25,14 @@ turns_word word = number_between 1 MOST_TURNS word
 -- P: a process number
 abbrev pub process_word : Kind ℕ
 process_word word = number_between 1 LAST_SPACE word
+
+-- ADDR: an address
+abbrev pub address_word : Kind ℕ
+address_word word = number_between 0 (2 ^ 64 - 1) word
+
+-- the word `all`, which says no more than that it stands there
+abbrev pub is_all : List ℕ → Bool
+is_all word = pointwise nat_eq word (codes "all")
+
+abbrev pub all_word : Kind (Unit {0})
+all_word word = if is_all word then Some tt else None

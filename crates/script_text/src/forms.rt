@@ -1,16 +1,29 @@
-ghost use Rattle.std.specs.Prelude.{◌≡◌, IfOk};
+ghost use Rattle.std.specs.Prelude.{◌≡◌, ℕ, IfOk};
+ghost use Rattle.std.specs.Option.{option_map, option_or};
 ghost use Rattle.script_text.specs.Words.{words_of};
-ghost use Rattle.script_text.specs.Kinds.{file_word, turns_word, process_word};
-ghost use Rattle.script_text.specs.Forms.{no_words, one_word, two_words, command_of};
+ghost use Rattle.script_text.specs.Kinds.{file_word, turns_word, process_word, address_word, all_word};
+ghost use Rattle.script_text.specs.Forms.{no_words, one_word, two_words, promote_all, command_of};
 ghost use Rattle.script_text.specs.Script.{is_comment, meaning_of};
-ghost use Rattle.script_text.specs.declared.command.Command.TheVariants.{Exec, Load, Fork, Run, Step, Drop};
+ghost use Rattle.script_text.specs.declared.command.Command.{Command};
+ghost use Rattle.script_text.specs.declared.command.Command.TheVariants.{Exec, Load, Fork, Run, Step, Speculate, Commit, Discard, Promote, PromoteAll, Drop};
 ghost use Rattle.script_text.specs.declared.command.Command.TheVariants as command;
 
 use crate::command::{Command, Meaning};
-use crate::kinds::{file_word, process_word, turns_word};
+use crate::kinds::{address_word, file_word, is_all, process_word, turns_word};
 use crate::lines::without_return;
 use crate::words::{next_word, no_words, one_word, two_words};
 use std::alloc::{AllocError, Global};
+
+/// The process number that is the one word of a text.
+fn one_process(words: &[u8]) -> Option<u16>
+    ensures { (make : ℕ → Command) →
+        option_map make result ≡ one_word process_word make (words_of words.now) }
+{
+    match one_word(words) {
+        Some(p) => process_word(p),
+        None => None,
+    }
+}
 
 // The forms, each by the words behind its first.
 
@@ -50,11 +63,7 @@ fn load(alloc: Global, words: &[u8]) -> Result<Option<Command>, AllocError>
 fn fork(words: &[u8]) -> Option<Command>
     ensures { result ≡ one_word process_word Fork (words_of words.now) }
 {
-    let p = match one_word(words) {
-        Some(p) => p,
-        None => return None,
-    };
-    match process_word(p) {
+    match one_process(words) {
         Some(p) => Some(Command::Fork(p)),
         None => None,
     }
@@ -92,15 +101,89 @@ fn step(words: &[u8]) -> Option<Command>
     }
 }
 
+/// `speculate P`
+fn speculate(words: &[u8]) -> Option<Command>
+    ensures { result ≡ one_word process_word Speculate (words_of words.now) }
+{
+    match one_process(words) {
+        Some(p) => Some(Command::Speculate(p)),
+        None => None,
+    }
+}
+
+/// `commit P`
+fn commit(words: &[u8]) -> Option<Command>
+    ensures { result ≡ one_word process_word Commit (words_of words.now) }
+{
+    match one_process(words) {
+        Some(p) => Some(Command::Commit(p)),
+        None => None,
+    }
+}
+
+/// `discard P`
+fn discard(words: &[u8]) -> Option<Command>
+    ensures { result ≡ one_word process_word Discard (words_of words.now) }
+{
+    match one_process(words) {
+        Some(p) => Some(Command::Discard(p)),
+        None => None,
+    }
+}
+
+/// `promote P ADDR`
+fn promote_page(words: &[u8]) -> Option<Command>
+    ensures { result ≡ two_words process_word address_word Promote (words_of words.now) }
+{
+    let (p, address) = match two_words(words) {
+        Some(words) => words,
+        None => return None,
+    };
+    let p = match process_word(p) {
+        Some(p) => p,
+        None => return None,
+    };
+    match address_word(address) {
+        Some(address) => Some(Command::Promote(p, address)),
+        None => None,
+    }
+}
+
+/// `promote P all`
+fn promote_all(words: &[u8]) -> Option<Command>
+    ensures { result ≡ two_words process_word all_word promote_all (words_of words.now) }
+{
+    let (p, all) = match two_words(words) {
+        Some(words) => words,
+        None => return None,
+    };
+    let p = match process_word(p) {
+        Some(p) => p,
+        None => return None,
+    };
+    if is_all(all) {
+        Some(Command::PromoteAll(p))
+    } else {
+        None
+    }
+}
+
+/// `promote P ADDR` or `promote P all`
+fn promote(words: &[u8]) -> Option<Command>
+    ensures { result ≡ option_or (two_words process_word address_word Promote (words_of words.now))
+        (two_words process_word all_word promote_all (words_of words.now)) }
+{
+    match promote_page(words) {
+        Some(command) => Some(command),
+        None => promote_all(words),
+    }
+}
+
 /// `drop P`
 fn give_up(words: &[u8]) -> Option<Command>
     ensures { result ≡ one_word process_word Drop (words_of words.now) }
 {
-    let p = match one_word(words) {
-        Some(p) => p,
-        None => return None,
-    };
-    match process_word(p) {
+    match one_process(words) {
         Some(p) => Some(Command::Drop(p)),
         None => None,
     }
@@ -131,6 +214,14 @@ fn command_of(alloc: Global, first: &[u8], words: &[u8]) -> Result<Option<Comman
         Ok(run(words))
     } else if first == b"step".as_slice() {
         Ok(step(words))
+    } else if first == b"speculate".as_slice() {
+        Ok(speculate(words))
+    } else if first == b"commit".as_slice() {
+        Ok(commit(words))
+    } else if first == b"discard".as_slice() {
+        Ok(discard(words))
+    } else if first == b"promote".as_slice() {
+        Ok(promote(words))
     } else if first == b"drop".as_slice() {
         Ok(give_up(words))
     } else if first == b"list".as_slice() {

@@ -1,6 +1,6 @@
 ghost use Rattle.std.specs.Prelude.{◌≡◌, ◌&&◌, nat_le, IfOk};
 ghost use Rattle.std.specs.List.{list_all};
-ghost use Rattle.script_text.specs.Kinds.{is_file_name, file_word, turns_word, process_word};
+ghost use Rattle.script_text.specs.Kinds.{is_file_name, file_word, turns_word, process_word, address_word, is_all};
 
 use crate::MOST_TURNS;
 use crate::numbers::number_between;
@@ -53,4 +53,18 @@ pub(crate) fn process_word(word: &[u8]) -> Option<u16>
         Some(n) => Some(n as u16),
         None => None,
     }
+}
+
+/// The address that a word is.
+pub(crate) fn address_word(word: &[u8]) -> Option<u64>
+    ensures { result ≡ address_word word.now }
+{
+    number_between(0, u64::MAX, word)
+}
+
+/// Whether a word is the one that stands for each page.
+pub(crate) fn is_all(word: &[u8]) -> bool
+    ensures { result ≡ is_all word.now }
+{
+    word == b"all".as_slice()
 }

@@ -2,10 +2,12 @@ ghost use Rattle.std.specs.Prelude.{◌≤◌, length};
 ghost use Rattle.sizes.specs.declared.TheConstants.{MOST_SCRIPT_BYTES};
 
 mod long_rows;
+mod overlay_rows;
 mod rows;
 
 use crate::{Command, ScriptError, line_count, parse};
 use long_rows::LONG_ROWS;
+use overlay_rows::OVERLAY_ROWS;
 use rows::ROWS;
 use sizes::{MOST_SCRIPT_BYTES, MOST_SCRIPT_LINES};
 use std::alloc::{AllocError, Global};
@@ -13,32 +15,29 @@ use std::test::Fail;
 
 // What a command says, as a script spells it with decimal numbers. No form makes one of the others yet.
 fn show(alloc: Global, command: &Command, out: &mut Vec<u8>) -> Result<(), AllocError> {
-    match command {
+    let text = match command {
         Command::Exec(name, turns) => {
             out.extend_from_slice(b"exec ")?;
             out.extend_from_slice(name.as_slice())?;
-            out.extend_from_slice(format!(in alloc; " {turns}")?.as_bytes())?;
+            format!(in alloc; " {turns}")?
         }
         Command::Load(name) => {
             out.extend_from_slice(b"load ")?;
-            out.extend_from_slice(name.as_slice())?;
+            return out.extend_from_slice(name.as_slice());
         }
-        Command::Fork(p) => {
-            out.extend_from_slice(format!(in alloc; "fork {p}")?.as_bytes())?;
-        }
-        Command::Run(turns) => {
-            out.extend_from_slice(format!(in alloc; "run {turns}")?.as_bytes())?;
-        }
-        Command::Step(p, turns) => {
-            out.extend_from_slice(format!(in alloc; "step {p} {turns}")?.as_bytes())?;
-        }
-        Command::Drop(p) => {
-            out.extend_from_slice(format!(in alloc; "drop {p}")?.as_bytes())?;
-        }
-        Command::List => out.extend_from_slice(b"list")?,
-        _ => out.extend_from_slice(b"another")?,
-    }
-    Ok(())
+        Command::Fork(p) => format!(in alloc; "fork {p}")?,
+        Command::Run(turns) => format!(in alloc; "run {turns}")?,
+        Command::Step(p, turns) => format!(in alloc; "step {p} {turns}")?,
+        Command::Speculate(p) => format!(in alloc; "speculate {p}")?,
+        Command::Commit(p) => format!(in alloc; "commit {p}")?,
+        Command::Discard(p) => format!(in alloc; "discard {p}")?,
+        Command::Promote(p, address) => format!(in alloc; "promote {p} {address}")?,
+        Command::PromoteAll(p) => format!(in alloc; "promote {p} all")?,
+        Command::Drop(p) => format!(in alloc; "drop {p}")?,
+        Command::List => format!(in alloc; "list")?,
+        _ => format!(in alloc; "another")?,
+    };
+    out.extend_from_slice(text.as_bytes())
 }
 
 // What a script says: its commands, divided by `; `, or the first line that is outside.
@@ -92,7 +91,7 @@ fn bytes_of(alloc: Global, text: &str) -> Result<Vec<u8>, AllocError> {
 #[test]
 fn scripts_say_what_the_grammar_says(rt: HostRuntime) -> Result<(), Fail> {
     let mut rows: usize = 0;
-    for table in [ROWS, LONG_ROWS] {
+    for table in [ROWS, OVERLAY_ROWS, LONG_ROWS] {
         for row in table.split('\n') {
             let (script, want) = row.split_once(" => ").expect(&rt, "a row has two parts");
             let script = bytes_of(rt.alloc(), script)?;
@@ -103,7 +102,7 @@ fn scripts_say_what_the_grammar_says(rt: HostRuntime) -> Result<(), Fail> {
             rows = rows.saturating_add(1);
         }
     }
-    assert_eq!(rt; rows, 757);
+    assert_eq!(rt; rows, 1102);
     Ok(())
 }
 

@@ -121,6 +121,50 @@ fn a_fork_goes_on_where_the_process_was(rt: HostRuntime) -> Result<(), Fail> {
     Ok(())
 }
 
+#[test]
+fn a_speculation_ends_in_one_of_two_ways(rt: HostRuntime) -> Result<(), Fail> {
+    let mut shelf = OneFileShelf::new(program_of(rt.alloc(), 5, HI, b"hi\n")?);
+    // a script, and its report
+    let rows: [(&[u8], &[u8]); 2] = [
+        (
+            b"load h.elf\nspeculate 1\nstep 1 20\ndiscard 1\nstep 1 20",
+            b"loaded 1 pages 17 entry 0x10078\nok\nout 1 hi\\0a\nexited 1 0\nran 9 ended\nok\nout 1 hi\\0a\nexited 1 0\nran 9 ended\n",
+        ),
+        (
+            b"load h.elf\nspeculate 1\nstep 1 20\ncommit 1\nstep 1 20\nspeculate 1\ndiscard 1\nlist",
+            b"loaded 1 pages 17 entry 0x10078\nok\nout 1 hi\\0a\nexited 1 0\nran 9 ended\nok\nrefused C2 ended\nrefused C2 ended\nrefused C4 not-speculating\nlist 1 0\nprocess 1 exited 0 pages 17\n",
+        ),
+    ];
+    for (script, report) in rows {
+        assert_call(&rt, rt.alloc(), &SURE, &mut shelf, script, (report, 0))?;
+    }
+    Ok(())
+}
+
+#[test]
+fn speculations_and_promotions_are_refused(rt: HostRuntime) -> Result<(), Fail> {
+    let mut shelf = OneFileShelf::new(program_of(rt.alloc(), 5, HI, b"hi\n")?);
+    // a script, and its report
+    let rows: [(&[u8], &[u8]); 3] = [
+        (
+            b"speculate 1\ncommit 1\ndiscard 1\npromote 1 0\npromote 1 all",
+            b"refused C1 no-process\nrefused C1 no-process\nrefused C1 no-process\nrefused C1 no-process\nrefused C1 no-process\n",
+        ),
+        (
+            b"load h.elf\ncommit 1\ndiscard 1\npromote 1 0x5001\npromote 1 0x10fff\npromote 1 all",
+            b"loaded 1 pages 17 entry 0x10078\nrefused C4 not-speculating\nrefused C4 not-speculating\nrefused C7 unmapped 0x5001\nok\nok\n",
+        ),
+        (
+            b"load h.elf\nspeculate 1\nspeculate 1\npromote 1 0x5001\npromote 1 all\nfork 1\nlist\nspeculate 2",
+            b"loaded 1 pages 17 entry 0x10078\nok\nrefused C3 speculating\nrefused C3 speculating\nrefused C3 speculating\nrefused C3 speculating\nlist 1 0\nprocess 1 running speculating pages 17\nrefused C1 no-process\n",
+        ),
+    ];
+    for (script, report) in rows {
+        assert_call(&rt, rt.alloc(), &SURE, &mut shelf, script, (report, 0))?;
+    }
+    Ok(())
+}
+
 // Writes 5000 bytes of the stack, of which 4096 are taken:
 // addi x11, x2, -2048; addi x11, x11, -2048; lui x12, 1; addi x12, x12, 904; addi x10, x0, 1;
 // addi x17, x0, 64; ecall; addi x17, x0, 93; ecall

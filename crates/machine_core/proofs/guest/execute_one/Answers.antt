@@ -32,6 +32,6 @@ returns-in_default c =
       loan = all.loan;
       space = all.space;
       outcome = all.outcome_is;
-      after = ap (λ s. guest_lent made.mem (record { regs = made.regs; state = s })) (sym (state_kept c.execute-outcome.result old.state c.in_default.not-Fault)) ∙ all.after_is;
+      after = ap (λ s. guest_lent made.mem (record { regs = made.regs; state = s; saved = old.saved })) (sym (state_kept c.execute-outcome.result old.state c.in_default.not-Fault)) ∙ all.after_is;
       beside = all.beside;
     }

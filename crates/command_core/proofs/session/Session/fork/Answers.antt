@@ -1,11 +1,20 @@
-use Rattle.std.proofs.Common.{◌+◌, subst, sym, Some, None}
+use Rattle.std.proofs.Common.{rules, ◌+◌, ◌≤◌, subst, sym, Some, None}
+use Rattle.sizes.specs.declared.TheConstants.{LAST_SPACE}
 use Rattle.command_core.specs.State.{InSession}
 use Rattle.command_core.specs.Changes.{GivesChange, fork_done}
 use Rattle.command_core.specs.LikeLaws.{gives_as, like_fork_done}
 use Rattle.report_text.specs.declared.answer.Answer.TheVariants.{Forked, Refused}
-use Rattle.command_core.proofs.Forkings.{gives_forked, gives_refused, gives_unforked, refusal_by}
+use Rattle.command_core.proofs.Forkings.{gives_forked, gives_refused, gives_unforked, refusal_by, session_forked}
 use Rattle.command_core.proofs.Loadings.{state_of}
 use Rattle.command_core.proofs.session.Session.fork.Goals as goal
+
+pub invariant_of-self : goal.invariant_of-self
+invariant_of-self c =
+    let below : c.self.inside.drawn + 1 ≤ LAST_SPACE = search rules in (
+      session_forked c.self.inside.machine c.fork_process.new.machine c.self.inside.drawn c.args.p c.in-Some.process.now c.self.invariant.0 below
+          (sym c.in-Some.ensures.kept) c.in-Ok.ensures,
+      c.self.invariant.1,
+    )
 
 pub returns-in-Some-fork_refusal-clause-gives : goal.returns-in-Some-fork_refusal-clause-gives
 returns-in-Some-fork_refusal-clause-gives c =

@@ -4,7 +4,15 @@ use Rattle.command_core.specs.State.{InSession}
 use Rattle.command_core.specs.Changes.{GivesChange, load_done}
 use Rattle.report_text.specs.declared.answer.Answer.TheVariants.{Loaded}
 use Rattle.command_core.proofs.Loadings.{gives_loaded, gives_other, runs_loaded, state_of}
+use Rattle.command_core.proofs.Places.{is_below, session_load}
 use Rattle.command_core.proofs.session.Session.load.Goals as goal
+
+pub invariant_of-self : goal.invariant_of-self
+invariant_of-self c =
+    let drawn = c.self.inside.drawn in
+    let below = is_below drawn c.args.self.now.state.drawn c.are_all_drawn.result (ap (λ (s : InSession). s.state.drawn) c.self.view_is)
+    c.are_all_drawn.ensures c.if-are_all_drawn.false c.self.invariant.0.few in
+    (session_load c.self.inside.machine c.load.new.self drawn c.args.file.now c.self.invariant.0 below c.in-Ok-load.ensures.loads.2, c.self.invariant.1)
 
 pub returns-in-Ok-load-clause-runs : goal.returns-in-Ok-load-clause-runs
 returns-in-Ok-load-clause-runs c =

@@ -1,13 +1,11 @@
-use Rattle.std.proofs.Common.{sym, ap, subst, ◌∙◌}
-use Rattle.std.specs.FinMap.{FinMap, insert}
-use Rattle.std.specs.Ordering.{nat_cmp}
+use Rattle.std.proofs.Common.{sym, ap, subst, ◌∙◌, None}
+use Rattle.std.specs.FinMap.{insert}
 use Rattle.sizes.specs.declared.TheConstants.{STACK_POINTER}
 use Rattle.ovl_io.specs.declared.process_state.ProcessState.TheVariants.{Running}
 use Rattle.rv_execute.specs.Registers.{first_registers}
-use Rattle.overlay_pages.specs.State.{State}
 use Rattle.overlay_pages.specs.View.{state_of}
 use Rattle.machine_core.specs.declared.process.Process as declared
-use Rattle.machine_core.specs.Machine.{Machine, has_space, spaces_of}
+use Rattle.machine_core.specs.Machine.{Machine, spaces_of}
 use Rattle.machine_core.specs.Loading.{IsSpaceOf}
 use Rattle.machine_core.proofs.Loaded.{loaded, made_process, taken_back}
 use Rattle.machine_core.proofs.Machines.{has_process, kept, same_seen, seen_put}
@@ -22,7 +20,7 @@ returns-in-Ok-clause-made c =
     let file = c.args.file.now in
     let p = c.args.p in
     let old = c.args.self.now in
-    let process : declared.Process = record { regs = c.new.result; state = Running } in
+    let process : declared.Process = record { regs = c.new.result; state = Running; saved = None } in
     let is = made_process file c.new.result (c.new.ensures ∙ ap (λ pc. first_registers pc STACK_POINTER) (c.entry.ensures ∙ c.requires.of_file.entry)) in
     loaded file p old (kept c.load_space.new.memory c.adopt.new.slots.items)
     (subst (λ (m : Machine). IsSpaceOf file p (spaces_of m) (state_of c.load_space.new.memory)) c.self.view_is c.in_ok-load_space.ensures.made)

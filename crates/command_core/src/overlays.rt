@@ -1,0 +1,208 @@
+//! What the commands of speculation and promotion do to a process that is there.
+
+ghost use Rattle.std.specs.Prelude.{◌≡◌, Some, true};
+ghost use Rattle.std.specs.FinMap.{empty, get};
+ghost use Rattle.overlay_pages.specs.State.{space_in};
+ghost use Rattle.machine_core.specs.Machine.{has_saved, has_space, is_marked, spaces_of};
+ghost use Rattle.command_core.specs.Changes.{CanBeTold};
+ghost use Rattle.command_core.specs.Overlays.{ChangesOverlays, promotion_answer, speculation_answer};
+
+use machine_core::{Machine, Process, SavedRegs};
+use ovl_io::ProcessState;
+use promotion::{PromoteError, promote, promote_all};
+use report_text::{Answer, Code};
+use sizes::PAGE_BYTES;
+use speculation::{SpeculationError, commit, discard, start};
+
+/// What is done with the overlays of a process.
+#[derive(Clone, Copy, Debug)]
+pub(crate) enum OverlayChange {
+    /// A speculation begins.
+    Speculate,
+    /// It ends, and what was done stays.
+    Commit,
+    /// It ends, and everything is as at its start.
+    Discard,
+    /// The page of an address is promoted.
+    Promote(u64),
+    /// Each page is promoted.
+    PromoteAll,
+}
+
+/// What is answered where a speculation doesn't begin or end.
+fn not_speculated(error: SpeculationError) -> Answer
+    ensures answer { result ≡ speculation_answer error }
+    ensures told { CanBeTold result }
+{
+    match error {
+        SpeculationError::Speculating => Answer::Refused(Code::Speculating),
+        SpeculationError::NotSpeculating => Answer::Refused(Code::NotSpeculating),
+        SpeculationError::Full(needed, limit) => Answer::Full(needed, limit),
+    }
+}
+
+/// What is answered where pages aren't promoted: the page of an address, or all pages, of which none is missing.
+fn not_promoted(error: PromoteError, address: u64) -> Answer
+    ensures answer { result ≡ promotion_answer address error }
+    ensures told { CanBeTold result }
+{
+    match error {
+        PromoteError::Unmapped(_) => Answer::Refused(Code::Unmapped(address)),
+        PromoteError::Speculating => Answer::Refused(Code::Speculating),
+        PromoteError::Full(needed, limit) => Answer::Full(needed, limit),
+    }
+}
+
+/// Begins a speculation of process `p`, which runs: its pages are settled, and its registers and its state are kept.
+fn begin(machine: &mut Machine, p: u16, process: Process) -> Answer
+    requires there { get machine.old.processes p ≡ Some process }
+    requires space { has_space machine.old p ≡ true }
+    requires settled { (space_in (spaces_of machine.old) p).awaiting ≡ empty }
+    requires runs { process.state ≡ ProcessState.Running }
+    ensures done { ChangesOverlays p OverlayChange.Speculate process machine.old result machine.new }
+    ensures told { CanBeTold result }
+{
+    match start(machine.memory_mut(), p) {
+        Ok(()) => {
+            let saved = SavedRegs {
+                regs: process.regs,
+                state: process.state,
+            };
+            let left = Process {
+                regs: process.regs,
+                state: process.state,
+                saved: Some(saved),
+            };
+            machine.set_process(p, left);
+            Answer::Done
+        }
+        Err(error) => not_speculated(error),
+    }
+}
+
+/// Begins a speculation of process `p`, where it runs.
+fn speculate_process(machine: &mut Machine, p: u16, process: Process) -> Answer
+    requires there { get machine.old.processes p ≡ Some process }
+    requires space { has_space machine.old p ≡ true }
+    requires settled { (space_in (spaces_of machine.old) p).awaiting ≡ empty }
+    ensures done { ChangesOverlays p OverlayChange.Speculate process machine.old result machine.new }
+    ensures told { CanBeTold result }
+{
+    let state = process.state;
+    match state {
+        ProcessState::Running => begin(machine, p, process),
+        ProcessState::Exited(_) | ProcessState::Faulted(_, _) => Answer::Refused(Code::Ended),
+    }
+}
+
+/// Ends the speculation of process `p`: what was done stays, and what was kept is forgotten.
+fn commit_process(machine: &mut Machine, p: u16, process: Process) -> Answer
+    requires there { get machine.old.processes p ≡ Some process }
+    requires space { has_space machine.old p ≡ true }
+    ensures done { ChangesOverlays p OverlayChange.Commit process machine.old result machine.new }
+    ensures told { CanBeTold result }
+{
+    match commit(machine.memory_mut(), p) {
+        Ok(()) => {
+            let forgotten = Process {
+                regs: process.regs,
+                state: process.state,
+                saved: None,
+            };
+            machine.set_process(p, forgotten);
+            Answer::Done
+        }
+        Err(error) => not_speculated(error),
+    }
+}
+
+/// Ends the speculation of process `p`: its registers and its state are these, which were kept, and its memory is the one that was
+/// kept.
+fn go_back(machine: &mut Machine, p: u16, process: Process, saved: SavedRegs) -> Answer
+    requires there { get machine.old.processes p ≡ Some process }
+    requires space { has_space machine.old p ≡ true }
+    requires saved { process.saved ≡ Some saved }
+    ensures done { ChangesOverlays p OverlayChange.Discard process machine.old result machine.new }
+    ensures told { CanBeTold result }
+{
+    match discard(machine.memory_mut(), p) {
+        Ok(()) => {
+            let left = Process {
+                regs: saved.regs,
+                state: saved.state,
+                saved: None,
+            };
+            machine.set_process(p, left);
+            Answer::Done
+        }
+        Err(error) => not_speculated(error),
+    }
+}
+
+/// Ends the speculation of process `p`, and goes back to where it began.
+fn discard_process(machine: &mut Machine, p: u16, process: Process) -> Answer
+    requires there { get machine.old.processes p ≡ Some process }
+    requires space { has_space machine.old p ≡ true }
+    requires kept { is_marked machine.old p ≡ has_saved machine.old p }
+    ensures done { ChangesOverlays p OverlayChange.Discard process machine.old result machine.new }
+    ensures told { CanBeTold result }
+{
+    let kept = process.saved;
+    match kept {
+        Some(saved) => go_back(machine, p, process, saved),
+        None => Answer::Refused(Code::NotSpeculating),
+    }
+}
+
+/// Promotes the page of an address of process `p`.
+fn promote_page(machine: &mut Machine, p: u16, process: Process, address: u64) -> Answer
+    requires there { get machine.old.processes p ≡ Some process }
+    requires space { has_space machine.old p ≡ true }
+    requires settled { (space_in (spaces_of machine.old) p).awaiting ≡ empty }
+    ensures done { ChangesOverlays p (OverlayChange.Promote address) process
+        machine.old result machine.new }
+    ensures told { CanBeTold result }
+{
+    match promote(machine.memory_mut(), p, address / PAGE_BYTES as u64) {
+        Ok(()) => Answer::Done,
+        Err(error) => not_promoted(error, address),
+    }
+}
+
+/// Promotes each page of process `p`.
+fn promote_pages(machine: &mut Machine, p: u16, process: Process) -> Answer
+    requires there { get machine.old.processes p ≡ Some process }
+    requires space { has_space machine.old p ≡ true }
+    requires settled { (space_in (spaces_of machine.old) p).awaiting ≡ empty }
+    ensures done { ChangesOverlays p OverlayChange.PromoteAll process machine.old result machine.new }
+    ensures told { CanBeTold result }
+{
+    match promote_all(machine.memory_mut(), p) {
+        Ok(()) => Answer::Done,
+        Err(error) => not_promoted(error, 0),
+    }
+}
+
+/// Does a change to process `p`, which is there with its space, of which no page awaits, and of which registers and state are kept
+/// exactly where it is speculating. Takes no memory.
+pub(crate) fn change_overlays(
+    machine: &mut Machine,
+    p: u16,
+    process: Process,
+    change: OverlayChange,
+) -> Answer
+    requires there { get machine.old.processes p ≡ Some process }
+    requires space { has_space machine.old p ≡ true }
+    requires settled { (space_in (spaces_of machine.old) p).awaiting ≡ empty }
+    requires kept { is_marked machine.old p ≡ has_saved machine.old p }
+    ensures done { ChangesOverlays p change process machine.old result machine.new }
+    ensures told { CanBeTold result }
+{
+    match change {
+        OverlayChange::Speculate => speculate_process(machine, p, process),
+        OverlayChange::Commit => commit_process(machine, p, process),
+        OverlayChange::Discard => discard_process(machine, p, process),
+        OverlayChange::Promote(address) => promote_page(machine, p, process, address),
+        OverlayChange::PromoteAll => promote_pages(machine, p, process),
+    }
+}

@@ -1,0 +1,72 @@
+use Rattle.std.specs.Prelude.{◌≡◌, ℕ, ◌≤◌, nat_eq, Bool, true, false, cond, refl, List, [], ◌∷◌, length, codes, Option, Some, None}
+use Rattle.std.proofs.Common.{ap, sym, subst, arith}
+use Rattle.std.specs.List.{cons_option}
+use Rattle.std.specs.Cmp.Lexicographic.{same_text}
+use lib.Pointwise.{pointwise}
+use Rattle.script_text.specs.declared.command.Command.{Command}
+use Rattle.script_text.specs.declared.command.Command.TheVariants.{Promote}
+use Rattle.script_text.specs.Kinds.{process_word, address_word, is_all, all_word}
+use Rattle.script_text.specs.Forms.{Form, forms, two_words, both, promote_all, made_by_each}
+
+-- A first word and the words behind it fit at most one row of the table: the rows of one first word differ in
+-- the kinds of the words behind it.
+
+-- a fact of a row, beside those of the rows behind it
+infixr 1 ◌beside◌
+abbrev pub ◌beside◌ : {A B : Type 0} → A → B → A × B
+◌beside◌ a b = (a, b)
+
+-- a form that words fit leaves none behind it that they fit
+abbrev AreApart : List Form → Type 0
+AreApart [] = Unit {0}
+AreApart (f ∷ fs) = ((words : List (List ℕ)) (command : Command) → f.makes words ≡ Some command → made_by_each fs f.first words ≡ []) × AreApart fs
+
+one_more : (t : Bool) (o : Option Command) (more : List Command) → (t ≡ true → (command : Command) → o ≡ Some command → more ≡ []) → length more ≤ 1
+    → length (cons_option (cond t o None) more) ≤ 1
+one_more false o more alone few = few
+one_more true None more alone few = few
+one_more true (Some command) more alone few = omega (arith, ap (λ cs. length cs) (alone refl command refl))
+
+one_of : (fs : List Form) (first : List ℕ) (words : List (List ℕ)) → AreApart fs → length (made_by_each fs first words) ≤ 1
+one_of [] first words apart = omega arith
+one_of (f ∷ fs) first words apart =
+    one_more (pointwise nat_eq first f.first) (f.makes words) (made_by_each fs first words)
+    (λ same command is. subst (λ (w : List ℕ). made_by_each fs w words ≡ []) (sym (same_text first f.first (sym same))) (apart.0 words command is))
+    (one_of fs first words apart.1)
+
+-- an address isn't the word `all`
+no_address : (word : List ℕ) → is_all word ≡ true → address_word word ≡ None
+no_address word h = ap address_word (same_text word (codes "all") (sym h))
+
+either : (p address : Option ℕ) (t : Bool) (command : Command) → (t ≡ true → address ≡ None) → both p address Promote ≡ Some command
+    → both p (cond t (Some tt) None) promote_all ≡ None
+either None address t command none is = refl
+either (Some p) None t command none is = cc
+either (Some p) (Some a) true command none is = let same : Some a ≡ None = none refl in cc
+either (Some p) (Some a) false command none is = refl
+
+page_or_all : (words : List (List ℕ)) (command : Command) → two_words process_word address_word Promote words ≡ Some command
+    → two_words process_word all_word promote_all words ≡ None
+page_or_all [] command is = refl
+page_or_all (w ∷ []) command is = refl
+page_or_all (w ∷ x ∷ []) command is = either (process_word w) (address_word x) (is_all x) command (no_address x) is
+page_or_all (w ∷ x ∷ y ∷ words) command is = refl
+
+apart : AreApart forms
+apart =
+    (λ words command is. refl)
+    beside (λ words command is. refl)
+    beside (λ words command is. refl)
+    beside (λ words command is. refl)
+    beside (λ words command is. refl)
+    beside (λ words command is. refl)
+    beside (λ words command is. refl)
+    beside (λ words command is. refl)
+    beside (λ words command is. ap (λ o. cons_option o []) (page_or_all words command is))
+    beside (λ words command is. refl)
+    beside (λ words command is. refl)
+    beside (λ words command is. refl)
+    beside tt
+
+pub at_most_one_fits : (first : List ℕ) (words : List (List ℕ)) → length (made_by_each forms first words) ≤ 1
+at_most_one_fits first words = one_of forms first words apart
