@@ -5,4 +5,6 @@
 //! - `specs/Values.antt`: the values under a test, and sums over them
 //! - `specs/Views.antt`: a map whose values are seen in another way
 //! - `specs/Slots.antt`: a list of slots seen as a map
+//! - `specs/Rows.antt`: a map that is kept as rows by rising keys
+//! - `specs/RowLaws.antt`: what a change of rows does to their map, what stands next, and what a search finds
 #![tactic(auto)]

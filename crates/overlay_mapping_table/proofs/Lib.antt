@@ -1,4 +1,1 @@
-pub mod Rows
-pub mod Places
-pub mod Maps
 pub mod Tables

@@ -1,17 +1,17 @@
-use Rattle.std.proofs.Common.{◌≡◌, ℕ, ◌<◌, ◌≤◌, inl, inr, List, length, get_or, Some, None, slice_set, subst, sym, ap, ◌∙◌, arith}
+use Rattle.std.proofs.Common.{◌≡◌, ℕ, ◌<◌, ◌≤◌, inl, inr, List, length, get_or, Option, Some, None, slice_set, subst, sym, ap, ◌∙◌, arith}
 use Rattle.std.specs.Option.{is_some}
 use Rattle.std.specs.List as list
-use Rattle.std.specs.Ordering.{nat_cmp}
-use Rattle.std.specs.Cmp.{nat_cmp_total}
-use Rattle.std.specs.FinMap.{find, from_entries, get, insert, remove, len, get-from_entries}
+use Rattle.std.specs.FinMap.{from_entries, get, insert, remove, len}
 use Rattle.std.proofs.lemmas.Bool.{false≢true}
 use Rattle.std.proofs.lemmas.List.{length-set}
 use Rattle.std.proofs.lemmas.List.Edits.{length-insert, length-remove}
+use Rattle.number_maps.specs.Rows.{map_of, Rise, IsAt, IsGap, IsNextOne}
+use Rattle.number_maps.specs.RowLaws as laws
+use Rattle.number_maps.specs.RowLaws.{map_insert, map_remove, map_set, next_at, next_behind, next_none, rise_insert, rise_remove, rise_set}
+use Rattle.number_maps.specs.Values.{remove_absent}
 use Rattle.overlay_mapping_table.specs.Table.{Table, HasRoomFor}
-use Rattle.overlay_mapping_table.specs.Kept.{AreKept, Rise, IsAt, IsGap}
+use Rattle.overlay_mapping_table.specs.Kept.{AreKept, IsRowAt}
 use Rattle.overlay_mapping_table.specs.declared.entry.Entry.{Entry}
-use Rattle.overlay_mapping_table.proofs.Rows.{find_at, find_gap, find_insert, find_remove, find_set, rise_insert, rise_remove, rise_set}
-use Rattle.overlay_mapping_table.proofs.Maps.{len_rows, map_lacks, map_with, map_without}
 
 -- Tables, by the rows that they keep.
 
@@ -19,25 +19,21 @@ use Rattle.overlay_mapping_table.proofs.Maps.{len_rows, map_lacks, map_with, map
 abbrev pub table_of : List (ℕ × Entry) → ℕ → Table
 table_of rows room = record { entries = from_entries rows; room = room }
 
-found : (table : Table) (rows : List (ℕ × Entry)) (room name : ℕ) → table_of rows room ≡ table
-    → find nat_cmp name rows ≡ get table.entries name
-found table rows room name same = sym (get-from_entries nat_cmp_total rows name) ∙ ap (λ (t : Table). get t.entries name) same
-
 -- What a table has.
 
 pub got : (table : Table) (rows : List (ℕ × Entry)) (room name at : ℕ) (row : ℕ × Entry) → table_of rows room ≡ table → Rise 0 rows
     → IsAt rows name at
     → row ≡ get_or rows at row → Some row.1 ≡ get table.entries name
 got table rows room name at row same rise there is =
-    ap (λ (r : ℕ × Entry). Some r.1) is ∙ sym (find_at 0 rows name at row rise there) ∙ found table rows room name same
+    laws.got table.entries rows name at row (ap (λ (t : Table). t.entries) same) rise there is
 
 pub got_none : (table : Table) (rows : List (ℕ × Entry)) (room name at : ℕ) → table_of rows room ≡ table → IsGap rows name at
     → None ≡ get table.entries name
-got_none table rows room name at same gap = sym (find_gap rows name at gap) ∙ found table rows room name same
+got_none table rows room name at same gap = laws.got_none table.entries rows name at (ap (λ (t : Table). t.entries) same) gap
 
 pub counted : (table : Table) (rows : List (ℕ × Entry)) (room : ℕ) → table_of rows room ≡ table → Rise 0 rows
     → length rows ≡ len table.entries
-counted table rows room same rise = sym (len_rows 0 rows rise) ∙ ap (λ (t : Table). len t.entries) same
+counted table rows room same rise = laws.counted table.entries rows (ap (λ (t : Table). t.entries) same) rise
 
 -- there is room for one more row, where there is room for the entry
 pub room_left : (table : Table) (rows : List (ℕ × Entry)) (room name at : ℕ) → table_of rows room ≡ table → Rise 0 rows
@@ -63,8 +59,7 @@ pub stands_set : (table : Table) (rows : List (ℕ × Entry)) (room name at : �
     → IsAt rows name at
     → from_entries (slice_set rows at (name, e)) ≡ insert table.entries name e
 stands_set table rows room name at e same rise there =
-    map_with rows (slice_set rows at (name, e)) name e (λ q. find_set 0 rows name at e q rise there)
-    ∙ ap (λ (t : Table). insert t.entries name e) same
+    map_set rows name at e rise there ∙ ap (λ (t : Table). insert t.entries name e) same
 
 pub kept_insert : (rows new : List (ℕ × Entry)) (capacity later room name at : ℕ) (e : Entry) → AreKept rows capacity room
     → IsGap rows name at → length rows < room
@@ -81,7 +76,7 @@ pub stands_insert : (table : Table) (rows new : List (ℕ × Entry)) (room name 
     → IsGap rows name at
     → new ≡ list.insert rows at (name, e) → from_entries new ≡ insert table.entries name e
 stands_insert table rows new room name at e same gap is =
-    map_with rows new name e (λ q. ap (find nat_cmp q) is ∙ find_insert rows name at e q gap) ∙ ap (λ (t : Table). insert t.entries name e) same
+    ap map_of is ∙ map_insert rows name at e gap ∙ ap (λ (t : Table). insert t.entries name e) same
 
 pub kept_remove : (rows new : List (ℕ × Entry)) (capacity later room name at : ℕ) → AreKept rows capacity room → IsAt rows name at
     → later ≡ capacity
@@ -98,8 +93,23 @@ pub stands_remove : (table : Table) (rows new : List (ℕ × Entry)) (room name 
     → IsAt rows name at
     → new ≡ list.remove rows at → from_entries new ≡ remove table.entries name
 stands_remove table rows new room name at same rise there is =
-    map_without rows new name (λ q. ap (find nat_cmp q) is ∙ find_remove 0 rows name at q rise there) ∙ ap (λ (t : Table). remove t.entries name) same
+    ap map_of is ∙ map_remove rows name at rise there ∙ ap (λ (t : Table). remove t.entries name) same
 
 pub stands_lacking : (table : Table) (rows : List (ℕ × Entry)) (room name at : ℕ) → table_of rows room ≡ table → IsGap rows name at
     → table.entries ≡ remove table.entries name
-stands_lacking table rows room name at same gap = map_lacks table.entries name (sym (got_none table rows room name at same gap))
+stands_lacking table rows room name at same gap = sym (remove_absent table.entries name (sym (got_none table rows room name at same gap)))
+
+-- What stands next.
+
+pub next_found : (table : Table) (rows : List (ℕ × Entry)) (room name at : ℕ) (row : ℕ × Entry) → table_of rows room ≡ table → Rise 0 rows
+    → IsAt rows name at
+    → row ≡ get_or rows at row → IsNextOne table.entries name (Some row)
+next_found table rows room name at row same rise there is = next_at table.entries rows name at row (ap (λ (t : Table). t.entries) same) rise there is
+
+pub next_missed : (table : Table) (rows : List (ℕ × Entry)) (room name at : ℕ) (row : Option (ℕ × Entry)) → table_of rows room ≡ table
+    → Rise 0 rows → IsGap rows name at
+    → IsRowAt rows at row → IsNextOne table.entries name row
+next_missed table rows room name at (Some row) same rise gap is =
+    next_behind table.entries rows name at row (ap (λ (t : Table). t.entries) same) rise gap is.0 is.1
+next_missed table rows room name at None same rise gap end =
+    next_none table.entries rows name at (ap (λ (t : Table). t.entries) same) rise gap (λ there. omega (arith, there, end))

@@ -1,4 +1,2 @@
-pub mod Entries
 pub mod Runs
-pub mod Bounds
-pub mod Next
+pub mod Tables

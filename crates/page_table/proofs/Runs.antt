@@ -1,14 +1,17 @@
-use Rattle.std.proofs.Common.{◌≡◌, ℕ, zero, suc, ◌+◌, ◌-◌, ◌≤◌, ◌<◌, Bool, true, false, cond, ◌||◌, sym, ap, ◌∙◌, refl, arith, Option, Some, None, nat_eq}
+use Rattle.std.proofs.Common.{◌≡◌, ℕ, ◌+◌, ◌≤◌, ◌<◌, ◌⊎◌, inl, inr, Bool, true, false, cond, ◌||◌, List, length, sym, ap, subst, ◌∙◌, refl, arith, Option, Some, None, nat_eq}
 use Rattle.std.proofs.lemmas.Bool.Decides.{nat_tests}
+use Rattle.std.proofs.lemmas.List.Edits.{length-insert, length-remove}
 use Rattle.std.specs.Option.{is_some}
-use Rattle.std.specs.Ordering.{nat_cmp}
+use Rattle.std.specs.List as list
 use Rattle.std.specs.Cmp.{nat_cmp_total, unsigned_tied}
-use Rattle.std.specs.FinMap.{get, insert, remove, len, get-insert, get-remove, len-insert, len-remove, empty_of_len, get-empty, same_map, nat_cmp-IsAntisymmetric}
+use Rattle.std.specs.FinMap.{get, insert, remove, get-insert, get-remove}
+use Rattle.number_maps.specs.Rows.{map_of, Rise, IsAt, IsGap}
+use Rattle.number_maps.specs.RowLaws.{gap_behind, got_at, got_gap, map_insert, map_remove, rise_insert, rise_remove}
 use Rattle.page_table.specs.declared.entry.PageEntry.{PageEntry}
 use Rattle.page_table.specs.Table.{Pages, is_within, IsFree, AreThere, IsMapped, IsUnmapped}
-use Rattle.page_table.specs.Laws.{mapped_beside, unmapped_beside, unmapped_free}
+use Rattle.page_table.specs.Laws.{mapped_beside, unmapped_beside}
 
--- What is mapped and unmapped page by page.
+-- Runs of pages, mapped and unmapped page by page.
 
 within_more : (from n page : ℕ) → is_within from (n + 1) page ≡ (nat_eq page (from + n) || is_within from n page)
 within_more from n page = grind (arith, nat_tests)
@@ -16,21 +19,32 @@ within_more from n page = grind (arith, nat_tests)
 pub within_last : (from n i : ℕ) → i < n → is_within from n (from + i) ≡ true
 within_last from n i h = grind (arith, nat_tests)
 
+pub within_below : (from n page : ℕ) → is_within from n page ≡ true → page < from + n
+within_below from n page h = grind (arith, nat_tests)
+
+within_first : (from n : ℕ) → 0 < n → is_within from n from ≡ true
+within_first from n h = grind (arith, nat_tests)
+
+within_none : (from page : ℕ) → is_within from 0 page ≡ false
+within_none from page = grind (arith, nat_tests)
+
 within_next : (from n : ℕ) → is_within from n (from + n) ≡ false
 within_next from n = grind (arith, nat_tests)
 
-within_part : (from n i page : ℕ) → i ≤ n → is_within from i page ≡ true → is_within from n page ≡ true
-within_part from n i page le h = grind (arith, nat_tests)
+within_over : (from n : ℕ) → is_within from n (from + (n + 1)) ≡ false
+within_over from n = grind (arith, nat_tests)
 
 either : {X : Type 0} (b c : Bool) (x y : X) → cond b x (cond c x y) ≡ cond (b || c) x y
 either true c x y = refl
 either false c x y = refl
 
-one_more : {X : Type 0} (from n page : ℕ) (x y : X) → cond (nat_eq page (from + n)) x (cond (is_within from n page) x y) ≡ cond (is_within from (n + 1) page) x y
-one_more from n page x y = either (nat_eq page (from + n)) (is_within from n page) x y ∙ ap (λ (b : Bool). cond b x y) (sym (within_more from n page))
+one_more : {X : Type 0} (from n page : ℕ) (x y : X)
+    → cond (nat_eq page (from + n)) x (cond (is_within from n page) x y) ≡ cond (is_within from (n + 1) page) x y
+one_more from n page x y =
+    either (nat_eq page (from + n)) (is_within from n page) x y ∙ ap (λ (b : Bool). cond b x y) (sym (within_more from n page))
 
 -- one page more
-pub mapped_more : (old mid new : Pages) (from n : ℕ) (entry : PageEntry) → IsMapped old from n entry mid → new ≡ insert mid (from + n) entry
+mapped_more : (old mid new : Pages) (from n : ℕ) (entry : PageEntry) → IsMapped old from n entry mid → new ≡ insert mid (from + n) entry
     → IsMapped old from (n + 1) entry new
 mapped_more old mid new from n entry so_far is page =
     ap (λ (m : Pages). get m page) is
@@ -39,7 +53,7 @@ mapped_more old mid new from n entry so_far is page =
     ∙ ap (λ (o : Option PageEntry). cond (nat_eq page (from + n)) (Some entry) o) (so_far page)
     ∙ one_more from n page (Some entry) (get old page)
 
-pub unmapped_more : (old mid new : Pages) (from n : ℕ) → IsUnmapped old from n mid → new ≡ remove mid (from + n) → IsUnmapped old from (n + 1) new
+unmapped_more : (old mid new : Pages) (from n : ℕ) → IsUnmapped old from n mid → new ≡ remove mid (from + n) → IsUnmapped old from (n + 1) new
 unmapped_more old mid new from n so_far is page =
     ap (λ (m : Pages). get m page) is
     ∙ get-remove nat_cmp_total mid (from + n) page
@@ -47,44 +61,85 @@ unmapped_more old mid new from n so_far is page =
     ∙ ap (λ (o : Option PageEntry). cond (nat_eq page (from + n)) None o) (so_far page)
     ∙ one_more from n page None (get old page)
 
--- the next page is as it was before
-mapped_next : (old mid : Pages) (from n : ℕ) (entry : PageEntry) → IsMapped old from n entry mid → get mid (from + n) ≡ get old (from + n)
-mapped_next old mid from n entry so_far = mapped_beside old mid from n entry so_far (from + n) (within_next from n)
+-- The rows after i of the n pages were mapped: there is room for the others, and the next one would stand behind them.
+pub record HasFilled (old : List (ℕ × PageEntry)) (from n : ℕ) (entry : PageEntry) (at capacity i : ℕ) (rows : List (ℕ × PageEntry)) : Type 0 where
+  pub mapped : IsMapped (map_of old) from i entry (map_of rows)
+  pub rise : Rise 0 rows
+  pub count : length rows ≡ length old + i
+  pub room : length old + n ≤ capacity
+  pub gap : i < n → IsGap rows (from + i) (at + i)
 
-unmapped_next : (old mid : Pages) (from n : ℕ) → IsUnmapped old from n mid → get mid (from + n) ≡ get old (from + n)
-unmapped_next old mid from n so_far = unmapped_beside old mid from n so_far (from + n) (within_next from n)
-
--- and there is one page more than before
-pub counted_more : (old mid new : Pages) (from n i : ℕ) (entry : PageEntry) → IsFree old from n → i < n → IsMapped old from i entry mid
-    → new ≡ insert mid (from + i) entry → len mid ≡ len old + i → len new ≡ len old + (i + 1)
-counted_more old mid new from n i entry free lt so_far is count =
-    let none = mapped_next old mid from i entry so_far ∙ free (from + i) (within_last from n i lt) in
-    let grown = ap len is ∙ len-insert nat_cmp_total mid (from + i) entry ∙ ap (λ (o : Option PageEntry). cond (is_some o) (len mid) (len mid + 1)) none in
-    omega (arith, grown, count)
-
-some_counts : (pages : Pages) (page : ℕ) → is_some (get pages page) ≡ true → 0 < len pages
-some_counts pages page some = at (len pages) refl
+pub filled_none : (rows : List (ℕ × PageEntry)) (from n : ℕ) (entry : PageEntry) (at capacity : ℕ) → IsFree (map_of rows) from n → Rise 0 rows
+    → length rows + n ≤ capacity → (IsAt rows from at) ⊎ (IsGap rows from at) → HasFilled rows from n entry at capacity 0 rows
+filled_none rows from n entry at capacity free rise room place =
+    record {
+      mapped = λ page. ap (λ (b : Bool). cond b (Some entry) (get (map_of rows) page)) (sym (within_none from page));
+      rise = rise;
+      count = omega arith;
+      room = room;
+      gap = λ some.
+          let p : from ≡ from + 0 = omega arith in
+          let a : at ≡ at + 0 = omega arith in
+          subst (λ i. IsGap rows (from + 0) i) a (subst (λ k. IsGap rows k at) p (vacant some place));
+    }
   where
-    at : (n : ℕ) → len pages ≡ n → 0 < n
-    at zero e =
-        let none = ap (λ (m : Pages). is_some (get m page)) (empty_of_len pages e) ∙ ap is_some (get-empty {X = PageEntry} nat_cmp page) in
-        cc
-    at (suc n) e = omega arith
+    vacant : 0 < n → (IsAt rows from at) ⊎ (IsGap rows from at) → IsGap rows from at
+    vacant some (inr gap) = gap
+    vacant some (inl there) =
+        let none = ap is_some (sym (got_at rows from at (from, entry) rise there) ∙ free from (within_first from n some)) in cc
 
--- or one page fewer
-pub counted_fewer : (old mid new : Pages) (from n i : ℕ) → AreThere old from n → i < n → IsUnmapped old from i mid
-    → new ≡ remove mid (from + i) → len mid + i ≡ len old → len new + (i + 1) ≡ len old
-counted_fewer old mid new from n i there lt so_far is count =
-    let some : is_some (get mid (from + i)) ≡ true = ap is_some (unmapped_next old mid from i so_far) ∙ there (from + i) (within_last from n i lt) in
-    let shrunk = ap len is ∙ len-remove nat_cmp_total mid (from + i) ∙ ap (λ (b : Bool). cond b (len mid - 1) (len mid)) some in
-    omega (arith, shrunk, count, some_counts mid (from + i) some)
-
--- taken back
-pub taken_back : (old mid new : Pages) (from n i : ℕ) (entry : PageEntry) → IsFree old from n → i ≤ n → IsMapped old from i entry mid
-    → IsUnmapped mid from i new → new ≡ old
-taken_back old mid new from n i entry free le so_far back =
-    same_map nat_cmp_total nat_cmp-IsAntisymmetric _ _ (λ q. at q (is_within from i q) refl)
+pub filled_more : (old rows new : List (ℕ × PageEntry)) (from n : ℕ) (entry : PageEntry) (at capacity later i page : ℕ) → IsFree (map_of old) from n
+    → HasFilled old from n entry at capacity i rows → i < n → capacity ≤ later → page ≡ from + i
+    → new ≡ list.insert rows (at + i) (page, entry) → HasFilled old from n entry at later (i + 1) new
+filled_more old rows new from n entry at capacity later i page free so_far lt more next_page is =
+    let gap = so_far.gap lt in
+    let made = is ∙ ap (λ (k : ℕ). list.insert rows (at + i) (k, entry)) next_page in
+    subst (HasFilled old from n entry at later (i + 1)) (sym made) (record {
+      mapped = mapped_more (map_of old) (map_of rows) _ from i entry so_far.mapped (map_insert rows (from + i) (at + i) entry gap);
+      rise = rise_insert 0 rows (from + i) (at + i) entry so_far.rise (omega arith) gap;
+      count = omega (arith, so_far.count, length-insert rows (at + i) (from + i, entry) gap.inside);
+      room = omega (arith, so_far.room, more);
+      gap = λ next.
+          let p : from + i + 1 ≡ from + (i + 1) = omega arith in
+          let a : at + i + 1 ≡ at + (i + 1) = omega arith in
+          let behind = gap_behind rows (from + i) (at + i) entry so_far.rise gap (subst (λ k. get (map_of rows) k ≡ None) (sym p) (free_next next)) in
+          subst (λ j. IsGap (list.insert rows (at + i) (from + i, entry)) (from + (i + 1)) j) a
+          (subst (λ k. IsGap (list.insert rows (at + i) (from + i, entry)) k (at + i + 1)) p behind);
+    })
   where
-    at : (q : ℕ) (b : Bool) → is_within from i q ≡ b → get new q ≡ get old q
-    at q true e = unmapped_free mid new from i back q e ∙ sym (free q (within_part from n i q le e))
-    at q false e = unmapped_beside mid new from i back q e ∙ mapped_beside old mid from i entry so_far q e
+    free_next : i + 1 < n → get (map_of rows) (from + (i + 1)) ≡ None
+    free_next next =
+        mapped_beside (map_of old) (map_of rows) from i entry so_far.mapped (from + (i + 1)) (within_over from i)
+        ∙ free (from + (i + 1)) (within_last from n (i + 1) next)
+
+-- The rows after i pages were unmapped.
+pub record HasCleared (old : List (ℕ × PageEntry)) (from i : ℕ) (rows : List (ℕ × PageEntry)) : Type 0 where
+  pub unmapped : IsUnmapped (map_of old) from i (map_of rows)
+  pub rise : Rise 0 rows
+  pub count : length rows + i ≡ length old
+
+pub cleared_none : (rows : List (ℕ × PageEntry)) (from : ℕ) → Rise 0 rows → HasCleared rows from 0 rows
+cleared_none rows from rise =
+    record {
+      unmapped = λ page. ap (λ (b : Bool). cond b None (get (map_of rows) page)) (sym (within_none from page));
+      rise = rise;
+      count = omega arith;
+    }
+
+pub cleared_more : (old rows new : List (ℕ × PageEntry)) (from i at : ℕ) → HasCleared old from i rows → IsAt rows (from + i) at
+    → new ≡ list.remove rows at → HasCleared old from (i + 1) new
+cleared_more old rows new from i at so_far there is =
+    subst (HasCleared old from (i + 1)) (sym is) (record {
+      unmapped = unmapped_more (map_of old) (map_of rows) _ from i so_far.unmapped (map_remove rows (from + i) at so_far.rise there);
+      rise = rise_remove 0 rows at so_far.rise there.there;
+      count = omega (arith, so_far.count, length-remove rows at there.there);
+    })
+
+-- the next page is still there
+pub cleared_next : (old rows : List (ℕ × PageEntry)) (from n i at : ℕ) → AreThere (map_of old) from n → i < n → HasCleared old from i rows
+    → IsGap rows (from + i) at → ⊥
+cleared_next old rows from n i at there lt so_far gap =
+    let as_before = unmapped_beside (map_of old) (map_of rows) from i so_far.unmapped (from + i) (within_next from i) in
+    let none = ap is_some (sym (got_gap rows (from + i) at gap) ∙ as_before) in
+    let some = there (from + i) (within_last from n i lt) in
+    cc

@@ -1,4 +1,4 @@
-ghost use Rattle.std.specs.Prelude.{◌+◌, ◌^◌, ◌≤◌, IsTrue};
+ghost use Rattle.std.specs.Prelude.{◌+◌, ◌^◌, ◌<◌, ◌≤◌, IsTrue};
 ghost use Rattle.page_table.specs.Table.{IsFree, AreThere};
 
 use crate::{PageEntry, PageTable};
@@ -179,6 +179,110 @@ fn a_mapping_is_whole_or_nothing(rt: HostRuntime) -> Result<(), Fail> {
             assert_pages(&rt, &table, 1, &[(10, Some(CODE)), (11, None), (60, None)]);
             assert_eq!(rt; table.next_from(11), None);
         }
+    }
+    Ok(())
+}
+
+// The pages of the test below stand from this one on.
+const FIRST: u64 = 977;
+
+const PAGES: usize = 40;
+
+// What a page of the plain list has.
+fn listed(frames: &[Option<u32>; PAGES], at: usize) -> Option<PageEntry>
+    requires { at < PAGES }
+{
+    frames[at].map(|frame| PageEntry {
+        perms: Perms::W,
+        frame,
+    })
+}
+
+// The first page of the list from `at` on, as `next_from` answers it.
+fn next_listed(frames: &[Option<u32>; PAGES], at: usize) -> Option<(u64, PageEntry)> {
+    for next in at..PAGES {
+        if let Some(entry) = listed(frames, next) {
+            return Some((FIRST + next as u64, entry));
+        }
+    }
+    None
+}
+
+// How many pages of the list from `at` on, at most 5, are there, or aren't.
+fn run_listed(frames: &[Option<u32>; PAGES], at: usize, there: bool) -> u32
+    requires { at < PAGES }
+{
+    let end = PAGES.min(at + 5);
+    let mut n = 0;
+    for next in at..end {
+        if frames[next].is_some() != there {
+            break;
+        }
+        n = (next - at) as u32 + 1;
+    }
+    n
+}
+
+// Writes a run of pages into the list.
+fn list(frames: &mut [Option<u32>; PAGES], at: usize, n: u32, frame: Option<u32>)
+    requires { at < PAGES }
+{
+    for next in at..PAGES {
+        if next - at < n as usize {
+            frames[next] = frame;
+        }
+    }
+}
+
+// Runs of 40 pages, beside a list of the frames that they were given: first more come than go, then more go.
+#[test]
+fn a_table_answers_as_a_plain_list_does(rt: HostRuntime) -> Result<(), Fail> {
+    let mut table = PageTable::new(rt.alloc());
+    let mut frames: [Option<u32>; PAGES] = [None; PAGES];
+    let mut seed = 1u32;
+    for call in 0..6000u32 {
+        seed = seed.wrapping_mul(1_664_525).wrapping_add(1_013_904_223);
+        let at = (seed >> 16) as usize % PAGES;
+        let page = FIRST + at as u64;
+        let entry = PageEntry {
+            perms: Perms::W,
+            frame: call,
+        };
+        if (seed >> 8) % 8 < if call / 300 % 2 == 0 { 6 } else { 2 } {
+            let n = run_listed(&frames, at, false);
+            map_pages(&rt, &mut table, page, n, entry)?;
+            list(&mut frames, at, n, Some(call));
+        } else {
+            let n = run_listed(&frames, at, true);
+            unmap(&rt, &mut table, page, n);
+            list(&mut frames, at, n, None);
+        }
+        let at = (seed >> 24) as usize % PAGES;
+        let page = FIRST + at as u64;
+        if frames[at].is_some() {
+            set(&rt, &mut table, page, entry);
+            frames[at] = Some(call);
+        }
+        assert_eq!(rt; table.next_from(0), next_listed(&frames, 0), "call {call}");
+        assert_eq!(rt;
+            table.next_from(page),
+            next_listed(&frames, at),
+            "call {call}"
+        );
+        assert_eq!(rt;
+            table.len() as usize,
+            frames.iter().flatten().count(),
+            "call {call}"
+        );
+        for at in 0..PAGES {
+            assert_eq!(rt;
+                table.get(FIRST + at as u64),
+                listed(&frames, at),
+                "call {call}"
+            );
+        }
+        assert_eq!(rt; table.get(FIRST - 1), None, "call {call}");
+        assert_eq!(rt; table.get(FIRST + PAGES as u64), None, "call {call}");
     }
     Ok(())
 }

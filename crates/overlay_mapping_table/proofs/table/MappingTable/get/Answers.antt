@@ -1,5 +1,5 @@
 use Rattle.std.proofs.Common.{subst}
-use Rattle.overlay_mapping_table.specs.Kept.{IsAt, IsGap}
+use Rattle.number_maps.specs.Rows.{IsAt, IsGap}
 use Rattle.overlay_mapping_table.proofs.Tables.{got, got_none}
 use Rattle.overlay_mapping_table.proofs.table.MappingTable.get.Goals as goal
 

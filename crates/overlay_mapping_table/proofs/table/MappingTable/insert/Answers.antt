@@ -1,6 +1,6 @@
 use Rattle.std.proofs.Common.{rules, ◌≡◌, subst, arith, length}
 use Rattle.std.specs.Vec.{vec_len}
-use Rattle.overlay_mapping_table.specs.Kept.{IsAt, IsGap}
+use Rattle.number_maps.specs.Rows.{IsAt, IsGap}
 use Rattle.overlay_mapping_table.proofs.Tables.{kept_insert, kept_set, room_left, stands_insert, stands_set}
 use Rattle.overlay_mapping_table.proofs.table.MappingTable.insert.Goals as goal
 
