@@ -34,6 +34,7 @@ impl FramePool {
 
     /// One more page names a frame, which is there. Before that fewer than 2^32 - 1 pages name it. Every other count
     /// stays. Takes no memory, and costs a step.
+    #[inline(always)]
     pub fn hold(&mut self, f: u32)
         requires there { f < length self.old }
         requires few { sharers_of self.old f < 2 ^ 32 - 1 }
@@ -58,6 +59,7 @@ impl FramePool {
     }
 
     /// How many pages name a frame, which is there. Costs a step.
+    #[inline(always)]
     pub fn sharers(&self, f: u32) -> u32
         requires { f < length self.now }
         ensures { result ≡ sharers_of self.now f }

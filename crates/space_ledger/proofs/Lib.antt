@@ -5,6 +5,7 @@ pub mod TableLaws
 pub mod TableOps
 pub mod Mapping
 pub mod Overlaying
+pub mod Overlaid
 pub mod TableCalls
 pub mod Booking
 pub mod Booked

@@ -1,4 +1,4 @@
-use Rattle.std.specs.Prelude.{◌≡◌, ℕ, zero, suc, ◌+◌, ◌-◌, ◌*◌, ◌^◌, ◌==◌, ◌≤◌, ◌<◌, ◌⊎◌, Bool, true, false, cond, not, ◌&&◌, ◌||◌, nat_eq, nat_lt, List, [], length, Option, Some, None, is_some, IsSome, Result, Ok, Err, IfOk, OnOk, OnErr, refl}
+use Rattle.std.specs.Prelude.{◌≡◌, ℕ, zero, suc, ◌+◌, ◌-◌, ◌*◌, ◌^◌, ◌==◌, ◌≤◌, ◌<◌, ◌⊎◌, Bool, true, false, cond, not, ◌&&◌, ◌||◌, nat_eq, nat_lt, List, [], length, Option, Some, None, is_some, IsSome, Result, Ok, Err, OnOk, OnErr, refl}
 use Rattle.std.proofs.Common.{sym, ap, subst, ◌∙◌, arith, inl, inr}
 use Rattle.std.proofs.lemmas.Bool.Decides.{nat_tests}
 use Rattle.std.proofs.lemmas.List.{length-set}
@@ -6,28 +6,26 @@ use Rattle.std.specs.List.{fold, range_with_len}
 use Rattle.std.specs.Option.{option_and_then, option_map, option_map_or}
 use Rattle.std.specs.FinMap.{empty, get, get-empty, len}
 use Rattle.std.specs.Ordering.{nat_cmp}
-use Rattle.number_maps.specs.Views.{get_viewed, len_viewed, viewed, viewed_empty}
+use Rattle.number_maps.specs.Views.{len_viewed, viewed, viewed_empty}
 use Rattle.sizes.specs.declared.TheConstants.{FRAME_UNITS, LAST_SPACE, MOST_FRAMES, PAGE_LINES}
-use Rattle.page_table.specs.Table.{Pages, is_within}
+use Rattle.page_table.specs.Table.{is_within}
 use Rattle.page_table.specs.declared.entry.PageEntry.{PageEntry}
 use Rattle.overlay_mapping_table.specs.declared.entry.Entry.{Entry}
-use Rattle.unit_map.specs.declared.map.Block.{Block}
-use Rattle.space_ledger.proofs.Keeping.{some_is}
 use Rattle.frame_pool.specs.Counts.{held, none_shared, released, sharers_of}
 use Rattle.frame_pool.specs.Laws.{none_at}
-use Rattle.ledger.specs.Ledger.{Holding, Ledger, all_holdings, has_origin, holding_at, is_alone, is_unused, with_page, without_page}
+use Rattle.ledger.specs.Ledger.{Holding, Ledger, all_holdings, has_origin, holding_at, is_unused, with_page, without_page}
 use Rattle.ledger.specs.Units.{class, own_lines, sharers, units, units_of}
 use Rattle.ledger.specs.Changes.{has_own}
-use Rattle.ledger.specs.ClassLaws.{class_most, class_none}
+use Rattle.ledger.specs.ClassLaws.{class_none}
 use Rattle.ledger.specs.UnitLaws.{alone_is, no_units, frame_for, lines_at, lines_put, units_at, units_put}
 use Rattle.ledger.specs.AloneLaws.{origin_with, without_absent}
 use Rattle.ledger.specs.TallyLaws.{no_holdings, tally_none, lines_tally, sharers_at, sharers_few, sharers_put, units_few}
-use Rattle.space_ledger.specs.View.{LedgerView, PageView, SpaceView, frame_at, frame_awaiting, has_space, holding_of, ledger_of, lines_of, no_pages, origin_of, overlay_at, page_at, space_at, with_block, with_entry_at, with_frame, with_overlay, with_page_at, with_page_shared, with_shared, with_space, with_zero_pages, without_page_at}
-use Rattle.space_ledger.specs.ViewLaws.{changed_there, space_absent, ledger_gone, ledger_page, ledger_put, ledger_spaces, page_of, view_beside, view_shared}
-use Rattle.space_ledger.specs.Calls.{AreSharersCounted, AreFree, IsApart, IsBooked, IsFreeFor, IsSound, NamesOnce, entries_of, given_up}
+use Rattle.space_ledger.specs.View.{LedgerView, PageView, SpaceView, has_space, holding_of, ledger_of, lines_of, no_pages, origin_of, overlay_at, page_at, space_at, with_frame, with_overlay, with_page_at, with_shared, with_space, with_zero_pages, without_page_at}
+use Rattle.space_ledger.specs.ViewLaws.{changed_there, space_absent, ledger_gone, ledger_page, ledger_put, ledger_spaces, page_of, view_beside}
+use Rattle.space_ledger.specs.Calls.{AreSharersCounted, AreFree, IsApart, IsBooked, IsFreeFor, IsSound, given_up}
 use Rattle.space_ledger.specs.Frames.{frame_units, held_by, released_by}
 use Rattle.space_ledger.proofs.Mapping.{there_still}
-use Rattle.space_ledger.proofs.Booking.{alone_frame, counts_held, counts_released, eq_false, eq_true, has_frame, some_sharer, units_by_count}
+use Rattle.space_ledger.proofs.Booking.{counts_held, counts_released, eq_false, eq_true, has_frame, some_sharer, units_by_count}
 use Rattle.space_ledger.proofs.Booked.{FitsIn, nothing_apart, booked_gone, booked_put, booked_shared, fits_same, in_pages, page_in}
 
 -- The numbers that each call leaves.

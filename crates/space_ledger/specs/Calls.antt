@@ -1,8 +1,9 @@
-use Rattle.std.specs.Prelude.{◌≡◌, ℕ, ◌+◌, ◌*◌, ◌==◌, ◌≤◌, ◌<◌, ◌⊎◌, ◌||◌, if◌then◌else◌, List, [], ◌∷◌, length, IsTrue, Option, Some, None, IsSome}
+use Rattle.std.specs.Prelude.{◌≡◌, ℕ, ◌+◌, ◌*◌, ◌==◌, ◌≤◌, ◌<◌, ◌⊎◌, ◌||◌, if◌then◌else◌, true, false, List, [], ◌∷◌, length, IsTrue, Option, Some, None, IsSome}
 use Rattle.std.specs.Option.{option_and_then}
 use Rattle.std.specs.FinMap.{get, len}
 use Rattle.sizes.specs.declared.TheConstants.{FRAME_UNITS, LAST_SPACE, MOST_FRAMES, PAGE_END, PAGE_LINES}
 use Rattle.frame_pool.specs.Counts.{sharers_of}
+use Rattle.ledger.specs.Changes.{has_own}
 use Rattle.ledger.specs.Events.{Store, ledger_after}
 use Rattle.ledger.specs.Ledger.{Holding, Ledger, has_origin, holding_at}
 use Rattle.ledger.specs.Units.{overlaid_pages, own_lines, sharers, units}
@@ -10,7 +11,7 @@ use Rattle.page_table.specs.declared.entry.PageEntry.{PageEntry}
 use Rattle.overlay_mapping_table.specs.declared.entry.Entry.{Entry}
 use Rattle.number_maps.specs.Views.{viewed}
 use Rattle.page_table.specs.Table.{Pages, is_within}
-use Rattle.space_ledger.specs.View.{LedgerView, PageView, SpaceView, ledger_of, page_at, space_at}
+use Rattle.space_ledger.specs.View.{LedgerView, PageView, SpaceView, ledger_of, overlay_at, page_at, space_at}
 
 -- What the calls ask and answer.
 
@@ -27,6 +28,18 @@ abbrev pub IsNextOf : LedgerView → ℕ → ℕ → Option ℕ → Type 0
 IsNextOf view space page None = (q : ℕ) → page ≤ q → page_at view space q ≡ None
 IsNextOf view space page (Some found) =
     (page ≤ found) × IsSome (page_at view space found) × ((q : ℕ) → page ≤ q → q < found → page_at view space q ≡ None)
+
+-- the least page of a space not below one that has an overlay, or that there is none
+abbrev pub IsNextOverlaid : LedgerView → ℕ → ℕ → Option ℕ → Type 0
+IsNextOverlaid view space page None = (q : ℕ) → page ≤ q → overlay_at view space q ≡ None
+IsNextOverlaid view space page (Some found) =
+    (page ≤ found) × IsSome (overlay_at view space found) × ((q : ℕ) → page ≤ q → q < found → overlay_at view space q ≡ None)
+
+-- the least page of a space not below one that has own lines, or that there is none
+abbrev pub IsNextOwn : Ledger → ℕ → ℕ → Option ℕ → Type 0
+IsNextOwn ledger space page None = (q : ℕ) → page ≤ q → has_own ledger space q ≡ false
+IsNextOwn ledger space page (Some found) =
+    (page ≤ found) × (has_own ledger space found ≡ true) × ((q : ℕ) → page ≤ q → q < found → has_own ledger space q ≡ false)
 
 -- the entries of a space's pages
 unfoldable pub entries_of : LedgerView → ℕ → Pages

@@ -18,6 +18,7 @@ pub(crate) fn is_only(pool: &FramePool, zero: u32, frame: u32) -> bool
 }
 
 /// One more page names a frame: no count where it is the zero frame. Answers the units that it costs.
+#[inline(always)]
 #[tactic(auto, unfolding(crate::specs::Frames::held_by, crate::specs::Frames::frame_units))]
 pub(crate) fn hold(pool: &mut FramePool, zero: u32, frame: u32) -> u32
     requires there { frame < length pool.old }
@@ -48,6 +49,7 @@ pub(crate) fn release(pool: &mut FramePool, zero: u32, frame: u32) -> u32
 }
 
 /// The units of a segment for as many lines: 0 to 16.
+#[inline]
 #[tactic(auto, unfolding(ledger::specs::Units::class))]
 pub fn class_of(lines: u32) -> u32
     ensures { result ≡ class lines }

@@ -76,6 +76,7 @@ pub(crate) fn marked_in(slots: &Slots, space: u16) -> bool
 }
 
 /// The least page of a space that awaits, with its entry.
+#[inline(always)]
 pub(crate) fn first_awaiting_in(slots: &Slots, space: u16) -> Option<(u64, PageEntry)>
     ensures { AwaitsFirstIn (table_in slots.now.items space) result }
 {
@@ -242,6 +243,7 @@ pub(crate) fn adopt_in(slots: &mut Slots, space: u16, table: PageTable)
     }
 }
 
+#[inline(always)]
 fn share_slot(slot: &mut Option<Box<Space>>, page: u64) -> PageEntry
     requires least { IsLeastIn (table_of slot.old) page }
     requires low { page < 2 ^ 36 }
@@ -258,6 +260,7 @@ fn share_slot(slot: &mut Option<Box<Space>>, page: u64) -> PageEntry
 }
 
 /// The least page that awaits becomes one of the space's. Answers its entry.
+#[inline(always)]
 pub(crate) fn share_in(slots: &mut Slots, space: u16, page: u64) -> PageEntry
     requires least { IsLeastIn (table_in slots.old.items space) page }
     requires low { page < 2 ^ 36 }

@@ -126,10 +126,11 @@ impl Space {
     }
 
     /// The least page that awaits, with its entry. None exactly where none does.
+    #[inline(always)]
     pub(crate) fn first_awaiting(&self) -> Option<(u64, PageEntry)>
         ensures { AwaitsFirst self.now.awaiting result }
     {
-        match self.table.next_from(self.end) {
+        match self.table.next_near(self.end, self.count) {
             Some((page, entry)) => Some((page, entry)),
             None => None,
         }
@@ -154,6 +155,7 @@ impl Space {
     }
 
     /// The least page that awaits becomes one of the space's. Answers its entry.
+    #[inline(always)]
     pub(crate) fn share(&mut self, page: u64) -> PageEntry
         requires least { IsLeast self.old.awaiting page }
         requires low { page < 2 ^ 36 }
@@ -162,7 +164,7 @@ impl Space {
         ensures apart { map.get self.old.pages page ≡ None }
         ensures shared { self.new ≡ awaited self.old page result }
     {
-        match self.table.get(page) {
+        match self.table.get_near(page, self.count) {
             Some(entry) => {
                 self.end = page + 1;
                 self.count += 1;

@@ -13,7 +13,7 @@ ghost use Rattle.ledger.specs.Events.{Store, ledger_after};
 ghost use Rattle.overlay_address.specs.Names.{page_of, space_of};
 ghost use Rattle.space_ledger.specs.Space.{AwaitsFirst, IsLeast};
 ghost use Rattle.space_ledger.specs.View.{has_space, ledger_of, no_pages, page_at, space_at, frame_at, frame_awaiting, lines_of, overlay_at, with_awaiting, with_block, with_frame, with_mark, with_overlay, with_page_shared, with_space, with_zero_pages, without_page_at, without_space};
-ghost use Rattle.space_ledger.specs.Calls.{AreFree, HasOverlayRoom, HasSpare, IsFreeFor, IsNextOf, NamesOnce, RisesBeside, RisesBy, entries_of, given_up, held_at};
+ghost use Rattle.space_ledger.specs.Calls.{AreFree, HasOverlayRoom, HasSpare, IsFreeFor, IsNextOf, IsNextOwn, NamesOnce, RisesBeside, RisesBy, entries_of, given_up, held_at};
 
 use crate::frames::{class_of, hold, is_only, release};
 use crate::tables::Tables;
@@ -156,6 +156,15 @@ impl SpaceLedger {
         self.tables.next(space, page)
     }
 
+    /// The least page of a space not below one that has own lines. None exactly where none has. Costs a look-up.
+    pub fn next_overlaid(&self, space: u16, page: u64) -> Option<u64>
+        requires { has_space self.now space ≡ true }
+        ensures { IsNextOwn (ledger_of self.now) space page result }
+    {
+        let _zero = self.tables.zero();
+        self.tables.next_overlaid(space, page)
+    }
+
     /// How many pages a space has.
     pub fn pages(&self, space: u16) -> u32
         ensures count { result ≡ map.len (space_at self.now space).pages }
@@ -189,6 +198,7 @@ impl SpaceLedger {
     }
 
     /// The least page of a space that awaits `share_page`, with its entry. None exactly where none does. Costs a look-up.
+    #[inline(always)]
     pub fn first_awaiting(&self, space: u16) -> Option<(u64, PageEntry)>
         ensures { AwaitsFirst (space_at self.now space).awaiting result }
     {
@@ -341,6 +351,7 @@ impl SpaceLedger {
     /// Shares the page of a space with another one, where it awaits as the least and has the frame that it has in the first: it
     /// gets its origin and its own lines there, and keeps the permissions of the table that was adopted. A block is given exactly
     /// where it has own lines, and fewer than 16 pages for each frame are overlaid then. Takes no memory, and costs a look-up.
+    #[inline(always)]
     pub fn share_page(&mut self, from: u16, to: u16, page: u64, block: Option<Block>)
         requires there { IsSome (page_at self.old from page) }
         requires space { has_space self.old to ≡ true }
@@ -353,7 +364,7 @@ impl SpaceLedger {
         ensures absent { page_at self.old to page ≡ None }
     {
         let zero = self.tables.zero();
-        let overlay = in_block(&self.tables.overlay(from, page), block);
+        let overlay = in_block(&self.tables, from, page, block);
         let lines = lines_in(&overlay);
         let entry = self.tables.share(to, page, overlay);
         let added = hold(&mut self.pool, zero, entry.frame);
@@ -375,13 +386,16 @@ impl SpaceLedger {
     }
 }
 
-/// The lines of an overlay with another block, where one is given.
-fn in_block(own: &Option<Entry>, block: Option<Block>) -> Option<Entry>
-    requires { is_some block ≡ is_some own.now }
-    ensures { result ≡ option_map (λ b. record { bits = lines_of own.now; block = b }) block }
+/// The lines of a page's overlay with another block, where one is given.
+#[inline(always)]
+fn in_block(tables: &Tables, space: u16, page: u64, block: Option<Block>) -> Option<Entry>
+    requires there { IsSome (page_at tables.now space page) }
+    requires block { is_some block ≡ is_some (overlay_at tables.now space page) }
+    ensures { result
+        ≡ option_map (λ b. record { bits = lines_of (overlay_at tables.now space page); block = b }) block }
 {
     match block {
-        Some(block) => match own {
+        Some(block) => match tables.overlay(space, page) {
             Some(entry) => {
                 let bits = entry.bits;
                 Some(Entry { bits, block })
@@ -403,6 +417,7 @@ fn bits_of(overlay: &Option<Entry>) -> Bits
 }
 
 /// How many lines an overlay has: none where there is none.
+#[inline(always)]
 fn lines_in(overlay: &Option<Entry>) -> u32
     ensures count { result ≡ length (lines_of overlay.now) }
     ensures few { result ≤ PAGE_LINES }

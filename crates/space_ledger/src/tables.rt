@@ -1,6 +1,6 @@
 //! The tables and overlays of all spaces.
 
-ghost use Rattle.std.specs.Prelude.{◌≡◌, ◌+◌, ◌*◌, ◌<◌, ◌≤◌, ◌⊎◌, length, true, false, None, Some, ◌^◌, IfOk, IfSome, IsSome, OnOk, OnErr};
+ghost use Rattle.std.specs.Prelude.{◌≡◌, ◌+◌, ◌*◌, ◌<◌, ◌≤◌, ◌⊎◌, ◌==◌, ◌&&◌, cond, nat_lt, length, true, false, None, Some, ◌^◌, IfOk, IfSome, IsSome, OnOk, OnErr};
 ghost use Rattle.std.specs.FinMap as map;
 ghost use Rattle.std.specs.Option.{is_some, option_and_then, option_map};
 ghost use Rattle.sizes.specs.declared.TheConstants.{FRAME_UNITS, LAST_SPACE, MOST_FRAMES, PAGE_END, PAGE_LINES};
@@ -8,7 +8,8 @@ ghost use Rattle.ledger.specs.Units.{overlaid_pages};
 ghost use Rattle.overlay_bits.specs.Lines.{AreLines};
 ghost use Rattle.space_ledger.specs.Space.{AwaitsFirst, IsLeast};
 ghost use Rattle.space_ledger.specs.View.{changed_at, has_space, ledger_of, no_pages, page_at, space_at, with_awaiting, with_entry_at, with_mark, with_overlay, with_shared, with_space, with_zero_pages, without_page_at, without_space};
-ghost use Rattle.space_ledger.specs.Calls.{AreFree, HasOverlayRoom, HasSpare, IsLined, IsNextOf, IsSound, entries_of};
+ghost use Rattle.overlay_address.specs.Names.{IsName, page_of, space_of};
+ghost use Rattle.space_ledger.specs.Calls.{AreFree, HasOverlayRoom, HasSpare, IsLined, IsNextOf, IsNextOverlaid, IsSound, entries_of};
 
 use crate::slots::{
     Slots, add_in, adopt_in, clear_in, copy_in, first_awaiting_in, get_in, has_in, len_in, map_in,
@@ -18,6 +19,7 @@ use overlay_address::OverlayPage;
 use overlay_mapping_table::{Entry, MappingTable};
 use ovl_io::Perms;
 use page_table::{PageEntry, PageTable};
+use sizes::PAGE_END;
 use std::alloc::{AllocError, Global};
 use std::marker::Model;
 
@@ -70,7 +72,7 @@ impl Tables {
     }
 
     /// The zero frame. What is true of every table stands here.
-    #[inline]
+    #[inline(always)]
     pub(crate) fn zero(&self) -> u32
         ensures zero { result ≡ self.now.zero_frame }
         ensures sound { IsSound self.now }
@@ -78,6 +80,7 @@ impl Tables {
         self.zero
     }
 
+    #[inline]
     pub(crate) fn has(&self, space: u16) -> bool
         ensures { result ≡ has_space self.now space }
     {
@@ -123,7 +126,23 @@ impl Tables {
         next_in(&self.slots, space, page)
     }
 
+    /// The least page of a space not below one that has an overlay. None exactly where none has.
+    pub(crate) fn next_overlaid(&self, space: u16, page: u64) -> Option<u64>
+        requires { has_space self.now space ≡ true }
+        ensures { IsNextOverlaid self.now space page result }
+    {
+        let overlays = &self.overlays;
+        if page >= PAGE_END {
+            return None;
+        }
+        match overlays.next_from(OverlayPage::of(space, page)) {
+            Some(found) => page_of_space(found.0, space),
+            None => None,
+        }
+    }
+
     /// The least page of a space that awaits, with its entry. None exactly where none does.
+    #[inline(always)]
     pub(crate) fn first_awaiting(&self, space: u16) -> Option<(u64, PageEntry)>
         ensures { AwaitsFirst (space_at self.now space).awaiting result }
     {
@@ -236,6 +255,7 @@ impl Tables {
     }
 
     /// The least page that awaits becomes one of the space's, with an overlay or none. Answers its entry.
+    #[inline(always)]
     pub(crate) fn share(&mut self, space: u16, page: u64, overlay: Option<Entry>) -> PageEntry
         requires there { has_space self.old space ≡ true }
         requires least { IsLeast (space_at self.old space).awaiting page }
@@ -253,5 +273,19 @@ impl Tables {
             None => (),
         }
         entry
+    }
+}
+
+/// The page of a name, where it is one of that space.
+fn page_of_space(owner: OverlayPage, space: u16) -> Option<u64>
+    ensures page { result
+        ≡ cond (space_of owner == space && nat_lt (page_of owner) PAGE_END) (Some (page_of owner)) None }
+    ensures name { IsName owner }
+{
+    let page = owner.page();
+    if owner.space() == space && page < PAGE_END {
+        Some(page)
+    } else {
+        None
     }
 }

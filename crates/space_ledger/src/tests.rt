@@ -186,6 +186,12 @@ fn mark(rt: &impl Abort, ledger: &mut SpaceLedger, space: u16, on: bool) {
     ledger.set_speculating(space, on);
 }
 
+// The least page of a space that is there, not below one, that has own lines.
+fn next_overlaid(rt: &impl Abort, ledger: &SpaceLedger, space: u16, page: u64) -> Option<u64> {
+    assert!(rt; ledger.has_space(space));
+    ledger.next_overlaid(space, page)
+}
+
 // A new space has the pages of another one, with a copy of each overlay.
 fn fork(rt: &impl Abort, ledger: &mut SpaceLedger, from: u16, to: u16) -> Result<(), AllocError> {
     add(rt, ledger, to)?;
@@ -249,6 +255,34 @@ fn an_overlaying_write_of_the_stack(rt: HostRuntime) -> Result<(), Fail> {
     assert_eq!(rt; store(&rt, &mut ledger, 2, 115, Bits::range(63, 64)), 0);
     assert_counts(&rt, &ledger, 36, 8);
     assert_eq!(rt; (ledger.pages(1), ledger.pages(2)), (17, 17));
+    Ok(())
+}
+
+#[test]
+fn the_next_page_with_own_lines_is_one_of_the_space(rt: HostRuntime) -> Result<(), Fail> {
+    let mut ledger = SpaceLedger::new(rt.alloc(), 8, 0)?;
+    load(&rt, &mut ledger, 1, 1)?;
+    load(&rt, &mut ledger, 2, 2)?;
+    assert_eq!(rt; next_overlaid(&rt, &ledger, 1, 0), None);
+    store(&rt, &mut ledger, 1, 101, Bits::range(0, 1));
+    store(&rt, &mut ledger, 1, 115, Bits::range(0, 1));
+    store(&rt, &mut ledger, 2, 100, Bits::range(0, 1));
+    let rows = [
+        (1, 0, Some(101)),
+        (1, 101, Some(101)),
+        (1, 102, Some(115)),
+        (1, 116, None),
+        (2, 0, Some(100)),
+        (2, 101, None),
+        (2, 0xFFFF_FFFF_FFFF_FFFF, None),
+    ];
+    for (space, page, next) in rows {
+        assert_eq!(rt;
+            next_overlaid(&rt, &ledger, space, page),
+            next,
+            "from {page} of {space}"
+        );
+    }
     Ok(())
 }
 

@@ -1,4 +1,4 @@
-use Rattle.std.proofs.Common.{sym, ap, subst, ◌∙◌, arith, ◌≡◌, ◌+◌}
+use Rattle.std.proofs.Common.{sym, ap, subst, ◌∙◌, refl, arith, ◌≡◌, ◌+◌}
 use Rattle.std.specs.Option.{is_some}
 use Rattle.ledger.specs.Ledger.{holding_at}
 use Rattle.space_ledger.specs.View.{LedgerView, frame_at, frame_awaiting, has_space, ledger_of, overlay_at, page_at, with_page_shared, with_shared}
@@ -58,7 +58,7 @@ invariant_of-self c =
 pub returns-clause-shared : goal.returns-clause-shared
 returns-clause-shared c =
     c.share-entry.ensures.shared
-    ∙ shared_view c.self.inside.tables c.args.from c.args.to c.args.page c.share-entry.result c.overlay.result c.in_block-overlay.result c.args.block c.share-entry.ensures.entry c.overlay.ensures c.in_block-overlay.ensures
+    ∙ shared_view c.self.inside.tables c.args.from c.args.to c.args.page c.share-entry.result (overlay_at c.self.inside.tables c.args.from c.args.page) c.in_block-overlay.result c.args.block c.share-entry.ensures.entry refl c.in_block-overlay.ensures
     ∙ ap (λ (v : LedgerView). with_page_shared v c.args.from c.args.to c.args.page c.args.block) c.self.view_is
 
 pub returns-clause-same : goal.returns-clause-same
@@ -66,11 +66,11 @@ returns-clause-same c =
     ap (λ (v : LedgerView). holding_at (ledger_of v) c.args.to c.args.page) c.share-entry.ensures.shared
     ∙ shared_holding c.self.inside.tables c.args.from c.args.to c.args.page c.share-entry.result (shared_frame c.self.inside.tables c.self.inside.pool c.self.inside.units c.self.inside.lines c.self.invariant c.args.from c.args.to c.args.page c.share-entry.result
     (ap (λ (v : LedgerView). is_some (page_at v c.args.from c.args.page)) c.self.view_is ∙ c.requires.there) c.share-entry.ensures.entry
-    (subst (λ (v : LedgerView). frame_awaiting v c.args.to c.args.page ≡ frame_at v c.args.from c.args.page) (sym c.self.view_is) c.requires.frame)).0 c.overlay.result c.in_block-overlay.result c.args.block (shared_frame c.self.inside.tables c.self.inside.pool c.self.inside.units c.self.inside.lines c.self.invariant c.args.from c.args.to c.args.page c.share-entry.result
+    (subst (λ (v : LedgerView). frame_awaiting v c.args.to c.args.page ≡ frame_at v c.args.from c.args.page) (sym c.self.view_is) c.requires.frame)).0 (overlay_at c.self.inside.tables c.args.from c.args.page) c.in_block-overlay.result c.args.block (shared_frame c.self.inside.tables c.self.inside.pool c.self.inside.units c.self.inside.lines c.self.invariant c.args.from c.args.to c.args.page c.share-entry.result
     (ap (λ (v : LedgerView). is_some (page_at v c.args.from c.args.page)) c.self.view_is ∙ c.requires.there) c.share-entry.ensures.entry
     (subst (λ (v : LedgerView). frame_awaiting v c.args.to c.args.page ≡ frame_at v c.args.from c.args.page) (sym c.self.view_is) c.requires.frame)).1 (shared_frame c.self.inside.tables c.self.inside.pool c.self.inside.units c.self.inside.lines c.self.invariant c.args.from c.args.to c.args.page c.share-entry.result
     (ap (λ (v : LedgerView). is_some (page_at v c.args.from c.args.page)) c.self.view_is ∙ c.requires.there) c.share-entry.ensures.entry
-    (subst (λ (v : LedgerView). frame_awaiting v c.args.to c.args.page ≡ frame_at v c.args.from c.args.page) (sym c.self.view_is) c.requires.frame)).2 c.overlay.ensures c.in_block-overlay.ensures
+    (subst (λ (v : LedgerView). frame_awaiting v c.args.to c.args.page ≡ frame_at v c.args.from c.args.page) (sym c.self.view_is) c.requires.frame)).2 refl c.in_block-overlay.ensures
     (subst (λ (v : LedgerView). is_some c.args.block ≡ is_some (overlay_at v c.args.from c.args.page)) (sym c.self.view_is) c.requires.block)
     ∙ ap (λ (v : LedgerView). holding_at (ledger_of v) c.args.from c.args.page) c.self.view_is
 
