@@ -1,6 +1,6 @@
 //! The memories of all spaces.
 
-ghost use Rattle.std.specs.Prelude.{◌≡◌, ℕ, ◌+◌, ◌*◌, ◌%◌, ◌<◌, ◌≤◌, List, IfOk, IfSome, IsSome, OnOk, OnErr, None, true, false, length};
+ghost use Rattle.std.specs.Prelude.{◌≡◌, ◌≢◌, ℕ, ◌+◌, ◌*◌, ◌%◌, ◌<◌, ◌≤◌, List, IfOk, IfSome, IsSome, OnOk, OnErr, None, true, false, length};
 ghost use Rattle.std.specs.Borrow.{Lends, sem, Array, u8 as byte};
 ghost use Rattle.std.specs.FinMap as map;
 ghost use Rattle.std.specs.Option.{option_map};
@@ -9,12 +9,12 @@ ghost use Rattle.ovl_io.specs.Memory.{bytes_at};
 ghost use Rattle.ledger.specs.Ledger.{is_alone};
 ghost use Rattle.ledger.specs.Units.{own_lines};
 ghost use Rattle.space_ledger.specs.Space.{IsLeast};
-ghost use Rattle.space_ledger.specs.Calls.{NamesOnce};
+ghost use Rattle.space_ledger.specs.Calls.{IsNextOwn, NamesOnce};
 ghost use Rattle.overlay_pages.specs.Lines.{line_in_page};
 ghost use Rattle.overlay_pages.specs.State.{bare_space, books, cut_space, holds_space, memory_of, page_in, put_awaiting, put_mark, put_space, space_in, turned_page};
 ghost use Rattle.overlay_pages.specs.Changes.{AreAbsent, Fits, HasCopyRoom, HasShareRoom, IsPlaced, committed, copied, discarded, is_writable, limit_of, units_of, with_shared, with_written, with_zeros};
 ghost use Rattle.overlay_pages.specs.View.{HasOwnPlace, IsJoined, place_at, state_of};
-ghost use Rattle.overlay_pages.specs.Calls.{AwaitsLike, IsEmptyState, IsNextPage, entries_in, with_line_at_place};
+ghost use Rattle.overlay_pages.specs.Calls.{AreShared, AwaitBare, AwaitsLike, IsEmptyState, IsNextPage, NoneAwaitsBelow, entries_in, with_line_at_place};
 ghost use Rattle.overlay_memory.specs.Access.{FindsIn, IsFoundIn, KeepsFound, Places, Reads, Stores};
 ghost use Rattle.overlay_memory.specs.Pieces.{IsEmptied};
 ghost use Rattle.overlay_memory.specs.contracts.memory.OverlayMemory.{the_row};
@@ -292,6 +292,18 @@ impl OverlayMemory {
         self.pages.share_page(from, to, page);
     }
 
+    /// Shares each page below one that awaits in another space, with the frame that it has there and without own lines: the least
+    /// first. Takes no memory. Costs a step for each of them.
+    pub fn share_bare(&mut self, from: u16, to: u16, until: u64)
+        requires differ { from ≢ to }
+        requires space { holds_space (state_of self.old) to ≡ true }
+        requires bare { AwaitBare (state_of self.old) from to until }
+        ensures shared { AreShared from to until (state_of self.old) (state_of self.new) }
+        ensures none { NoneAwaitsBelow (state_of self.new) to until }
+    {
+        self.pages.share_bare(from, to, until);
+    }
+
     /// A table with the entries of a space's pages, of which none awaits, or want of memory. Costs a step for each page.
     pub fn copy_table(&mut self, from: u16, to: u16) -> Result<PageTable, AllocError>
         requires there { holds_space (state_of self.old) from ≡ true }
@@ -330,6 +342,15 @@ impl OverlayMemory {
         ensures { IsNextPage (state_of self.now) space page result }
     {
         self.pages.next_page(space, page)
+    }
+
+    /// The least page of a space not below one that has own lines. None exactly where none has. Costs a look-up.
+    pub fn next_overlaid(&self, space: u16, page: u64) -> Option<u64>
+        requires there { holds_space (state_of self.now) space ≡ true }
+        ensures next { IsNextOwn (books (state_of self.now)) space page result }
+        ensures joined { IsJoined self.now }
+    {
+        self.pages.next_overlaid(space, page)
     }
 
     /// Sets or takes away the mark of a space. Takes no memory.

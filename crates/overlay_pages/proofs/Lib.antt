@@ -17,4 +17,5 @@ pub mod Placed
 pub mod Adding
 pub mod Committing
 pub mod SharedPages
+pub mod SharedRuns
 pub mod OwnPlaces

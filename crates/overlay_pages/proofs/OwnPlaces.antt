@@ -1,21 +1,17 @@
 use Rattle.std.specs.Prelude.{◌≡◌, ℕ, ◌+◌, ◌*◌, ◌^◌, ◌<◌, ◌≤◌, ◌⊎◌, Bool, true, false, cond, Option, Some, None, IsSome, refl}
-use Rattle.std.proofs.Common.{sym, ap, subst, ◌∙◌, arith, inl, inr}
+use Rattle.std.proofs.Common.{sym, ap, ◌∙◌, arith, inl, inr}
 use Rattle.std.proofs.lemmas.Bool.{cases_eq}
 use Rattle.std.specs.Option.{option_map, option_map_or}
-use Rattle.sizes.specs.declared.TheConstants.{PAGE_LINES}
-use Rattle.unit_map.specs.Pieces.{taken_at, units_in}
-use Rattle.unit_map.specs.declared.map.Block.{Block}
 use Rattle.overlay_bits.specs.Lines.{has_line}
-use Rattle.overlay_address.specs.Names.{overlay_page}
 use Rattle.overlay_mapping_table.specs.declared.entry.Entry.{Entry}
 use Rattle.segment_store.specs.declared.segment.Segment.{Segment}
-use Rattle.segment_store.specs.Store.{Store, IsFrame, IsSegment, frame_place, place_of, scratch_place, segment_at}
+use Rattle.segment_store.specs.Store.{IsFrame, IsSegment, frame_place, place_of, scratch_place, segment_at}
 use Rattle.segment_store.specs.Places.{LiesIn}
 use Rattle.segment_store.specs.Laws.{frame_inside, inside_of, line_lies, places_differ, segment_range, order_of}
-use Rattle.space_ledger.specs.View.{PageView, frame_at, lines_of, overlay_at, page_at}
-use Rattle.overlay_pages.specs.View.{HasOwnPlace, IsHeld, IsJoined, MemoryView, ShareFrameLine, place_at, place_in_page, segment_of}
+use Rattle.space_ledger.specs.View.{PageView, lines_of, overlay_at, page_at}
+use Rattle.overlay_pages.specs.View.{HasOwnPlace, IsJoined, MemoryView, ShareFrameLine, place_at, place_in_page, segment_of}
 use Rattle.overlay_pages.proofs.Steps.{names_apart}
-use Rattle.overlay_pages.proofs.Joining.{Has, overlay_segment, page_with}
+use Rattle.overlay_pages.proofs.Joining.{Has, page_with}
 
 -- Where each line of a page stands, and that no other line stands there but those of its frame.
 

@@ -1,14 +1,16 @@
-use Rattle.std.specs.Prelude.{◌≡◌, ℕ, ◌+◌, ◌≤◌, ◌<◌, List, [], ◌∷◌, Option, Some, None, IsSome}
+use Rattle.std.specs.Prelude.{◌≡◌, ℕ, ◌+◌, ◌≤◌, ◌<◌, false, List, [], ◌∷◌, Option, Some, None, IsSome}
 use Rattle.std.specs.Option.{option_map}
 use Rattle.std.specs.FinMap.{empty, get}
 use Rattle.number_maps.specs.Views.{viewed}
 use Rattle.page_table.specs.declared.entry.PageEntry.{PageEntry}
 use Rattle.page_table.specs.Table.{Pages}
+use Rattle.ledger.specs.Changes.{has_own}
 use Rattle.ledger.specs.Events.{Store, ledger_after}
 use Rattle.ledger.specs.Units.{units}
 use Rattle.segment_store.specs.Store.{with_line_at}
+use Rattle.space_ledger.specs.Space.{IsLeast}
 use Rattle.overlay_pages.specs.State.{PageState, State, books, page_in, space_in}
-use Rattle.overlay_pages.specs.Changes.{units_of}
+use Rattle.overlay_pages.specs.Changes.{units_of, with_shared}
 use Rattle.overlay_pages.specs.View.{MemoryView}
 
 -- What the calls ask and answer.
@@ -33,6 +35,26 @@ entries_in state space = viewed (λ _ (x : PageState). x.entry) (space_in state 
 abbrev pub AwaitsLike : State → ℕ → ℕ → ℕ → Type 0
 AwaitsLike state from to page =
     option_map (λ (e : PageEntry). e.frame) (get (space_in state to).awaiting page) ≡ option_map (λ x. x.entry.frame) (page_in state from page)
+
+-- each page below one that awaits in a space does so with the frame that it has in another one, and has no own lines there
+abbrev pub AwaitBare : State → ℕ → ℕ → ℕ → Type 0
+AwaitBare state from to until = (page : ℕ) → page < until → IsSome (get (space_in state to).awaiting page)
+    → AwaitsLike state from to page × (has_own (books state) from page ≡ false)
+
+-- pages below one, each of which awaits as the least, are shared from another space one after the other
+pub data AreShared (from to until : ℕ) : State → State → Type 0 where
+  Still : (state : State) → AreShared from to until state state
+  Then : (old new : State) (page : ℕ) → page < until → IsLeast (space_in old to).awaiting page → AreShared from to until (with_shared old from to page) new
+      → AreShared from to until old new
+
+-- no page of a space below one awaits
+abbrev pub NoneAwaitsBelow : State → ℕ → ℕ → Type 0
+NoneAwaitsBelow state space until = (page : ℕ) → page < until → get (space_in state space).awaiting page ≡ None
+
+-- the least page that awaits, where it is below one
+abbrev pub AwaitsBelow : Pages → ℕ → Option ℕ → Type 0
+AwaitsBelow awaiting until None = (page : ℕ) → page < until → get awaiting page ≡ None
+AwaitsBelow awaiting until (Some page) = (page < until) × IsLeast awaiting page
 
 -- by how much the units rise by a store that touches lines of a page, by itself and beside lines of another page of the space
 pub record RisesBy (state : State) (space page : ℕ) (lines : List ℕ) (rise : ℕ) : Type 0 where

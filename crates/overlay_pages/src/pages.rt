@@ -1,6 +1,6 @@
 //! The pages of all spaces.
 
-ghost use Rattle.std.specs.Prelude.{◌≡◌, ℕ, ◌+◌, ◌*◌, ◌<◌, ◌≤◌, ◌&&◌, not, List, IfOk, IfSome, IsSome, OnOk, OnErr, None, true, false, length, slice_index_or, unwrap_or};
+ghost use Rattle.std.specs.Prelude.{◌≡◌, ◌≢◌, ℕ, ◌+◌, ◌*◌, ◌<◌, ◌≤◌, ◌&&◌, not, List, IfOk, IfSome, IsSome, OnOk, OnErr, None, true, false, length, slice_index_or, unwrap_or};
 ghost use Rattle.std.specs.Borrow.{Lends, sem, Array, u8 as byte};
 ghost use Rattle.std.specs.FinMap as map;
 ghost use Rattle.std.specs.Option.{is_some, option_and_then, option_map, option_map_or};
@@ -12,20 +12,20 @@ ghost use Rattle.ledger.specs.Units.{own_lines, units};
 ghost use Rattle.ledger.specs.Ledger as book;
 ghost use Rattle.space_ledger.specs.View.{ledger_of, page_at, space_at};
 ghost use Rattle.space_ledger.specs.Space.{IsLeast};
-ghost use Rattle.space_ledger.specs.Calls.{NamesOnce};
+ghost use Rattle.space_ledger.specs.Calls.{IsNextOwn, NamesOnce};
 ghost use Rattle.overlay_pages.specs.Lines.{line_in_page, lines_of_bytes};
 ghost use Rattle.overlay_pages.specs.State.{bare_space, base_of, books, cut_page, cut_space, holds_space, memory_of, page_in, put_awaiting, put_mark, put_space, space_in, turned_page};
 ghost use Rattle.overlay_pages.specs.Changes.{AreAbsent, Fits, HasCopyRoom, HasShareRoom, IsPlaced, brought, committed, copied, discarded, is_writable, limit_of, units_of, whole_page, with_brought, with_shared, with_written, with_zeros};
 ghost use Rattle.overlay_pages.specs.View.{HasOwnPlace, IsJoined, place_at, state_of};
 ghost use Rattle.overlay_pages.specs.Spots.{FindsLine, IsFound};
-ghost use Rattle.overlay_pages.specs.Calls.{AwaitsLike, IsEmptyState, IsNextPage, RisesBy, entries_in, with_line_at_place};
+ghost use Rattle.overlay_pages.specs.Calls.{AreShared, AwaitBare, AwaitsLike, IsEmptyState, IsNextPage, NoneAwaitsBelow, RisesBy, entries_in, with_line_at_place};
 ghost use Rattle.overlay_pages.specs.contracts.pages.OverlayPages.{the_row};
 
 use crate::moving::make_room;
 use crate::overlays::{bring_lines, drop_overlay};
 use crate::placing::{place_bytes, take_out};
 use crate::settling::{commit, copy_commit};
-use crate::sharing::share;
+use crate::sharing::{share, share_below};
 use crate::spots::{FoundLine, Spot, spot_of};
 use overlay_bits::Bits;
 use ovl_io::Perms;
@@ -200,6 +200,15 @@ impl OverlayPages {
         ensures { IsNextPage (state_of self.now) space page result }
     {
         self.ledger.next_page(space, page)
+    }
+
+    /// The least page of a space not below one that has own lines. None exactly where none has. Costs a look-up.
+    pub fn next_overlaid(&self, space: u16, page: u64) -> Option<u64>
+        requires { holds_space (state_of self.now) space ≡ true }
+        ensures next { IsNextOwn (books (state_of self.now)) space page result }
+        ensures joined { IsJoined self.now }
+    {
+        self.ledger.next_overlaid(space, page)
     }
 
     /// How many pages a space has.
@@ -484,6 +493,18 @@ impl OverlayPages {
         ensures { state_of self.new ≡ with_shared (state_of self.old) from to page }
     {
         share(&mut self.store, &mut self.ledger, from, to, page);
+    }
+
+    /// Shares each page below one that awaits in another space, with the frame that it has there and without own lines: the least
+    /// first. Takes no memory. Costs a step for each of them.
+    pub fn share_bare(&mut self, from: u16, to: u16, until: u64)
+        requires differ { from ≢ to }
+        requires space { holds_space (state_of self.old) to ≡ true }
+        requires bare { AwaitBare (state_of self.old) from to until }
+        ensures shared { AreShared from to until (state_of self.old) (state_of self.new) }
+        ensures none { NoneAwaitsBelow (state_of self.new) to until }
+    {
+        share_below(&self.store, &mut self.ledger, from, to, until);
     }
 }
 

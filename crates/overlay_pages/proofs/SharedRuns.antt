@@ -1,0 +1,181 @@
+use Rattle.std.specs.Prelude.{◌≡◌, ℕ, zero, suc, ◌-◌, ◌<◌, Bool, true, false, cond, nat_lt, length, Option, Some, None, IsSome, is_some, refl}
+use Rattle.std.proofs.Common.{sym, ap, subst, ◌∙◌, arith}
+use Rattle.segment_store.specs.Store.{Store}
+use Rattle.std.specs.Cmp.{nat_cmp_total}
+use Rattle.std.specs.Ordering.{nat_cmp}
+use Rattle.std.specs.Option.{option_and_then, option_map, option_map_or}
+use Rattle.std.proofs.lemmas.Bool.Decides.{nat_tests}
+use Rattle.std.specs.FinMap.{empty_of_len, get, get-empty, len, len-remove, remove}
+use Rattle.number_maps.specs.Keys.{by_key, get_same, removed_other, removed_same}
+use Rattle.page_table.specs.Table.{Pages}
+use Rattle.page_table.specs.declared.entry.PageEntry.{PageEntry}
+use Rattle.ledger.specs.Changes.{has_own}
+use Rattle.ledger.specs.Ledger.{Holding}
+use Rattle.space_ledger.specs.Space.{IsLeast}
+use Rattle.space_ledger.specs.View.{LedgerView, PageView, frame_at, frame_awaiting, has_space, lines_of, overlay_at, page_at, space_at}
+use Rattle.overlay_mapping_table.specs.declared.entry.Entry.{Entry}
+use Rattle.overlay_pages.specs.State.{PageState, SpaceState, State, books, held_page, holds_space, page_in, put_shared, put_space, space_in}
+use Rattle.overlay_pages.specs.StateLaws.{ledger_page, page_shared_beside, space_put}
+use Rattle.overlay_pages.specs.Changes.{shared_page, with_shared}
+use Rattle.overlay_pages.specs.Calls.{AreShared, AwaitBare, AwaitsLike}
+use Rattle.overlay_pages.specs.Calls.AreShared.{Still, Then}
+use Rattle.overlay_pages.specs.View.{IsJoined, MemoryView, page_state, state_of, view_of}
+use Rattle.overlay_pages.specs.ViewLaws.{state_awaiting, state_holds, state_page, state_page_some}
+use Rattle.overlay_pages.proofs.Tables.{frame_of_page}
+
+-- Pages without own lines that are shared one after the other.
+
+-- one more page at the end of a run
+pub then_one : {from to until : ℕ} (old new : State) (page : ℕ) → page < until → IsLeast (space_in new to).awaiting page → AreShared from to until old new
+    → AreShared from to until old (with_shared new from to page)
+then_one old new page low least (Still s) = Then new _ page low least (Still _)
+then_one old new page low least (Then a b p under first rest) = Then a _ p under first (then_one _ new page low least rest)
+
+-- what a page has, by the page
+own_in : (s : State) (space q : ℕ) → has_own (books s) space q ≡ option_map_or (λ (x : PageState). nat_lt 0 (length x.own)) (page_in s space q) false
+unfolding has_own
+own_in s space q = ap (λ (o : Option Holding). option_map_or (λ holding. nat_lt 0 (length holding.own)) o false) (ledger_page s space q) ∙ by (page_in s space q)
+  where
+    by : (o : Option PageState) → option_map_or (λ (holding : Holding). nat_lt 0 (length holding.own)) (option_map (held_page s.zero_frame) o) false
+        ≡ option_map_or (λ (x : PageState). nat_lt 0 (length x.own)) o false
+    by None = refl
+    by (Some x) = refl
+
+-- a page put among those of a space
+awaiting_put : (s : State) (to p : ℕ) (x : PageState) → (space_in (put_shared s to p x) to).awaiting ≡ remove (space_in s to).awaiting p
+unfolding put_shared
+awaiting_put s to p x = ap (λ (y : SpaceState). y.awaiting) (space_put s to _ to refl)
+
+put_there : (s : State) (to p : ℕ) (x : PageState) → holds_space (put_shared s to p x) to ≡ true
+unfolding put_shared put_space
+put_there s to p x = ap is_some (get_same s.spaces to to _ refl)
+
+-- a map with a key isn't empty
+len_some : (m : Pages) (p : ℕ) → is_some (get m p) ≡ true → 0 < len m
+len_some m p some = by (len m) refl
+  where
+    by : (n : ℕ) → len m ≡ n → 0 < len m
+    by zero none = let no = sym some ∙ ap is_some (ap (λ (k : Pages). get k p) (empty_of_len m none) ∙ get-empty nat_cmp p) in cc
+    by (suc n) is = omega (arith, is)
+
+-- A page that awaits as another space has it, shared.
+module _ (s : State) (from to page : ℕ) (differs : from ≡ to → ⊥) (waits : IsSome (get (space_in s to).awaiting page)) (like : AwaitsLike s from to page) where
+  record Both : Type 0 where
+    pub entry : PageEntry
+    pub x : PageState
+    pub awaits : get (space_in s to).awaiting page ≡ Some entry
+    pub there : page_in s from page ≡ Some x
+
+  both : Both
+  both = by (get (space_in s to).awaiting page) (page_in s from page) refl refl
+    where
+      by : (e : Option PageEntry) (o : Option PageState) → get (space_in s to).awaiting page ≡ e → page_in s from page ≡ o → Both
+      by None o e_is o_is = let no = sym waits ∙ ap is_some e_is in cc
+      by (Some e) None e_is o_is =
+          let no = ap is_some (sym (ap (option_map (λ (e : PageEntry). e.frame)) e_is) ∙ like ∙ ap (option_map (λ (x : PageState). x.entry.frame)) o_is) in cc
+      by (Some e) (Some x) e_is o_is = record { entry = e; x = x; awaits = e_is; there = o_is }
+
+  is_put : with_shared s from to page ≡ put_shared s to page (shared_page both.entry both.x)
+  unfolding with_shared
+  is_put =
+      ap (λ (o : Option PageEntry). option_map_or (λ e. option_map_or (λ x. put_shared s to page (shared_page e x)) (page_in s from page) s) o s) both.awaits
+      ∙ ap (λ (o : Option PageState). option_map_or (λ x. put_shared s to page (shared_page both.entry x)) o s) both.there
+
+  from_same : (q : ℕ) → page_in (with_shared s from to page) from q ≡ page_in s from q
+  from_same q = ap (λ (t : State). page_in t from q) is_put ∙ page_shared_beside s to page _ from q (λ same _. differs same)
+
+  pub awaiting_is : (space_in (with_shared s from to page) to).awaiting ≡ remove (space_in s to).awaiting page
+  awaiting_is = ap (λ (t : State). (space_in t to).awaiting) is_put ∙ awaiting_put s to page _
+
+  pub stays_there : holds_space (with_shared s from to page) to ≡ true
+  stays_there = ap (λ (t : State). holds_space t to) is_put ∙ put_there s to page _
+
+  pub from_there : is_some (page_in s from page) ≡ true
+  from_there = ap is_some both.there
+
+  -- one page fewer awaits
+  pub one_fewer : len (space_in (with_shared s from to page) to).awaiting < len (space_in s to).awaiting
+  one_fewer =
+      let count = ap len awaiting_is ∙ len-remove nat_cmp_total (space_in s to).awaiting page
+      ∙ ap (λ (b : Bool). cond b (len (space_in s to).awaiting - 1) (len (space_in s to).awaiting)) waits in
+      let some = len_some (space_in s to).awaiting page waits in
+      omega (arith, count, some)
+
+  pub still_bare : (until : ℕ) → AwaitBare s from to until → AwaitBare (with_shared s from to page) from to until
+  still_bare until bare q low some = by_key q page
+      (λ same. let no = sym some ∙ ap is_some (ap (λ (m : Pages). get m q) awaiting_is ∙ removed_same (space_in s to).awaiting page q same) in cc)
+      (λ other.
+      let same = ap (λ (m : Pages). get m q) awaiting_is ∙ removed_other (space_in s to).awaiting page q other in
+      let was = bare q low (ap is_some (sym same) ∙ some) in (
+        ap (option_map (λ (e : PageEntry). e.frame)) same ∙ was.0 ∙ ap (option_map (λ (x : PageState). x.entry.frame)) (sym (from_same q)),
+        own_in (with_shared s from to page) from q ∙ ap (λ (o : Option PageState). option_map_or (λ (x : PageState). nat_lt 0 (length x.own)) o false) (from_same q) ∙ sym (own_in s from q) ∙ was.1,
+      ))
+
+-- What the tables say of it.
+module _ (m : MemoryView) (joined : IsJoined m) (from to : ℕ) where
+  pub bare_at : (page : ℕ) → has_own (books (state_of m)) from page ≡ false → overlay_at m.table from page ≡ None
+  unfolding page_state
+  bare_at page none = at (page_at m.table from page) refl
+    where
+      none_of : (x : PageView) → page_at m.table from page ≡ Some x → (o : Option Entry) → x.overlay ≡ o → nat_lt 0 (length (lines_of o)) ≡ false → o ≡ None
+      none_of x there None is h = refl
+      none_of x there (Some e) is h =
+          let some = (joined.held from page x there).lined e is in
+          let yes : nat_lt 0 (length e.bits) ≡ true = grind (arith, nat_tests) in
+          let no = sym yes ∙ h in cc
+
+      at : (o : Option PageView) → page_at m.table from page ≡ o → overlay_at m.table from page ≡ None
+      at None is = ap (option_and_then (λ (x : PageView). x.overlay)) is
+      at (Some x) is =
+          ap (option_and_then (λ (x : PageView). x.overlay)) is
+          ∙ none_of x is x.overlay refl
+          (sym (ap (λ (o : Option PageState). option_map_or (λ (x : PageState). nat_lt 0 (length x.own)) o false) (state_page m from page ∙ ap (option_map (page_state m.store)) is))
+          ∙ sym (own_in (state_of m) from page) ∙ none)
+
+-- What holds while pages are shared.
+pub record IsSharing (store : Store) (old now : LedgerView) (from to until : ℕ) : Type 0 where
+  pub joined : IsJoined (view_of store now)
+  pub space : has_space now to ≡ true
+  pub bare : AwaitBare (state_of (view_of store now)) from to until
+  pub run : AreShared from to until (state_of (view_of store old)) (state_of (view_of store now))
+
+-- One more page.
+pub record HasShareStep (store : Store) (old now : LedgerView) (from to until page : ℕ) : Type 0 where
+  pub there : IsSome (page_at now from page)
+  pub frame : frame_awaiting now to page ≡ frame_at now from page
+  pub bare : overlay_at now from page ≡ None
+  pub next : (new : LedgerView) → IsJoined (view_of store new) → state_of (view_of store new) ≡ with_shared (state_of (view_of store now)) from to page
+      → IsSharing store old new from to until
+  pub fewer : (new : LedgerView) → state_of (view_of store new) ≡ with_shared (state_of (view_of store now)) from to page
+      → len (space_in (state_of (view_of store new)) to).awaiting < len (space_in (state_of (view_of store now)) to).awaiting
+
+pub share_step : (store : Store) (old now : LedgerView) (from to until page : ℕ) → (from ≡ to → ⊥) → IsSharing store old now from to until
+    → page < until → IsLeast (space_at now to).awaiting page → HasShareStep store old now from to until page
+share_step store old now from to until page differs h low least = record {
+  there = sym (state_page_some m from page) ∙ from_there s from to page differs waits was.0;
+  frame =
+      sym (ap (λ (t : Pages). option_map (λ (e : PageEntry). e.frame) (get t page)) (state_awaiting m to)) ∙ was.0 ∙ frame_of_page m from page;
+  bare = bare_at m h.joined from to page was.1;
+  next = λ new joined is. record {
+    joined = joined;
+    space = sym (state_holds (view_of store new) to) ∙ ap (λ (t : State). holds_space t to) is ∙ stays_there s from to page differs waits was.0;
+    bare = subst (λ (t : State). AwaitBare t from to until) (sym is) (still_bare s from to page differs waits was.0 until h.bare);
+    run = subst (λ (t : State). AreShared from to until (state_of (view_of store old)) t) (sym is) (then_one _ s page low first h.run);
+  };
+  fewer = λ new is. subst (λ (t : State). len (space_in t to).awaiting < len (space_in s to).awaiting) (sym is) (one_fewer s from to page differs waits was.0);
+}
+  where
+    m : MemoryView
+    m = view_of store now
+
+    s : State
+    s = state_of (view_of store now)
+
+    first : IsLeast (space_in s to).awaiting page
+    first = subst (λ (t : Pages). IsLeast t page) (sym (state_awaiting (view_of store now) to)) least
+
+    waits : IsSome (get (space_in s to).awaiting page)
+    waits = first.there
+
+    was : AwaitsLike s from to page × (has_own (books s) from page ≡ false)
+    was = h.bare page low first.there
