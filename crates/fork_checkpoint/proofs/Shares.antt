@@ -73,7 +73,7 @@ cut_put v s x absent = λ i. record { spaces = gone i; frames = v.frames; zero_f
         (λ other. removed_other (insert v.spaces s x) s q other ∙ get_other v.spaces s q x other))
 
 -- the entries of a space's pages
-entry_at : (v : State) (s r : ℕ) → get (entries_in v s) r ≡ option_map (λ (x : PageState). x.entry) (page_in v s r)
+pub entry_at : (v : State) (s r : ℕ) → get (entries_in v s) r ≡ option_map (λ (x : PageState). x.entry) (page_in v s r)
 unfolding entries_in
 entry_at v s r = get_viewed (λ _ (x : PageState). x.entry) (space_in v s).pages r ∙ ap (option_map (λ (x : PageState). x.entry)) (sym (page_of v s r))
 
@@ -81,7 +81,7 @@ entries_same : (v w : State) (s : ℕ) → space_in v s ≡ space_in w s → ent
 unfolding entries_in
 entries_same v w s e = ap (λ (x : SpaceState). viewed (λ _ (y : PageState). y.entry) x.pages) e
 
-entry_some : (v : State) (s r : ℕ) → is_some (get (entries_in v s) r) ≡ true → is_some (page_in v s r) ≡ true
+pub entry_some : (v : State) (s r : ℕ) → is_some (get (entries_in v s) r) ≡ true → is_some (page_in v s r) ≡ true
 entry_some v s r some = sym (at (page_in v s r)) ∙ ap is_some (sym (entry_at v s r)) ∙ some
   where
     at : (o : Option PageState) → is_some (option_map (λ (x : PageState). x.entry) o) ≡ is_some o

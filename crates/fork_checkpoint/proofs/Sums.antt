@@ -1,4 +1,4 @@
-use Rattle.std.specs.Prelude.{◌≡◌, ℕ, ◌+◌, ◌*◌, ◌==◌, ◌<◌, ◌≤◌, Bool, true, false, not, ◌&&◌, ◌||◌, nat_eq, nat_lt, length, Option, Some, None, is_some, refl}
+use Rattle.std.specs.Prelude.{◌≡◌, ℕ, zero, suc, ◌+◌, ◌-◌, ◌*◌, ◌==◌, ◌<◌, ◌≤◌, Bool, true, false, not, ◌&&◌, nat_eq, nat_lt, length, Option, Some, None, is_some, refl}
 use Rattle.std.proofs.Common.{sym, ap, ◌∙◌, arith}
 use Rattle.std.proofs.lemmas.Bool.Decides.{nat_tests}
 use Rattle.std.specs.FinMap.{get, insert, remove, values}
@@ -6,19 +6,21 @@ use Rattle.sizes.specs.declared.TheConstants.{FRAME_UNITS, PAGE_END}
 use Rattle.number_maps.specs.Values.{HasValue, any_at, no_values, sum_new}
 use Rattle.ledger.specs.Ledger.{Holding, Ledger, Space, all_holdings, holding_at, pages_of}
 use Rattle.ledger.specs.Units.{class, units}
-use Rattle.ledger.specs.ClassLaws.{class_most}
+use Rattle.ledger.specs.ClassLaws.{class_most, class_none}
 use Rattle.ledger.specs.CopyLaws.{class_sum, units_space}
 use Rattle.ledger.specs.PlaceLaws.{page_is, pages_kept}
 use Rattle.ledger.specs.AloneLaws.{any_page, are, not_true}
 use Rattle.ledger.specs.UnitLaws.{have, unused_in}
 use Rattle.overlay_pages.specs.State.{PageState, State, books, held_page, page_in}
 use Rattle.overlay_pages.specs.Changes.{limit_of, units_of}
-use Rattle.overlay_pages.specs.Calls.{IsNextPage}
+use Rattle.space_ledger.specs.Calls.{IsNextOwn}
+use Rattle.ledger.specs.Changes.{has_own}
+use Rattle.std.specs.Option.{option_map_or}
 use Rattle.promotion.specs.Counted.{class_at}
 use Rattle.promotion.specs.CountLaws.{class_there}
 use Rattle.promotion.specs.Turns.{held_there, there_of}
-use Rattle.promotion.specs.Walks.{walked_all, walked_one}
-use Rattle.fork_checkpoint.specs.Parts.{low_part, low_part_absent, low_part_all, low_part_more, low_part_none}
+use Rattle.promotion.specs.Walks.{one_further}
+use Rattle.fork_checkpoint.specs.Parts.{low_part, low_part_absent, low_part_all, low_part_more, low_part_none, low_part_past}
 use Rattle.fork_checkpoint.specs.Forked.{ArePagesLow}
 
 -- The units with copies of overlays.
@@ -45,7 +47,7 @@ units_part ledger from to pages differs part =
 abbrev pub pages_until : State → ℕ → ℕ → Space
 pages_until v space from = low_part (pages_of (books v) space) from
 
--- what the walk says of them
+-- they are there in the state too
 in_state : (v : State) (space r : ℕ) → is_some (get (pages_of (books v) space) r) ≡ true → is_some (page_in v space r) ≡ true
 in_state v space r some = at (holding_at (books v) space r) refl (ap is_some (page_is (books v) space r) ∙ some)
   where
@@ -53,12 +55,54 @@ in_state v space r some = at (holding_at (books v) space r) refl (ap is_some (pa
     at None is h = let no = sym h ∙ ap is_some is in cc
     at (Some y) is h = ap is_some (there_of v space r y is).there
 
-pub passed_all : (v : State) (space from : ℕ) → IsNextPage v space from None → (r : ℕ) → is_some (get (pages_of (books v) space) r) ≡ true → nat_lt r from ≡ true
-passed_all v space from none r some = walked_all v space from none r (in_state v space r some)
+-- Pages without own lines add nothing.
+module _ (v : State) (space : ℕ) where
+  abbrev pages : Space
+  pages = pages_of (books v) space
 
-pub passed_one : (v : State) (space from page : ℕ) → IsNextPage v space from (Some page) → (r : ℕ) → is_some (get (pages_of (books v) space) r) ≡ true
-    → nat_lt r (page + 1) ≡ (nat_lt r from || nat_eq r page)
-passed_one v space from page next r some = walked_one v space from page next r (in_state v space r some)
+  none_at : (q : ℕ) → has_own (books v) space q ≡ false → (y : Holding) → get pages q ≡ Some y → class (length y.own) ≡ 0
+  unfolding has_own
+  none_at q none y at = ap class (empty_own (length y.own) (sym (ap (λ (o : Option Holding). option_map_or (λ holding. nat_lt 0 (length holding.own)) o false) (page_is (books v) space q ∙ at)) ∙ none)) ∙ class_none
+    where
+      empty_own : (n : ℕ) → nat_lt 0 n ≡ false → n ≡ 0
+      empty_own n e = grind (arith, nat_tests)
+
+  one_bare : (q : ℕ) → has_own (books v) space q ≡ false → class_sum (values (pages_until v space (q + 1))) ≡ class_sum (values (pages_until v space q))
+  unfolding class_sum
+  one_bare q none = at (get pages q) refl
+    where
+      at : (o : Option Holding) → get pages q ≡ o → class_sum (values (pages_until v space (q + 1))) ≡ class_sum (values (pages_until v space q))
+      at None is = ap (λ (m : Space). class_sum (values m)) (sym (low_part_past pages q (q + 1) (omega arith) (λ r le lt. ap (get pages) (same r le lt) ∙ is)))
+        where
+          same : (r : ℕ) → q ≤ r → r < q + 1 → r ≡ q
+          same r le lt = omega (arith, le, lt)
+      at (Some y) is =
+          let more = ap (λ (m : Space). class_sum (values m)) (low_part_more pages q q y is (λ r _. one_further q r)) in
+          let one = sum_new (λ (y : Holding). class (length y.own)) (pages_until v space q) q y (low_part_absent pages q q (omega arith)) in
+          let zero_class = none_at q none y is in
+          omega (arith, more, one, zero_class)
+
+  pub all_bare : (from n : ℕ) → ((q : ℕ) → from ≤ q → q < from + n → has_own (books v) space q ≡ false)
+      → class_sum (values (pages_until v space (from + n))) ≡ class_sum (values (pages_until v space from))
+  all_bare from zero none = ap (λ k. class_sum (values (pages_until v space k))) (none_more from)
+    where
+      none_more : (k : ℕ) → k + 0 ≡ k
+      none_more k = omega arith
+  all_bare from (suc n) none =
+      ap (λ k. class_sum (values (pages_until v space k))) (one_more from n)
+      ∙ one_bare (from + n) (none (from + n) (omega arith) (omega arith))
+      ∙ all_bare from n (λ q le lt. none q le (omega (arith, lt)))
+    where
+      one_more : (k n : ℕ) → k + suc n ≡ (k + n) + 1
+      one_more k n = omega arith
+
+  pub bare_between : (from page : ℕ) → from ≤ page → ((q : ℕ) → from ≤ q → q < page → has_own (books v) space q ≡ false)
+      → class_sum (values (pages_until v space page)) ≡ class_sum (values (pages_until v space from))
+  bare_between from page le none =
+      ap (λ k. class_sum (values (pages_until v space k))) (sym back) ∙ all_bare from (page - from) (λ q ge lt. none q ge (omega (arith, lt, le)))
+    where
+      back : from + (page - from) ≡ page
+      back = omega (arith, le)
 
 -- The units with copies of the overlays below a page.
 pub record IsSumming (v : State) (space units_kept from : ℕ) : Type 0 where
@@ -78,37 +122,34 @@ summing_none v space n is fits =
 pub summing_few : (v : State) (space n from page : ℕ) → IsSumming v space n from → from ≤ page → n ≤ limit_of v + FRAME_UNITS * page
 summing_few v space n from page h le = let few = h.few in omega (arith, few, le)
 
-pub summing_more : (v : State) (space n from page m : ℕ) (x : PageState) → IsSumming v space n from → IsNextPage v space from (Some page) → page_in v space page ≡ Some x
+pub summing_more : (v : State) (space n from page m : ℕ) (x : PageState) → IsSumming v space n from → IsNextOwn (books v) space from (Some page) → page_in v space page ≡ Some x
     → m ≡ n + class_at v space page → page < PAGE_END → IsSumming v space m (page + 1)
 unfolding class_sum
 summing_more v space n from page m x h next there sum low =
     let held = held_page v.zero_frame x in
     let had = held_there v space page x there in
-    let more : class_sum (values (pages_until v space (page + 1))) ≡ class_sum (values (insert (pages_until v space from) page held)) =
-    ap (λ (m : Space). class_sum (values m)) (low_part_more (pages_of (books v) space) from page held (sym (page_is (books v) space page) ∙ had) (passed_one v space from page next)) in
-    let one : class_sum (values (insert (pages_until v space from) page held)) ≡ class_sum (values (pages_until v space from)) + class (length x.own) =
-    sum_new (λ (y : Holding). class (length y.own)) (pages_until v space from) page held (low_part_absent (pages_of (books v) space) from page next.0) in
+    let between = bare_between v space from page next.0 next.2 in
+    let more : class_sum (values (pages_until v space (page + 1))) ≡ class_sum (values (insert (pages_until v space page) page held)) =
+    ap (λ (m : Space). class_sum (values m)) (low_part_more (pages_of (books v) space) page page held (sym (page_is (books v) space page) ∙ had) (λ r _. one_further page r)) in
+    let one : class_sum (values (insert (pages_until v space page) page held)) ≡ class_sum (values (pages_until v space page)) + class (length x.own) =
+    sum_new (λ (y : Holding). class (length y.own)) (pages_until v space page) page held (low_part_absent (pages_of (books v) space) page page (omega arith)) in
     let segment = class_there v space page held had in
     let most = class_most (length x.own) in
     let kept = h.sum in
     let few = summing_few v space n from page h next.0 in record {
-      sum = omega (arith, sum, more, one, segment, kept);
+      sum = omega (arith, sum, more, one, segment, kept, between);
       low = omega arith;
       few = omega (arith, few, sum, segment, most);
     }
 
-pub summed_all : (v : State) (space n from : ℕ) → IsSumming v space n from → IsNextPage v space from None → n ≡ units_of v + class_sum (values (pages_of (books v) space))
-summed_all v space n from h none =
-    let all : class_sum (values (pages_until v space from)) ≡ class_sum (values (pages_of (books v) space)) =
-    ap (λ (m : Space). class_sum (values m)) (low_part_all (pages_of (books v) space) from (passed_all v space from none)) in
+pub summed_all : (v : State) (space n from : ℕ) → IsSumming v space n from → ArePagesLow v space → IsNextOwn (books v) space from None
+    → n ≡ units_of v + class_sum (values (pages_of (books v) space))
+summed_all v space n from h low none =
+    let rest = bare_between v space from PAGE_END h.low (λ q le lt. none q le) in
+    let all : class_sum (values (pages_until v space PAGE_END)) ≡ class_sum (values (pages_of (books v) space)) =
+    ap (λ (m : Space). class_sum (values m)) (low_part_all (pages_of (books v) space) PAGE_END (λ r some. below r (low r (in_state v space r some)))) in
     let kept = h.sum in
-    omega (arith, kept, all)
-
-pub summed_low : (v : State) (space n from : ℕ) → IsSumming v space n from → IsNextPage v space from None → ArePagesLow v space
-summed_low v space n from h none r there = let end = h.low in below_end (walked_all v space from none r there)
+    omega (arith, kept, rest, all)
   where
-    below_end : nat_lt r from ≡ true → r < PAGE_END
-    below_end e = let low = h.low in let lt : r < from = is_low e in omega (arith, low, lt)
-      where
-        is_low : nat_lt r from ≡ true → r < from
-        is_low e = grind (arith, nat_tests)
+    below : (r : ℕ) → r < PAGE_END → nat_lt r PAGE_END ≡ true
+    below r lt = grind (arith, nat_tests)

@@ -1,4 +1,4 @@
-use Rattle.std.specs.Prelude.{◌≡◌, ℕ, ◌+◌, ◌≤◌, Bool, true, false, cond, not, ◌||◌, nat_eq, nat_lt, Option, Some, None, is_some, refl}
+use Rattle.std.specs.Prelude.{◌≡◌, ℕ, ◌+◌, ◌<◌, ◌≤◌, Bool, true, false, cond, not, ◌||◌, nat_eq, nat_lt, Option, Some, None, is_some, refl}
 use Rattle.std.proofs.Common.{sym, ap, ◌∙◌, arith}
 use Rattle.std.proofs.lemmas.Bool.Decides.{nat_tests}
 use Rattle.std.specs.List.{sum_by}
@@ -99,6 +99,36 @@ module _ {X : Type 0} (m : FinMap nat_cmp X) (from page : ℕ) (x : X) (there : 
   high_part_less = alike _ _ (λ q. by_key q page
       (λ same. high_part_at m (page + 1) q ∙ ap (λ n. cond (nat_lt n (page + 1)) None (get m n)) same ∙ ap (λ b. cond b None (get m page)) low ∙ sym (removed_same (high_part m from) page q same))
       (λ other. high_part_at m (page + 1) q ∙ same_part (λ b o. cond b None o) (λ b c. either b None ∙ sym (either c None)) q other ∙ sym (high_part_at m from q) ∙ sym (removed_other (high_part m from) page q other)))
+
+-- What isn't there goes from one part to the other unseen.
+module _ {X : Type 0} (m : FinMap nat_cmp X) (from to : ℕ) (le : from ≤ to) (none : (q : ℕ) → from ≤ q → q < to → get m q ≡ None) where
+  unseen : {Y : Type 0} (choose : Bool → Option X → Y) → ((b c : Bool) → choose b None ≡ choose c None) → (q : ℕ)
+      → choose (nat_lt q from) (get m q) ≡ choose (nat_lt q to) (get m q)
+  unseen choose same q = by_test (nat_lt q from) (nat_lt q to) refl refl
+    where
+      between : nat_lt q from ≡ false → nat_lt q to ≡ true → get m q ≡ None
+      between e f = none q above below
+        where
+          above : from ≤ q
+          above = grind (arith, nat_tests)
+
+          below : q < to
+          below = grind (arith, nat_tests)
+
+      both : (b c : Bool) → nat_lt q from ≡ b → nat_lt q to ≡ c → choose b (get m q) ≡ choose c (get m q) → choose (nat_lt q from) (get m q) ≡ choose (nat_lt q to) (get m q)
+      both b c e f h = ap (λ k. choose k (get m q)) e ∙ h ∙ sym (ap (λ k. choose k (get m q)) f)
+
+      by_test : (b c : Bool) → nat_lt q from ≡ b → nat_lt q to ≡ c → choose (nat_lt q from) (get m q) ≡ choose (nat_lt q to) (get m q)
+      by_test true true e f = both true true e f refl
+      by_test false false e f = both false false e f refl
+      by_test false true e f = both false true e f (ap (choose false) (between e f) ∙ same false true ∙ sym (ap (choose true) (between e f)))
+      by_test true false e f = let le_too = le in let yes : nat_lt q to ≡ true = grind (arith, nat_tests) in let no = sym yes ∙ f in cc
+
+  pub low_part_past : low_part m from ≡ low_part m to
+  low_part_past = alike _ _ (λ q. low_part_at m from q ∙ unseen (λ b o. cond b o None) (λ b c. either b None ∙ sym (either c None)) q ∙ sym (low_part_at m to q))
+
+  pub high_part_past : high_part m from ≡ high_part m to
+  high_part_past = alike _ _ (λ q. high_part_at m from q ∙ unseen (λ b o. cond b None o) (λ b c. either b None ∙ sym (either c None)) q ∙ sym (high_part_at m to q))
 
 pub low_part_absent : {X : Type 0} (m : FinMap nat_cmp X) (from page : ℕ) → from ≤ page → get (low_part m from) page ≡ None
 low_part_absent m from page le = low_part_at m from page ∙ ap (λ b. cond b (get m page) None) above

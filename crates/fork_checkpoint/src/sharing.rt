@@ -9,10 +9,11 @@ ghost use Rattle.promotion.specs.Settled.{FitsAfter};
 ghost use Rattle.fork_checkpoint.specs.Forked.{ArePagesLow, AwaitsAll, FillsSpace, with_copy};
 
 use overlay_memory::OverlayMemory;
+use sizes::PAGE_END;
 use std::alloc::AllocError;
 
-// Each page is shared with the space in which it awaits, the least first. The units become no fewer with each page, and those after
-// the last one are there.
+// Each page is shared with the space in which it awaits, the least first: those without own lines as far as the next one that has
+// some, and then that one. The units become no fewer with each page, and those after the last one are there.
 fn share_all(mem: &mut OverlayMemory, from: u16, to: u16)
     requires differ { from ≢ to }
     requires there { holds_space (state_of mem.old) from ≡ true }
@@ -24,10 +25,12 @@ fn share_all(mem: &mut OverlayMemory, from: u16, to: u16)
     ensures { state_of mem.new ≡ with_copy (state_of mem.old) from to }
 {
     let mut at = 0;
-    'sharing: while let Some(page) = mem.next_page(from, at) {
+    'sharing: while let Some(page) = mem.next_overlaid(from, at) {
+        mem.share_bare(from, to, page);
         mem.share_page(from, to, page);
         at = page + 1;
     }
+    mem.share_bare(from, to, PAGE_END);
 }
 
 /// Gives a space that was just made the pages of another one, of which none awaits. The units after it are there. After want of

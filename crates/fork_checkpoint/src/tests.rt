@@ -193,6 +193,36 @@ fn a_fork_has_the_bytes_and_no_store_is_seen_across(rt: HostRuntime) -> Result<(
     Ok(())
 }
 
+// Own lines of the first page, of one in the middle and of the last one, with pages between that have none.
+#[test]
+fn a_fork_has_pages_with_and_without_own_lines(rt: HostRuntime) -> Result<(), Fail> {
+    let mut spaces = Spaces::new(&rt, rt.alloc(), 8)?;
+    spaces.add_space(&rt, 1)?;
+    spaces.map_zero(&rt, 1, 0, 6)?;
+    assert_eq!(rt; spaces.place(&rt, 1, 6, 5), Ok(()));
+    spaces.map_zero(&rt, 1, 7, 2)?;
+    for page in [0u64, 3, 8] {
+        spaces.write(&rt, 1, page * 4096 + 64, &[page as u8 + 1]);
+    }
+    assert_counts(&rt, &spaces, 35, 3);
+    assert_eq!(rt; spaces.fork(&rt, 1, 2), Ok(()));
+    assert_counts(&rt, &spaces, 38, 6);
+    for page in 0..9u64 {
+        let own = if page == 0 || page == 3 || page == 8 {
+            1
+        } else {
+            0
+        };
+        assert_eq!(rt; spaces.found(&rt, 2, page), (own, false), "page {page}");
+        let byte = spaces.byte(&rt, 1, page * 4096 + 64);
+        assert_eq!(rt; spaces.byte(&rt, 2, page * 4096 + 64), byte, "page {page}");
+    }
+    spaces.write(&rt, 2, 64, &[9]);
+    assert_counts(&rt, &spaces, 38, 6);
+    assert_eq!(rt; (spaces.byte(&rt, 1, 64), spaces.byte(&rt, 2, 64)), (1, 9));
+    Ok(())
+}
+
 #[test]
 fn a_frame_is_alone_again_once_one_side_is_gone(rt: HostRuntime) -> Result<(), Fail> {
     let mut spaces = loaded(&rt, rt.alloc(), 4)?;

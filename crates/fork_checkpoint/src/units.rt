@@ -21,7 +21,7 @@ fn with_segment(mem: &OverlayMemory, space: u16, page: u64, units: u32) -> u32
     units + class_of(mem.lines_of(space, page).len())
 }
 
-/// The units with a copy of the overlay of each page of a space. Costs a look-up for each page.
+/// The units with a copy of the overlay of each page of a space. Costs a few look-ups for each page with own lines.
 pub(crate) fn units_copied(mem: &OverlayMemory, space: u16) -> u32
     requires there { holds_space (state_of mem.now) space ≡ true }
     ensures sum { result ≡ units_with_copies (state_of mem.now) space }
@@ -29,7 +29,7 @@ pub(crate) fn units_copied(mem: &OverlayMemory, space: u16) -> u32
 {
     let mut units = mem.units();
     let mut from = 0;
-    'counting: while let Some(page) = mem.next_page(space, from) {
+    'counting: while let Some(page) = mem.next_overlaid(space, from) {
         units = with_segment(mem, space, page, units);
         from = page + 1;
     }
