@@ -5,15 +5,15 @@ use Rattle.sizes.specs.declared.TheConstants.{PAGE_END}
 use Rattle.ledger.specs.Ledger.{Holding, holding_at, is_alone}
 use Rattle.ledger.specs.Changes.{has_own}
 use Rattle.ledger.specs.Events.{Commit, ledger_after}
+use Rattle.space_ledger.specs.Calls.{IsNextOwn}
 use Rattle.overlay_pages.specs.State.{PageState, State, books, held_page, page_in, put_page, seen_page, turned_page}
 use Rattle.overlay_pages.specs.StateLaws.{changed_there}
 use Rattle.overlay_pages.specs.Changes.{committed}
-use Rattle.overlay_pages.specs.Calls.{IsNextPage}
 use Rattle.promotion.specs.Settled.{ArePagesApart, HasCommittedAlone, alone_in, with_committed}
 use Rattle.promotion.specs.FateFolds.{after_commit, none_own, own_is, same_turned, widened}
 use Rattle.promotion.specs.Joined.{IsBare}
-use Rattle.promotion.specs.Turns.{HasTurned, WasThere, alone_now, are_settled, held_there, is_there, none_yet, one_more, own_now, said_again, still, was_there}
-use Rattle.promotion.specs.Walks.{at_first, at_last, next_done, next_kept, not_yet, so_far}
+use Rattle.promotion.specs.Turns.{HasTurned, WasThere, alone_now, are_settled, held_there, none_yet, one_more, own_now, own_there, said_again, still, was_there}
+use Rattle.promotion.specs.Walks.{at_first, come_past, come_to, next_done, next_kept, not_yet, so_far}
 
 -- Pages that are alone are committed, one after the other.
 
@@ -35,47 +35,49 @@ and_right : (b c : Bool) → (b && c) ≡ true → c ≡ true
 and_right true c e = e
 and_right false c e = cc
 
-and_left : (b c : Bool) → (b && c) ≡ true → b ≡ true
-and_left true c e = refl
-and_left false c e = cc
+-- a page without own lines isn't one of them
+bare_stays : (v : State) (space r : ℕ) → has_own (books v) space r ≡ false → to_commit v space r ≡ false
+bare_stays v space r bare = ap (λ b. b && is_alone (books v) space r) bare
 
 module _ (old now new : State) (space from page : ℕ) (apart : ArePagesApart old space) (h : IsCommitting old now space from)
-    (next : IsNextPage now space from (Some page)) (is : new ≡ with_committed now space page) (low : page < PAGE_END) where
+    (next : IsNextOwn (books now) space from (Some page)) (is : new ≡ with_committed now space page) (low : page < PAGE_END) where
   abbrev test : ℕ → Bool
   test = to_commit old space
 
+  reached : HasTurned seen_page (so_far test page) (alone_in old space) old now space
+  reached = come_to seen_page test (alone_in old space) old now space from h.turned (bare_stays old space) page next
+
   was : WasThere old space page
-  was = was_there seen_page _ _ old now space page h.turned next.1
+  was = was_there seen_page _ _ old now space page reached (own_there now space page next.1)
 
   pub committing_more : IsCommitting old new space (page + 1)
   unfolding with_committed
   committing_more = record { turned = by_test (test page) refl; low = omega arith }
     where
-      unturned : so_far test from page ≡ false
-      unturned = not_yet test from page next.0
+      unturned : so_far test page page ≡ false
+      unturned = not_yet test page page (omega arith)
 
       at : page_in now space page ≡ Some was.x
-      at = still seen_page (so_far test from) (alone_in old space) old now space page was.x h.turned was.had unturned
+      at = still seen_page (so_far test page) (alone_in old space) old now space page was.x reached was.had unturned
 
       same_test : (has_own (books now) space page && is_alone (books now) space page) ≡ test page
-      same_test = λ i. own_now old now space page was.x was.had at i && alone_now seen_page (so_far test from) old now space page was.x apart h.turned unturned was.had i
+      same_test = λ i. own_now old now space page was.x was.had at i && alone_now seen_page (so_far test page) old now space page was.x apart reached unturned was.had i
 
       by_test : (b : Bool) → test page ≡ b → HasTurned seen_page (so_far test (page + 1)) (alone_in old space) old new space
       by_test false e =
           let kept : new ≡ now = is ∙ ap (λ b. cond b (turned_page committed now space page) now) (same_test ∙ e) in
           subst (λ (v : State). HasTurned seen_page (so_far test (page + 1)) (alone_in old space) old v space) (sym kept)
-          (said_again seen_page _ _ (alone_in old space) old now space h.turned
-          (λ r x had. next_kept test now space from page next r (is_there seen_page _ _ old now space r x h.turned had) e))
+          (said_again seen_page _ _ (alone_in old space) old now space reached (λ r x had. next_kept test page r e))
       by_test true e =
           let put : new ≡ put_page now space page (committed was.x) =
           is ∙ ap (λ b. cond b (turned_page committed now space page) now) (same_test ∙ e) ∙ changed_there committed now space page was.x at in
           subst (λ (v : State). HasTurned seen_page (so_far test (page + 1)) (alone_in old space) old v space) (sym put)
           (said_again seen_page _ _ (alone_in old space) old (put_page now space page (committed was.x)) space
-          (one_more seen_page (so_far test from) (alone_in old space) old now space page was.x (committed was.x) h.turned was.had unturned refl refl refl (λ _. refl)
+          (one_more seen_page (so_far test page) (alone_in old space) old now space page was.x (committed was.x) reached was.had unturned refl refl refl (λ _. refl)
           (λ no. let yes = and_right (has_own (books old) space page) (is_alone (books old) space page) e in let never = sym yes ∙ no in cc))
-          (λ r x had. next_done test now space from page next r (is_there seen_page _ _ old now space r x h.turned had) e))
+          (λ r x had. next_done test page r e))
 
-pub committed_all : (old now : State) (space from : ℕ) → IsBare old space → IsCommitting old now space from → IsNextPage now space from None → HasCommittedAlone old now space
+pub committed_all : (old now : State) (space from : ℕ) → IsBare old space → IsCommitting old now space from → IsNextOwn (books now) space from None → HasCommittedAlone old now space
 committed_all old now space from plain h none = record {
   settled = are_settled test (alone_in old space) (alone_in old space) old now space whole plain
       (λ r e. and_right (has_own (books old) space r) (is_alone (books old) space r) e) bare;
@@ -87,8 +89,7 @@ committed_all old now space from plain h none = record {
     test = to_commit old space
 
     whole : HasTurned seen_page test (alone_in old space) old now space
-    whole = said_again seen_page _ _ (alone_in old space) old now space h.turned
-        (λ r x had. sym (at_last test now space from none r (is_there seen_page _ _ old now space r x h.turned had)))
+    whole = come_past seen_page test (alone_in old space) old now space from h.turned (bare_stays old space) none
 
     own_of : (r : ℕ) (x : PageState) → page_in old space r ≡ Some x → has_own (books old) space r ≡ false → x.own ≡ []
     own_of r x had e = none_own x.own (sym (own_is (books old) space r (held_page old.zero_frame x) (held_there old space r x had)) ∙ e)

@@ -11,16 +11,16 @@ use Rattle.ledger.specs.Ledger.{Ledger, is_alone, is_unused, without_page}
 use Rattle.ledger.specs.Changes.{has_own}
 use Rattle.ledger.specs.Events.{Settle, ledger_after}
 use Rattle.ledger.specs.AloneLaws.{unused_without}
+use Rattle.space_ledger.specs.Calls.{IsNextOwn}
 use Rattle.overlay_pages.specs.State.{PageState, State, books, held_page, page_in, put_page, seen_page}
 use Rattle.overlay_pages.specs.Changes.{HasCopyRoom, IsNewFrame, IsPlaced, copied}
-use Rattle.overlay_pages.specs.Calls.{IsNextPage}
 use Rattle.promotion.specs.Settled.{ArePagesApart, CanCopy, FitsAfter, HasCommittedAlone, HasSettled, IsCopiedWhere, NoneAlone, alone_in, every_page}
 use Rattle.promotion.specs.FateLaws.{alike_turned}
 use Rattle.promotion.specs.FateFolds.{after_settle, both_tests, commits_first, none_alone, none_own, or_page, own_is, retold}
 use Rattle.promotion.specs.FateUnits.{room_on_the_way}
 use Rattle.promotion.specs.Joined.{IsBare}
-use Rattle.promotion.specs.Turns.{HasTurned, WasThere, alone_now, are_settled, held_there, is_there, new_origin_of, none_yet, one_more, origins_apart, own_now, said_again, still, was_there}
-use Rattle.promotion.specs.Walks.{at_first, at_last, next_done, next_kept, not_yet, so_far}
+use Rattle.promotion.specs.Turns.{HasTurned, WasThere, alone_now, are_settled, held_there, new_origin_of, none_yet, one_more, origins_apart, own_now, own_there, said_again, still, was_there}
+use Rattle.promotion.specs.Walks.{at_first, come_past, come_to, next_done, not_yet, so_far}
 
 -- Pages with own lines, of which none is alone, are copied, one after the other.
 
@@ -48,21 +48,24 @@ module _ (t : ℕ → Bool) (old now : State) (space page : ℕ) (x : PageState)
       (λ _. ap (is_unused (without_page (books now) space page)) (new_origin_of now.zero_frame frame fresh.other) ∙ unused_without (books now) space page (frame + 1) fresh.unused)
 
 module _ (old now : State) (space from page : ℕ) (apart : ArePagesApart old space) (none : NoneAlone old space) (fits : FitsAfter (Settle space) old) (h : IsCopying old now space from)
-    (next : IsNextPage now space from (Some page)) where
+    (next : IsNextOwn (books now) space from (Some page)) where
   abbrev test : ℕ → Bool
   test = to_copy old space
 
-  was : WasThere old space page
-  was = was_there seen_page _ _ old now space page h.turned next.1
+  reached : HasTurned seen_page (so_far test page) (alone_in old space) old now space
+  reached = come_to seen_page test (alone_in old space) old now space from h.turned (λ q bare. bare) page next
 
-  unturned : so_far test from page ≡ false
-  unturned = not_yet test from page next.0
+  was : WasThere old space page
+  was = was_there seen_page _ _ old now space page reached (own_there now space page next.1)
+
+  unturned : so_far test page page ≡ false
+  unturned = not_yet test page page (omega arith)
 
   at : page_in now space page ≡ Some was.x
-  at = still seen_page (so_far test from) (alone_in old space) old now space page was.x h.turned was.had unturned
+  at = still seen_page (so_far test page) (alone_in old space) old now space page was.x reached was.had unturned
 
-  same_own : has_own (books now) space page ≡ test page
-  same_own = own_now old now space page was.x was.had at
+  passes : test page ≡ true
+  passes = sym (own_now old now space page was.x was.had at) ∙ next.1
 
   not_alone : (r : ℕ) → has_own (books old) space r ≡ true → is_alone (books old) space r ≡ false
   not_alone r own = by_test (is_alone (books old) space r) refl
@@ -71,54 +74,47 @@ module _ (old now : State) (space from page : ℕ) (apart : ArePagesApart old sp
       by_test false e = e
       by_test true e = let no = sym own ∙ none r e in cc
 
-  turned_more : test page ≡ true → (frame : ℕ) → IsNewFrame now frame
-      → HasTurned seen_page (so_far test (page + 1)) (alone_in old space) old (put_page now space page (copied frame was.x)) space
-  turned_more e frame fresh =
+  turned_more : (frame : ℕ) → IsNewFrame now frame → HasTurned seen_page (so_far test (page + 1)) (alone_in old space) old (put_page now space page (copied frame was.x)) space
+  turned_more frame fresh =
       said_again seen_page _ _ (alone_in old space) old (put_page now space page (copied frame was.x)) space
-      (copied_one (so_far test from) old now space page was.x h.turned was.had unturned (not_alone page e) frame fresh)
-      (λ r x had. next_done test now space from page next r (is_there seen_page _ _ old now space r x h.turned had) e)
+      (copied_one (so_far test page) old now space page was.x reached was.had unturned (not_alone page passes) frame fresh)
+      (λ r x had. next_done test page r passes)
 
   -- the units with it are at most those after the last one
-  room_now : test page ≡ true → is_alone (books now) space page ≡ false → HasCopyRoom now space page
-  room_now e shared x there =
-      let le = room_on_the_way (books old) space (origins_apart old space apart) (λ r. alone_in old space r || nat_lt r from) (books now)
-      (retold (so_far test from) (both_tests test (λ r. alone_in old space r || nat_lt r from)) (alone_in old space) (books old) (books now) space h.turned.ledger (λ r x had. alone_too r))
-      (λ r alone. ap (λ b. b || nat_lt r from) alone) page (held_page now.zero_frame x) e (not_alone page e) (held_there now space page x there) shared in
-      let frames = h.turned.frames in
+  room_now : is_alone (books now) space page ≡ false → HasCopyRoom now space page
+  room_now shared x there =
+      let le = room_on_the_way (books old) space (origins_apart old space apart) (λ r. alone_in old space r || nat_lt r page) (books now)
+      (retold (so_far test page) (both_tests test (λ r. alone_in old space r || nat_lt r page)) (alone_in old space) (books old) (books now) space reached.ledger (λ r x had. alone_too r))
+      (λ r alone. ap (λ b. b || nat_lt r page) alone) page (held_page now.zero_frame x) passes (not_alone page passes) (held_there now space page x there) shared in
+      let frames = reached.frames in
       omega (arith, le, fits, frames)
     where
-      alone_too : (r : ℕ) → both_tests test (λ r. alone_in old space r || nat_lt r from) r ≡ so_far test from r
+      alone_too : (r : ℕ) → both_tests test (λ r. alone_in old space r || nat_lt r page) r ≡ so_far test page r
       alone_too r = by_own (test r) refl
         where
-          by_own : (b : Bool) → test r ≡ b → (test r && (alone_in old space r || nat_lt r from)) ≡ (test r && nat_lt r from)
-          by_own true e = ap (λ b. test r && (b || nat_lt r from)) (not_alone r e)
-          by_own false e = ap (λ b. b && (alone_in old space r || nat_lt r from)) e ∙ sym (ap (λ b. b && nat_lt r from) e)
+          by_own : (b : Bool) → test r ≡ b → (test r && (alone_in old space r || nat_lt r page)) ≡ (test r && nat_lt r page)
+          by_own true e = ap (λ b. test r && (b || nat_lt r page)) (not_alone r e)
+          by_own false e = ap (λ b. b && (alone_in old space r || nat_lt r page)) e ∙ sym (ap (λ b. b && nat_lt r page) e)
 
   pub can_copy : has_own (books now) space page ≡ true → CanCopy now space page
-  can_copy own = record { shared = shared; room = room_now (sym same_own ∙ own) shared }
+  can_copy own = record { shared = shared; room = room_now shared }
     where
       shared : is_alone (books now) space page ≡ false
-      shared = alone_now seen_page (so_far test from) old now space page was.x apart h.turned unturned was.had ∙ not_alone page (sym same_own ∙ own)
+      shared = alone_now seen_page (so_far test page) old now space page was.x apart reached unturned was.had ∙ not_alone page passes
 
   pub copying_more : (new : State) → IsCopiedWhere (has_own (books now) space page) now new space page → page < PAGE_END → IsCopying old new space (page + 1)
-  copying_more new copies low = record { turned = by_test (test page) refl (subst (λ b. IsCopiedWhere b now new space page) same_own copies); low = omega arith }
+  copying_more new copies low = record { turned = moved; low = omega arith }
     where
-      placed : IfSome (page_in now space page) (λ x. IsPlaced now new space page (λ frame. copied frame x)) → IsPlaced now new space page (λ frame. copied frame was.x)
-      placed some = subst (λ (o : Option PageState). IfSome o (λ x. IsPlaced now new space page (λ frame. copied frame x))) at some
+      at_true : IfSome (page_in now space page) (λ x. IsPlaced now new space page (λ frame. copied frame x))
+      at_true = subst (λ b. IsCopiedWhere b now new space page) next.1 copies
 
-      by_test : (b : Bool) → test page ≡ b → IsCopiedWhere (test page) now new space page → HasTurned seen_page (so_far test (page + 1)) (alone_in old space) old new space
-      by_test b e copies = cases b e (subst (λ c. IsCopiedWhere c now new space page) e copies)
-        where
-          cases : (b : Bool) → test page ≡ b → IsCopiedWhere b now new space page → HasTurned seen_page (so_far test (page + 1)) (alone_in old space) old new space
-          cases true e some =
-              let p = placed some in
-              subst (λ (v : State). HasTurned seen_page (so_far test (page + 1)) (alone_in old space) old v space) (sym p.placed) (turned_more e p.frame p.fresh)
-          cases false e same =
-              subst (λ (v : State). HasTurned seen_page (so_far test (page + 1)) (alone_in old space) old v space) (sym same)
-              (said_again seen_page _ _ (alone_in old space) old now space h.turned
-              (λ r x had. next_kept test now space from page next r (is_there seen_page _ _ old now space r x h.turned had) e))
+      placed : IsPlaced now new space page (λ frame. copied frame was.x)
+      placed = subst (λ (o : Option PageState). IfSome o (λ x. IsPlaced now new space page (λ frame. copied frame x))) at at_true
 
-pub copied_all : (old now : State) (space from : ℕ) → IsBare old space → IsCopying old now space from → IsNextPage now space from None → HasSettled old now space
+      moved : HasTurned seen_page (so_far test (page + 1)) (alone_in old space) old new space
+      moved = subst (λ (v : State). HasTurned seen_page (so_far test (page + 1)) (alone_in old space) old v space) (sym placed.placed) (turned_more placed.frame placed.fresh)
+
+pub copied_all : (old now : State) (space from : ℕ) → IsBare old space → IsCopying old now space from → IsNextOwn (books now) space from None → HasSettled old now space
 copied_all old now space from plain h none = record {
   settled = are_settled test (alone_in old space) every_page old now space whole plain (λ r e. refl)
       (λ r x had e _. none_own x.own (sym (own_is (books old) space r (held_page old.zero_frame x) (held_there old space r x had)) ∙ e));
@@ -129,8 +125,7 @@ copied_all old now space from plain h none = record {
     test = to_copy old space
 
     whole : HasTurned seen_page test (alone_in old space) old now space
-    whole = said_again seen_page _ _ (alone_in old space) old now space h.turned
-        (λ r x had. sym (at_last test now space from none r (is_there seen_page _ _ old now space r x h.turned had)))
+    whole = come_past seen_page test (alone_in old space) old now space from h.turned (λ q bare. bare) none
 
 -- one page
 pub lines_above : (v : State) (space page n : ℕ) → has_own (books v) space page ≡ nat_lt 0 n → (n ≡ 0 → ⊥) → has_own (books v) space page ≡ true

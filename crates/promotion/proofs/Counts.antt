@@ -1,4 +1,4 @@
-use Rattle.std.specs.Prelude.{◌≡◌, ℕ, ◌+◌, ◌-◌, ◌*◌, ◌<◌, ◌≤◌, ◌&&◌, Bool, true, false, cond, not, nat_lt, List, length, Some, None, is_some, refl}
+use Rattle.std.specs.Prelude.{◌≡◌, ℕ, ◌+◌, ◌-◌, ◌*◌, ◌<◌, ◌≤◌, ◌&&◌, Bool, true, false, cond, not, nat_lt, List, length, Some, None, refl}
 use Rattle.std.proofs.Common.{sym, ap, ◌∙◌, arith}
 use Rattle.std.proofs.lemmas.Bool.Decides.{nat_tests}
 use Rattle.std.specs.Option.{option_map}
@@ -10,18 +10,18 @@ use Rattle.ledger.specs.Units.{class, units}
 use Rattle.ledger.specs.AlikeUnits.{units_alike}
 use Rattle.ledger.specs.ClassLaws.{class_none}
 use Rattle.ledger.specs.UnitLaws.{units_at}
+use Rattle.space_ledger.specs.Calls.{IsNextOwn}
 use Rattle.overlay_pages.specs.State.{PageState, State, books, held_page, page_in}
 use Rattle.overlay_pages.specs.Changes.{limit_of}
-use Rattle.overlay_pages.specs.Calls.{IsNextPage}
 use Rattle.promotion.specs.Counted.{class_at, new_frame_at}
 use Rattle.promotion.specs.Settled.{ArePagesApart, units_after}
 use Rattle.promotion.specs.Fates.{AreTurned, none_turned}
 use Rattle.promotion.specs.FateLaws.{alike_turned, alone_stays, here}
-use Rattle.promotion.specs.FateFolds.{after_settle, both_tests, none_own, own_is, retold, settle_acts, settle_idle, stepped}
+use Rattle.promotion.specs.FateFolds.{after_settle, both_tests, retold, settle_acts, settle_idle, stepped}
 use Rattle.promotion.specs.FateUnits.{settled_units}
-use Rattle.promotion.specs.Turns.{held_there, origins_apart, there_of}
-use Rattle.promotion.specs.CountLaws.{class_is, class_there, has_own_is}
-use Rattle.promotion.specs.Walks.{ahead, walked_all, walked_none, walked_one}
+use Rattle.promotion.specs.Turns.{held_there, origins_apart, own_there}
+use Rattle.promotion.specs.CountLaws.{HasPage, class_is, class_there, has_own_is, has_page}
+use Rattle.promotion.specs.Walks.{at_first, not_yet, one_further, passed, passed_all}
 
 -- The units after pages are settled, page by page.
 
@@ -93,36 +93,35 @@ pub counting_none : (v : State) (space n : ℕ) → n ≡ units (books v) → un
 counting_none v space n is fits = record {
   so_far = books v;
   turned = retold (λ r. false) (both_tests (has_own (books v) space) (λ r. nat_lt r 0)) (is_alone (books v) space) (books v) (books v) space
-      (none_turned (is_alone (books v) space) (books v) space) (λ r x at. ap (λ b. has_own (books v) space r && b) (walked_none r) ∙ and_false (has_own (books v) space r));
+      (none_turned (is_alone (books v) space) (books v) space) (λ r x at. at_first (has_own (books v) space) r);
   units_is = is;
   low = omega arith;
   few = omega (arith, is, fits);
 }
-  where
-    and_false : (b : Bool) → (b && false) ≡ false
-    and_false true = refl
-    and_false false = refl
 
-module _ (v : State) (space n from page : ℕ) (x : PageState) (apart : ArePagesApart v space) (h : IsCounting v space n from)
-    (next : IsNextPage v space from (Some page)) (at : page_in v space page ≡ Some x) where
+module _ (v : State) (space n from page : ℕ) (apart : ArePagesApart v space) (h : IsCounting v space n from)
+    (next : IsNextOwn (books v) space from (Some page)) where
   abbrev before : Ledger
   before = books v
 
+  p : HasPage v space page
+  p = has_page v space page (own_there v space page next.1)
+
   abbrev held : Holding
-  held = held_page v.zero_frame x
+  held = held_page v.zero_frame p.x
 
   had : holding_at before space page ≡ Some held
-  had = held_there v space page x at
+  had = held_there v space page p.x p.there
 
-  unturned : both_tests (has_own before space) (λ r. nat_lt r from) page ≡ false
-  unturned = ap (λ b. has_own before space page && b) (ahead from page next.0) ∙ and_false (has_own before space page)
-    where
-      and_false : (b : Bool) → (b && false) ≡ false
-      and_false true = refl
-      and_false false = refl
+  -- those between have no own lines
+  reached : AreTurned (both_tests (has_own before space) (λ r. nat_lt r page)) (is_alone before space) before h.so_far space
+  reached = retold _ _ (is_alone before space) before h.so_far space h.turned (λ r y was. passed (has_own before space) from page r next.0 (next.2 r))
+
+  unturned : both_tests (has_own before space) (λ r. nat_lt r page) page ≡ false
+  unturned = not_yet (has_own before space) page page (omega arith)
 
   now_has : holding_at h.so_far space page ≡ Some held
-  now_has = here (both_tests (has_own before space) (λ r. nat_lt r from)) before h.so_far space page held (origins_apart v space apart) h.turned unturned had
+  now_has = here (both_tests (has_own before space) (λ r. nat_lt r page)) before h.so_far space page held (origins_apart v space apart) reached unturned had
 
   -- its segment is among the units
   pub segment_there : class_at v space page ≤ n
@@ -140,48 +139,34 @@ module _ (v : State) (space n from page : ℕ) (x : PageState) (apart : ArePages
     so_far = cond (has_own before space page) (settled before h.so_far space page) h.so_far;
     turned = retold _ _ (is_alone before space) before _ space
         (stepped (has_own before space) (is_alone before space) before space (λ now k. settled before now space k) (settle_idle before space)
-        (λ now k y e there. settle_acts before now space k y there) (λ r. nat_lt r from) h.so_far page h.turned)
-        (λ r w was. let t = there_of v space r w was in ap (λ b. has_own before space r && b) (walked_one v space from page next r (ap is_some t.there)));
-    units_is = is_sum (has_own before space page) refl;
+        (λ now k y e there. settle_acts before now space k y there) (λ r. nat_lt r page) h.so_far page reached)
+        (λ r w was. ap (λ b. has_own before space r && b) (one_further page r));
+    units_is = is_sum ∙ sym (ap (λ b. units (cond b (settled before h.so_far space page) h.so_far)) next.1);
     low = omega arith;
     few = let few = counted_few in let at_most = frame_most v space page in omega (arith, few, sum, at_most);
   }
     where
-      is_none : has_own before space page ≡ false → class_at v space page ≡ 0
-      is_none e =
-          class_there v space page held had ∙ ap (λ (l : List ℕ). class (length l)) (none_own x.own (sym (own_is before space page held had) ∙ e)) ∙ class_none
+      for_one : (b : Bool) → is_alone before space page ≡ b → new_frame_at v space page ≡ cond b 0 FRAME_UNITS
+      for_one true e = frame_is v space page true true next.1 e
+      for_one false e = frame_is v space page true false next.1 e
 
-      for_one : (b : Bool) → is_alone before space page ≡ b → has_own before space page ≡ true → new_frame_at v space page ≡ cond b 0 FRAME_UNITS
-      for_one true e own = frame_is v space page true true own e
-      for_one false e own = frame_is v space page true false own e
-
-      is_sum : (b : Bool) → has_own before space page ≡ b → m ≡ units (cond b (settled before h.so_far space page) h.so_far)
-      is_sum false e =
-          let segment = is_none e in
-          let frame : new_frame_at v space page ≡ 0 = frame_is v space page false (is_alone before space page) e refl in
-          let kept = h.units_is in omega (arith, sum, segment, frame, kept)
-      is_sum true e =
+      is_sum : m ≡ units (settled before h.so_far space page)
+      is_sum =
           let act = settle_acts before h.so_far space page held now_has in
           let stays : is_alone h.so_far space page ≡ is_alone before space page =
-          alone_stays (both_tests (has_own before space) (λ r. nat_lt r from)) before h.so_far space page held (origins_apart v space apart) h.turned unturned had in
-          let units_are : units (with_page h.so_far space page act.z) + class (length x.own) ≡ units h.so_far + cond (is_alone before space page) 0 FRAME_UNITS =
+          alone_stays (both_tests (has_own before space) (λ r. nat_lt r page)) before h.so_far space page held (origins_apart v space apart) reached unturned had in
+          let units_are : units (with_page h.so_far space page act.z) + class (length p.x.own) ≡ units h.so_far + cond (is_alone before space page) 0 FRAME_UNITS =
           settled_units h.so_far space page held act.z (is_alone before space page) now_has stays act.own act.kept act.fresh in
-          let frame = for_one (is_alone before space page) refl e in
+          let frame = for_one (is_alone before space page) refl in
           let segment = class_there v space page held had in
           let kept = h.units_is in
           let put = ap units act.put in
           omega (arith, sum, units_are, frame, segment, kept, put)
 
-pub counted_all : (v : State) (space n from : ℕ) → IsCounting v space n from → IsNextPage v space from None → n ≡ units_after (Settle space) v
+pub counted_all : (v : State) (space n from : ℕ) → IsCounting v space n from → IsNextOwn (books v) space from None → n ≡ units_after (Settle space) v
 counted_all v space n from h none =
     h.units_is
     ∙ units_alike h.so_far (ledger_after (Settle space) (books v))
     (alike_turned (has_own (books v) space) (is_alone (books v) space) (books v) h.so_far (ledger_after (Settle space) (books v)) space
-    (retold _ _ (is_alone (books v) space) (books v) h.so_far space h.turned (λ r x at.
-    let t = there_of v space r x at in
-    sym (ap (λ b. has_own (books v) space r && b) (walked_all v space from none r (ap is_some t.there)) ∙ and_true (has_own (books v) space r))))
+    (retold _ _ (is_alone (books v) space) (books v) h.so_far space h.turned (λ r x at. passed_all (has_own (books v) space) from r (none r)))
     (after_settle (books v) space))
-  where
-    and_true : (b : Bool) → (b && true) ≡ b
-    and_true true = refl
-    and_true false = refl

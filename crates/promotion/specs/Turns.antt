@@ -58,6 +58,14 @@ there_of v s p h at = by_page (page_in v s p) refl
     by_page None is = let no = sym (ap is_some at) ∙ ap is_some (ledger_page v s p ∙ ap (option_map (held_page v.zero_frame)) is) in cc
     by_page (Some x) is = record { page = x; there = is; held = some_is h (held_page v.zero_frame x) (sym at ∙ held_there v s p x is) }
 
+-- a page with own lines is there
+pub own_there : (v : State) (s p : ℕ) → has_own (books v) s p ≡ true → is_some (page_in v s p) ≡ true
+own_there v s p own = by_page (page_in v s p) refl
+  where
+    by_page : (o : Option PageState) → page_in v s p ≡ o → is_some (page_in v s p) ≡ true
+    by_page None is = let no = sym own ∙ own_absent (books v) s p (ledger_page v s p ∙ ap (option_map (held_page v.zero_frame)) is) in cc
+    by_page (Some x) is = ap is_some is
+
 -- none was turned yet
 pub none_yet : (to : PageState → Page) (a : ℕ → Bool) (v : State) (space : ℕ) → HasTurned to (λ r. false) a v v space
 none_yet to a v space = record {
@@ -281,7 +289,7 @@ origins_apart v space apart p q x y at_p at_q same some =
 pub new_origin_of : (first frame : ℕ) → (frame ≡ first → ⊥) → origin_of first frame ≡ frame + 1
 new_origin_of first frame other = ap (λ d. cond d 0 (frame + 1)) (arent_same frame first other)
 
--- a page that is there now was there, and one that was there is
+-- a page that is there now was there
 pub record WasThere (old : State) (space page : ℕ) : Type 0 where
   pub x : PageState
   pub had : page_in old space page ≡ Some x
@@ -292,10 +300,6 @@ was_there to t a old now space page h there = by_page (page_in old space page) r
     by_page : (o : Option PageState) → page_in old space page ≡ o → WasThere old space page
     by_page None is = let no = sym there ∙ ap is_some (h.absent page is) in cc
     by_page (Some x) is = record { x = x; had = is }
-
-pub is_there : (to : PageState → Page) (t a : ℕ → Bool) (old now : State) (space r : ℕ) (x : PageState) → HasTurned to t a old now space → page_in old space r ≡ Some x
-    → is_some (page_in now space r) ≡ true
-is_there to t a old now space r x h at = ap is_some (h.pages r x at).there
 
 -- whether a page that wasn't turned has own lines, and is alone
 pub own_now : (old now : State) (space page : ℕ) (x : PageState) → page_in old space page ≡ Some x → page_in now space page ≡ Some x

@@ -2,11 +2,15 @@ use Rattle.std.specs.Prelude.{◌≡◌, ℕ, ◌+◌, ◌≤◌, ◌<◌, Bool,
 use Rattle.std.proofs.Common.{sym, ap, ◌∙◌, arith}
 use Rattle.std.proofs.lemmas.Bool.Decides.{nat_tests}
 use Rattle.number_maps.specs.Keys.{by_key}
-use Rattle.promotion.specs.FateFolds.{arent_same, or_page}
-use Rattle.overlay_pages.specs.State.{State, page_in}
+use Rattle.ovl_io.specs.Memory.{Page}
+use Rattle.ledger.specs.Changes.{has_own}
+use Rattle.space_ledger.specs.Calls.{IsNextOwn}
+use Rattle.overlay_pages.specs.State.{PageState, State, books, page_in}
 use Rattle.overlay_pages.specs.Calls.{IsNextPage}
+use Rattle.promotion.specs.FateFolds.{arent_same, or_page}
+use Rattle.promotion.specs.Turns.{HasTurned, own_now, said_again, still}
 
--- The pages of a space, walked in ascending order.
+-- The pages of a space, walked in ascending order: all of them, or those with own lines alone.
 
 -- after the last one, each page that is there is behind
 pub walked_all : (v : State) (space from : ℕ) → IsNextPage v space from None → (r : ℕ) → is_some (page_in v space r) ≡ true → nat_lt r from ≡ true
@@ -34,23 +38,72 @@ walked_one v space from page next r there = by_test (nat_lt r from) refl (nat_eq
     by_test false e false k false f = grind (arith, nat_tests)
 
 -- none is behind at first
-pub walked_none : (r : ℕ) → nat_lt r 0 ≡ false
+walked_none : (r : ℕ) → nat_lt r 0 ≡ false
 walked_none r = grind (arith, nat_tests)
-
--- the next one isn't behind
-pub ahead : (from page : ℕ) → from ≤ page → nat_lt page from ≡ false
-ahead from page le = grind (arith, nat_tests)
 
 -- What is done to pages that pass a test, as far as the walk has come.
 abbrev pub so_far : (ℕ → Bool) → ℕ → ℕ → Bool
 so_far test from r = test r && nat_lt r from
 
-module _ (test : ℕ → Bool) (v : State) (space from page : ℕ) (next : IsNextPage v space from (Some page)) (r : ℕ) (there : is_some (page_in v space r) ≡ true) where
-  pub next_done : test page ≡ true → so_far test (page + 1) r ≡ or_page (so_far test from) page r
-  next_done passes = ap (λ b. test r && b) (walked_one v space from page next r there) ∙ by_key r page
-      (λ same. ap (λ b. b && (nat_lt r from || nat_eq r page)) (ap test same ∙ passes) ∙ joined (nat_lt r from) (nat_eq r page)
-      ∙ sym (ap (λ b. (b && nat_lt r from) || nat_eq r page) (ap test same ∙ passes)))
-      (λ other. ap (λ b. test r && (nat_lt r from || b)) (arent_same r page other) ∙ apart (test r) (nat_lt r from) ∙ sym (ap (λ b. (test r && nat_lt r from) || b) (arent_same r page other)))
+-- at first nothing
+pub at_first : (test : ℕ → Bool) (r : ℕ) → so_far test 0 r ≡ false
+at_first test r = ap (λ b. test r && b) (walked_none r) ∙ none (test r)
+  where
+    none : (b : Bool) → (b && false) ≡ false
+    none true = refl
+    none false = refl
+
+-- a page that isn't behind isn't done yet
+pub not_yet : (test : ℕ → Bool) (from page : ℕ) → from ≤ page → so_far test from page ≡ false
+not_yet test from page le = ap (λ b. test page && b) ahead ∙ none (test page)
+  where
+    ahead : nat_lt page from ≡ false
+    ahead = grind (arith, nat_tests)
+
+    none : (b : Bool) → (b && false) ≡ false
+    none true = refl
+    none false = refl
+
+-- pages that fail the test are passed over
+pub passed : (test : ℕ → Bool) (from page r : ℕ) → from ≤ page → (from ≤ r → r < page → test r ≡ false) → so_far test page r ≡ so_far test from r
+passed test from page r le fails = by_test (nat_lt r from) refl (nat_lt r page) refl
+  where
+    by_test : (b : Bool) → nat_lt r from ≡ b → (c : Bool) → nat_lt r page ≡ c → so_far test page r ≡ so_far test from r
+    by_test true e true f = ap (λ d. test r && d) (f ∙ sym e)
+    by_test true e false f = let behind : r < from = grind (arith, nat_tests) in let no : page ≤ r = grind (arith, nat_tests) in absurd (omega (arith, behind, no, le))
+    by_test false e true f =
+        let above : from ≤ r = grind (arith, nat_tests) in
+        let below : r < page = grind (arith, nat_tests) in
+        let none = fails above below in ap (λ b. b && nat_lt r page) none ∙ sym (ap (λ b. b && nat_lt r from) none)
+    by_test false e false f = ap (λ d. test r && d) (f ∙ sym e)
+
+-- when all others fail it, all is done
+pub passed_all : (test : ℕ → Bool) (from r : ℕ) → (from ≤ r → test r ≡ false) → test r ≡ so_far test from r
+passed_all test from r fails = by_test (nat_lt r from) refl
+  where
+    all : (b : Bool) → b ≡ (b && true)
+    all true = refl
+    all false = refl
+
+    by_test : (b : Bool) → nat_lt r from ≡ b → test r ≡ so_far test from r
+    by_test true e = all (test r) ∙ sym (ap (λ d. test r && d) e)
+    by_test false e = let above : from ≤ r = grind (arith, nat_tests) in let none = fails above in none ∙ sym (ap (λ b. b && nat_lt r from) none)
+
+-- one page further
+pub one_further : (page r : ℕ) → nat_lt r (page + 1) ≡ (nat_lt r page || nat_eq r page)
+one_further page r = by_test (nat_lt r page) refl (nat_eq r page) refl
+  where
+    by_test : (b : Bool) → nat_lt r page ≡ b → (c : Bool) → nat_eq r page ≡ c → nat_lt r (page + 1) ≡ (b || c)
+    by_test true e c f = grind (arith, nat_tests)
+    by_test false e true f = grind (arith, nat_tests)
+    by_test false e false f = grind (arith, nat_tests)
+
+module _ (test : ℕ → Bool) (page r : ℕ) where
+  pub next_done : test page ≡ true → so_far test (page + 1) r ≡ or_page (so_far test page) page r
+  next_done passes = ap (λ b. test r && b) (one_further page r) ∙ by_key r page
+      (λ same. ap (λ b. b && (nat_lt r page || nat_eq r page)) (ap test same ∙ passes) ∙ joined (nat_lt r page) (nat_eq r page)
+      ∙ sym (ap (λ b. (b && nat_lt r page) || nat_eq r page) (ap test same ∙ passes)))
+      (λ other. ap (λ b. test r && (nat_lt r page || b)) (arent_same r page other) ∙ apart (test r) (nat_lt r page) ∙ sym (ap (λ b. (test r && nat_lt r page) || b) (arent_same r page other)))
     where
       joined : (b c : Bool) → (true && (b || c)) ≡ ((true && b) || c)
       joined b c = refl
@@ -60,35 +113,24 @@ module _ (test : ℕ → Bool) (v : State) (space from page : ℕ) (next : IsNex
       apart true false = refl
       apart false c = refl
 
-  pub next_kept : test page ≡ false → so_far test (page + 1) r ≡ so_far test from r
-  next_kept fails = ap (λ b. test r && b) (walked_one v space from page next r there) ∙ by_key r page
-      (λ same. ap (λ b. b && (nat_lt r from || nat_eq r page)) (ap test same ∙ fails) ∙ sym (ap (λ b. b && nat_lt r from) (ap test same ∙ fails)))
-      (λ other. ap (λ b. test r && (nat_lt r from || b)) (arent_same r page other) ∙ none (test r) (nat_lt r from))
+  pub next_kept : test page ≡ false → so_far test (page + 1) r ≡ so_far test page r
+  next_kept fails = passed test page (page + 1) r (omega arith) (λ le lt. ap test (only le lt) ∙ fails)
     where
-      none : (b c : Bool) → (b && (c || false)) ≡ (b && c)
-      none true true = refl
-      none true false = refl
-      none false c = refl
+      only : page ≤ r → r < page + 1 → r ≡ page
+      only le lt = omega (arith, le, lt)
 
--- at first nothing, at last all
-pub at_first : (test : ℕ → Bool) (r : ℕ) → so_far test 0 r ≡ false
-at_first test r = ap (λ b. test r && b) (walked_none r) ∙ none (test r)
-  where
-    none : (b : Bool) → (b && false) ≡ false
-    none true = refl
-    none false = refl
+-- The walk goes from one page with own lines to the next: those between fail the test.
+module _ (to : PageState → Page) (test a : ℕ → Bool) (old now : State) (space from : ℕ) (h : HasTurned to (so_far test from) a old now space)
+    (bare_fails : (q : ℕ) → has_own (books old) space q ≡ false → test q ≡ false) where
+  fails_now : (q : ℕ) (x : PageState) → page_in old space q ≡ Some x → from ≤ q → has_own (books now) space q ≡ false → test q ≡ false
+  fails_now q x had le bare =
+      bare_fails q (sym (own_now old now space q x had (still to (so_far test from) a old now space q x h had (not_yet test from q le))) ∙ bare)
 
-pub at_last : (test : ℕ → Bool) (v : State) (space from : ℕ) → IsNextPage v space from None → (r : ℕ) → is_some (page_in v space r) ≡ true → so_far test from r ≡ test r
-at_last test v space from none r there = ap (λ b. test r && b) (walked_all v space from none r there) ∙ all (test r)
-  where
-    all : (b : Bool) → (b && true) ≡ b
-    all true = refl
-    all false = refl
+  pub come_to : (page : ℕ) → IsNextOwn (books now) space from (Some page) → HasTurned to (so_far test page) a old now space
+  come_to page next =
+      said_again to (so_far test from) (so_far test page) a old now space h
+      (λ r x had. passed test from page r next.0 (λ le lt. fails_now r x had le (next.2 r le lt)))
 
--- the next page isn't done yet
-pub not_yet : (test : ℕ → Bool) (from page : ℕ) → from ≤ page → so_far test from page ≡ false
-not_yet test from page le = ap (λ b. test page && b) (ahead from page le) ∙ none (test page)
-  where
-    none : (b : Bool) → (b && false) ≡ false
-    none true = refl
-    none false = refl
+  pub come_past : IsNextOwn (books now) space from None → HasTurned to test a old now space
+  come_past none =
+      said_again to (so_far test from) test a old now space h (λ r x had. passed_all test from r (λ le. fails_now r x had le (none r le)))

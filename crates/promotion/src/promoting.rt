@@ -68,8 +68,8 @@ pub fn promote(mem: &mut OverlayMemory, space: u16, page: u64) -> Result<(), Pro
 
 /// Settles each page of a space. The space is there, and no page of it awaits. Speculating exactly where the space is, else Full
 /// exactly where the units after it would exceed the limit; Unmapped never. After an error everything is as before. No state on the
-/// way needs more units than the greater of those before and those after. Takes no memory. Costs a look-up for each page, a copy of
-/// each own line, and a page for each new frame.
+/// way needs more units than the greater of those before and those after. Takes no memory. Costs a few look-ups for each page with
+/// own lines, a copy of each own line, and a page for each new frame.
 pub fn promote_all(mem: &mut OverlayMemory, space: u16) -> Result<(), PromoteError>
     requires there { holds_space (state_of mem.old) space ≡ true }
     requires settled { (space_in (state_of mem.old) space).awaiting ≡ map.empty }

@@ -28,14 +28,14 @@ fn commit_one(mem: &mut OverlayMemory, space: u16, page: u64)
 }
 
 /// The own lines of each page of a space that is alone go into its frame; the others stay. The units become no more. Takes no
-/// memory. Costs a look-up for each page, and a copy of each own line.
+/// memory. Costs a few look-ups for each page with own lines, and a copy of each own line of those that are alone.
 pub fn commit_alone(mem: &mut OverlayMemory, space: u16)
     requires there { holds_space (state_of mem.old) space ≡ true }
     ensures { HasCommittedAlone (state_of mem.old) (state_of mem.new) space }
 {
     see_apart(mem, space);
     let mut from = 0;
-    'committing: while let Some(page) = mem.next_page(space, from) {
+    'committing: while let Some(page) = mem.next_overlaid(space, from) {
         commit_one(mem, space, page);
         from = page + 1;
     }
@@ -66,7 +66,7 @@ fn copy_overlaid(mem: &mut OverlayMemory, space: u16)
 {
     see_apart(mem, space);
     let mut from = 0;
-    'copying: while let Some(page) = mem.next_page(space, from) {
+    'copying: while let Some(page) = mem.next_overlaid(space, from) {
         copy_one(mem, space, page);
         from = page + 1;
     }
@@ -75,7 +75,8 @@ fn copy_overlaid(mem: &mut OverlayMemory, space: u16)
 /// Settles each page of a space that is there and of which no page awaits: the own lines of a page that is alone go into its frame,
 /// any other page with own lines gets a new frame with its lines. Answers what is short where the units after it would exceed the
 /// limit; then nothing is changed. Pages that are alone come first, so no state on the way needs more units than the greater of
-/// those before and those after. Takes no memory. Costs a look-up for each page, a copy of each own line, and a page for each frame.
+/// those before and those after. Takes no memory. Costs a few look-ups for each page with own lines, a copy of each own line, and a
+/// page for each new frame.
 pub fn settle(mem: &mut OverlayMemory, space: u16) -> Result<(), Shortage>
     requires there { holds_space (state_of mem.old) space ≡ true }
     requires settled { (space_in (state_of mem.old) space).awaiting ≡ map.empty }

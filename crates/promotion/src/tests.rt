@@ -360,6 +360,70 @@ fn pages_of_both_kinds_at_one_unit_too_few(rt: HostRuntime) -> Result<(), Fail> 
     Ok(())
 }
 
+// Space 1 of `loaded` with pages of bytes 8 in frames of their own at 8, 17 and 120. Pages 16, 101 and 103 have own lines; none
+// beside them has any: 8 before, 17, 100 and 102 between, 120 behind.
+fn scattered(rt: &impl Abort, alloc: Global) -> Result<Spaces, AllocError> {
+    let mut spaces = loaded(rt, alloc, 7)?;
+    for page in [8u64, 17, 120] {
+        assert_eq!(rt; spaces.place(rt, 1, page, 8), Ok(()));
+    }
+    spaces.overlay(rt, 1, 0x1_0FFF, &[1]);
+    spaces.write(rt, 1, 0x6_5000, &[2]);
+    spaces.write(rt, 1, 0x6_7FFF, &[3]);
+    assert_counts(rt, &spaces, 83, 3);
+    Ok(spaces)
+}
+
+// Asserts how many own lines these pages have.
+fn assert_own(rt: &impl Abort, spaces: &Spaces, own: [u32; 8]) {
+    let pages = [8u64, 16, 17, 100, 101, 102, 103, 120];
+    for at in 0..8usize {
+        let page = pages[at];
+        assert_eq!(rt; spaces.found(rt, 1, page).0, own[at], "page {page}");
+    }
+}
+
+// Asserts that the bytes of these pages are as they were written.
+fn assert_scattered(rt: &impl Abort, spaces: &Spaces) {
+    for (address, byte) in [
+        (0x0_8000u64, 8u8),
+        (0x0_8FFF, 8),
+        (0x1_0FFE, 9),
+        (0x1_0FFF, 1),
+        (0x1_1000, 8),
+        (0x6_4FFF, 0),
+        (0x6_5000, 2),
+        (0x6_5001, 0),
+        (0x6_6FFF, 0),
+        (0x6_7FFF, 3),
+        (0x7_8000, 8),
+    ] {
+        assert_eq!(rt; spaces.byte(rt, 1, address), byte, "at {address}");
+    }
+}
+
+#[test]
+fn pages_with_own_lines_that_lie_apart(rt: HostRuntime) -> Result<(), Fail> {
+    let mut spaces = scattered(&rt, rt.alloc())?;
+    assert_own(&rt, &spaces, [0, 1, 0, 0, 1, 0, 1, 0]);
+    spaces.commit_alone(&rt, 1);
+    assert_counts(&rt, &spaces, 82, 2);
+    assert_own(&rt, &spaces, [0, 0, 0, 0, 1, 0, 1, 0]);
+    assert_scattered(&rt, &spaces);
+    spaces.overlay(&rt, 1, 0x1_0FFF, &[1]);
+    assert_eq!(rt; spaces.settle(&rt, 1), Ok(()));
+    assert_counts(&rt, &spaces, 112, 0);
+    assert_own(&rt, &spaces, [0; 8]);
+    assert_scattered(&rt, &spaces);
+    for page in [8u64, 16, 17, 101, 103, 120] {
+        assert_eq!(rt; spaces.found(&rt, 1, page), (0, true), "page {page}");
+    }
+    for page in [100u64, 102] {
+        assert_eq!(rt; spaces.found(&rt, 1, page), (0, false), "page {page}");
+    }
+    Ok(())
+}
+
 #[test]
 fn pages_that_are_alone_are_committed_and_no_other(rt: HostRuntime) -> Result<(), Fail> {
     let mut spaces = mixed(&rt, rt.alloc())?;

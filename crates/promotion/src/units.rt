@@ -38,7 +38,7 @@ fn with_settled(mem: &OverlayMemory, space: u16, page: u64, units: u32) -> u32
     units + FRAME_UNITS - class_of(own)
 }
 
-/// The units after each page of a space is settled. Costs a look-up for each page.
+/// The units after each page of a space is settled. Costs a few look-ups for each page with own lines.
 pub(crate) fn units_settled(mem: &OverlayMemory, space: u16) -> u32
     requires there { holds_space (state_of mem.now) space ≡ true }
     ensures { result ≡ units_after (Settle space) (state_of mem.now) }
@@ -46,7 +46,7 @@ pub(crate) fn units_settled(mem: &OverlayMemory, space: u16) -> u32
     see_apart(mem, space);
     let mut units = mem.units();
     let mut from = 0;
-    'counting: while let Some(page) = mem.next_page(space, from) {
+    'counting: while let Some(page) = mem.next_overlaid(space, from) {
         units = with_settled(mem, space, page, units);
         from = page + 1;
     }

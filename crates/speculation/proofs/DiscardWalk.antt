@@ -7,17 +7,17 @@ use Rattle.number_maps.specs.Keys.{alike}
 use Rattle.ledger.specs.Ledger.{Holding, holding_at}
 use Rattle.ledger.specs.Changes.{has_own}
 use Rattle.ledger.specs.Events.{Discard, ledger_after}
+use Rattle.space_ledger.specs.Calls.{IsNextOwn}
 use Rattle.overlay_pages.specs.State.{PageState, State, base_page, books, held_page, page_in, put_page, seen_page, turned_page}
 use Rattle.overlay_pages.specs.StateLaws.{changed_there, ledger_page}
 use Rattle.overlay_pages.specs.Changes.{discarded}
 use Rattle.overlay_pages.specs.Lines.{bytes_in_lines}
-use Rattle.overlay_pages.specs.Calls.{IsNextPage}
 use Rattle.promotion.specs.Settled.{mark_of}
 use Rattle.promotion.specs.Fates.{IsFate}
 use Rattle.promotion.specs.FateFolds.{after_discard, none_own, own_absent, own_is, same_turned, widened}
 use Rattle.promotion.specs.Joined.{IsBare}
-use Rattle.promotion.specs.Turns.{HasTurned, IsTurn, WasThere, base_at, held_there, is_there, memory_at, none_yet, one_more, own_now, said_again, still, was_there}
-use Rattle.promotion.specs.Walks.{at_first, at_last, next_done, next_kept, not_yet, so_far}
+use Rattle.promotion.specs.Turns.{HasTurned, IsTurn, WasThere, base_at, held_there, memory_at, none_yet, one_more, own_now, own_there, said_again, still, was_there}
+use Rattle.promotion.specs.Walks.{at_first, come_past, come_to, next_done, not_yet, so_far}
 use Rattle.speculation.specs.Speculated.{HasDiscarded, with_discarded}
 
 -- Overlays are given up, one after the other.
@@ -39,48 +39,46 @@ discarding_none v space = record {
   low = omega arith;
 }
 
-module _ (old now new : State) (space from page : ℕ) (h : IsDiscarding old now space from) (next : IsNextPage now space from (Some page))
+module _ (old now new : State) (space from page : ℕ) (h : IsDiscarding old now space from) (next : IsNextOwn (books now) space from (Some page))
     (is : new ≡ with_discarded now space page) (low : page < PAGE_END) where
   abbrev test : ℕ → Bool
   test = to_discard old space
 
+  reached : HasTurned base_page (so_far test page) any_origin old now space
+  reached = come_to base_page test any_origin old now space from h.turned (λ q bare. bare) page next
+
   was : WasThere old space page
-  was = was_there base_page _ _ old now space page h.turned next.1
+  was = was_there base_page _ _ old now space page reached (own_there now space page next.1)
 
   pub discarding_more : IsDiscarding old new space (page + 1)
   unfolding with_discarded
-  discarding_more = record { turned = by_test (test page) refl; low = omega arith }
+  discarding_more = record { turned = moved; low = omega arith }
     where
-      unturned : so_far test from page ≡ false
-      unturned = not_yet test from page next.0
+      unturned : so_far test page page ≡ false
+      unturned = not_yet test page page (omega arith)
 
       at : page_in now space page ≡ Some was.x
-      at = still base_page (so_far test from) any_origin old now space page was.x h.turned was.had unturned
+      at = still base_page (so_far test page) any_origin old now space page was.x reached was.had unturned
 
-      same_test : has_own (books now) space page ≡ test page
-      same_test = own_now old now space page was.x was.had at
+      passes : test page ≡ true
+      passes = sym (own_now old now space page was.x was.had at) ∙ next.1
 
-      by_test : (b : Bool) → test page ≡ b → HasTurned base_page (so_far test (page + 1)) any_origin old new space
-      by_test false e =
-          let kept : new ≡ now = is ∙ ap (λ b. cond b (turned_page discarded now space page) now) (same_test ∙ e) in
-          subst (λ (v : State). HasTurned base_page (so_far test (page + 1)) any_origin old v space) (sym kept)
-          (said_again base_page _ _ any_origin old now space h.turned
-          (λ r x had. next_kept test now space from page next r (is_there base_page _ _ old now space r x h.turned had) e))
-      by_test true e =
-          let put : new ≡ put_page now space page (discarded was.x) =
-          is ∙ ap (λ b. cond b (turned_page discarded now space page) now) (same_test ∙ e) ∙ changed_there discarded now space page was.x at in
+      put : new ≡ put_page now space page (discarded was.x)
+      put = is ∙ ap (λ b. cond b (turned_page discarded now space page) now) next.1 ∙ changed_there discarded now space page was.x at
+
+      moved : HasTurned base_page (so_far test (page + 1)) any_origin old new space
+      moved =
           subst (λ (v : State). HasTurned base_page (so_far test (page + 1)) any_origin old v space) (sym put)
           (said_again base_page _ _ any_origin old (put_page now space page (discarded was.x)) space
-          (one_more base_page (so_far test from) any_origin old now space page was.x (discarded was.x) h.turned was.had unturned refl refl refl (λ _. refl) (λ no. cc))
-          (λ r x had. next_done test now space from page next r (is_there base_page _ _ old now space r x h.turned had) e))
+          (one_more base_page (so_far test page) any_origin old now space page was.x (discarded was.x) reached was.had unturned refl refl refl (λ _. refl) (λ no. cc))
+          (λ r x had. next_done test page r passes))
 
-module _ (old now : State) (space from : ℕ) (plain : IsBare old space) (h : IsDiscarding old now space from) (none : IsNextPage now space from None) where
+module _ (old now : State) (space from : ℕ) (plain : IsBare old space) (h : IsDiscarding old now space from) (none : IsNextOwn (books now) space from None) where
   abbrev tests : ℕ → Bool
   tests = to_discard old space
 
   whole : HasTurned base_page tests any_origin old now space
-  whole = said_again base_page _ _ any_origin old now space h.turned
-      (λ r x had. sym (at_last tests now space from none r (is_there base_page _ _ old now space r x h.turned had)))
+  whole = come_past base_page tests any_origin old now space from h.turned (λ q bare. bare) none
 
   bare : (r : ℕ) (x : PageState) → page_in old space r ≡ Some x → tests r ≡ false → x.own ≡ []
   bare r x had e = none_own x.own (sym (own_is (books old) space r (held_page old.zero_frame x) (held_there old space r x had)) ∙ e)

@@ -20,13 +20,13 @@ fn discard_one(mem: &mut OverlayMemory, space: u16, page: u64)
     mem.discard_page(space, page);
 }
 
-/// Gives up each overlay of a space. Takes no memory. Costs a look-up for each page.
+/// Gives up each overlay of a space. Takes no memory. Costs a few look-ups for each page with own lines.
 pub(crate) fn discard_all(mem: &mut OverlayMemory, space: u16)
     requires there { holds_space (state_of mem.old) space ≡ true }
     ensures { DiscardsAll (state_of mem.old) (state_of mem.new) space }
 {
     let mut from = 0;
-    'discarding: while let Some(page) = mem.next_page(space, from) {
+    'discarding: while let Some(page) = mem.next_overlaid(space, from) {
         discard_one(mem, space, page);
         from = page + 1;
     }

@@ -212,6 +212,73 @@ fn what_was_stored_is_committed(rt: HostRuntime) -> Result<(), Fail> {
     Ok(())
 }
 
+// Space 1 of `loaded` with pages of bytes 8 in frames of their own at 8, 17 and 120, and a start.
+fn scattered(rt: &impl Abort, alloc: Global) -> Result<Spaces, AllocError> {
+    let mut spaces = loaded(rt, alloc, 6)?;
+    for page in [8u64, 17, 120] {
+        assert_eq!(rt; spaces.place(rt, 1, page, 8), Ok(()));
+    }
+    assert_eq!(rt; spaces.start(rt, 1), Ok(()));
+    Ok(spaces)
+}
+
+// Stores a byte in pages 16, 101 and 103, so that none beside them has own lines: 8 before, 17, 100 and 102 between, 120 behind.
+fn write_apart(rt: &impl Abort, spaces: &mut Spaces) {
+    spaces.write(rt, 1, 0x1_0FFF, &[1]);
+    spaces.write(rt, 1, 0x6_5000, &[2]);
+    spaces.write(rt, 1, 0x6_7FFF, &[3]);
+    assert_counts(rt, spaces, 83, 3);
+    assert_own(rt, spaces, [0, 1, 0, 0, 1, 0, 1, 0]);
+}
+
+// Asserts how many own lines these pages have.
+fn assert_own(rt: &impl Abort, spaces: &Spaces, own: [u32; 8]) {
+    let pages = [8u64, 16, 17, 100, 101, 102, 103, 120];
+    for at in 0..8usize {
+        let page = pages[at];
+        assert_eq!(rt; spaces.found(rt, 1, page).0, own[at], "page {page}");
+    }
+}
+
+// Asserts the bytes that were stored, and those beside them.
+fn assert_apart(rt: &impl Abort, spaces: &Spaces, stored: [u8; 3]) {
+    for (address, byte) in [
+        (0x0_8000u64, 8u8),
+        (0x1_0FFE, 9),
+        (0x1_0FFF, stored[0]),
+        (0x1_1000, 8),
+        (0x6_4FFF, 0),
+        (0x6_5000, stored[1]),
+        (0x6_6FFF, 0),
+        (0x6_7FFF, stored[2]),
+        (0x7_8000, 8),
+    ] {
+        assert_eq!(rt; spaces.byte(rt, 1, address), byte, "at {address}");
+    }
+}
+
+#[test]
+fn overlays_that_lie_apart_are_discarded(rt: HostRuntime) -> Result<(), Fail> {
+    let mut spaces = scattered(&rt, rt.alloc())?;
+    write_apart(&rt, &mut spaces);
+    assert_eq!(rt; spaces.discard(&rt, 1), Ok(()));
+    assert_counts(&rt, &spaces, 80, 0);
+    assert_own(&rt, &spaces, [0; 8]);
+    assert_apart(&rt, &spaces, [9, 0, 0]);
+    Ok(())
+}
+
+#[test]
+fn overlays_that_lie_apart_are_committed(rt: HostRuntime) -> Result<(), Fail> {
+    let mut spaces = scattered(&rt, rt.alloc())?;
+    write_apart(&rt, &mut spaces);
+    assert_eq!(rt; spaces.commit(&rt, 1), Ok(()));
+    assert_counts(&rt, &spaces, 82, 2);
+    assert_own(&rt, &spaces, [0, 0, 0, 0, 1, 0, 1, 0]);
+    assert_apart(&rt, &spaces, [1, 2, 3]);
+    Ok(())
+}
+
 // What was stored before a start is kept: start settles each page.
 #[test]
 fn a_start_settles_the_pages(rt: HostRuntime) -> Result<(), Fail> {
