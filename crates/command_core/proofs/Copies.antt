@@ -101,14 +101,14 @@ module _ (p q : ℕ) (old : Machine) (memory : MemoryView) (forked : HasForked (
       };
     }
 
-not_over : (limit needed : ℕ) → needed ≤ limit → nat_lt limit needed ≡ false
+pub not_over : (limit needed : ℕ) → needed ≤ limit → nat_lt limit needed ≡ false
 not_over limit needed h = by_test (nat_lt limit needed) refl
   where
     by_test : (b : Bool) → nat_lt limit needed ≡ b → b ≡ false
     by_test true e = absurd (grind (arith, nat_tests))
     by_test false e = refl
 
-is_over : (limit needed : ℕ) → limit < needed → nat_lt limit needed ≡ true
+pub is_over : (limit needed : ℕ) → limit < needed → nat_lt limit needed ≡ true
 is_over limit needed h = grind (arith, nat_tests)
 
 -- within the limit

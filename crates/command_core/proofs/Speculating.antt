@@ -1,9 +1,8 @@
-use Rattle.std.proofs.Common.{◌≡◌, ℕ, ◌≤◌, ◌<◌, ◌/◌, nat_lt, Bool, true, false, cond, sym, ap, subst, ◌∙◌, refl, arith, Option, Some, None}
+use Rattle.std.proofs.Common.{◌≡◌, ℕ, ◌/◌, nat_lt, Bool, true, false, cond, sym, ap, subst, ◌∙◌, refl, Option, Some, None}
 use Rattle.std.specs.Prelude.{Ok, Err}
 use Rattle.std.specs.Option.{is_some, option_map, option_map_or, unwrap_or}
 use Rattle.std.specs.Ordering.{nat_cmp}
 use Rattle.std.specs.FinMap.{FinMap, get, insert}
-use Rattle.std.proofs.lemmas.Bool.Decides.{nat_tests}
 use Rattle.number_maps.specs.Keys.{alike, by_key, get_other, get_same, insert_kept}
 use Rattle.sizes.specs.declared.TheConstants.{PAGE_BYTES}
 use Rattle.ledger.specs.Alike.{AreAlike}
@@ -32,19 +31,10 @@ use Rattle.report_text.specs.declared.answer.Answer.TheVariants.{Done, Refused}
 use Rattle.report_text.specs.declared.answer.Code.TheVariants.{Ended, Speculating, NotSpeculating, Unmapped}
 use Rattle.command_core.specs.declared.overlays.OverlayChange.{OverlayChange}
 use Rattle.command_core.specs.declared.overlays.OverlayChange.TheVariants.{Speculate, Commit, Discard, Promote, PromoteAll}
+use Rattle.command_core.proofs.Copies.{is_over, not_over}
 use Rattle.command_core.specs.Overlays.{ChangesOverlays, HasOverlays, event_needs, is_event_full, ledger_by, overlay_event, overlay_refusal, process_left, promotion_answer, speculation_answer}
 
 -- A machine of which the overlays of one process were changed.
-
-not_over : (limit needed : ℕ) → needed ≤ limit → nat_lt limit needed ≡ false
-not_over limit needed h = by_test (nat_lt limit needed) refl
-  where
-    by_test : (b : Bool) → nat_lt limit needed ≡ b → b ≡ false
-    by_test true e = absurd (grind (arith, nat_tests))
-    by_test false e = refl
-
-is_over : (limit needed : ℕ) → limit < needed → nat_lt limit needed ≡ true
-is_over limit needed h = grind (arith, nat_tests)
 
 -- within the limit, or not
 fits : (e : Event) (old : Machine) → FitsAfter e (spaces_of old) → is_event_full e (wholes old) ≡ false

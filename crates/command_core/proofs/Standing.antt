@@ -2,13 +2,12 @@ use Rattle.std.proofs.Common.{◌≡◌, ℕ, cond, List, sym, ap, ◌∙◌, re
 use Rattle.std.specs.Prelude.{Result, Ok, Err}
 use Rattle.std.specs.Option.{option_or}
 use Rattle.std.specs.FinMap.{get}
-use Rattle.ledger.specs.AlikeLaws.{alike_turned}
 use Rattle.ovl_io.specs.declared.turn.Turn.{Turn}
 use Rattle.ovl_io.specs.declared.turn.Turn.TheVariants as turn
 use Rattle.machine_core.specs.Process.{Process, runs}
 use Rattle.machine_core.specs.Machine.{AreLike, Processes, Wholes}
 use Rattle.machine_core.specs.Turns.{after_turn}
-use Rattle.machine_core.specs.Laws.{like_after_turn, like_chain, like_itself, like_turn}
+use Rattle.machine_core.specs.Laws.{like_after_turn, like_back, like_chain, like_itself, like_turn}
 use Rattle.report_text.specs.declared.answer.Code.{Code}
 use Rattle.report_text.specs.declared.answer.Code.TheVariants.{Ended}
 use Rattle.command_core.specs.State.{InSession, State}
@@ -73,9 +72,6 @@ turns_as old new running after r took drawn state stands =
     (record { wholes = left; drawn = state.drawn }, record { wholes = like; drawn = drawn ∙ stands.drawn }, refl, turned)
 
 -- turns with a line, and the last ones
-like_back : (a b : Wholes) → AreLike a b → AreLike b a
-like_back a b like = record { processes = sym like.processes; ledger = alike_turned a.ledger b.ledger like.ledger; frames = sym like.frames }
-
 module _ (a b : Wholes) (running : InRun) (like : AreLike a b) where
   same_text : ran_text (left_of b running) ≡ ran_text (left_of a running)
   same_text = sym (like_text (left_of a running) (left_of b running) (like_left a b running like))

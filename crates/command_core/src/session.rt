@@ -400,7 +400,8 @@ impl Session {
     /// done. Want of memory comes of `fork` alone, and then everything is as before.
     pub fn change(&mut self, command: &Command) -> Answer
         requires { IsTrue (is_change command.now) }
-        ensures gives { GivesChange (change_done command.now self.old.state) self.old.state result self.new.state }
+        ensures gives { GivesChange (change_done command.now self.old.state) self.old.state
+            result self.new.state }
         ensures stands { GivesAs (change_done command.now) self.old result self.new }
         ensures takes { result ≡ Answer.Memory → IsTrue (takes_memory command.now) }
         ensures told { CanBeTold result }

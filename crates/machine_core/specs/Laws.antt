@@ -7,7 +7,7 @@ use Rattle.number_maps.specs.Keys.{alike, by_key, get_same, insert_kept, insert_
 use Rattle.number_maps.specs.Views.{get_viewed, viewed, viewed_gone, viewed_put}
 use Rattle.ledger.specs.Ledger.{Ledger}
 use Rattle.ledger.specs.Alike.{AreAlike}
-use Rattle.ledger.specs.AlikeLaws.{alike_itself, alike_chain}
+use Rattle.ledger.specs.AlikeLaws.{alike_itself, alike_chain, alike_turned}
 use Rattle.ledger.specs.AlikeUnits.{alike_dropped, units_alike}
 use Rattle.ledger.specs.Events as event
 use Rattle.ledger.specs.RowLaws.{alike_after}
@@ -99,6 +99,9 @@ wholes_dropped p old new absent dropped =
 
 pub like_itself : (a : Wholes) → AreLike a a
 like_itself a = record { processes = refl; ledger = alike_itself a.ledger; frames = refl }
+
+pub like_back : (a b : Wholes) → AreLike a b → AreLike b a
+like_back a b like = record { processes = sym like.processes; ledger = alike_turned a.ledger b.ledger like.ledger; frames = sym like.frames }
 
 pub like_chain : (a b c : Wholes) → AreLike a b → AreLike b c → AreLike a c
 like_chain a b c h k = record {

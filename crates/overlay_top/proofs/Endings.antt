@@ -1,7 +1,6 @@
 use Rattle.std.proofs.Common.{◌≡◌, ℕ, List, sym, ap, ◌∙◌, Option, Some}
-use Rattle.ledger.specs.AlikeLaws.{alike_turned}
 use Rattle.machine_core.specs.Machine.{AreLike, Wholes}
-use Rattle.machine_core.specs.Laws.{like_chain}
+use Rattle.machine_core.specs.Laws.{like_back, like_chain}
 use Rattle.report_text.specs.declared.answer.Stop.{Stop}
 use Rattle.report_text.specs.Answers.{stop_text}
 use Rattle.command_core.specs.State.{AreLikeStates, State}
@@ -19,9 +18,6 @@ pub ended_text : (old : Wholes) (running : InRun) (new : Wholes) (after : InRun)
 ended_text old running new after found stop taken line sent ends is_found is_stop is_taken is_line is_sent =
     let same : ends.0 ≡ stop = some_is ends.0 stop (sym ends.1 ∙ sym is_found ∙ is_stop) in
     ends.2 ∙ ap (stop_text after.run.taken) same ∙ ap (λ n. stop_text n stop) (sym is_taken) ∙ sym (is_sent ∙ is_line)
-
-like_back : (a b : Wholes) → AreLike a b → AreLike b a
-like_back a b like = record { processes = sym like.processes; ledger = alike_turned a.ledger b.ledger like.ledger; frames = sym like.frames }
 
 pub ended_after : (start old new : State) (first running after : InRun) → AreLike (left_of start.wholes first).after (left_of old.wholes running).after
     → EndsRun old.wholes running new.wholes after → new.drawn ≡ old.drawn → old.drawn ≡ start.drawn → AreLikeStates new (takes_left first start).after

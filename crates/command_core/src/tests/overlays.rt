@@ -164,3 +164,24 @@ fn a_settled_overlay_takes_a_frame(rt: HostRuntime) -> Result<(), Fail> {
     }
     Ok(())
 }
+
+// A page that is promoted, forked, and stored into under speculation: its frame is shared, so `commit` leaves the overlay of
+// four units, and `promote` gives it a frame of 16, as the units of a load show that is full: 52 and 64, and 16 more.
+#[test]
+fn a_commit_leaves_the_overlay_of_a_shared_page(rt: HostRuntime) -> Result<(), Fail> {
+    let file = file_of(rt.alloc(), STORES, 68)?;
+    let mut session = Session::new(rt.alloc(), 4, 1000)?;
+    load(&rt, &mut session, file.as_slice(), 1);
+    step(&rt, rt.alloc(), &mut session, 1, 8)?;
+    assert_eq!(rt; changed(&mut session, "promote", 0), DONE);
+    assert_eq!(rt; said(&session.change(&Command::Fork(1))), ("another", 0, 0));
+    assert_eq!(rt; changed(&mut session, "speculate", 0), DONE);
+    step(&rt, rt.alloc(), &mut session, 1, 8)?;
+    for (change, units) in [("commit", 68), ("promote", 80)] {
+        assert_eq!(rt; changed(&mut session, change, 0), DONE);
+        assert_eq!(rt; said(&session.load(file.as_slice())), ("full", units, 64));
+    }
+    assert_eq!(rt; said(&session.change(&Command::Drop(2))), DONE);
+    load(&rt, &mut session, file.as_slice(), 3);
+    Ok(())
+}
