@@ -1,2 +1,4 @@
-pub mod Runs
+pub mod Pages
+pub mod Places
+pub mod Edits
 pub mod Tables

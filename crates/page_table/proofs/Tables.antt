@@ -1,85 +1,276 @@
-use Rattle.std.proofs.Common.{◌≡◌, ℕ, zero, suc, ◌+◌, ◌^◌, ◌<◌, ◌≤◌, Bool, true, false, List, [], length, get_or, Option, Some, None, inl, inr, ◌⊎◌, ◌↔◌, Bor, slice_set, subst, sym, ap, ◌∙◌, refl, arith}
+use Rattle.std.proofs.Common.{◌≡◌, ℕ, zero, suc, ◌+◌, ◌-◌, ◌^◌, ◌<◌, ◌≤◌, Bool, true, false, cond, List, [], ◌∷◌, Option, Some, None, length, slice_set, sym, ap, subst, ◌∙◌, refl, arith, Bor, ◌↔◌, get_or}
+use Rattle.std.proofs.lemmas.Bool.Decides.{nat_tests}
+use Rattle.std.proofs.lemmas.List.{map-id}
+use Rattle.std.proofs.lemmas.Slice.Zip.{AllZip-map}
+use Rattle.std.specs.List as list
+use Rattle.std.specs.List.{AllZip}
 use Rattle.std.specs.Option.{is_some, option_copied, IfSome, IsSome}
-use Rattle.std.specs.Ordering.{nat_cmp}
-use Rattle.std.specs.FinMap.{get, insert, len, get-empty}
-use Rattle.std.proofs.lemmas.List.{length-set}
-use Rattle.number_maps.specs.Keys.{by_key, get_other}
-use Rattle.number_maps.specs.Rows.{map_of, Rise, IsAt, IsGap}
-use Rattle.number_maps.specs.RowLaws.{counted, got_at, map_set, next_at, next_behind, next_none, rise_set}
+use Rattle.std.specs.FinMap.{get, len}
+use Rattle.number_maps.specs.Keys.{alike, by_key, get_other, get_same}
 use Rattle.page_table.specs.declared.entry.PageEntry.{PageEntry}
-use Rattle.page_table.specs.Table.{Pages, is_within, AreThere, IsMapped, IsUnmapped, IsNext}
-use Rattle.page_table.specs.Laws.{mapped_beside, unmapped_beside, unmapped_free}
-use Rattle.page_table.specs.Kept.{AreKept}
-use Rattle.page_table.proofs.Runs.{within_below, within_last}
+use Rattle.page_table.specs.declared.run.PageRun.{PageRun}
+use Rattle.page_table.specs.Table.{Pages, is_within, IsFree, AreThere, IsUnmapped, IsNext}
+use Rattle.page_table.specs.Run.{IsRunFrom, entry_at}
+use Rattle.page_table.specs.Kept.{AreKept, AreSame, HasFilled, HasRun, HasSet, HaveLost, IsRunBehind, IsPlace, IsRun, ComeInOrder, entry_for, plain_run, find_in, lies_in, pages_of, run_at, single, tail_of, total}
+use Rattle.page_table.proofs.Pages.{get_in, len_in, within_at, within_behind, within_from, within_is, within_none, within_to}
+use Rattle.page_table.proofs.Places.{found_at, found_none, ends_behind}
+use Rattle.page_table.proofs.Edits.{entry_tail, find_insert, item_at, find_put, is_tail, low_at, rise_insert, rise_put, tail_fits, total_insert, total_put}
 
--- Tables, by the rows that they keep.
+-- Tables, by the runs that they keep.
 
--- a page that is there is low
-pub low_there : (pages : Pages) (rows : List (ℕ × PageEntry)) (page : ℕ) → map_of rows ≡ pages → AreKept rows → IsSome (get pages page)
-    → page < 2 ^ 36
-low_there pages rows page same kept there = kept.low page (ap (λ (m : Pages). is_some (get m page)) same ∙ there)
+-- how many pages there are
+pub counted : (pages : Pages) (runs : List PageRun) → pages_of runs ≡ pages → ComeInOrder 0 runs → total runs ≡ len pages
+counted pages runs same h = sym (len_in 0 runs h) ∙ ap len same
 
--- What stands next.
+-- what is found is what there is
+pub found_is : (pages : Pages) (runs : List PageRun) (page : ℕ) → pages_of runs ≡ pages → find_in runs page ≡ get pages page
+found_is pages runs page same = sym (get_in runs page) ∙ ap (λ (m : Pages). get m page) same
 
--- what is read at the page's place, or at the gap for it
-pub next_read : (pages : Pages) (rows : List (ℕ × PageEntry)) (page at : ℕ) (read : Option (Bor (ℕ × PageEntry))) → map_of rows ≡ pages
-    → Rise 0 rows → (IsAt rows page at) ⊎ (IsGap rows page at) → (IsSome read ↔ (at < length rows))
-    → IfSome read (λ row. row.now ≡ get_or rows at row.now) → IsNext pages page (option_copied read)
-next_read pages rows page at None same rise (inl there) inside is = let some = inside.1 there.there in cc
-next_read pages rows page at None same rise (inr gap) inside is =
-    next_none pages rows page at same rise gap (λ there. let some = inside.1 there in cc)
-next_read pages rows page at (Some row) same rise (inl there) inside is = next_at pages rows page at row.now same rise there is
-next_read pages rows page at (Some row) same rise (inr gap) inside is = next_behind pages rows page at row.now same rise gap (inside.0 refl) is
+-- What is read at the place of a page: its run, or the first behind it.
+run_there : (runs : List PageRun) (page at : ℕ) (run : PageRun) → ComeInOrder 0 runs → IsPlace runs page at → at < length runs
+    → run ≡ run_at runs at → IsRunBehind runs page run
+run_there runs page at run h place there is = record {
+  own = subst IsRun (sym is) (low_at 0 runs at h there);
+  to = subst (λ (r : PageRun). page < r.page + r.n) (sym is) (ends_behind runs page at place there);
+  none = λ q from to. found_none 0 runs page at q h place from (λ _. subst (λ (r : PageRun). q < r.page) is to);
+  has = λ i lt.
+      let on : run.page + i - run.page ≡ i = omega arith in
+      found_at 0 runs (run.page + i) at h there (subst (λ (r : PageRun). r.page ≤ run.page + i) is (omega arith))
+      (subst (λ (r : PageRun). run.page + i < r.page + r.n) is (omega (arith, lt)))
+      ∙ ap (λ (r : PageRun). Some (entry_for r (run.page + i))) (sym is)
+      ∙ ap (λ (k : ℕ). Some (entry_at run k)) on;
+}
 
--- it is low
-pub next_low : (pages : Pages) (rows : List (ℕ × PageEntry)) (page : ℕ) (next : Option (ℕ × PageEntry)) → map_of rows ≡ pages → AreKept rows
-    → IsNext pages page next → IfSome next (λ found. found.0 < 2 ^ 36)
-next_low pages rows page None same kept is = tt
-next_low pages rows page (Some found) same kept is = low_there pages rows found.0 same kept (ap is_some is.1)
+pub run_read : (runs : List PageRun) (page at : ℕ) (read : Option (Bor PageRun)) → ComeInOrder 0 runs → IsPlace runs page at
+    → (IsSome read ↔ (at < length runs)) → IfSome read (λ run. run.now ≡ get_or runs at run.now) → HasRun runs page (option_copied read)
+run_read runs page at None h place inside is =
+    λ q le. found_none 0 runs page at q h place le (λ there. let some = inside.1 there in cc)
+run_read runs page at (Some run) h place inside is =
+    run_there runs page at run.now h place (inside.0 refl) (item_at runs at run.now (inside.0 refl) is)
 
--- What is kept afterwards.
+-- what is known of a run that lies_in a page
+pub record IsHeld (runs : List PageRun) (page : ℕ) (run : PageRun) : Type 0 where
+  pub inside : page - run.page < run.n
+  pub few : run.n < 2 ^ 32
+  pub fits : run.rising ≡ true → run.entry.frame + (page - run.page) < 2 ^ 32
+  pub found : find_in runs page ≡ Some (entry_for run page)
 
-no_page : (q : ℕ) → IsSome (get (map_of {X = PageEntry} []) q) → q < 2 ^ 36
-no_page q h = let none = ap is_some (get-empty {X = PageEntry} nat_cmp q) in cc
-
-pub kept_none : (rows : List (ℕ × PageEntry)) → rows ≡ [] → AreKept rows
-kept_none rows is = subst AreKept (sym is) (record { rise = tt; few = omega arith; low = no_page })
-
-pub kept_set : (rows : List (ℕ × PageEntry)) (page at : ℕ) (e : PageEntry) → AreKept rows → IsAt rows page at → AreKept (slice_set rows at (page, e))
-kept_set rows page at e kept there =
+pub held : (runs : List PageRun) (page : ℕ) (run : PageRun) → IsRunBehind runs page run → run.page ≤ page → IsHeld runs page run
+held runs page run h le =
+    let inside : page - run.page < run.n = omega (arith, h.to, le) in
+    let on : run.page + (page - run.page) ≡ page = omega (arith, le) in
     record {
-      rise = rise_set 0 rows page at e kept.rise there;
-      few = omega (arith, length-set rows at (page, e), kept.few);
-      low = λ q h. low q (ap (λ (m : Pages). is_some (get m q)) (sym (map_set rows page at e kept.rise there)) ∙ h);
+      inside = inside;
+      few = h.own.few;
+      fits = tail_fits run (page - run.page) h.own inside;
+      found = subst (λ q. find_in runs q ≡ Some (entry_for run page)) on (h.has (page - run.page) inside);
     }
-  where
-    low : (q : ℕ) → IsSome (get (insert (map_of rows) page e) q) → q < 2 ^ 36
-    low q h = by_key q page
-        (λ same. subst (λ k. k < 2 ^ 36) (sym same) (kept.low page (ap is_some (got_at rows page at (page, e) kept.rise there))))
-        (λ other. kept.low q (ap is_some (sym (get_other (map_of rows) page q e other)) ∙ h))
 
-pub kept_mapped : (pages : Pages) (rows new : List (ℕ × PageEntry)) (from n : ℕ) (entry : PageEntry) → map_of rows ≡ pages → AreKept rows
-    → IsMapped (map_of rows) from n entry (map_of new) → Rise 0 new → length new ≡ length rows + n → from + n ≤ 2 ^ 36 → len pages + n < 2 ^ 32
-    → AreKept new
-kept_mapped pages rows new from n entry same kept mapped rise count end few =
-    record { rise = rise; few = omega (arith, count, few, counted pages rows same kept.rise); low = λ q h. low q (is_within from n q) refl h }
-  where
-    low : (q : ℕ) (b : Bool) → is_within from n q ≡ b → IsSome (get (map_of new) q) → q < 2 ^ 36
-    low q true is h = omega (arith, end, within_below from n q is)
-    low q false is h = kept.low q (ap is_some (sym (mapped_beside (map_of rows) (map_of new) from n entry mapped q is)) ∙ h)
+-- The frames of a run that is rising are numbers of 32 bits.
+run_fits : (run : PageRun) → IsRun run → run.rising ≡ true → run.entry.frame + run.n ≤ 2 ^ 32
+run_fits run is rising =
+    let last = subst (λ (b : Bool). cond b (run.entry.frame + (run.n - 1)) run.entry.frame < 2 ^ 32) rising (is.frames (run.n - 1) (omega (arith, is.some))) in
+    omega (arith, last, is.some)
 
-pub kept_unmapped : (rows new : List (ℕ × PageEntry)) (from n : ℕ) → AreKept rows → IsUnmapped (map_of rows) from n (map_of new) → Rise 0 new
-    → length new + n ≡ length rows → AreKept new
-kept_unmapped rows new from n kept unmapped rise count =
-    record { rise = rise; few = omega (arith, count, kept.few); low = λ q h. low q (is_within from n q) refl h }
-  where
-    low : (q : ℕ) (b : Bool) → is_within from n q ≡ b → IsSome (get (map_of new) q) → q < 2 ^ 36
-    low q true is h = let none = ap is_some (unmapped_free (map_of rows) (map_of new) from n unmapped q is) in cc
-    low q false is h = kept.low q (ap is_some (sym (unmapped_beside (map_of rows) (map_of new) from n unmapped q is)) ∙ h)
+-- the next run from a page on is that run, where it begins at the page or behind it
+pub whole_run : (pages : Pages) (runs : List PageRun) (page : ℕ) (run : PageRun) → pages_of runs ≡ pages → IsRunBehind runs page run → page ≤ run.page
+    → IsRunFrom pages page run
+whole_run pages runs page run same h le = record {
+  from = le;
+  some = h.own.some;
+  none = λ q from to. sym (found_is pages runs q same) ∙ h.none q from to;
+  has = λ i lt. sym (found_is pages runs (run.page + i) same) ∙ h.has i lt;
+  low = h.own.low;
+  fits = run_fits run h.own;
+}
 
--- a run of pages that are there does not wrap
-pub there_fits : (pages : Pages) (rows : List (ℕ × PageEntry)) (from n : ℕ) → map_of rows ≡ pages → AreKept rows → AreThere pages from n
-    → from < 2 ^ 64 → from + n < 2 ^ 64
-there_fits pages rows from zero same kept there low = omega (arith, low)
-there_fits pages rows from (suc n) same kept there low =
-    omega (arith, low_there pages rows (from + n) same kept (there (from + n) (within_last from (suc n) n (omega arith))))
+-- and else its pages from that one on
+pub rest_of_run : (pages : Pages) (runs : List PageRun) (page : ℕ) (run : PageRun) → pages_of runs ≡ pages → IsRunBehind runs page run → run.page < page
+    → IsRunFrom pages page (tail_of run (page - run.page))
+rest_of_run pages runs page run same h lt =
+    let n = page - run.page in
+    let own = is_tail run n h.own (omega (arith, h.to, lt)) in
+    record {
+      from = omega (arith, lt);
+      some = own.some;
+      none = λ q from to. absurd (omega (arith, from, to, lt));
+      has = λ i less.
+          let on : run.page + (n + i) ≡ run.page + n + i = omega arith in
+          sym (found_is pages runs (run.page + n + i) same)
+          ∙ subst (λ q. find_in runs q ≡ Some (entry_at run (n + i))) on (h.has (n + i) (omega (arith, less, h.to, lt)))
+          ∙ ap (λ (e : PageEntry). Some e) (sym (entry_tail run n i));
+      low = own.low;
+      fits = run_fits (tail_of run n) own;
+    }
+
+-- the first page of the next run is the next page
+pub next_first : (pages : Pages) (page : ℕ) (run : PageRun) → IsRunFrom pages page run → IsNext pages page (Some (run.page, run.entry))
+next_first pages page run next = (next.from, has, next.none)
+  where
+    first : (b : Bool) → cond b (run.entry.frame + 0) run.entry.frame ≡ run.entry.frame
+    first true = omega arith
+    first false = refl
+
+    entry_with : ℕ → PageEntry
+    entry_with f = record { perms = run.entry.perms; frame = f }
+
+    has : get pages run.page ≡ Some run.entry
+    has =
+        let on : run.page + 0 ≡ run.page = omega arith in
+        ap (get pages) (sym on) ∙ next.has 0 next.some ∙ ap (λ (f : ℕ). Some (entry_with f)) (first run.rising)
+
+-- What is kept.
+
+pub kept_none : (runs : List PageRun) (count room : ℕ) → runs ≡ [] → count ≡ 0 → AreKept runs count room
+kept_none runs count room is none =
+    subst (λ (rs : List PageRun). AreKept rs count room) (sym is)
+    (record { rise = tt; few = omega (arith, none); counted = none; roomy = omega arith })
+
+-- A run of n pages is put in.
+pub filled_run : (runs new : List PageRun) (from n at : ℕ) (entry : PageEntry) → ComeInOrder 0 runs → IsFree (pages_of runs) from n → from + n ≤ 2 ^ 36
+    → 0 < n → n < 2 ^ 32 → entry.frame < 2 ^ 32 → IsPlace runs from at → new ≡ list.insert runs at (plain_run from n entry)
+    → HasFilled runs from n entry new
+filled_run runs new from n at entry h free low some few fits place is =
+    subst (HasFilled runs from n entry) (sym is) (record {
+      pages = λ q.
+          get_in (list.insert runs at (plain_run from n entry)) q
+          ∙ find_insert 0 runs at q (plain_run from n entry) h place
+          ∙ ap (λ (o : Option PageEntry). cond (is_within from n q) (Some entry) o) (sym (get_in runs q));
+      rise = rise_insert 0 runs at (plain_run from n entry) h (omega arith) (record { some = some; few = few; low = low; frames = λ i _. fits })
+          (λ q within. sym (get_in runs q) ∙ free q within) place;
+      count = total_insert runs at (plain_run from n entry) place.inside;
+    })
+
+pub filled_none : (runs : List PageRun) (from n : ℕ) (entry : PageEntry) → ComeInOrder 0 runs → n ≡ 0 → HasFilled runs from n entry runs
+filled_none runs from n entry h none = record {
+  pages = λ q. ap (λ (b : Bool). cond b (Some entry) (get (pages_of runs) q)) (sym (ap (λ (k : ℕ). is_within from k q) none ∙ within_none from q));
+  rise = h;
+  count = omega (arith, none);
+}
+
+-- A page that is a run of its own is given an entry, and the runs round it are joined.
+pub set_one : (runs cut put new : List PageRun) (page at : ℕ) (e : PageEntry) → AreSame runs cut → at < length cut → (run_at cut at).page ≡ page
+    → (run_at cut at).n ≡ 1 → put ≡ slice_set cut at (single page e) → AreSame put new → HasSet runs page e new
+set_one runs cut put new page at e parts there begins one is joined = record {
+  pages = alike _ _ (λ q.
+      get_in new q ∙ joined.found q ∙ ap (λ (rs : List PageRun). find_in rs q) is ∙ find_put 0 cut at page q e parts.rise there begins one
+      ∙ by_key q page
+      (λ same.
+      ap (λ (b : Bool). cond b (Some e) (find_in cut q)) (within_is page 1 q (omega (arith, same)) (omega (arith, same)))
+      ∙ sym (get_same (pages_of runs) page q e same))
+      (λ other.
+      ap (λ (b : Bool). cond b (Some e) (find_in cut q)) (outside q other) ∙ parts.found q ∙ sym (get_in runs q)
+      ∙ sym (get_other (pages_of runs) page q e other)));
+  rise = joined.rise;
+  count = joined.count ∙ ap total is ∙ total_put cut at page e there one ∙ parts.count;
+}
+  where
+    outside : (q : ℕ) → (q ≡ page → ⊥) → is_within page 1 q ≡ false
+    outside q other = by (is_within page 1 q) refl
+      where
+        by : (b : Bool) → is_within page 1 q ≡ b → b ≡ false
+        by true h = absurd (other (omega (arith, within_from page 1 q h, within_to page 1 q h)))
+        by false h = refl
+
+-- what is set before the runs are joined rises
+pub set_rises : (cut put : List PageRun) (page at : ℕ) (e : PageEntry) → ComeInOrder 0 cut → at < length cut → (run_at cut at).page ≡ page
+    → (run_at cut at).n ≡ 1 → e.frame < 2 ^ 32 → put ≡ slice_set cut at (single page e) → ComeInOrder 0 put
+set_rises cut put page at e h there begins one fits is = subst (ComeInOrder 0) (sym is) (rise_put 0 cut at page e h there begins one fits)
+
+pub same_again : (a b c : List PageRun) → AreSame a b → AreSame b c → AreSame a c
+same_again a b c first second = record {
+  found = λ page. second.found page ∙ first.found page;
+  rise = second.rise;
+  count = second.count ∙ first.count;
+}
+
+-- Pages are taken away, run by run.
+
+pub lost_none : (runs : List PageRun) (from : ℕ) → ComeInOrder 0 runs → HaveLost runs from 0 runs
+lost_none runs from h = record {
+  found = λ q. ap (λ (b : Bool). cond b None (find_in runs q)) (sym (within_none from q));
+  rise = h;
+  count = omega arith;
+}
+
+pub lost_more : (old now new : List PageRun) (from n m : ℕ) → HaveLost old from n now → HaveLost now (from + n) m new → HaveLost old from (n + m) new
+lost_more old now new from n m first second = record {
+  found = λ q.
+      second.found q
+      ∙ ap (λ (o : Option PageEntry). cond (is_within (from + n) m q) None o) (first.found q)
+      ∙ by q (is_within (from + n) m q) (is_within from n q) refl refl;
+  rise = second.rise;
+  count = omega (arith, first.count, second.count);
+}
+  where
+    by : (q : ℕ) (a b : Bool) → is_within (from + n) m q ≡ a → is_within from n q ≡ b
+        → cond a None (cond b None (find_in old q)) ≡ cond (is_within from (n + m) q) None (find_in old q)
+    by q true b h k =
+        ap (λ (c : Bool). cond c None (find_in old q))
+        (sym (within_is from (n + m) q (omega (arith, within_from (from + n) m q h)) (omega (arith, within_to (from + n) m q h))))
+    by q false true h k =
+        ap (λ (c : Bool). cond c None (find_in old q))
+        (sym (within_is from (n + m) q (within_from from n q k) (omega (arith, within_to from n q k))))
+    by q false false h k = ap (λ (c : Bool). cond c None (find_in old q)) (sym (neither from n m q h k))
+      where
+        neither : (p n m q : ℕ) → is_within (p + n) m q ≡ false → is_within p n q ≡ false → is_within p (n + m) q ≡ false
+        neither p n m q h k = grind (arith, nat_tests)
+
+-- What holds while pages are taken away: those before `at` are gone, and there is room for the others.
+pub record IsClearing (old : List PageRun) (from n had at left has : ℕ) (now : List PageRun) : Type 0 where
+  pub begun : from ≤ at
+  pub place : at + left ≡ from + n
+  pub lost : HaveLost old from (at - from) now
+  pub roomy : had ≤ has
+  pub enough : total old ≤ had
+
+pub clearing_more : (old now new : List PageRun) (from n had at left has later gone : ℕ) → IsClearing old from n had at left has now
+    → HaveLost now at gone new → gone ≤ left → has ≤ later → IsClearing old from n had (at + gone) (left - gone) later new
+clearing_more old now new from n had at left has later gone so_far lost le more =
+    let on : from + (at - from) ≡ at = omega (arith, so_far.begun) in
+    let done : at - from + gone ≡ at + gone - from = omega (arith, so_far.begun) in
+    record {
+      begun = omega (arith, so_far.begun);
+      place = omega (arith, so_far.place, le);
+      lost = subst (λ k. HaveLost old from k new) done
+          (lost_more old now new from (at - from) gone so_far.lost (subst (λ k. HaveLost now k gone new) (sym on) lost));
+      roomy = omega (arith, so_far.roomy, more);
+      enough = so_far.enough;
+    }
+
+-- the next page is still there
+pub lost_next : (old now : List PageRun) (from done n : ℕ) → AreThere (pages_of old) from n → done < n → HaveLost old from done now
+    → IsSome (find_in now (from + done))
+lost_next old now from done n there lt lost =
+    ap is_some (lost.found (from + done)
+    ∙ ap (λ (b : Bool). cond b None (find_in old (from + done))) (within_behind from done (from + done) (omega arith))
+    ∙ sym (get_in old (from + done)))
+    ∙ there (from + done) (within_at from n done lt)
+
+pub unmapped_run : (pages : Pages) (runs new : List PageRun) (from n : ℕ) → pages_of runs ≡ pages → HaveLost runs from n new
+    → IsUnmapped pages from n (pages_of new)
+unmapped_run pages runs new from n same lost q =
+    get_in new q ∙ lost.found q ∙ ap (λ (o : Option PageEntry). cond (is_within from n q) None o) (found_is pages runs q same)
+
+-- Runs that are clones one by one are the same.
+pub cloned : (runs copies : List PageRun) → AllZip (λ run copy. copy ≡ run) runs copies → copies ≡ runs
+cloned runs copies each = AllZip-map (λ run. run) runs copies each ∙ map-id runs
+
+-- A page that is there is low, so a run of them ends.
+
+low_found : (from : ℕ) (runs : List PageRun) (page : ℕ) → ComeInOrder from runs → IsSome (find_in runs page) → page < 2 ^ 36
+low_found from [] page h some = cc
+low_found from (run ∷ runs) page h some = by (lies_in run page) refl (low_found (run.page + run.n) runs page h.2)
+  where
+    by : (b : Bool) → lies_in run page ≡ b → (IsSome (find_in runs page) → page < 2 ^ 36) → page < 2 ^ 36
+    by true is behind = omega (arith, within_to run.page run.n page is, h.1.low)
+    by false is behind = behind (sym (ap (λ (b : Bool). is_some (cond b (Some (entry_for run page)) (find_in runs page))) is) ∙ some)
+
+pub there_fits : (pages : Pages) (runs : List PageRun) (from n : ℕ) → pages_of runs ≡ pages → ComeInOrder 0 runs → AreThere pages from n → from < 2 ^ 64
+    → from + n < 2 ^ 64
+there_fits pages runs from zero same h there low = omega (arith, low)
+there_fits pages runs from (suc n) same h there low =
+    omega (
+      arith,
+      low_found 0 runs (from + n) h (ap is_some (found_is pages runs (from + n) same) ∙ there (from + n) (within_at from (suc n) n (omega arith))),
+    )

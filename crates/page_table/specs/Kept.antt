@@ -1,14 +1,141 @@
-use Rattle.std.specs.Prelude.{◌≡◌, ℕ, ◌^◌, ◌<◌, List, length, get_or, IsSome}
-use Rattle.std.specs.FinMap.{get}
-use Rattle.number_maps.specs.Rows.{map_of, Rise, IsAt}
+use Rattle.std.specs.Prelude.{◌≡◌, ℕ, zero, suc, ◌+◌, ◌-◌, ◌^◌, ◌<◌, ◌≤◌, Bool, true, false, List, [], ◌∷◌, length, get_or, nat_le, if◌then◌else◌, Option, Some, None}
+use Rattle.std.specs.FinMap.{empty, insert}
 use Rattle.page_table.specs.declared.entry.PageEntry.{PageEntry}
+use Rattle.page_table.specs.declared.run.PageRun.{PageRun}
+use Rattle.page_table.specs.Table.{Pages, IsMapped, is_within}
+use Rattle.page_table.specs.Run.{entry_at}
 
--- What a table keeps: rows of a page and its entry, by rising pages. This is true of the rows of every table.
-pub record AreKept (rows : List (ℕ × PageEntry)) : Type 0 where
-  pub rise : Rise 0 rows
-  pub few : length rows < 2 ^ 32
-  pub low : (page : ℕ) → IsSome (get (map_of rows) page) → page < 2 ^ 36
+-- What a table keeps: runs of pages, by rising pages, each page in one run.
 
--- a row is that of a page, and stands at a place
-abbrev pub IsRowAt : List (ℕ × PageEntry) → ℕ → ℕ → ℕ × PageEntry → Type 0
-IsRowAt rows page place row = IsAt rows page place × (row ≡ get_or rows place row)
+-- the entry that a run has for a page, and the one that runs have: that of the first that holds it
+abbrev pub entry_for : PageRun → ℕ → PageEntry
+entry_for run page = entry_at run (page - run.page)
+
+abbrev pub lies_in : PageRun → ℕ → Bool
+lies_in run page = is_within run.page run.n page
+
+abbrev pub find_in : List PageRun → ℕ → Option PageEntry
+find_in [] page = None
+find_in (run ∷ runs) page = if lies_in run page then Some (entry_for run page) else find_in runs page
+
+-- the pages that runs stand for: the first n of a run put into a table, and all of all runs
+abbrev pub put_pages : PageRun → ℕ → Pages → Pages
+put_pages run zero pages = pages
+put_pages run (suc n) pages = insert (put_pages run n pages) (run.page + n) (entry_at run n)
+
+abbrev pub pages_of : List PageRun → Pages
+pages_of [] = empty
+pages_of (run ∷ runs) = put_pages run run.n (pages_of runs)
+
+-- how many there are
+abbrev pub total : List PageRun → ℕ
+total [] = 0
+total (run ∷ runs) = run.n + total runs
+
+-- a run has a page, and fewer than 2^32, its pages are low, and each frame is a number of 32 bits
+pub record IsRun (run : PageRun) : Type 0 where
+  pub some : 0 < run.n
+  pub few : run.n < 2 ^ 32
+  pub low : run.page + run.n ≤ 2 ^ 36
+  pub frames : (i : ℕ) → i < run.n → (entry_at run i).frame < 2 ^ 32
+
+-- runs come one after the other, the first from a page on
+abbrev pub ComeInOrder : ℕ → List PageRun → Type 0
+ComeInOrder from [] = Unit {0}
+ComeInOrder from (run ∷ runs) = (from ≤ run.page) × IsRun run × ComeInOrder (run.page + run.n) runs
+
+-- This is true of the runs of every table, of how many pages it has, and of the runs that it has room for: a page may become a run of
+-- its own without memory.
+pub record AreKept (runs : List PageRun) (count room : ℕ) : Type 0 where
+  pub rise : ComeInOrder 0 runs
+  pub few : count < 2 ^ 32
+  pub counted : count ≡ total runs
+  pub roomy : total runs ≤ room
+
+-- the run at a place
+pub no_run : PageRun
+no_run = record { page = 0; n = 0; entry = record { perms = record { 0 = 0 }; frame = 0 }; rising = false }
+
+abbrev pub run_at : List PageRun → ℕ → PageRun
+run_at runs at = get_or runs at no_run
+
+-- a run lies before a page
+abbrev pub is_before : ℕ → PageRun → Bool
+is_before page run = nat_le run.n (page - run.page)
+
+-- the run that lies_in a page stands at a place, or the first behind it
+pub record IsPlace (runs : List PageRun) (page at : ℕ) : Type 0 where
+  pub inside : at ≤ length runs
+  pub before : (i : ℕ) → i < at → is_before page (run_at runs i) ≡ true
+  pub behind : (i : ℕ) → at ≤ i → i < length runs → is_before page (run_at runs i) ≡ false
+
+-- a run lies_in a page, or is the first behind it
+pub record IsRunBehind (runs : List PageRun) (page : ℕ) (run : PageRun) : Type 0 where
+  pub own : IsRun run
+  pub to : page < run.page + run.n
+  pub none : (q : ℕ) → page ≤ q → q < run.page → find_in runs q ≡ None
+  pub has : (i : ℕ) → i < run.n → find_in runs (run.page + i) ≡ Some (entry_at run i)
+
+-- the one that does, or that there is none
+abbrev pub HasRun : List PageRun → ℕ → Option PageRun → Type 0
+HasRun runs page None = (q : ℕ) → page ≤ q → find_in runs q ≡ None
+HasRun runs page (Some run) = IsRunBehind runs page run
+
+-- other runs of the same pages
+pub record AreSame (old new : List PageRun) : Type 0 where
+  pub found : (page : ℕ) → find_in new page ≡ find_in old page
+  pub rise : ComeInOrder 0 new
+  pub count : total new ≡ total old
+
+-- a run begins at a page, among runs of the same pages
+pub record HasBegun (old : List PageRun) (page at : ℕ) (new : List PageRun) : Type 0 where
+  pub same : AreSame old new
+  pub there : at < length new
+  pub begins : (run_at new at).page ≡ page
+
+-- a page that is there was given another entry
+pub record HasSet (old : List PageRun) (page : ℕ) (entry : PageEntry) (new : List PageRun) : Type 0 where
+  pub pages : pages_of new ≡ insert (pages_of old) page entry
+  pub rise : ComeInOrder 0 new
+  pub count : total new ≡ total old
+
+-- n pages from one on, which weren't there, were given an entry
+pub record HasFilled (old : List PageRun) (from n : ℕ) (entry : PageEntry) (new : List PageRun) : Type 0 where
+  pub pages : IsMapped (pages_of old) from n entry (pages_of new)
+  pub rise : ComeInOrder 0 new
+  pub count : total new ≡ total old + n
+
+-- the n pages from one on were taken away
+pub record HaveLost (old : List PageRun) (page n : ℕ) (new : List PageRun) : Type 0 where
+  pub found : (q : ℕ) → find_in new q ≡ (if is_within page n q then None else find_in old q)
+  pub rise : ComeInOrder 0 new
+  pub count : total new + n ≡ total old
+
+-- the first pages of a run, the others, and the run of two that lie one after the other
+abbrev pub head_of : PageRun → ℕ → PageRun
+head_of run n = record { page = run.page; n = n; entry = run.entry; rising = run.rising }
+
+abbrev pub tail_of : PageRun → ℕ → PageRun
+tail_of run n = record { page = run.page + n; n = run.n - n; entry = entry_at run n; rising = run.rising }
+
+-- a run is two that lie one after the other
+pub record IsJoined (a b run : PageRun) : Type 0 where
+  pub meet : b.page ≡ a.page + a.n
+  pub page : run.page ≡ a.page
+  pub count : run.n ≡ a.n + b.n
+  pub first : (i : ℕ) → i < a.n → entry_at run i ≡ entry_at a i
+  pub second : (i : ℕ) → i < b.n → entry_at run (a.n + i) ≡ entry_at b i
+
+-- a run begins where another ends, with the same permissions, and the frame that comes next
+pub record Meets (a b : PageRun) (rising : Bool) : Type 0 where
+  pub page : b.page ≡ a.page + a.n
+  pub perms : b.entry.perms ≡ a.entry.perms
+  pub frame : b.entry.frame ≡ (if rising then a.entry.frame + a.n else a.entry.frame)
+
+-- a page that is a run of its own
+abbrev pub single : ℕ → PageEntry → PageRun
+single page entry = record { page = page; n = 1; entry = entry; rising = false }
+
+-- n pages with one entry
+abbrev pub plain_run : ℕ → ℕ → PageEntry → PageRun
+plain_run from n entry = record { page = from; n = n; entry = entry; rising = false }

@@ -6,13 +6,18 @@
 //! the table as it was.
 //!
 //! - `entry`: what a page has
+//! - `run`: pages that lie one after the other, with frames that are one or rise
+//! - `runs`: runs by rising pages
 //! - `table`: the pages by number
 #![tactic(auto)]
 
 mod entry;
+mod run;
+mod runs;
 mod table;
 
 pub use entry::PageEntry;
+pub use run::PageRun;
 pub use table::PageTable;
 
 #[cfg(test)]

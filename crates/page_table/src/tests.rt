@@ -286,3 +286,89 @@ fn a_table_answers_as_a_plain_list_does(rt: HostRuntime) -> Result<(), Fail> {
     }
     Ok(())
 }
+
+// The runs of a table from a page on: where each begins, how many pages it has, and its first frame, and whether they rise.
+fn assert_runs(rt: &impl Abort, table: &PageTable, rows: &[(u64, u32, u32, bool)]) {
+    let mut from = 0;
+    for &(page, n, frame, rising) in rows {
+        match table.next_run(from) {
+            Some(run) => {
+                assert_eq!(rt; (run.page, run.n, run.entry.frame), (page, n, frame));
+                assert!(rt;
+                    run.n == 1 || run.rising == rising,
+                    "the run at page {page}"
+                );
+                from = run.page.saturating_add(u64::from(run.n));
+            }
+            None => panic!(rt; "no run at page {page}"),
+        }
+    }
+    assert!(rt; table.next_run(from).is_none(), "no run behind page {from}");
+}
+
+#[test]
+fn pages_that_go_on_make_one_run(rt: HostRuntime) -> Result<(), Fail> {
+    let mut table = PageTable::new(rt.alloc());
+    map_pages(&rt, &mut table, 10, 10, CODE)?;
+    assert_runs(&rt, &table, &[(10, 10, 7, false)]);
+
+    // each page gets a frame of its own, the next one each time
+    for i in 0..10u32 {
+        let perms = CODE.perms;
+        set(
+            &rt,
+            &mut table,
+            10 + u64::from(i),
+            PageEntry {
+                perms,
+                frame: 20 + i,
+            },
+        );
+    }
+    assert_runs(&rt, &table, &[(10, 10, 20, true)]);
+    assert_eq!(rt;
+        table
+            .next_run(14)
+            .map(|run| (run.page, run.n, run.entry.frame)),
+        Some((14, 6, 24))
+    );
+
+    // a page in the middle, and back
+    let middle = PageEntry {
+        perms: CODE.perms,
+        frame: 24,
+    };
+    set(&rt, &mut table, 14, DATA);
+    assert_runs(
+        &rt,
+        &table,
+        &[
+            (10, 4, 20, true),
+            (14, 1, 4_294_967_295, false),
+            (15, 5, 25, true),
+        ],
+    );
+    set(&rt, &mut table, 14, middle);
+    assert_runs(&rt, &table, &[(10, 10, 20, true)]);
+
+    // other permissions make another run, and so do frames that don't go on
+    set(
+        &rt,
+        &mut table,
+        14,
+        PageEntry {
+            perms: Perms::W,
+            frame: 24,
+        },
+    );
+    assert_runs(
+        &rt,
+        &table,
+        &[(10, 4, 20, true), (14, 1, 24, true), (15, 5, 25, true)],
+    );
+    unmap(&rt, &mut table, 12, 4);
+    assert_runs(&rt, &table, &[(10, 2, 20, true), (16, 4, 26, true)]);
+    let copy = table.copy()?;
+    assert_runs(&rt, &copy, &[(10, 2, 20, true), (16, 4, 26, true)]);
+    Ok(())
+}

@@ -1,0 +1,203 @@
+//! Runs of pages in the order of their pages, and what changes them without changing the pages that they stand for.
+
+ghost use Rattle.std.specs.Prelude.{◌≡◌, ◌+◌, ◌^◌, ◌<◌, ◌≤◌, ◌⊎◌, length, slice_set, IsSome, None};
+ghost use Rattle.std.specs.List as list;
+ghost use Rattle.std.specs.VecDeque.{deque_capacity};
+ghost use Rattle.page_table.specs.Kept.{AreSame, HasBegun, HasFilled, HasRun, HasSet, HaveLost, IsPlace, ComeInOrder, plain_run, find_in, head_of, pages_of, run_at, tail_of, total};
+ghost use Rattle.page_table.specs.Table.{AreThere, IsFree};
+
+use crate::entry::PageEntry;
+use crate::run::PageRun;
+use std::collections::VecDeque;
+
+// Pages with one entry.
+fn run_of(page: u64, n: u32, entry: PageEntry) -> PageRun
+    ensures { result ≡ plain_run page n entry }
+{
+    PageRun {
+        page,
+        n,
+        entry,
+        rising: false,
+    }
+}
+
+/// The place of the run that lies_in a page, or of the first one behind it.
+#[inline]
+fn place_of(runs: &VecDeque<PageRun>, page: u64) -> usize
+    requires { ComeInOrder 0 runs.now.items }
+    ensures { IsPlace runs.now.items page result }
+{
+    runs.partition_point(|run| page.saturating_sub(run.page) >= u64::from(run.n))
+}
+
+/// The run that lies_in a page, or the first one behind it.
+#[inline]
+pub(crate) fn run_from(runs: &VecDeque<PageRun>, page: u64) -> Option<PageRun>
+    requires { ComeInOrder 0 runs.now.items }
+    ensures { HasRun runs.now.items page result }
+{
+    runs.get(place_of(runs, page)).copied()
+}
+
+/// Makes two runs of one: its first n pages, and the others behind them. There is room for them.
+fn cut(runs: &mut VecDeque<PageRun>, at: usize, n: u32)
+    requires rise { ComeInOrder 0 runs.old.items }
+    requires there { at < length runs.old.items }
+    requires some { 0 < n }
+    requires inside { n < (run_at runs.old.items at).n }
+    requires room { total runs.old.items ≤ deque_capacity runs.old }
+    ensures same { AreSame runs.old.items runs.new.items }
+    ensures cut { runs.new.items
+        ≡ list.insert (slice_set runs.old.items at (tail_of (run_at runs.old.items at) n)) at
+        (head_of (run_at runs.old.items at) n) }
+    ensures room { deque_capacity runs.old ≤ deque_capacity runs.new }
+{
+    let run = runs[at];
+    runs[at] = run.tail(n);
+    match runs.insert(at, run.head(n)) {
+        Ok(()) => {}
+        Err(_) => unreachable!(),
+    }
+}
+
+/// Makes a page that is there the first one of its run. Answers the place of the run.
+fn begin(runs: &mut VecDeque<PageRun>, page: u64) -> usize
+    requires rise { ComeInOrder 0 runs.old.items }
+    requires there { IsSome (find_in runs.old.items page) }
+    requires room { total runs.old.items ≤ deque_capacity runs.old }
+    ensures begun { HasBegun runs.old.items page result runs.new.items }
+    ensures room { deque_capacity runs.old ≤ deque_capacity runs.new }
+{
+    let at = place_of(runs, page);
+    let first = runs[at].page;
+    if first == page {
+        return at;
+    }
+    cut(runs, at, (page - first) as u32);
+    at + 1
+}
+
+/// Makes a page that is there a run of its own. Answers the place of the run.
+fn isolate(runs: &mut VecDeque<PageRun>, page: u64) -> usize
+    requires rise { ComeInOrder 0 runs.old.items }
+    requires there { IsSome (find_in runs.old.items page) }
+    requires room { total runs.old.items ≤ deque_capacity runs.old }
+    ensures begun { HasBegun runs.old.items page result runs.new.items }
+    ensures one { (run_at runs.new.items result).n ≡ 1 }
+    ensures room { deque_capacity runs.old ≤ deque_capacity runs.new }
+{
+    let at = begin(runs, page);
+    if runs[at].n > 1 {
+        cut(runs, at, 1);
+    }
+    at
+}
+
+/// Makes one run of that at a place and the next one, where they are one.
+fn join(runs: &mut VecDeque<PageRun>, at: usize)
+    requires rise { ComeInOrder 0 runs.old.items }
+    requires there { at < length runs.old.items }
+    requires few { total runs.old.items < 2 ^ 32 }
+    ensures same { AreSame runs.old.items runs.new.items }
+    ensures there { at < length runs.new.items }
+    ensures room { deque_capacity runs.new ≡ deque_capacity runs.old }
+{
+    if runs.len() - at < 2 {
+        return;
+    }
+    match runs[at].joined(&runs[at + 1]) {
+        Some(run) => {
+            runs[at] = run;
+            runs.remove(at + 1);
+        }
+        None => {}
+    }
+}
+
+/// Makes one run of that at a place and those round it, where they are one.
+fn join_round(runs: &mut VecDeque<PageRun>, at: usize)
+    requires rise { ComeInOrder 0 runs.old.items }
+    requires there { at < length runs.old.items }
+    requires few { total runs.old.items < 2 ^ 32 }
+    ensures same { AreSame runs.old.items runs.new.items }
+    ensures room { deque_capacity runs.new ≡ deque_capacity runs.old }
+{
+    join(runs, at);
+    if at > 0 {
+        join(runs, at - 1);
+    }
+}
+
+/// Gives a page that is there another entry.
+pub(crate) fn set_page(runs: &mut VecDeque<PageRun>, page: u64, entry: PageEntry)
+    requires rise { ComeInOrder 0 runs.old.items }
+    requires there { IsSome (find_in runs.old.items page) }
+    requires few { total runs.old.items < 2 ^ 32 }
+    requires room { total runs.old.items ≤ deque_capacity runs.old }
+    ensures set { HasSet runs.old.items page entry runs.new.items }
+    ensures room { deque_capacity runs.old ≤ deque_capacity runs.new }
+{
+    let at = isolate(runs, page);
+    runs[at] = run_of(page, 1, entry);
+    join_round(runs, at);
+}
+
+/// Gives n pages that aren't there an entry. There is room for them.
+pub(crate) fn fill_pages(runs: &mut VecDeque<PageRun>, from: u64, n: u32, entry: PageEntry)
+    requires rise { ComeInOrder 0 runs.old.items }
+    requires free { IsFree (pages_of runs.old.items) from n }
+    requires low { from + n ≤ 2 ^ 36 }
+    requires room { total runs.old.items + n ≤ deque_capacity runs.old }
+    ensures filled { HasFilled runs.old.items from n entry runs.new.items }
+    ensures room { deque_capacity runs.old ≤ deque_capacity runs.new }
+{
+    if n == 0 {
+        return;
+    }
+    let at = place_of(runs, from);
+    match runs.insert(at, run_of(from, n, entry)) {
+        Ok(()) => {}
+        Err(_) => unreachable!(),
+    }
+}
+
+/// Takes away a page that is there, and as many of those behind it in its run as are asked for. Answers how many went.
+fn clear_run(runs: &mut VecDeque<PageRun>, page: u64, most: u32) -> u32
+    requires rise { ComeInOrder 0 runs.old.items }
+    requires there { IsSome (find_in runs.old.items page) }
+    requires some { 0 < most }
+    requires room { total runs.old.items ≤ deque_capacity runs.old }
+    ensures lost { HaveLost runs.old.items page result runs.new.items }
+    ensures some { 0 < result }
+    ensures most { result ≤ most }
+    ensures room { deque_capacity runs.old ≤ deque_capacity runs.new }
+{
+    let at = begin(runs, page);
+    let run = runs[at];
+    if most < run.n {
+        runs[at] = run.tail(most);
+        most
+    } else {
+        runs.remove(at);
+        run.n
+    }
+}
+
+/// Takes away the n pages from `from` on, which are there, run by run.
+pub(crate) fn clear_pages(runs: &mut VecDeque<PageRun>, from: u64, n: u32)
+    requires rise { ComeInOrder 0 runs.old.items }
+    requires there { AreThere (pages_of runs.old.items) from n }
+    requires room { total runs.old.items ≤ deque_capacity runs.old }
+    requires low { from + n < 2 ^ 64 }
+    ensures lost { HaveLost runs.old.items from n runs.new.items }
+    ensures room { deque_capacity runs.old ≤ deque_capacity runs.new }
+{
+    let mut at = from;
+    let mut left = n;
+    'clearing: while left > 0 {
+        let gone = clear_run(runs, at, left);
+        at += u64::from(gone);
+        left -= gone;
+    }
+}
