@@ -6,13 +6,16 @@
 //! the table as it was.
 //!
 //! - `entry`: what a page has
+//! - `run`: pages one after the other, with frames that are one or rise
 //! - `table`: the pages by number
 #![tactic(auto)]
 
 mod entry;
+mod run;
 mod table;
 
 pub use entry::PageEntry;
+pub use run::PageRun;
 pub use table::PageTable;
 
 #[cfg(test)]

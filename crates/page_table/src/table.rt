@@ -4,8 +4,10 @@ ghost use Rattle.std.specs.VecDeque.{deque_capacity};
 ghost use Rattle.number_maps.specs.Rows.{map_of, Rise, IsAt, IsGap};
 ghost use Rattle.page_table.specs.Kept.{IsRowAt};
 ghost use Rattle.page_table.specs.Table.{IsFree, AreThere, IsMapped, IsUnmapped, IsNext};
+ghost use Rattle.page_table.specs.Run.{IsNextRun};
 
 use crate::entry::PageEntry;
+use crate::run::PageRun;
 use ovl_io::Perms;
 use std::alloc::{AllocError, Global};
 use std::collections::VecDeque;
@@ -136,6 +138,21 @@ impl PageTable {
         match row_of(&self.rows, page, place as usize) {
             Some(row) => Some(row),
             None => self.next_from(page),
+        }
+    }
+
+    /// The first pages not below `page`: as many as lie in one run, if there is one. Costs a look-up.
+    pub fn next_run(&self, page: u64) -> Option<PageRun>
+        ensures { IsNextRun self.now page result }
+    {
+        match self.next_from(page) {
+            Some((found, entry)) => Some(PageRun {
+                page: found,
+                n: 1,
+                entry,
+                rising: false,
+            }),
+            None => None,
         }
     }
 
