@@ -1,6 +1,6 @@
-use Rattle.std.specs.Prelude.{◌≡◌, ℕ, ◌^◌, ◌<◌, List, length, get_or, IsSome}
+use Rattle.std.specs.Prelude.{ℕ, ◌^◌, ◌<◌, List, length, IsSome}
 use Rattle.std.specs.FinMap.{get}
-use Rattle.number_maps.specs.Rows.{map_of, Rise, IsAt}
+use Rattle.number_maps.specs.Rows.{map_of, Rise}
 use Rattle.page_table.specs.declared.entry.PageEntry.{PageEntry}
 
 -- What a table keeps: rows of a page and its entry, by rising pages. This is true of the rows of every table.
@@ -8,7 +8,3 @@ pub record AreKept (rows : List (ℕ × PageEntry)) : Type 0 where
   pub rise : Rise 0 rows
   pub few : length rows < 2 ^ 32
   pub low : (page : ℕ) → IsSome (get (map_of rows) page) → page < 2 ^ 36
-
--- a row is that of a page, and stands at a place
-abbrev pub IsRowAt : List (ℕ × PageEntry) → ℕ → ℕ → ℕ × PageEntry → Type 0
-IsRowAt rows page place row = IsAt rows page place × (row ≡ get_or rows place row)

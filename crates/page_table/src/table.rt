@@ -2,7 +2,6 @@ ghost use Rattle.std.specs.Prelude.{◌≡◌, ◌+◌, ◌^◌, ◌<◌, ◌≤
 ghost use Rattle.std.specs.FinMap as map;
 ghost use Rattle.std.specs.VecDeque.{deque_capacity};
 ghost use Rattle.number_maps.specs.Rows.{map_of, Rise, IsAt, IsGap};
-ghost use Rattle.page_table.specs.Kept.{IsRowAt};
 ghost use Rattle.page_table.specs.Table.{IsFree, AreThere, IsMapped, IsUnmapped, IsNext};
 ghost use Rattle.page_table.specs.Run.{IsNextRun};
 
@@ -106,17 +105,6 @@ impl PageTable {
         }
     }
 
-    /// As `get`. Costs a step where the page is the one of a place: so many are before it.
-    #[inline(always)]
-    pub fn get_near(&self, page: u64, place: u32) -> Option<PageEntry>
-        ensures { result ≡ map.get self.now page }
-    {
-        match row_of(&self.rows, page, place as usize) {
-            Some(row) => Some(row.1),
-            None => self.get(page),
-        }
-    }
-
     /// The least page not below `page`, with its entry, if there is one: below 2^36. Costs a look-up.
     #[inline]
     pub fn next_from(&self, page: u64) -> Option<(u64, PageEntry)>
@@ -127,18 +115,6 @@ impl PageTable {
             Ok(at) | Err(at) => at,
         };
         self.rows.get(at).copied()
-    }
-
-    /// As `next_from`. Costs a step where the page is the one of a place: so many are before it.
-    #[inline(always)]
-    pub fn next_near(&self, page: u64, place: u32) -> Option<(u64, PageEntry)>
-        ensures next { IsNext self.now page result }
-        ensures low { IfSome result (λ found. found.0 < 2 ^ 36) }
-    {
-        match row_of(&self.rows, page, place as usize) {
-            Some(row) => Some(row),
-            None => self.next_from(page),
-        }
     }
 
     /// The first pages not below `page`: as many as lie in one run, if there is one. Costs a look-up.
@@ -210,17 +186,6 @@ fn clear_pages(rows: &mut VecDeque<(u64, PageEntry)>, from: u64, n: u32)
             }
             Err(_) => unreachable!(),
         }
-    }
-}
-
-// The row of a page, where it stands at a place.
-#[inline(always)]
-fn row_of(rows: &VecDeque<(u64, PageEntry)>, page: u64, place: usize) -> Option<(u64, PageEntry)>
-    ensures { IfSome result (IsRowAt rows.now.items page place) }
-{
-    match rows.get(place) {
-        Some(row) => { if row.0 == page { Some(*row) } else { None } }
-        None => None,
     }
 }
 

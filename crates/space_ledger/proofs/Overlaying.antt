@@ -5,7 +5,7 @@ use Rattle.std.specs.Ordering.{nat_cmp}
 use Rattle.std.specs.Cmp.{nat_cmp_total}
 use Rattle.std.specs.FinMap.{empty_of_len, get, get-empty, insert, len, len-insert, len-remove, remove}
 use Rattle.number_maps.specs.Keys.{get_other, get_same, insert_over, removed_other, removed_same}
-use Rattle.sizes.specs.declared.TheConstants.{FRAME_UNITS, LAST_SPACE, PAGE_END, PAGE_LINES}
+use Rattle.sizes.specs.declared.TheConstants.{FRAME_UNITS, PAGE_END, PAGE_LINES}
 use Rattle.page_table.specs.declared.entry.PageEntry.{PageEntry}
 use Rattle.overlay_address.specs.Names.{overlay_page}
 use Rattle.overlay_mapping_table.specs.declared.entry.Entry.{Entry}

@@ -3,22 +3,20 @@ use Rattle.std.proofs.Common.{sym, ap, subst, ◌∙◌, arith}
 use Rattle.std.specs.Option.{option_map}
 use Rattle.std.specs.Cmp.{nat_cmp_total}
 use Rattle.std.specs.FinMap.{get, insert, len, len-insert, remove}
-use Rattle.sizes.specs.declared.TheConstants.{FRAME_UNITS, LAST_SPACE, PAGE_END, PAGE_LINES}
+use Rattle.sizes.specs.declared.TheConstants.{FRAME_UNITS, PAGE_END}
 use Rattle.frame_pool.specs.Counts.{sharers_of}
-use Rattle.ledger.specs.Units.{class, overlaid_pages}
+use Rattle.ledger.specs.Units.{class}
 use Rattle.ledger.specs.ClassLaws.{class_none}
 use Rattle.ledger.specs.PlaceLaws.{by_place}
 use Rattle.page_table.specs.Run.{IsRunFrom, entry_at}
 use Rattle.page_table.specs.declared.entry.PageEntry.{PageEntry}
 use Rattle.page_table.specs.declared.run.PageRun.{PageRun}
-use Rattle.overlay_mapping_table.specs.declared.entry.Entry.{Entry}
-use Rattle.space_ledger.specs.View.{LedgerView, PageView, SpaceView, frame_at, frame_awaiting, has_space, ledger_of, lines_of, page_at, space_at, with_run_shared, with_shared, with_space}
+use Rattle.space_ledger.specs.View.{LedgerView, PageView, SpaceView, has_space, page_at, space_at, with_run_shared, with_shared, with_space}
 use Rattle.space_ledger.specs.ViewLaws.{view_shared, view_unshared}
 use Rattle.space_ledger.specs.Calls.{AreBareBelow, IsBooked, IsSound}
 use Rattle.space_ledger.specs.Frames.{frame_units, held_by, held_run, run_units}
 use Rattle.space_ledger.proofs.Keeping.{overlaid_shared}
 use Rattle.space_ledger.proofs.Numbers.{units_fit}
-use Rattle.space_ledger.proofs.RunCounts.{length_run}
 use Rattle.space_ledger.proofs.RunViews.{HasReached, reached}
 use Rattle.space_ledger.proofs.LedgerCalls.{before_share, shared_call, shared_frame}
 

@@ -1,21 +1,20 @@
-use Rattle.std.specs.Prelude.{◌≡◌, ℕ, zero, suc, ◌+◌, ◌≤◌, ◌<◌, Bool, true, cond, length, Option, Some, None, is_some, IsSome, refl}
+use Rattle.std.specs.Prelude.{◌≡◌, ℕ, zero, suc, ◌+◌, ◌≤◌, ◌<◌, true, length, Some, None, is_some, refl}
 use Rattle.std.proofs.Common.{sym, ap, subst, ◌∙◌, arith}
 use Rattle.std.specs.Option.{option_map}
-use Rattle.std.specs.FinMap.{get, insert, len, remove}
+use Rattle.std.specs.FinMap.{get, insert, remove}
 use Rattle.number_maps.specs.Keys.{by_key, get_same, insert_kept, insert_over, removed_other, removed_same}
 use Rattle.number_maps.specs.Views.{viewed, viewed_put}
-use Rattle.sizes.specs.declared.TheConstants.{LAST_SPACE, PAGE_END}
+use Rattle.sizes.specs.declared.TheConstants.{PAGE_END}
 use Rattle.page_table.specs.Table.{Pages}
 use Rattle.page_table.specs.Run.{IsRunFrom, entry_at}
-use Rattle.page_table.specs.declared.entry.PageEntry.{PageEntry}
 use Rattle.page_table.specs.declared.run.PageRun.{PageRun}
 use Rattle.overlay_address.specs.Names.{overlay_page}
-use Rattle.space_ledger.specs.Space.{SpaceTable, AwaitsRun, awaited, run_awaited}
-use Rattle.space_ledger.specs.View.{LedgerView, PageView, SpaceView, has_space, page_at, space_at, with_page_at, with_run_shared, with_shared, with_space}
-use Rattle.space_ledger.specs.ViewLaws.{space_absent, space_put, view_put, view_beside, view_shared, view_unshared}
-use Rattle.space_ledger.specs.Kept.{AwaitsRunIn, IsChanged, IsKept, OnTable, Overlays, Slots, seen, seen_page, seen_space, slot_at, table_of}
+use Rattle.space_ledger.specs.Space.{SpaceTable, awaited, run_awaited}
+use Rattle.space_ledger.specs.View.{LedgerView, PageView, SpaceView, has_space, page_at, space_at, with_run_shared, with_shared, with_space}
+use Rattle.space_ledger.specs.ViewLaws.{space_put, view_unshared}
+use Rattle.space_ledger.specs.Kept.{IsChanged, IsKept, Overlays, Slots, seen, seen_page, seen_space}
 use Rattle.space_ledger.proofs.Parts.{nat_apart}
-use Rattle.space_ledger.proofs.Seen.{same_view, seen_none, seen_put, seen_space_at, seen_table, table_from}
+use Rattle.space_ledger.proofs.Seen.{same_view, seen_put, seen_table, table_from}
 use Rattle.space_ledger.proofs.Overlaying.{kept_shared}
 use Rattle.space_ledger.proofs.TableLaws.{number_low}
 

@@ -1,7 +1,6 @@
-use Rattle.std.proofs.Common.{◌≡◌, ◌+◌, ◌<◌, ◌≤◌, None, length, true, sym, ap, subst, ◌∙◌, arith}
+use Rattle.std.proofs.Common.{◌+◌, sym, ap, subst, ◌∙◌, arith}
 use Rattle.page_table.specs.Run.{IsRunFrom}
 use Rattle.space_ledger.specs.View.{LedgerView, has_space, page_at, space_at, with_run_shared}
-use Rattle.space_ledger.specs.Kept.{IsKept, seen}
 use Rattle.space_ledger.proofs.RunViews.{run_kept, run_seen}
 use Rattle.space_ledger.proofs.TableLaws.{run_in}
 use Rattle.space_ledger.proofs.TableCalls.{page_absent, room_in}
