@@ -1,12 +1,10 @@
-use Rattle.std.specs.Prelude.{◌≡◌, ℕ, zero, suc, ◌-◌, ◌<◌, Bool, true, false, cond, nat_lt, length, Option, Some, None, IsSome, is_some, refl}
+use Rattle.std.specs.Prelude.{◌≡◌, ℕ, true, false, nat_lt, length, Option, Some, None, IsSome, is_some, refl}
 use Rattle.std.proofs.Common.{sym, ap, subst, ◌∙◌, arith}
 use Rattle.segment_store.specs.Store.{Store}
-use Rattle.std.specs.Cmp.{nat_cmp_total}
-use Rattle.std.specs.Ordering.{nat_cmp}
 use Rattle.std.specs.Option.{option_and_then, option_map, option_map_or}
 use Rattle.std.proofs.lemmas.Bool.Decides.{nat_tests}
-use Rattle.std.specs.FinMap.{empty_of_len, get, get-empty, len, len-remove, remove}
-use Rattle.number_maps.specs.Keys.{by_key, get_same, removed_other, removed_same}
+use Rattle.std.specs.FinMap.{get, remove}
+use Rattle.number_maps.specs.Keys.{by_key, removed_other, removed_same}
 use Rattle.page_table.specs.Table.{Pages}
 use Rattle.page_table.specs.declared.entry.PageEntry.{PageEntry}
 use Rattle.ledger.specs.Changes.{has_own}
@@ -16,7 +14,7 @@ use Rattle.space_ledger.specs.Calls.{AreBareBelow, AreSharedBare}
 use Rattle.space_ledger.specs.Calls.AreSharedBare.{Still, Then}
 use Rattle.space_ledger.specs.View.{LedgerView, PageView, frame_at, frame_awaiting, has_space, lines_of, overlay_at, page_at, space_at, with_page_shared}
 use Rattle.overlay_mapping_table.specs.declared.entry.Entry.{Entry}
-use Rattle.overlay_pages.specs.State.{PageState, SpaceState, State, books, held_page, holds_space, page_in, put_shared, put_space, space_in}
+use Rattle.overlay_pages.specs.State.{PageState, SpaceState, State, books, held_page, holds_space, page_in, put_shared, space_in}
 use Rattle.overlay_pages.specs.StateLaws.{ledger_page, page_shared_beside, put_there, space_put}
 use Rattle.overlay_pages.specs.Changes.{shared_page, with_shared}
 use Rattle.overlay_pages.specs.Calls.{AreShared, AwaitBare, AwaitsLike}

@@ -288,7 +288,8 @@ pub(crate) fn share_in(slots: &mut Slots, space: u16, page: u64) -> PageEntry
 fn share_run_slot(slot: &mut Option<Box<Space>>, run: &PageRun)
     requires first { IsRunIn (table_of slot.old) run.now }
     requires few { HasRoomIn (table_of slot.old) run.now.n }
-    ensures apart { (i : ℕ) → i < run.now.n → entry_in (table_of slot.old) (run.now.page + i) ≡ None }
+    ensures apart { (i : ℕ) → i < run.now.n
+        → entry_in (table_of slot.old) (run.now.page + i) ≡ None }
     ensures shared { table_of slot.new
         ≡ option_map (λ table. run_awaited table run.now run.now.n) (table_of slot.old) }
 {

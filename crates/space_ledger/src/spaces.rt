@@ -371,15 +371,16 @@ impl SpaceLedger {
         self.lines += lines;
     }
 
-    /// Shares each page of a space below `until` with another one, where those that await there have the frames that they have in
-    /// the first, and no own lines: the least first, as by `share_page`. Takes no memory. Costs a look-up for each run of pages
-    /// that await, and a step for each of those that aren't on the zero frame.
+    /// Shares each page below `until` that awaits in a space, with the frame that it has in another one and without own lines there:
+    /// the least first, as by `share_page`. Takes no memory. Costs a look-up for each run of such pages, and a step for each page of
+    /// a run that isn't on the zero frame.
     pub fn share_bare(&mut self, from: u16, to: u16, until: u64)
         requires differ { from ≢ to }
         requires space { has_space self.old to ≡ true }
         requires bare { AreBareBelow self.old from to until }
         ensures shared { AreSharedBare from to until self.old self.new }
-        ensures none { (page : ℕ) → page < until → map.get (space_at self.new to).awaiting page ≡ None }
+        ensures none { (page : ℕ) → page < until
+            → map.get (space_at self.new to).awaiting page ≡ None }
     {
         'sharing: while let Some(found) = self.tables.next_run_awaiting(to, until) {
             self.share_run(from, to, &found);
