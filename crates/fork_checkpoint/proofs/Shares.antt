@@ -18,7 +18,7 @@ use Rattle.ledger.specs.PlaceLaws.{page_is, pages_beside}
 use Rattle.ledger.specs.AloneLaws.{are, arent, without_absent}
 use Rattle.ledger.specs.UnitLaws.{units_new}
 use Rattle.overlay_pages.specs.State.{PageState, SpaceState, State, bare_space, base_of, base_page, books, cut_space, held_page, holds_space, memory_of, page_in, put_awaiting, put_shared, put_space, seen_page, space_in}
-use Rattle.overlay_pages.specs.StateLaws.{beside_space, in_space, ledger_page, ledger_shared, ledger_spaces, ledger_with, page_of, pages_in, space_beside, space_put, space_there}
+use Rattle.overlay_pages.specs.StateLaws.{beside_space, in_space, ledger_page, ledger_shared, ledger_spaces, ledger_with, page_of, pages_in, put_there, space_beside, space_put, space_there}
 use Rattle.overlay_pages.specs.Changes.{HasShareRoom, limit_of, shared_page, units_of, with_shared}
 use Rattle.overlay_pages.specs.Calls.{AwaitsLike, IsNextPage, entries_in}
 use Rattle.promotion.specs.Settled.{FitsAfter, units_after}
@@ -41,10 +41,6 @@ unfoldable pub partly : State → ℕ → ℕ → ℕ → State
 partly v from to end = put_space v to (part_space v from to end)
 
 -- spaces
-pub put_there : (v : State) (s : ℕ) (x : SpaceState) → holds_space (put_space v s x) s ≡ true
-unfolding put_space
-put_there v s x = ap is_some (get_same v.spaces s s x refl)
-
 pub put_over : (v : State) (s : ℕ) (x y : SpaceState) → put_space (put_space v s x) s y ≡ put_space v s y
 unfolding put_space
 put_over v s x y = λ i. record { spaces = insert_over v.spaces s x y i; frames = v.frames; zero_frame = v.zero_frame }

@@ -6,7 +6,7 @@ use Rattle.std.specs.FinMap.{FinMap, empty, get, get-empty, insert, len, len-ins
 use Rattle.number_maps.specs.Cuts.{insert_removed}
 use Rattle.number_maps.specs.Keys.{alike, by_key, get_other, get_same, insert_kept, removed_other, removed_same}
 use Rattle.overlay_pages.specs.State.{PageState, SpaceState, State, cut_page, cut_space, holds_space, of_pages, page_in, put_space, space_in}
-use Rattle.overlay_pages.specs.StateLaws.{page_of, space_put}
+use Rattle.overlay_pages.specs.StateLaws.{page_of, put_there, space_put}
 use Rattle.overlay_memory.specs.Pieces.{IsEmptied}
 
 -- A space that loses its pages one by one.
@@ -25,10 +25,6 @@ remove_inserted m k x = alike _ _ (λ q. by_key q k
 cut_put : (v : State) (s : ℕ) (x : SpaceState) → cut_space (put_space v s x) s ≡ cut_space v s
 unfolding cut_space put_space
 cut_put v s x = ap (λ m. record { spaces = m; frames = v.frames; zero_frame = v.zero_frame }) (remove_inserted v.spaces s x)
-
-put_there : (v : State) (s : ℕ) (x : SpaceState) → holds_space (put_space v s x) s ≡ true
-unfolding put_space
-put_there v s x = ap is_some (get_same v.spaces s s x refl)
 
 pages_left : (v : State) (s p : ℕ) → space_in (cut_page v s p) s ≡ of_pages (space_in v s) (remove (space_in v s).pages p)
 unfolding cut_page

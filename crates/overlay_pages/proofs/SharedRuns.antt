@@ -1,35 +1,30 @@
-use Rattle.std.specs.Prelude.{◌≡◌, ℕ, zero, suc, ◌-◌, ◌<◌, Bool, true, false, cond, nat_lt, length, Option, Some, None, IsSome, is_some, refl}
+use Rattle.std.specs.Prelude.{◌≡◌, ℕ, true, false, nat_lt, length, Option, Some, None, IsSome, is_some, refl}
 use Rattle.std.proofs.Common.{sym, ap, subst, ◌∙◌, arith}
 use Rattle.segment_store.specs.Store.{Store}
-use Rattle.std.specs.Cmp.{nat_cmp_total}
-use Rattle.std.specs.Ordering.{nat_cmp}
 use Rattle.std.specs.Option.{option_and_then, option_map, option_map_or}
 use Rattle.std.proofs.lemmas.Bool.Decides.{nat_tests}
-use Rattle.std.specs.FinMap.{empty_of_len, get, get-empty, len, len-remove, remove}
-use Rattle.number_maps.specs.Keys.{by_key, get_same, removed_other, removed_same}
+use Rattle.std.specs.FinMap.{get, remove}
+use Rattle.number_maps.specs.Keys.{by_key, removed_other, removed_same}
 use Rattle.page_table.specs.Table.{Pages}
 use Rattle.page_table.specs.declared.entry.PageEntry.{PageEntry}
 use Rattle.ledger.specs.Changes.{has_own}
 use Rattle.ledger.specs.Ledger.{Holding}
 use Rattle.space_ledger.specs.Space.{IsLeast}
-use Rattle.space_ledger.specs.View.{LedgerView, PageView, frame_at, frame_awaiting, has_space, lines_of, overlay_at, page_at, space_at}
+use Rattle.space_ledger.specs.Calls.{AreBareBelow, AreSharedBare}
+use Rattle.space_ledger.specs.Calls.AreSharedBare.{Still, Then}
+use Rattle.space_ledger.specs.View.{LedgerView, PageView, frame_at, frame_awaiting, has_space, lines_of, overlay_at, page_at, space_at, with_page_shared}
 use Rattle.overlay_mapping_table.specs.declared.entry.Entry.{Entry}
-use Rattle.overlay_pages.specs.State.{PageState, SpaceState, State, books, held_page, holds_space, page_in, put_shared, put_space, space_in}
-use Rattle.overlay_pages.specs.StateLaws.{ledger_page, page_shared_beside, space_put}
+use Rattle.overlay_pages.specs.State.{PageState, SpaceState, State, books, held_page, holds_space, page_in, put_shared, space_in}
+use Rattle.overlay_pages.specs.StateLaws.{ledger_page, page_shared_beside, put_there, space_put}
 use Rattle.overlay_pages.specs.Changes.{shared_page, with_shared}
 use Rattle.overlay_pages.specs.Calls.{AreShared, AwaitBare, AwaitsLike}
-use Rattle.overlay_pages.specs.Calls.AreShared.{Still, Then}
+use Rattle.overlay_pages.specs.Calls.AreShared.{Still as unchanged, Then as one_shared}
 use Rattle.overlay_pages.specs.View.{IsJoined, MemoryView, page_state, state_of, view_of}
 use Rattle.overlay_pages.specs.ViewLaws.{state_awaiting, state_holds, state_page, state_page_some}
+use Rattle.overlay_pages.proofs.SharedPages.{awaits, bare_shared, share_joined, share_state, shared_table, shares_none}
 use Rattle.overlay_pages.proofs.Tables.{frame_of_page}
 
 -- Pages without own lines that are shared one after the other.
-
--- one more page at the end of a run
-pub then_one : {from to until : ℕ} (old new : State) (page : ℕ) → page < until → IsLeast (space_in new to).awaiting page → AreShared from to until old new
-    → AreShared from to until old (with_shared new from to page)
-then_one old new page low least (Still s) = Then new _ page low least (Still _)
-then_one old new page low least (Then a b p under first rest) = Then a _ p under first (then_one _ new page low least rest)
 
 -- what a page has, by the page
 own_in : (s : State) (space q : ℕ) → has_own (books s) space q ≡ option_map_or (λ (x : PageState). nat_lt 0 (length x.own)) (page_in s space q) false
@@ -45,18 +40,6 @@ own_in s space q = ap (λ (o : Option Holding). option_map_or (λ holding. nat_l
 awaiting_put : (s : State) (to p : ℕ) (x : PageState) → (space_in (put_shared s to p x) to).awaiting ≡ remove (space_in s to).awaiting p
 unfolding put_shared
 awaiting_put s to p x = ap (λ (y : SpaceState). y.awaiting) (space_put s to _ to refl)
-
-put_there : (s : State) (to p : ℕ) (x : PageState) → holds_space (put_shared s to p x) to ≡ true
-unfolding put_shared put_space
-put_there s to p x = ap is_some (get_same s.spaces to to _ refl)
-
--- a map with a key isn't empty
-len_some : (m : Pages) (p : ℕ) → is_some (get m p) ≡ true → 0 < len m
-len_some m p some = by (len m) refl
-  where
-    by : (n : ℕ) → len m ≡ n → 0 < len m
-    by zero none = let no = sym some ∙ ap is_some (ap (λ (k : Pages). get k p) (empty_of_len m none) ∙ get-empty nat_cmp p) in cc
-    by (suc n) is = omega (arith, is)
 
 -- A page that awaits as another space has it, shared.
 module _ (s : State) (from to page : ℕ) (differs : from ≡ to → ⊥) (waits : IsSome (get (space_in s to).awaiting page)) (like : AwaitsLike s from to page) where
@@ -88,18 +71,11 @@ module _ (s : State) (from to page : ℕ) (differs : from ≡ to → ⊥) (waits
   awaiting_is = ap (λ (t : State). (space_in t to).awaiting) is_put ∙ awaiting_put s to page _
 
   pub stays_there : holds_space (with_shared s from to page) to ≡ true
-  stays_there = ap (λ (t : State). holds_space t to) is_put ∙ put_there s to page _
+  unfolding put_shared
+  stays_there = ap (λ (t : State). holds_space t to) is_put ∙ put_there s to _
 
   pub from_there : is_some (page_in s from page) ≡ true
   from_there = ap is_some both.there
-
-  -- one page fewer awaits
-  pub one_fewer : len (space_in (with_shared s from to page) to).awaiting < len (space_in s to).awaiting
-  one_fewer =
-      let count = ap len awaiting_is ∙ len-remove nat_cmp_total (space_in s to).awaiting page
-      ∙ ap (λ (b : Bool). cond b (len (space_in s to).awaiting - 1) (len (space_in s to).awaiting)) waits in
-      let some = len_some (space_in s to).awaiting page waits in
-      omega (arith, count, some)
 
   pub still_bare : (until : ℕ) → AwaitBare s from to until → AwaitBare (with_shared s from to page) from to until
   still_bare until bare q low some = by_key q page
@@ -132,50 +108,50 @@ module _ (m : MemoryView) (joined : IsJoined m) (from to : ℕ) where
           (sym (ap (λ (o : Option PageState). option_map_or (λ (x : PageState). nat_lt 0 (length x.own)) o false) (state_page m from page ∙ ap (option_map (page_state m.store)) is))
           ∙ sym (own_in (state_of m) from page) ∙ none)
 
--- What holds while pages are shared.
-pub record IsSharing (store : Store) (old now : LedgerView) (from to until : ℕ) : Type 0 where
-  pub joined : IsJoined (view_of store now)
-  pub space : has_space now to ≡ true
-  pub bare : AwaitBare (state_of (view_of store now)) from to until
-  pub run : AreShared from to until (state_of (view_of store old)) (state_of (view_of store now))
+-- One page without an overlay.
+pub bare_step : (store : Store) (v : LedgerView) (from to page : ℕ) → IsJoined (view_of store v) → IsSome (page_at v from page) → overlay_at v from page ≡ None
+    → frame_awaiting v to page ≡ frame_at v from page → has_space v to ≡ true → page_at v to page ≡ None
+    → IsJoined (view_of store (with_page_shared v from to page None))
+    × (state_of (view_of store (with_page_shared v from to page None)) ≡ with_shared (state_of (view_of store v)) from to page)
+bare_step store v from to page joined there bare frame space absent =
+    let w = awaits v from to page None there bare frame in
+    let none = shares_none (view_of store v) to page joined in
+    let table = shared_table v from to page None None w in (
+      subst (λ (t : LedgerView). IsJoined (view_of store t)) (sym table) (share_joined (view_of store v) store from to page None None joined w space absent none),
+      ap (λ (t : LedgerView). state_of (view_of store t)) table
+          ∙ share_state (view_of store v) store from to page None None joined w space absent none (bare_shared store w.x w.entry w.is w.frame_is),
+    )
 
--- One more page.
-pub record HasShareStep (store : Store) (old now : LedgerView) (from to until page : ℕ) : Type 0 where
-  pub there : IsSome (page_at now from page)
-  pub frame : frame_awaiting now to page ≡ frame_at now from page
-  pub bare : overlay_at now from page ≡ None
-  pub next : (new : LedgerView) → IsJoined (view_of store new) → state_of (view_of store new) ≡ with_shared (state_of (view_of store now)) from to page
-      → IsSharing store old new from to until
-  pub fewer : (new : LedgerView) → state_of (view_of store new) ≡ with_shared (state_of (view_of store now)) from to page
-      → len (space_in (state_of (view_of store new)) to).awaiting < len (space_in (state_of (view_of store now)) to).awaiting
+-- The pages that the ledger has shared, one after the other.
+module _ (store : Store) (from to until : ℕ) (differs : from ≡ to → ⊥) where
+  module _ (v : LedgerView) (joined : IsJoined (view_of store v)) (bare : AwaitBare (state_of (view_of store v)) from to until) where
+    waits_in : (page : ℕ) → IsSome (get (space_at v to).awaiting page) → IsSome (get (space_in (state_of (view_of store v)) to).awaiting page)
+    waits_in page some = ap (λ (t : Pages). is_some (get t page)) (state_awaiting (view_of store v) to) ∙ some
 
-pub share_step : (store : Store) (old now : LedgerView) (from to until page : ℕ) → (from ≡ to → ⊥) → IsSharing store old now from to until
-    → page < until → IsLeast (space_at now to).awaiting page → HasShareStep store old now from to until page
-share_step store old now from to until page differs h low least = record {
-  there = sym (state_page_some m from page) ∙ from_there s from to page differs waits was.0;
-  frame =
-      sym (ap (λ (t : Pages). option_map (λ (e : PageEntry). e.frame) (get t page)) (state_awaiting m to)) ∙ was.0 ∙ frame_of_page m from page;
-  bare = bare_at m h.joined from to page was.1;
-  next = λ new joined is. record {
-    joined = joined;
-    space = sym (state_holds (view_of store new) to) ∙ ap (λ (t : State). holds_space t to) is ∙ stays_there s from to page differs waits was.0;
-    bare = subst (λ (t : State). AwaitBare t from to until) (sym is) (still_bare s from to page differs waits was.0 until h.bare);
-    run = subst (λ (t : State). AreShared from to until (state_of (view_of store old)) t) (sym is) (then_one _ s page low first h.run);
-  };
-  fewer = λ new is. subst (λ (t : State). len (space_in t to).awaiting < len (space_in s to).awaiting) (sym is) (one_fewer s from to page differs waits was.0);
-}
-  where
-    m : MemoryView
-    m = view_of store now
+    -- each page that awaits below is bare in the ledger
+    pub bare_below : AreBareBelow v from to until
+    bare_below page low some =
+        let was = bare page low (waits_in page some) in (
+          sym (ap (λ (t : Pages). option_map (λ (e : PageEntry). e.frame) (get t page)) (state_awaiting (view_of store v) to)) ∙ was.0 ∙ frame_of_page (view_of store v) from page,
+          bare_at (view_of store v) joined from to page was.1,
+        )
 
-    s : State
-    s = state_of (view_of store now)
-
-    first : IsLeast (space_in s to).awaiting page
-    first = subst (λ (t : Pages). IsLeast t page) (sym (state_awaiting (view_of store now) to)) least
-
-    waits : IsSome (get (space_in s to).awaiting page)
-    waits = first.there
-
-    was : AwaitsLike s from to page × (has_own (books s) from page ≡ false)
-    was = h.bare page low first.there
+  pub shared_all : (old new : LedgerView) → AreSharedBare from to until old new → IsJoined (view_of store old) → has_space old to ≡ true
+      → AwaitBare (state_of (view_of store old)) from to until
+      → IsJoined (view_of store new) × AreShared from to until (state_of (view_of store old)) (state_of (view_of store new))
+  shared_all _ _ (Still v) joined space bare = (joined, unchanged (state_of (view_of store v)))
+  shared_all _ _ (Then old new page low least absent rest) joined space bare =
+      let s = state_of (view_of store old) in
+      let waits = waits_in old joined bare page least.there in
+      let was = bare page low waits in
+      let here = bare_below old joined bare page low least.there in
+      let there = sym (state_page_some (view_of store old) from page) ∙ from_there s from to page differs waits was.0 in
+      let step = bare_step store old from to page joined there here.1 here.0 space absent in
+      let next : LedgerView = with_page_shared old from to page None in
+      let more = shared_all next new rest step.0
+      (sym (state_holds (view_of store next) to) ∙ ap (λ (t : State). holds_space t to) step.1 ∙ stays_there s from to page differs waits was.0)
+      (subst (λ (t : State). AwaitBare t from to until) (sym step.1) (still_bare s from to page differs waits was.0 until bare)) in (
+        more.0,
+        one_shared s (state_of (view_of store new)) page low (subst (λ (t : Pages). IsLeast t page) (sym (state_awaiting (view_of store old) to)) least)
+            (subst (λ (t : State). AreShared from to until t (state_of (view_of store new))) step.1 more.1),
+      )

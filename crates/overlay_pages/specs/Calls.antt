@@ -51,11 +51,6 @@ pub data AreShared (from to until : ℕ) : State → State → Type 0 where
 abbrev pub NoneAwaitsBelow : State → ℕ → ℕ → Type 0
 NoneAwaitsBelow state space until = (page : ℕ) → page < until → get (space_in state space).awaiting page ≡ None
 
--- the least page that awaits, where it is below one
-abbrev pub AwaitsBelow : Pages → ℕ → Option ℕ → Type 0
-AwaitsBelow awaiting until None = (page : ℕ) → page < until → get awaiting page ≡ None
-AwaitsBelow awaiting until (Some page) = (page < until) × IsLeast awaiting page
-
 -- by how much the units rise by a store that touches lines of a page, by itself and beside lines of another page of the space
 pub record RisesBy (state : State) (space page : ℕ) (lines : List ℕ) (rise : ℕ) : Type 0 where
   pub one : units (ledger_after (Store (space_in state space).speculating space ((page, lines) ∷ [])) (books state)) ≡ units_of state + rise

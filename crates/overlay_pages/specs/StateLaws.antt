@@ -64,6 +64,10 @@ pub space_put : (v : State) (s : ℕ) (x : SpaceState) (q : ℕ) → q ≡ s →
 unfolding put_space
 space_put v s x q same = space_there (put_space v s x) q x (get_same v.spaces s q x same)
 
+pub put_there : (v : State) (s : ℕ) (x : SpaceState) → holds_space (put_space v s x) s ≡ true
+unfolding put_space
+put_there v s x = ap is_some (get_same v.spaces s s x refl)
+
 pub space_beside : (v : State) (s : ℕ) (x : SpaceState) (q : ℕ) → (q ≡ s → ⊥) → space_in (put_space v s x) q ≡ space_in v q
 unfolding put_space space_in
 space_beside v s x q other = ap (λ (o : Option SpaceState). unwrap_or o bare_space) (get_other v.spaces s q x other)

@@ -4,7 +4,7 @@ ghost use Rattle.std.specs.Prelude.{◌≡◌, ◌≢◌, IsSome, Some, None, tr
 ghost use Rattle.page_table.specs.Table.{Pages};
 ghost use Rattle.space_ledger.specs.Space.{IsLeast};
 ghost use Rattle.space_ledger.specs.View.{frame_at, frame_awaiting, has_space, overlay_at, page_at, space_at};
-ghost use Rattle.overlay_pages.specs.Calls.{AreShared, AwaitBare, AwaitsBelow, NoneAwaitsBelow};
+ghost use Rattle.overlay_pages.specs.Calls.{AreShared, AwaitBare, NoneAwaitsBelow};
 ghost use Rattle.overlay_pages.specs.Changes.{HasShareRoom, with_shared};
 ghost use Rattle.overlay_pages.specs.View.{IsJoined, state_of, view_of};
 
@@ -15,7 +15,6 @@ use segment_store::SegmentStore;
 use space_ledger::SpaceLedger;
 
 /// A page that awaits in a space, and has no overlay where it is shared from, is shared.
-#[inline(always)]
 fn share_bare(store: &SegmentStore, ledger: &mut SpaceLedger, from: u16, to: u16, page: u64)
     requires joined { IsJoined (view_of store.now ledger.old) }
     requires there { IsSome (page_at ledger.old from page) }
@@ -81,17 +80,6 @@ pub(crate) fn share(
     }
 }
 
-/// The least page of a space that awaits, where it is below one.
-#[inline(always)]
-fn first_below(ledger: &SpaceLedger, space: u16, until: u64) -> Option<u64>
-    ensures { AwaitsBelow (space_at ledger.now space).awaiting until result }
-{
-    match ledger.first_awaiting(space) {
-        Some(first) => { if first.0 < until { Some(first.0) } else { None } }
-        None => None,
-    }
-}
-
 /// Each page below one that awaits in a space, with the frame that it has where it is shared from and without own lines there, is
 /// shared.
 pub(crate) fn share_below(
@@ -110,7 +98,5 @@ pub(crate) fn share_below(
         (state_of (view_of store.now ledger.new)) }
     ensures none { NoneAwaitsBelow (state_of (view_of store.now ledger.new)) to until }
 {
-    'sharing: while let Some(page) = first_below(ledger, to, until) {
-        share_bare(store, ledger, from, to, page);
-    }
+    ledger.share_bare(from, to, until);
 }

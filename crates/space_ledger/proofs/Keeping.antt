@@ -11,8 +11,8 @@ use Rattle.ledger.specs.Units.{overlaid_pages, tally}
 use Rattle.ledger.specs.PlaceLaws.{by_place}
 use Rattle.ledger.specs.AloneLaws.{without_absent}
 use Rattle.ledger.specs.TallyLaws.{tally_at, tally_changed, tally_put}
-use Rattle.space_ledger.specs.View.{LedgerView, PageView, has_space, holding_of, ledger_of, lines_of, page_at, with_page_at, with_space, without_page_at}
-use Rattle.space_ledger.specs.ViewLaws.{ledger_gone, ledger_page, ledger_put, ledger_spaces, view_beside, view_gone, view_left, view_put}
+use Rattle.space_ledger.specs.View.{LedgerView, PageView, has_space, holding_of, ledger_of, lines_of, page_at, with_page_at, with_shared, with_space, without_page_at}
+use Rattle.space_ledger.specs.ViewLaws.{ledger_gone, ledger_page, ledger_put, ledger_shared, ledger_spaces, view_beside, view_gone, view_left, view_put}
 use Rattle.space_ledger.specs.Kept.{IsKept, Overlays}
 use Rattle.space_ledger.proofs.Seen.{AreOthers, apart}
 
@@ -70,6 +70,16 @@ overlaid_new v s p y there absent =
     ap overlaid_pages (ledger_put v s p y) ∙ overlaid_is _ ∙ tally_put has_lines (ledger_of v) s p (held v y)
     ∙ ap (λ (l : Ledger). tally has_lines l + has_lines (held v y)) (without_absent (ledger_of v) s p (ledger_spaces v s ∙ there) (no_page_in v s p absent))
     ∙ ap (λ n. n + has_lines (held v y)) (sym (overlaid_is (ledger_of v)))
+
+-- with a page shared that has no overlay
+pub overlaid_shared : (v : LedgerView) (s p : ℕ) (y : PageView) → has_space v s ≡ true → page_at v s p ≡ None → y.overlay ≡ None
+    → overlaid_pages (ledger_of (with_shared v s p y)) ≡ overlaid_pages (ledger_of v)
+overlaid_shared v s p y there absent bare =
+    let same = ap overlaid_pages (ledger_shared v s p y ∙ sym (ledger_put v s p y)) in
+    let new = overlaid_new v s p y there absent in
+    let is = by_overlay v.zero_frame y (λ o e. let no = ap is_some (sym e ∙ bare) in cc) in
+    let flag = ap one_if bare in
+    omega (arith, same, new, is, flag)
 
 -- without a page that was there
 overlaid_gone : (v : LedgerView) (s p : ℕ) (x : PageView) → page_at v s p ≡ Some x

@@ -1,4 +1,5 @@
 pub mod Parts
+pub mod RunParts
 pub mod Seen
 pub mod Keeping
 pub mod TableLaws
@@ -6,9 +7,13 @@ pub mod TableOps
 pub mod Mapping
 pub mod Overlaying
 pub mod Overlaid
+pub mod RunViews
 pub mod TableCalls
 pub mod Booking
 pub mod Booked
 pub mod Numbers
+pub mod RunCounts
 pub mod Rises
 pub mod LedgerCalls
+pub mod RunBooks
+pub mod Sharing

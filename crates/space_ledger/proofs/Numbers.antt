@@ -30,7 +30,7 @@ use Rattle.space_ledger.proofs.Booked.{FitsIn, nothing_apart, booked_gone, booke
 
 -- The numbers that each call leaves.
 
-length_held : (z : ℕ) (counts : List ℕ) (f : ℕ) → length (held_by z counts f) ≡ length counts
+pub length_held : (z : ℕ) (counts : List ℕ) (f : ℕ) → length (held_by z counts f) ≡ length counts
 unfolding held_by
 length_held z counts f = at (f == z)
   where

@@ -5,7 +5,7 @@ use Rattle.std.specs.Ordering.{nat_cmp}
 use Rattle.std.specs.Cmp.{nat_cmp_total}
 use Rattle.std.specs.FinMap.{empty_of_len, get, get-empty, insert, len, len-insert, len-remove, remove}
 use Rattle.number_maps.specs.Keys.{get_other, get_same, insert_over, removed_other, removed_same}
-use Rattle.sizes.specs.declared.TheConstants.{FRAME_UNITS, LAST_SPACE, PAGE_END, PAGE_LINES}
+use Rattle.sizes.specs.declared.TheConstants.{FRAME_UNITS, PAGE_END, PAGE_LINES}
 use Rattle.page_table.specs.declared.entry.PageEntry.{PageEntry}
 use Rattle.overlay_address.specs.Names.{overlay_page}
 use Rattle.overlay_mapping_table.specs.declared.entry.Entry.{Entry}
@@ -127,6 +127,16 @@ room_for slots table frames zero_frame s p e kept there (inr less) =
 
 -- A page shared.
 
+pub kept_shared : {slots : ℕ} {v : LedgerView} {overlays : Overlays} {room : ℕ} → IsKept slots v overlays room → (s p : ℕ) (y : PageView) → has_space v s ≡ true → page_at v s p ≡ None
+    → y.overlay ≡ None → p < PAGE_END → IsKept slots (with_shared v s p y) overlays room
+unfolding with_shared with_space with_page_at
+kept_shared {slots = slots} {v = v} kept s p y there absent bare low =
+    kept_as (kept_new kept s p y there absent bare low) slots (with_shared v s p y) kept.few
+    (λ q r. by_place s p q r
+    (λ ss pp. view_shared v s p y q r ss pp ∙ sym (view_put v s p y q r ss pp))
+    (λ d. view_unshared v s p y q r d ∙ sym (view_beside v s p y q r d)))
+    (ap overlaid_pages (ledger_shared v s p y ∙ sym (ledger_put v s p y))) refl
+
 module _ (old new : Slots) (overlays : Overlays) (frames zero_frame room s p : ℕ) (entry : PageEntry) (kept : IsKept (length old) (seen old overlays frames zero_frame) overlays room)
     (there : has_space (seen old overlays frames zero_frame) s ≡ true) (absent : page_at (seen old overlays frames zero_frame) s p ≡ None) (low : p < PAGE_END)
     (changed : IsChanged (λ t. awaited t p entry) old new s) (same : length new ≡ length old) where
@@ -145,14 +155,10 @@ module _ (old new : Slots) (overlays : Overlays) (frames zero_frame room s p : �
       ∙ ap (λ o. with_shared w s p (record { entry = entry; overlay = o })) (kept.placed s p (number_low old overlays frames zero_frame s found.0 kept.few found.1) low absent)
 
   pub shared_kept : IsKept (length new) (seen new overlays frames zero_frame) overlays room
-  unfolding w y with_shared with_space with_page_at
+  unfolding w y
   shared_kept =
       subst (λ z. IsKept (length new) z overlays room) (sym shared_is)
-      (kept_as (kept_new kept s p y there absent refl low) (length new) (with_shared w s p y) (subst (λ n. n ≤ LAST_SPACE + 1) (sym same) kept.few)
-      (λ q r. by_place s p q r
-      (λ ss pp. view_shared w s p y q r ss pp ∙ sym (view_put w s p y q r ss pp))
-      (λ d. view_unshared w s p y q r d ∙ sym (view_beside w s p y q r d)))
-      (ap overlaid_pages (ledger_shared w s p y ∙ sym (ledger_put w s p y))) refl)
+      (subst (λ n. IsKept n (with_shared w s p y) overlays room) (sym same) (kept_shared kept s p y there absent refl low))
 
 shared_put : (v : LedgerView) (s p : ℕ) (x y : PageView) → with_page_at (with_shared v s p x) s p y ≡ with_shared v s p y
 unfolding with_page_at with_shared with_space

@@ -36,7 +36,7 @@ pub waits_not : (t : Pages) (end q : ℕ) → q < end → get (pages_from t end)
 waits_not t end q low = let test : nat_le end q ≡ false = grind (arith, nat_tests) in from_at t end q ∙ ap (λ (b : Bool). cond b (get t q) None) test
 
 -- a page is below or not
-by_end : {P : Type 0} (q end : ℕ) → (q < end → P) → (end ≤ q → P) → P
+pub by_end : {P : Type 0} (q end : ℕ) → (q < end → P) → (end ≤ q → P) → P
 by_end {P = P} q end low high = at (nat_lt q end) refl
   where
     at : (b : Bool) → nat_lt q end ≡ b → P
@@ -143,7 +143,7 @@ map_all old new end from n entry mark settled mapped count low small =
       mark = refl;
     }
 
-nat_apart : (q page : ℕ) → (q ≡ page → ⊥) → q < page + 1 → q < page
+pub nat_apart : (q page : ℕ) → (q ≡ page → ⊥) → q < page + 1 → q < page
 nat_apart q page other less = at (nat_lt q page) refl
   where
     at : (b : Bool) → nat_lt q page ≡ b → q < page

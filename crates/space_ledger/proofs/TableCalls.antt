@@ -200,11 +200,11 @@ kept_none slots table frames zero_frame none entries roomy =
 -- A page shared.
 
 pub room_in : (slots : Slots) (overlays : Overlays) (frames zero_frame room s : ℕ) → IsKept (length slots) (seen slots overlays frames zero_frame) overlays room
-    → has_space (seen slots overlays frames zero_frame) s ≡ true → OnTable (table_of (slot_at slots s)) (λ t. len t.pages + 1 < 2 ^ 32)
-room_in slots overlays frames zero_frame room s kept there =
+    → has_space (seen slots overlays frames zero_frame) s ≡ true → (n : ℕ) → n ≤ PAGE_END → OnTable (table_of (slot_at slots s)) (λ t. len t.pages + n < 2 ^ 32)
+room_in slots overlays frames zero_frame room s kept there n most =
     let found = table_from slots overlays frames zero_frame s there in
     let few = len_low PAGE_END found.0.pages (λ q some. kept.low s q (ap is_some (seen_page_at slots overlays frames zero_frame s q found.0 found.1) ∙ mapped q (get found.0.pages q) some)) in
-    subst (λ o. OnTable o (λ t. len t.pages + 1 < 2 ^ 32)) (sym found.1) (omega (arith, few))
+    subst (λ o. OnTable o (λ t. len t.pages + n < 2 ^ 32)) (sym found.1) (omega (arith, few, most))
   where
     mapped : (q : ℕ) (o : Option PageEntry) → IsSome o → IsSome (option_map (seen_page overlays s q) o)
     mapped q None h = h

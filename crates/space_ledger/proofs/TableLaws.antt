@@ -9,12 +9,14 @@ use Rattle.number_maps.specs.Keys.{alike}
 use Rattle.number_maps.specs.Views.{get_viewed, len_viewed, viewed}
 use Rattle.sizes.specs.declared.TheConstants.{LAST_SPACE}
 use Rattle.page_table.specs.Table.{Pages}
+use Rattle.page_table.specs.Run.{IsRunFrom}
 use Rattle.page_table.specs.declared.entry.PageEntry.{PageEntry}
+use Rattle.page_table.specs.declared.run.PageRun.{PageRun}
 use Rattle.overlay_address.specs.Names.{overlay_page}
-use Rattle.space_ledger.specs.Space.{SpaceTable, AwaitsFirst, IsLeast}
+use Rattle.space_ledger.specs.Space.{SpaceTable, AwaitsFirst, AwaitsRun, IsLeast}
 use Rattle.space_ledger.specs.View.{LedgerView, PageView, SpaceView, has_space, no_pages, page_at, space_at}
 use Rattle.space_ledger.specs.ViewLaws.{page_of, space_absent}
-use Rattle.space_ledger.specs.Kept.{AwaitsFirstIn, IsNextIn, OnTable, Overlays, Slots, seen, seen_page, seen_space, slot_at, table_of}
+use Rattle.space_ledger.specs.Kept.{AwaitsFirstIn, AwaitsRunIn, IsNextIn, OnTable, Overlays, Slots, seen, seen_page, seen_space, slot_at, table_of}
 use Rattle.space_ledger.specs.Calls.{IsNextOf, entries_of}
 use Rattle.space_ledger.proofs.Seen.{seen_none, seen_page_at, seen_space_at, table_from}
 
@@ -106,6 +108,10 @@ module _ (slots : Slots) (overlays : Overlays) (frames zero_frame q : ℕ) (ther
   pub least_in : (p : ℕ) → IsLeast (space_at (seen slots overlays frames zero_frame) q).awaiting p → OnTable (table_of (slot_at slots q)) (λ t. IsLeast t.awaiting p)
   least_in p least = on_table (λ t. IsLeast t.awaiting p) _ found.0 found.1
       (subst (λ (m : Pages). IsLeast m p) (ap (λ (x : SpaceView). x.awaiting) (seen_space_at slots overlays frames zero_frame q found.0 found.1)) least)
+
+  pub run_in : (run : PageRun) → IsRunFrom (space_at (seen slots overlays frames zero_frame) q).awaiting 0 run → OnTable (table_of (slot_at slots q)) (λ t. IsRunFrom t.awaiting 0 run)
+  run_in run first = on_table (λ t. IsRunFrom t.awaiting 0 run) _ found.0 found.1
+      (subst (λ (m : Pages). IsRunFrom m 0 run) (ap (λ (x : SpaceView). x.awaiting) (seen_space_at slots overlays frames zero_frame q found.0 found.1)) first)
 
   pub slot_there : is_some (table_of (slot_at slots q)) ≡ true
   slot_there = ap is_some found.1
@@ -200,3 +206,14 @@ first_is slots overlays frames zero_frame q found is = at (table_of (slot_at slo
     at None here h =
         subst (λ k. AwaitsFirst (space_at (seen slots overlays frames zero_frame) q).awaiting k) (sym h)
         (ap (λ (x : SpaceView). x.awaiting) (space_absent (seen slots overlays frames zero_frame) q (seen_none slots overlays frames zero_frame q here)))
+
+-- the first of them, as many as lie in one run
+pub run_first : (slots : Slots) (overlays : Overlays) (frames zero_frame q until : ℕ) (found : Option PageRun) → AwaitsRunIn (table_of (slot_at slots q)) until found
+    → AwaitsRun (space_at (seen slots overlays frames zero_frame) q).awaiting until found
+run_first slots overlays frames zero_frame q until found is = at (table_of (slot_at slots q)) refl is
+  where
+    at : (o : Option SpaceTable) → table_of (slot_at slots q) ≡ o → AwaitsRunIn o until found → AwaitsRun (space_at (seen slots overlays frames zero_frame) q).awaiting until found
+    at (Some t) here h = subst (λ (x : SpaceView). AwaitsRun x.awaiting until found) (sym (seen_space_at slots overlays frames zero_frame q t here)) h
+    at None here h =
+        subst (λ o. AwaitsRun (space_at (seen slots overlays frames zero_frame) q).awaiting until o) (sym h)
+        (λ page low. ap (λ (x : SpaceView). get x.awaiting page) (space_absent (seen slots overlays frames zero_frame) q (seen_none slots overlays frames zero_frame q here)) ∙ get-empty nat_cmp page)

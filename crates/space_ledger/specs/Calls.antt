@@ -11,7 +11,8 @@ use Rattle.page_table.specs.declared.entry.PageEntry.{PageEntry}
 use Rattle.overlay_mapping_table.specs.declared.entry.Entry.{Entry}
 use Rattle.number_maps.specs.Views.{viewed}
 use Rattle.page_table.specs.Table.{Pages, is_within}
-use Rattle.space_ledger.specs.View.{LedgerView, PageView, SpaceView, ledger_of, overlay_at, page_at, space_at}
+use Rattle.space_ledger.specs.Space.{IsLeast}
+use Rattle.space_ledger.specs.View.{LedgerView, PageView, SpaceView, frame_at, frame_awaiting, ledger_of, overlay_at, page_at, space_at, with_page_shared}
 
 -- What the calls ask and answer.
 
@@ -103,6 +104,18 @@ pub record IsBooked (view : LedgerView) (counts : List ℕ) (units_kept lines_ke
   pub counted : AreSharersCounted (ledger_of view) view.zero_frame view.frames counts
   pub units_is : units_kept ≡ units (ledger_of view)
   pub lines_is : lines_kept ≡ own_lines (ledger_of view)
+
+-- each page below one that awaits in a space does so with the frame that it has in another one, and has no overlay there
+abbrev pub AreBareBelow : LedgerView → ℕ → ℕ → ℕ → Type 0
+AreBareBelow view from to until = (page : ℕ) → page < until → IsSome (get (space_at view to).awaiting page)
+    → (frame_awaiting view to page ≡ frame_at view from page) × (overlay_at view from page ≡ None)
+
+-- pages below one, each of which awaits as the least and isn't there, are shared from another space one after the other, without
+-- overlays
+pub data AreSharedBare (from to until : ℕ) : LedgerView → LedgerView → Type 0 where
+  Still : (view : LedgerView) → AreSharedBare from to until view view
+  Then : (old new : LedgerView) (page : ℕ) → page < until → IsLeast (space_at old to).awaiting page → page_at old to page ≡ None
+      → AreSharedBare from to until (with_page_shared old from to page None) new → AreSharedBare from to until old new
 
 -- by how much the units rise by a store that touches lines of a page
 abbrev pub RisesBy : LedgerView → ℕ → ℕ → List ℕ → ℕ → Type 0

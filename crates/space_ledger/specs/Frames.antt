@@ -1,6 +1,8 @@
-use Rattle.std.specs.Prelude.{ℕ, ◌==◌, ◌||◌, not, if◌then◌else◌, List}
+use Rattle.std.specs.Prelude.{ℕ, zero, suc, ◌+◌, ◌==◌, ◌||◌, not, if◌then◌else◌, List}
 use Rattle.sizes.specs.declared.TheConstants.{FRAME_UNITS}
 use Rattle.frame_pool.specs.Counts.{held, released, sharers_of}
+use Rattle.page_table.specs.Run.{entry_at}
+use Rattle.page_table.specs.declared.run.PageRun.{PageRun}
 
 -- What a page more or fewer does to the counts of frames. The zero frame isn't counted.
 
@@ -13,3 +15,13 @@ released_by zero_frame counts frame = if frame == zero_frame then counts else re
 -- the units of a frame that no page names, once one does
 unfoldable pub frame_units : ℕ → List ℕ → ℕ → ℕ
 frame_units zero_frame counts frame = if (frame == zero_frame) || not (sharers_of counts frame == 0) then 0 else FRAME_UNITS
+
+-- The same of the first pages of a run, one after the other.
+
+unfoldable pub held_run : ℕ → List ℕ → PageRun → ℕ → List ℕ
+held_run zero_frame counts run zero = counts
+held_run zero_frame counts run (suc k) = held_by zero_frame (held_run zero_frame counts run k) (entry_at run k).frame
+
+unfoldable pub run_units : ℕ → List ℕ → PageRun → ℕ → ℕ
+run_units zero_frame counts run zero = 0
+run_units zero_frame counts run (suc k) = run_units zero_frame counts run k + frame_units zero_frame (held_run zero_frame counts run k) (entry_at run k).frame

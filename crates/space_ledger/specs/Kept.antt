@@ -7,11 +7,13 @@ use Rattle.number_maps.specs.Slots.{slotted}
 use Rattle.number_maps.specs.Views.{viewed}
 use Rattle.sizes.specs.declared.TheConstants.{FRAME_UNITS, LAST_SPACE, PAGE_END, PAGE_LINES}
 use Rattle.page_table.specs.Table.{Pages, IsFree}
+use Rattle.page_table.specs.Run.{IsRunFrom}
 use Rattle.page_table.specs.declared.entry.PageEntry.{PageEntry}
+use Rattle.page_table.specs.declared.run.PageRun.{PageRun}
 use Rattle.overlay_address.specs.Names.{overlay_page}
 use Rattle.overlay_mapping_table.specs.declared.entry.Entry.{Entry}
 use Rattle.ledger.specs.Units.{overlaid_pages}
-use Rattle.space_ledger.specs.Space.{SpaceTable, AreMapped, AwaitsFirst, IsLeast, IsNextPage}
+use Rattle.space_ledger.specs.Space.{SpaceTable, AreMapped, AwaitsFirst, AwaitsRun, IsLeast, IsNextPage}
 use Rattle.space_ledger.specs.View.{LedgerView, PageView, SpaceView, ledger_of, page_at}
 
 -- What the slots and the overlays stand for.
@@ -78,13 +80,18 @@ abbrev pub AwaitsFirstIn : Option SpaceTable → Option (ℕ × PageEntry) → T
 AwaitsFirstIn None found = found ≡ None
 AwaitsFirstIn (Some table) found = AwaitsFirst table.awaiting found
 
+-- the first pages of a slot's space that await, as far as they lie below a page
+abbrev pub AwaitsRunIn : Option SpaceTable → ℕ → Option PageRun → Type 0
+AwaitsRunIn None until found = found ≡ None
+AwaitsRunIn (Some table) until found = AwaitsRun table.awaiting until found
+
 -- a condition on a slot's space, which is there
 abbrev pub OnTable : Option SpaceTable → (SpaceTable → Type 0) → Type 0
 OnTable None P = ⊥
 OnTable (Some table) P = P table
 
 -- a slot's space, which is there: no page of it awaits, it has no page, or none of a run; it has room for as many pages; a
--- page is the least that awaits
+-- page is the least that awaits, or a run the first of those that await
 abbrev pub IsSettled : Option SpaceTable → Type 0
 IsSettled table = OnTable table (λ t. t.awaiting ≡ empty)
 
@@ -99,6 +106,9 @@ HasRoomIn table n = OnTable table (λ t. len t.pages + n < 2 ^ 32)
 
 abbrev pub IsLeastIn : Option SpaceTable → ℕ → Type 0
 IsLeastIn table page = OnTable table (λ t. IsLeast t.awaiting page)
+
+abbrev pub IsRunIn : Option SpaceTable → PageRun → Type 0
+IsRunIn table run = OnTable table (λ t. IsRunFrom t.awaiting 0 run)
 
 -- One slot's space was changed, and each other slot is as it was.
 pub record IsChanged (change : SpaceTable → SpaceTable) (old new : Slots) (space : ℕ) : Type 0 where

@@ -1,7 +1,9 @@
-use Rattle.std.specs.Prelude.{◌≡◌, ℕ, ◌+◌, ◌≤◌, ◌<◌, ◌^◌, Bool, nat_le, nat_lt, Option, Some, None, IsSome}
+use Rattle.std.specs.Prelude.{◌≡◌, ℕ, zero, suc, ◌+◌, ◌≤◌, ◌<◌, ◌^◌, Bool, nat_le, nat_lt, Option, Some, None, IsSome}
 use Rattle.std.specs.FinMap.{empty, get, insert, len, remove, retain_keys}
 use Rattle.page_table.specs.Table.{Pages, IsMapped}
+use Rattle.page_table.specs.Run.{IsRunFrom, entry_at}
 use Rattle.page_table.specs.declared.entry.PageEntry.{PageEntry}
+use Rattle.page_table.specs.declared.run.PageRun.{PageRun}
 
 -- The pages of one space.
 
@@ -55,6 +57,11 @@ pub record IsLeast (awaiting : Pages) (page : ℕ) : Type 0 where
 abbrev pub awaited : SpaceTable → ℕ → PageEntry → SpaceTable
 awaited space page entry = record { pages = insert space.pages page entry; awaiting = remove space.awaiting page; speculating = space.speculating }
 
+-- the first pages of a run await no more, one after the other
+unfoldable pub run_awaited : SpaceTable → PageRun → ℕ → SpaceTable
+run_awaited space run zero = space
+run_awaited space run (suc k) = awaited (run_awaited space run k) (run.page + k) (entry_at run k)
+
 abbrev pub marked : SpaceTable → Bool → SpaceTable
 marked space on = record { pages = space.pages; awaiting = space.awaiting; speculating = on }
 
@@ -62,3 +69,17 @@ marked space on = record { pages = space.pages; awaiting = space.awaiting; specu
 abbrev pub AwaitsFirst : Pages → Option (ℕ × PageEntry) → Type 0
 AwaitsFirst awaiting None = awaiting ≡ empty
 AwaitsFirst awaiting (Some found) = (get awaiting found.0 ≡ Some found.1) × IsLeast awaiting found.0
+
+-- the first pages that await, as many as lie in one run and below a page, or that none below it awaits
+abbrev pub AwaitsRun : Pages → ℕ → Option PageRun → Type 0
+AwaitsRun awaiting until None = (page : ℕ) → page < until → get awaiting page ≡ None
+AwaitsRun awaiting until (Some run) = IsRunFrom awaiting 0 run × (run.page + run.n ≤ until)
+
+-- as many of the first pages of a run
+abbrev pub first_of : PageRun → ℕ → PageRun
+first_of run n = record { page = run.page; n = n; entry = run.entry; rising = run.rising }
+
+-- the pages of a run that are below one, if there are any
+abbrev pub IsCut : PageRun → ℕ → Option PageRun → Type 0
+IsCut run until None = until ≤ run.page
+IsCut run until (Some part) = (part ≡ first_of run part.n) × (0 < part.n) × (part.n ≤ run.n) × (run.page + part.n ≤ until)

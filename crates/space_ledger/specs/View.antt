@@ -1,11 +1,13 @@
-use Rattle.std.specs.Prelude.{ℕ, ◌+◌, ◌==◌, Bool, false, if◌then◌else◌, List, [], Option, Some, None, is_some}
+use Rattle.std.specs.Prelude.{ℕ, zero, suc, ◌+◌, ◌==◌, Bool, false, if◌then◌else◌, List, [], Option, Some, None, is_some}
 use Rattle.std.specs.List.{fold, range_with_len}
 use Rattle.std.specs.Option.{option_and_then, option_map, option_map_or, unwrap_or}
 use Rattle.std.specs.Ordering.{nat_cmp}
 use Rattle.std.specs.FinMap.{FinMap, empty, get, insert, remove}
 use Rattle.number_maps.specs.Views.{viewed}
 use Rattle.page_table.specs.Table.{Pages}
+use Rattle.page_table.specs.Run.{entry_at}
 use Rattle.page_table.specs.declared.entry.PageEntry.{PageEntry}
+use Rattle.page_table.specs.declared.run.PageRun.{PageRun}
 use Rattle.overlay_mapping_table.specs.declared.entry.Entry.{Entry}
 use Rattle.unit_map.specs.declared.map.Block.{Block}
 use Rattle.ledger.specs.Ledger.{Holding, Ledger}
@@ -115,6 +117,11 @@ unfoldable pub with_shared : LedgerView → ℕ → ℕ → PageView → LedgerV
 with_shared view space page x =
     let y = space_at view space in
     with_space view space (record { pages = insert y.pages page x; awaiting = remove y.awaiting page; speculating = y.speculating })
+
+-- the first pages of a run become the space's one after the other, without overlays
+unfoldable pub with_run_shared : LedgerView → ℕ → PageRun → ℕ → LedgerView
+with_run_shared view space run zero = view
+with_run_shared view space run (suc k) = with_shared (with_run_shared view space run k) space (run.page + k) (record { entry = entry_at run k; overlay = None })
 
 -- the overlay of a page, if it has one; its frame, if it is there; and the frame of one that awaits
 abbrev pub overlay_at : LedgerView → ℕ → ℕ → Option Entry

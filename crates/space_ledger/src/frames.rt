@@ -1,11 +1,14 @@
 //! The sharers of a frame, and what they cost.
 
-ghost use Rattle.std.specs.Prelude.{◌≡◌, ◌+◌, ◌-◌, ◌^◌, ◌==◌, ◌<◌, ◌⊎◌, ◌&&◌, not, length};
+ghost use Rattle.std.specs.Prelude.{◌≡◌, ℕ, ◌+◌, ◌-◌, ◌^◌, ◌==◌, ◌<◌, ◌≤◌, ◌⊎◌, ◌&&◌, not, length, true};
+ghost use Rattle.sizes.specs.declared.TheConstants.{PAGE_END};
 ghost use Rattle.frame_pool.specs.Counts.{sharers_of};
 ghost use Rattle.ledger.specs.Units.{class};
-ghost use Rattle.space_ledger.specs.Frames.{frame_units, held_by, released_by};
+ghost use Rattle.page_table.specs.Run.{entry_at};
+ghost use Rattle.space_ledger.specs.Frames.{frame_units, held_by, held_run, released_by, run_units};
 
 use frame_pool::FramePool;
+use page_table::PageRun;
 use sizes::FRAME_UNITS;
 
 /// Whether a frame has one sharer, and isn't the zero frame.
@@ -32,6 +35,28 @@ pub(crate) fn hold(pool: &mut FramePool, zero: u32, frame: u32) -> u32
     let is_first = pool.sharers(frame) == 0;
     pool.hold(frame);
     if is_first { FRAME_UNITS } else { 0 }
+}
+
+/// Each page of a run names its frame, as by `hold`. Answers the units that they cost. Costs a step for each page, and one in all
+/// where each is on the zero frame.
+pub(crate) fn hold_run(pool: &mut FramePool, zero: u32, run: &PageRun) -> u32
+    requires there { (i : ℕ) → i < run.now.n → (entry_at run.now i).frame < length pool.old }
+    requires few { (i : ℕ) → i < run.now.n → ((entry_at run.now i).frame ≡ zero)
+        ⊎ (sharers_of (held_run zero pool.old run.now i) (entry_at run.now i).frame < 2 ^ 32 - 1) }
+    requires fits { run.now.rising ≡ true → run.now.entry.frame + run.now.n ≤ 2 ^ 32 }
+    requires short { run.now.n ≤ PAGE_END }
+    ensures held { pool.new ≡ held_run zero pool.old run.now run.now.n }
+    ensures units { result ≡ run_units zero pool.old run.now run.now.n }
+{
+    if !run.rising && run.entry.frame == zero {
+        return 0;
+    }
+    let mut units = 0;
+    'holding: for i in 0..run.n {
+        let entry = run.entry_at(i);
+        units += hold(pool, zero, entry.frame);
+    }
+    units
 }
 
 /// One page fewer names a frame: no count where it is the zero frame. Answers the units that it frees.

@@ -4,12 +4,12 @@ ghost use Rattle.std.specs.Prelude.{◌≡◌, ℕ, ◌+◌, ◌^◌, ◌<◌, �
 ghost use Rattle.std.specs.FinMap as map;
 ghost use Rattle.std.specs.Option.{option_and_then, option_map, option_map_or, is_some};
 ghost use Rattle.page_table.specs.Table.{IsFree};
-ghost use Rattle.space_ledger.specs.Space.{AreMapped, AwaitsFirst, IsLeast, IsNextPage, adopted, awaited, marked, with_entry, without_page};
-ghost use Rattle.space_ledger.specs.Kept.{AreMappedOf, AwaitsFirstIn, IsChanged, IsMappedIn, IsNextIn, HasRoomIn, IsEmpty, IsFreeIn, IsLeastIn, IsSet, IsSettled, entry_in, pages_of, slot_at, table_in, table_of, waiting_in};
+ghost use Rattle.space_ledger.specs.Space.{AreMapped, AwaitsFirst, IsLeast, IsNextPage, adopted, awaited, marked, run_awaited, with_entry, without_page};
+ghost use Rattle.space_ledger.specs.Kept.{AreMappedOf, AwaitsFirstIn, AwaitsRunIn, IsChanged, IsMappedIn, IsNextIn, HasRoomIn, IsEmpty, IsFreeIn, IsLeastIn, IsRunIn, IsSet, IsSettled, entry_in, pages_of, slot_at, table_in, table_of, waiting_in};
 
 use crate::space::Space;
 use ovl_io::Perms;
-use page_table::{PageEntry, PageTable};
+use page_table::{PageEntry, PageRun, PageTable};
 use std::alloc::{AllocError, Global};
 
 /// Spaces by number.
@@ -76,12 +76,22 @@ pub(crate) fn marked_in(slots: &Slots, space: u16) -> bool
 }
 
 /// The least page of a space that awaits, with its entry.
-#[inline(always)]
 pub(crate) fn first_awaiting_in(slots: &Slots, space: u16) -> Option<(u64, PageEntry)>
     ensures { AwaitsFirstIn (table_in slots.now.items space) result }
 {
     match slots.get(space as usize) {
         Some(Some(space)) => space.first_awaiting(),
+        Some(None) => None,
+        None => None,
+    }
+}
+
+/// The first pages of a space that await: as many as lie in one run and below `until`.
+pub(crate) fn next_run_awaiting_in(slots: &Slots, space: u16, until: u64) -> Option<PageRun>
+    ensures { AwaitsRunIn (table_in slots.now.items space) until result }
+{
+    match slots.get(space as usize) {
+        Some(Some(space)) => space.next_run_awaiting(until),
         Some(None) => None,
         None => None,
     }
@@ -243,7 +253,6 @@ pub(crate) fn adopt_in(slots: &mut Slots, space: u16, table: PageTable)
     }
 }
 
-#[inline(always)]
 fn share_slot(slot: &mut Option<Box<Space>>, page: u64) -> PageEntry
     requires least { IsLeastIn (table_of slot.old) page }
     requires low { page < 2 ^ 36 }
@@ -260,7 +269,6 @@ fn share_slot(slot: &mut Option<Box<Space>>, page: u64) -> PageEntry
 }
 
 /// The least page that awaits becomes one of the space's. Answers its entry.
-#[inline(always)]
 pub(crate) fn share_in(slots: &mut Slots, space: u16, page: u64) -> PageEntry
     requires least { IsLeastIn (table_in slots.old.items space) page }
     requires low { page < 2 ^ 36 }
@@ -273,6 +281,36 @@ pub(crate) fn share_in(slots: &mut Slots, space: u16, page: u64) -> PageEntry
 {
     match slots.get_mut(space as usize) {
         Some(slot) => share_slot(slot, page),
+        None => unreachable!(),
+    }
+}
+
+fn share_run_slot(slot: &mut Option<Box<Space>>, run: &PageRun)
+    requires first { IsRunIn (table_of slot.old) run.now }
+    requires few { HasRoomIn (table_of slot.old) run.now.n }
+    ensures apart { (i : ℕ) → i < run.now.n
+        → entry_in (table_of slot.old) (run.now.page + i) ≡ None }
+    ensures shared { table_of slot.new
+        ≡ option_map (λ table. run_awaited table run.now run.now.n) (table_of slot.old) }
+{
+    match slot {
+        Some(space) => space.share_run(run),
+        None => unreachable!(),
+    }
+}
+
+/// The pages of a run, the first of a space that await, become the space's.
+pub(crate) fn share_run_in(slots: &mut Slots, space: u16, run: &PageRun)
+    requires first { IsRunIn (table_in slots.old.items space) run.now }
+    requires few { HasRoomIn (table_in slots.old.items space) run.now.n }
+    ensures apart { (i : ℕ) → i < run.now.n
+        → entry_in (table_in slots.old.items space) (run.now.page + i) ≡ None }
+    ensures shared { IsChanged (λ table. run_awaited table run.now run.now.n)
+        slots.old.items slots.new.items space }
+    ensures length { length slots.new.items ≡ length slots.old.items }
+{
+    match slots.get_mut(space as usize) {
+        Some(slot) => share_run_slot(slot, run),
         None => unreachable!(),
     }
 }

@@ -1,12 +1,13 @@
 //! The pages of one space.
 
-ghost use Rattle.std.specs.Prelude.{◌≡◌, ◌+◌, ◌^◌, ◌<◌, ◌≤◌, IfOk, IsSome, OnOk, OnErr, None, Some, false};
+ghost use Rattle.std.specs.Prelude.{◌≡◌, ℕ, ◌+◌, ◌^◌, ◌<◌, ◌≤◌, IfOk, IsSome, OnOk, OnErr, None, Some, false};
 ghost use Rattle.std.specs.FinMap as map;
+ghost use Rattle.page_table.specs.Run.{IsRunFrom};
 ghost use Rattle.page_table.specs.Table.{IsFree};
-ghost use Rattle.space_ledger.specs.Space.{AreMapped, IsLeast, IsNextPage, AwaitsFirst, adopted, awaited, marked, with_entry, without_page};
+ghost use Rattle.space_ledger.specs.Space.{AreMapped, IsLeast, IsNextPage, AwaitsFirst, AwaitsRun, IsCut, adopted, awaited, marked, run_awaited, with_entry, without_page};
 
 use ovl_io::Perms;
-use page_table::{PageEntry, PageTable};
+use page_table::{PageEntry, PageRun, PageTable};
 use std::alloc::{AllocError, Global};
 use std::marker::Model;
 
@@ -126,12 +127,21 @@ impl Space {
     }
 
     /// The least page that awaits, with its entry. None exactly where none does.
-    #[inline(always)]
     pub(crate) fn first_awaiting(&self) -> Option<(u64, PageEntry)>
         ensures { AwaitsFirst self.now.awaiting result }
     {
-        match self.table.next_near(self.end, self.count) {
+        match self.table.next_from(self.end) {
             Some((page, entry)) => Some((page, entry)),
+            None => None,
+        }
+    }
+
+    /// The first pages that await: as many as lie in one run and below `until`. None exactly where none below it awaits.
+    pub(crate) fn next_run_awaiting(&self, until: u64) -> Option<PageRun>
+        ensures { AwaitsRun self.now.awaiting until result }
+    {
+        match self.table.next_run(self.end) {
+            Some(found) => cut(found, until),
             None => None,
         }
     }
@@ -155,7 +165,6 @@ impl Space {
     }
 
     /// The least page that awaits becomes one of the space's. Answers its entry.
-    #[inline(always)]
     pub(crate) fn share(&mut self, page: u64) -> PageEntry
         requires least { IsLeast self.old.awaiting page }
         requires low { page < 2 ^ 36 }
@@ -164,7 +173,7 @@ impl Space {
         ensures apart { map.get self.old.pages page ≡ None }
         ensures shared { self.new ≡ awaited self.old page result }
     {
-        match self.table.get_near(page, self.count) {
+        match self.table.get(page) {
             Some(entry) => {
                 self.end = page + 1;
                 self.count += 1;
@@ -172,6 +181,17 @@ impl Space {
             }
             None => unreachable!(),
         }
+    }
+
+    /// The pages of a run, the first that await, become the space's.
+    pub(crate) fn share_run(&mut self, run: &PageRun)
+        requires first { IsRunFrom self.old.awaiting 0 run.now }
+        requires few { map.len self.old.pages + run.now.n < 2 ^ 32 }
+        ensures apart { (i : ℕ) → i < run.now.n → map.get self.old.pages (run.now.page + i) ≡ None }
+        ensures shared { self.new ≡ run_awaited self.old run.now run.now.n }
+    {
+        self.end = run.page + u64::from(run.n);
+        self.count += run.n;
     }
 
     #[inline]
@@ -186,4 +206,24 @@ impl Space {
     {
         self.speculating = on;
     }
+}
+
+/// The pages of a run that are below one, if there are any.
+fn cut(run: PageRun, until: u64) -> Option<PageRun>
+    requires { 0 < run.n }
+    ensures { IsCut run until result }
+{
+    if until <= run.page {
+        return None;
+    }
+    let left = until - run.page;
+    if u64::from(run.n) <= left {
+        return Some(run);
+    }
+    Some(PageRun {
+        page: run.page,
+        n: left as u32,
+        entry: run.entry,
+        rising: run.rising,
+    })
 }

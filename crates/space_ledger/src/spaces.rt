@@ -1,6 +1,6 @@
 //! The space ledger.
 
-ghost use Rattle.std.specs.Prelude.{◌≡◌, ℕ, ◌+◌, ◌-◌, ◌*◌, ◌==◌, ◌<◌, ◌≤◌, ◌⊎◌, ◌&&◌, cond, not, nat_lt, length, true, false, Some, None, [], ◌∷◌, IfOk, IfSome, IsSome, OnOk, OnErr};
+ghost use Rattle.std.specs.Prelude.{◌≡◌, ℕ, ◌+◌, ◌-◌, ◌*◌, ◌==◌, ◌≢◌, ◌<◌, ◌≤◌, ◌⊎◌, ◌&&◌, cond, not, nat_lt, length, true, false, Some, None, [], ◌∷◌, IfOk, IfSome, IsSome, OnOk, OnErr};
 ghost use Rattle.std.specs.FinMap as map;
 ghost use Rattle.std.specs.Option.{is_some, option_and_then, option_map};
 ghost use Rattle.sizes.specs.declared.TheConstants.{FRAME_UNITS, LAST_SPACE, MOST_FRAMES, MOST_SPACE_PAGES, PAGE_END, PAGE_LINES};
@@ -11,18 +11,19 @@ ghost use Rattle.overlay_bits.specs.Lines.{AreLines, with_lines};
 ghost use Rattle.ledger.specs.Changes.{has_own};
 ghost use Rattle.ledger.specs.Events.{Store, ledger_after};
 ghost use Rattle.overlay_address.specs.Names.{page_of, space_of};
+ghost use Rattle.page_table.specs.Run.{IsRunFrom};
 ghost use Rattle.space_ledger.specs.Space.{AwaitsFirst, IsLeast};
-ghost use Rattle.space_ledger.specs.View.{has_space, ledger_of, no_pages, page_at, space_at, frame_at, frame_awaiting, lines_of, overlay_at, with_awaiting, with_block, with_frame, with_mark, with_overlay, with_page_shared, with_space, with_zero_pages, without_page_at, without_space};
-ghost use Rattle.space_ledger.specs.Calls.{AreFree, HasOverlayRoom, HasSpare, IsFreeFor, IsNextOf, IsNextOwn, NamesOnce, RisesBeside, RisesBy, entries_of, given_up, held_at};
+ghost use Rattle.space_ledger.specs.View.{has_space, ledger_of, no_pages, page_at, space_at, frame_at, frame_awaiting, lines_of, overlay_at, with_awaiting, with_block, with_frame, with_mark, with_overlay, with_page_shared, with_run_shared, with_space, with_zero_pages, without_page_at, without_space};
+ghost use Rattle.space_ledger.specs.Calls.{AreBareBelow, AreFree, AreSharedBare, HasOverlayRoom, HasSpare, IsFreeFor, IsNextOf, IsNextOwn, NamesOnce, RisesBeside, RisesBy, entries_of, given_up, held_at};
 
-use crate::frames::{class_of, hold, is_only, release};
+use crate::frames::{class_of, hold, hold_run, is_only, release};
 use crate::tables::Tables;
 use frame_pool::FramePool;
 use overlay_address::OverlayPage;
 use overlay_bits::Bits;
 use overlay_mapping_table::Entry;
 use ovl_io::Perms;
-use page_table::{PageEntry, PageTable};
+use page_table::{PageEntry, PageRun, PageTable};
 use sizes::FRAME_UNITS;
 use std::alloc::{AllocError, Global};
 use std::marker::Model;
@@ -198,7 +199,6 @@ impl SpaceLedger {
     }
 
     /// The least page of a space that awaits `share_page`, with its entry. None exactly where none does. Costs a look-up.
-    #[inline(always)]
     pub fn first_awaiting(&self, space: u16) -> Option<(u64, PageEntry)>
         ensures { AwaitsFirst (space_at self.now space).awaiting result }
     {
@@ -351,7 +351,6 @@ impl SpaceLedger {
     /// Shares the page of a space with another one, where it awaits as the least and has the frame that it has in the first: it
     /// gets its origin and its own lines there, and keeps the permissions of the table that was adopted. A block is given exactly
     /// where it has own lines, and fewer than 16 pages for each frame are overlaid then. Takes no memory, and costs a look-up.
-    #[inline(always)]
     pub fn share_page(&mut self, from: u16, to: u16, page: u64, block: Option<Block>)
         requires there { IsSome (page_at self.old from page) }
         requires space { has_space self.old to ≡ true }
@@ -370,6 +369,36 @@ impl SpaceLedger {
         let added = hold(&mut self.pool, zero, entry.frame);
         self.units = self.units + added + class_of(lines);
         self.lines += lines;
+    }
+
+    /// Shares each page below `until` that awaits in a space, with the frame that it has in another one and without own lines there:
+    /// the least first, as by `share_page`. Takes no memory. Costs a look-up for each run of such pages, and a step for each page of
+    /// a run that isn't on the zero frame.
+    pub fn share_bare(&mut self, from: u16, to: u16, until: u64)
+        requires differ { from ≢ to }
+        requires space { has_space self.old to ≡ true }
+        requires bare { AreBareBelow self.old from to until }
+        ensures shared { AreSharedBare from to until self.old self.new }
+        ensures none { (page : ℕ) → page < until
+            → map.get (space_at self.new to).awaiting page ≡ None }
+    {
+        'sharing: while let Some(found) = self.tables.next_run_awaiting(to, until) {
+            self.share_run(from, to, &found);
+        }
+    }
+
+    // The pages of a run, the first that await, become the space's.
+    fn share_run(&mut self, from: u16, to: u16, run: &PageRun)
+        requires differ { from ≢ to }
+        requires space { has_space self.old to ≡ true }
+        requires first { IsRunFrom (space_at self.old to).awaiting 0 run.now }
+        requires bare { AreBareBelow self.old from to (run.now.page + run.now.n) }
+        ensures apart { (i : ℕ) → i < run.now.n → page_at self.old to (run.now.page + i) ≡ None }
+        ensures shared { self.new ≡ with_run_shared self.old to run.now run.now.n }
+    {
+        let zero = self.tables.zero();
+        self.tables.share_run(to, run);
+        self.units += hold_run(&mut self.pool, zero, run);
     }
 
     /// By how many units a store rises that touches these lines of a page that is there. A store over two pages of a space

@@ -1,24 +1,25 @@
 //! The tables and overlays of all spaces.
 
-ghost use Rattle.std.specs.Prelude.{◌≡◌, ◌+◌, ◌*◌, ◌<◌, ◌≤◌, ◌⊎◌, ◌==◌, ◌&&◌, cond, nat_lt, length, true, false, None, Some, ◌^◌, IfOk, IfSome, IsSome, OnOk, OnErr};
+ghost use Rattle.std.specs.Prelude.{◌≡◌, ℕ, ◌+◌, ◌*◌, ◌<◌, ◌≤◌, ◌⊎◌, ◌==◌, ◌&&◌, cond, nat_lt, length, true, false, None, Some, ◌^◌, IfOk, IfSome, IsSome, OnOk, OnErr};
 ghost use Rattle.std.specs.FinMap as map;
 ghost use Rattle.std.specs.Option.{is_some, option_and_then, option_map};
 ghost use Rattle.sizes.specs.declared.TheConstants.{FRAME_UNITS, LAST_SPACE, MOST_FRAMES, PAGE_END, PAGE_LINES};
 ghost use Rattle.ledger.specs.Units.{overlaid_pages};
 ghost use Rattle.overlay_bits.specs.Lines.{AreLines};
-ghost use Rattle.space_ledger.specs.Space.{AwaitsFirst, IsLeast};
-ghost use Rattle.space_ledger.specs.View.{changed_at, has_space, ledger_of, no_pages, page_at, space_at, with_awaiting, with_entry_at, with_mark, with_overlay, with_shared, with_space, with_zero_pages, without_page_at, without_space};
+ghost use Rattle.page_table.specs.Run.{IsRunFrom};
+ghost use Rattle.space_ledger.specs.Space.{AwaitsFirst, AwaitsRun, IsLeast};
+ghost use Rattle.space_ledger.specs.View.{changed_at, has_space, ledger_of, no_pages, page_at, space_at, with_awaiting, with_entry_at, with_mark, with_overlay, with_run_shared, with_shared, with_space, with_zero_pages, without_page_at, without_space};
 ghost use Rattle.overlay_address.specs.Names.{IsName, page_of, space_of};
 ghost use Rattle.space_ledger.specs.Calls.{AreFree, HasOverlayRoom, HasSpare, IsLined, IsNextOf, IsNextOverlaid, IsSound, entries_of};
 
 use crate::slots::{
     Slots, add_in, adopt_in, clear_in, copy_in, first_awaiting_in, get_in, has_in, len_in, map_in,
-    mark_in, marked_in, next_in, remove_in, set_in, share_in,
+    mark_in, marked_in, next_in, next_run_awaiting_in, remove_in, set_in, share_in, share_run_in,
 };
 use overlay_address::OverlayPage;
 use overlay_mapping_table::{Entry, MappingTable};
 use ovl_io::Perms;
-use page_table::{PageEntry, PageTable};
+use page_table::{PageEntry, PageRun, PageTable};
 use sizes::PAGE_END;
 use std::alloc::{AllocError, Global};
 use std::marker::Model;
@@ -142,11 +143,17 @@ impl Tables {
     }
 
     /// The least page of a space that awaits, with its entry. None exactly where none does.
-    #[inline(always)]
     pub(crate) fn first_awaiting(&self, space: u16) -> Option<(u64, PageEntry)>
         ensures { AwaitsFirst (space_at self.now space).awaiting result }
     {
         first_awaiting_in(&self.slots, space)
+    }
+
+    /// The first pages of a space that await: as many as lie in one run and below `until`. None exactly where none below it awaits.
+    pub(crate) fn next_run_awaiting(&self, space: u16, until: u64) -> Option<PageRun>
+        ensures { AwaitsRun (space_at self.now space).awaiting until result }
+    {
+        next_run_awaiting_in(&self.slots, space, until)
     }
 
     /// How many frames there are.
@@ -255,7 +262,6 @@ impl Tables {
     }
 
     /// The least page that awaits becomes one of the space's, with an overlay or none. Answers its entry.
-    #[inline(always)]
     pub(crate) fn share(&mut self, space: u16, page: u64, overlay: Option<Entry>) -> PageEntry
         requires there { has_space self.old space ≡ true }
         requires least { IsLeast (space_at self.old space).awaiting page }
@@ -273,6 +279,17 @@ impl Tables {
             None => (),
         }
         entry
+    }
+
+    /// The pages of a run, the first that await, become the space's, without overlays.
+    pub(crate) fn share_run(&mut self, space: u16, run: &PageRun)
+        requires there { has_space self.old space ≡ true }
+        requires first { IsRunFrom (space_at self.old space).awaiting 0 run.now }
+        requires low { run.now.page + run.now.n ≤ PAGE_END }
+        ensures apart { (i : ℕ) → i < run.now.n → page_at self.old space (run.now.page + i) ≡ None }
+        ensures shared { self.new ≡ with_run_shared self.old space run.now run.now.n }
+    {
+        share_run_in(&mut self.slots, space, run);
     }
 }
 

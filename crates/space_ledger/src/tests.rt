@@ -1,4 +1,4 @@
-ghost use Rattle.std.specs.Prelude.{◌≡◌, ℕ, ◌+◌, ◌*◌, ◌<◌, ◌≤◌, IsTrue, IsSome, Some, true};
+ghost use Rattle.std.specs.Prelude.{◌≡◌, ℕ, ◌+◌, ◌*◌, ◌<◌, ◌≤◌, IsTrue, IsSome, None, Some, true};
 ghost use Rattle.std.specs.FinMap as map;
 ghost use Rattle.sizes.specs.declared.TheConstants.{FRAME_UNITS, PAGE_END};
 ghost use Rattle.ledger.specs.Units.{overlaid_pages, units};
@@ -170,6 +170,40 @@ fn share(rt: &impl Abort, ledger: &mut SpaceLedger, from: u16, to: u16, page: u6
         }
         _ => assert!(rt; false),
     }
+}
+
+// Whether no page of a space below one has own lines.
+fn are_bare(ledger: &SpaceLedger, space: u16, until: u64) -> bool
+    ensures { IsTrue result → (q : ℕ) → q < until → overlay_at ledger.now space q ≡ None }
+{
+    'looking: for page in 0..until {
+        if ledger.entry(space, page).is_some() && ledger.overlay(space, page).is_some() {
+            return false;
+        }
+    }
+    true
+}
+
+// A new space has those pages below one of another space, of which none has own lines. The others await.
+fn fork_bare(
+    rt: &impl Abort,
+    ledger: &mut SpaceLedger,
+    from: u16,
+    to: u16,
+    until: u64,
+) -> Result<(), AllocError> {
+    add(rt, ledger, to)?;
+    assert!(rt; from != to && ledger.has_space(from) && ledger.first_awaiting(from).is_none());
+    let table = ledger.copy_table(from)?;
+    assert!(rt;
+        ledger.has_space(to) && ledger.first_awaiting(to).is_none() && is_empty(ledger, to)
+    );
+    assert!(rt; until < 1000);
+    assert!(rt; are_bare(ledger, from, until));
+    ledger.adopt_table(to, table);
+    assert!(rt; ledger.has_space(to));
+    ledger.share_bare(from, to, until);
+    Ok(())
 }
 
 // Takes away a space that has no page.
@@ -402,6 +436,70 @@ fn a_restored_space_has_the_pages_of_the_checkpoint(rt: HostRuntime) -> Result<(
     assert_eq!(rt; remove(&rt, &mut ledger, 1, 100), Some(1));
     assert_eq!(rt; remove(&rt, &mut ledger, 1, 16), Some(3));
     assert_counts(&rt, &ledger, 16, 0);
+    Ok(())
+}
+
+#[test]
+fn pages_without_own_lines_are_shared_as_runs(rt: HostRuntime) -> Result<(), Fail> {
+    let mut ledger = SpaceLedger::new(rt.alloc(), 8, 2)?;
+    add(&rt, &mut ledger, 1)?;
+    map(&rt, &mut ledger, 1, 16, 5)?;
+    for frame in [1u32, 3, 4, 5] {
+        set_frame(&rt, &mut ledger, 1, 15 + u64::from(frame), frame);
+    }
+    map(&rt, &mut ledger, 1, 100, 16)?;
+    assert_counts(&rt, &ledger, 80, 0);
+    fork_bare(&rt, &mut ledger, 1, 2, 900)?;
+    assert_counts(&rt, &ledger, 80, 0);
+    assert_eq!(rt; ledger.pages(2), 21);
+    assert!(rt; ledger.first_awaiting(2).is_none());
+    for page in [16u64, 17, 20, 100, 115] {
+        assert_eq!(rt; ledger.entry(2, page), ledger.entry(1, page), "{page}");
+    }
+    assert_eq!(rt; store(&rt, &mut ledger, 2, 16, Bits::range(0, 1)), 1);
+    assert_counts(&rt, &ledger, 81, 1);
+    drop_space(&rt, &mut ledger, 1);
+    assert_counts(&rt, &ledger, 81, 1);
+    assert_eq!(rt; remove(&rt, &mut ledger, 2, 17), None);
+    assert_eq!(rt; remove(&rt, &mut ledger, 2, 18), Some(3));
+    assert_eq!(rt; remove(&rt, &mut ledger, 2, 16), Some(1));
+    assert_counts(&rt, &ledger, 48, 0);
+    Ok(())
+}
+
+#[test]
+fn a_run_is_shared_as_far_as_is_asked(rt: HostRuntime) -> Result<(), Fail> {
+    let mut ledger = SpaceLedger::new(rt.alloc(), 8, 0)?;
+    add(&rt, &mut ledger, 1)?;
+    map(&rt, &mut ledger, 1, 16, 5)?;
+    for frame in 1..5u32 {
+        set_frame(&rt, &mut ledger, 1, 15 + u64::from(frame), frame);
+    }
+    for (space, until, pages, next) in [
+        (2, 0, 0, Some(16)),
+        (3, 16, 0, Some(16)),
+        (4, 17, 1, Some(17)),
+        (5, 19, 3, Some(19)),
+        (6, 20, 4, Some(20)),
+        (7, 21, 5, None),
+    ] {
+        fork_bare(&rt, &mut ledger, 1, space, until)?;
+        let first = ledger.first_awaiting(space).map(|found| found.0);
+        assert_eq!(rt;
+            (ledger.pages(space), first),
+            (pages, next),
+            "below {until}"
+        );
+        assert_counts(&rt, &ledger, 80, 0);
+    }
+    share(&rt, &mut ledger, 1, 5, 19);
+    share(&rt, &mut ledger, 1, 5, 20);
+    assert!(rt; ledger.first_awaiting(5).is_none());
+    drop_space(&rt, &mut ledger, 5);
+    drop_space(&rt, &mut ledger, 1);
+    drop_space(&rt, &mut ledger, 7);
+    assert_counts(&rt, &ledger, 80, 0);
+    assert_eq!(rt; ledger.pages(6), 4);
     Ok(())
 }
 

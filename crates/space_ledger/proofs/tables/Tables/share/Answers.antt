@@ -18,7 +18,7 @@ pub share_in-entry-requires-clause-low : goal.share_in-entry-requires-clause-low
 share_in-entry-requires-clause-low c = omega (arith, c.requires.low)
 
 pub share_in-entry-requires-clause-few : goal.share_in-entry-requires-clause-few
-share_in-entry-requires-clause-few c = room_in c.self.inside.slots.items c.self.inside.overlays.entries c.self.inside.frames c.self.inside.zero c.self.inside.overlays.room c.args.space c.self.invariant (ap (λ (v : LedgerView). has_space v c.args.space) c.self.view_is ∙ c.requires.there)
+share_in-entry-requires-clause-few c = room_in c.self.inside.slots.items c.self.inside.overlays.entries c.self.inside.frames c.self.inside.zero c.self.inside.overlays.room c.args.space c.self.invariant (ap (λ (v : LedgerView). has_space v c.args.space) c.self.view_is ∙ c.requires.there) 1 (omega arith)
 
 pub of-requires-clause-few : goal.of-requires-clause-few
 of-requires-clause-few c = let low = space_number c.self.inside.slots.items c.self.inside.overlays.entries c.self.inside.frames c.self.inside.zero c.args.space c.self.invariant.few (ap (λ (v : LedgerView). has_space v c.args.space) c.self.view_is ∙ c.requires.there) in omega (arith, low)
