@@ -224,6 +224,31 @@ fn a_fork_has_pages_with_and_without_own_lines(rt: HostRuntime) -> Result<(), Fa
 }
 
 #[test]
+fn a_fork_shares_each_frame_of_a_run(rt: HostRuntime) -> Result<(), Fail> {
+    let mut spaces = Spaces::new(&rt, rt.alloc(), 8)?;
+    spaces.add_space(&rt, 1)?;
+    for page in 16..20u64 {
+        assert_eq!(rt; spaces.place(&rt, 1, page, page as u8), Ok(()));
+    }
+    spaces.map_zero(&rt, 1, 20, 3)?;
+    assert_counts(&rt, &spaces, 80, 0);
+    assert_eq!(rt; spaces.fork(&rt, 1, 2), Ok(()));
+    assert_counts(&rt, &spaces, 80, 0);
+    for page in 16..23u64 {
+        assert_eq!(rt; spaces.found(&rt, 1, page), (0, false), "page {page}");
+        let byte = spaces.byte(&rt, 1, page * 4096);
+        assert_eq!(rt; spaces.byte(&rt, 2, page * 4096), byte, "page {page}");
+    }
+    spaces.drop_space(&rt, 1);
+    assert_counts(&rt, &spaces, 80, 0);
+    for page in 16..20u64 {
+        assert_eq!(rt; spaces.found(&rt, 2, page), (0, true), "page {page}");
+        assert_eq!(rt; spaces.byte(&rt, 2, page * 4096), page as u8);
+    }
+    Ok(())
+}
+
+#[test]
 fn a_frame_is_alone_again_once_one_side_is_gone(rt: HostRuntime) -> Result<(), Fail> {
     let mut spaces = loaded(&rt, rt.alloc(), 4)?;
     assert_eq!(rt; spaces.found(&rt, 1, 16), (0, true));
