@@ -12,7 +12,7 @@ use Rattle.page_table.specs.declared.run.PageRun.{PageRun}
 use Rattle.page_table.specs.Table.{Pages, is_within, IsFree, AreThere, IsUnmapped, IsNext}
 use Rattle.page_table.specs.Run.{IsRunFrom, entry_at}
 use Rattle.page_table.specs.Kept.{AreKept, AreSame, HasFilled, HasRun, HasSet, HaveLost, IsRunBehind, IsPlace, IsRun, ComeInOrder, entry_for, plain_run, find_in, lies_in, pages_of, run_at, single, tail_of, total}
-use Rattle.page_table.proofs.Pages.{get_in, len_in, within_at, within_behind, within_from, within_is, within_none, within_to}
+use Rattle.page_table.proofs.Pages.{get_in, len_in, same_pages, within_at, within_behind, within_from, within_is, within_none, within_to}
 use Rattle.page_table.proofs.Places.{found_at, found_none, ends_behind}
 use Rattle.page_table.proofs.Edits.{entry_tail, find_insert, item_at, find_put, is_tail, low_at, rise_insert, rise_put, tail_fits, total_insert, total_put}
 
@@ -146,6 +146,15 @@ filled_none runs from n entry h none = record {
   pages = λ q. ap (λ (b : Bool). cond b (Some entry) (get (pages_of runs) q)) (sym (ap (λ (k : ℕ). is_within from k q) none ∙ within_none from q));
   rise = h;
   count = omega (arith, none);
+}
+
+-- and is joined with those round it
+pub filled_joined : (runs put new : List PageRun) (from n : ℕ) (entry : PageEntry) → HasFilled runs from n entry put → AreSame put new
+    → HasFilled runs from n entry new
+filled_joined runs put new from n entry filled same = record {
+  pages = λ q. ap (λ (m : Pages). get m q) (same_pages put new same.found) ∙ filled.pages q;
+  rise = same.rise;
+  count = omega (arith, filled.count, same.count);
 }
 
 -- A page that is a run of its own is given an entry, and the runs round it are joined.

@@ -148,6 +148,7 @@ pub(crate) fn fill_pages(runs: &mut VecDeque<PageRun>, from: u64, n: u32, entry:
     requires rise { ComeInOrder 0 runs.old.items }
     requires free { IsFree (pages_of runs.old.items) from n }
     requires low { from + n ≤ 2 ^ 36 }
+    requires few { total runs.old.items + n < 2 ^ 32 }
     requires room { total runs.old.items + n ≤ deque_capacity runs.old }
     ensures filled { HasFilled runs.old.items from n entry runs.new.items }
     ensures room { deque_capacity runs.old ≤ deque_capacity runs.new }
@@ -157,7 +158,7 @@ pub(crate) fn fill_pages(runs: &mut VecDeque<PageRun>, from: u64, n: u32, entry:
     }
     let at = place_of(runs, from);
     match runs.insert(at, run_of(from, n, entry)) {
-        Ok(()) => {}
+        Ok(()) => join_round(runs, at),
         Err(_) => unreachable!(),
     }
 }

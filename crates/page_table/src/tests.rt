@@ -368,6 +368,17 @@ fn pages_that_go_on_make_one_run(rt: HostRuntime) -> Result<(), Fail> {
     );
     unmap(&rt, &mut table, 12, 4);
     assert_runs(&rt, &table, &[(10, 2, 20, true), (16, 4, 26, true)]);
+
+    // pages that are mapped beside others of the same kind join them
+    map_pages(&rt, &mut table, 31, 1, CODE)?;
+    map_pages(&rt, &mut table, 30, 1, CODE)?;
+    map_pages(&rt, &mut table, 32, 3, CODE)?;
+    assert_runs(
+        &rt,
+        &table,
+        &[(10, 2, 20, true), (16, 4, 26, true), (30, 5, 7, false)],
+    );
+    unmap(&rt, &mut table, 30, 5);
     let copy = table.copy()?;
     assert_runs(&rt, &copy, &[(10, 2, 20, true), (16, 4, 26, true)]);
     Ok(())

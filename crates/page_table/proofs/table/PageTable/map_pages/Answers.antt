@@ -12,6 +12,11 @@ overflow_sub-spare c =
     let short = length_total 0 c.self.inside.runs.items c.self.invariant.rise in
     omega (arith, c.len.ensures, c.self.inside.runs.ok.0, short, c.self.invariant.counted)
 
+pub fill_pages-requires-clause-few : goal.fill_pages-requires-clause-few
+fill_pages-requires-clause-few c =
+    let before = counted c.args.self.now c.self.inside.runs.items c.self.view_is c.self.invariant.rise in
+    omega (arith, ap total c.in_ok-reserve.ensures.items, before, c.requires.few)
+
 pub overflow_add-self : goal.overflow_add-self
 overflow_add-self c =
     omega (arith, c.requires.few, counted c.args.self.now c.self.inside.runs.items c.self.view_is c.self.invariant.rise, c.self.invariant.counted)
