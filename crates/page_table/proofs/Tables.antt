@@ -48,7 +48,7 @@ run_read runs page at None h place inside is =
 run_read runs page at (Some run) h place inside is =
     run_there runs page at run.now h place (inside.0 refl) (item_at runs at run.now (inside.0 refl) is)
 
--- what is known of a run that lies_in a page
+-- what is known of a run that holds a page
 pub record IsHeld (runs : List PageRun) (page : ℕ) (run : PageRun) : Type 0 where
   pub inside : page - run.page < run.n
   pub few : run.n < 2 ^ 32

@@ -63,13 +63,13 @@ run_at runs at = get_or runs at no_run
 abbrev pub is_before : ℕ → PageRun → Bool
 is_before page run = nat_le run.n (page - run.page)
 
--- the run that lies_in a page stands at a place, or the first behind it
+-- the run that holds a page stands at a place, or the first behind it
 pub record IsPlace (runs : List PageRun) (page at : ℕ) : Type 0 where
   pub inside : at ≤ length runs
   pub before : (i : ℕ) → i < at → is_before page (run_at runs i) ≡ true
   pub behind : (i : ℕ) → at ≤ i → i < length runs → is_before page (run_at runs i) ≡ false
 
--- a run lies_in a page, or is the first behind it
+-- a run holds a page, or is the first behind it
 pub record IsRunBehind (runs : List PageRun) (page : ℕ) (run : PageRun) : Type 0 where
   pub own : IsRun run
   pub to : page < run.page + run.n

@@ -3,12 +3,15 @@
 ghost use Rattle.std.specs.Prelude.{◌≡◌, ◌+◌, ◌^◌, ◌<◌, ◌≤◌, ◌⊎◌, length, slice_set, IsSome, None};
 ghost use Rattle.std.specs.List as list;
 ghost use Rattle.std.specs.VecDeque.{deque_capacity};
-ghost use Rattle.page_table.specs.Kept.{AreSame, HasBegun, HasFilled, HasRun, HasSet, HaveLost, IsPlace, ComeInOrder, plain_run, find_in, head_of, pages_of, run_at, tail_of, total};
+ghost use Rattle.page_table.specs.Kept.{AreSame, HasBegun, HasFilled, HasRun, HasSet, HaveLost, IsPlace, ComeInOrder, plain_run, find_in, head_of, is_before, pages_of, run_at, tail_of, total};
 ghost use Rattle.page_table.specs.Table.{AreThere, IsFree};
 
 use crate::entry::PageEntry;
 use crate::run::PageRun;
 use std::collections::VecDeque;
+
+// So many runs are gone over, and more are searched.
+const FEW: usize = 8;
 
 // Pages with one entry.
 fn run_of(page: u64, n: u32, entry: PageEntry) -> PageRun
@@ -22,16 +25,43 @@ fn run_of(page: u64, n: u32, entry: PageEntry) -> PageRun
     }
 }
 
-/// The place of the run that lies_in a page, or of the first one behind it.
+/// Whether a run lies before a page.
+#[inline(always)]
+fn lies_before(run: &PageRun, page: u64) -> bool
+    ensures { result ≡ is_before page run.now }
+{
+    page.saturating_sub(run.page) >= u64::from(run.n)
+}
+
+/// The place of the run that holds a page, or of the first one behind it. A few runs are gone over from the first one on, since a
+/// search takes turns that no processor foresees.
 #[inline]
 fn place_of(runs: &VecDeque<PageRun>, page: u64) -> usize
     requires { ComeInOrder 0 runs.now.items }
     ensures { IsPlace runs.now.items page result }
 {
-    runs.partition_point(|run| page.saturating_sub(run.page) >= u64::from(run.n))
+    if runs.len() > FEW {
+        return search(runs, page);
+    }
+    let mut at = 0;
+    'looking: while at < runs.len() {
+        if !lies_before(&runs[at], page) {
+            return at;
+        }
+        at += 1;
+    }
+    at
 }
 
-/// The run that lies_in a page, or the first one behind it.
+/// The same, by a binary search.
+fn search(runs: &VecDeque<PageRun>, page: u64) -> usize
+    requires { ComeInOrder 0 runs.now.items }
+    ensures { IsPlace runs.now.items page result }
+{
+    runs.partition_point(|run| lies_before(run, page))
+}
+
+/// The run that holds a page, or the first one behind it.
 #[inline]
 pub(crate) fn run_from(runs: &VecDeque<PageRun>, page: u64) -> Option<PageRun>
     requires { ComeInOrder 0 runs.now.items }
