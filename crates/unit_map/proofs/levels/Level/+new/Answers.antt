@@ -1,0 +1,26 @@
+use Rattle.std.proofs.Common.{◌+◌, ◌*◌, ◌/◌, replicate, length, sym, ap, subst, ◌∙◌, arith}
+use Rattle.std.proofs.lemmas.List.{length-replicate}
+use Rattle.unit_map.specs.Levels.{or_of, AreMarks}
+use Rattle.unit_map.specs.Kept.{AreBelow}
+use Rattle.unit_map.proofs.Marks.{or_zero, zero_at, zero_marks}
+use Rattle.unit_map.proofs.levels.Level.+new.Goals as goal
+use Rattle.unit_map.proofs.levels.Level.+new.Goals.{then-groups-eq1, else-groups-eq1+in_ok-marks+in_ok-new}
+
+pub invariant_of-result : goal.invariant_of-result
+invariant_of-result t c =
+    let bytes = c.in_ok-bytes.bytes.items in
+    let n = c.args.groups in
+    let m = (c.args.groups + 15) / 16 in
+    let is = c.in_ok-bytes.ensures.items_if_clones_equal (λ y h. h) in
+    let size = ap length is ∙ length-replicate (16 * n) 0 in
+    record {
+      whole = omega (arith, size);
+      few = omega (arith, size, c.requires.few);
+      below = elim c.if-groups-eq1.branch [
+        | then-groups-eq1 w ↦ subst (AreBelow bytes) (sym w.above-is) (omega (arith, size, w.if-groups-eq1.true), sym (ap (λ bs. or_of bs 0 16) is ∙ or_zero (replicate (16 * n) 0) 0 16 (zero_at (16 * n))))
+        | else-groups-eq1+in_ok-marks+in_ok-new w ↦
+            let marks = w.in_ok-new.ensures.ok ∙ w.in_ok-marks.ensures in
+            let zero = zero_marks (16 * n) (16 * m) (omega (arith, w.if-groups-eq1.false, c.requires.some)) (omega arith) in
+            subst (AreBelow bytes) (sym w.above-is) (subst (AreMarks bytes) (sym marks) (subst (λ bs. AreMarks bs (replicate (16 * m) 0)) (sym is) zero))
+      ];
+    }
