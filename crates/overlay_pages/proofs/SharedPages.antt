@@ -6,7 +6,7 @@ use Rattle.std.specs.FinMap.{get, insert, remove}
 use Rattle.number_maps.specs.Keys.{insert_over}
 use Rattle.sizes.specs.declared.TheConstants.{PAGE_END}
 use Rattle.unit_map.specs.Pieces.{free_units, units_in}
-use Rattle.unit_map.specs.declared.map.Block.{Block}
+use Rattle.unit_map.specs.declared.block.Block.{Block}
 use Rattle.overlay_bits.specs.Lines.{AreLines, has_line}
 use Rattle.overlay_address.specs.Names.{overlay_page}
 use Rattle.overlay_mapping_table.specs.declared.entry.Entry.{Entry}

@@ -6,7 +6,7 @@ use Rattle.std.specs.Option.{option_and_then, option_map, option_map_or}
 use Rattle.unit_map.specs.Pieces.{free_at, free_units, units_in}
 use Rattle.unit_map.specs.Laws.{by_order, within as inside_piece}
 use Rattle.store_compaction.specs.Next.{IsRoomMove}
-use Rattle.unit_map.specs.declared.map.Block.{Block}
+use Rattle.unit_map.specs.declared.block.Block.{Block}
 use Rattle.store_compaction.specs.declared.moves.Move.{Move}
 use Rattle.overlay_bits.specs.Lines.{has_line}
 use Rattle.overlay_address.specs.Names.{overlay_page, page_of, space_of}

@@ -5,7 +5,7 @@ use Rattle.line_store.specs.Lines.{line_of}
 use Rattle.unit_map.specs.Pieces.{Piece, ArePieces, IsApartFromTaken, IsPiece, taken_at, units_in}
 use Rattle.unit_map.specs.Changes.{KeepsTaken, KeepsOthers}
 use Rattle.unit_map.specs.Laws.{within}
-use Rattle.unit_map.specs.declared.map.Block.{Block}
+use Rattle.unit_map.specs.declared.block.Block.{Block}
 use Rattle.overlay_bits.specs.Laws.{are_none}
 use Rattle.segment_store.specs.Store.{Store, IsFrame, IsSegment, segment_at}
 use Rattle.segment_store.specs.Places.{BeginsLines, HasBlock}

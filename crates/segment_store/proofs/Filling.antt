@@ -5,7 +5,7 @@ use Rattle.std.proofs.lemmas.List.{get_or-set_same, get_or-set_other, length-set
 use Rattle.line_store.specs.Lines.{line_of}
 use Rattle.unit_map.specs.Pieces.{ArePieces, IsPiece, taken_at, units_in}
 use Rattle.unit_map.specs.Laws.{by_order}
-use Rattle.unit_map.specs.declared.map.Block.{Block}
+use Rattle.unit_map.specs.declared.block.Block.{Block}
 use Rattle.overlay_bits.specs.Lines.{AreLines, has_line, with_line}
 use Rattle.overlay_bits.specs.Laws.{are_with, has_with}
 use Rattle.segment_store.specs.Pointers.{ArePointers, HasTaken, IsLowestFree, capacity_of, free_word, slot_of}

@@ -1,5 +1,5 @@
 use Rattle.std.proofs.Common.{◌≡◌, ℕ, ◌<◌, true, length, sym, subst}
-use Rattle.unit_map.specs.declared.map.Block.{Block}
+use Rattle.unit_map.specs.declared.block.Block.{Block}
 use Rattle.overlay_bits.specs.Lines.{has_line}
 use Rattle.segment_store.specs.Store.{Store, IsSegment, lines_at, place_of}
 use Rattle.segment_store.specs.Places.{HasBlock}

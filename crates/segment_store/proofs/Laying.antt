@@ -3,7 +3,7 @@ use Rattle.std.proofs.lemmas.Bool.{cases_eq, cases_order}
 use Rattle.std.proofs.lemmas.Bool.Decides.{nat_tests}
 use Rattle.std.proofs.lemmas.List.{length-append}
 use Rattle.line_store.specs.Lines.{line_of}
-use Rattle.unit_map.specs.declared.map.Block.{Block}
+use Rattle.unit_map.specs.declared.block.Block.{Block}
 use Rattle.overlay_bits.specs.Lines.{AreLines, has_line, rank_of, with_line}
 use Rattle.overlay_bits.specs.Laws.{are_front, are_with, front_lacks, has_with, next_inside, rank_of_next, with_next}
 use Rattle.segment_store.specs.Pointers.{ArePointers, IsLowestFree, capacity_of, free_bit, free_word, slot_of}

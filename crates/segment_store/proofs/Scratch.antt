@@ -3,7 +3,7 @@ use Rattle.std.proofs.lemmas.List.{get_or_past}
 use Rattle.line_store.specs.Lines.{line_of}
 use Rattle.unit_map.specs.Pieces.{ArePieces, IsPiece, taken_at, units_in}
 use Rattle.unit_map.specs.Laws.{within}
-use Rattle.unit_map.specs.declared.map.Block.{Block}
+use Rattle.unit_map.specs.declared.block.Block.{Block}
 use Rattle.overlay_bits.specs.Lines.{AreLines}
 use Rattle.segment_store.specs.Store.{Store, IsSegment, segment_at, with_lines_at}
 use Rattle.segment_store.specs.Places.{LaysLines, LiftsLines}

@@ -3,7 +3,7 @@ use Rattle.sizes.specs.declared.TheConstants.{FRAME_UNITS, PAGE_LINES, UNIT_LINE
 use Rattle.line_store.specs.Lines.{line_of, with_copied, zero_lines}
 use Rattle.unit_map.specs.Pieces.{free_blocks, free_frames}
 use Rattle.unit_map.specs.Changes.{Gives, Relocates}
-use Rattle.unit_map.specs.declared.map.Block.{Block}
+use Rattle.unit_map.specs.declared.block.Block.{Block}
 use Rattle.store_compaction.specs.declared.moves.Move.{Move}
 use Rattle.overlay_bits.specs.Lines.{has_line, rank_of}
 use Rattle.segment_store.specs.Pointers.{slot_of, IsLowestFree}

@@ -6,7 +6,7 @@ use Rattle.std.proofs.lemmas.List.{get_or-set_same, get_or-set_other, length-set
 use Rattle.line_store.specs.Lines.{line_of}
 use Rattle.unit_map.specs.Pieces.{Piece, ArePieces, AreBlocksApart, IsApartFromTaken, IsPiece, taken_at, units_in}
 use Rattle.unit_map.specs.Laws.{by_order, equal_or_apart, within}
-use Rattle.unit_map.specs.declared.map.Block.{Block}
+use Rattle.unit_map.specs.declared.block.Block.{Block}
 use Rattle.overlay_bits.specs.Lines.{AreLines, has_line}
 use Rattle.segment_store.specs.Pointers.{ArePointers, capacity_of, slot_of}
 use Rattle.segment_store.specs.Store.{IsFrame, IsSegment, Store, frame_line, frame_place, line_in, lines_at, place_in, place_of, segment_at, with_line_at, with_lines_at}

@@ -1,7 +1,7 @@
 use Rattle.std.specs.Prelude.{◌≡◌, ℕ, ◌+◌, ◌*◌, ◌^◌, ◌<◌, ◌≤◌, ◌⊎◌, true, List, [], ◌++◌, length}
 use Rattle.sizes.specs.declared.TheConstants.{UNIT_LINES}
 use Rattle.line_store.specs.Lines.{line_of}
-use Rattle.unit_map.specs.declared.map.Block.{Block}
+use Rattle.unit_map.specs.declared.block.Block.{Block}
 use Rattle.overlay_bits.specs.Lines.{has_line, rank_of}
 use Rattle.segment_store.specs.Pointers.{ArePointers, HasTaken, IsLowestFree, capacity_of, free_bit, free_word, slot_of}
 use Rattle.segment_store.specs.Store.{place_in}

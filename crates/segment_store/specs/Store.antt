@@ -3,7 +3,7 @@ use Rattle.std.specs.Option.{option_map_or}
 use Rattle.sizes.specs.declared.TheConstants.{FRAME_UNITS, PAGE_LINES, UNIT_LINES}
 use Rattle.line_store.specs.Lines.{line_of}
 use Rattle.unit_map.specs.Pieces.{Piece, IsPiece, taken_at, units_in}
-use Rattle.unit_map.specs.declared.map.Block.{Block}
+use Rattle.unit_map.specs.declared.block.Block.{Block}
 use Rattle.overlay_bits.specs.Lines.{with_line}
 use Rattle.segment_store.specs.Pointers.{slot_of}
 use Rattle.segment_store.specs.declared.segment.Segment.{Segment}

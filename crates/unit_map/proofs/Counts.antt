@@ -1,9 +1,19 @@
-use Rattle.std.proofs.Common.{◌≡◌, ℕ, zero, suc, ◌+◌, ◌-◌, ◌^◌, ◌≤◌, Bool, true, false, cond, inl, inr, List, [], ◌∷◌, ◌++◌, ap, ◌∙◌, refl, arith}
+use Rattle.std.proofs.Common.{◌≡◌, ℕ, zero, suc, ◌+◌, ◌-◌, ◌^◌, ◌<◌, ◌≤◌, Bool, true, false, cond, Some, inl, inr, List, [], ◌∷◌, ◌++◌, length, get_or, ap, ◌∙◌, refl, arith}
+use Rattle.std.proofs.lemmas.Bool.{cases_lt}
 use Rattle.std.proofs.lemmas.Bool.Decides.{nat_tests}
+use Rattle.std.proofs.lemmas.Nat.{pow_pos}
+use Rattle.std.specs.Int.{bit_at}
+use Rattle.std.proofs.lemmas.Nat.Bits.{bit_at-pow_same}
 use Rattle.unit_map.specs.Pieces.{Piece, IsPiece, count, is_free_of, free_units, free_at, taken_at}
-use Rattle.unit_map.specs.Changes.{split, TakesFrom, Gives}
+use Rattle.unit_map.specs.Changes.{split, HasRoom, IsFull, TakesFrom, Gives}
+use Rattle.unit_map.specs.Cells.{code, piece_at, pieces_in, pieces_of, behind, IsTable}
+use Rattle.unit_map.specs.declared.levels.End.TheVariants.{Low, High}
+use Rattle.unit_map.specs.Levels.{HasBit, IsEndBit, LackBit, LackBitIn, LackBits}
+use Rattle.unit_map.proofs.Codes.{code_some}
 use Rattle.unit_map.proofs.Numbers.{twice}
-pub use Rattle.unit_map.specs.Laws.{free_append, free_counts, free_le, free_merges, one_if}
+use Rattle.unit_map.proofs.Reading.{cell_there, from_cells, here_in, in_three, in_two, one_piece, piece_here}
+use Rattle.unit_map.proofs.Tables.{bit_there, block_there, piece_byte, piece_there, there_fits}
+use Rattle.unit_map.specs.Laws.{free_append, free_merges, free_of, one_if}
 
 -- How many units are free, and how many pieces there are of an order.
 
@@ -34,33 +44,94 @@ free_gives old new u o g =
 
 -- Pieces of an order.
 
-pub count_append : (k : ℕ) (ps qs : List Piece) → count k (ps ++ qs) ≡ count k ps + count k qs
+count_append : (k : ℕ) (ps qs : List Piece) → count k (ps ++ qs) ≡ count k ps + count k qs
 count_append k [] qs = omega arith
 count_append k (p ∷ ps) qs = omega (arith, count_append k ps qs)
 
 -- where there is none
-pub count_none : (k : ℕ) (ps : List Piece) → ((p : Piece) → IsPiece ps p → p.free ≡ true → p.order ≡ k → ⊥) → count k ps ≡ 0
+count_none : (k : ℕ) (ps : List Piece) → ((p : Piece) → IsPiece ps p → p.free ≡ true → p.order ≡ k → ⊥) → count k ps ≡ 0
 count_none k [] h = refl
 count_none k (p ∷ ps) h = at (is_free_of k p) refl (count_none k ps (λ q g. h q (inr g)))
   where
     at : (b : Bool) → is_free_of k p ≡ b → count k ps ≡ 0 → cond b 1 0 + count k ps ≡ 0
     at false e rest = omega (arith, rest)
-    at true e rest = absurd (h p (inl refl) (grind (arith, nat_tests)) (grind (arith, nat_tests)))
-
-is_one : (k : ℕ) (p : Piece) → p.free ≡ true → p.order ≡ k → is_free_of k p ≡ true
-is_one k p h e = grind (arith, nat_tests)
+    at true e rest = absurd (h p (inl refl) (free_of k p e).0 (free_of k p e).1)
 
 -- where there is one
-pub count_some : (k : ℕ) (ps : List Piece) (p : Piece) → IsPiece ps p → p.free ≡ true → p.order ≡ k → 1 ≤ count k ps
+count_some : (k : ℕ) (ps : List Piece) (x : ℕ) → IsPiece ps (free_at x k) → 1 ≤ count k ps
 unfolding one_if
-count_some k [] p h free e = absurd h
-count_some k (x ∷ ps) p (inl i) free e =
-    let one = ap one_if (is_one k x (ap (λ (q : Piece). q.free) i ∙ free) (ap (λ (q : Piece). q.order) i ∙ e)) in omega (arith, one)
-count_some k (x ∷ ps) p (inr h) free e = omega (arith, count_some k ps p h free e)
-
-pub count_one : (k : ℕ) (p : Piece) → count k (p ∷ []) ≤ 1
-count_one k p = at (is_free_of k p)
+count_some k [] x h = absurd h
+count_some k (p ∷ ps) x (inl i) = at i
   where
-    at : (b : Bool) → cond b 1 0 + 0 ≤ 1
-    at true = omega arith
-    at false = omega arith
+    is : (q : Piece) → p ≡ q → q.free ≡ true → q.order ≡ k → is_free_of k p ≡ true
+    is q e free order = let a = ap (λ (r : Piece). r.free) e ∙ free in let b = ap (λ (r : Piece). r.order) e ∙ order in grind (arith, nat_tests)
+
+    at : p ≡ free_at x k → 1 ≤ count k (p ∷ ps)
+    at e = omega (arith, ap one_if (is (free_at x k) e refl refl))
+count_some k (p ∷ ps) x (inr h) = omega (arith, count_some k ps x h)
+
+-- The free blocks of an order, by the bits of the table.
+
+lack_none : (cells : List ℕ) (k : ℕ) (p : Piece) → IsTable cells → bit_at (get_or cells p.unit 0) k ≡ 0 → IsPiece (piece_at p.unit (get_or cells p.unit 0)) p → p.free ≡ true → p.order ≡ k → ⊥
+lack_none cells k p is lack h free order =
+    let code = (piece_byte cells p is h).1 ∙ ap (λ b. code b p.order) free ∙ ap (code true) order in
+    omega (arith, lack, ap (λ c. bit_at c k) code, bit_at-pow_same k)
+
+pub none_free : (cells : List ℕ) (k : ℕ) → IsTable cells → LackBit cells k → (p : Piece) → IsPiece (pieces_of cells) p → p.free ≡ true → p.order ≡ k → ⊥
+none_free cells k is none p h = let at = from_cells cells 0 (length cells) p h in lack_none cells k p is (none p.unit) at.2
+
+range_none : (cells : List ℕ) (a n k : ℕ) → IsTable cells → LackBitIn cells k a (a + n) → count k (pieces_in cells a n) ≡ 0
+range_none cells a n k is lack = count_none k (pieces_in cells a n) (λ p h. let at = from_cells cells a n p h in lack_none cells k p is (lack p.unit at.0 at.1) at.2)
+
+pub two_none : (cells : List ℕ) (k : ℕ) → IsTable cells → LackBit cells k → count k (pieces_of cells) < 2
+two_none cells k is none = omega (arith, range_none cells 0 (length cells) k is (λ x le lt. none x))
+
+pub two_one : (cells : List ℕ) (k x y : ℕ) → IsTable cells → k ≤ 4 → IsEndBit cells k Low (Some x) → IsEndBit cells k High (Some y) → y ≤ x → count k (pieces_of cells) < 2
+two_one cells k x y is low first last le =
+    let code = bit_there cells x k is low first.0 in
+    let at = block_there cells x k true is low code in
+    omega (
+      arith,
+      ap (count k) (in_three cells x (2 ^ k) (there_fits cells x k is at)),
+      count_append k (pieces_in cells 0 x) (pieces_in cells x (2 ^ k) ++ behind cells x (2 ^ k)),
+      count_append k (pieces_in cells x (2 ^ k)) (behind cells x (2 ^ k)),
+      range_none cells 0 x k is (λ z from lt. first.1 z (omega (arith, lt))),
+      ap (count k) (one_piece cells x k true low code at.inside),
+      one (is_free_of k (free_at x k)),
+      range_none cells (x + 2 ^ k) (length cells - (x + 2 ^ k)) k is (λ z from lt. last.1 z (omega (arith, from, le, pow_pos k))),
+    )
+  where
+    one : (b : Bool) → cond b 1 0 + 0 ≤ 1
+    one true = omega arith
+    one false = omega arith
+
+pub two_some : (cells : List ℕ) (k x y : ℕ) → IsTable cells → k ≤ 4 → bit_at (get_or cells x 0) k ≡ 1 → bit_at (get_or cells y 0) k ≡ 1 → x < y → 2 ≤ count k (pieces_of cells)
+two_some cells k x y is low first last lt =
+    let a = bit_there cells x k is low first in
+    let b = bit_there cells y k is low last in
+    let there = cell_there cells y (2 ^ k) b (code_some true k) in
+    let n = length cells - y in
+    let all : length cells ≡ y + n = omega (arith, there) in
+    let none : 0 + y ≡ y = omega arith in
+    let front = pieces_in cells 0 y in
+    let back = pieces_in cells y n in
+    omega (
+      arith,
+      ap (λ m. count k (pieces_in cells 0 m)) all ∙ ap (count k) (in_two cells 0 y n ∙ ap (λ u. front ++ pieces_in cells u n) none),
+      count_append k front back,
+      count_some k front x (here_in cells 0 y x k true (omega arith) (omega (arith, lt)) low a),
+      count_some k back y (here_in cells y n y k true (omega arith) (omega (arith, there)) low b),
+    )
+
+pub free_there : (cells : List ℕ) (k x : ℕ) → IsTable cells → k ≤ 4 → bit_at (get_or cells x 0) k ≡ 1 → IsPiece (pieces_of cells) (free_at x k)
+free_there cells k x is low bit = piece_here cells x k true low (bit_there cells x k is low bit)
+
+-- the least order of which there is a free block, or that there is none
+pub least_some : (cells : List ℕ) (order from : ℕ) → IsTable cells → LackBits cells order from → (p : Piece) → IsPiece (pieces_of cells) p → p.free ≡ true → order ≤ p.order → from ≤ p.order
+least_some cells order from is lack p h free le = elim (cases_lt p.order from) [ inl lt ↦ absurd (none_free cells p.order is (lack p.order le lt) p h free refl) | inr more ↦ more ]
+
+pub least_none : (cells : List ℕ) (order : ℕ) → IsTable cells → LackBits cells order 5 → IsFull (pieces_of cells) order
+least_none cells order is lack p h free le = none_free cells p.order is (lack p.order le (omega (arith, (piece_there cells p is h).0))) p h free refl
+
+pub room : (cells : List ℕ) (order from : ℕ) → IsTable cells → order ≤ from → from ≤ 4 → HasBit cells from → HasRoom (pieces_of cells) order
+room cells order from is le low has = (free_at has.0 from, (piece_here cells has.0 from true low (bit_there cells has.0 from is low has.1), refl, le))

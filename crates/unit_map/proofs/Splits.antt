@@ -1,69 +1,85 @@
-use Rattle.std.proofs.Common.{◌≡◌, ℕ, zero, suc, ◌+◌, ◌^◌, ◌%◌, ◌<◌, ◌≤◌, true, false, ◌⊎◌, inl, inr, [], ◌∷◌, sym, ap, subst, ◌∙◌, refl, arith}
+use Rattle.std.proofs.Common.{◌≡◌, ℕ, suc, ◌+◌, ◌-◌, ◌^◌, ◌<◌, ◌≤◌, true, false, inl, inr, List, [], ◌∷◌, ◌++◌, get_or, set, sym, ap, subst, ◌∙◌, arith}
+use Rattle.std.proofs.lemmas.Bool.{cases_lt, cases_eq}
+use Rattle.std.proofs.lemmas.List.{get_or-set_same, get_or-set_other}
 use Rattle.std.proofs.lemmas.Nat.{pow_pos}
-use Rattle.unit_map.specs.Pieces.{Piece, IsPiece, IsAligned, AreMerged, Fills, units_in, free_at, taken_at}
+use Rattle.unit_map.specs.Pieces.{free_at}
 use Rattle.unit_map.specs.Changes.{split}
-use Rattle.unit_map.proofs.Lists.{in_either, in_lower, fills_append, units_append}
-use Rattle.unit_map.proofs.Numbers.{twice, less_aligned, next_aligned}
+use Rattle.unit_map.specs.Cells.{code, pieces_in, AreInside, IsRange, IsSplit, IsTiled, IsTwo}
+use Rattle.unit_map.proofs.Codes.{code_same, free_small}
+use Rattle.unit_map.proofs.Numbers.{pow_mono, twice}
+use Rattle.unit_map.proofs.Reading.{in_same, in_two, one_piece}
+use Rattle.unit_map.proofs.Tiles.{tiled_same}
+use Rattle.unit_map.proofs.Writes.{same_self, same_set, inside_set, inside_less}
 
--- The parts of a block that is split.
+-- A free block of the order f is split.
 
-pub split_units : (u o n : ℕ) → units_in (split u o n) ≡ 2 ^ (o + n)
-split_units u o zero = let e : o ≡ o + zero = omega arith in omega (arith, ap (λ k. 2 ^ k) e)
-split_units u o (suc n) =
-    let e : o + n + 1 ≡ o + suc n = omega arith in
-    omega (arith, units_append (split u o n) (free_at (u + 2 ^ (o + n)) (o + n) ∷ []), split_units u o n, twice (o + n), ap (λ k. 2 ^ k) e)
+pub split_start : (cells new : List ℕ) (u f o c : ℕ) → new ≡ set cells u c → c ≡ code false o → o ≤ f → IsRange cells u f → AreInside cells (u + 1) (u + 2 ^ f) → IsSplit cells new u f o o
+split_start cells new u f o c is e le range inside =
+    let here : get_or (set cells u c) u 0 ≡ code false o = get_or-set_same cells u c 0 (omega (arith, range.fits, pow_pos f)) ∙ e in
+    let none : 0 ≡ o - o = omega arith in
+    let rest = inside_set cells (u + 1) (u + 2 ^ f) u c (λ h g. omega (arith, h)) inside in
+    let own = inside_less (set cells u c) (u + 1) (u + 2 ^ f) (u + 1) (u + 2 ^ o) (omega arith) (omega (arith, pow_mono le)) rest in
+    subst (λ cs. IsSplit cells cs u f o o) (sym is) (record {
+      from = omega arith;
+      to = le;
+      same = same_set u (2 ^ f) u c cells cells (omega arith) (omega (arith, pow_pos f)) (same_self u (2 ^ f) cells);
+      rest = inside_less (set cells u c) (u + 1) (u + 2 ^ f) (u + 2 ^ o) (u + 2 ^ f) (omega (arith, pow_pos o)) (omega arith) rest;
+      taken = here;
+      free = λ x low high. omega (arith, own x (omega (arith, low)) high);
+      tiled = inl (false, here, own);
+      pieces = one_piece (set cells u c) u o false (omega (arith, le, range.low)) here own ∙ ap (split u o) none;
+    })
 
-pub split_fills : (u o n : ℕ) → Fills u (split u o n)
-split_fills u o zero = (refl, tt)
-split_fills u o (suc n) =
-    let at : u + 2 ^ (o + n) ≡ u + units_in (split u o n) = omega (arith, split_units u o n) in
-    fills_append u (split u o n) (free_at (u + 2 ^ (o + n)) (o + n) ∷ []) (split_fills u o n) (at, tt)
-
-pub split_taken : (u o n : ℕ) → IsPiece (split u o n) (taken_at u o)
-split_taken u o zero = inl refl
-split_taken u o (suc n) = in_lower (split u o n) (free_at (u + 2 ^ (o + n)) (o + n) ∷ []) (taken_at u o) (split_taken u o n)
-
--- one is taken, the others are free and of different orders
-pub record IsUpper (u o n : ℕ) (p : Piece) : Type 0 where
-  pub order : ℕ
-  pub from : o ≤ order
-  pub below : order < o + n
-  pub is : free_at (u + 2 ^ order) order ≡ p
-
-pub split_parts : (u o n : ℕ) (p : Piece) → IsPiece (split u o n) p → (taken_at u o ≡ p) ⊎ IsUpper u o n p
-split_parts u o zero p (inl e) = inl e
-split_parts u o zero p (inr h) = absurd h
-split_parts u o (suc n) p h = at (in_either (split u o n) (free_at (u + 2 ^ (o + n)) (o + n) ∷ []) p h) (split_parts u o n p)
+pub split_more : (old cells : List ℕ) (u f o k x c : ℕ) → x ≡ u + 2 ^ k → c ≡ code true k → k < f → IsRange old u f → IsSplit old cells u f o k → IsSplit old (set cells x c) u f o (k + 1)
+unfolding IsTwo
+split_more old cells u f o k x c ex ec lt range far = record {
+  from = omega (arith, far.from);
+  to = omega (arith, lt);
+  same = same_set u (2 ^ f) x c old cells (omega (arith, ex)) (omega (arith, ex, size, twice k, pow_pos k)) far.same;
+  rest = inside_set cells (u + 2 ^ (k + 1)) (u + 2 ^ f) x c (λ h g. omega (arith, h, ex, twice k, pow_pos k)) (inside_less cells (u + 2 ^ k) (u + 2 ^ f) (u + 2 ^ (k + 1)) (u + 2 ^ f) (omega (arith, twice k)) (omega arith) far.rest);
+  taken = stays u (omega (arith, pow_pos k)) ∙ far.taken;
+  free = λ y low high. free y low high;
+  tiled = subst (λ n. IsTiled n new u) next (inr (tiled_same k cells new u (λ y low high. stays y high) far.tiled, inl (true, here, upper), λ a b. apart (sym (stays u (omega (arith, pow_pos k)) ∙ far.taken) ∙ a)));
+  pieces =
+      ap (pieces_in new u) (twice k) ∙ in_two new u (2 ^ k) (2 ^ k)
+      ∙ ap (λ ps. ps ++ pieces_in new (u + 2 ^ k) (2 ^ k)) (in_same new cells u (2 ^ k) (λ y ge less. stays y less) ∙ far.pieces)
+      ∙ ap (λ ps. split u o (k - o) ++ ps) (one_piece new (u + 2 ^ k) k true (omega (arith, lt, range.low)) here upper)
+      ∙ ap (λ n. split u o (k - o) ++ (free_at (u + 2 ^ n) n ∷ [])) all
+      ∙ ap (split u o) times;
+}
   where
-    at : IsPiece (split u o n) p ⊎ IsPiece (free_at (u + 2 ^ (o + n)) (o + n) ∷ []) p → (IsPiece (split u o n) p → (taken_at u o ≡ p) ⊎ IsUpper u o n p) → (taken_at u o ≡ p) ⊎ IsUpper u o (suc n) p
-    at (inl a) rest = elim (rest a) [ inl e ↦ inl e | inr r ↦ inr (record { order = r.order; from = r.from; below = omega (arith, r.below); is = r.is }) ]
-    at (inr (inl e)) rest = inr (record { order = o + n; from = omega arith; below = omega arith; is = e })
-    at (inr (inr b)) rest = absurd b
+    new : List ℕ
+    new = set cells x c
 
-pub split_aligned : (u o n : ℕ) → o + n ≤ 4 → u % 2 ^ (o + n) ≡ 0 → (p : Piece) → IsPiece (split u o n) p → IsAligned p
-split_aligned u o n low aligned p h = at (split_parts u o n p h)
-  where
-    at : (taken_at u o ≡ p) ⊎ IsUpper u o n p → IsAligned p
-    at (inl e) = subst IsAligned e (record { order = omega (arith, low); unit = less_aligned o (o + n) u low (omega arith) aligned })
-    at (inr r) =
-        let le : r.order ≤ 4 = omega (arith, r.below, low) in
-        subst IsAligned r.is (record { order = le; unit = next_aligned r.order u le (less_aligned r.order (o + n) u low (omega (arith, r.below)) aligned) })
+    size : 2 ^ (k + 1) ≤ 2 ^ f
+    size = pow_mono (omega (arith, lt))
 
-pub split_small : (u o n : ℕ) (p : Piece) → IsPiece (split u o n) p → p.free ≡ true → p.order < o + n
-split_small u o n p h free = at (split_parts u o n p h)
-  where
-    at : (taken_at u o ≡ p) ⊎ IsUpper u o n p → p.order < o + n
-    at (inl e) = let f : false ≡ true = ap (λ (q : Piece). q.free) e ∙ free in absurd (cc)
-    at (inr r) = omega (arith, r.below, ap (λ (q : Piece). q.order) r.is)
+    next : suc k ≡ k + 1
+    next = omega arith
 
-pub split_merged : (u o n : ℕ) → AreMerged (split u o n)
-split_merged u o n p q hp hq halves = at (split_parts u o n p hp) (split_parts u o n q hq)
-  where
-    at : (taken_at u o ≡ p) ⊎ IsUpper u o n p → (taken_at u o ≡ q) ⊎ IsUpper u o n q → ⊥
-    at (inl e) other = let f : false ≡ true = ap (λ (x : Piece). x.free) e ∙ halves.lower in cc
-    at (inr a) (inl e) = let f : false ≡ true = ap (λ (x : Piece). x.free) e ∙ halves.upper in cc
-    at (inr a) (inr b) =
-        let one = ap (λ (x : Piece). x.order) a.is in
-        let two = ap (λ (x : Piece). x.order) b.is in
-        let same : b.order ≡ a.order = two ∙ halves.same ∙ sym one in
-        omega (arith, ap (λ (x : Piece). x.unit) a.is, ap (λ (x : Piece). x.unit) b.is, halves.beside, pow_pos p.order, ap (λ k. 2 ^ k) same)
+    stays : (y : ℕ) → y < u + 2 ^ k → get_or new y 0 ≡ get_or cells y 0
+    stays y less = get_or-set_other cells x y c 0 (λ e. omega (arith, e, ex, less))
+
+    here : get_or new (u + 2 ^ k) 0 ≡ code true k
+    here = ap (λ y. get_or new y 0) (sym ex) ∙ get_or-set_same cells x c 0 (omega (arith, ex, range.fits, far.same.units, size, twice k, pow_pos k)) ∙ ec
+
+    upper : AreInside new (u + 2 ^ k + 1) (u + 2 ^ k + 2 ^ k)
+    upper = inside_set cells (u + 2 ^ k + 1) (u + 2 ^ k + 2 ^ k) x c (λ h g. omega (arith, h, ex)) (inside_less cells (u + 2 ^ k) (u + 2 ^ f) (u + 2 ^ k + 1) (u + 2 ^ k + 2 ^ k) (omega arith) (omega (arith, size, twice k)) far.rest)
+
+    apart : code false o ≡ code true k → ⊥
+    apart e = let b : false ≡ true = (code_same false true o k (omega (arith, far.from, lt, range.low)) (omega (arith, lt, range.low)) e).0 in cc
+
+    free : (y : ℕ) → u < y → y < u + 2 ^ (k + 1) → get_or new y 0 < 32
+    free y low high = elim (cases_lt y (u + 2 ^ k)) [
+      | inl less ↦ omega (arith, stays y less, far.free y low less)
+      | inr more ↦ elim (cases_eq y (u + 2 ^ k)) [
+        | inl e ↦ omega (arith, ap (λ z. get_or new z 0) e ∙ here, free_small k (omega (arith, lt, range.low)))
+        | inr differs ↦ omega (arith, upper y (omega (arith, more, differs)) (omega (arith, high, twice k)))
+      ]
+    ]
+
+    all : k ≡ o + (k - o)
+    all = omega (arith, far.from)
+
+    times : suc (k - o) ≡ k + 1 - o
+    times = omega (arith, far.from)

@@ -1,4 +1,4 @@
-use Rattle.std.specs.Prelude.{◌≡◌, ℕ, zero, suc, ◌+◌, ◌-◌, ◌^◌, ◌<◌, ◌≤◌, true, ◌⊎◌, List, [], ◌∷◌, ◌++◌, Option, Some, None}
+use Rattle.std.specs.Prelude.{◌≡◌, ℕ, zero, suc, ◌+◌, ◌-◌, ◌^◌, ◌<◌, ◌≤◌, true, ◌⊎◌, List, [], ◌∷◌, ◌++◌}
 use Rattle.unit_map.specs.Pieces.{moved, Piece, IsPiece, units_in, Fills, free_at, taken_at, AreFreeHalves, AreBeside, AreMerged}
 
 -- What a call does to the pieces.
@@ -51,13 +51,6 @@ IsFull ps order = (p : Piece) → IsPiece ps p → p.free ≡ true → order ≤
 -- some is
 abbrev pub HasRoom : List Piece → ℕ → Type 0
 HasRoom ps order = (p : Piece) × (IsPiece ps p × (p.free ≡ true) × (order ≤ p.order))
-
--- the least order from `order` on of which there is a free block, or that there is none
-abbrev pub IsLeast : List Piece → ℕ → Option ℕ → Type 0
-IsLeast ps order None = IsFull ps order
-IsLeast ps order (Some from) =
-    (order ≤ from) × (from ≤ 4) × ((x : ℕ) × IsPiece ps (free_at x from))
-    × ((p : Piece) → IsPiece ps p → p.free ≡ true → order ≤ p.order → from ≤ p.order)
 
 -- the pieces of a range become one free block, and free halves are merged
 pub record Clears (old : List Piece) (unit order : ℕ) (part new : List Piece) : Type 0 where

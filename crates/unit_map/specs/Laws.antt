@@ -175,22 +175,15 @@ free_moves old new from to order r =
 
 -- the other half is none of the pieces that go
 stays : (u v order : ℕ) (front part back : List Piece) → Fills u part → units_in part ≡ 2 ^ order → AreBeside u v order → IsPiece (front ++ (part ++ back)) (free_at v order) → IsPiece (front ++ free_at u order ∷ back) (free_at v order)
-stays u v order front part back fills total beside h = at (in_either front (part ++ back) (free_at v order) h)
-  where
-    outside : (v ≡ u + 2 ^ order) ⊎ (u ≡ v + 2 ^ order) → IsPiece part (free_at v order) → ⊥
-    outside (inl e) i = omega (arith, lies u part (free_at v order) fills i, total, e, pow_pos order)
-    outside (inr e) i = omega (arith, lies u part (free_at v order) fills i, total, e, pow_pos order)
-
-    apart : (v ≡ u + 2 ^ order) ⊎ (u ≡ v + 2 ^ order)
-    apart = elim beside [ inl b ↦ inl b.1 | inr b ↦ inr b.1 ]
-
-    rest : IsPiece part (free_at v order) ⊎ IsPiece back (free_at v order) → IsPiece (front ++ free_at u order ∷ back) (free_at v order)
-    rest (inl i) = absurd (outside apart i)
-    rest (inr i) = in_upper front (free_at u order ∷ back) _ (inr i)
-
-    at : IsPiece front (free_at v order) ⊎ IsPiece (part ++ back) (free_at v order) → IsPiece (front ++ free_at u order ∷ back) (free_at v order)
-    at (inl i) = in_lower front (free_at u order ∷ back) _ i
-    at (inr i) = rest (in_either part back (free_at v order) i)
+stays u v order front part back fills total beside h = elim (in_either front (part ++ back) (free_at v order) h) [
+  | inl a ↦ in_lower front (free_at u order ∷ back) _ a
+  | inr b ↦ elim (in_either part back (free_at v order) b) [
+    | inl gone ↦
+        let apart : (v ≡ u + 2 ^ order) ⊎ (u ≡ v + 2 ^ order) = elim beside [ inl s ↦ inl s.1 | inr s ↦ inr s.1 ] in
+        absurd (omega (arith, lies u part (free_at v order) fills gone, total, pow_pos order, apart))
+    | inr c ↦ in_upper front (free_at u order ∷ back) _ (inr c)
+  ]
+]
 
 fewer_beside : (old new : List Piece) (u v order : ℕ) → order < 4 → Merges old new → AreMerged new → AreBeside u v order → IsPiece old (free_at u order) → IsPiece old (free_at v order) → free_blocks new < free_blocks old
 fewer_beside old new u v order low m merged (inl b) at other = fewer_merges old new (free_at u order) (free_at v order) m merged at other (record { lower = refl; upper = refl; order = low; same = refl; unit = b.0; beside = b.1 })

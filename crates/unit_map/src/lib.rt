@@ -5,18 +5,19 @@
 //! order (it covers 2^order units, order 0 to 4), and whether it is free. The pieces fill the frames, each is
 //! aligned to its size, and no two free ones are halves of one block. How they are kept doesn't show.
 //!
-//! - `cells`: a byte a unit, which tells the pieces
-//! - `index`: which frames have a free block of an order, with a summary above
-//! - `table`: both together
+//! - `block`: a block, and its other half
+//! - `levels`: bytes by number, and above them levels of marks
+//! - `cells`: what is done to the table, a byte a unit, which tells the pieces
 //! - `map`: a table and the number of free units
 #![tactic(auto)]
 
+mod block;
 mod cells;
-mod index;
+mod levels;
 mod map;
-mod table;
 
-pub use map::{Block, UnitMap};
+pub use block::Block;
+pub use map::UnitMap;
 
 #[cfg(test)]
 mod tests;

@@ -1,58 +1,36 @@
-ghost use Rattle.std.specs.Prelude.{◌≡◌, ◌+◌, ◌*◌, ◌^◌, ◌%◌, ◌<◌, ◌≤◌, IfOk, IfSome, IsTrue, None, false};
+ghost use Rattle.std.specs.Prelude.{◌≡◌, ◌+◌, ◌*◌, ◌^◌, ◌<◌, ◌≤◌, IfOk, IfSome, IsTrue, None, false, replicate};
 ghost use Rattle.sizes.specs.declared.TheConstants.{MOST_FRAMES};
-ghost use Rattle.unit_map.specs.Pieces.{ArePieces, IsPiece, AreBlocksApart, AreBeside, free_blocks, free_by_order, free_frames, free_units, taken_at, units_in};
+ghost use Rattle.unit_map.specs.Pieces.{ArePieces, IsPiece, AreBlocksApart, free_blocks, free_by_order, free_frames, free_units, taken_at, units_in};
 ghost use Rattle.unit_map.specs.Changes.{HasRoom, IsFull, Gives, CanMove, Relocates, KeepsTaken, KeepsOthers, KeepsOutside, MovesInside, OnlyTakes, OnlyGives, OnlyMoves};
-ghost use Rattle.unit_map.specs.Blocks.{AreTwoBlocks, IsTakenBlock, IsWithin, LosesUnits, OverlapsNone, TakesAsked};
+ghost use Rattle.unit_map.specs.Cells.{IsTable, pieces_of};
+ghost use Rattle.unit_map.specs.Blocks.{AreTwoBlocks, IsLeastBlock, IsTakenBlock, IsWithin, LosesUnits, OverlapsNone, TakesAsked};
 
-use crate::table::Table;
+use crate::levels::{End, Level};
+use crate::{Block, cells};
+use sizes::{FRAME_ORDER, FRAME_UNITS};
 use std::alloc::{AllocError, Global};
 use std::marker::Model;
-
-/// A block of memory: 2^order units of 256 bytes from `unit` on, a multiple of its size.
-#[derive(Clone, Copy, Debug, PartialEq, Eq)]
-pub struct Block {
-    pub unit: u32,
-    pub order: u8,
-}
-
-impl Block {
-    /// The other half of the block of twice the size that this one, of an order from 0 to 3, is a half of: its buddy.
-    pub fn buddy(self) -> Block
-        requires low { self.order < 4 }
-        requires aligned { self.unit % 2 ^ self.order ≡ 0 }
-        ensures order { result.order ≡ self.order }
-        ensures beside { AreBeside self.unit result.unit self.order }
-    {
-        let size = 1u32 << self.order;
-        let unit = if self.unit % (2 * size) == 0 {
-            self.unit + size
-        } else {
-            self.unit - size
-        };
-        Block {
-            unit,
-            order: self.order,
-        }
-    }
-}
 
 /// Which blocks of a memory are free, and which are taken.
 #[derive(Drop)]
 pub struct UnitMap {
-    table: Table,
+    // a byte a unit, which says what starts there
+    cells: Level,
+    // how many units are free
     free: u32,
 }
 
 impl Model for UnitMap {
     ghost use Rattle.std.specs.Prelude.{List};
     ghost use Rattle.unit_map.specs.Pieces.{Piece};
+    ghost use Rattle.unit_map.specs.Cells.{pieces_of};
     ghost use Rattle.unit_map.specs.Maps.{IsMap};
 
     ghost Value = { List Piece };
 
-    ghost view = { λ m. m.table };
+    ghost view = { λ m. pieces_of m.cells };
 
-    ghost invariant = { λ m. IsMap m.table m.free };
+    ghost invariant = { λ m. IsMap m.cells m.free };
 }
 
 impl UnitMap {
@@ -64,10 +42,11 @@ impl UnitMap {
         ensures free { IfOk result (λ map. map ≡ free_frames 0 frames) }
         ensures pieces { IfOk result (λ map. ArePieces map) }
     {
-        let table = Table::new(alloc, frames)?;
+        let mut cells = Level::new(alloc, frames)?;
+        free_all(&mut cells, frames);
         Ok(UnitMap {
-            table,
-            free: 16 * frames,
+            cells,
+            free: FRAME_UNITS * frames,
         })
     }
 
@@ -87,12 +66,15 @@ impl UnitMap {
         ensures within { IfSome result (IsWithin self.old) }
         ensures apart { IfSome result (OverlapsNone self.old) }
     {
-        match self.table.least(order) {
+        match least(&self.cells, order) {
             None => None,
-            Some(from) => {
-                let unit = self.table.take(order, from);
+            Some(block) => {
+                cells::split(&mut self.cells, block.unit, block.order, order);
                 self.free -= 1u32 << order;
-                Some(Block { unit, order })
+                Some(Block {
+                    unit: block.unit,
+                    order,
+                })
             }
         }
     }
@@ -108,7 +90,7 @@ impl UnitMap {
         ensures free { free_units self.new ≡ free_units self.old + 2 ^ block.order }
         ensures pieces { ArePieces self.new }
     {
-        self.table.give(block.unit, block.order);
+        cells::clear(&mut self.cells, block);
         self.free += 1u32 << block.order;
     }
 
@@ -121,29 +103,33 @@ impl UnitMap {
         self.free
     }
 
-    /// Whether a block of an order from 0 to 4 can be taken. Costs a step for each order.
+    /// Whether a block of an order from 0 to 4 can be taken. Costs a step for each order, and for each of five levels of
+    /// marks over the frames.
     pub fn has_room(&self, order: u8) -> bool
         requires { order ≤ 4 }
         ensures room { IsTrue result → HasRoom self.now order }
         ensures full { result ≡ false → IsFull self.now order }
         ensures pieces { ArePieces self.now }
     {
-        self.table.least(order).is_some()
+        match self.cells.least(order) {
+            None => false,
+            Some(_) => true,
+        }
     }
 
-    /// Two different free blocks of an order from 0 to 4, the lower one first. None where there are fewer than two.
+    /// The lowest and the highest free block of an order from 0 to 4. None where there are fewer than two.
     /// Costs a few steps for each of five levels of marks over the frames.
     pub fn two_free(&self, order: u8) -> Option<(Block, Block)>
         requires { order ≤ 4 }
         ensures two { AreTwoBlocks self.now order result }
         ensures pieces { ArePieces self.now }
     {
-        match self.table.two_free(order) {
+        match self.cells.nearest(order, End::Low) {
             None => None,
-            Some((lower, upper)) => Some((
-                Block { unit: lower, order },
-                Block { unit: upper, order },
-            )),
+            Some(lower) => match self.cells.nearest(order, End::High) {
+                Some(upper) if lower < upper => Some((Block { unit: lower, order }, Block { unit: upper, order })),
+                _ => None,
+            },
         }
     }
 
@@ -164,15 +150,45 @@ impl UnitMap {
         ensures within { from + 2 ^ order ≤ units_in self.old }
         ensures apart { AreBlocksApart from order to order }
     {
-        self.table.relocate(from, to, order);
+        cells::carry(&mut self.cells, from, to, order);
     }
 
-    /// Whether a block is one of those that are taken, so that it can be given.
-    /// Costs a few steps for each of five levels of marks over the frames.
+    /// Whether a block is one of those that are taken, so that it can be given. Costs a few steps.
     pub fn is_taken(&self, block: Block) -> bool
         ensures is { IsTrue result → IsPiece self.now (taken_at block.unit block.order) }
         ensures other { result ≡ false → IsPiece self.now (taken_at block.unit block.order) → ⊥ }
     {
-        self.table.is_taken(block.unit, block.order)
+        let byte = self.cells.get(block.unit);
+        if block.order > FRAME_ORDER {
+            return false;
+        }
+        byte == cells::taken(block.order)
+    }
+}
+
+// A free block of the least order from one on of which there is any.
+fn least(cells: &Level, order: u8) -> Option<Block>
+    requires low { order ≤ 4 }
+    requires table { IsTable cells.now }
+    ensures { IsLeastBlock (pieces_of cells.now) order result }
+{
+    match cells.least(order) {
+        None => None,
+        Some(from) => match cells.nearest(from, End::Low) {
+            None => unreachable!(),
+            Some(unit) => Some(Block { unit, order: from }),
+        },
+    }
+}
+
+// Frees each frame of a table that has no block yet.
+fn free_all(cells: &mut Level, frames: u32)
+    requires few { frames ≤ MOST_FRAMES }
+    requires empty { cells.old ≡ replicate (16 * frames) 0 }
+    ensures table { IsTable cells.new }
+    ensures pieces { pieces_of cells.new ≡ free_frames 0 frames }
+{
+    'freeing: for frame in 0..frames {
+        cells.set(FRAME_UNITS * frame, cells::free(FRAME_ORDER));
     }
 }

@@ -1,14 +1,14 @@
-use Rattle.std.proofs.Common.{◌+◌, get_or, ◌∙◌, arith}
+use Rattle.std.proofs.Common.{◌∙◌, arith}
 use Rattle.std.proofs.lemmas.List.{length-set}
-use Rattle.unit_map.proofs.Writes.{same_set, same_wider, inside_more, lifted_more}
+use Rattle.unit_map.proofs.Numbers.{pow_mono, size_is}
+use Rattle.unit_map.proofs.Writes.{copied_more}
 use Rattle.unit_map.proofs.cells.lift.Goals as goal
 
+pub bounds-part-i : goal.bounds-part-i
+bounds-part-i c = omega (arith, c.lifting-test.true, size_is c.args.order (omega (arith, c.requires.low)), pow_mono {i = c.args.order} {j = 3} (omega (arith, c.requires.low)))
+
 pub lifting-preserved : goal.lifting-preserved
-lifting-preserved c =
-    let at = c.args.from + c.lifting.i in
-    let same = c.lifting.invariant.0 in (
-      same_set c.args.from (c.lifting.i + 1) at 0 c.args.cells.now c.lifting.cells (omega arith) (omega arith) (same_wider c.args.from c.lifting.i (c.lifting.i + 1) c.args.cells.now c.lifting.cells (omega arith) same),
-      inside_more c.lifting.cells c.args.from c.lifting.i (omega (arith, same.units, c.requires.fits, c.lifting-test.true)) c.lifting.invariant.1,
-      length-set c.lifting.part c.lifting.i (get_or c.lifting.cells at 0) ∙ c.lifting.invariant.2,
-      lifted_more c.args.cells.now c.lifting.part c.args.from c.lifting.i (get_or c.lifting.cells at 0) (same.behind at (omega arith)) (omega (arith, c.lifting.invariant.2, c.requires.few, c.lifting-test.true)) c.lifting.invariant.3,
-    )
+lifting-preserved c = (
+  length-set c.lifting.part c.lifting.i c.get.result ∙ c.lifting.invariant.0,
+  copied_more c.args.cells.now c.lifting.part c.args.from c.lifting.i c.get.result c.get.ensures (omega (arith, bounds-part-i c, c.lifting.invariant.0)) c.lifting.invariant.1,
+)

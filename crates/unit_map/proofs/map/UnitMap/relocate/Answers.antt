@@ -1,27 +1,30 @@
-use Rattle.std.proofs.Common.{ap, subst, sym, ◌∙◌}
-use Rattle.unit_map.specs.Pieces.{ArePieces, free_units}
-use Rattle.unit_map.specs.Changes.{Relocates}
-use Rattle.unit_map.specs.Laws.{free_moves, fewer_moves}
-use Rattle.unit_map.proofs.Taken.{moves_inside, moves_only, moves_outside}
+use Rattle.std.proofs.Common.{sym, ◌∙◌, arith}
+use Rattle.unit_map.specs.Cells.{pieces_of}
+use Rattle.unit_map.specs.Laws.{fewer_moves, free_moves}
+use Rattle.unit_map.proofs.Calls.{same_units}
+use Rattle.unit_map.proofs.Tables.{table_fills, table_pieces}
 use Rattle.unit_map.proofs.map.UnitMap.relocate.Goals as goal
 
+pub carry-requires : goal.carry-requires
+carry-requires c = record { table = c.self.invariant.table; can = rw c.self.view_is c.requires }
+
 pub invariant_of-self : goal.invariant_of-self
-invariant_of-self c = record {
-  are = c.relocate.ensures.pieces;
-  kept = c.self.invariant.kept ∙ ap free_units c.self.view_is ∙ sym (free_moves _ _ _ _ _ (subst (λ ps. Relocates ps c.args.from c.args.to c.args.order c.relocate.new.self) c.self.view_is c.relocate.ensures.relocates));
-}
+invariant_of-self c = record { table = c.carry.ensures.table; kept = c.self.invariant.kept ∙ sym (free_moves _ _ _ _ _ c.carry.ensures.relocates) }
 
-pub returns-clause-free : goal.returns-clause-free
-returns-clause-free c = free_moves _ _ _ _ _ (subst (λ ps. Relocates ps c.args.from c.args.to c.args.order c.relocate.new.self) c.self.view_is c.relocate.ensures.relocates)
-
-pub returns-clause-fewer : goal.returns-clause-fewer
-returns-clause-fewer c = fewer_moves _ _ _ _ _ c.requires (subst (λ ps. Relocates ps c.args.from c.args.to c.args.order c.relocate.new.self) c.self.view_is c.relocate.ensures.relocates)
-
-pub returns-clause-inside : goal.returns-clause-inside
-returns-clause-inside c = let are = subst ArePieces c.self.view_is c.self.invariant.are in moves_inside _ _ _ _ _ are.fills (subst (λ ps. Relocates ps c.args.from c.args.to c.args.order c.relocate.new.self) c.self.view_is c.relocate.ensures.relocates)
-
-pub returns-clause-outside : goal.returns-clause-outside
-returns-clause-outside c = moves_outside _ _ _ _ _ (subst (λ ps. Relocates ps c.args.from c.args.to c.args.order c.relocate.new.self) c.self.view_is c.relocate.ensures.relocates)
-
-pub returns-clause-only : goal.returns-clause-only
-returns-clause-only c = let are = subst ArePieces c.self.view_is c.self.invariant.are in moves_only _ _ _ _ _ are.fills (subst (λ ps. Relocates ps c.args.from c.args.to c.args.order c.relocate.new.self) c.self.view_is c.relocate.ensures.relocates)
+pub returns : goal.returns
+returns c =
+    let is = c.carry.ensures in
+    let old = pieces_of c.self.inside.cells in
+    let new = pieces_of c.carry.new.cells in
+    rw (← c.self.view_is) (record {
+      relocates = is.relocates;
+      inside = is.inside;
+      outside = is.outside;
+      only = is.only;
+      pieces = table_pieces c.carry.new.cells is.table;
+      free = free_moves old new c.args.from c.args.to c.args.order is.relocates;
+      fewer = fewer_moves old new c.args.from c.args.to c.args.order (rw c.self.view_is c.requires) is.relocates;
+      units = same_units c.self.inside.cells c.carry.new.cells c.self.invariant.table is.table is.units;
+      within = omega (arith, is.within, table_fills c.self.inside.cells c.self.invariant.table);
+      apart = is.apart;
+    })

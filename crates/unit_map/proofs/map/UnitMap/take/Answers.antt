@@ -1,44 +1,43 @@
-use Rattle.std.proofs.Common.{ap, subst, Some, arith}
-use Rattle.unit_map.specs.Pieces.{ArePieces, free_units}
-use Rattle.unit_map.specs.Changes.{IsLeast, TakesFrom}
-use Rattle.unit_map.proofs.Counts.{free_takes}
+use Rattle.std.proofs.Common.{refl, arith}
+use Rattle.unit_map.specs.Pieces.{free_at}
+use Rattle.unit_map.proofs.Calls.{IsTaken, taking}
 use Rattle.unit_map.proofs.Numbers.{size_is}
-use Rattle.unit_map.proofs.Taken.{takes_keep, takes_only}
-use Rattle.unit_map.proofs.Taking.{takes_apart, takes_least, takes_taken}
+use Rattle.unit_map.proofs.Tables.{piece_block, table_pieces, there_fits}
 use Rattle.unit_map.proofs.map.UnitMap.take.Goals as goal
 
+pub split-requires : goal.split-requires
+split-requires c =
+    let block = c.in-Some.block in
+    let is = c.self.invariant.table in
+    let at = piece_block c.self.inside.cells (free_at block.unit block.order) is c.in-Some.ensures.2 in
+    record { low = c.in-Some.ensures.0; range = record { low = c.in-Some.ensures.1; fits = there_fits c.self.inside.cells block.unit block.order is at; few = is.few }; inside = at.inside }
+
+taken : (c : goal.After-split) → IsTaken c.self.inside.cells c.args.order c.in-Some.block.unit c.split.new.cells
+taken c =
+    let least = c.in-Some.ensures in
+    taking c.self.inside.cells c.split.new.cells c.args.order c.in-Some.block.order c.in-Some.block.unit c.self.invariant.table least.0 least.1 least.2 least.3 c.split.ensures
+
 pub overflow_sub-self : goal.overflow_sub-self
-overflow_sub-self c =
-    let free = free_takes c.args.self.now c.take-unit.new.self c.args.order c.in-Some.from c.take-unit.result (subst (λ ps. TakesFrom ps c.args.order c.in-Some.from c.take-unit.result c.take-unit.new.self) c.self.view_is c.take-unit.ensures.takes) c.in-Some.ensures.0 in
-    omega (arith, size_is c.args.order c.requires, free, c.self.invariant.kept, ap free_units c.self.view_is)
+overflow_sub-self c = omega (arith, size_is c.args.order c.requires, (taken c).free, c.self.invariant.kept)
 
 pub invariant_of-self : goal.invariant_of-self
-invariant_of-self c =
-    let free = free_takes c.args.self.now c.take-unit.new.self c.args.order c.in-Some.from c.take-unit.result (subst (λ ps. TakesFrom ps c.args.order c.in-Some.from c.take-unit.result c.take-unit.new.self) c.self.view_is c.take-unit.ensures.takes) c.in-Some.ensures.0 in
-    record { are = c.take-unit.ensures.pieces; kept = omega (arith, size_is c.args.order c.requires, free, c.self.invariant.kept, ap free_units c.self.view_is) }
+invariant_of-self c = let is = taken c.before in record { table = is.table; kept = omega (arith, size_is c.args.order c.requires, is.free, c.self.invariant.kept) }
 
-pub returns-in-Some-clause-taken : goal.returns-in-Some-clause-taken
-returns-in-Some-clause-taken c = takes_taken c.args.self.now c.take-unit.new.self c.args.order c.in-Some.from c.take-unit.result (subst (λ ps. TakesFrom ps c.args.order c.in-Some.from c.take-unit.result c.take-unit.new.self) c.self.view_is c.take-unit.ensures.takes)
+pub returns-in-None-clause-pieces : goal.returns-in-None-clause-pieces
+returns-in-None-clause-pieces c = rw (← c.self.view_is) (table_pieces c.self.inside.cells c.self.invariant.table)
 
-pub returns-in-Some-clause-others : goal.returns-in-Some-clause-others
-returns-in-Some-clause-others c =
-    takes_keep c.args.self.now c.take-unit.new.self c.args.order c.take-unit.result
-    (takes_least c.args.self.now c.args.order c.in-Some.from c.take-unit.result c.take-unit.new.self (subst (λ ps. IsLeast ps c.args.order (Some c.in-Some.from)) c.self.view_is c.in-Some.ensures) (subst (λ ps. TakesFrom ps c.args.order c.in-Some.from c.take-unit.result c.take-unit.new.self) c.self.view_is c.take-unit.ensures.takes))
-
-pub returns-in-Some-clause-only : goal.returns-in-Some-clause-only
-returns-in-Some-clause-only c =
-    takes_only c.args.self.now c.take-unit.new.self c.args.order c.take-unit.result
-    (takes_least c.args.self.now c.args.order c.in-Some.from c.take-unit.result c.take-unit.new.self (subst (λ ps. IsLeast ps c.args.order (Some c.in-Some.from)) c.self.view_is c.in-Some.ensures) (subst (λ ps. TakesFrom ps c.args.order c.in-Some.from c.take-unit.result c.take-unit.new.self) c.self.view_is c.take-unit.ensures.takes))
-
-pub returns-in-Some-clause-free : goal.returns-in-Some-clause-free
-returns-in-Some-clause-free c = free_takes c.args.self.now c.take-unit.new.self c.args.order c.in-Some.from c.take-unit.result (subst (λ ps. TakesFrom ps c.args.order c.in-Some.from c.take-unit.result c.take-unit.new.self) c.self.view_is c.take-unit.ensures.takes) c.in-Some.ensures.0
-
-pub returns-in-Some-clause-within : goal.returns-in-Some-clause-within
-returns-in-Some-clause-within c =
-    let are = subst ArePieces c.self.view_is c.self.invariant.are in
-    (takes_apart c.args.self.now c.take-unit.new.self c.args.order c.in-Some.from c.take-unit.result are c.in-Some.ensures.0 (subst (λ ps. TakesFrom ps c.args.order c.in-Some.from c.take-unit.result c.take-unit.new.self) c.self.view_is c.take-unit.ensures.takes)).0
-
-pub returns-in-Some-clause-apart : goal.returns-in-Some-clause-apart
-returns-in-Some-clause-apart c =
-    let are = subst ArePieces c.self.view_is c.self.invariant.are in
-    (takes_apart c.args.self.now c.take-unit.new.self c.args.order c.in-Some.from c.take-unit.result are c.in-Some.ensures.0 (subst (λ ps. TakesFrom ps c.args.order c.in-Some.from c.take-unit.result c.take-unit.new.self) c.self.view_is c.take-unit.ensures.takes)).1
+pub returns-in-Some : goal.returns-in-Some
+returns-in-Some c =
+    let is = taken c.before in
+    rw (← c.self.view_is) (record {
+      none = λ e. cc;
+      pieces = table_pieces c.split.new.cells is.table;
+      some = (refl, is.block);
+      taken = is.taken;
+      others = is.others;
+      only = is.only;
+      units = is.units;
+      free = is.free;
+      within = is.within;
+      apart = is.apart;
+    })

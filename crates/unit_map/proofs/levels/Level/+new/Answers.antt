@@ -1,0 +1,22 @@
+use Rattle.std.proofs.Common.{◌+◌, ◌*◌, ◌/◌, length, ap, ◌∙◌, arith}
+use Rattle.std.proofs.lemmas.List.{length-replicate}
+use Rattle.unit_map.proofs.Marks.{zero_marks}
+use Rattle.unit_map.proofs.levels.Level.+new.Goals as goal
+use Rattle.unit_map.proofs.levels.Level.+new.Goals.{then-groups-eq1, else-groups-eq1+in_ok-marks+in_ok-new}
+
+pub invariant_of-result : goal.invariant_of-result
+invariant_of-result t c =
+    let bytes = c.in_ok-bytes.bytes.items in
+    let n = c.args.groups in
+    let m = (c.args.groups + 15) / 16 in
+    let is = c.in_ok-bytes.ensures.items_if_clones_equal (λ y h. h) in
+    let size = ap length is ∙ length-replicate (16 * n) 0 in
+    record {
+      whole = omega (arith, size);
+      few = omega (arith, size, c.requires.few);
+      below = elim c.if-groups-eq1.branch [
+        | then-groups-eq1 w ↦ rw (w.above-is, is) (zero_marks (16 * n) 1 (omega (arith, w.if-groups-eq1.true)) (omega (arith, w.if-groups-eq1.true)))
+        | else-groups-eq1+in_ok-marks+in_ok-new w ↦
+            rw (w.above-is, w.in_ok-new.ensures.ok, w.in_ok-marks.ensures, is) (zero_marks (16 * n) (16 * m) (omega (arith, w.if-groups-eq1.false, c.requires.some)) (omega arith))
+      ];
+    }

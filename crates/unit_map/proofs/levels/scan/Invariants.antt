@@ -1,0 +1,9 @@
+use Rattle.std.proofs.Common.{◌+◌, ◌-◌}
+use Rattle.unit_map.specs.Levels.{LackBitIn}
+use Rattle.unit_map.proofs.levels.scan.Given as goal
+
+abbrev pub invariant-rising : goal.invariant-rising
+invariant-rising l = LackBitIn l.bytes l.bit l.from l.at
+
+abbrev pub invariant-falling : goal.invariant-falling
+invariant-falling l = LackBitIn l.bytes l.bit (l.from + 17 - l.i) (l.from + 16)

@@ -1,0 +1,184 @@
+//! Bytes by number, and above them which bits they have.
+ghost use Rattle.std.specs.Prelude.{◌≡◌, ◌+◌, ◌*◌, ◌^◌, ◌<◌, ◌≤◌, ℕ, false, IfOk, IsTrue, length, get_or, replicate, slice_set};
+ghost use Rattle.sizes.specs.declared.TheConstants.{MOST_FRAMES};
+ghost use Rattle.std.specs.Int.{bit_at};
+ghost use Rattle.unit_map.specs.Levels.{or_of, HasBit, IsEndBit, IsEndBitIn, IsLeastBit, LackBit};
+
+use std::alloc::{AllocError, Global};
+use std::marker::Model;
+
+/// A level of bytes. Above it stands one with a mark for each sixteen of them, which has the bits that they have, and so on
+/// up to a level of sixteen bytes, above which stands one mark.
+#[cycle(level)]
+#[derive(Drop)]
+pub struct Level {
+    bytes: Vec<u8>,
+    above: Above,
+}
+
+#[cycle(level)]
+#[derive(Drop)]
+enum Above {
+    Top(u8),
+    Marks(Box<Level>),
+}
+
+/// One of the two ends of a level.
+#[derive(Clone, Copy)]
+pub enum End {
+    Low,
+    High,
+}
+
+impl Model for Level {
+    ghost use Rattle.std.specs.Prelude.{ℕ, List, length};
+
+    ghost Value = { List ℕ };
+
+    ghost use Rattle.unit_map.specs.Kept.{IsLevel};
+
+    ghost view = { λ l. l.bytes.items };
+
+    ghost invariant = { λ l. IsLevel l.bytes.items l.above };
+
+    ghost size = { length };
+
+    ghost use Rattle.unit_map.specs.Falls.{falls};
+
+    ghost size_decreases = { λ l h. falls _ _ h.below };
+}
+
+impl Level {
+    /// A level of sixteen bytes 0 for each of 1 to 65,536 groups.
+    pub fn new(alloc: Global, groups: u32) -> Result<Level, AllocError>
+        requires some { 0 < groups }
+        requires few { groups ≤ MOST_FRAMES }
+        ensures { IfOk result (λ level. level ≡ replicate (16 * groups) 0) }
+    {
+        let bytes = vec![in alloc; 0u8; 16 * groups as usize]?;
+        let above = if groups == 1 {
+            Above::Top(0)
+        } else {
+            let marks = Level::new(alloc, (groups + 15) / 16)?;
+            Above::Marks(Box::new(alloc, marks)?)
+        };
+        Ok(Level { bytes, above })
+    }
+
+    /// The byte at a place, and 0 past the last one.
+    pub fn get(&self, at: u32) -> u8
+        ensures { result ≡ get_or self.now at 0 }
+    {
+        self.bytes.get(at as usize).copied().unwrap_or(0)
+    }
+
+    /// Writes the byte at a place, and the marks above it.
+    pub fn set(&mut self, at: u32, byte: u8)
+        requires { at < length self.old }
+        ensures { self.new ≡ slice_set self.old at byte }
+    {
+        if self.bytes[at as usize] == byte {
+            return;
+        }
+        self.bytes[at as usize] = byte;
+        let group = at / 16;
+        let bits = union(&self.bytes, group);
+        match &mut self.above {
+            Above::Top(mark) => *mark = bits,
+            Above::Marks(marks) => marks.set(group, bits),
+        }
+    }
+
+    // The bits that the bytes have.
+    fn bits(&self) -> u8
+        ensures some { (k : ℕ) → bit_at result k ≡ 1 → HasBit self.now k }
+        ensures none { (k : ℕ) → bit_at result k ≡ 0 → LackBit self.now k }
+    {
+        match &self.above {
+            Above::Top(mark) => *mark,
+            Above::Marks(marks) => marks.bits(),
+        }
+    }
+
+    /// The least bit from one to 4 that some byte has, or that none has any. Costs a step for each level and each bit.
+    pub fn least(&self, bit: u8) -> Option<u8>
+        requires { bit ≤ 4 }
+        ensures { IsLeastBit self.now bit result }
+    {
+        let bits = self.bits();
+        'asking: for least in bit..5 {
+            if has_bit(bits, least) {
+                return Some(least);
+            }
+        }
+        None
+    }
+
+    /// The byte nearest to an end that has a bit from 0 to 4, or that none has it. Costs at most sixteen steps for each level.
+    pub fn nearest(&self, bit: u8, end: End) -> Option<u32>
+        requires { bit ≤ 4 }
+        ensures { IsEndBit self.now bit end result }
+    {
+        let group = match &self.above {
+            Above::Top(mark) => {
+                if !has_bit(*mark, bit) {
+                    return None;
+                }
+                0
+            }
+            Above::Marks(marks) => match marks.nearest(bit, end) {
+                None => return None,
+                Some(group) => group,
+            },
+        };
+        scan(&self.bytes, bit, end, 16 * group)
+    }
+}
+
+// Whether a byte has a bit.
+fn has_bit(byte: u8, bit: u8) -> bool
+    requires { bit ≤ 4 }
+    ensures some { IsTrue result → bit_at byte bit ≡ 1 }
+    ensures none { result ≡ false → bit_at byte bit ≡ 0 }
+{
+    byte >> bit & 1 == 1
+}
+
+// The bits of the sixteen bytes of a group.
+fn union(bytes: &[u8], group: u32) -> u8
+    requires { 16 * group + 16 ≤ length bytes.now }
+    ensures { result ≡ or_of bytes.now (16 * group) 16 }
+{
+    let first = 16 * group as usize;
+    let mut bits = 0u8;
+    'joining: for i in 0..16 {
+        bits |= bytes[first + i];
+    }
+    bits
+}
+
+// The byte nearest to an end that has a bit, among the sixteen from one on.
+fn scan(bytes: &[u8], bit: u8, end: End, from: u32) -> Option<u32>
+    requires low { bit ≤ 4 }
+    requires fits { (from + 16 ≤ length bytes.now) × (length bytes.now ≤ 2 ^ 20) }
+    ensures { IsEndBitIn bytes.now bit end from result }
+{
+    match end {
+        End::Low => {
+            'rising: for at in from..from + 16 {
+                if has_bit(bytes[at as usize], bit) {
+                    return Some(at);
+                }
+            }
+        }
+        End::High => {
+            'falling: for i in 1..17 {
+                let at = from + 16 - i;
+                if has_bit(bytes[at as usize], bit) {
+                    return Some(at);
+                }
+            }
+        }
+    }
+    None
+}
