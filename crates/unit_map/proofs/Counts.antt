@@ -7,8 +7,8 @@ use Rattle.std.proofs.lemmas.Nat.Bits.{bit_at-pow_same}
 use Rattle.unit_map.specs.Pieces.{Piece, IsPiece, count, is_free_of, free_units, free_at, taken_at}
 use Rattle.unit_map.specs.Changes.{split, HasRoom, IsFull, TakesFrom, Gives}
 use Rattle.unit_map.specs.Cells.{code, piece_at, pieces_in, pieces_of, behind, IsTable}
-use Rattle.unit_map.specs.declared.levels.End.TheVariants.{Low, High}
-use Rattle.unit_map.specs.Levels.{HasBit, IsEndBit, LackBit, LackBitIn, LackBits}
+use Rattle.mark_levels.specs.declared.levels.End.TheVariants.{Low, High}
+use Rattle.mark_levels.specs.Levels.{HasBit, IsEndBit, LackBit, LackBitIn, LackBits}
 use Rattle.unit_map.proofs.Codes.{code_some}
 use Rattle.unit_map.proofs.Numbers.{twice}
 use Rattle.unit_map.proofs.Reading.{cell_there, from_cells, here_in, in_three, in_two, one_piece, piece_here}

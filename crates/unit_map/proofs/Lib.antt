@@ -8,7 +8,6 @@ pub mod Writes
 pub mod Splits
 pub mod Joining
 pub mod Moving
-pub mod Marks
 pub mod Counts
 pub mod Making
 pub mod Calls

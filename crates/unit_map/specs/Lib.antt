@@ -1,5 +1,5 @@
 -- In reading order: pieces and what is true of those of a map, how they are taken, split, merged and moved, and
--- what the table and the levels of marks tell of them.
+-- what the table tells of them.
 pub mod Pieces
 pub mod Changes
 pub mod Laws
@@ -7,6 +7,3 @@ pub mod Blocks
 pub mod Cells
 pub mod Moves
 pub mod Maps
-pub mod Levels
-pub mod Kept
-pub mod Falls

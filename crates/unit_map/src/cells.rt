@@ -5,7 +5,7 @@ ghost use Rattle.unit_map.specs.Cells.{code, pieces_of, CanClear, AreHalves, Are
 ghost use Rattle.unit_map.specs.Moves.{IsCarried};
 
 use crate::Block;
-use crate::levels::Level;
+use mark_levels::Level;
 use sizes::{FRAME_ORDER, FRAME_UNITS};
 
 /// No block starts at the unit.

@@ -6,14 +6,12 @@
 //! aligned to its size, and no two free ones are halves of one block. How they are kept doesn't show.
 //!
 //! - `block`: a block, and its other half
-//! - `levels`: bytes by number, and above them levels of marks
-//! - `cells`: what is done to the table, a byte a unit, which tells the pieces
+//! - `cells`: what is done to the table, a byte a unit, which tells the pieces (`mark_levels`)
 //! - `map`: a table and the number of free units
 #![tactic(auto)]
 
 mod block;
 mod cells;
-mod levels;
 mod map;
 
 pub use block::Block;

@@ -5,8 +5,8 @@ ghost use Rattle.unit_map.specs.Changes.{HasRoom, IsFull, Gives, CanMove, Reloca
 ghost use Rattle.unit_map.specs.Cells.{IsTable, pieces_of};
 ghost use Rattle.unit_map.specs.Blocks.{AreTwoBlocks, IsLeastBlock, IsTakenBlock, IsWithin, LosesUnits, OverlapsNone, TakesAsked};
 
-use crate::levels::{End, Level};
 use crate::{Block, cells};
+use mark_levels::{End, Level};
 use sizes::{FRAME_ORDER, FRAME_UNITS};
 use std::alloc::{AllocError, Global};
 use std::marker::Model;
@@ -52,7 +52,7 @@ impl UnitMap {
 
     /// Takes a block of an order from 0 to 4 out of a free block of the least order that is enough, which is
     /// split as needed. None, and nothing changes, where no free block has that order or above.
-    /// Takes no memory. Costs a few steps for each of five levels of marks over the frames.
+    /// Takes no memory. Costs a few steps for each of at most five levels of bytes and marks.
     pub fn take(&mut self, order: u8) -> Option<Block>
         requires { order ≤ 4 }
         ensures none { result ≡ None → IsFull self.old order × (self.new ≡ self.old) }
@@ -80,7 +80,7 @@ impl UnitMap {
     }
 
     /// Frees a block that is taken, and merges free halves of one block until no two are left.
-    /// Takes no memory. Costs a few steps for each of five levels of marks over the frames.
+    /// Takes no memory. Costs a few steps for each of at most five levels of bytes and marks.
     pub fn give(&mut self, block: Block)
         requires { IsPiece self.old (taken_at block.unit block.order) }
         ensures gives { Gives self.old block.unit block.order self.new }
@@ -103,8 +103,8 @@ impl UnitMap {
         self.free
     }
 
-    /// Whether a block of an order from 0 to 4 can be taken. Costs a step for each order, and for each of five levels of
-    /// marks over the frames.
+    /// Whether a block of an order from 0 to 4 can be taken. Costs a step for each order, and for each of at most
+    /// five levels of bytes and marks.
     pub fn has_room(&self, order: u8) -> bool
         requires { order ≤ 4 }
         ensures room { IsTrue result → HasRoom self.now order }
@@ -118,7 +118,7 @@ impl UnitMap {
     }
 
     /// The lowest and the highest free block of an order from 0 to 4. None where there are fewer than two.
-    /// Costs a few steps for each of five levels of marks over the frames.
+    /// Costs a few steps for each of at most five levels of bytes and marks.
     pub fn two_free(&self, order: u8) -> Option<(Block, Block)>
         requires { order ≤ 4 }
         ensures two { AreTwoBlocks self.now order result }
@@ -136,7 +136,7 @@ impl UnitMap {
     /// Lets the blocks inside the block of an order at `from` go to the free block of that order at `to`, and merges
     /// free halves until no two are left. The order is below 4. The other half of the block at `from` has to be free
     /// too, and another block than that at `to`.
-    /// Takes no memory. Costs a few steps for each unit that goes, and for each of five levels of marks over the frames.
+    /// Takes no memory. Costs a few steps for each unit that goes, and for each of at most five levels of bytes and marks.
     pub fn relocate(&mut self, from: u32, to: u32, order: u8)
         requires { CanMove self.old from to order }
         ensures relocates { Relocates self.old from to order self.new }

@@ -1,8 +1,8 @@
 use Rattle.std.specs.Prelude.{◌≡◌, ℕ, zero, suc, ◌+◌, ◌*◌, ◌<◌, ◌≤◌, List, length, get_or, Option, Some, None}
 use Rattle.std.specs.Int.{bit_at}
 use Rattle.std.specs.Int.Bits.{bit_or}
-use Rattle.unit_map.specs.declared.levels.End.{End}
-use Rattle.unit_map.specs.declared.levels.End.TheVariants.{Low, High}
+use Rattle.mark_levels.specs.declared.levels.End.{End}
+use Rattle.mark_levels.specs.declared.levels.End.TheVariants.{Low, High}
 
 -- A level of bytes, and above it the marks of its sixteens.
 

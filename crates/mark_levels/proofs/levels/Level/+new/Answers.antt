@@ -1,8 +1,9 @@
-use Rattle.std.proofs.Common.{◌+◌, ◌*◌, ◌/◌, length, ap, ◌∙◌, arith}
+use Rattle.std.proofs.Common.{◌+◌, ◌*◌, ◌/◌, length, sym, ap, subst, ◌∙◌, arith}
 use Rattle.std.proofs.lemmas.List.{length-replicate}
-use Rattle.unit_map.proofs.Marks.{zero_marks}
-use Rattle.unit_map.proofs.levels.Level.+new.Goals as goal
-use Rattle.unit_map.proofs.levels.Level.+new.Goals.{then-groups-eq1, else-groups-eq1+in_ok-marks+in_ok-new}
+use Rattle.mark_levels.specs.Kept.{AreBelow}
+use Rattle.mark_levels.proofs.Marks.{zero_marks}
+use Rattle.mark_levels.proofs.levels.Level.+new.Goals as goal
+use Rattle.mark_levels.proofs.levels.Level.+new.Goals.{then-groups-eq1, else-groups-eq1+in_ok-marks+in_ok-new}
 
 pub invariant_of-result : goal.invariant_of-result
 invariant_of-result t c =
@@ -15,7 +16,7 @@ invariant_of-result t c =
       whole = omega (arith, size);
       few = omega (arith, size, c.requires.few);
       below = elim c.if-groups-eq1.branch [
-        | then-groups-eq1 w ↦ rw (w.above-is, is) (zero_marks (16 * n) 1 (omega (arith, w.if-groups-eq1.true)) (omega (arith, w.if-groups-eq1.true)))
+        | then-groups-eq1 w ↦ subst (AreBelow bytes) (sym w.above-is) (omega (arith, size, w.if-groups-eq1.true))
         | else-groups-eq1+in_ok-marks+in_ok-new w ↦
             rw (w.above-is, w.in_ok-new.ensures.ok, w.in_ok-marks.ensures, is) (zero_marks (16 * n) (16 * m) (omega (arith, w.if-groups-eq1.false, c.requires.some)) (omega arith))
       ];

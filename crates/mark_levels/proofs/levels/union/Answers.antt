@@ -1,7 +1,7 @@
 use Rattle.std.proofs.Common.{◌+◌, ◌*◌, get_or, bit_or, ap, ◌∙◌, refl}
-use Rattle.unit_map.specs.Levels.{or_of}
-use Rattle.unit_map.proofs.Marks.{or_more}
-use Rattle.unit_map.proofs.levels.union.Goals as goal
+use Rattle.mark_levels.specs.Levels.{or_of}
+use Rattle.mark_levels.proofs.Marks.{or_more}
+use Rattle.mark_levels.proofs.levels.union.Goals as goal
 
 pub joining-init : goal.joining-init
 unfolding or_of

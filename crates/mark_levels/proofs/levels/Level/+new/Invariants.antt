@@ -1,4 +1,4 @@
-use Rattle.unit_map.proofs.levels.Level.+new.Given as goal
+use Rattle.mark_levels.proofs.levels.Level.+new.Given as goal
 
 abbrev pub decreases-new : goal.decreases-new
 decreases-new l = l.groups

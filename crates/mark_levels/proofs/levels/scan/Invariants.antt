@@ -1,6 +1,6 @@
 use Rattle.std.proofs.Common.{◌+◌, ◌-◌}
-use Rattle.unit_map.specs.Levels.{LackBitIn}
-use Rattle.unit_map.proofs.levels.scan.Given as goal
+use Rattle.mark_levels.specs.Levels.{LackBitIn}
+use Rattle.mark_levels.proofs.levels.scan.Given as goal
 
 abbrev pub invariant-rising : goal.invariant-rising
 invariant-rising l = LackBitIn l.bytes l.bit l.from l.at

@@ -1,12 +1,12 @@
-use Rattle.std.proofs.Common.{◌≡◌, ℕ, zero, suc, ◌+◌, ◌*◌, ◌/◌, ◌%◌, ◌<◌, ◌≤◌, ◌⊎◌, inl, inr, Option, Some, None, List, [], ◌∷◌, length, get_or, set, replicate, max, sym, ap, ◌∙◌, refl, arith}
+use Rattle.std.proofs.Common.{◌≡◌, ℕ, zero, suc, ◌+◌, ◌*◌, ◌/◌, ◌%◌, ◌<◌, ◌≤◌, ◌⊎◌, inl, inr, Option, Some, None, List, length, get_or, set, replicate, max, sym, ap, ◌∙◌, refl, arith}
 use Rattle.std.proofs.lemmas.Bool.{cases_lt, cases_eq}
 use Rattle.std.proofs.lemmas.List.{length-set, length-replicate, get_or-replicate, get_or-set_same, get_or-set_other, get_or_past}
 use Rattle.std.proofs.lemmas.Nat.Bits.{bit_at_or, bit_at-zero, bit_at-lt}
 use Rattle.std.specs.Int.{bit_at}
 use Rattle.std.specs.Int.Bits.{bit_or}
-use Rattle.unit_map.specs.Levels.{or_of, AreMarks, HasBit, LackBit, LackBitIn, IsEndBit, IsEndBitIn, IsNearer}
-use Rattle.unit_map.specs.declared.levels.End.{End}
-use Rattle.unit_map.specs.declared.levels.End.TheVariants.{Low, High}
+use Rattle.mark_levels.specs.Levels.{or_of, AreMarks, HasBit, LackBit, LackBitIn, IsEndBit, IsEndBitIn, IsNearer}
+use Rattle.mark_levels.specs.declared.levels.End.{End}
+use Rattle.mark_levels.specs.declared.levels.End.TheVariants.{Low, High}
 
 -- The bits of some bytes together.
 
@@ -85,18 +85,15 @@ set_marks bytes marks at byte lt are = record {
 
 -- The bits of all bytes.
 
--- one mark alone
-pub one_none : (mark k : ℕ) → bit_at mark k ≡ 0 → LackBit (mark ∷ []) k
-one_none mark k h zero = h
-one_none mark k h (suc x) = bit_at-zero k
+-- of sixteen bytes alone
+pub all_some : (bytes : List ℕ) (bits k : ℕ) → bits ≡ or_of bytes 0 16 → bit_at bits k ≡ 1 → HasBit bytes k
+all_some bytes bits k e bit = let x = or_some bytes 0 16 k (sym (ap (λ b. bit_at b k) e) ∙ bit) in (x.0, x.1.2)
 
-pub one_end : (mark k : ℕ) (end : End) → bit_at mark k ≡ 1 → IsEndBit (mark ∷ []) k end (Some 0)
-one_end mark k end h = (h, past end)
-  where
-    past : (end : End) (x : ℕ) → IsNearer end x 0 → bit_at (get_or (mark ∷ []) x 0) k ≡ 0
-    past Low x lt = absurd (omega (arith, lt))
-    past High zero lt = absurd (omega (arith, lt))
-    past High (suc x) lt = bit_at-zero k
+all_lack : (bytes : List ℕ) (k : ℕ) → length bytes ≡ 16 → LackBitIn bytes k 0 16 → LackBit bytes k
+all_lack bytes k size lack x = elim (cases_lt x 16) [ inl lt ↦ lack x (omega arith) lt | inr past ↦ ap (λ b. bit_at b k) (get_or_past bytes x 0 (omega (arith, size, past))) ∙ bit_at-zero k ]
+
+pub all_none : (bytes : List ℕ) (bits k : ℕ) → length bytes ≡ 16 → bits ≡ or_of bytes 0 16 → bit_at bits k ≡ 0 → LackBit bytes k
+all_none bytes bits k size e bit = all_lack bytes k size (or_none bytes 0 16 k (sym (ap (λ b. bit_at b k) e) ∙ bit))
 
 -- a group has a bit, or none of its bytes has it
 in_group : (bytes marks : List ℕ) (k g : ℕ) → AreMarks bytes marks → bit_at (get_or marks g 0) k ≡ 1 → (x : ℕ) × ((16 * g ≤ x) × (x < 16 * g + 16) × (bit_at (get_or bytes x 0) k ≡ 1))

@@ -1,14 +1,16 @@
-//! Bytes by number, and above them which bits they have.
+//! A level of bytes, and above it levels of marks.
 ghost use Rattle.std.specs.Prelude.{◌≡◌, ◌+◌, ◌*◌, ◌^◌, ◌<◌, ◌≤◌, ℕ, false, IfOk, IsTrue, length, get_or, replicate, slice_set};
-ghost use Rattle.sizes.specs.declared.TheConstants.{MOST_FRAMES};
 ghost use Rattle.std.specs.Int.{bit_at};
-ghost use Rattle.unit_map.specs.Levels.{or_of, HasBit, IsEndBit, IsEndBitIn, IsLeastBit, LackBit};
+ghost use Rattle.mark_levels.specs.Levels.{or_of, HasBit, IsEndBit, IsEndBitIn, IsLeastBit, LackBit};
 
 use std::alloc::{AllocError, Global};
 use std::marker::Model;
 
+/// The most groups of sixteen bytes of a level.
+pub const MOST_GROUPS: u32 = 1 << 24;
+
 /// A level of bytes. Above it stands one with a mark for each sixteen of them, which has the bits that they have, and so on
-/// up to a level of sixteen bytes, above which stands one mark.
+/// up to a level of sixteen bytes.
 #[cycle(level)]
 #[derive(Drop)]
 pub struct Level {
@@ -19,7 +21,7 @@ pub struct Level {
 #[cycle(level)]
 #[derive(Drop)]
 enum Above {
-    Top(u8),
+    Top,
     Marks(Box<Level>),
 }
 
@@ -35,7 +37,7 @@ impl Model for Level {
 
     ghost Value = { List ℕ };
 
-    ghost use Rattle.unit_map.specs.Kept.{IsLevel};
+    ghost use Rattle.mark_levels.specs.Kept.{IsLevel};
 
     ghost view = { λ l. l.bytes.items };
 
@@ -43,21 +45,21 @@ impl Model for Level {
 
     ghost size = { length };
 
-    ghost use Rattle.unit_map.specs.Falls.{falls};
+    ghost use Rattle.mark_levels.specs.Falls.{falls};
 
     ghost size_decreases = { λ l h. falls _ _ h.below };
 }
 
 impl Level {
-    /// A level of sixteen bytes 0 for each of 1 to 65,536 groups.
+    /// A level of sixteen bytes 0 for each of 1 to 16,777,216 groups, or the want of memory.
     pub fn new(alloc: Global, groups: u32) -> Result<Level, AllocError>
         requires some { 0 < groups }
-        requires few { groups ≤ MOST_FRAMES }
+        requires few { groups ≤ MOST_GROUPS }
         ensures { IfOk result (λ level. level ≡ replicate (16 * groups) 0) }
     {
         let bytes = vec![in alloc; 0u8; 16 * groups as usize]?;
         let above = if groups == 1 {
-            Above::Top(0)
+            Above::Top
         } else {
             let marks = Level::new(alloc, (groups + 15) / 16)?;
             Above::Marks(Box::new(alloc, marks)?)
@@ -81,11 +83,9 @@ impl Level {
             return;
         }
         self.bytes[at as usize] = byte;
-        let group = at / 16;
-        let bits = union(&self.bytes, group);
         match &mut self.above {
-            Above::Top(mark) => *mark = bits,
-            Above::Marks(marks) => marks.set(group, bits),
+            Above::Top => (),
+            Above::Marks(marks) => marks.set(at / 16, union(&self.bytes, at / 16)),
         }
     }
 
@@ -95,7 +95,7 @@ impl Level {
         ensures none { (k : ℕ) → bit_at result k ≡ 0 → LackBit self.now k }
     {
         match &self.above {
-            Above::Top(mark) => *mark,
+            Above::Top => union(&self.bytes, 0),
             Above::Marks(marks) => marks.bits(),
         }
     }
@@ -119,19 +119,13 @@ impl Level {
         requires { bit ≤ 4 }
         ensures { IsEndBit self.now bit end result }
     {
-        let group = match &self.above {
-            Above::Top(mark) => {
-                if !has_bit(*mark, bit) {
-                    return None;
-                }
-                0
-            }
+        match &self.above {
+            Above::Top => scan(&self.bytes, bit, end, 0),
             Above::Marks(marks) => match marks.nearest(bit, end) {
-                None => return None,
-                Some(group) => group,
+                None => None,
+                Some(group) => scan(&self.bytes, bit, end, 16 * group),
             },
-        };
-        scan(&self.bytes, bit, end, 16 * group)
+        }
     }
 }
 
@@ -160,7 +154,7 @@ fn union(bytes: &[u8], group: u32) -> u8
 // The byte nearest to an end that has a bit, among the sixteen from one on.
 fn scan(bytes: &[u8], bit: u8, end: End, from: u32) -> Option<u32>
     requires low { bit ≤ 4 }
-    requires fits { (from + 16 ≤ length bytes.now) × (length bytes.now ≤ 2 ^ 20) }
+    requires fits { (from + 16 ≤ length bytes.now) × (length bytes.now ≤ 2 ^ 28) }
     ensures { IsEndBitIn bytes.now bit end from result }
 {
     match end {

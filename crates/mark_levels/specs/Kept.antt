@@ -1,0 +1,15 @@
+use Rattle.std.specs.Prelude.{◌≡◌, ℕ, ◌%◌, ◌^◌, ◌≤◌, List, length}
+use Rattle.mark_levels.specs.declared.levels.Above.{Above}
+use Rattle.mark_levels.specs.declared.levels.Above.TheVariants.{Top, Marks}
+use Rattle.mark_levels.specs.Levels.{AreMarks}
+
+-- What a level keeps.
+
+abbrev pub AreBelow : List ℕ → Above → Type 0
+AreBelow bytes Top = length bytes ≡ 16
+AreBelow bytes (Marks marks) = AreMarks bytes marks.value
+
+pub record IsLevel (bytes : List ℕ) (above : Above) : Type 0 where
+  pub whole : length bytes % 16 ≡ 0
+  pub few : length bytes ≤ 2 ^ 28
+  pub below : AreBelow bytes above
