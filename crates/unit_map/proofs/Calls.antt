@@ -1,15 +1,17 @@
 use Rattle.std.proofs.Common.{◌≡◌, ℕ, ◌+◌, ◌*◌, ◌/◌, ◌^◌, ◌≤◌, true, false, inl, inr, List, ◌++◌, length, get_or, sym, ap, ◌∙◌, refl, arith}
 use Rattle.std.proofs.lemmas.Bool.{cases_eq}
 use Rattle.std.proofs.lemmas.Nat.{pow_pos}
+use Rattle.std.specs.Int.{bit_at}
+use Rattle.mark_levels.specs.Levels.{LackBits}
 use Rattle.unit_map.specs.Pieces.{Piece, IsPiece, IsApartFromTaken, free_at, free_units, taken_at, units_in}
 use Rattle.unit_map.specs.Changes.{Gives, KeepsOthers, KeepsTaken, OnlyGives, OnlyTakes, TakesBlock}
 use Rattle.unit_map.specs.Cells.{code, pieces_in, pieces_of, behind, IsCleared, IsHeld, IsSplit, IsTable}
 use Rattle.unit_map.specs.Laws.{equal_or_apart}
 use Rattle.unit_map.proofs.Codes.{code_same}
-use Rattle.unit_map.proofs.Counts.{free_gives, free_takes}
+use Rattle.unit_map.proofs.Counts.{free_gives, free_takes, least_some}
 use Rattle.unit_map.proofs.Numbers.{pow_mono}
 use Rattle.unit_map.proofs.Reading.{in_three, in_three_new, one_piece, piece_here}
-use Rattle.unit_map.proofs.Tables.{IsThere, frame_start, frame_tiled, none_taken, piece_block, piece_there, table_fills, table_next, table_pieces, there_fits}
+use Rattle.unit_map.proofs.Tables.{IsThere, bit_there, block_there, frame_start, frame_tiled, none_taken, piece_block, piece_there, table_fills, table_next, table_pieces, there_fits}
 use Rattle.unit_map.proofs.Tiles.{replaced}
 use Rattle.unit_map.proofs.Writes.{same_side, same_wider}
 
@@ -30,9 +32,9 @@ pub record IsTaken (cells : List ℕ) (order unit : ℕ) (new : List ℕ) : Type
   pub within : unit + 2 ^ order ≤ units_in (pieces_of cells)
   pub apart : IsApartFromTaken (pieces_of cells) unit order
 
-pub taking : (cells new : List ℕ) (order from unit : ℕ) → IsTable cells → order ≤ from → from ≤ 4 → IsPiece (pieces_of cells) (free_at unit from)
-    → ((p : Piece) → IsPiece (pieces_of cells) p → p.free ≡ true → order ≤ p.order → from ≤ p.order) → IsSplit cells new unit from order from → IsTaken cells order unit new
-taking cells new order from unit is le low there least split = record {
+pub taking : (cells new : List ℕ) (order from unit : ℕ) → IsTable cells → order ≤ from → from ≤ 4 → bit_at (get_or cells unit 0) from ≡ 1 → LackBits cells order from → IsSplit cells new unit from order from
+    → IsTaken cells order unit new
+taking cells new order from unit is le low bit lack split = record {
   table = table;
   block = block;
   taken = piece_here new unit order false small split.taken;
@@ -51,7 +53,7 @@ taking cells new order from unit is le low there least split = record {
   units = same_units cells new is table split.same.units;
   free = free_takes (pieces_of cells) (pieces_of new) order from unit block.takes le;
   within = omega (arith, there_fits cells unit from is at, less, (table_fills cells is).1);
-  apart = λ v k h. elim (equal_or_apart (pieces_of cells) (table_pieces cells is) (free_at unit from) (taken_at v k) there h) [
+  apart = λ v k h. elim (equal_or_apart (pieces_of cells) (table_pieces cells is) (free_at unit from) (taken_at v k) (piece_here cells unit from true low free) h) [
     | inl e ↦ let b : true ≡ false = ap (λ (p : Piece). p.free) e in absurd (cc)
     | inr apart ↦ elim apart [ inl end ↦ inl (omega (arith, end, less)) | inr end ↦ inr end ]
   ];
@@ -64,10 +66,10 @@ taking cells new order from unit is le low there least split = record {
     less = pow_mono le
 
     free : get_or cells unit 0 ≡ code true from
-    free = (piece_there cells (free_at unit from) is there).1
+    free = bit_there cells unit from is low bit
 
     at : IsThere cells unit from
-    at = piece_block cells (free_at unit from) is there
+    at = block_there cells unit from true is low free
 
     table : IsTable new
     table =
@@ -85,7 +87,7 @@ taking cells new order from unit is le low there least split = record {
         now = in_three_new cells new unit (2 ^ from) (there_fits cells unit from is at) split.same ∙ ap (λ ps. pieces_in cells 0 unit ++ (ps ++ behind cells unit (2 ^ from))) split.pieces;
       };
       enough = le;
-      least = least;
+      least = least_some cells order from is lack;
     }
 
 pub taken_held : (cells : List ℕ) (order unit : ℕ) → IsTable cells → IsPiece (pieces_of cells) (taken_at unit order) → IsHeld cells unit order

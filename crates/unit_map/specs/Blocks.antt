@@ -1,6 +1,6 @@
-use Rattle.std.specs.Prelude.{◌≡◌, ℕ, ◌+◌, ◌^◌, ◌<◌, ◌≤◌, true, List, Option, Some, None}
+use Rattle.std.specs.Prelude.{◌≡◌, ℕ, ◌+◌, ◌^◌, ◌<◌, ◌≤◌, List, Option, Some, None}
 use Rattle.unit_map.specs.Pieces.{Piece, IsPiece, IsApartFromTaken, count, free_at, free_units, taken_at, units_in}
-use Rattle.unit_map.specs.Changes.{IsFull, TakesBlock}
+use Rattle.unit_map.specs.Changes.{TakesBlock}
 use Rattle.unit_map.specs.declared.block.Block.{Block}
 
 -- two different free blocks of an order, or that there are fewer than two
@@ -9,13 +9,6 @@ AreTwoBlocks ps order None = count order ps < 2
 AreTwoBlocks ps order (Some both) =
     (2 ≤ count order ps) × (both.0.unit < both.1.unit) × (both.0.order ≡ order) × (both.1.order ≡ order)
     × IsPiece ps (free_at both.0.unit order) × IsPiece ps (free_at both.1.unit order)
-
--- a free block of the least order from one on of which there is any, or that there is none
-abbrev pub IsLeastBlock : List Piece → ℕ → Option Block → Type 0
-IsLeastBlock ps order None = IsFull ps order
-IsLeastBlock ps order (Some block) =
-    (order ≤ block.order) × (block.order ≤ 4) × IsPiece ps (free_at block.unit block.order)
-    × ((p : Piece) → IsPiece ps p → p.free ≡ true → order ≤ p.order → block.order ≤ p.order)
 
 -- What holds of the block that was taken.
 

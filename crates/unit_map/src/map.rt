@@ -3,7 +3,7 @@ ghost use Rattle.sizes.specs.declared.TheConstants.{MOST_FRAMES};
 ghost use Rattle.unit_map.specs.Pieces.{ArePieces, IsPiece, AreBlocksApart, free_blocks, free_by_order, free_frames, free_units, taken_at, units_in};
 ghost use Rattle.unit_map.specs.Changes.{HasRoom, IsFull, Gives, CanMove, Relocates, KeepsTaken, KeepsOthers, KeepsOutside, MovesInside, OnlyTakes, OnlyGives, OnlyMoves};
 ghost use Rattle.unit_map.specs.Cells.{IsTable, pieces_of};
-ghost use Rattle.unit_map.specs.Blocks.{AreTwoBlocks, IsLeastBlock, IsTakenBlock, IsWithin, LosesUnits, OverlapsNone, TakesAsked};
+ghost use Rattle.unit_map.specs.Blocks.{AreTwoBlocks, IsTakenBlock, IsWithin, LosesUnits, OverlapsNone, TakesAsked};
 
 use crate::{Block, cells};
 use mark_levels::{End, Level};
@@ -66,17 +66,11 @@ impl UnitMap {
         ensures within { IfSome result (IsWithin self.old) }
         ensures apart { IfSome result (OverlapsNone self.old) }
     {
-        match least(&self.cells, order) {
-            None => None,
-            Some(block) => {
-                cells::split(&mut self.cells, block.unit, block.order, order);
-                self.free -= 1u32 << order;
-                Some(Block {
-                    unit: block.unit,
-                    order,
-                })
-            }
-        }
+        let from = self.cells.least(order)?;
+        let unit = self.cells.nearest(from, End::Low)?;
+        cells::split(&mut self.cells, unit, from, order);
+        self.free -= 1u32 << order;
+        Some(Block { unit, order })
     }
 
     /// Frees a block that is taken, and merges free halves of one block until no two are left.
@@ -124,12 +118,12 @@ impl UnitMap {
         ensures two { AreTwoBlocks self.now order result }
         ensures pieces { ArePieces self.now }
     {
-        match self.cells.nearest(order, End::Low) {
-            None => None,
-            Some(lower) => match self.cells.nearest(order, End::High) {
-                Some(upper) if lower < upper => Some((Block { unit: lower, order }, Block { unit: upper, order })),
-                _ => None,
-            },
+        let lower = self.cells.nearest(order, End::Low)?;
+        let upper = self.cells.nearest(order, End::High)?;
+        if lower < upper {
+            Some((Block { unit: lower, order }, Block { unit: upper, order }))
+        } else {
+            None
         }
     }
 
@@ -163,21 +157,6 @@ impl UnitMap {
             return false;
         }
         byte == cells::taken(block.order)
-    }
-}
-
-// A free block of the least order from one on of which there is any.
-fn least(cells: &Level, order: u8) -> Option<Block>
-    requires low { order ≤ 4 }
-    requires table { IsTable cells.now }
-    ensures { IsLeastBlock (pieces_of cells.now) order result }
-{
-    match cells.least(order) {
-        None => None,
-        Some(from) => match cells.nearest(from, End::Low) {
-            None => unreachable!(),
-            Some(unit) => Some(Block { unit, order: from }),
-        },
     }
 }
 
