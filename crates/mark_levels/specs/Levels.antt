@@ -50,7 +50,7 @@ IsEndBitIn bytes k end from (Some at) =
 abbrev pub LackBits : List ℕ → ℕ → ℕ → Type 0
 LackBits bytes from to = (k : ℕ) → from ≤ k → k < to → LackBit bytes k
 
--- the least bit from one to 4 that some byte has, or that none has any
-abbrev pub IsLeastBit : List ℕ → ℕ → Option ℕ → Type 0
-IsLeastBit bytes bit None = LackBits bytes bit 5
-IsLeastBit bytes bit (Some least) = (bit ≤ least) × (least ≤ 4) × HasBit bytes least × LackBits bytes bit least
+-- the least bit from one to below another one that some byte has, or that none has any
+abbrev pub IsLeastBit : List ℕ → ℕ → ℕ → Option ℕ → Type 0
+IsLeastBit bytes from below None = LackBits bytes from below
+IsLeastBit bytes from below (Some bit) = (from ≤ bit) × (bit < below) × HasBit bytes bit × LackBits bytes from bit

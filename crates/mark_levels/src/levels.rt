@@ -26,7 +26,7 @@ enum Above {
 }
 
 /// One of the two ends of a level.
-#[derive(Clone, Copy)]
+#[derive(Clone, Copy, Debug, PartialEq, Eq)]
 pub enum End {
     Low,
     High,
@@ -100,23 +100,24 @@ impl Level {
         }
     }
 
-    /// The least bit from one to 4 that some byte has, or that none has any. Costs a step for each level and each bit.
-    pub fn least(&self, bit: u8) -> Option<u8>
-        requires { bit ≤ 4 }
-        ensures { IsLeastBit self.now bit result }
+    /// The least bit from one to below another one, which is at most 8, that some byte has, or that none has any.
+    /// Costs a step for each level and each bit.
+    pub fn least(&self, from: u8, below: u8) -> Option<u8>
+        requires { below ≤ 8 }
+        ensures { IsLeastBit self.now from below result }
     {
         let bits = self.bits();
-        'asking: for least in bit..5 {
-            if has_bit(bits, least) {
-                return Some(least);
+        'asking: for bit in from..below {
+            if has_bit(bits, bit) {
+                return Some(bit);
             }
         }
         None
     }
 
-    /// The byte nearest to an end that has a bit from 0 to 4, or that none has it. Costs at most sixteen steps for each level.
+    /// The byte nearest to an end that has a bit from 0 to 7, or that none has it. Costs at most sixteen steps for each level.
     pub fn nearest(&self, bit: u8, end: End) -> Option<u32>
-        requires { bit ≤ 4 }
+        requires { bit < 8 }
         ensures { IsEndBit self.now bit end result }
     {
         match &self.above {
@@ -131,7 +132,7 @@ impl Level {
 
 // Whether a byte has a bit.
 fn has_bit(byte: u8, bit: u8) -> bool
-    requires { bit ≤ 4 }
+    requires { bit < 8 }
     ensures some { IsTrue result → bit_at byte bit ≡ 1 }
     ensures none { result ≡ false → bit_at byte bit ≡ 0 }
 {
@@ -153,7 +154,7 @@ fn union(bytes: &[u8], group: u32) -> u8
 
 // The byte nearest to an end that has a bit, among the sixteen from one on.
 fn scan(bytes: &[u8], bit: u8, end: End, from: u32) -> Option<u32>
-    requires low { bit ≤ 4 }
+    requires low { bit < 8 }
     requires fits { (from + 16 ≤ length bytes.now) × (length bytes.now ≤ 2 ^ 28) }
     ensures { IsEndBitIn bytes.now bit end from result }
 {

@@ -66,7 +66,7 @@ impl UnitMap {
         ensures within { IfSome result (IsWithin self.old) }
         ensures apart { IfSome result (OverlapsNone self.old) }
     {
-        let from = self.cells.least(order)?;
+        let from = self.cells.least(order, FRAME_ORDER + 1)?;
         let unit = self.cells.nearest(from, End::Low)?;
         cells::split(&mut self.cells, unit, from, order);
         self.free -= 1u32 << order;
@@ -105,7 +105,7 @@ impl UnitMap {
         ensures full { result ≡ false → IsFull self.now order }
         ensures pieces { ArePieces self.now }
     {
-        match self.cells.least(order) {
+        match self.cells.least(order, FRAME_ORDER + 1) {
             None => false,
             Some(_) => true,
         }

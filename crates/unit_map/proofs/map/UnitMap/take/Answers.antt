@@ -1,4 +1,4 @@
-use Rattle.std.proofs.Common.{true, refl, arith}
+use Rattle.std.proofs.Common.{◌≤◌, true, refl, arith}
 use Rattle.unit_map.proofs.Calls.{IsTaken, taking}
 use Rattle.unit_map.proofs.Counts.{least_none}
 use Rattle.unit_map.proofs.Numbers.{size_is}
@@ -10,14 +10,14 @@ split-requires c =
     let from = c.in_ok-from.from in
     let unit = c.in_ok-unit.unit in
     let is = c.self.invariant.table in
-    let least = c.in_ok-from.ensures in
-    let at = block_there c.self.inside.cells unit from true is least.1 (bit_there c.self.inside.cells unit from is least.1 c.in_ok-unit.ensures.0) in
-    record { low = least.0; range = record { low = least.1; fits = there_fits c.self.inside.cells unit from is at; few = is.few }; inside = at.inside }
+    let low : from ≤ 4 = omega (arith, c.in_ok-from.ensures.1) in
+    let at = block_there c.self.inside.cells unit from true is low (bit_there c.self.inside.cells unit from is low c.in_ok-unit.ensures.0) in
+    record { low = c.in_ok-from.ensures.0; range = record { low = low; fits = there_fits c.self.inside.cells unit from is at; few = is.few }; inside = at.inside }
 
 taken : (c : goal.After-split) → IsTaken c.self.inside.cells c.args.order c.in_ok-unit.unit c.split.new.cells
 taken c =
     let least = c.in_ok-from.ensures in
-    taking c.self.inside.cells c.split.new.cells c.args.order c.in_ok-from.from c.in_ok-unit.unit c.self.invariant.table least.0 least.1 c.in_ok-unit.ensures.0 least.3 c.split.ensures
+    taking c.self.inside.cells c.split.new.cells c.args.order c.in_ok-from.from c.in_ok-unit.unit c.self.invariant.table least.0 (omega (arith, least.1)) c.in_ok-unit.ensures.0 least.3 c.split.ensures
 
 pub overflow_sub-self : goal.overflow_sub-self
 overflow_sub-self c = omega (arith, size_is c.args.order c.requires, (taken c).free, c.self.invariant.kept)
