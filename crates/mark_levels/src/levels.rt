@@ -15,6 +15,8 @@ pub const MOST_GROUPS: u32 = 1 << 24;
 #[derive(Drop)]
 pub struct Level {
     bytes: Vec<u8>,
+    // what the bytes have
+    bits: u8,
     above: Above,
 }
 
@@ -41,7 +43,7 @@ impl Model for Level {
 
     ghost view = { λ l. l.bytes.items };
 
-    ghost invariant = { λ l. IsLevel l.bytes.items l.above };
+    ghost invariant = { λ l. IsLevel l.bytes.items l.bits l.above };
 
     ghost size = { length };
 
@@ -64,7 +66,11 @@ impl Level {
             let marks = Level::new(alloc, (groups + 15) / 16)?;
             Above::Marks(Box::new(alloc, marks)?)
         };
-        Ok(Level { bytes, above })
+        Ok(Level {
+            bytes,
+            bits: 0,
+            above,
+        })
     }
 
     /// The byte at a place, and 0 past the last one.
@@ -83,10 +89,13 @@ impl Level {
             return;
         }
         self.bytes[at as usize] = byte;
-        match &mut self.above {
-            Above::Top => (),
-            Above::Marks(marks) => marks.set(at / 16, union(&self.bytes, at / 16)),
-        }
+        self.bits = match &mut self.above {
+            Above::Top => union(&self.bytes, 0),
+            Above::Marks(marks) => {
+                marks.set(at / 16, union(&self.bytes, at / 16));
+                marks.bits()
+            }
+        };
     }
 
     // The bits that the bytes have.
@@ -94,14 +103,11 @@ impl Level {
         ensures some { (k : ℕ) → bit_at result k ≡ 1 → HasBit self.now k }
         ensures none { (k : ℕ) → bit_at result k ≡ 0 → LackBit self.now k }
     {
-        match &self.above {
-            Above::Top => union(&self.bytes, 0),
-            Above::Marks(marks) => marks.bits(),
-        }
+        self.bits
     }
 
     /// The least bit from one to below another one, which is at most 8, that some byte has, or that none has any.
-    /// Costs a step for each level and each bit.
+    /// Costs a step for each bit.
     pub fn least(&self, from: u8, below: u8) -> Option<u8>
         requires { below ≤ 8 }
         ensures { IsLeastBit self.now from below result }

@@ -97,8 +97,7 @@ impl UnitMap {
         self.free
     }
 
-    /// Whether a block of an order from 0 to 4 can be taken. Costs a step for each order, and for each of at most
-    /// five levels of bytes and marks.
+    /// Whether a block of an order from 0 to 4 can be taken. Costs a step for each order.
     pub fn has_room(&self, order: u8) -> bool
         requires { order ≤ 4 }
         ensures room { IsTrue result → HasRoom self.now order }

@@ -1,7 +1,9 @@
-use Rattle.std.proofs.Common.{◌+◌, ◌*◌, ◌/◌, length, sym, ap, subst, ◌∙◌, arith}
+use Rattle.std.proofs.Common.{◌+◌, ◌*◌, ◌/◌, length, get_or, sym, ap, subst, ◌∙◌, arith}
+use Rattle.std.proofs.lemmas.Nat.Bits.{bit_at-zero}
+use Rattle.std.specs.Int.{bit_at}
 use Rattle.std.proofs.lemmas.List.{length-replicate}
 use Rattle.mark_levels.specs.Kept.{AreBelow}
-use Rattle.mark_levels.proofs.Marks.{zero_marks}
+use Rattle.mark_levels.proofs.Marks.{zero_at, zero_marks}
 use Rattle.mark_levels.proofs.levels.Level.+new.Goals as goal
 use Rattle.mark_levels.proofs.levels.Level.+new.Goals.{then-groups-eq1, else-groups-eq1+in_ok-marks+in_ok-new}
 
@@ -15,6 +17,8 @@ invariant_of-result t c =
     record {
       whole = omega (arith, size);
       few = omega (arith, size, c.requires.few);
+      some = λ k bit. absurd (omega (arith, bit, bit_at-zero k));
+      none = λ k bit x. ap (λ b. bit_at b k) (ap (λ bs. get_or bs x 0) is ∙ zero_at (16 * n) x) ∙ bit_at-zero k;
       below = elim c.if-groups-eq1.branch [
         | then-groups-eq1 w ↦ subst (AreBelow bytes) (sym w.above-is) (omega (arith, size, w.if-groups-eq1.true))
         | else-groups-eq1+in_ok-marks+in_ok-new w ↦
