@@ -16,7 +16,9 @@ use Rattle.machine_core.specs.declared.process.Process as declared
 use Rattle.machine_core.specs.Machine.{IsDropped, Machine, Processes, has_space, processes_of, spaces_of, whole_in, wholes, with_memory, with_process_at}
 use Rattle.machine_core.specs.Laws.{processes_at, processes_with, whole_by}
 use Rattle.machine_core.specs.Load.{IsAsBefore}
-use Rattle.command_core.specs.Forks.{Adopts, ForksProcess, IsForked, forked_ledger, is_fork_full}
+use Rattle.command_core.specs.Rows.{ledger_by}
+use Rattle.command_core.specs.Forks.{Adopts, ForksProcess, IsForked}
+use Rattle.command_core.proofs.Limits.{fits, is_short}
 use Rattle.command_core.proofs.Places.{none_is}
 
 -- A machine with a copy of a space, and with a process in it.
@@ -89,7 +91,7 @@ module _ (p q : ℕ) (old : Machine) (memory : MemoryView) (forked : HasForked (
         ∙ ap (insert (processes_of old) q) whole_is
 
     is_forked : IsForked p q process old (with_process_at mid q process)
-    unfolding forked_ledger
+    unfolding ledger_by
     is_forked = record {
       after = λ i. record { processes = all_are i; ledger = forked.ledger i; frames = forked.frames i };
       there = space_made;
@@ -101,38 +103,20 @@ module _ (p q : ℕ) (old : Machine) (memory : MemoryView) (forked : HasForked (
       };
     }
 
-pub not_over : (limit needed : ℕ) → needed ≤ limit → nat_lt limit needed ≡ false
-not_over limit needed h = by_test (nat_lt limit needed) refl
-  where
-    by_test : (b : Bool) → nat_lt limit needed ≡ b → b ≡ false
-    by_test true e = absurd (grind (arith, nat_tests))
-    by_test false e = refl
-
-pub is_over : (limit needed : ℕ) → limit < needed → nat_lt limit needed ≡ true
-is_over limit needed h = grind (arith, nat_tests)
-
--- within the limit
-fits : (p q : ℕ) (old : Machine) → FitsAfter (Copy p q) (spaces_of old) → is_fork_full p q (wholes old) ≡ false
-unfolding forked_ledger
-fits p q old within = not_over (limit_of (spaces_of old)) (units_after (Copy p q) (spaces_of old)) within
-
 -- how a fork comes out, where the space was made
 pub forks_made : (p q : ℕ) (process : declared.Process) (old new : Machine) (memory : MemoryView) (r : Result (Unit {0}) SpaceError)
     → Forks old.memory memory p q (Ok tt) → (space_in (spaces_of old) p).speculating ≡ false → has_space old q ≡ false → get old.processes q ≡ None
     → Adopts q process (with_memory old memory) new r → ForksProcess p q process old new r
 forks_made p q process old new memory (Ok done) (within, forked) unmarked no_space no_process same =
-    (fits p q old within, subst (IsForked p q process old) (sym same) (is_forked p q old memory forked process unmarked no_process))
+    (fits (Copy p q) old within, subst (IsForked p q process old) (sym same) (is_forked p q old memory forked process unmarked no_process))
 forks_made p q process old new memory (Err (error.Full needed limit)) (within, forked) unmarked no_space no_process h = absurd h
-forks_made p q process old new memory (Err error.Memory) (within, forked) unmarked no_space no_process dropped = taken_back p q old memory forked new no_space dropped
+forks_made p q process old new memory (Err error.Memory) (within, forked) unmarked no_space no_process dropped =
+    (fits (Copy p q) old within, taken_back p q old memory forked new no_space dropped)
 
 -- and where it wasn't
 pub forks_not : (p q : ℕ) (process : declared.Process) (old : Machine) (memory : MemoryView) (e : SpaceError) → Forks old.memory memory p q (Err e)
     → ForksProcess p q process old (with_memory old memory) (Err e)
-unfolding forked_ledger
-forks_not p q process old memory (error.Full needed limit) full = (
-  full.needed_is,
-  full.limit_is,
-  subst (λ n. nat_lt (limit_of (spaces_of old)) n ≡ true) full.needed_is (subst (λ n. nat_lt n needed ≡ true) full.limit_is (is_over limit needed full.over)),
-  ap (with_memory old) full.kept,
-)
-forks_not p q process old memory error.Memory (within, same) = (same, refl)
+forks_not p q process old memory (error.Full needed limit) full =
+    let f = is_short (Copy p q) old memory needed limit full in
+    (f.needed_is, f.limit_is, f.full, f.same)
+forks_not p q process old memory error.Memory (within, same) = (fits (Copy p q) old within, (same, refl))

@@ -1,72 +1,77 @@
-use Rattle.std.proofs.Common.{◌≡◌, ℕ, ◌+◌, ◌==◌, Bool, true, false, cond, List, sym, ap, subst, ◌∙◌, refl, Option, Some, None}
+use Rattle.std.proofs.Common.{◌≡◌, ℕ, ◌+◌, ◌==◌, nat_lt, Bool, true, false, List, [], ◌∷◌, sym, ap, subst, ◌∙◌, refl, Option, Some, None}
 use Rattle.std.specs.Prelude.{Ok, Err}
-use Rattle.std.specs.Option.{option_map_or}
-use Rattle.std.specs.FinMap.{get}
+use Rattle.std.specs.Option.{option_map}
+use Rattle.std.specs.FinMap.{get, insert}
 use Rattle.number_maps.specs.Keys.{get_same}
 use Rattle.sizes.specs.declared.TheConstants.{LAST_SPACE}
 use Rattle.elf_loader.specs.Accepted.{file_refusal}
 use Rattle.elf_loader.specs.Fields.{entry_of}
 use Rattle.elf_loader.specs.declared.image.ElfError.{ElfError}
+use Rattle.ledger.specs.Events as event
 use Rattle.overlay_memory.specs.declared.error.SpaceError.{SpaceError}
 use Rattle.overlay_memory.specs.declared.error.SpaceError.TheVariants as error
-use Rattle.machine_core.specs.Machine.{Machine, Processes, Wholes, wholes}
-use Rattle.machine_core.specs.Load.{Loads, is_load_full, load_needs, loaded_process, page_count}
+use Rattle.machine_core.specs.Machine.{AreLike, Machine, Processes, Wholes, limit_of, wholes}
+use Rattle.machine_core.specs.Load.{Loads, is_load_full, load_needs, load_pages, loaded_ledger, loaded_process, page_count, with_loaded}
 use Rattle.machine_core.specs.LoadLaws.{same_wholes}
-use Rattle.report_text.specs.declared.answer.Answer.TheVariants.{Full, Loaded, Refused}
+use Rattle.report_text.specs.declared.answer.Answer.TheVariants.{Loaded, Refused}
 use Rattle.report_text.specs.declared.answer.Code.TheVariants.{Elf, NumbersUsed}
-use Rattle.command_core.specs.State.{AreLikeStates, IsSession, State}
-use Rattle.command_core.specs.Changes.{Changed, ComesTo, GivesChange, answer_of, load_done, loads, loads_full, loads_within}
+use Rattle.command_core.specs.State.{AreLikeStates, State, registry_of}
+use Rattle.command_core.specs.Sessions.{IsSession, state_of}
+use Rattle.command_core.specs.Rows.{Row, change_by, event_needs, first_refusal, is_event_full, ledger_by, refused_if}
+use Rattle.command_core.specs.Giving.{ComesTo, GivesChange}
+use Rattle.command_core.specs.Refusals.{by_numbers_used}
+use Rattle.command_core.specs.Changes.{answer_of, load_row}
 use Rattle.command_core.specs.Commands.{RunsLoaded}
 use Rattle.command_core.specs.LikeLaws.{states_itself}
+use Rattle.command_core.proofs.Rows.{row_accepted, row_full, row_refused}
 use Rattle.command_core.proofs.Places.{session_same}
 
 -- What a load comes to.
 
--- of a session's machine and how many numbers were drawn
-abbrev pub state_of : Machine → ℕ → State
-state_of machine drawn = record { wholes = wholes machine; drawn = drawn }
+-- its units, as the machine counts them
+load_needed : (p : ℕ) (file : List ℕ) (w : Wholes) → load_needs p file w ≡ event_needs (event.Load p (load_pages file)) w
+unfolding ledger_by loaded_ledger
+load_needed p file w = refl
 
--- one that is refused
-pub comes_same : (wanted : Changed) (s : State) → wanted.after ≡ s → ComesTo wanted wanted.answer s
-comes_same wanted s same = record { answer_is = refl; after_is = subst (AreLikeStates s) (sym same) (states_itself s) }
+load_full : (p : ℕ) (file : List ℕ) (w : Wholes) → is_load_full p file w ≡ is_event_full (event.Load p (load_pages file)) w
+load_full p file w = ap (nat_lt (limit_of w.frames)) (load_needed p file w)
 
-refused_is : (file : List ℕ) (s : State) (error : ElfError) → file_refusal file ≡ Some error → load_done file s ≡ record { answer = Refused (Elf error); after = s }
-refused_is file s error is =
-    ap (λ (o : Option ElfError). option_map_or (λ error. record { answer = Refused (Elf error); after = s }) o
-    (cond (s.drawn == LAST_SPACE) (record { answer = Refused NumbersUsed; after = s }) (loads_within (s.drawn + 1) file s))) is
+like_accepted : (p : ℕ) (file : List ℕ) (a w : Wholes) → AreLike a (with_loaded p file w)
+    → AreLike a (record { processes = insert w.processes p (loaded_process file); ledger = ledger_by (event.Load p (load_pages file)) w.ledger; frames = w.frames })
+unfolding ledger_by loaded_ledger
+like_accepted p file a w like = like
 
-taken_is : (file : List ℕ) (s : State) → file_refusal file ≡ None
-    → load_done file s ≡ cond (s.drawn == LAST_SPACE) (record { answer = Refused NumbersUsed; after = s }) (loads_within (s.drawn + 1) file s)
-taken_is file s taken =
-    ap (λ (o : Option ElfError). option_map_or (λ error. record { answer = Refused (Elf error); after = s }) o
-    (cond (s.drawn == LAST_SPACE) (record { answer = Refused NumbersUsed; after = s }) (loads_within (s.drawn + 1) file s))) taken
+module _ (file : List ℕ) (s : State) where
+  abbrev row : Row
+  row = load_row file (registry_of s)
 
-pub comes_to_be : (wanted given : Changed) (s : State) → wanted ≡ given → AreLikeStates s given.after → ComesTo wanted given.answer s
-comes_to_be wanted given s same like =
-    record { answer_is = sym (ap (λ (c : Changed). c.answer) same); after_is = subst (λ (c : Changed). AreLikeStates s c.after) (sym same) like }
+  by_file : (o : Option ElfError) → file_refusal file ≡ o
+      → first_refusal row.refusals ≡ first_refusal (option_map Elf o ∷ by_numbers_used s.drawn ∷ [])
+  by_file o is = ap (λ (o : Option ElfError). first_refusal (option_map Elf o ∷ by_numbers_used s.drawn ∷ [])) is
 
-pub comes_refused : (file : List ℕ) (s : State) (error : ElfError) → file_refusal file ≡ Some error → ComesTo (load_done file s) (Refused (Elf error)) s
-comes_refused file s error is = comes_to_be (load_done file s) _ s (refused_is file s error is) (states_itself s)
+  by_number : (all : Bool) → file_refusal file ≡ None → (s.drawn == LAST_SPACE) ≡ all → first_refusal row.refusals ≡ first_refusal (refused_if all NumbersUsed ∷ [])
+  by_number all taken is = by_file None taken ∙ ap (λ b. first_refusal (refused_if b NumbersUsed ∷ [])) is
 
-pub comes_used : (file : List ℕ) (s : State) → file_refusal file ≡ None → (s.drawn == LAST_SPACE) ≡ true → ComesTo (load_done file s) (Refused NumbersUsed) s
-comes_used file s taken all =
-    comes_to_be (load_done file s) _ s
-    (taken_is file s taken ∙ ap (λ b. cond b (record { answer = Refused NumbersUsed; after = s }) (loads_within (s.drawn + 1) file s)) all) (states_itself s)
+  -- one that is refused
+  pub comes_refused : (error : ElfError) → file_refusal file ≡ Some error → ComesTo (change_by row s) (Refused (Elf error)) s
+  comes_refused error is = row_refused row s s (Elf error) (by_file (Some error) is) (states_itself s)
+
+  pub comes_used : file_refusal file ≡ None → (s.drawn == LAST_SPACE) ≡ true → ComesTo (change_by row s) (Refused NumbersUsed) s
+  comes_used taken all = row_refused row s s NumbersUsed (by_number true taken all) (states_itself s)
 
 -- where a number is left, what the machine answers
 module _ (file : List ℕ) (old new : Machine) (drawn : ℕ) (taken : file_refusal file ≡ None) (left : (drawn == LAST_SPACE) ≡ false) where
   abbrev before : State
   before = state_of old drawn
 
-  within_is : (full : Bool) → is_load_full (drawn + 1) file (wholes old) ≡ full → load_done file before ≡ cond full (loads_full (drawn + 1) file before) (loads (drawn + 1) file before)
-  within_is full is =
-      taken_is file before taken ∙ ap (λ b. cond b (record { answer = Refused NumbersUsed; after = before }) (loads_within (drawn + 1) file before)) left
-      ∙ ap (λ b. cond b (loads_full (drawn + 1) file before) (loads (drawn + 1) file before)) is
+  none : first_refusal (row file before).refusals ≡ None
+  none = by_number file before false taken left
 
   pub gives_loaded : (n entry : ℕ) → Loads (drawn + 1) file old new (Ok n) → entry ≡ entry_of file
-      → ComesTo (load_done file before) (Loaded (drawn + 1) n entry) (state_of new (drawn + 1))
+      → ComesTo (change_by (row file before) before) (Loaded (drawn + 1) n entry) (state_of new (drawn + 1))
   gives_loaded n entry (count, fits, loaded) is =
-      let comes = comes_to_be (load_done file before) (loads (drawn + 1) file before) (state_of new (drawn + 1)) (within_is false fits) (record { wholes = loaded.like; drawn = refl }) in
+      let enough = sym (load_full (drawn + 1) file (wholes old)) ∙ fits in
+      let comes = row_accepted (row file before) before (state_of new (drawn + 1)) none enough (record { wholes = like_accepted (drawn + 1) file (wholes new) (wholes old) loaded.like; drawn = refl }) in
       record {
         answer_is = ap (λ k. Loaded (drawn + 1) k entry) count ∙ ap (Loaded (drawn + 1) (page_count file)) is ∙ comes.answer_is;
         after_is = comes.after_is;
@@ -76,15 +81,11 @@ module _ (file : List ℕ) (old new : Machine) (drawn : ℕ) (taken : file_refus
   runs_loaded n entry (count, fits, loaded) =
       (loaded_process file, ap (λ (ps : Processes). get ps (drawn + 1)) loaded.like.processes ∙ get_same (wholes old).processes (drawn + 1) (drawn + 1) (loaded_process file) refl, refl)
 
-  pub gives_other : (e : SpaceError) → Loads (drawn + 1) file old new (Err e) → GivesChange (load_done file before) before (answer_of e) (state_of new drawn)
+  pub gives_other : (e : SpaceError) → Loads (drawn + 1) file old new (Err e) → GivesChange (row file before) before (answer_of e) (state_of new drawn)
   gives_other (error.Full needed limit) (needed_is, limit_is, full, same) =
-      let comes = comes_to_be (load_done file before) (loads_full (drawn + 1) file before) (state_of new drawn) (within_is true full)
-      (subst (λ (m : Machine). AreLikeStates (state_of m drawn) before) (sym same) (states_itself before)) in
-      record {
-        answer_is = ap (λ n. Full n limit) needed_is ∙ ap (Full (load_needs (drawn + 1) file (wholes old))) limit_is ∙ comes.answer_is;
-        after_is = comes.after_is;
-      }
-  gives_other error.Memory same = ap (λ (w : Wholes). record { wholes = w; drawn = drawn }) (same_wholes old new same)
+      row_full (row file before) before (state_of new drawn) needed limit none refl (sym (load_full (drawn + 1) file (wholes old)) ∙ full)
+      (needed_is ∙ load_needed (drawn + 1) file (wholes old)) limit_is (subst (λ (m : Machine). AreLikeStates (state_of m drawn) before) (sym same) (states_itself before))
+  gives_other error.Memory same = (refl, ap (λ (w : Wholes). record { wholes = w; drawn = drawn }) (same_wholes old new same))
 
   pub session_other : (e : SpaceError) → Loads (drawn + 1) file old new (Err e) → IsSession old drawn → IsSession new drawn
   session_other (error.Full needed limit) (needed_is, limit_is, full, same) is = subst (λ (m : Machine). IsSession m drawn) (sym same) is

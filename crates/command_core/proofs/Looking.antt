@@ -15,7 +15,7 @@ use Rattle.machine_core.specs.Laws.{processes_at}
 use Rattle.machine_core.specs.NumberLaws.{Rises, entries_rise}
 use Rattle.command_core.specs.declared.session.ProcessView.{ProcessView}
 use Rattle.sizes.specs.declared.TheConstants.{LAST_SPACE}
-use Rattle.command_core.specs.State.{IsSession}
+use Rattle.command_core.specs.Sessions.{IsSession}
 use Rattle.command_core.specs.Looks.{NextProcess, looked_at}
 
 -- Processes by number: the entries ascend, so those from a number on are the first of them and those behind it.

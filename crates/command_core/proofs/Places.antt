@@ -14,7 +14,7 @@ use Rattle.machine_core.specs.declared.process.Process as declared
 use Rattle.machine_core.specs.Machine.{IsDropped, KeepsPlaces, Machine, Processes, StaysBut, has_saved, has_space, is_marked, is_running, processes_of, spaces_of, whole_in, wholes, without_process_at}
 use Rattle.machine_core.specs.Laws.{processes_at, runs_shown}
 use Rattle.machine_core.specs.Load.{IsLoaded, loaded_process}
-use Rattle.command_core.specs.State.{IsSession, OwnSpaces}
+use Rattle.command_core.specs.Sessions.{IsSession, OwnSpaces}
 
 -- Which spaces and processes are there.
 

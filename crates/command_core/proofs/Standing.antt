@@ -10,7 +10,8 @@ use Rattle.machine_core.specs.Turns.{after_turn}
 use Rattle.machine_core.specs.Laws.{like_after_turn, like_back, like_chain, like_itself, like_turn}
 use Rattle.report_text.specs.declared.answer.Code.{Code}
 use Rattle.report_text.specs.declared.answer.Code.TheVariants.{Ended}
-use Rattle.command_core.specs.State.{InSession, State}
+use Rattle.command_core.specs.State.{State}
+use Rattle.command_core.specs.Sessions.{InSession}
 use Rattle.command_core.specs.Looks.{BeginsStep, begun}
 use Rattle.command_core.specs.LikeLaws.{like_ending, like_found, like_left, like_next, like_text}
 use Rattle.command_core.specs.Standing.{SessionAnswersAs, SessionStandsFor, TurnsAs, begun_step, ends_run, speaks, takes_turn}

@@ -11,7 +11,8 @@ use Rattle.machine_core.specs.contracts.process.SavedRegs as saved
 use Rattle.ledger.specs.Ledger.{Holding, Ledger}
 use Rattle.machine_core.specs.Machine.{Processes, Wholes}
 use Rattle.machine_core.specs.Codes.{memory_code}
-use Rattle.command_core.specs.State.{State, InSession}
+use Rattle.command_core.specs.State.{State}
+use Rattle.command_core.specs.Sessions.{InSession}
 
 -- How sessions are told apart as values: by their parts.
 

@@ -1,18 +1,19 @@
-use Rattle.std.specs.Prelude.{◌≡◌, ℕ, nat_lt, Bool, true, false, List, [], ◌++◌, length, flat_map, Option, Some, None, if◌then◌else◌}
+use Rattle.std.specs.Prelude.{◌≡◌, ℕ, nat_lt, ◌||◌, Bool, true, false, List, [], ◌++◌, length, flat_map, Option, Some, None, if◌then◌else◌}
 use Rattle.std.specs.FinMap.{entries, get, len}
 use Rattle.sizes.specs.declared.TheConstants.{MOST_FILE_BYTES}
 use Rattle.machine_core.specs.Process.{Process, runs}
 use Rattle.script_text.specs.declared.command.Command.{Command}
-use Rattle.script_text.specs.declared.command.Command.TheVariants.{Exec, Load, Fork, Run, Step, Drop}
+use Rattle.script_text.specs.declared.command.Command.TheVariants.{Exec, Load, Run, Step}
 use Rattle.script_text.specs.declared.command.Command.TheVariants as command
 use Rattle.report_text.specs.declared.answer.Answer.{Answer}
 use Rattle.report_text.specs.declared.answer.Answer.TheVariants.{Done, Loaded, Forked, Saved, Refused, Full, Memory}
 use Rattle.report_text.specs.declared.answer.Code.TheVariants.{NoProcess, Ended}
 use Rattle.report_text.specs.Answers.{answer_text}
 use Rattle.report_text.specs.Lines.{list_line, process_line}
-use Rattle.command_core.specs.State.{InSession, State, with_wholes}
-use Rattle.command_core.specs.Changes.{Changed, change_done, load_done, fork_done, drop_done, overlays_done, refuses}
-use Rattle.command_core.specs.declared.overlays.OverlayChange.TheVariants.{Speculate, Commit, Discard, Promote, PromoteAll}
+use Rattle.command_core.specs.State.{State, registry_of, with_wholes}
+use Rattle.command_core.specs.Sessions.{InSession}
+use Rattle.command_core.specs.Rows.{Changed, Row, change_by, may_want_memory, refuses}
+use Rattle.command_core.specs.Changes.{change_row, load_row}
 use Rattle.command_core.specs.Turns.{InRun, Progress, alone, by_turns, left_of, ran_from, ran_text}
 
 -- What a command asks of the shelf, by the file that it names: nothing; or the file is there, isn't there, or
@@ -31,16 +32,6 @@ asked_by (Some file) = if nat_lt MOST_FILE_BYTES (length file) then IsTooLong el
 abbrev pub asks : Command → Option (List ℕ)
 asks (Exec name turns) = Some name
 asks (Load name) = Some name
-asks (Fork p) = None
-asks (Run turns) = None
-asks (Step p turns) = None
-asks (command.Speculate p) = None
-asks (command.Commit p) = None
-asks (command.Discard p) = None
-asks (command.Promote p address) = None
-asks (command.PromoteAll p) = None
-asks (Drop p) = None
-asks command.List = None
 asks other = None
 
 abbrev pub asked_for : Option (List ℕ) → (List ℕ → Option (List ℕ)) → FileAsked
@@ -63,26 +54,32 @@ file_in (HasFile file) = file
 file_in IsMissing = []
 file_in IsTooLong = []
 
--- What a command comes to: its text, and the state after it.
+-- What a command comes to: its text, the state after it, and whether it may want memory in place of both.
 pub record Performed : Type 0 where
   pub text : List ℕ
   pub after : State
+  pub wants_memory : Bool
 
 -- the line of an answer, and the state
-abbrev pub told : Changed → Performed
-told changed = record { text = answer_text changed.answer; after = changed.after }
+abbrev pub told : Bool → Changed → Performed
+told wants_memory changed = record { text = answer_text changed.answer; after = changed.after; wants_memory = wants_memory }
+
+-- a change, by its row
+abbrev pub row_told : Row → State → Performed
+row_told row state = told (may_want_memory row state) (change_by row state)
 
 abbrev pub load_told : List ℕ → State → Performed
-load_told file state = told (load_done file state)
+load_told file state = row_told (load_row file (registry_of state)) state
 
-abbrev pub change_told : Command → State → Performed
-change_told command state = told (change_done command state)
+abbrev pub change_told : List ℕ → Command → State → Performed
+change_told file command state = row_told (change_row file command (registry_of state)) state
 
 -- turns, with their lines
 abbrev pub takes_turns : Progress → State → Performed
 takes_turns run state = record {
   text = ran_text (ran_from state.wholes run);
   after = with_wholes (ran_from state.wholes run).after state;
+  wants_memory = false;
 }
 
 -- those that are left of a run in progress
@@ -90,30 +87,35 @@ abbrev pub takes_left : InRun → State → Performed
 takes_left running state = record {
   text = ran_text (left_of state.wholes running);
   after = with_wholes (left_of state.wholes running).after state;
+  wants_memory = false;
 }
 
 -- one thing after another
 abbrev pub then_performed : Performed → (State → Performed) → Performed
-then_performed first next = record { text = first.text ++ (next first.after).text; after = (next first.after).after }
+then_performed first next = record {
+  text = first.text ++ (next first.after).text;
+  after = (next first.after).after;
+  wants_memory = first.wants_memory || (next first.after).wants_memory;
+}
+
+-- nothing more
+abbrev pub no_more : State → Performed
+no_more state = record { text = []; after = state; wants_memory = false }
 
 -- what follows the load of an `exec`: the turns of its process, where it made one
 abbrev pub exec_turns : ℕ → Answer → State → Performed
-exec_turns turns (Loaded p pages entry) state = takes_turns (alone p turns) state
-exec_turns turns Done state = record { text = []; after = state }
-exec_turns turns (Forked p q) state = record { text = []; after = state }
-exec_turns turns (Saved p name space) state = record { text = []; after = state }
-exec_turns turns (Refused code) state = record { text = []; after = state }
-exec_turns turns (Full units limit) state = record { text = []; after = state }
-exec_turns turns Memory state = record { text = []; after = state }
+exec_turns turns (Loaded p pages entry) = takes_turns (alone p turns)
+exec_turns turns other = no_more
 
 abbrev pub exec_done : List ℕ → ℕ → State → Performed
-exec_done file turns state = then_performed (told (load_done file state)) (exec_turns turns (load_done file state).answer)
+exec_done file turns state = then_performed (load_told file state) (exec_turns turns (change_by (load_row file (registry_of state)) state).answer)
 
 -- the line of a load's answer, and the turns that follow it
 abbrev pub tells_exec : ℕ → Answer → State → Performed
 tells_exec turns answer state = record {
   text = answer_text answer ++ (exec_turns turns answer state).text;
   after = (exec_turns turns answer state).after;
+  wants_memory = true;
 }
 
 -- a process that was just loaded is there, and runs
@@ -128,8 +130,8 @@ RunsLoaded Memory state = Unit {0}
 
 -- the turns of one process, which has to be there and to run
 abbrev pub steps : ℕ → ℕ → Option Process → State → Performed
-steps p turns None state = told (refuses NoProcess state)
-steps p turns (Some process) state = if runs process.state then takes_turns (alone p turns) state else told (refuses Ended state)
+steps p turns None state = told false (refuses NoProcess state)
+steps p turns (Some process) state = if runs process.state then takes_turns (alone p turns) state else told false (refuses Ended state)
 
 abbrev pub step_done : ℕ → ℕ → State → Performed
 step_done p turns state = steps p turns (get state.wholes.processes p) state
@@ -151,21 +153,17 @@ processes_text state = flat_map process_text (entries state.wholes.processes)
 abbrev pub list_text : State → List ℕ
 list_text state = list_head state ++ processes_text state
 
--- The commands, one row each: what it comes to, with the file that it has, in turns of a quantum.
+abbrev pub list_done : State → Performed
+list_done state = record { text = list_text state; after = state; wants_memory = false }
+
+-- What each command comes to, with the file that it has, in turns of a quantum: turns and printed lines have a line here, all others are
+-- changes.
 abbrev pub performed : ℕ → List ℕ → Command → State → Performed
-performed quantum file (Exec name turns) state = exec_done file turns state
-performed quantum file (Load name) state = load_told file state
-performed quantum file (Fork p) state = told (fork_done p state)
-performed quantum file (Run turns) state = run_done quantum turns state
-performed quantum file (Step p turns) state = step_done p turns state
-performed quantum file (command.Speculate p) state = told (overlays_done p Speculate state)
-performed quantum file (command.Commit p) state = told (overlays_done p Commit state)
-performed quantum file (command.Discard p) state = told (overlays_done p Discard state)
-performed quantum file (command.Promote p address) state = told (overlays_done p (Promote address) state)
-performed quantum file (command.PromoteAll p) state = told (overlays_done p PromoteAll state)
-performed quantum file (Drop p) state = told (drop_done p state)
-performed quantum file command.List state = record { text = list_text state; after = state }
-performed quantum file other state = record { text = []; after = state }
+performed quantum file (Exec name turns) = exec_done file turns
+performed quantum file (Run turns) = run_done quantum turns
+performed quantum file (Step p turns) = step_done p turns
+performed quantum file command.List = list_done
+performed quantum file other = change_told file other
 
 -- the same, in a session
 abbrev pub performed_in : InSession → List ℕ → Command → Performed

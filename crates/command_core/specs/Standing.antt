@@ -1,10 +1,12 @@
-use Rattle.std.specs.Prelude.{◌≡◌, ℕ, List, Option, Result}
+use Rattle.std.specs.Prelude.{◌≡◌, ℕ, true, List, Option, Result}
 use Rattle.std.specs.FinMap.{get}
 use Rattle.ovl_io.specs.declared.turn.Turn.{Turn}
 use Rattle.report_text.specs.declared.answer.Answer.{Answer}
-use Rattle.report_text.specs.declared.answer.Answer.TheVariants.{Done, Loaded, Forked, Saved, Refused, Full, Memory}
-use Rattle.command_core.specs.State.{AreLikeStates, InSession, State}
-use Rattle.command_core.specs.Changes.{Changed}
+use Rattle.report_text.specs.declared.answer.Answer.TheVariants.{Memory}
+use Rattle.command_core.specs.State.{AreLikeStates, Registry, State, registry_of}
+use Rattle.command_core.specs.Sessions.{InSession}
+use Rattle.command_core.specs.Rows.{Row, change_by, may_want_memory}
+use Rattle.command_core.specs.Giving.{ComesTo}
 use Rattle.report_text.specs.declared.answer.Code.{Code}
 use Rattle.command_core.specs.Looks.{begun}
 use Rattle.command_core.specs.Turns.{EndsRun, InRun, Speaks, TakesTurn, by_turns, run_found}
@@ -18,19 +20,13 @@ SessionStandsFor session state = AreLikeStates session.state state
 abbrev pub SessionAnswersAs : {Answer : Type 0} → (State → Answer) → InSession → Answer → Type 0
 SessionAnswersAs answer session result = (state : State) → SessionStandsFor session state → result ≡ answer state
 
--- a change: its answer, and the session stands for the state after it
-abbrev pub ChangesAs : (State → Changed) → InSession → Answer → InSession → Type 0
-ChangesAs change old result new = (state : State) → SessionStandsFor old state → (result ≡ (change state).answer) × SessionStandsFor new (change state).after
-
--- the same; or want of memory, and the session stands for what it stood for
-abbrev pub GivesAs : (State → Changed) → InSession → Answer → InSession → Type 0
-GivesAs change old Memory new = (state : State) → SessionStandsFor old state → SessionStandsFor new state
-GivesAs change old Done new = ChangesAs change old Done new
-GivesAs change old (Loaded p pages entry) new = ChangesAs change old (Loaded p pages entry) new
-GivesAs change old (Forked p q) new = ChangesAs change old (Forked p q) new
-GivesAs change old (Saved p name space) new = ChangesAs change old (Saved p name space) new
-GivesAs change old (Refused code) new = ChangesAs change old (Refused code) new
-GivesAs change old (Full units limit) new = ChangesAs change old (Full units limit) new
+-- a change: what its row comes to, in each of them; or want of memory, where each of them may want it, and the session stands for what
+-- it stood for
+abbrev pub GivesAs : (Registry → Row) → InSession → Answer → InSession → Type 0
+GivesAs row old Memory new =
+    (state : State) → SessionStandsFor old state → (may_want_memory (row (registry_of state)) state ≡ true) × SessionStandsFor new state
+GivesAs row old answer new =
+    (state : State) → SessionStandsFor old state → ComesTo (change_by (row (registry_of state)) state) answer new.state
 
 -- what holds of each of them
 abbrev pub HoldsFor : (State → Type 0) → InSession → Type 0

@@ -1,9 +1,7 @@
-use Rattle.std.specs.Prelude.{◌≡◌, ℕ, ◌<◌, ◌≤◌, true, false, None}
-use Rattle.std.specs.Option.{is_some}
-use Rattle.std.specs.FinMap.{empty, get}
-use Rattle.sizes.specs.declared.TheConstants.{LAST_SPACE}
-use Rattle.overlay_pages.specs.State.{space_in}
-use Rattle.machine_core.specs.Machine.{AreLike, Machine, Wholes, has_saved, has_space, is_marked, spaces_of}
+use Rattle.std.specs.Prelude.{◌≡◌, ℕ}
+use Rattle.std.specs.FinMap.{empty}
+use Rattle.ledger.specs.Ledger.{Ledger}
+use Rattle.machine_core.specs.Machine.{AreLike, Processes, Wholes}
 
 -- The copying machine: the processes by number, each with its whole memory, with the ledger of their pages, and how many numbers
 -- were drawn.
@@ -18,30 +16,22 @@ fresh frames = record { wholes = record { processes = empty; ledger = empty; fra
 abbrev pub with_wholes : Wholes → State → State
 with_wholes wholes state = record { wholes = wholes; drawn = state.drawn }
 
+-- What a command looks at and leaves: all of the state but the ledger and the frames. Those say only whether there are units enough.
+pub record Registry : Type 0 where
+  pub processes : Processes
+  pub drawn : ℕ
+
+abbrev pub registry_of : State → Registry
+registry_of state = record { processes = state.wholes.processes; drawn = state.drawn }
+
+-- the state with another registry and another ledger
+abbrev pub with_registry : Registry → Ledger → State → State
+with_registry registry ledger state = record {
+  wholes = record { processes = registry.processes; ledger = ledger; frames = state.wholes.frames };
+  drawn = registry.drawn;
+}
+
 -- states that differ in the numbers of origins alone
 pub record AreLikeStates (a b : State) : Type 0 where
   pub wholes : AreLike a.wholes b.wholes
   pub drawn : a.drawn ≡ b.drawn
-
--- each process has its memory
-abbrev pub OwnSpaces : Machine → Type 0
-OwnSpaces machine = (p : ℕ) → is_some (get machine.processes p) ≡ true → has_space machine p ≡ true
-
--- A session keeps a machine: the numbers above those drawn are free, each process has its memory, no page awaits being shared,
--- and registers and state are kept of exactly those processes whose spaces are marked as speculating.
-pub record IsSession (machine : Machine) (drawn : ℕ) : Type 0 where
-  pub few : drawn ≤ LAST_SPACE
-  pub no_space : (p : ℕ) → drawn < p → has_space machine p ≡ false
-  pub no_process : (p : ℕ) → drawn < p → get machine.processes p ≡ None
-  pub own_space : OwnSpaces machine
-  pub settled : (p : ℕ) → (space_in (spaces_of machine) p).awaiting ≡ empty
-  pub kept : (p : ℕ) → is_marked machine p ≡ has_saved machine p
-
--- A session: the state, and the quantum of turns by round robin.
-pub record InSession : Type 0 where
-  pub state : State
-  pub quantum : ℕ
-
--- all but the processes is as it was
-abbrev pub KeepsRest : InSession → InSession → Type 0
-KeepsRest old new = (new.state.drawn ≡ old.state.drawn) × (new.quantum ≡ old.quantum)

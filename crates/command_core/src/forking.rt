@@ -5,7 +5,8 @@ ghost use Rattle.std.specs.FinMap.{empty, get};
 ghost use Rattle.sizes.specs.declared.TheConstants.{LAST_SPACE};
 ghost use Rattle.overlay_pages.specs.State.{space_in};
 ghost use Rattle.machine_core.specs.Machine.{has_space, spaces_of};
-ghost use Rattle.command_core.specs.Forks.{Adopts, ForksProcess, fork_refusal};
+ghost use Rattle.command_core.specs.Rows.{first_refusal};
+ghost use Rattle.command_core.specs.Forks.{Adopts, ForksProcess, fork_refusals};
 
 use fork_checkpoint::fork_space;
 use machine_core::{Machine, Process, SpaceError};
@@ -15,7 +16,7 @@ use sizes::LAST_SPACE;
 
 /// Why a process that is there isn't forked, before its units are counted.
 pub(crate) fn fork_refusal(state: ProcessState, speculating: bool, drawn: u16) -> Option<Code>
-    ensures { result ≡ fork_refusal state speculating drawn }
+    ensures { result ≡ first_refusal (fork_refusals state speculating drawn) }
 {
     match state {
         ProcessState::Running => {

@@ -1,13 +1,17 @@
-ghost use Rattle.std.specs.Prelude.{◌≡◌, ◌==◌, ◌≢◌, ◌+◌, ◌≤◌, ◌<◌, [], Some, None, true, false, IfOk, IfSome, IsTrue};
-ghost use Rattle.report_text.specs.Answers.{HasAnswerLine, turn_text};
+ghost use Rattle.std.specs.Prelude.{◌≡◌, ◌==◌, ◌≢◌, ◌+◌, ◌≤◌, ◌<◌, [], Some, None, true, false, IfOk, IfSome};
+ghost use Rattle.report_text.specs.Answers.{turn_text};
 ghost use Rattle.machine_core.specs.Machine.{KeepsPlaces, has_space, is_running, wholes};
 ghost use Rattle.machine_core.specs.Turns.{after_asked, turn_asked};
 ghost use Rattle.sizes.specs.declared.TheConstants.{LAST_SPACE, MOST_FRAMES};
-ghost use Rattle.command_core.specs.State.{KeepsRest, OwnSpaces, fresh};
-ghost use Rattle.command_core.specs.Changes.{CanBeTold, answer_of, GivesChange, change_done, comes_to, drop_done, fork_done, is_change, load_done, overlays_done, takes_memory};
-ghost use Rattle.command_core.specs.Commands.{RunsLoaded};
+ghost use Rattle.command_core.specs.State.{fresh, registry_of};
+ghost use Rattle.command_core.specs.Sessions.{KeepsRest, OwnSpaces};
+ghost use Rattle.command_core.specs.Giving.{GivesChange};
+ghost use Rattle.command_core.specs.Forks.{fork_row};
+ghost use Rattle.command_core.specs.Overlays.{overlay_row};
+ghost use Rattle.command_core.specs.Changes.{CanBeTold, answer_of, change_row, drop_row, load_row, on_process};
+ghost use Rattle.command_core.specs.Commands.{RunsLoaded, asks};
 ghost use Rattle.command_core.specs.Looks.{BeginsStep, LooksAt, NextProcess, looked_at};
-ghost use Rattle.command_core.specs.Standing.{SessionAnswersAs, ChangesAs, GivesAs, HoldsFor, SessionStandsFor, TurnsAs, begun_run, begun_step, ends_run, speaks, takes_turn};
+ghost use Rattle.command_core.specs.Standing.{SessionAnswersAs, GivesAs, HoldsFor, SessionStandsFor, TurnsAs, begun_run, begun_step, ends_run, speaks, takes_turn};
 ghost use Rattle.std.specs.FinMap.{get};
 ghost use Rattle.command_core.specs.Turns.{EndsRun, GoesOn, Speaks, TakesTurn, begun_by, by_turns, ending, lines_left, next_of, rest_of, run_found, run_turned};
 
@@ -48,7 +52,7 @@ pub struct Session {
 impl Model for Session {
     ghost use Rattle.std.specs.Prelude.{◌≤◌};
     ghost use Rattle.machine_core.specs.Machine.{wholes};
-    ghost use Rattle.command_core.specs.State.{InSession, IsSession};
+    ghost use Rattle.command_core.specs.Sessions.{InSession, IsSession};
     ghost use Rattle.command_core.specs.Codes.{session_code};
 
     ghost Value = { InSession };
@@ -302,8 +306,9 @@ impl Session {
     /// Makes a process of a file, under the next number: `Loaded`, or why not. `Full` exactly where the file is taken, a number is
     /// left and the units after the load would exceed the limit. After want of memory everything is as before.
     pub fn load(&mut self, file: &[u8]) -> Answer
-        ensures gives { GivesChange (load_done file.now self.old.state) self.old.state result self.new.state }
-        ensures stands { GivesAs (load_done file.now) self.old result self.new }
+        ensures gives { GivesChange (load_row file.now (registry_of self.old.state)) self.old.state
+            result self.new.state }
+        ensures stands { GivesAs (load_row file.now) self.old result self.new }
         ensures told { CanBeTold result }
         ensures runs { RunsLoaded result self.new.state }
         ensures quantum { self.new.quantum ≡ self.old.quantum }
@@ -337,8 +342,8 @@ impl Session {
     /// not. `Full` exactly where it isn't refused and the units after the fork would exceed the limit. After want of memory
     /// everything is as before.
     fn fork(&mut self, p: u16) -> Answer
-        ensures gives { GivesChange (fork_done p self.old.state) self.old.state result self.new.state }
-        ensures stands { GivesAs (fork_done p) self.old result self.new }
+        ensures gives { GivesChange (on_process p (fork_row p) (registry_of self.old.state)) self.old.state
+            result self.new.state }
         ensures told { CanBeTold result }
         ensures quantum { self.new.quantum ≡ self.old.quantum }
     {
@@ -364,11 +369,9 @@ impl Session {
     /// Does a change to the overlays of a process: a speculation begins or ends, or pages are promoted. Answers what came of it, or why
     /// it wasn't done. `Full` exactly where it isn't refused and the units after it would exceed the limit.
     fn change_overlays(&mut self, p: u16, change: OverlayChange) -> Answer
-        ensures gives { GivesChange (overlays_done p change self.old.state) self.old.state
-            result self.new.state }
-        ensures stands { GivesAs (overlays_done p change) self.old result self.new }
+        ensures gives { GivesChange (on_process p (overlay_row p change) (registry_of self.old.state))
+            self.old.state result self.new.state }
         ensures told { CanBeTold result }
-        ensures never { result ≡ Answer.Memory → ⊥ }
         ensures quantum { self.new.quantum ≡ self.old.quantum }
     {
         match self.machine.process(p) {
@@ -382,9 +385,9 @@ impl Session {
 
     /// Gives up a process.
     fn drop_process(&mut self, p: u16) -> Answer
-        ensures changes { comes_to result self.new.state ≡ drop_done p self.old.state }
-        ensures stands { ChangesAs (drop_done p) self.old result self.new }
-        ensures told { HasAnswerLine result }
+        ensures gives { GivesChange (on_process p (drop_row p) (registry_of self.old.state)) self.old.state
+            result self.new.state }
+        ensures told { CanBeTold result }
         ensures quantum { self.new.quantum ≡ self.old.quantum }
     {
         match self.machine.process(p) {
@@ -396,14 +399,11 @@ impl Session {
         Answer::Done
     }
 
-    /// Does a change: a command that isn't `exec`, `load`, `run`, `step` or a printing one. Answers what came of it, or why it wasn't
-    /// done. Want of memory comes of `fork` alone, and then everything is as before.
-    pub fn change(&mut self, command: &Command) -> Answer
-        requires { IsTrue (is_change command.now) }
-        ensures gives { GivesChange (change_done command.now self.old.state) self.old.state
+    /// Does a command that asks for no file, by its row.
+    fn do_row(&mut self, command: &Command) -> Answer
+        requires { asks command.now ≡ None }
+        ensures gives { GivesChange (change_row [] command.now (registry_of self.old.state)) self.old.state
             result self.new.state }
-        ensures stands { GivesAs (change_done command.now) self.old result self.new }
-        ensures takes { result ≡ Answer.Memory → IsTrue (takes_memory command.now) }
         ensures told { CanBeTold result }
         ensures quantum { self.new.quantum ≡ self.old.quantum }
     {
@@ -417,8 +417,22 @@ impl Session {
             }
             Command::PromoteAll(p) => self.change_overlays(*p, OverlayChange::PromoteAll),
             Command::Drop(p) => self.drop_process(*p),
-            _ => unreachable!(),
+            _ => Answer::Done,
         }
+    }
+
+    /// Does a change: a command that asks for no file, and that isn't `run`, `step` or a printing one, which change nothing here. Answers
+    /// what came of it, or why it wasn't done. Want of memory comes only of a command that takes memory, that nothing refuses, and for
+    /// which there are units enough; then everything is as before.
+    pub fn change(&mut self, command: &Command) -> Answer
+        requires { asks command.now ≡ None }
+        ensures gives { GivesChange (change_row [] command.now (registry_of self.old.state)) self.old.state
+            result self.new.state }
+        ensures stands { GivesAs (change_row [] command.now) self.old result self.new }
+        ensures told { CanBeTold result }
+        ensures quantum { self.new.quantum ≡ self.old.quantum }
+    {
+        self.do_row(command)
     }
 
     /// Begins so many turns, at least 1, by round robin.

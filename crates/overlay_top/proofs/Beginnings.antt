@@ -4,7 +4,7 @@ use Rattle.machine_core.specs.Process.{Process, runs}
 use Rattle.report_text.specs.declared.answer.Code.{Code}
 use Rattle.report_text.specs.declared.answer.Code.TheVariants.{Ended}
 use Rattle.command_core.specs.State.{State, with_wholes}
-use Rattle.command_core.specs.Changes.{refuses}
+use Rattle.command_core.specs.Rows.{refuses}
 use Rattle.command_core.specs.Commands.{step_done, steps, takes_left, takes_turns, told}
 use Rattle.command_core.specs.LikeLaws.{left_found}
 use Rattle.command_core.specs.Looks.{BeginsStep, begun}
@@ -14,7 +14,7 @@ use Rattle.command_core.specs.Turns.{InRun, Progress, Ran, alone, ran_text, run_
 
 pub left_begun : (run : Progress) (state : State) → run.taken ≤ run.turns → takes_left (run_found state.wholes run) state ≡ takes_turns run state
 left_begun run state within =
-    ap (λ (r : Ran). record { text = ran_text r; after = with_wholes r.after state }) (left_found state.wholes run within)
+    ap (λ (r : Ran). record { text = ran_text r; after = with_wholes r.after state; wants_memory = false }) (left_found state.wholes run within)
 
 pub takes_begun : (running : InRun) (run : Progress) (state : State) → running ≡ run_found state.wholes run → run.taken ≤ run.turns
     → takes_left running state ≡ takes_turns run state
@@ -26,7 +26,7 @@ ok_is a b e = cc
 -- the turns of one process, which is there and runs
 module _ (p turns : ℕ) (state : State) where
   runs_begun : (running : InRun) (b : Bool) → Ok running ≡ cond b (Ok (run_found state.wholes (alone p turns))) (Err Ended)
-      → takes_left running state ≡ cond b (takes_turns (alone p turns) state) (told (refuses Ended state))
+      → takes_left running state ≡ cond b (takes_turns (alone p turns) state) (told false (refuses Ended state))
   runs_begun running true is = takes_begun running (alone p turns) state (ok_is running (run_found state.wholes (alone p turns)) is) (omega arith)
   runs_begun running false is = cc
 

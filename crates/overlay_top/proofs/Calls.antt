@@ -98,7 +98,7 @@ done_not_bad st is_done is_bad = let both : ending.Done ≡ ending.BadWords = sy
 pub no_memory : {S H K : Type 0} (s : SourceOf S) (h : ShelfOf H) (k : SinkOf K) (outcome : RunOutcome) (names : List (Option (List ℕ))) (source_old source_new : S)
     (files : H) (report : K) → SourceSound s source_old source_new
     → Ends s h k outcome names (record { script = source_old; files = files; report = report }) (record { script = source_new; files = files; report = report }) ending.NoMemory
-no_memory s h k outcome names source_old source_new files report sound = OutOfMemory 0 0 (omega arith) (omega arith) sound refl refl refl (nothing k report)
+no_memory s h k outcome names source_old source_new files report sound = OutOfMemory 0 0 (omega arith) (inl (refl, refl)) sound refl refl refl (nothing k report)
 
 -- the commands, all done or not
 pub commands_ended : {S H K : Type 0} (s : SourceOf S) (h : ShelfOf H) (k : SinkOf K) (outcome : RunOutcome) (names : List (Option (List ℕ))) (old new : World S H K)

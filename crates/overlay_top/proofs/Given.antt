@@ -1,34 +1,72 @@
-use Rattle.std.proofs.Common.{◌≡◌, ℕ, List, ◌++◌, ap, subst, ◌∙◌, refl}
+use Rattle.std.proofs.Common.{◌≡◌, ℕ, List, ◌++◌, ap, subst, ◌∙◌, refl, Result, Ok, Err}
+use Rattle.ovl_io.specs.declared.sink.Sink.{Ghosts as SinkOf}
 use Rattle.report_text.specs.declared.answer.Answer.{Answer}
 use Rattle.report_text.specs.declared.answer.Answer.TheVariants.{Done, Loaded, Forked, Saved, Refused, Full, Memory}
 use Rattle.report_text.specs.Answers.{answer_text}
-use Rattle.command_core.specs.State.{AreLikeStates, State}
-use Rattle.command_core.specs.Changes.{Changed, ComesTo, GivesChange, load_done}
-use Rattle.command_core.specs.Commands.{exec_done, exec_turns, tells_exec, then_performed, told}
-use Rattle.command_core.specs.LikeLaws.{AreLikePerformed, like_exec_turns}
+use Rattle.command_core.specs.State.{AreLikeStates, State, registry_of}
+use Rattle.command_core.specs.Sessions.{InSession}
+use Rattle.command_core.specs.Rows.{Changed, Row, change_by}
+use Rattle.command_core.specs.Giving.{ComesTo, GivesChange}
+use Rattle.command_core.specs.Changes.{load_row}
+use Rattle.command_core.specs.Commands.{Performed, exec_done, exec_turns, row_told, tells_exec}
+use Rattle.command_core.specs.LikeLaws.{AreLikePerformed, like_exec_turns, states_chain}
+use Rattle.overlay_top.specs.declared.running.Halt.{Halt}
+use Rattle.overlay_top.specs.declared.running.Halt.TheVariants as halt
+use Rattle.overlay_top.specs.Sending.{IsCut, IsSent}
+use Rattle.overlay_top.specs.Running.{EndsCommand, TakesOn, Tells}
 
--- What a change gave, where memory sufficed.
+-- What a change gave, and what was sent of it.
 
-pub given_is : (wanted : Changed) (old : State) (answer : Answer) (new : State) → GivesChange wanted old answer new → (answer ≡ Memory → ⊥)
-    → ComesTo wanted answer new
-given_is wanted old Done new gives other = gives
-given_is wanted old (Loaded p pages entry) new gives other = gives
-given_is wanted old (Forked p q) new gives other = gives
-given_is wanted old (Saved p name space) new gives other = gives
-given_is wanted old (Refused code) new gives other = gives
-given_is wanted old (Full units limit) new gives other = gives
-given_is wanted old Memory new gives other = absurd (other refl)
+given_is : (row : Row) (old : State) (answer : Answer) (new : State) → GivesChange row old answer new → (answer ≡ Memory → ⊥) → ComesTo (change_by row old) answer new
+given_is row old Done new gives other = gives
+given_is row old (Loaded p pages entry) new gives other = gives
+given_is row old (Forked p q) new gives other = gives
+given_is row old (Saved p name space) new gives other = gives
+given_is row old (Refused code) new gives other = gives
+given_is row old (Full units limit) new gives other = gives
+given_is row old Memory new gives other = absurd (other refl)
 
--- its line and the turns that follow it are those of what it was to give
-tells_like : (turns : ℕ) (wanted : Changed) (answer : Answer) (new : State) → ComesTo wanted answer new
-    → AreLikePerformed (tells_exec turns answer new) (then_performed (told wanted) (exec_turns turns wanted.answer))
-tells_like turns wanted answer new comes =
+-- its line, or nothing for want of memory
+pub tells_row : {K : Type 0} (k : SinkOf K) (row : Row) (old : State) (answer : Answer) (new : State) (sink_old sink_new : K) (r : Result (Unit {0}) Halt)
+    → GivesChange row old answer new → Tells k answer sink_old sink_new r → EndsCommand k sink_old sink_new (row_told row old) new r
+tells_row k row old answer new sink_old sink_new (Ok unit) gives (other, sound, sent) =
+    let comes = given_is row old answer new gives other in (
+      sound,
+      λ tells. subst (λ a. IsSent (k.taken sink_old) (answer_text a) (k.taken sink_new)) comes.answer_is (sent tells),
+      comes.after_is,
+    )
+tells_row k row old answer new sink_old sink_new (Err halt.SendFailed) gives (other, rose, cut) =
+    let comes = given_is row old answer new gives other in
+    (rose, λ tells. subst (λ a. IsCut (k.taken sink_old) (answer_text a) (k.taken sink_new)) comes.answer_is (cut tells))
+tells_row k row old answer new sink_old sink_new (Err halt.Memory) gives (is, same) =
+    let wants = subst (λ a. GivesChange row old a new) is gives in
+    (ap k.faults same, λ tells. ap k.taken same, wants.0)
+tells_row k row old answer new sink_old sink_new (Err halt.Missing) gives h = absurd h
+tells_row k row old answer new sink_old sink_new (Err halt.FetchFailed) gives h = absurd h
+tells_row k row old answer new sink_old sink_new (Err halt.TooLong) gives h = absurd h
+
+-- a load's line and the turns that follow it are those of what it was to give
+pub exec_like : (file : List ℕ) (turns : ℕ) (old : State) (answer : Answer) (new : State) → GivesChange (load_row file (registry_of old)) old answer new → (answer ≡ Memory → ⊥)
+    → AreLikePerformed (tells_exec turns answer new) (exec_done file turns old)
+exec_like file turns old answer new gives other =
+    let wanted : Changed = change_by (load_row file (registry_of old)) old in
+    let comes = given_is (load_row file (registry_of old)) old answer new gives other in
     let next = like_exec_turns turns answer new wanted.after comes.after_is in
     record {
       text = ap (λ text. answer_text answer ++ text) next.text ∙ ap (λ a. answer_text a ++ (exec_turns turns a wanted.after).text) comes.answer_is;
       after = subst (λ a. AreLikeStates (exec_turns turns answer new).after (exec_turns turns a wanted.after).after) comes.answer_is next.after;
+      wants = refl;
     }
 
-pub exec_like : (file : List ℕ) (turns : ℕ) (old : State) (answer : Answer) (new : State) → GivesChange (load_done file old) old answer new → (answer ≡ Memory → ⊥)
-    → AreLikePerformed (tells_exec turns answer new) (exec_done file turns old)
-exec_like file turns old answer new gives other = tells_like turns (load_done file old) answer new (given_is (load_done file old) old answer new gives other)
+-- what was sent and done, as a command
+module _ {K E : Type 0} (k : SinkOf K) (sink_old sink_new : K) (took wanted : Performed) (old new : InSession) (text : took.text ≡ wanted.text) where
+  pub ends_done : TakesOn {T = Unit {0}} {E = E} k sink_old sink_new took old new (Ok tt) → AreLikeStates took.after wanted.after
+      → EndsCommand k sink_old sink_new wanted new.state (Ok tt)
+  ends_done takes like = (
+    takes.sends.0,
+    λ tells. subst (λ t. IsSent (k.taken sink_old) t (k.taken sink_new)) text (takes.sends.1 tells),
+    states_chain new.state took.after wanted.after takes.after like,
+  )
+
+  pub ends_failed : (e : E) → TakesOn {T = Unit {0}} k sink_old sink_new took old new (Err e) → EndsCommand k sink_old sink_new wanted new.state (Err halt.SendFailed)
+  ends_failed e takes = (takes.sends.0, λ tells. subst (λ t. IsCut (k.taken sink_old) t (k.taken sink_new)) text (takes.sends.1 tells))

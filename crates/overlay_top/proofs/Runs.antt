@@ -1,4 +1,4 @@
-use Rattle.std.proofs.Common.{◌≡◌, ℕ, suc, ◌+◌, ◌<◌, ◌≤◌, true, List, [], ◌∷◌, ◌++◌, length, take, drop, get_or, sym, ap, subst, ◌∙◌, refl, arith, append_assoc, length-append, append-nil, Option, Some, None, Result, Ok, Err}
+use Rattle.std.proofs.Common.{◌≡◌, ℕ, suc, ◌+◌, ◌<◌, ◌≤◌, Bool, true, false, List, [], ◌∷◌, ◌++◌, length, take, drop, get_or, sym, ap, subst, ◌∙◌, refl, arith, append_assoc, length-append, append-nil, Option, Some, None, Result, Ok, Err, inr}
 use Rattle.std.proofs.Math.Seq.{take-append_seam, drop-cons}
 use Rattle.std.proofs.lemmas.Grind.{flat_map-append}
 use Rattle.std.proofs.lemmas.List.{length-map}
@@ -13,33 +13,31 @@ use Rattle.script_text.specs.declared.command.Command.{Command}
 use Rattle.overlay_top.specs.declared.status.Status.{Status}
 use Rattle.overlay_top.specs.declared.status.Status.TheVariants as ending
 use Rattle.command_core.specs.State.{AreLikeStates, State, fresh}
-use Rattle.command_core.specs.Commands.{FileAsked, AsksNothing, HasFile, IsMissing, IsTooLong, asked_by, asked_for, asks, file_asked, file_in, has_all, performed}
+use Rattle.command_core.specs.Commands.{FileAsked, AsksNothing, HasFile, IsMissing, IsTooLong, Performed, asked_by, asked_for, asks, file_asked, file_in, has_all, performed}
 use Rattle.command_core.specs.LikeLaws.{AreLikePerformed, like_performed, states_chain, states_same}
 use Rattle.overlay_top.specs.declared.running.TheConstants.{FRAMES, QUANTUM}
 use Rattle.overlay_top.specs.Sending.{IsSent, IsCut}
-use Rattle.overlay_top.specs.Outcome.{RunOutcome, report_of, text_after, first_report, ended, done, with_asked, run_from, named, command_done}
-use Rattle.overlay_top.specs.Running.{FailedAt, FailedFor, WasGiven, RunEnds, Sends}
+use Rattle.overlay_top.specs.Outcome.{Passage, RunOutcome, report_of, passage_after, passage_of, first_report, ended_by, done, texts_of, with_asked, run_from, named, command_done}
+use Rattle.overlay_top.specs.Running.{FailedAt, FailedFor, LacksMemory, WasGiven, RunEnds, Sends}
 use Rattle.overlay_top.specs.Outside.{RefusedFor}
 use Rattle.overlay_top.proofs.Asks.{asked_at, fetches_all}
 
 -- The commands of a script, one after the other.
 
-abbrev all_of : List (List ℕ) → List ℕ
-all_of texts = flat_map (λ text. text) texts
+one_more : (passages : List Passage) (passage : Passage) → texts_of (passages ++ passage ∷ []) ≡ texts_of passages ++ passage.text
+one_more passages passage =
+    flat_map-append (λ (p : Passage). p.text) passages (passage ∷ []) ∙ ap (λ bs. texts_of passages ++ bs) (append-nil passage.text)
 
-one_more : (texts : List (List ℕ)) (text : List ℕ) → all_of (texts ++ text ∷ []) ≡ all_of texts ++ text
-one_more texts text = flat_map-append (λ text. text) texts (text ∷ []) ∙ ap (λ bs. all_of texts ++ bs) (append-nil text)
-
--- more texts in front of an outcome
-abbrev pub behind : List (List ℕ) → RunOutcome → RunOutcome
-behind texts outcome = record { texts = texts ++ outcome.texts; last = outcome.last; status = outcome.status }
+-- more passages in front of an outcome
+abbrev pub behind : List Passage → RunOutcome → RunOutcome
+behind passages outcome = record { passages = passages ++ outcome.passages; last = outcome.last; status = outcome.status }
 
 -- The commands before an index are done, and the others are left.
 pub record HasRun (all : List Command) (index : ℕ) (files : List ℕ → Option (List ℕ)) (state : State) (tells : Type 0) (start now : List ℕ) : Type 0 where
-  pub texts : List (List ℕ)
-  pub as_many : length texts ≡ index
-  pub comes : run_from all (fresh FRAMES) files ≡ behind texts (run_from (drop index all) state files)
-  pub sent : tells → now ≡ start ++ flat_map (λ text. text) texts
+  pub passages : List Passage
+  pub as_many : length passages ≡ index
+  pub comes : run_from all (fresh FRAMES) files ≡ behind passages (run_from (drop index all) state files)
+  pub sent : tells → now ≡ start ++ texts_of passages
 
 -- The same of a session, which stands for the state that those commands come to.
 pub record SessionHasRun (all : List Command) (index : ℕ) (files : List ℕ → Option (List ℕ)) (session : State) (tells : Type 0) (start now : List ℕ) : Type 0 where
@@ -51,41 +49,55 @@ pub record SessionHasRun (all : List Command) (index : ℕ) (files : List ℕ �
 like_done : (files : List ℕ → Option (List ℕ)) (command : Command) (a b : State) → AreLikeStates a b → AreLikePerformed (command_done files command a) (command_done files command b)
 like_done files command a b like = like_performed QUANTUM (file_in (file_asked files command)) command a b like
 
--- an outcome that has more texts in front
-outcome_behind : (texts : List (List ℕ)) (text : List ℕ) (outcome : RunOutcome) → behind texts (done text outcome) ≡ behind (texts ++ text ∷ []) outcome
-outcome_behind texts text outcome =
-    ap (λ ts. record { texts = ts; last = outcome.last; status = outcome.status }) (sym (append_assoc texts (text ∷ []) outcome.texts))
+-- an outcome that has more passages in front
+outcome_behind : (passages : List Passage) (passage : Passage) (outcome : RunOutcome) → behind passages (done passage outcome) ≡ behind (passages ++ passage ∷ []) outcome
+outcome_behind passages passage outcome =
+    ap (λ ps. record { passages = ps; last = outcome.last; status = outcome.status }) (sym (append_assoc passages (passage ∷ []) outcome.passages))
 
-within : (out : RunOutcome) (texts : List (List ℕ)) (outcome : RunOutcome) → out ≡ behind texts outcome → length texts ≤ length out.texts
-within out texts outcome is = omega (arith, ap (λ (o : RunOutcome). length o.texts) is, length-append texts outcome.texts)
+within : (out : RunOutcome) (passages : List Passage) (outcome : RunOutcome) → out ≡ behind passages outcome → length passages ≤ length out.passages
+within out passages outcome is = omega (arith, ap (λ (o : RunOutcome). length o.passages) is, length-append passages outcome.passages)
 
-as_long : (out : RunOutcome) (texts : List (List ℕ)) (status : Status) → out ≡ behind texts (ended [] status) → length out.texts ≡ length texts
-as_long out texts status is = ap (λ (o : RunOutcome). length o.texts) is ∙ ap (λ ts. length ts) (append-nil texts)
+as_long : (out : RunOutcome) (passages : List Passage) (last : Passage) (status : Status) → out ≡ behind passages (ended_by last status)
+    → length out.passages ≡ length passages
+as_long out passages last status is = ap (λ (o : RunOutcome). length o.passages) is ∙ ap (λ ps. length ps) (append-nil passages)
 
-first_texts : (out : RunOutcome) (texts : List (List ℕ)) (outcome : RunOutcome) → out ≡ behind texts outcome → first_report (length texts) out ≡ all_of texts
-first_texts out texts outcome is =
-    ap (λ (o : RunOutcome). all_of (take (length texts) o.texts)) is ∙ ap all_of (take-append_seam texts outcome.texts)
+first_texts : (out : RunOutcome) (passages : List Passage) (outcome : RunOutcome) → out ≡ behind passages outcome → first_report (length passages) out ≡ texts_of passages
+first_texts out passages outcome is =
+    ap (λ (o : RunOutcome). texts_of (take (length passages) o.passages)) is ∙ ap texts_of (take-append_seam passages outcome.passages)
 
-next_text : (texts rest : List (List ℕ)) (text last : List ℕ) → get_or (texts ++ text ∷ rest) (length texts) last ≡ text
-next_text [] rest text last = refl
-next_text (t ∷ texts) rest text last = next_text texts rest text last
+next_passage : (passages rest : List Passage) (passage last : Passage) → get_or (passages ++ passage ∷ rest) (length passages) last ≡ passage
+next_passage [] rest passage last = refl
+next_passage (p ∷ passages) rest passage last = next_passage passages rest passage last
 
-text_next : (out : RunOutcome) (texts : List (List ℕ)) (text : List ℕ) (outcome : RunOutcome) → out ≡ behind texts (done text outcome)
-    → text_after (length texts) out ≡ text
-text_next out texts text outcome is =
-    ap (λ (o : RunOutcome). get_or o.texts (length texts) o.last) is ∙ next_text texts outcome.texts text outcome.last
+last_passage : (passages : List Passage) (last : Passage) → get_or (passages ++ []) (length passages) last ≡ last
+last_passage [] last = refl
+last_passage (p ∷ passages) last = last_passage passages last
+
+passage_next : (out : RunOutcome) (passages : List Passage) (passage : Passage) (outcome : RunOutcome) → out ≡ behind passages (done passage outcome)
+    → passage_after (length passages) out ≡ passage
+passage_next out passages passage outcome is =
+    ap (λ (o : RunOutcome). get_or o.passages (length passages) o.last) is ∙ next_passage passages outcome.passages passage outcome.last
 
 -- the report where the commands that are left say no more
-reported : (out : RunOutcome) (texts : List (List ℕ)) (status : Status) → out ≡ behind texts (ended [] status) → report_of out ≡ all_of texts
-reported out texts status is =
-    ap report_of is ∙ append-nil (all_of (texts ++ [])) ∙ ap all_of (append-nil texts)
+reported : (out : RunOutcome) (passages : List Passage) (wants : Bool) (status : Status) → out ≡ behind passages (ended_by (record { text = []; wants_memory = wants }) status)
+    → report_of out ≡ texts_of passages
+reported out passages wants status is =
+    ap report_of is ∙ append-nil (texts_of (passages ++ [])) ∙ ap texts_of (append-nil passages)
 
 -- the outcome of a command that has what it asks for
-has_asked : (asked : FileAsked) (text : List ℕ) (rest : RunOutcome) → has_all asked ≡ true → with_asked asked text rest ≡ done text rest
-has_asked AsksNothing text rest has = refl
-has_asked (HasFile file) text rest has = refl
-has_asked IsMissing text rest has = cc
-has_asked IsTooLong text rest has = cc
+has_asked : (asked : FileAsked) (passage : Passage) (rest : RunOutcome) → has_all asked ≡ true → with_asked asked passage rest ≡ done passage rest
+has_asked AsksNothing passage rest has = refl
+has_asked (HasFile file) passage rest has = refl
+has_asked IsMissing passage rest has = cc
+has_asked IsTooLong passage rest has = cc
+
+-- one for which there was no memory may want it
+wants_next : (passages : List Passage) (asked : FileAsked) (passage : Passage) (rest : RunOutcome) → (has_all asked ≡ true → passage.wants_memory ≡ true)
+    → (passage_after (length passages) (behind passages (with_asked asked passage rest))).wants_memory ≡ true
+wants_next passages AsksNothing passage rest lacks = ap (λ (p : Passage). p.wants_memory) (next_passage passages rest.passages passage rest.last) ∙ lacks refl
+wants_next passages (HasFile file) passage rest lacks = ap (λ (p : Passage). p.wants_memory) (next_passage passages rest.passages passage rest.last) ∙ lacks refl
+wants_next passages IsMissing passage rest lacks = ap (λ (p : Passage). p.wants_memory) (last_passage passages (record { text = []; wants_memory = true }))
+wants_next passages IsTooLong passage rest lacks = ap (λ (p : Passage). p.wants_memory) (last_passage passages (record { text = []; wants_memory = true }))
 
 -- what is left, from the command at an index
 left_at : (all : List Command) (index : ℕ) (command : Command) → index < length all → command ≡ get_or all index command
@@ -114,11 +126,11 @@ failed_name h new (Some name) failed = (name, refl, failed)
 comes_at : (all : List Command) (index : ℕ) (command : Command) (files now_files : List ℕ → Option (List ℕ)) (state : State) (tells : Type 0)
     (start now : List ℕ) → index < length all → command ≡ get_or all index command → ((name : List ℕ) → now_files name ≡ files name)
     → (run : HasRun all index files state tells start now)
-    → run_from all (fresh FRAMES) files ≡ behind run.texts (with_asked (file_asked now_files command) (command_done now_files command state).text
+    → run_from all (fresh FRAMES) files ≡ behind run.passages (with_asked (file_asked now_files command) (passage_of (command_done now_files command state))
     (run_from (drop (index + 1) all) (command_done now_files command state).after files))
 comes_at all index command files now_files state tells start now below is same run =
-    run.comes ∙ ap (λ left. behind run.texts (run_from left state files)) (left_at all index command below is)
-    ∙ ap (λ asked. behind run.texts (with_asked asked (performed QUANTUM (file_in asked) command state).text
+    run.comes ∙ ap (λ left. behind run.passages (run_from left state files)) (left_at all index command below is)
+    ∙ ap (λ asked. behind run.passages (with_asked asked (passage_of (performed QUANTUM (file_in asked) command state))
     (run_from (drop (index + 1) all) (performed QUANTUM (file_in asked) command state).after files)))
     (sym (same_asked files now_files command same))
 
@@ -129,17 +141,17 @@ one_step : (all : List Command) (index : ℕ) (command : Command) (files now_fil
     → (tells → IsSent now (command_done now_files command state).text new)
     → HasRun all (index + 1) files (command_done now_files command state).after tells start new
 one_step all index command files now_files state tells start now new below is same run has sends =
-    let text = (command_done now_files command state).text in
+    let passage = passage_of (command_done now_files command state) in
     let left = run_from (drop (index + 1) all) (command_done now_files command state).after files in
     record {
-      texts = run.texts ++ text ∷ [];
-      as_many = length-append run.texts (text ∷ []) ∙ ap (λ n. n + 1) run.as_many;
+      passages = run.passages ++ passage ∷ [];
+      as_many = length-append run.passages (passage ∷ []) ∙ ap (λ n. n + 1) run.as_many;
       comes = comes_at all index command files now_files state tells start now below is same run
-          ∙ ap (behind run.texts) (has_asked (file_asked now_files command) text left has)
-          ∙ outcome_behind run.texts text left;
+          ∙ ap (behind run.passages) (has_asked (file_asked now_files command) passage left has)
+          ∙ outcome_behind run.passages passage left;
       sent = λ is_told.
-          sends is_told ∙ ap (λ bs. bs ++ text) (run.sent is_told) ∙ append_assoc start (all_of run.texts) text
-          ∙ ap (λ bs. start ++ bs) (sym (one_more run.texts text));
+          sends is_told ∙ ap (λ bs. bs ++ passage.text) (run.sent is_told) ∙ append_assoc start (texts_of run.passages) passage.text
+          ∙ ap (λ bs. start ++ bs) (sym (one_more run.passages passage));
     }
 
 pub step : (all : List Command) (index : ℕ) (command : Command) (files now_files : List ℕ → Option (List ℕ)) (session after : State) (tells : Type 0)
@@ -162,7 +174,7 @@ pub none_run : (all : List Command) (files : List ℕ → Option (List ℕ)) (se
 none_run all files session tells start is = record {
   state = fresh FRAMES;
   stands = states_same session (fresh FRAMES) is;
-  run = record { texts = []; as_many = refl; comes = refl; sent = λ is_told. sym (append-nil start) };
+  run = record { passages = []; as_many = refl; comes = refl; sent = λ is_told. sym (append-nil start) };
 }
 
 -- all commands are done
@@ -173,13 +185,13 @@ pub all_done : {H K : Type 0} (h : ShelfOf H) (k : SinkOf K) (all : List Command
     → RunEnds h k (run_from all (fresh FRAMES) files) (map asks all) shelf_old shelf_new start now (Ok tt)
 all_done h k all index files session shelf_old shelf_new start now last none has_run asked =
     let run = has_run.run in
-    let comes = run.comes ∙ ap (λ left. behind run.texts (run_from left has_run.state files)) none in
+    let comes = run.comes ∙ ap (λ left. behind run.passages (run_from left has_run.state files)) none in
     let many : length (map asks all) ≤ index = omega (arith, last, length-map all asks) in
-    let enough : length (map asks all) ≤ length (run_from all (fresh FRAMES) files).texts + 1 =
-    omega (arith, last, length-map all asks, run.as_many, as_long (run_from all (fresh FRAMES) files) run.texts ending.Done comes) in (
+    let enough : length (map asks all) ≤ length (run_from all (fresh FRAMES) files).passages + 1 =
+    omega (arith, last, length-map all asks, run.as_many, as_long (run_from all (fresh FRAMES) files) run.passages _ ending.Done comes) in (
       ap (λ (o : RunOutcome). o.status) comes,
-      fetches_all h.fetched (map asks all) index (length (run_from all (fresh FRAMES) files).texts + 1) shelf_old shelf_new many enough asked,
-      λ is_told. run.sent is_told ∙ ap (λ bs. k.taken start ++ bs) (sym (reported (run_from all (fresh FRAMES) files) run.texts ending.Done comes)),
+      fetches_all h.fetched (map asks all) index (length (run_from all (fresh FRAMES) files).passages + 1) shelf_old shelf_new many enough asked,
+      λ is_told. run.sent is_told ∙ ap (λ bs. k.taken start ++ bs) (sym (reported (run_from all (fresh FRAMES) files) run.passages false ending.Done comes)),
     )
 
 -- the next command isn't done
@@ -187,75 +199,90 @@ halted : {H K : Type 0} (h : ShelfOf H) (k : SinkOf K) (halt : Halt) (all : List
     (files now_files : List ℕ → Option (List ℕ)) (state : State) (shelf_old shelf_new : H) (start now new : K)
     → index < length all → command ≡ get_or all index command → ((name : List ℕ) → now_files name ≡ files name)
     → HasRun all index files state k.tells (k.taken start) (k.taken now) → WasGiven (file_asked now_files command) (Err halt)
+    → LacksMemory (file_asked now_files command) (command_done now_files command state) (Err halt)
     → (k.tells → Sends (k.taken now) (command_done now_files command state).text (k.taken new) (Err halt))
     → FailedFor h shelf_new (asks command) (Err halt)
     → AsksFor h.fetched (named (take (index + 1) (map asks all))) shelf_old shelf_new
     → RunEnds h k (run_from all (fresh FRAMES) files) (map asks all) shelf_old shelf_new start new (Err halt)
-halted h k Missing all index command files now_files state shelf_old shelf_new start now new below is same run given sends failed asked =
-    let text = (command_done now_files command state).text in
+halted h k Missing all index command files now_files state shelf_old shelf_new start now new below is same run given lacks sends failed asked =
+    let passage = passage_of (command_done now_files command state) in
     let left = run_from (drop (index + 1) all) (command_done now_files command state).after files in
-    let comes = comes_at all index command files now_files state k.tells (k.taken start) (k.taken now) below is same run ∙ ap (λ a. behind run.texts (with_asked a text left)) given in
-    let long : index + 1 ≡ length (run_from all (fresh FRAMES) files).texts + 1 = ap (λ n. n + 1) (sym run.as_many ∙ sym (as_long (run_from all (fresh FRAMES) files) run.texts ending.ReadFailed comes)) in (
+    let comes = comes_at all index command files now_files state k.tells (k.taken start) (k.taken now) below is same run ∙ ap (λ a. behind run.passages (with_asked a passage left)) given in
+    let long : index + 1 ≡ length (run_from all (fresh FRAMES) files).passages + 1 = ap (λ n. n + 1) (sym run.as_many ∙ sym (as_long (run_from all (fresh FRAMES) files) run.passages _ ending.ReadFailed comes)) in (
       ap (λ (o : RunOutcome). o.status) comes,
       subst (λ n. AsksFor h.fetched (named (take n (map asks all))) shelf_old shelf_new) long asked,
-      λ is_told. sends is_told ∙ run.sent is_told ∙ ap (λ bs. k.taken start ++ bs) (sym (reported (run_from all (fresh FRAMES) files) run.texts ending.ReadFailed comes)),
+      λ is_told. sends is_told ∙ run.sent is_told ∙ ap (λ bs. k.taken start ++ bs) (sym (reported (run_from all (fresh FRAMES) files) run.passages true ending.ReadFailed comes)),
     )
-halted h k TooLong all index command files now_files state shelf_old shelf_new start now new below is same run given sends failed asked =
-    let text = (command_done now_files command state).text in
+halted h k TooLong all index command files now_files state shelf_old shelf_new start now new below is same run given lacks sends failed asked =
+    let passage = passage_of (command_done now_files command state) in
     let left = run_from (drop (index + 1) all) (command_done now_files command state).after files in
-    let comes = comes_at all index command files now_files state k.tells (k.taken start) (k.taken now) below is same run ∙ ap (λ a. behind run.texts (with_asked a text left)) given in
-    let long : index + 1 ≡ length (run_from all (fresh FRAMES) files).texts + 1 = ap (λ n. n + 1) (sym run.as_many ∙ sym (as_long (run_from all (fresh FRAMES) files) run.texts ending.TooLong comes)) in (
+    let comes = comes_at all index command files now_files state k.tells (k.taken start) (k.taken now) below is same run ∙ ap (λ a. behind run.passages (with_asked a passage left)) given in
+    let long : index + 1 ≡ length (run_from all (fresh FRAMES) files).passages + 1 = ap (λ n. n + 1) (sym run.as_many ∙ sym (as_long (run_from all (fresh FRAMES) files) run.passages _ ending.TooLong comes)) in (
       ap (λ (o : RunOutcome). o.status) comes,
       subst (λ n. AsksFor h.fetched (named (take n (map asks all))) shelf_old shelf_new) long asked,
-      λ is_told. sends is_told ∙ run.sent is_told ∙ ap (λ bs. k.taken start ++ bs) (sym (reported (run_from all (fresh FRAMES) files) run.texts ending.TooLong comes)),
+      λ is_told. sends is_told ∙ run.sent is_told ∙ ap (λ bs. k.taken start ++ bs) (sym (reported (run_from all (fresh FRAMES) files) run.passages true ending.TooLong comes)),
     )
-halted h k FetchFailed all index command files now_files state shelf_old shelf_new start now new below is same run given sends failed asked =
+halted h k FetchFailed all index command files now_files state shelf_old shelf_new start now new below is same run given lacks sends failed asked =
     let left = run_from (drop index all) state files in
     let named_by = failed_name h shelf_new (asks command) failed in
-    let at : ◌≡◌ {A = ℕ} index (length run.texts) = sym run.as_many in (
+    let at : ◌≡◌ {A = ℕ} index (length run.passages) = sym run.as_many in (
       index,
       named_by.0,
-      subst (λ n. n ≤ length (run_from all (fresh FRAMES) files).texts) run.as_many (within _ run.texts left run.comes),
+      subst (λ n. n ≤ length (run_from all (fresh FRAMES) files).passages) run.as_many (within _ run.passages left run.comes),
       asked_at asks all index command below is ∙ ap Some named_by.1,
       asked,
       named_by.2,
-      λ is_told. sends is_told ∙ run.sent is_told ∙ ap (λ bs. k.taken start ++ bs) (sym (ap (λ n. first_report n (run_from all (fresh FRAMES) files)) at ∙ first_texts _ run.texts left run.comes)),
+      λ is_told. sends is_told ∙ run.sent is_told ∙ ap (λ bs. k.taken start ++ bs) (sym (ap (λ n. first_report n (run_from all (fresh FRAMES) files)) at ∙ first_texts _ run.passages left run.comes)),
     )
-halted h k Memory all index command files now_files state shelf_old shelf_new start now new below is same run given sends failed asked =
-    let left = run_from (drop index all) state files in (
+halted h k Memory all index command files now_files state shelf_old shelf_new start now new below is same run given lacks sends failed asked =
+    let left = run_from (drop index all) state files in
+    let out = run_from all (fresh FRAMES) files in
+    let next = run_from (drop (index + 1) all) (command_done now_files command state).after files in
+    let comes = comes_at all index command files now_files state k.tells (k.taken start) (k.taken now) below is same run in
+    let wants = ap (λ n. (passage_after n out).wants_memory) (sym run.as_many) ∙ ap (λ (o : RunOutcome). (passage_after (length run.passages) o).wants_memory) comes
+    ∙ wants_next run.passages (file_asked now_files command) (passage_of (command_done now_files command state)) next lacks in (
       index,
       index + 1,
-      subst (λ n. n ≤ length (run_from all (fresh FRAMES) files).texts) run.as_many (within _ run.texts left run.comes),
-      omega arith,
+      subst (λ n. n ≤ length out.passages) run.as_many (within _ run.passages left run.comes),
+      inr (refl, wants),
       asked,
-      λ is_told. sends is_told ∙ run.sent is_told ∙ ap (λ bs. k.taken start ++ bs) (sym (ap (λ n. first_report n (run_from all (fresh FRAMES) files)) (sym run.as_many) ∙ first_texts _ run.texts left run.comes)),
+      λ is_told. sends is_told ∙ run.sent is_told ∙ ap (λ bs. k.taken start ++ bs) (sym (ap (λ n. first_report n (run_from all (fresh FRAMES) files)) (sym run.as_many) ∙ first_texts _ run.passages left run.comes)),
     )
-halted h k SendFailed all index command files now_files state shelf_old shelf_new start now new below is same run given sends failed asked =
-    let text = (command_done now_files command state).text in
+halted h k SendFailed all index command files now_files state shelf_old shelf_new start now new below is same run given lacks sends failed asked =
+    let passage = passage_of (command_done now_files command state) in
     let left = run_from (drop (index + 1) all) (command_done now_files command state).after files in
     let out = run_from all (fresh FRAMES) files in
     let comes = comes_at all index command files now_files state k.tells (k.taken start) (k.taken now) below is same run
-    ∙ ap (behind run.texts) (has_asked (file_asked now_files command) text left given) in
-    let first = ap (λ n. first_report n out) (sym run.as_many) ∙ first_texts out run.texts (done text left) comes in
-    let next = ap (λ n. text_after n out) (sym run.as_many) ∙ text_next out run.texts text left comes in (
+    ∙ ap (behind run.passages) (has_asked (file_asked now_files command) passage left given) in
+    let first = ap (λ n. first_report n out) (sym run.as_many) ∙ first_texts out run.passages (done passage left) comes in
+    let next = ap (λ n. passage_after n out) (sym run.as_many) ∙ passage_next out run.passages passage left comes in (
       index,
-      subst (λ n. n ≤ length out.texts) run.as_many (within out run.texts (done text left) comes),
+      subst (λ n. n ≤ length out.passages) run.as_many (within out run.passages (done passage left) comes),
       asked,
       λ is_told.
-          subst (λ t. IsCut (k.taken start ++ first_report index out) t (k.taken new)) (sym next)
-          (subst (λ held. IsCut held text (k.taken new)) (run.sent is_told ∙ ap (λ bs. k.taken start ++ bs) (sym first)) (sends is_told)),
+          subst (λ (p : Passage). IsCut (k.taken start ++ first_report index out) p.text (k.taken new)) (sym next)
+          (subst (λ held. IsCut held passage.text (k.taken new)) (run.sent is_told ∙ ap (λ bs. k.taken start ++ bs) (sym first)) (sends is_told)),
     )
+
+lacks_like : (halt : Halt) (asked : FileAsked) (x y : Performed) → x.wants_memory ≡ y.wants_memory → LacksMemory asked x (Err halt) → LacksMemory asked y (Err halt)
+lacks_like Memory asked x y same lacks = λ has. sym same ∙ lacks has
+lacks_like Missing asked x y same lacks = tt
+lacks_like TooLong asked x y same lacks = tt
+lacks_like FetchFailed asked x y same lacks = tt
+lacks_like SendFailed asked x y same lacks = tt
 
 pub stop : {H K : Type 0} (h : ShelfOf H) (k : SinkOf K) (r : Result (Unit {0}) Halt) (halt : Halt) (all : List Command) (index : ℕ) (command : Command)
     (files now_files : List ℕ → Option (List ℕ)) (session : State) (shelf_old shelf_new : H) (start now new : K) → r ≡ Err halt
     → index < length all → command ≡ get_or all index command → ((name : List ℕ) → now_files name ≡ files name)
     → SessionHasRun all index files session k.tells (k.taken start) (k.taken now) → WasGiven (file_asked now_files command) (Err halt)
+    → LacksMemory (file_asked now_files command) (command_done now_files command session) (Err halt)
     → (k.tells → Sends (k.taken now) (command_done now_files command session).text (k.taken new) (Err halt))
     → FailedFor h shelf_new (asks command) (Err halt)
     → AsksFor h.fetched (named (take (index + 1) (map asks all))) shelf_old shelf_new
     → RunEnds h k (run_from all (fresh FRAMES) files) (map asks all) shelf_old shelf_new start new r
-stop h k r halt all index command files now_files session shelf_old shelf_new start now new is_err below is same has_run given sends failed asked =
+stop h k r halt all index command files now_files session shelf_old shelf_new start now new is_err below is same has_run given lacks sends failed asked =
     let like = like_done now_files command session has_run.state has_run.stands in
     subst (RunEnds h k (run_from all (fresh FRAMES) files) (map asks all) shelf_old shelf_new start new) (sym is_err)
     (halted h k halt all index command files now_files has_run.state shelf_old shelf_new start now new below is same has_run.run given
+    (lacks_like halt (file_asked now_files command) (command_done now_files command session) (command_done now_files command has_run.state) like.wants lacks)
     (λ is_told. subst (λ text. Sends (k.taken now) text (k.taken new) (Err halt)) like.text (sends is_told)) failed asked)

@@ -1,5 +1,8 @@
-use Rattle.std.proofs.Common.{◌≡◌, ℕ, List, [], ◌++◌, sym, ap, ◌∙◌, arith, append_assoc, length-append, append-nil, refl, Result, Ok, Err, OnOk, OnErr}
-use Rattle.overlay_top.specs.Sending.{IsSent, IsCut}
+use Rattle.std.proofs.Common.{◌≡◌, ℕ, List, [], ◌++◌, sym, ap, subst, ◌∙◌, arith, append_assoc, length-append, append-nil, refl, Result, Ok, Err, OnOk}
+use Rattle.ovl_io.specs.Outside.{Rose}
+use Rattle.ovl_io.specs.declared.sink.Sink.{Ghosts as SinkOf}
+use Rattle.overlay_top.specs.Sending.{IsSent, IsCut, SendsText}
+use Rattle.overlay_top.specs.Outside.{SinkRose, SinkSound}
 
 -- Texts that are sent one behind the other.
 
@@ -52,19 +55,27 @@ pub last_cut : (start now new left line whole : List ℕ) → left ≡ line → 
 last_cut start now new left line whole is cut done =
     cut_done start now new left line [] whole (is ∙ sym (append-nil line)) cut done
 
--- A fact for one variant, from another for it.
-pub on_ok : {T E P Q : Type 0} (r : Result T E) → (P → Q) → OnOk r P → OnOk r Q
-on_ok (Ok x) f h = f h
-on_ok (Err e) f h = h
+-- Sending what is left of a text, of which a front was sent without a fault.
+module _ {K : Type 0} (k : SinkOf K) (start now new : K) (sound : SinkSound k start now) where
+  rose_since : SinkRose k now new → SinkRose k start new
+  rose_since rose = subst (λ n. Rose n (k.faults new)) sound rose
 
-pub on_err : {T E P Q : Type 0} (r : Result T E) → (P → Q) → OnErr r P → OnErr r Q
-on_err (Ok x) f h = h
-on_err (Err e) f h = f h
+  -- a line of it failed, behind which more follows
+  pub sends_cut : {T E F : Type 0} (left line rest whole : List ℕ) (e : E) (r : Result T F) (f : F) → r ≡ Err f → left ≡ line ++ rest
+      → (k.tells → IsDone (k.taken start) (k.taken now) left whole) → SendsText {T = T} k now line new (Err e) → SendsText k start whole new r
+  sends_cut {T = T} {F = F} left line rest whole e r f is_err is so_far (rose, cut) =
+      subst (λ (x : Result T F). SendsText k start whole new x) (sym is_err)
+      (rose_since rose, λ tells. cut_done (k.taken start) (k.taken now) (k.taken new) left line rest whole is (cut tells) (so_far tells))
 
-pub at_err : {T E P : Type 0} (r : Result T E) → P → OnErr r P
-at_err (Ok x) h = tt
-at_err (Err e) h = h
+  -- all of it
+  pub sends_last : {T E : Type 0} (left text whole : List ℕ) (r : Result T E) → left ≡ text → (k.tells → IsDone (k.taken start) (k.taken now) left whole)
+      → SendsText k now text new r → SendsText k start whole new r
+  sends_last left text whole (Ok x) is so_far (none, sent) =
+      (none ∙ sound, λ tells. last_done (k.taken start) (k.taken now) (k.taken new) left text whole is (sent tells) (so_far tells))
+  sends_last left text whole (Err e) is so_far (rose, cut) =
+      (rose_since rose, λ tells. last_cut (k.taken start) (k.taken now) (k.taken new) left text whole is (cut tells) (so_far tells))
 
+-- A fact for one variant.
 pub at_ok : {T E P : Type 0} (r : Result T E) → P → OnOk r P
 at_ok (Ok x) h = h
 at_ok (Err e) h = tt

@@ -13,7 +13,7 @@ use Rattle.script_text.specs.declared.command.ScriptError.TheVariants as script
 use Rattle.overlay_top.specs.declared.status.Status.{Status}
 use Rattle.overlay_top.specs.declared.status.Status.TheVariants.{Done, NoMemory, BadWords, ReadFailed, WriteFailed, BadLine, TooLong}
 use Rattle.report_text.specs.Lines.{bad_line}
-use Rattle.overlay_top.specs.Outcome.{RunOutcome, SaysOutside, SaysCommands, SaysTooMuch, said, named, report_of, first_report, text_after}
+use Rattle.overlay_top.specs.Outcome.{RunOutcome, SaysOutside, SaysCommands, SaysTooMuch, said, named, report_of, first_report, passage_after, MayLackMemory}
 use Rattle.overlay_top.specs.Reading.{Took, TookAtMost}
 use Rattle.overlay_top.specs.Running.{Reported, ReportedCut}
 use Rattle.overlay_top.specs.Outside.{SourceRose, SourceSound, ShelfRose, ShelfSound, SinkRose, SinkSound, RefusedFor, WasRefused}
@@ -41,24 +41,24 @@ pub data Ends {S H K : Type 0} (s : SourceOf S) (h : ShelfOf H) (k : SinkOf K) (
   Untouched : outcome.status ≡ BadWords → report_of outcome ≡ [] → new ≡ old → Ends s h k outcome names old new BadWords
   -- the whole report, and the outcome's status: the files of the commands done were asked for, and of the one that ended the call
   Whole : SourceSound s old.script new.script → ShelfSound h old.files new.files → SinkSound k old.report new.report
-      → IsTaken (s.left old.script) (s.left new.script) → AsksFor h.fetched (named (take (length outcome.texts + 1) names)) old.files new.files
+      → IsTaken (s.left old.script) (s.left new.script) → AsksFor h.fetched (named (take (length outcome.passages + 1) names)) old.files new.files
       → Reported k old.report (report_of outcome) new.report → Ends s h k outcome names old new outcome.status
   -- the source failed, no file was asked for, and nothing was reported
   SourceFailed : SourceRose s old.script new.script → new.files ≡ old.files → new.report ≡ old.report
       → TookAtMost MOST_SCRIPT_BYTES (s.left old.script) (s.left new.script) → Ends s h k outcome names old new ReadFailed
   -- the shelf failed to fetch the file of command j + 1, and the first j commands were reported
-  ShelfFailed : (j : ℕ) (name : List ℕ) → j ≤ length outcome.texts → slice_get names j ≡ Some (Some name)
+  ShelfFailed : (j : ℕ) (name : List ℕ) → j ≤ length outcome.passages → slice_get names j ≡ Some (Some name)
       → SourceSound s old.script new.script → ShelfRose h old.files new.files → SinkSound k old.report new.report
       → s.left new.script ≡ [] → AsksFor h.fetched (named (take (j + 1) names)) old.files new.files
       → RefusedFor h new.files name shelf.Failed
       → Reported k old.report (first_report j outcome) new.report → Ends s h k outcome names old new ReadFailed
   -- the sink failed in the text behind the first j commands, of which a front was taken that isn't the whole
-  SinkFailed : (j : ℕ) → j ≤ length outcome.texts
+  SinkFailed : (j : ℕ) → j ≤ length outcome.passages
       → SourceSound s old.script new.script → ShelfSound h old.files new.files → SinkRose k old.report new.report
       → s.left new.script ≡ [] → AsksFor h.fetched (named (take (j + 1) names)) old.files new.files
-      → ReportedCut k old.report (first_report j outcome) (text_after j outcome) new.report → Ends s h k outcome names old new WriteFailed
-  -- there was no memory, and the first j commands were reported
-  OutOfMemory : (j begun : ℕ) → j ≤ length outcome.texts → begun ≤ j + 1
+      → ReportedCut k old.report (first_report j outcome) (passage_after j outcome).text new.report → Ends s h k outcome names old new WriteFailed
+  -- there was no memory, before a command was begun or within one that may want it, and the first j commands were reported
+  OutOfMemory : (j begun : ℕ) → j ≤ length outcome.passages → MayLackMemory outcome j begun
       → SourceSound s old.script new.script → ShelfSound h old.files new.files → SinkSound k old.report new.report
       → AsksFor h.fetched (named (take begun names)) old.files new.files
       → Reported k old.report (first_report j outcome) new.report → Ends s h k outcome names old new NoMemory

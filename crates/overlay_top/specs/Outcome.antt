@@ -1,4 +1,4 @@
-use Rattle.std.specs.Prelude.{ℕ, ◌||◌, nat_lt, Bool, true, false, List, [], ◌∷◌, ◌++◌, length, map, flat_map, get_or, take, Option, Some, None, Result, Ok, Err, if◌then◌else◌}
+use Rattle.std.specs.Prelude.{◌≡◌, ◌⊎◌, ℕ, ◌+◌, ◌||◌, nat_lt, Bool, true, false, List, [], ◌∷◌, ◌++◌, length, map, flat_map, get_or, take, Option, Some, None, Result, Ok, Err, if◌then◌else◌}
 use Rattle.sizes.specs.declared.TheConstants.{MOST_SCRIPT_BYTES, MOST_SCRIPT_LINES}
 use Rattle.script_text.specs.declared.command.Command.{Command}
 use Rattle.script_text.specs.Lines.{line_count}
@@ -10,29 +10,47 @@ use Rattle.overlay_top.specs.declared.running.TheConstants.{FRAMES, QUANTUM}
 use Rattle.overlay_top.specs.declared.status.Status.{Status}
 use Rattle.overlay_top.specs.declared.status.Status.TheVariants.{Done, BadWords, ReadFailed, BadLine, TooLong}
 
--- What a call comes to: the text of each command that is done, in order, what follows them, and the status.
+-- What a command comes to in the report: its text, and whether want of memory may come in its place.
+pub record Passage : Type 0 where
+  pub text : List ℕ
+  pub wants_memory : Bool
+
+-- What a call comes to: the passage of each command that is done, in order, what follows them, and the status.
 pub record RunOutcome : Type 0 where
-  pub texts : List (List ℕ)
-  pub last : List ℕ
+  pub passages : List Passage
+  pub last : Passage
   pub status : Status
 
--- the whole report, that of the first k commands, and what follows those: a command's text or the last one
+-- the whole report, that of the first k commands, and what follows those: a command's passage or the last one
+abbrev pub texts_of : List Passage → List ℕ
+texts_of passages = flat_map (λ passage. passage.text) passages
+
 abbrev pub report_of : RunOutcome → List ℕ
-report_of outcome = flat_map (λ text. text) outcome.texts ++ outcome.last
+report_of outcome = texts_of outcome.passages ++ outcome.last.text
 
 abbrev pub first_report : ℕ → RunOutcome → List ℕ
-first_report k outcome = flat_map (λ text. text) (take k outcome.texts)
+first_report k outcome = texts_of (take k outcome.passages)
 
-abbrev pub text_after : ℕ → RunOutcome → List ℕ
-text_after k outcome = get_or outcome.texts k outcome.last
+abbrev pub passage_after : ℕ → RunOutcome → Passage
+passage_after k outcome = get_or outcome.passages k outcome.last
 
--- a call that ends before a command is done
+-- a call that ends before a command is done; and one that ends since the file of a command isn't had, for which memory was taken
+abbrev pub ended_by : Passage → Status → RunOutcome
+ended_by last status = record { passages = []; last = last; status = status }
+
 abbrev pub ended : List ℕ → Status → RunOutcome
-ended last status = record { texts = []; last = last; status = status }
+ended last status = ended_by (record { text = last; wants_memory = false }) status
+
+abbrev pub not_fetched : Status → RunOutcome
+not_fetched status = ended_by (record { text = []; wants_memory = true }) status
 
 -- one more command is done, before the others
-abbrev pub done : List ℕ → RunOutcome → RunOutcome
-done text outcome = record { texts = text ∷ outcome.texts; last = outcome.last; status = outcome.status }
+abbrev pub done : Passage → RunOutcome → RunOutcome
+done passage outcome = record { passages = passage ∷ outcome.passages; last = outcome.last; status = outcome.status }
+
+-- Want of memory comes before the first command is begun, or within command j + 1 where that may want it.
+abbrev pub MayLackMemory : RunOutcome → ℕ → ℕ → Type 0
+MayLackMemory outcome j begun = ((j ≡ 0) × (begun ≡ 0)) ⊎ ((begun ≡ j + 1) × ((passage_after j outcome).wants_memory ≡ true))
 
 -- a command on a state, over files by name
 abbrev pub command_done : (List ℕ → Option (List ℕ)) → Command → State → Performed
@@ -40,16 +58,19 @@ command_done files command state = performed QUANTUM (file_in (file_asked files 
 
 -- The commands of a script on a state, over files by name. One that asks for a file that isn't there, or that
 -- is too long, ends the call.
-abbrev pub with_asked : FileAsked → List ℕ → RunOutcome → RunOutcome
-with_asked AsksNothing text rest = done text rest
-with_asked (HasFile file) text rest = done text rest
-with_asked IsMissing text rest = ended [] ReadFailed
-with_asked IsTooLong text rest = ended [] TooLong
+abbrev pub with_asked : FileAsked → Passage → RunOutcome → RunOutcome
+with_asked AsksNothing passage rest = done passage rest
+with_asked (HasFile file) passage rest = done passage rest
+with_asked IsMissing passage rest = not_fetched ReadFailed
+with_asked IsTooLong passage rest = not_fetched TooLong
+
+abbrev pub passage_of : Performed → Passage
+passage_of performed = record { text = performed.text; wants_memory = performed.wants_memory }
 
 abbrev pub run_from : List Command → State → (List ℕ → Option (List ℕ)) → RunOutcome
 run_from [] state files = ended [] Done
 run_from (command ∷ commands) state files =
-    with_asked (file_asked files command) (command_done files command state).text (run_from commands (command_done files command state).after files)
+    with_asked (file_asked files command) (passage_of (command_done files command state)) (run_from commands (command_done files command state).after files)
 
 -- What a script says: too much, or its commands, or the number of its first line that is outside.
 pub data ScriptSays : Type 0 where

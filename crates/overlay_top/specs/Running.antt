@@ -1,4 +1,4 @@
-use Rattle.std.specs.Prelude.{◌≡◌, ℕ, ◌+◌, ◌≤◌, true, List, ◌++◌, length, take, slice_get, Option, Some, None, Result, Ok, Err, OnOk, OnErr}
+use Rattle.std.specs.Prelude.{◌≡◌, ℕ, ◌+◌, ◌≤◌, true, List, ◌++◌, length, take, slice_get, Option, Some, None, IsSome, Result, Ok, Err, OnOk}
 use Rattle.ovl_io.specs.Outside.{AsksFor}
 use Rattle.ovl_io.specs.declared.shelf.ShelfError.TheVariants as shelf
 use Rattle.ovl_io.specs.declared.shelf.Shelf.{Ghosts as ShelfOf}
@@ -6,11 +6,15 @@ use Rattle.ovl_io.specs.declared.sink.Sink.{Ghosts as SinkOf}
 use Rattle.overlay_top.specs.declared.running.Halt.{Halt}
 use Rattle.overlay_top.specs.declared.running.Halt.TheVariants.{Missing, FetchFailed, TooLong, Memory, SendFailed}
 use Rattle.overlay_top.specs.declared.status.Status.TheVariants as status
-use Rattle.overlay_top.specs.Sending.{IsSent, IsCut}
-use Rattle.command_core.specs.State.{AreLikeStates, InSession}
+use Rattle.overlay_top.specs.Sending.{IsSent, IsCut, SendsText}
+use Rattle.report_text.specs.declared.answer.Answer.{Answer}
+use Rattle.report_text.specs.declared.answer.Answer.TheVariants as told
+use Rattle.report_text.specs.Answers.{answer_text}
+use Rattle.command_core.specs.State.{AreLikeStates, State}
+use Rattle.command_core.specs.Sessions.{InSession}
 use Rattle.command_core.specs.Commands.{Performed, FileAsked, HasFile, IsMissing, IsTooLong, file_in, has_all}
-use Rattle.overlay_top.specs.Outcome.{RunOutcome, named, report_of, first_report, text_after}
-use Rattle.overlay_top.specs.Outside.{RefusedFor}
+use Rattle.overlay_top.specs.Outcome.{RunOutcome, named, report_of, first_report, passage_after, MayLackMemory}
+use Rattle.overlay_top.specs.Outside.{RefusedFor, SinkRose, SinkSound}
 
 -- How the parts of a call end, by what their part of the outcome is.
 
@@ -50,14 +54,14 @@ Sends old text new (Err TooLong) = new ≡ old
 Sends old text new (Err FetchFailed) = new ≡ old
 Sends old text new (Err Memory) = new ≡ old
 
--- a command with a file is done, or there is no memory, or the sink failed: no other halt comes then
-abbrev pub IsDoing : Result (Unit {0}) Halt → Type 0
-IsDoing (Ok done) = Unit {0}
-IsDoing (Err SendFailed) = Unit {0}
-IsDoing (Err Memory) = Unit {0}
-IsDoing (Err Missing) = ⊥
-IsDoing (Err FetchFailed) = ⊥
-IsDoing (Err TooLong) = ⊥
+-- there was no memory for a command that has what it asks for: it may want that
+abbrev pub LacksMemory : FileAsked → Performed → Result (Unit {0}) Halt → Type 0
+LacksMemory asked performed (Err Memory) = has_all asked ≡ true → performed.wants_memory ≡ true
+LacksMemory asked performed (Err Missing) = Unit {0}
+LacksMemory asked performed (Err TooLong) = Unit {0}
+LacksMemory asked performed (Err FetchFailed) = Unit {0}
+LacksMemory asked performed (Err SendFailed) = Unit {0}
+LacksMemory asked performed (Ok done) = Unit {0}
 
 -- a fetch that failed was one of the name that a command asked for
 abbrev pub FailedAt : {H : Type 0} → ShelfOf H → H → Option (List ℕ) → Type 0
@@ -76,20 +80,14 @@ FetchesFor h new asked (Ok done) = Unit {0}
 FetchesFor h new asked (Err FetchFailed) = FailedAt h new asked
 FetchesFor h new asked (Err Missing) = Unit {0}
 FetchesFor h new asked (Err TooLong) = Unit {0}
-FetchesFor h new asked (Err Memory) = Unit {0}
+FetchesFor h new asked (Err Memory) = IsSome asked
 FetchesFor h new asked (Err SendFailed) = ⊥
 
 abbrev pub FailedFor : {H : Type 0} → ShelfOf H → H → Option (List ℕ) → Result (Unit {0}) Halt → Type 0
 FailedFor h new asked (Ok done) = Unit {0}
 FailedFor h new asked (Err halt) = HaltedAt h new asked halt
 
--- What a sink holds after a text was sent to it, where it tells its bytes: all of it, or where that failed a front of it.
-abbrev pub Sent : {K T E : Type 0} → SinkOf K → K → List ℕ → K → Result T E → Type 0
-Sent k old text new result = k.tells → OnOk result (IsSent (k.taken old) text (k.taken new))
-
-abbrev pub Cut : {K T E : Type 0} → SinkOf K → K → List ℕ → K → Result T E → Type 0
-Cut k old text new result = k.tells → OnErr result (IsCut (k.taken old) text (k.taken new))
-
+-- the same, where the sink tells its bytes
 abbrev pub SendsOn : {K : Type 0} → SinkOf K → K → List ℕ → K → Result (Unit {0}) Halt → Type 0
 SendsOn k old text new result = k.tells → Sends (k.taken old) text (k.taken new) result
 
@@ -97,6 +95,36 @@ SendsOn k old text new result = k.tells → Sends (k.taken old) text (k.taken ne
 -- ledger's origins
 abbrev pub LeavesOn : {T E : Type 0} → Performed → InSession → Result T E → Type 0
 LeavesOn done session result = OnOk result (AreLikeStates session.state done.after)
+
+-- What turns come to was sent, and done.
+pub record TakesOn {K T E : Type 0} (k : SinkOf K) (sink_old sink_new : K) (done : Performed) (old new : InSession) (result : Result T E) : Type 0 where
+  pub sends : SendsText k sink_old done.text sink_new result
+  pub after : LeavesOn done new result
+  pub quantum : new.quantum ≡ old.quantum
+
+-- what came of a change was told: its line; or nothing for want of memory
+abbrev pub Tells : {K : Type 0} → SinkOf K → Answer → K → K → Result (Unit {0}) Halt → Type 0
+Tells k answer old new (Ok unit) = (answer ≡ told.Memory → ⊥) × SinkSound k old new × (k.tells → IsSent (k.taken old) (answer_text answer) (k.taken new))
+Tells k answer old new (Err SendFailed) = (answer ≡ told.Memory → ⊥) × SinkRose k old new × (k.tells → IsCut (k.taken old) (answer_text answer) (k.taken new))
+Tells k answer old new (Err Memory) = (answer ≡ told.Memory) × (new ≡ old)
+Tells k answer old new (Err Missing) = ⊥
+Tells k answer old new (Err FetchFailed) = ⊥
+Tells k answer old new (Err TooLong) = ⊥
+
+-- What a command with a file comes to was sent, and done; or there was no memory, where it may want that, and nothing was sent; or the sink
+-- failed.
+abbrev pub EndsCommand : {K : Type 0} → SinkOf K → K → K → Performed → State → Result (Unit {0}) Halt → Type 0
+EndsCommand k old new done after (Ok unit) =
+    SinkSound k old new × (k.tells → IsSent (k.taken old) done.text (k.taken new)) × AreLikeStates after done.after
+EndsCommand k old new done after (Err SendFailed) = SinkRose k old new × (k.tells → IsCut (k.taken old) done.text (k.taken new))
+EndsCommand k old new done after (Err Memory) = SinkSound k old new × (k.tells → k.taken new ≡ k.taken old) × (done.wants_memory ≡ true)
+EndsCommand k old new done after (Err Missing) = ⊥
+EndsCommand k old new done after (Err FetchFailed) = ⊥
+EndsCommand k old new done after (Err TooLong) = ⊥
+
+pub record DoesCommand {K : Type 0} (k : SinkOf K) (sink_old sink_new : K) (done : Performed) (old new : InSession) (result : Result (Unit {0}) Halt) : Type 0 where
+  pub ends : EndsCommand k sink_old sink_new done new.state result
+  pub quantum : new.quantum ≡ old.quantum
 
 -- What the sink holds, where it tells its bytes.
 abbrev pub Reported : {K : Type 0} → SinkOf K → K → List ℕ → K → Type 0
@@ -108,24 +136,24 @@ ReportedCut k old before text new = k.tells → IsCut (k.taken old ++ before) te
 -- How the commands of a script end, for their outcome: the files that were asked for, and the report.
 abbrev pub RunEnds : {H K : Type 0} → ShelfOf H → SinkOf K → RunOutcome → List (Option (List ℕ)) → H → H → K → K → Result (Unit {0}) Halt → Type 0
 RunEnds h k outcome names shelf_old shelf_new old new (Ok done) =
-    (outcome.status ≡ status.Done) × AsksFor h.fetched (named (take (length outcome.texts + 1) names)) shelf_old shelf_new
+    (outcome.status ≡ status.Done) × AsksFor h.fetched (named (take (length outcome.passages + 1) names)) shelf_old shelf_new
     × Reported k old (report_of outcome) new
 RunEnds h k outcome names shelf_old shelf_new old new (Err Missing) =
-    (outcome.status ≡ status.ReadFailed) × AsksFor h.fetched (named (take (length outcome.texts + 1) names)) shelf_old shelf_new
+    (outcome.status ≡ status.ReadFailed) × AsksFor h.fetched (named (take (length outcome.passages + 1) names)) shelf_old shelf_new
     × Reported k old (report_of outcome) new
 RunEnds h k outcome names shelf_old shelf_new old new (Err TooLong) =
-    (outcome.status ≡ status.TooLong) × AsksFor h.fetched (named (take (length outcome.texts + 1) names)) shelf_old shelf_new
+    (outcome.status ≡ status.TooLong) × AsksFor h.fetched (named (take (length outcome.passages + 1) names)) shelf_old shelf_new
     × Reported k old (report_of outcome) new
 RunEnds h k outcome names shelf_old shelf_new old new (Err FetchFailed) =
-    (j : ℕ) × (name : List ℕ) × (j ≤ length outcome.texts) × (slice_get names j ≡ Some (Some name))
+    (j : ℕ) × (name : List ℕ) × (j ≤ length outcome.passages) × (slice_get names j ≡ Some (Some name))
     × AsksFor h.fetched (named (take (j + 1) names)) shelf_old shelf_new × RefusedFor h shelf_new name shelf.Failed
     × Reported k old (first_report j outcome) new
 RunEnds h k outcome names shelf_old shelf_new old new (Err Memory) =
-    (j : ℕ) × (begun : ℕ) × (j ≤ length outcome.texts) × (begun ≤ j + 1) × AsksFor h.fetched (named (take begun names)) shelf_old shelf_new
+    (j : ℕ) × (begun : ℕ) × (j ≤ length outcome.passages) × MayLackMemory outcome j begun × AsksFor h.fetched (named (take begun names)) shelf_old shelf_new
     × Reported k old (first_report j outcome) new
 RunEnds h k outcome names shelf_old shelf_new old new (Err SendFailed) =
-    (j : ℕ) × (j ≤ length outcome.texts) × AsksFor h.fetched (named (take (j + 1) names)) shelf_old shelf_new
-    × ReportedCut k old (first_report j outcome) (text_after j outcome) new
+    (j : ℕ) × (j ≤ length outcome.passages) × AsksFor h.fetched (named (take (j + 1) names)) shelf_old shelf_new
+    × ReportedCut k old (first_report j outcome) (passage_after j outcome).text new
 
 -- the names of some commands of the script were asked for, from the first on, in order, and no others
 abbrev pub AsksInOrder : {H : Type 0} → ShelfOf H → List (Option (List ℕ)) → H → H → Type 0

@@ -1,11 +1,11 @@
-ghost use Rattle.std.specs.Prelude.{◌≡◌, IsTrue, OnErr, OnOk, length};
+ghost use Rattle.std.specs.Prelude.{◌≡◌, [], None, length};
 ghost use Rattle.std.specs.FinMap.{entries};
 ghost use Rattle.script_text.specs.Given.{IsGiven};
 ghost use Rattle.report_text.specs.Answers.{HasAnswerLine, answer_text};
-ghost use Rattle.command_core.specs.Changes.{is_change};
-ghost use Rattle.command_core.specs.Commands.{RunsLoaded, change_told, exec_done, exec_turns, list_text, load_told, performed_in, processes_text, run_done, step_done, takes_left, tells_exec};
-ghost use Rattle.overlay_top.specs.Outside.{SinkBy, SinkRose, SinkSound};
-ghost use Rattle.overlay_top.specs.Running.{Cut, IsDoing, LeavesOn, SendsOn, Sent};
+ghost use Rattle.command_core.specs.Changes.{CanBeTold};
+ghost use Rattle.command_core.specs.Commands.{RunsLoaded, asks, change_told, exec_done, exec_turns, list_done, list_text, load_told, performed_in, processes_text, run_done, step_done, takes_left, tells_exec};
+ghost use Rattle.overlay_top.specs.Sending.{SendsText};
+ghost use Rattle.overlay_top.specs.Running.{DoesCommand, TakesOn, Tells};
 
 use crate::running::Halt;
 use crate::sending::Report;
@@ -17,14 +17,26 @@ use script_text::Command;
 /// Sends the line of an answer.
 fn send_answer<K: Sink>(answer: &Answer, report: &mut Report<K>) -> Result<(), Failed>
     requires { HasAnswerLine answer.now }
-    ensures sent { Sent K.Sink report.old.sink.now (answer_text answer.now) report.new.sink.now result }
-    ensures cut { Cut K.Sink report.old.sink.now (answer_text answer.now) report.new.sink.now result }
-    ensures cause { OnErr result (SinkRose K.Sink report.old.sink.now report.new.sink.now) }
-    ensures no_fault { OnOk result (SinkSound K.Sink report.old.sink.now report.new.sink.now) }
+    ensures sends { SendsText K.Sink report.old.sink.now (answer_text answer.now) report.new.sink.now result }
     ensures same { report.new.sink.ghost_name ≡ report.old.sink.ghost_name }
 {
     answer_line(answer, &mut report.line);
     report.send()
+}
+
+/// Sends the line of what came of a change. For want of memory there is none.
+fn tell<K: Sink>(answer: &Answer, report: &mut Report<K>) -> Result<(), Halt>
+    requires { CanBeTold answer.now }
+    ensures tells { Tells K.Sink answer.now report.old.sink.now report.new.sink.now result }
+    ensures same { report.new.sink.ghost_name ≡ report.old.sink.ghost_name }
+{
+    if let Answer::Memory = answer {
+        return Err(Halt::Memory);
+    }
+    match send_answer(answer, report) {
+        Ok(()) => Ok(()),
+        Err(_) => Err(Halt::SendFailed),
+    }
 }
 
 /// Takes the turns that are left of a run, and sends each line as it arises, with the last one.
@@ -33,14 +45,8 @@ fn take_turns<K: Sink>(
     running: &mut Running,
     report: &mut Report<K>,
 ) -> Result<(), Failed>
-    ensures sent { Sent K.Sink report.old.sink.now
-        (takes_left running.old session.old.state).text report.new.sink.now result }
-    ensures cut { Cut K.Sink report.old.sink.now
-        (takes_left running.old session.old.state).text report.new.sink.now result }
-    ensures after { LeavesOn (takes_left running.old session.old.state) session.new result }
-    ensures quantum { session.new.quantum ≡ session.old.quantum }
-    ensures cause { OnErr result (SinkRose K.Sink report.old.sink.now report.new.sink.now) }
-    ensures no_fault { OnOk result (SinkSound K.Sink report.old.sink.now report.new.sink.now) }
+    ensures takes { TakesOn K.Sink report.old.sink.now report.new.sink.now
+        (takes_left running.old session.old.state) session.old session.new result }
     ensures same { report.new.sink.ghost_name ≡ report.old.sink.ghost_name }
 {
     'turns: while session.turn_line(running, &mut report.line) {
@@ -55,22 +61,12 @@ fn take_turns<K: Sink>(
 
 /// Makes a process of a file.
 fn load<K: Sink>(session: &mut Session, file: &[u8], report: &mut Report<K>) -> Result<(), Halt>
-    ensures sends { SendsOn K.Sink report.old.sink.now
-        (load_told file.now session.old.state).text report.new.sink.now result }
-    ensures after { LeavesOn (load_told file.now session.old.state) session.new result }
-    ensures quantum { session.new.quantum ≡ session.old.quantum }
-    ensures doing { IsDoing result }
-    ensures faults { SinkBy K.Sink report.old.sink.now report.new.sink.now result }
+    ensures does { DoesCommand K.Sink report.old.sink.now report.new.sink.now
+        (load_told file.now session.old.state) session.old session.new result }
     ensures same { report.new.sink.ghost_name ≡ report.old.sink.ghost_name }
 {
     let answer = session.load(file);
-    if let Answer::Memory = answer {
-        return Err(Halt::Memory);
-    }
-    match send_answer(&answer, report) {
-        Ok(()) => Ok(()),
-        Err(_) => Err(Halt::SendFailed),
-    }
+    tell(&answer, report)
 }
 
 /// Gives a process that was just made so many turns; nothing follows a load that made none.
@@ -81,14 +77,8 @@ fn turns_of_loaded<K: Sink>(
     report: &mut Report<K>,
 ) -> Result<(), Failed>
     requires { RunsLoaded answer.now session.old.state }
-    ensures sent { Sent K.Sink report.old.sink.now
-        (exec_turns turns answer.now session.old.state).text report.new.sink.now result }
-    ensures cut { Cut K.Sink report.old.sink.now
-        (exec_turns turns answer.now session.old.state).text report.new.sink.now result }
-    ensures after { LeavesOn (exec_turns turns answer.now session.old.state) session.new result }
-    ensures quantum { session.new.quantum ≡ session.old.quantum }
-    ensures cause { OnErr result (SinkRose K.Sink report.old.sink.now report.new.sink.now) }
-    ensures no_fault { OnOk result (SinkSound K.Sink report.old.sink.now report.new.sink.now) }
+    ensures takes { TakesOn K.Sink report.old.sink.now report.new.sink.now
+        (exec_turns turns answer.now session.old.state) session.old session.new result }
     ensures same { report.new.sink.ghost_name ≡ report.old.sink.ghost_name }
 {
     match answer {
@@ -117,14 +107,8 @@ fn tell_loaded<K: Sink>(
 ) -> Result<(), Failed>
     requires told { HasAnswerLine answer.now }
     requires runs { RunsLoaded answer.now session.old.state }
-    ensures sent { Sent K.Sink report.old.sink.now
-        (tells_exec turns answer.now session.old.state).text report.new.sink.now result }
-    ensures cut { Cut K.Sink report.old.sink.now
-        (tells_exec turns answer.now session.old.state).text report.new.sink.now result }
-    ensures after { LeavesOn (exec_turns turns answer.now session.old.state) session.new result }
-    ensures quantum { session.new.quantum ≡ session.old.quantum }
-    ensures cause { OnErr result (SinkRose K.Sink report.old.sink.now report.new.sink.now) }
-    ensures no_fault { OnOk result (SinkSound K.Sink report.old.sink.now report.new.sink.now) }
+    ensures takes { TakesOn K.Sink report.old.sink.now report.new.sink.now
+        (tells_exec turns answer.now session.old.state) session.old session.new result }
     ensures same { report.new.sink.ghost_name ≡ report.old.sink.ghost_name }
 {
     match send_answer(answer, report) {
@@ -140,12 +124,8 @@ fn exec<K: Sink>(
     turns: u32,
     report: &mut Report<K>,
 ) -> Result<(), Halt>
-    ensures sends { SendsOn K.Sink report.old.sink.now
-        (exec_done file.now turns session.old.state).text report.new.sink.now result }
-    ensures after { LeavesOn (exec_done file.now turns session.old.state) session.new result }
-    ensures quantum { session.new.quantum ≡ session.old.quantum }
-    ensures doing { IsDoing result }
-    ensures faults { SinkBy K.Sink report.old.sink.now report.new.sink.now result }
+    ensures does { DoesCommand K.Sink report.old.sink.now report.new.sink.now
+        (exec_done file.now turns session.old.state) session.old session.new result }
     ensures same { report.new.sink.ghost_name ≡ report.old.sink.ghost_name }
 {
     let answer = session.load(file);
@@ -165,14 +145,8 @@ fn step<K: Sink>(
     turns: u32,
     report: &mut Report<K>,
 ) -> Result<(), Failed>
-    ensures sent { Sent K.Sink report.old.sink.now
-        (step_done p turns session.old.state).text report.new.sink.now result }
-    ensures cut { Cut K.Sink report.old.sink.now
-        (step_done p turns session.old.state).text report.new.sink.now result }
-    ensures after { LeavesOn (step_done p turns session.old.state) session.new result }
-    ensures quantum { session.new.quantum ≡ session.old.quantum }
-    ensures cause { OnErr result (SinkRose K.Sink report.old.sink.now report.new.sink.now) }
-    ensures no_fault { OnOk result (SinkSound K.Sink report.old.sink.now report.new.sink.now) }
+    ensures takes { TakesOn K.Sink report.old.sink.now report.new.sink.now
+        (step_done p turns session.old.state) session.old session.new result }
     ensures same { report.new.sink.ghost_name ≡ report.old.sink.ghost_name }
 {
     match session.begin_step(p, turns) {
@@ -186,14 +160,8 @@ fn step<K: Sink>(
 
 /// Gives processes so many turns, by round robin.
 fn run_all<K: Sink>(session: &mut Session, turns: u32, report: &mut Report<K>) -> Result<(), Failed>
-    ensures sent { Sent K.Sink report.old.sink.now
-        (run_done session.old.quantum turns session.old.state).text report.new.sink.now result }
-    ensures cut { Cut K.Sink report.old.sink.now
-        (run_done session.old.quantum turns session.old.state).text report.new.sink.now result }
-    ensures after { LeavesOn (run_done session.old.quantum turns session.old.state) session.new result }
-    ensures quantum { session.new.quantum ≡ session.old.quantum }
-    ensures cause { OnErr result (SinkRose K.Sink report.old.sink.now report.new.sink.now) }
-    ensures no_fault { OnOk result (SinkSound K.Sink report.old.sink.now report.new.sink.now) }
+    ensures takes { TakesOn K.Sink report.old.sink.now report.new.sink.now
+        (run_done session.old.quantum turns session.old.state) session.old session.new result }
     ensures same { report.new.sink.ghost_name ≡ report.old.sink.ghost_name }
 {
     let mut running = session.begin_run(turns);
@@ -206,23 +174,13 @@ fn change<K: Sink>(
     command: &Command,
     report: &mut Report<K>,
 ) -> Result<(), Halt>
-    requires { IsTrue (is_change command.now) }
-    ensures sends { SendsOn K.Sink report.old.sink.now
-        (change_told command.now session.old.state).text report.new.sink.now result }
-    ensures after { LeavesOn (change_told command.now session.old.state) session.new result }
-    ensures quantum { session.new.quantum ≡ session.old.quantum }
-    ensures doing { IsDoing result }
-    ensures faults { SinkBy K.Sink report.old.sink.now report.new.sink.now result }
+    requires { asks command.now ≡ None }
+    ensures does { DoesCommand K.Sink report.old.sink.now report.new.sink.now
+        (change_told [] command.now session.old.state) session.old session.new result }
     ensures same { report.new.sink.ghost_name ≡ report.old.sink.ghost_name }
 {
     let answer = session.change(command);
-    if let Answer::Memory = answer {
-        return Err(Halt::Memory);
-    }
-    match send_answer(&answer, report) {
-        Ok(()) => Ok(()),
-        Err(_) => Err(Halt::SendFailed),
-    }
+    tell(&answer, report)
 }
 
 /// How many processes there are.
@@ -240,12 +198,8 @@ fn count_processes(session: &Session) -> u32
 
 /// Sends the lines of all processes, by number.
 fn list_processes<K: Sink>(session: &Session, report: &mut Report<K>) -> Result<(), Failed>
-    ensures sent { Sent K.Sink report.old.sink.now
+    ensures sends { SendsText K.Sink report.old.sink.now
         (processes_text session.now.state) report.new.sink.now result }
-    ensures cut { Cut K.Sink report.old.sink.now
-        (processes_text session.now.state) report.new.sink.now result }
-    ensures cause { OnErr result (SinkRose K.Sink report.old.sink.now report.new.sink.now) }
-    ensures no_fault { OnOk result (SinkSound K.Sink report.old.sink.now report.new.sink.now) }
     ensures same { report.new.sink.ghost_name ≡ report.old.sink.ghost_name }
 {
     let mut from = 0u16;
@@ -268,10 +222,8 @@ fn list_processes<K: Sink>(session: &Session, report: &mut Report<K>) -> Result<
 
 /// Lists the processes.
 fn list<K: Sink>(session: &Session, report: &mut Report<K>) -> Result<(), Failed>
-    ensures sent { Sent K.Sink report.old.sink.now (list_text session.now.state) report.new.sink.now result }
-    ensures cut { Cut K.Sink report.old.sink.now (list_text session.now.state) report.new.sink.now result }
-    ensures cause { OnErr result (SinkRose K.Sink report.old.sink.now report.new.sink.now) }
-    ensures no_fault { OnOk result (SinkSound K.Sink report.old.sink.now report.new.sink.now) }
+    ensures sends { SendsText K.Sink report.old.sink.now (list_text session.now.state)
+        report.new.sink.now result }
     ensures same { report.new.sink.ghost_name ≡ report.old.sink.ghost_name }
 {
     list_line(count_processes(session), 0, &mut report.line);
@@ -287,12 +239,8 @@ pub(crate) fn do_command<K: Sink>(
     report: &mut Report<K>,
 ) -> Result<(), Halt>
     requires { IsGiven command.now }
-    ensures sends { SendsOn K.Sink report.old.sink.now
-        (performed_in session.old file.now command.now).text report.new.sink.now result }
-    ensures after { LeavesOn (performed_in session.old file.now command.now) session.new result }
-    ensures quantum { session.new.quantum ≡ session.old.quantum }
-    ensures doing { IsDoing result }
-    ensures faults { SinkBy K.Sink report.old.sink.now report.new.sink.now result }
+    ensures does { DoesCommand K.Sink report.old.sink.now report.new.sink.now
+        (performed_in session.old file.now command.now) session.old session.new result }
     ensures same { report.new.sink.ghost_name ≡ report.old.sink.ghost_name }
 {
     let sent = match command {
@@ -300,15 +248,8 @@ pub(crate) fn do_command<K: Sink>(
         Command::Load(_) => return load(session, file, report),
         Command::Run(turns) => run_all(session, *turns, report),
         Command::Step(p, turns) => step(session, *p, *turns, report),
-        Command::Fork(_) => return change(session, command, report),
-        Command::Speculate(_) => return change(session, command, report),
-        Command::Commit(_) => return change(session, command, report),
-        Command::Discard(_) => return change(session, command, report),
-        Command::Promote(_, _) => return change(session, command, report),
-        Command::PromoteAll(_) => return change(session, command, report),
-        Command::Drop(_) => return change(session, command, report),
         Command::List => list(session, report),
-        _ => unreachable!(),
+        _ => return change(session, command, report),
     };
     match sent {
         Ok(()) => Ok(()),

@@ -7,7 +7,7 @@ ghost use Rattle.command_core.specs.State.{fresh};
 ghost use Rattle.command_core.specs.Commands.{asked_by, asks, file_asked};
 ghost use Rattle.overlay_top.specs.Outcome.{command_done, named, run_from};
 ghost use Rattle.overlay_top.specs.Outside.{FetchedFor, ShelfBy, SinkBy};
-ghost use Rattle.overlay_top.specs.Running.{AsksInOrder, FailedFor, FetchesFor, GivesAll, GivesFile, LeavesOn, RunEnds, SendsOn, WasGiven};
+ghost use Rattle.overlay_top.specs.Running.{AsksInOrder, FailedFor, FetchesFor, GivesAll, GivesFile, LacksMemory, LeavesOn, RunEnds, SendsOn, WasGiven};
 
 use crate::commands::do_command;
 use crate::sending::Report;
@@ -123,6 +123,8 @@ fn perform<H: Shelf, K: Sink>(
     ensures sink { SinkBy K.Sink report.old.sink.now report.new.sink.now result }
     ensures same { report.new.sink.ghost_name ≡ report.old.sink.ghost_name }
     ensures failed { FailedFor H.Shelf shelf.new (asks command.now) result }
+    ensures lacks { H.tells → LacksMemory (file_asked (H.files shelf.old) command.now)
+        (command_done (H.files shelf.old) command.now session.old.state) result }
     ensures kept { H.tells → (other : List ℕ) → H.files shelf.new other ≡ H.files shelf.old other }
     ensures fetched { AsksFor H.fetched (named (asks command.now ∷ [])) shelf.old shelf.new }
 {

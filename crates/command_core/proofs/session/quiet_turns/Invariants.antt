@@ -1,6 +1,6 @@
 use Rattle.std.proofs.Common.{◌≡◌, ◌≤◌, None}
 use Rattle.machine_core.specs.Machine.{KeepsPlaces, wholes}
-use Rattle.command_core.specs.State.{OwnSpaces}
+use Rattle.command_core.specs.Sessions.{OwnSpaces}
 use Rattle.command_core.specs.Turns.{lines_left, ran_from, ran_text}
 use Rattle.command_core.proofs.session.quiet_turns.Given as goal
 

@@ -3,7 +3,8 @@ use Rattle.std.specs.Prelude.{flat_map}
 use Rattle.std.specs.FinMap.{entries}
 use Rattle.command_core.specs.Commands.{process_text}
 use Rattle.command_core.specs.Looks.{from_number}
-use Rattle.overlay_top.proofs.Texts.{IsDone, at_err, cut_done, more_done, none_done}
+use Rattle.overlay_top.proofs.Errors.{by_err}
+use Rattle.overlay_top.proofs.Texts.{IsDone, more_done, none_done, sends_cut}
 use Rattle.overlay_top.proofs.Listing.{from_first, line_is, lines_next}
 use Rattle.overlay_top.proofs.commands.list_processes.Goals as goal
 
@@ -26,23 +27,23 @@ listing-preserved g c =
     let line = line_is ps p next.0 c.in-Ok.view c.process_line.new.out.items next.1 c.in-Ok.ensures.looks c.process_line.ensures in
     record {
       same = c.in_ok-send.ensures.same ∙ c.listing.invariant.same;
-      sound = c.in_ok-send.ensures.no_fault ∙ c.listing.invariant.sound;
+      sound = c.in_ok-send.ensures.sends.0 ∙ c.listing.invariant.sound;
       low = omega (arith, c.in-Some.ensures.within.1);
       text = λ tells.
           more_done (g.K.Sink.taken c.args.report.now.sink.now) (g.K.Sink.taken c.listing.report.sink.now) (g.K.Sink.taken c.send.new.self.sink.now)
           (flat_map process_text (from_number c.listing.from ps)) c.process_line.new.out.items (flat_map process_text (from_number (p + 1) ps)) _
           (lines_next ps c.listing.from p next ∙ ap (λ bs. bs ++ flat_map process_text (from_number (p + 1) ps)) (sym line))
-          (c.in_ok-send.ensures.sent tells) (c.listing.invariant.text tells);
+          (c.in_ok-send.ensures.sends.1 tells) (c.listing.invariant.text tells);
     }
 
-pub returns-in_err-send-clause-cut : goal.returns-in_err-send-clause-cut
-returns-in_err-send-clause-cut g c tells =
+pub returns-in_err-send-clause-sends : goal.returns-in_err-send-clause-sends
+returns-in_err-send-clause-sends g c =
     let ps = c.args.session.now.state.wholes.processes in
     let p = c.in-Some.p in
     let next = c.in-Some.ensures.next in
     let line = line_is ps p next.0 c.in-Ok.view c.process_line.new.out.items next.1 c.in-Ok.ensures.looks c.process_line.ensures in
-    at_err c.from_residual.result
-    (cut_done (g.K.Sink.taken c.args.report.now.sink.now) (g.K.Sink.taken c.listing.report.sink.now) (g.K.Sink.taken c.send.new.self.sink.now)
+    sends_cut g.K.Sink c.args.report.now.sink.now c.listing.report.sink.now c.send.new.self.sink.now c.listing.invariant.sound
     (flat_map process_text (from_number c.listing.from ps)) c.process_line.new.out.items (flat_map process_text (from_number (p + 1) ps)) _
+    c.in_err-send.field-0.0 c.from_residual.result c.in_err-send.field-0.0 (by_err c.from_residual.result c.in_err-send.field-0.0 c.from_residual.ensures)
     (lines_next ps c.listing.from p next ∙ ap (λ bs. bs ++ flat_map process_text (from_number (p + 1) ps)) (sym line))
-    (c.in_err-send.ensures.cut tells) (c.listing.invariant.text tells))
+    c.listing.invariant.text c.in_err-send.ensures.sends

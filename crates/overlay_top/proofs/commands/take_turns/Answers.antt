@@ -1,29 +1,15 @@
-use Rattle.std.proofs.Common.{◌∙◌, refl}
+use Rattle.std.proofs.Common.{◌∙◌, refl, subst, sym}
 use Rattle.machine_core.specs.Laws.{like_chain, like_itself}
+use Rattle.command_core.specs.Commands.{takes_left}
 use Rattle.command_core.specs.Turns.{left_of, ran_text}
+use Rattle.overlay_top.specs.Running.{LeavesOn}
 use Rattle.overlay_top.proofs.Endings.{ended_after, ended_text}
-use Rattle.overlay_top.proofs.Texts.{at_err, at_ok, cut_done, last_cut, more_done, none_done, on_err}
+use Rattle.overlay_top.proofs.Errors.{by_err}
+use Rattle.overlay_top.proofs.Texts.{at_ok, more_done, none_done, sends_cut, sends_last}
 use Rattle.overlay_top.proofs.commands.take_turns.Goals as goal
 
 pub turns-smaller : goal.turns-smaller
 turns-smaller g c = c.turns-test.ensures.fewer refl
-
-pub returns-in_err-send-clause-cut : goal.returns-in_err-send-clause-cut
-returns-in_err-send-clause-cut g c tells =
-    let rest = ran_text (left_of c.turn_line.new.self.state.wholes c.turn_line.new.running) in
-    at_err c.from_residual.result
-    (cut_done (g.K.Sink.taken c.args.report.now.sink.now) (g.K.Sink.taken c.turns.report.sink.now) (g.K.Sink.taken c.send.new.self.sink.now) _ c.turn_line.new.line.items rest _
-    (c.turns-test.ensures.says refl).0
-    (c.in_err-send.ensures.cut tells) (c.turns.invariant.text tells))
-
-pub returns-clause-cut : goal.returns-clause-cut
-returns-clause-cut g c tells =
-    on_err c.send-2.result
-    (λ cut. last_cut (g.K.Sink.taken c.args.report.now.sink.now) (g.K.Sink.taken c.turns.report.sink.now) (g.K.Sink.taken c.send-2.new.self.sink.now) _ c.stop_line.new.out.items _
-    (ended_text c.turns.session.state.wholes c.turns.running c.turn_line.new.self.state.wholes c.turn_line.new.running c.stop.result c.in-Some.stop c.taken.result
-    c.stop_line.new.out.items c.stop_line.new.out.items (c.turns-test.ensures.ends refl) c.stop.ensures c.in-Some.is c.taken.ensures c.stop_line.ensures refl)
-    cut (c.turns.invariant.text tells))
-    (c.send-2.ensures.cut tells)
 
 pub turns-init : goal.turns-init
 turns-init g c = record {
@@ -40,7 +26,7 @@ turns-preserved g c =
     let says = c.turns-test.ensures.says refl in
     record {
       same = c.in_ok-send.ensures.same ∙ c.turns.invariant.same;
-      sound = c.in_ok-send.ensures.no_fault ∙ c.turns.invariant.sound;
+      sound = c.in_ok-send.ensures.sends.0 ∙ c.turns.invariant.sound;
       drawn = c.turn_line.ensures.others.0 ∙ c.turns.invariant.drawn;
       quantum = c.turn_line.ensures.others.1 ∙ c.turns.invariant.quantum;
       after =
@@ -49,11 +35,31 @@ turns-preserved g c =
       text = λ tells.
           more_done (g.K.Sink.taken c.args.report.now.sink.now) (g.K.Sink.taken c.turns.report.sink.now) (g.K.Sink.taken c.send.new.self.sink.now) _
           c.turn_line.new.line.items (ran_text (left_of c.turn_line.new.self.state.wholes c.turn_line.new.running)) _ says.0
-          (c.in_ok-send.ensures.sent tells) (c.turns.invariant.text tells);
+          (c.in_ok-send.ensures.sends.1 tells) (c.turns.invariant.text tells);
     }
 
-pub returns-clause-after : goal.returns-clause-after
-returns-clause-after g c =
-    at_ok c.send-2.result
-    (ended_after c.args.session.now.state c.turns.session.state c.turn_line.new.self.state c.args.running.now c.turns.running c.turn_line.new.running
-    c.turns.invariant.after (c.turns-test.ensures.ends refl) c.turn_line.ensures.others.0 c.turns.invariant.drawn)
+-- the sink failed at a line
+pub returns-in_err-send-clause-takes : goal.returns-in_err-send-clause-takes
+returns-in_err-send-clause-takes g c =
+    let rest = ran_text (left_of c.turn_line.new.self.state.wholes c.turn_line.new.running) in
+    let is_err = by_err c.from_residual.result c.in_err-send.field-0.0 c.from_residual.ensures in
+    record {
+      sends = sends_cut g.K.Sink c.args.report.now.sink.now c.turns.report.sink.now c.send.new.self.sink.now c.turns.invariant.sound
+          _ c.turn_line.new.line.items rest _ c.in_err-send.field-0.0 c.from_residual.result c.in_err-send.field-0.0 is_err
+          (c.turns-test.ensures.says refl).0 c.turns.invariant.text c.in_err-send.ensures.sends;
+      after = subst (λ r. LeavesOn {T = Unit {0}} (takes_left c.args.running.now c.args.session.now.state) c.turn_line.new.self r) (sym is_err) tt;
+      quantum = c.turn_line.ensures.others.1 ∙ c.turns.invariant.quantum;
+    }
+
+pub returns-clause-takes : goal.returns-clause-takes
+returns-clause-takes g c = record {
+  sends = sends_last g.K.Sink c.args.report.now.sink.now c.turns.report.sink.now c.send-2.new.self.sink.now c.turns.invariant.sound
+      _ c.stop_line.new.out.items _ c.send-2.result
+      (ended_text c.turns.session.state.wholes c.turns.running c.turn_line.new.self.state.wholes c.turn_line.new.running c.stop.result c.in-Some.stop c.taken.result
+      c.stop_line.new.out.items c.stop_line.new.out.items (c.turns-test.ensures.ends refl) c.stop.ensures c.in-Some.is c.taken.ensures c.stop_line.ensures refl)
+      c.turns.invariant.text c.send-2.ensures.sends;
+  after = at_ok c.send-2.result
+      (ended_after c.args.session.now.state c.turns.session.state c.turn_line.new.self.state c.args.running.now c.turns.running c.turn_line.new.running
+      c.turns.invariant.after (c.turns-test.ensures.ends refl) c.turn_line.ensures.others.0 c.turns.invariant.drawn);
+  quantum = c.turn_line.ensures.others.1 ∙ c.turns.invariant.quantum;
+}

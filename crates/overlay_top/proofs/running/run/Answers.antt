@@ -1,6 +1,6 @@
 use Rattle.std.proofs.Common.{◌<◌, ◌+◌, ◌∙◌, ap, refl, arith, length, map}
 use Rattle.std.proofs.lemmas.List.{length-map}
-use Rattle.command_core.specs.State.{InSession}
+use Rattle.command_core.specs.Sessions.{InSession}
 use Rattle.command_core.specs.Commands.{asks}
 use Rattle.overlay_top.proofs.Asks.{asked_at, fetches_next}
 use Rattle.overlay_top.proofs.Errors.{by_err}
@@ -31,7 +31,7 @@ returns-in_err-perform-clause-ends g c tells =
     c.args.shelf.now c.perform.new.shelf c.args.report.now.sink.now c.running.report.sink.now c.perform.new.report.sink.now
     (by_err c.from_residual-in_err-perform.result c.in_err-perform.field-0.0 c.from_residual-in_err-perform.ensures)
     c.running-test.true c.command-item.is (c.running.invariant.kept tells) (c.running.invariant.runs tells)
-    (c.in_err-perform.ensures.given tells) (c.in_err-perform.ensures.sends tells) c.in_err-perform.ensures.failed
+    (c.in_err-perform.ensures.given tells) (c.in_err-perform.ensures.lacks tells) (c.in_err-perform.ensures.sends tells) c.in_err-perform.ensures.failed
     (fetches_next g.H.Shelf.fetched (map asks all) index (asks command) c.args.shelf.now c.running.shelf c.perform.new.shelf below
     (asked_at asks all index command c.running-test.true c.command-item.is) c.running.invariant.asked c.in_err-perform.ensures.fetched)
 

@@ -4,9 +4,9 @@ use Rattle.overlay_top.proofs.sending.send.Goals as goal
 
 pub loop-at-preserved : goal.loop-at-preserved
 loop-at-preserved g c = record {
-  within = omega (arith, c.in_ok-at.ensures.within);
-  sound = c.in_ok-at.ensures.no_fault ∙ c.loop-at.invariant.sound;
+  within = omega (arith, c.in-Ok.ensures.within);
+  sound = c.in-Ok.ensures.no_fault ∙ c.loop-at.invariant.sound;
   sent = λ tells.
       sent_more (g.K.Sink.taken c.args.sink.now) (g.K.Sink.taken c.loop-at.sink) (g.K.Sink.taken c.write.new.self) c.args.text.now c.loop-at.at
-      c.in_ok-at.field-0 (c.loop-at.invariant.sent tells) (c.in_ok-at.ensures.taken tells);
+      c.in-Ok.n (c.loop-at.invariant.sent tells) (c.in-Ok.ensures.taken tells);
 }

@@ -1,7 +1,7 @@
 use Rattle.std.proofs.Common.{ap, ◌∙◌}
 use Rattle.round_robin.specs.Turns.{Turns}
 use Rattle.command_core.specs.declared.turns.Order.TheVariants.{ByTurns}
-use Rattle.command_core.specs.State.{InSession}
+use Rattle.command_core.specs.Sessions.{InSession}
 use Rattle.command_core.specs.Turns.{begun_by, by_turns, run_found}
 use Rattle.command_core.proofs.Standing.{run_begun}
 use Rattle.command_core.proofs.session.Session.begin_run.Goals as goal

@@ -1,9 +1,12 @@
-use Rattle.std.proofs.Common.{◌+◌, ◌==◌, ap, subst, sym, ◌∙◌}
+use Rattle.std.proofs.Common.{◌≡◌, ◌+◌, ◌==◌, false, ap, subst, sym, ◌∙◌}
 use Rattle.sizes.specs.declared.TheConstants.{LAST_SPACE}
-use Rattle.command_core.specs.State.{InSession}
-use Rattle.command_core.specs.Changes.{GivesChange, load_done}
+use Rattle.command_core.specs.State.{registry_of}
+use Rattle.command_core.specs.Sessions.{InSession, state_of}
+use Rattle.command_core.specs.Giving.{GivesChange}
+use Rattle.command_core.specs.Changes.{load_row}
 use Rattle.report_text.specs.declared.answer.Answer.TheVariants.{Loaded}
-use Rattle.command_core.proofs.Loadings.{gives_loaded, gives_other, runs_loaded, state_of}
+use Rattle.command_core.specs.LikeLaws.{gives_as}
+use Rattle.command_core.proofs.Loadings.{gives_loaded, gives_other, runs_loaded}
 use Rattle.command_core.proofs.Places.{is_below, session_load}
 use Rattle.command_core.proofs.session.Session.load.Goals as goal
 
@@ -24,7 +27,7 @@ pub returns-in-Ok-load-clause-gives : goal.returns-in-Ok-load-clause-gives
 returns-in-Ok-load-clause-gives c =
     let file = c.args.file.now in
     let drawn = c.self.inside.drawn in
-    subst (λ (s : InSession). GivesChange (load_done file s.state) s.state (Loaded (drawn + 1) c.in-Ok-load.pages c.entry.result) (state_of c.load.new.self (drawn + 1))) c.self.view_is
+    subst (λ (s : InSession). GivesChange (load_row file (registry_of s.state)) s.state (Loaded (drawn + 1) c.in-Ok-load.pages c.entry.result) (state_of c.load.new.self (drawn + 1))) c.self.view_is
     (gives_loaded file c.self.inside.machine c.load.new.self drawn c.in-Ok.ensures.taken
     (ap (λ (s : InSession). s.state.drawn == LAST_SPACE) c.self.view_is ∙ sym c.are_all_drawn.ensures ∙ c.if-are_all_drawn.false)
     c.in-Ok-load.pages c.entry.result c.in-Ok-load.ensures.loads (c.entry.ensures ∙ c.in-Ok.ensures.entry))
@@ -36,5 +39,17 @@ returns-clause-gives c =
     let given = gives_other file c.self.inside.machine c.load.new.self drawn c.in-Ok.ensures.taken
     (ap (λ (s : InSession). s.state.drawn == LAST_SPACE) c.self.view_is ∙ sym c.are_all_drawn.ensures ∙ c.if-are_all_drawn.false)
     c.in-Err-load.error c.in-Err-load.ensures.loads in
-    subst (λ (s : InSession). GivesChange (load_done file s.state) s.state c.not_made.result (state_of c.load.new.self drawn)) c.self.view_is
-    (subst (λ a. GivesChange (load_done file (state_of c.self.inside.machine drawn)) (state_of c.self.inside.machine drawn) a (state_of c.load.new.self drawn)) (sym c.not_made.ensures) given)
+    subst (λ (s : InSession). GivesChange (load_row file (registry_of s.state)) s.state c.not_made.result (state_of c.load.new.self drawn)) c.self.view_is
+    (subst (λ a. GivesChange (load_row file (registry_of (state_of c.self.inside.machine drawn))) (state_of c.self.inside.machine drawn) a (state_of c.load.new.self drawn))
+    (sym c.not_made.ensures) given)
+
+pub returns-in-Ok-load-clause-stands : goal.returns-in-Ok-load-clause-stands
+returns-in-Ok-load-clause-stands c =
+    let drawn = c.self.inside.drawn + 1 in
+    gives_as (load_row c.args.file.now) c.args.self.now (record { state = state_of c.load.new.self drawn; quantum = c.self.inside.quantum })
+    (Loaded drawn c.in-Ok-load.pages c.entry.result) (returns-in-Ok-load-clause-gives c)
+
+pub returns-clause-stands : goal.returns-clause-stands
+returns-clause-stands c =
+    gives_as (load_row c.args.file.now) c.args.self.now (record { state = state_of c.load.new.self c.self.inside.drawn; quantum = c.self.inside.quantum })
+    c.not_made.result (returns-clause-gives c)

@@ -3,7 +3,7 @@ use Rattle.overlay_pages.specs.State.{space_in}
 use Rattle.overlay_pages.specs.View.{MemoryView, state_of}
 use Rattle.std.specs.FinMap.{len}
 use Rattle.machine_core.specs.Machine.{Processes}
-use Rattle.command_core.specs.State.{InSession}
+use Rattle.command_core.specs.Sessions.{InSession}
 use Rattle.command_core.proofs.Standing.{for_each}
 use Rattle.command_core.specs.Looks.{LooksAt}
 use Rattle.command_core.proofs.Looking.{looked_is, shown}

@@ -1,6 +1,7 @@
 use Rattle.std.proofs.Common.{ap}
 use Rattle.machine_core.specs.Machine.{Wholes}
-use Rattle.command_core.specs.State.{InSession, State, fresh}
+use Rattle.command_core.specs.State.{State, fresh}
+use Rattle.command_core.specs.Sessions.{InSession}
 use Rattle.command_core.specs.LikeLaws.{states_same}
 use Rattle.command_core.proofs.Places.{session_start, wholes_start}
 use Rattle.command_core.proofs.session.Session.new.Goals as goal

@@ -1,6 +1,6 @@
 use Rattle.std.proofs.Common.{ap, subst}
 use Rattle.machine_core.specs.Machine.{Processes, wholes}
-use Rattle.command_core.specs.State.{InSession}
+use Rattle.command_core.specs.Sessions.{InSession}
 use Rattle.command_core.proofs.Standing.{for_each}
 use Rattle.command_core.specs.Looks.{NextProcess}
 use Rattle.command_core.proofs.Looking.{next_is, next_within}

@@ -1,6 +1,6 @@
 use Rattle.std.proofs.Common.{subst, refl}
 use Rattle.machine_core.specs.Machine.{wholes}
-use Rattle.command_core.specs.State.{InSession}
+use Rattle.command_core.specs.Sessions.{InSession}
 use Rattle.command_core.specs.Standing.{TurnsAs, takes_turn}
 use Rattle.command_core.proofs.Standing.{turns_as}
 use Rattle.command_core.proofs.session.Session.turn.Goals as goal

@@ -1,6 +1,6 @@
 use Rattle.std.proofs.Common.{subst, refl}
 use Rattle.machine_core.specs.Machine.{wholes}
-use Rattle.command_core.specs.State.{InSession}
+use Rattle.command_core.specs.Sessions.{InSession}
 use Rattle.command_core.specs.Standing.{TurnsAs, ends_run, speaks}
 use Rattle.command_core.proofs.Standing.{ends_as, speaks_as}
 use Rattle.command_core.proofs.session.Session.turn_line.Goals as goal

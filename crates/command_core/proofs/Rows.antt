@@ -1,0 +1,117 @@
+use Rattle.std.proofs.Common.{◌≡◌, ℕ, ◌+◌, ◌&&◌, Bool, true, false, cond, sym, ap, subst, ◌∙◌, refl, Option, Some, None}
+use Rattle.std.specs.Prelude.{not}
+use Rattle.std.specs.Option.{is_some, option_map, option_map_or}
+use Rattle.std.specs.FinMap.{get}
+use Rattle.machine_core.specs.Process.{Process}
+use Rattle.machine_core.specs.declared.process.Process as declared
+use Rattle.ledger.specs.Events.{Event}
+use Rattle.machine_core.specs.Machine.{AreLike, Machine, limit_of, spaces_of, whole_in, wholes}
+use Rattle.machine_core.specs.Laws.{processes_at}
+use Rattle.report_text.specs.declared.answer.Answer.{Answer}
+use Rattle.report_text.specs.declared.answer.Answer.TheVariants.{Done, Full, Refused}
+use Rattle.report_text.specs.declared.answer.Code.{Code}
+use Rattle.report_text.specs.declared.answer.Code.TheVariants.{NoProcess}
+use Rattle.command_core.specs.State.{AreLikeStates, Registry, State, registry_of}
+use Rattle.command_core.specs.Sessions.{IsSession, KeepsSession, state_of}
+use Rattle.command_core.specs.Rows.{Changed, MemoryTaken, Row, TakesLast, accepts, change_by, event_needs, falls_short, first_refusal, is_event_full, is_full, may_want_memory, refuses, wants_by, within_units}
+use Rattle.command_core.specs.Giving.{ComesTo, GivesChange, MachineGives}
+use Rattle.command_core.specs.Changes.{on_process, refused_row}
+use Rattle.command_core.specs.LikeLaws.{states_itself}
+
+-- What a row comes to, by its first refusal and its units.
+
+comes_to_be : (wanted given : Changed) (s : State) → wanted ≡ given → AreLikeStates s given.after → ComesTo wanted given.answer s
+comes_to_be wanted given s same like =
+    record { answer_is = sym (ap (λ (c : Changed). c.answer) same); after_is = subst (λ (c : Changed). AreLikeStates s c.after) (sym same) like }
+
+module _ (row : Row) (old new : State) where
+  by_refusal : (o : Option Code) → first_refusal row.refusals ≡ o → change_by row old ≡ option_map_or (λ code. refuses code old) o (within_units row old)
+  by_refusal o is = ap (λ (found : Option Code). option_map_or (λ code. refuses code old) found (within_units row old)) is
+
+  by_units : (full : Bool) → first_refusal row.refusals ≡ None → is_full row old ≡ full → change_by row old ≡ cond full (falls_short row old) (accepts row old)
+  by_units full none is = by_refusal None none ∙ ap (λ b. cond b (falls_short row old) (accepts row old)) is
+
+  -- it is refused
+  pub row_refused : (code : Code) → first_refusal row.refusals ≡ Some code → AreLikeStates new old → ComesTo (change_by row old) (Refused code) new
+  row_refused code is like = comes_to_be (change_by row old) (refuses code old) new (by_refusal (Some code) is) like
+
+  -- there aren't units enough
+  pub row_full : (needed limit : ℕ) → first_refusal row.refusals ≡ None → row.may_need_units ≡ true → is_event_full row.event old.wholes ≡ true
+      → needed ≡ event_needs row.event old.wholes → limit ≡ limit_of old.wholes.frames → AreLikeStates new old → ComesTo (change_by row old) (Full needed limit) new
+  row_full needed limit none may full needed_is limit_is like =
+      let short = ap (λ b. b && is_event_full row.event old.wholes) may ∙ full in
+      let comes = comes_to_be (change_by row old) (falls_short row old) new (by_units true none short) like in
+      record {
+        answer_is = ap (λ n. Full n limit) needed_is ∙ ap (Full (event_needs row.event old.wholes)) limit_is ∙ comes.answer_is;
+        after_is = comes.after_is;
+      }
+
+  -- it is done
+  pub row_accepted : first_refusal row.refusals ≡ None → is_full row old ≡ false → AreLikeStates new (accepts row old).after → ComesTo (change_by row old) row.answer new
+  row_accepted none enough like = comes_to_be (change_by row old) (accepts row old) new (by_units false none enough) like
+
+  -- it may want memory
+  pub row_wants : row.memory ≡ TakesLast → first_refusal row.refusals ≡ None → is_full row old ≡ false → may_want_memory row old ≡ true
+  row_wants last none enough =
+      ap (λ (m : MemoryTaken). wants_by m (is_some (first_refusal row.refusals)) (is_full row old)) last
+      ∙ ap (λ (o : Option Code). not (is_some o) && not (is_full row old)) none ∙ ap not enough
+
+-- The row of a process, by whether it is there.
+module _ (old : Machine) (drawn p : ℕ) (row : Process → Registry → Row) where
+  abbrev before : State
+  before = state_of old drawn
+
+  found_is : (o : Option declared.Process) → get old.processes p ≡ o
+      → on_process p row (registry_of before) ≡ option_map_or (λ process. row process (registry_of before)) (option_map (whole_in (spaces_of old) p) o) (refused_row NoProcess (registry_of before))
+  found_is o is =
+      ap (λ (found : Option Process). option_map_or (λ process. row process (registry_of before)) found (refused_row NoProcess (registry_of before)))
+      (processes_at old p ∙ ap (option_map (whole_in (spaces_of old) p)) is)
+
+  pub gives_absent : get old.processes p ≡ None → GivesChange (on_process p row (registry_of before)) before (Refused NoProcess) before
+  gives_absent is = row_refused (on_process p row (registry_of before)) before before NoProcess (ap (λ (r : Row). first_refusal r.refusals) (found_is None is)) (states_itself before)
+
+  pub gives_found : (process : declared.Process) (answer : Answer) (new : State) → get old.processes p ≡ Some process
+      → GivesChange (row (whole_in (spaces_of old) p process) (registry_of before)) before answer new
+      → GivesChange (on_process p row (registry_of before)) before answer new
+  gives_found process answer new there given = subst (λ (r : Row). GivesChange r before answer new) (sym (found_is (Some process) there)) given
+
+-- What a machine answers.
+module _ (row : Registry → Row) (old new : Machine) where
+  pub same_keeps : new ≡ old → KeepsSession old new
+  same_keeps same drawn is = subst (λ (m : Machine). IsSession m drawn) (sym same) is
+
+  same_likes : new ≡ old → (drawn : ℕ) → AreLikeStates (state_of new drawn) (state_of old drawn)
+  same_likes same drawn = subst (λ (m : Machine). AreLikeStates (state_of m drawn) (state_of old drawn)) (sym same) (states_itself (state_of old drawn))
+
+  pub machine_refused : (code : Code) → ((r : Registry) → first_refusal (row r).refusals ≡ Some code) → new ≡ old → MachineGives row old (Refused code) new
+  machine_refused code is same = record {
+    gives = λ drawn. row_refused (row (registry_of (state_of old drawn))) (state_of old drawn) (state_of new drawn) code (is (registry_of (state_of old drawn)))
+        (same_likes same drawn);
+    keeps = same_keeps same;
+  }
+
+  pub machine_full : (event : Event) (needed limit : ℕ) → ((r : Registry) → first_refusal (row r).refusals ≡ None)
+      → ((r : Registry) → (row r).may_need_units ≡ true) → ((r : Registry) → (row r).event ≡ event)
+      → needed ≡ event_needs event (wholes old) → limit ≡ limit_of (wholes old).frames → is_event_full event (wholes old) ≡ true → new ≡ old
+      → MachineGives row old (Full needed limit) new
+  machine_full event needed limit none may by needed_is limit_is full same = record {
+    gives = λ drawn.
+        let before = state_of old drawn in
+        let r = registry_of before in
+        row_full (row r) before (state_of new drawn) needed limit (none r) (may r) (ap (λ e. is_event_full e before.wholes) (by r) ∙ full)
+        (needed_is ∙ sym (ap (λ e. event_needs e before.wholes) (by r))) limit_is (same_likes same drawn);
+    keeps = same_keeps same;
+  }
+
+  pub machine_done : ((r : Registry) → first_refusal (row r).refusals ≡ None) → ((drawn : ℕ) → is_full (row (registry_of (state_of old drawn))) (state_of old drawn) ≡ false)
+      → ((r : Registry) → (row r).answer ≡ Done)
+      → ((drawn : ℕ) → AreLike (wholes new) (accepts (row (registry_of (state_of old drawn))) (state_of old drawn)).after.wholes)
+      → ((r : Registry) → r.drawn ≡ (row r).after.drawn) → KeepsSession old new → MachineGives row old Done new
+  machine_done none enough answers like drawn_is keeps = record {
+    gives = λ drawn.
+        let before = state_of old drawn in
+        let r = registry_of before in
+        subst (λ answer. ComesTo (change_by (row r) before) answer (state_of new drawn)) (answers r)
+        (row_accepted (row r) before (state_of new drawn) (none r) (enough drawn) (record { wholes = like drawn; drawn = drawn_is r }));
+    keeps = keeps;
+  }

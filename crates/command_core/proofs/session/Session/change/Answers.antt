@@ -1,0 +1,7 @@
+use Rattle.std.specs.Prelude.{[]}
+use Rattle.command_core.specs.Changes.{change_row}
+use Rattle.command_core.specs.LikeLaws.{gives_as}
+use Rattle.command_core.proofs.session.Session.change.Goals as goal
+
+pub returns-clause-stands : goal.returns-clause-stands
+returns-clause-stands c = gives_as (change_row [] c.args.command.now) c.args.self.now c.do_row.new.self c.do_row.result c.do_row.ensures.gives

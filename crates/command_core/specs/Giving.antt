@@ -1,0 +1,25 @@
+use Rattle.std.specs.Prelude.{◌≡◌, ℕ, true}
+use Rattle.machine_core.specs.Machine.{Machine}
+use Rattle.report_text.specs.declared.answer.Answer.{Answer}
+use Rattle.report_text.specs.declared.answer.Answer.TheVariants.{Memory}
+use Rattle.command_core.specs.State.{AreLikeStates, Registry, State, registry_of}
+use Rattle.command_core.specs.Sessions.{KeepsSession, state_of}
+use Rattle.command_core.specs.Rows.{Changed, Row, change_by, may_want_memory}
+
+-- What an object answers of a change.
+
+-- an object did what a change comes to
+pub record ComesTo (wanted : Changed) (answer : Answer) (new : State) : Type 0 where
+  pub answer_is : answer ≡ wanted.answer
+  pub after_is : AreLikeStates new wanted.after
+
+-- What an object may answer of a change: what that comes to; or want of memory, where the change may want it, and everything is as
+-- before.
+abbrev pub GivesChange : Row → State → Answer → State → Type 0
+GivesChange row old Memory new = (may_want_memory row old ≡ true) × (new ≡ old)
+GivesChange row old answer new = ComesTo (change_by row old) answer new
+
+-- what a machine answers of it, however many numbers were drawn; and it stays that of a session
+pub record MachineGives (row : Registry → Row) (old : Machine) (answer : Answer) (new : Machine) : Type 0 where
+  pub gives : (drawn : ℕ) → GivesChange (row (registry_of (state_of old drawn))) (state_of old drawn) answer (state_of new drawn)
+  pub keeps : KeepsSession old new
