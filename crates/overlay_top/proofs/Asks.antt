@@ -1,13 +1,9 @@
 use Rattle.std.proofs.Common.{◌≡◌, ℕ, ◌+◌, ◌<◌, ◌≤◌, List, [], ◌∷◌, ◌++◌, length, take, get_or, map, sym, ap, subst, ◌∙◌, refl, Option, Some, None}
 use Rattle.std.proofs.lemmas.List.{take_more, take_all}
 use Rattle.std.proofs.lemmas.Option.{get_or_from_slice_get, slice_get-get_or, slice_get-map}
-use Rattle.std.specs.Prelude.{IsSome, slice_get, true}
+use Rattle.std.specs.Prelude.{slice_get}
 use Rattle.std.specs.Option.{option_map}
 use Rattle.ovl_io.specs.Outside.{AsksFor}
-use Rattle.script_text.specs.declared.command.Command.{Command}
-use Rattle.script_text.specs.declared.command.Command.TheVariants as command
-use Rattle.command_core.specs.State.{State}
-use Rattle.command_core.specs.Commands.{asks, performed}
 use Rattle.overlay_top.specs.Outcome.{named}
 
 -- Which files are asked for.
@@ -53,32 +49,3 @@ pub fetches_all : {H : Type 0} (fetched : H → List ℕ → H → Type 0) (name
     → length names ≤ index → length names ≤ many → AsksFor fetched (named (take index names)) a b → AsksFor fetched (named (take many names)) a b
 fetches_all fetched names index many a b all enough so_far =
     subst (λ ns. AsksFor fetched (named ns) a b) (take_all index names all ∙ sym (take_all many names enough)) so_far
-
--- a command that asks for a file may want memory
-pub file_wants : (quantum : ℕ) (file : List ℕ) (c : Command) (state : State) → IsSome (asks c) → (performed quantum file c state).wants_memory ≡ true
-file_wants quantum file (command.Exec name n) state some = refl
-file_wants quantum file (command.Load name) state some = refl
-file_wants quantum file (command.Fork p) state some = cc
-file_wants quantum file (command.Run n) state some = cc
-file_wants quantum file (command.Step p n) state some = cc
-file_wants quantum file (command.Checkpoint p name) state some = cc
-file_wants quantum file (command.Restore p name) state some = cc
-file_wants quantum file (command.Forget name) state some = cc
-file_wants quantum file (command.Speculate p) state some = cc
-file_wants quantum file (command.Commit p) state some = cc
-file_wants quantum file (command.Discard p) state some = cc
-file_wants quantum file (command.Promote p at) state some = cc
-file_wants quantum file (command.PromoteAll p) state some = cc
-file_wants quantum file command.Compact state some = cc
-file_wants quantum file (command.Map p at n perms) state some = cc
-file_wants quantum file (command.Unmap p at n) state some = cc
-file_wants quantum file (command.Drop p) state some = cc
-file_wants quantum file (command.Regs p) state some = cc
-file_wants quantum file (command.Dump p at n) state some = cc
-file_wants quantum file (command.Poke p at bytes) state some = cc
-file_wants quantum file (command.Set p register value) state some = cc
-file_wants quantum file (command.Break p at) state some = cc
-file_wants quantum file (command.Unbreak p at) state some = cc
-file_wants quantum file (command.Disasm p at n) state some = cc
-file_wants quantum file command.List state some = cc
-file_wants quantum file command.Stats state some = cc

@@ -92,12 +92,14 @@ has_asked IsMissing passage rest has = cc
 has_asked IsTooLong passage rest has = cc
 
 -- one for which there was no memory may want it
-wants_next : (passages : List Passage) (asked : FileAsked) (passage : Passage) (rest : RunOutcome) → (has_all asked ≡ true → passage.wants_memory ≡ true)
-    → (passage_after (length passages) (behind passages (with_asked asked passage rest))).wants_memory ≡ true
-wants_next passages AsksNothing passage rest lacks = ap (λ (p : Passage). p.wants_memory) (next_passage passages rest.passages passage rest.last) ∙ lacks refl
-wants_next passages (HasFile file) passage rest lacks = ap (λ (p : Passage). p.wants_memory) (next_passage passages rest.passages passage rest.last) ∙ lacks refl
-wants_next passages IsMissing passage rest lacks = ap (λ (p : Passage). p.wants_memory) (last_passage passages (record { text = []; wants_memory = true }))
-wants_next passages IsTooLong passage rest lacks = ap (λ (p : Passage). p.wants_memory) (last_passage passages (record { text = []; wants_memory = true }))
+wants_next : (passages : List Passage) (asked : FileAsked) (performed : Performed) (rest : RunOutcome) → (asked ≡ AsksNothing → performed.wants_memory ≡ true)
+    → (passage_after (length passages) (behind passages (with_asked asked (passage_of asked performed) rest))).wants_memory ≡ true
+wants_next passages AsksNothing performed rest lacks =
+    ap (λ (p : Passage). p.wants_memory) (next_passage passages rest.passages (passage_of AsksNothing performed) rest.last) ∙ lacks refl
+wants_next passages (HasFile file) performed rest lacks =
+    ap (λ (p : Passage). p.wants_memory) (next_passage passages rest.passages (passage_of (HasFile file) performed) rest.last)
+wants_next passages IsMissing performed rest lacks = ap (λ (p : Passage). p.wants_memory) (last_passage passages (record { text = []; wants_memory = true }))
+wants_next passages IsTooLong performed rest lacks = ap (λ (p : Passage). p.wants_memory) (last_passage passages (record { text = []; wants_memory = true }))
 
 -- what is left, from the command at an index
 left_at : (all : List Command) (index : ℕ) (command : Command) → index < length all → command ≡ get_or all index command
@@ -126,11 +128,11 @@ failed_name h new (Some name) failed = (name, refl, failed)
 comes_at : (all : List Command) (index : ℕ) (command : Command) (files now_files : List ℕ → Option (List ℕ)) (state : State) (tells : Type 0)
     (start now : List ℕ) → index < length all → command ≡ get_or all index command → ((name : List ℕ) → now_files name ≡ files name)
     → (run : HasRun all index files state tells start now)
-    → run_from all (fresh FRAMES) files ≡ behind run.passages (with_asked (file_asked now_files command) (passage_of (command_done now_files command state))
+    → run_from all (fresh FRAMES) files ≡ behind run.passages (with_asked (file_asked now_files command) (passage_of (file_asked now_files command) (command_done now_files command state))
     (run_from (drop (index + 1) all) (command_done now_files command state).after files))
 comes_at all index command files now_files state tells start now below is same run =
     run.comes ∙ ap (λ left. behind run.passages (run_from left state files)) (left_at all index command below is)
-    ∙ ap (λ asked. behind run.passages (with_asked asked (passage_of (performed QUANTUM (file_in asked) command state))
+    ∙ ap (λ asked. behind run.passages (with_asked asked (passage_of asked (performed QUANTUM (file_in asked) command state))
     (run_from (drop (index + 1) all) (performed QUANTUM (file_in asked) command state).after files)))
     (sym (same_asked files now_files command same))
 
@@ -141,7 +143,7 @@ one_step : (all : List Command) (index : ℕ) (command : Command) (files now_fil
     → (tells → IsSent now (command_done now_files command state).text new)
     → HasRun all (index + 1) files (command_done now_files command state).after tells start new
 one_step all index command files now_files state tells start now new below is same run has sends =
-    let passage = passage_of (command_done now_files command state) in
+    let passage = passage_of (file_asked now_files command) (command_done now_files command state) in
     let left = run_from (drop (index + 1) all) (command_done now_files command state).after files in
     record {
       passages = run.passages ++ passage ∷ [];
@@ -205,7 +207,7 @@ halted : {H K : Type 0} (h : ShelfOf H) (k : SinkOf K) (halt : Halt) (all : List
     → AsksFor h.fetched (named (take (index + 1) (map asks all))) shelf_old shelf_new
     → RunEnds h k (run_from all (fresh FRAMES) files) (map asks all) shelf_old shelf_new start new (Err halt)
 halted h k Missing all index command files now_files state shelf_old shelf_new start now new below is same run given lacks sends failed asked =
-    let passage = passage_of (command_done now_files command state) in
+    let passage = passage_of (file_asked now_files command) (command_done now_files command state) in
     let left = run_from (drop (index + 1) all) (command_done now_files command state).after files in
     let comes = comes_at all index command files now_files state k.tells (k.taken start) (k.taken now) below is same run ∙ ap (λ a. behind run.passages (with_asked a passage left)) given in
     let long : index + 1 ≡ length (run_from all (fresh FRAMES) files).passages + 1 = ap (λ n. n + 1) (sym run.as_many ∙ sym (as_long (run_from all (fresh FRAMES) files) run.passages _ ending.ReadFailed comes)) in (
@@ -214,7 +216,7 @@ halted h k Missing all index command files now_files state shelf_old shelf_new s
       λ is_told. sends is_told ∙ run.sent is_told ∙ ap (λ bs. k.taken start ++ bs) (sym (reported (run_from all (fresh FRAMES) files) run.passages true ending.ReadFailed comes)),
     )
 halted h k TooLong all index command files now_files state shelf_old shelf_new start now new below is same run given lacks sends failed asked =
-    let passage = passage_of (command_done now_files command state) in
+    let passage = passage_of (file_asked now_files command) (command_done now_files command state) in
     let left = run_from (drop (index + 1) all) (command_done now_files command state).after files in
     let comes = comes_at all index command files now_files state k.tells (k.taken start) (k.taken now) below is same run ∙ ap (λ a. behind run.passages (with_asked a passage left)) given in
     let long : index + 1 ≡ length (run_from all (fresh FRAMES) files).passages + 1 = ap (λ n. n + 1) (sym run.as_many ∙ sym (as_long (run_from all (fresh FRAMES) files) run.passages _ ending.TooLong comes)) in (
@@ -240,7 +242,7 @@ halted h k Memory all index command files now_files state shelf_old shelf_new st
     let next = run_from (drop (index + 1) all) (command_done now_files command state).after files in
     let comes = comes_at all index command files now_files state k.tells (k.taken start) (k.taken now) below is same run in
     let wants = ap (λ n. (passage_after n out).wants_memory) (sym run.as_many) ∙ ap (λ (o : RunOutcome). (passage_after (length run.passages) o).wants_memory) comes
-    ∙ wants_next run.passages (file_asked now_files command) (passage_of (command_done now_files command state)) next lacks in (
+    ∙ wants_next run.passages (file_asked now_files command) (command_done now_files command state) next lacks in (
       index,
       index + 1,
       subst (λ n. n ≤ length out.passages) run.as_many (within _ run.passages left run.comes),
@@ -249,7 +251,7 @@ halted h k Memory all index command files now_files state shelf_old shelf_new st
       λ is_told. sends is_told ∙ run.sent is_told ∙ ap (λ bs. k.taken start ++ bs) (sym (ap (λ n. first_report n (run_from all (fresh FRAMES) files)) (sym run.as_many) ∙ first_texts _ run.passages left run.comes)),
     )
 halted h k SendFailed all index command files now_files state shelf_old shelf_new start now new below is same run given lacks sends failed asked =
-    let passage = passage_of (command_done now_files command state) in
+    let passage = passage_of (file_asked now_files command) (command_done now_files command state) in
     let left = run_from (drop (index + 1) all) (command_done now_files command state).after files in
     let out = run_from all (fresh FRAMES) files in
     let comes = comes_at all index command files now_files state k.tells (k.taken start) (k.taken now) below is same run

@@ -64,13 +64,18 @@ with_asked (HasFile file) passage rest = done passage rest
 with_asked IsMissing passage rest = not_fetched ReadFailed
 with_asked IsTooLong passage rest = not_fetched TooLong
 
-abbrev pub passage_of : Performed → Passage
-passage_of performed = record { text = performed.text; wants_memory = performed.wants_memory }
+-- one with a file may want memory at any time, since the file takes it
+abbrev pub asks_file : FileAsked → Bool
+asks_file AsksNothing = false
+asks_file other = true
+
+abbrev pub passage_of : FileAsked → Performed → Passage
+passage_of asked performed = record { text = performed.text; wants_memory = asks_file asked || performed.wants_memory }
 
 abbrev pub run_from : List Command → State → (List ℕ → Option (List ℕ)) → RunOutcome
 run_from [] state files = ended [] Done
 run_from (command ∷ commands) state files =
-    with_asked (file_asked files command) (passage_of (command_done files command state)) (run_from commands (command_done files command state).after files)
+    with_asked (file_asked files command) (passage_of (file_asked files command) (command_done files command state)) (run_from commands (command_done files command state).after files)
 
 -- What a script says: too much, or its commands, or the number of its first line that is outside.
 pub data ScriptSays : Type 0 where

@@ -12,7 +12,7 @@ use Rattle.report_text.specs.declared.answer.Answer.TheVariants as told
 use Rattle.report_text.specs.Answers.{answer_text}
 use Rattle.command_core.specs.State.{AreLikeStates, State}
 use Rattle.command_core.specs.Sessions.{InSession}
-use Rattle.command_core.specs.Commands.{Performed, FileAsked, HasFile, IsMissing, IsTooLong, file_in, has_all}
+use Rattle.command_core.specs.Commands.{Performed, FileAsked, AsksNothing, HasFile, IsMissing, IsTooLong, file_in, has_all}
 use Rattle.overlay_top.specs.Outcome.{RunOutcome, named, report_of, first_report, passage_after, MayLackMemory}
 use Rattle.overlay_top.specs.Outside.{RefusedFor, SinkRose, SinkSound}
 
@@ -54,9 +54,9 @@ Sends old text new (Err TooLong) = new ≡ old
 Sends old text new (Err FetchFailed) = new ≡ old
 Sends old text new (Err Memory) = new ≡ old
 
--- there was no memory for a command that has what it asks for: it may want that
+-- there was no memory for a command that asks for no file: it may want that
 abbrev pub LacksMemory : FileAsked → Performed → Result (Unit {0}) Halt → Type 0
-LacksMemory asked performed (Err Memory) = has_all asked ≡ true → performed.wants_memory ≡ true
+LacksMemory asked performed (Err Memory) = asked ≡ AsksNothing → performed.wants_memory ≡ true
 LacksMemory asked performed (Err Missing) = Unit {0}
 LacksMemory asked performed (Err TooLong) = Unit {0}
 LacksMemory asked performed (Err FetchFailed) = Unit {0}
