@@ -21,10 +21,9 @@ use Rattle.overlay_pages.specs.State.{PageState, SpaceState, State, bare_space, 
 use Rattle.overlay_pages.specs.StateLaws.{beside_space, in_space, ledger_page, ledger_shared, ledger_spaces, ledger_with, page_of, pages_in, put_there, space_beside, space_put, space_there}
 use Rattle.overlay_pages.specs.Changes.{HasShareRoom, limit_of, shared_page, units_of, with_shared}
 use Rattle.overlay_pages.specs.Calls.{AwaitsLike, IsNextPage, entries_in}
-use Rattle.promotion.specs.Settled.{FitsAfter, units_after}
-use Rattle.promotion.specs.CountLaws.{has_page}
-use Rattle.promotion.specs.Fates.{some_is}
-use Rattle.promotion.specs.Walks.{walked_all, walked_one}
+use Rattle.overlay_memory.specs.PageLaws.{has_page, some_is}
+use Rattle.overlay_memory.specs.Room.{FitsAfter, units_after}
+use Rattle.overlay_memory.specs.Walked.{walked_all, walked_one}
 use Rattle.fork_checkpoint.specs.Parts.{low_part, low_part_absent, low_part_all, low_part_at, low_part_more, low_part_none, high_part, high_part_all, high_part_less, high_part_none, high_part_some, high_part_there, sum_low_part, viewed_low_part}
 use Rattle.fork_checkpoint.specs.Forked.{ArePagesLow, HasForked, with_copy}
 use Rattle.fork_checkpoint.proofs.Sums.{units_part}
@@ -290,9 +289,9 @@ needed_is v from to n differs absent is =
     none None e = refl
     none (Some y) e = cc
 
-pub fits_before : (v : State) (from to n limit : ℕ) → (from ≡ to → ⊥) → holds_space v to ≡ false
-    → n ≡ units_of v + class_sum (values (pages_of (books v) from)) → limit ≡ limit_of v → n ≤ limit → FitsAfter (Copy from to) v
-fits_before v from to n limit differs absent is limit_is le = let needed = needed_is v from to n differs absent is in omega (arith, needed, limit_is, le)
+pub fits_before : (v : State) (from to n : ℕ) → (from ≡ to → ⊥) → holds_space v to ≡ false
+    → n ≡ units_of v + class_sum (values (pages_of (books v) from)) → n ≤ limit_of v → FitsAfter (Copy from to) v
+fits_before v from to n differs absent is le = let needed = needed_is v from to n differs absent is in omega (arith, needed, le)
 
 -- a space that is there isn't one that isn't
 pub two_spaces : (v : State) (from to : ℕ) → holds_space v from ≡ true → holds_space v to ≡ false → from ≡ to → ⊥

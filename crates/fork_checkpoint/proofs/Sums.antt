@@ -16,10 +16,10 @@ use Rattle.overlay_pages.specs.Changes.{limit_of, units_of}
 use Rattle.space_ledger.specs.Calls.{IsNextOwn}
 use Rattle.ledger.specs.Changes.{has_own}
 use Rattle.std.specs.Option.{option_map_or}
-use Rattle.promotion.specs.Counted.{class_at}
-use Rattle.promotion.specs.CountLaws.{class_there}
-use Rattle.promotion.specs.Turns.{held_there, there_of}
-use Rattle.promotion.specs.Walks.{one_further}
+use Rattle.overlay_memory.specs.CountLaws.{class_there}
+use Rattle.overlay_memory.specs.PageLaws.{held_there, there_of}
+use Rattle.overlay_memory.specs.Room.{class_at}
+use Rattle.overlay_memory.specs.Walked.{one_further}
 use Rattle.fork_checkpoint.specs.Parts.{low_part, low_part_absent, low_part_all, low_part_more, low_part_none, low_part_past}
 use Rattle.fork_checkpoint.specs.Forked.{ArePagesLow}
 

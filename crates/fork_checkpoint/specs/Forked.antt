@@ -9,10 +9,9 @@ use Rattle.overlay_pages.specs.State.{State, base_of, books, cut_space, holds_sp
 use Rattle.overlay_pages.specs.Calls.{entries_in}
 use Rattle.overlay_pages.specs.Changes.{units_of}
 use Rattle.overlay_pages.specs.View.{MemoryView, state_of}
-use Rattle.overlay_memory.specs.Access.{IsFullAt}
+use Rattle.overlay_memory.specs.Room.{FitsAfter, IsFullAt, units_after}
 use Rattle.overlay_memory.specs.declared.error.SpaceError.{SpaceError}
 use Rattle.overlay_memory.specs.declared.error.SpaceError.TheVariants.{Full, Memory}
-use Rattle.promotion.specs.Settled.{FitsAfter, units_after}
 
 -- What a fork makes.
 

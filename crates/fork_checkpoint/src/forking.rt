@@ -25,9 +25,8 @@ pub fn fork_space(mem: &mut OverlayMemory, from: u16, to: u16) -> Result<(), Spa
     ensures { Forks mem.old mem.new from to result }
 {
     let needed = units_copied(mem, from);
-    let limit = mem.limit();
-    if needed > limit {
-        return Err(SpaceError::Full(needed, limit));
+    if let Some(shortage) = mem.shortage(needed) {
+        return Err(SpaceError::Full(shortage.needed, shortage.limit));
     }
     match mem.add_space(to) {
         Ok(()) => match fill_space(mem, from, to) {

@@ -5,7 +5,7 @@ ghost use Rattle.std.specs.FinMap as map;
 ghost use Rattle.ledger.specs.Events.{Copy};
 ghost use Rattle.overlay_pages.specs.State.{bare_space, holds_space, space_in};
 ghost use Rattle.overlay_pages.specs.View.{state_of};
-ghost use Rattle.promotion.specs.Settled.{FitsAfter};
+ghost use Rattle.overlay_memory.specs.Room.{FitsAfter};
 ghost use Rattle.fork_checkpoint.specs.Forked.{ArePagesLow, AwaitsAll, FillsSpace, with_copy};
 
 use overlay_memory::OverlayMemory;

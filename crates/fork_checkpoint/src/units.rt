@@ -5,11 +5,10 @@ ghost use Rattle.sizes.specs.declared.TheConstants.{FRAME_UNITS, PAGE_END};
 ghost use Rattle.overlay_pages.specs.State.{holds_space, page_in};
 ghost use Rattle.overlay_pages.specs.Changes.{limit_of};
 ghost use Rattle.overlay_pages.specs.View.{state_of};
-ghost use Rattle.promotion.specs.Counted.{class_at};
+ghost use Rattle.overlay_memory.specs.Room.{class_at};
 ghost use Rattle.fork_checkpoint.specs.Forked.{ArePagesLow, units_with_copies};
 
-use overlay_memory::OverlayMemory;
-use space_ledger::class_of;
+use overlay_memory::{OverlayMemory, class_of};
 
 // The units with a copy of one more page's overlay.
 fn with_segment(mem: &OverlayMemory, space: u16, page: u64, units: u32) -> u32

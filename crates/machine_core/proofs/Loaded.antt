@@ -1,4 +1,4 @@
-use Rattle.std.proofs.Common.{◌≡◌, ℕ, ◌+◌, ◌*◌, ◌<◌, ◌≤◌, nat_lt, Bool, true, false, cond, List, [], ◌∷◌, map, sym, ap, ◌∙◌, refl, arith, Option, Some, None}
+use Rattle.std.proofs.Common.{◌≡◌, ℕ, ◌+◌, ◌*◌, ◌<◌, ◌≤◌, nat_lt, Bool, true, false, cond, List, [], ◌∷◌, map, sym, ap, ◌∙◌, refl, arith, Option, Some, None, Err}
 use Rattle.std.specs.Option.{is_some, option_map, unwrap_or}
 use Rattle.std.specs.FinMap.{FinMap, get, insert, remove}
 use Rattle.std.specs.Ordering.{nat_cmp}
@@ -14,11 +14,14 @@ use Rattle.ledger.specs.AlikeLaws.{alike_turned}
 use Rattle.ledger.specs.Units.{units}
 use Rattle.rv_execute.specs.Registers.{Registers, first_registers}
 use Rattle.overlay_pages.specs.Changes.{limit_of, units_of}
+use Rattle.overlay_memory.specs.Room.{IsShort}
+use Rattle.overlay_memory.specs.declared.error.Shortage.{Shortage}
+use Rattle.overlay_memory.specs.declared.error.SpaceError.TheVariants.{Full}
 use Rattle.overlay_pages.specs.State.{SpaceState, State, bare_space, base_of, books, cut_space, holds_space, space_in}
 use Rattle.machine_core.specs.declared.process.Process as declared
 use Rattle.machine_core.specs.Machine.{Machine, has_space, processes_of, shown_process, spaces_of, whole_in, wholes}
 use Rattle.machine_core.specs.Laws.{processes_at, whole_by}
-use Rattle.machine_core.specs.Load.{IsLoaded, load_needs, loaded_process, stored_count, stored_pages}
+use Rattle.machine_core.specs.Load.{IsLoaded, Loads, is_load_full, load_needs, loaded_process, stored_count, stored_pages}
 use Rattle.machine_core.specs.Loading.{IsSpaceOf}
 use Rattle.machine_core.proofs.Marks.{units_after_load}
 use Rattle.machine_core.proofs.Spaces.{absent_at, ledger_absent}
@@ -91,29 +94,38 @@ pub needed_is : (file : List ℕ) (p : ℕ) (old : Machine) → file_refusal fil
     → load_needs p file (wholes old) ≡ units_of (spaces_of old) + 16 * stored_pages file
 needed_is file p old taken absent = units_after_load p file (books (spaces_of old)) taken (ledger_absent (spaces_of old) p absent)
 
--- the numbers that are compared
-pub record AreCounted (file : List ℕ) (p : ℕ) (old : Machine) (needed limit : ℕ) : Type 0 where
-  pub needed_is : needed ≡ load_needs p file (wholes old)
-  pub limit_is : limit ≡ limit_of (spaces_of old)
-
-pub counted : (file : List ℕ) (p : ℕ) (old : Machine) (inside : State) (items : List ImagePage) (units stored limit : ℕ) → file_refusal file ≡ None → has_space old p ≡ false
-    → inside ≡ spaces_of old → items ≡ map (listed_page file) (image_pages file)
-    → units ≡ units_of inside → stored ≡ stored_count (map (λ page. page.stored) items) → limit ≡ limit_of inside → AreCounted file p old (units + 16 * stored) limit
-counted file p old inside items units stored limit taken absent same listed units_is stored_in limit_is =
-    let all = needed_is file p old taken absent in
-    let count = stored_in ∙ stored_is file items listed in
-    let now = units_is ∙ ap units_of same in
-    record { needed_is = omega (arith, all, count, now); limit_is = limit_is ∙ ap limit_of same }
-
-pub fits_by : (limit needed : ℕ) → nat_lt limit needed ≡ false → needed ≤ limit
-fits_by limit needed h = grind (arith, nat_tests)
-
-pub full_by : (limit needed : ℕ) → limit < needed → nat_lt limit needed ≡ true
+full_by : (limit needed : ℕ) → limit < needed → nat_lt limit needed ≡ true
 full_by limit needed h = grind (arith, nat_tests)
 
-pub not_full_by : (limit needed : ℕ) → needed ≤ limit → nat_lt limit needed ≡ false
+not_full_by : (limit needed : ℕ) → needed ≤ limit → nat_lt limit needed ≡ false
 not_full_by limit needed h = by_test (nat_lt limit needed) refl
   where
     by_test : (b : Bool) → nat_lt limit needed ≡ b → b ≡ false
     by_test true e = absurd (grind (arith, nat_tests))
     by_test false e = refl
+
+-- the units that are counted are those that it needs, and the limit is that of the machine
+pub counted : (file : List ℕ) (p : ℕ) (old : Machine) (inside : State) (items : List ImagePage) (units stored : ℕ) → file_refusal file ≡ None → has_space old p ≡ false
+    → inside ≡ spaces_of old → items ≡ map (listed_page file) (image_pages file)
+    → units ≡ units_of inside → stored ≡ stored_count (map (λ page. page.stored) items) → units + 16 * stored ≡ load_needs p file (wholes old)
+counted file p old inside items units stored taken absent same listed units_is stored_in =
+    let all = needed_is file p old taken absent in
+    let count = stored_in ∙ stored_is file items listed in
+    let now = units_is ∙ ap units_of same in
+    omega (arith, all, count, now)
+
+-- where they are within it, and where they exceed it
+pub not_full_at : (file : List ℕ) (p : ℕ) (old : Machine) (inside : State) (needed : ℕ) → inside ≡ spaces_of old → needed ≡ load_needs p file (wholes old)
+    → needed ≤ limit_of inside → is_load_full p file (wholes old) ≡ false
+not_full_at file p old inside needed same is fits =
+    let limit = ap limit_of same in not_full_by (limit_of (spaces_of old)) (load_needs p file (wholes old)) (omega (arith, is, fits, limit))
+
+pub full_at : (file : List ℕ) (p : ℕ) (old : Machine) (inside : State) (needed : ℕ) (shortage : Shortage) → inside ≡ spaces_of old
+    → needed ≡ load_needs p file (wholes old) → IsShort needed (limit_of inside) shortage
+    → Loads p file old old (Err (Full shortage.needed shortage.limit))
+full_at file p old inside needed shortage same is short =
+    let limit = ap limit_of same in
+    let over = short.over in
+    let one = short.needed_is in
+    let two = short.limit_is in
+    (one ∙ is, two ∙ limit, full_by (limit_of (spaces_of old)) (load_needs p file (wholes old)) (omega (arith, over, one, two, is, limit)), refl)

@@ -78,12 +78,13 @@ pub record IsLoaded (p : ℕ) (file : List ℕ) (old new : Machine) : Type 0 whe
 abbrev pub IsAsBefore : Machine → Machine → Type 0
 IsAsBefore old new = (spaces_of new ≡ spaces_of old) × (new.processes ≡ old.processes)
 
--- How a load comes out: full exactly where the units of the ledger after it exceed the limit, and then nothing changes.
+-- How a load comes out: full exactly where the units of the ledger after it exceed the limit, and then nothing changes. Want of
+-- memory comes only where they don't.
 abbrev pub Loads : ℕ → List ℕ → Machine → Machine → Result ℕ SpaceError → Type 0
 Loads p file old new (Ok n) = (n ≡ page_count file) × (is_load_full p file (wholes old) ≡ false) × IsLoaded p file old new
 Loads p file old new (Err (Full needed limit)) =
     (needed ≡ load_needs p file (wholes old)) × (limit ≡ limit_of (wholes old).frames) × (is_load_full p file (wholes old) ≡ true) × (new ≡ old)
-Loads p file old new (Err NoMemory) = IsAsBefore old new
+Loads p file old new (Err NoMemory) = (is_load_full p file (wholes old) ≡ false) × IsAsBefore old new
 
 -- the same of each state that the machine stood for
 abbrev pub LoadsAs : ℕ → List ℕ → Machine → Machine → Result ℕ SpaceError → Type 0
@@ -92,4 +93,5 @@ LoadsAs p file old new (Ok n) =
 LoadsAs p file old new (Err (Full needed limit)) =
     (state : Wholes) → StandsFor old state
     → (needed ≡ load_needs p file state) × (limit ≡ limit_of state.frames) × (is_load_full p file state ≡ true) × StandsFor new state
-LoadsAs p file old new (Err NoMemory) = (state : Wholes) → StandsFor old state → StandsFor new state
+LoadsAs p file old new (Err NoMemory) =
+    (state : Wholes) → StandsFor old state → (is_load_full p file state ≡ false) × StandsFor new state

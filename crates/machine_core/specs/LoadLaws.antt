@@ -64,10 +64,5 @@ loads_as p file old new (Err (Full needed limit)) (needed_is, limit_is, full, sa
   sym (like_load_full p file (wholes old) state stands) ∙ full,
   subst (λ (m : Machine). AreLike (wholes m) state) (sym same) stands,
 )
-loads_as p file old new (Err Memory) same = λ state stands. subst (λ (w : Wholes). AreLike w state) (sym (same_wholes old new same)) stands
-
-pub loads_stays : (p : ℕ) (file : List ℕ) (old new : Machine) (r : Result ℕ SpaceError) → Loads p file old new r → StaysBut p old new
-loads_stays p file old new (Ok n) (count, fits, loaded) = loaded.others
-loads_stays p file old new (Err (Full needed limit)) (needed_is, limit_is, full, same) =
-    same_stays p old new (ap spaces_of same, ap (λ (m : Machine). m.processes) same)
-loads_stays p file old new (Err Memory) same = same_stays p old new same
+loads_as p file old new (Err Memory) (fits, same) = λ state stands.
+    (sym (like_load_full p file (wholes old) state stands) ∙ fits, subst (λ (w : Wholes). AreLike w state) (sym (same_wholes old new same)) stands)

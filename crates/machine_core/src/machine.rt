@@ -84,10 +84,9 @@ impl Machine {
         ensures stands { LoadsAs p file.now self.old self.new result }
         ensures others { StaysBut p self.old self.new }
     {
-        let limit = self.memory.limit();
         let needed = self.memory.units() + FRAME_UNITS * stored_in(image.pages());
-        if limit < needed {
-            return Err(SpaceError::Full(needed, limit));
+        if let Some(shortage) = self.memory.shortage(needed) {
+            return Err(SpaceError::Full(shortage.needed, shortage.limit));
         }
         match self.make(p, image, file) {
             Ok(()) => Ok(image.pages().len() as u32 + STACK_PAGES as u32),

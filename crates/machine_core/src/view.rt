@@ -7,8 +7,7 @@ ghost use Rattle.machine_core.specs.Access.{IsInHand, failed_at, refusal_of};
 
 use bitflags::Flags;
 use byteorder::{ByteOrder, LittleEndian};
-use overlay_memory::{MemoryError, OverlayMemory};
-use overlay_pages::FoundLine;
+use overlay_memory::{FoundLine, MemoryError, OverlayMemory};
 use ovl_io::Perms;
 use rv_execute::{Denied, GuestMemory, Refused};
 use sizes::{LINE_BYTES, PAGE_BYTES, PAGE_LINES};

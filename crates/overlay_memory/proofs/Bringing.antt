@@ -1,14 +1,14 @@
 use Rattle.std.proofs.Common.{◌≡◌, ℕ, Bool, true, false, cond, List, [], ◌∷◌, Some, sym, ap, subst, ◌∙◌, refl}
-use Rattle.std.specs.Option.{option_map}
 use Rattle.overlay_bits.specs.Lines.{AreLines, has_line}
-use Rattle.ledger.specs.Ledger.{Ledger, holding_at, is_alone, with_page}
+use Rattle.ledger.specs.Ledger.{Ledger, is_alone, with_page}
 use Rattle.ledger.specs.Changes.{joined}
 use Rattle.ledger.specs.Events.{Store, ledger_after}
 use Rattle.ledger.specs.PlaceLaws.{put_again}
 use Rattle.ledger.specs.StoreLaws.{joined_there, store_joins, store_nothing}
 use Rattle.overlay_pages.specs.State.{PageState, State, base_of, books, held_page, memory_of, page_in, put_page, space_in, turned_page}
 use Rattle.overlay_pages.specs.Changes.{brought, is_writable, with_brought, writes_frame}
-use Rattle.overlay_pages.specs.StateLaws.{changed_there, ledger_page, ledger_put, page_put_beside, page_put_here}
+use Rattle.overlay_pages.specs.StateLaws.{changed_there, ledger_put, page_put_beside, page_put_here}
+use Rattle.overlay_memory.specs.PageLaws.{held_there}
 use Rattle.overlay_memory.specs.Pieces.{AreBeside}
 use Rattle.overlay_memory.proofs.Joining.{joined_has, with_own_line}
 use Rattle.overlay_memory.specs.StateMemory.{alone_kept, base_kept, beside_both, beside_put, beside_same, memory_kept, writable_at, writable_same, writes_same}
@@ -24,9 +24,6 @@ pub record HasBrought (old new : State) (space : ℕ) (after : Ledger) : Type 0 
 
 pub brought_none : (v : State) (s : ℕ) → HasBrought v v s (books v)
 brought_none v s = record { memory = refl; base = refl; ledger = refl; beside = beside_same v s }
-
-held : (v : State) (s p : ℕ) (x : PageState) → page_in v s p ≡ Some x → holding_at (books v) s p ≡ Some (held_page v.zero_frame x)
-held v s p x there = ledger_page v s p ∙ ap (option_map (held_page v.zero_frame)) there
 
 -- what is brought, where the frame is written and where it isn't
 brings_nothing : (v : State) (s p : ℕ) (lines : List ℕ) → writes_frame v s p ≡ true → with_brought v s p lines ≡ v
@@ -60,7 +57,7 @@ module _ (v : State) (s p : ℕ) (lines : List ℕ) (x : PageState) (there : pag
         base = base_kept v s p (brought lines x) x there refl;
         ledger =
             ledger_put v s p (brought lines x)
-            ∙ sym (store_joins (space_in v s).speculating (books v) s p lines frame ∙ joined_there (books v) s p lines (held_page v.zero_frame x) (held v s p x there));
+            ∙ sym (store_joins (space_in v s).speculating (books v) s p lines frame ∙ joined_there (books v) s p lines (held_page v.zero_frame x) (held_there v s p x there));
         beside = beside_put v s p (brought lines x) x there refl;
       })
 
@@ -140,6 +137,6 @@ joins_nothing v s p line x there are can = at (writes_frame v s p) refl
     at true frame = store_nothing (space_in v s).speculating (books v) s p (line ∷ []) frame
     at false frame =
         let has = own_line (has_line x.own line) (writes_frame v s p) frame (sym (writable_at v s p line x there) ∙ can) in
-        store_joins (space_in v s).speculating (books v) s p (line ∷ []) frame ∙ joined_there (books v) s p (line ∷ []) (held_page v.zero_frame x) (held v s p x there)
+        store_joins (space_in v s).speculating (books v) s p (line ∷ []) frame ∙ joined_there (books v) s p (line ∷ []) (held_page v.zero_frame x) (held_there v s p x there)
         ∙ ap (λ o. with_page (books v) s p (record { origin = (held_page v.zero_frame x).origin; own = o })) (with_own_line x.own line are has)
-        ∙ put_again (books v) s p (held_page v.zero_frame x) (held v s p x there)
+        ∙ put_again (books v) s p (held_page v.zero_frame x) (held_there v s p x there)

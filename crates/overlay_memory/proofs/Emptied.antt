@@ -4,7 +4,7 @@ use Rattle.std.specs.Ordering.{nat_cmp}
 use Rattle.std.specs.Cmp.{nat_cmp_total}
 use Rattle.std.specs.FinMap.{FinMap, empty, get, get-empty, insert, len, len-insert, remove}
 use Rattle.number_maps.specs.Cuts.{insert_removed}
-use Rattle.number_maps.specs.Keys.{alike, by_key, get_other, get_same, insert_kept, removed_other, removed_same}
+use Rattle.number_maps.specs.Keys.{alike, by_key, get_other, insert_kept, removed_other, removed_same}
 use Rattle.overlay_pages.specs.State.{PageState, SpaceState, State, cut_page, cut_space, holds_space, of_pages, page_in, put_space, space_in}
 use Rattle.overlay_pages.specs.StateLaws.{page_of, put_there, space_put}
 use Rattle.overlay_memory.specs.Pieces.{IsEmptied}

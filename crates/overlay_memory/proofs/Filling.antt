@@ -1,9 +1,9 @@
-use Rattle.std.proofs.Common.{◌≡◌, ℕ, ◌+◌, ◌*◌, ◌<◌, ◌≤◌, Bool, true, false, cond, List, ◌++◌, length, take, drop, slice_set, Option, Some, None, sym, ap, subst, ◌∙◌, refl, arith}
+use Rattle.std.proofs.Common.{◌≡◌, ℕ, ◌+◌, ◌*◌, ◌/◌, ◌<◌, ◌≤◌, Bool, true, false, cond, List, ◌++◌, length, take, drop, slice_set, Option, Some, None, sym, ap, subst, ◌∙◌, refl, arith, length-append}
 use Rattle.std.specs.Prelude.{not, ◌&&◌}
 use Rattle.std.proofs.Math.Seq.{take-add}
 use Rattle.std.proofs.lemmas.List.{drop-drop, length-take-le}
 use Rattle.std.specs.Option.{option_map}
-use Rattle.std.specs.FinMap.{insert}
+use Rattle.std.specs.FinMap.{get, insert}
 use Rattle.sizes.specs.declared.TheConstants.{LINE_BYTES, PAGE_BYTES, PAGE_LINES}
 use Rattle.number_maps.specs.Keys.{by_key}
 use Rattle.ovl_io.specs.Memory.{with_bytes}
@@ -16,8 +16,9 @@ use Rattle.overlay_pages.specs.State.{PageState, State, base_of, base_page, book
 use Rattle.overlay_pages.specs.Changes.{is_writable, with_written, writes_frame, written}
 use Rattle.overlay_pages.specs.View.{MemoryView, state_of}
 use Rattle.overlay_pages.specs.StateLaws.{changed_there, page_put_beside, page_put_here}
+use Rattle.overlay_memory.specs.Access.{IsUntouched}
 use Rattle.overlay_memory.specs.Pieces.{IsFilled}
-use Rattle.overlay_memory.specs.StateMemory.{base_kept, beside_both, beside_put, books_kept, mark_put, memory_put, writable_at, writable_same, writes_same}
+use Rattle.overlay_memory.specs.StateMemory.{base_beside, base_kept, beside_both, beside_put, books_kept, mark_put, memory_put, writable_at, writable_same, writes_same}
 use Rattle.overlay_memory.proofs.LineBytes.{line_written, page_count}
 use Rattle.overlay_memory.proofs.Pieced.{seen_there}
 use Rattle.overlay_memory.proofs.Views.{lines_count}
@@ -52,6 +53,12 @@ module _ (v : State) (s p line : ℕ) (new : List ℕ) (x : PageState) (there : 
       ∙ sym (ap (λ q. is_writable v s q l) same ∙ writable_at v s p l x there))
       (λ other. writable_same v after s r l (page_put_beside v s p (written line new x) s r (λ ss pp. other pp)) (frames_kept r))
 
+  -- a page in which no byte lies is another one
+  bases_stay : (at count page : ℕ) → line < PAGE_LINES → 0 < count → at + count ≤ LINE_BYTES
+      → IsUntouched (PAGE_BYTES * p + (LINE_BYTES * line + at)) count page → get (base_of after s) page ≡ get (base_of v s) page
+  bases_stay at count page low some fits far =
+      base_beside v s p (written line new x) page (λ same. far 0 some (omega (arith, low, some, fits, same)))
+
   base_stays : is_writable v s p line ≡ true → (space_in v s).speculating ≡ true → base_of after s ≡ base_of v s
   base_stays can on =
       base_kept v s p (written line new x) x there
@@ -60,10 +67,11 @@ module _ (v : State) (s p line : ℕ) (new : List ℕ) (x : PageState) (there : 
 
 pub written_filled : (v : State) (s p line at : ℕ) (bytes old : List ℕ) (x : PageState) → page_in v s p ≡ Some x
     → option_map (λ (x : PageState). line_in_page x.lines line) (page_in v s p) ≡ Some old
-    → length x.lines ≡ PAGE_LINES → line < PAGE_LINES → length old ≡ LINE_BYTES → at + length bytes ≤ LINE_BYTES → is_writable v s p line ≡ true
+    → length x.lines ≡ PAGE_LINES → line < PAGE_LINES → length old ≡ LINE_BYTES → 0 < length bytes → at + length bytes ≤ LINE_BYTES
+    → is_writable v s p line ≡ true
     → IsFilled v (with_written v s p line (overwritten old at bytes)) s (PAGE_BYTES * p + (LINE_BYTES * line + at)) bytes
 unfolding with_written
-written_filled v s p line at bytes old x there is all low whole fits can =
+written_filled v s p line at bytes old x there is all low whole some fits can =
     subst (λ new. IsFilled v new s (4096 * p + (64 * line + at)) bytes) (sym (changed_there (written line (overwritten old at bytes)) v s p x there)) (record {
       memory =
           memory_put v s p (written line (overwritten old at bytes) x)
@@ -72,6 +80,7 @@ written_filled v s p line at bytes old x there is all low whole fits can =
           (omega (arith, low, fits)));
       ledger = books_kept v s p (written line (overwritten old at bytes) x) x there refl refl;
       base = base_stays v s p line (overwritten old at bytes) x there can;
+      bases = λ page far. bases_stay v s p line (overwritten old at bytes) x there at (length bytes) page low some fits far;
       writable = writable_kept v s p line (overwritten old at bytes) x there;
       beside = beside_put v s p (written line (overwritten old at bytes) x) x there refl;
     })
@@ -88,9 +97,9 @@ written_filled v s p line at bytes old x there is all low whole fits can =
 pub line_put : (view : MemoryView) (s p line at k : ℕ) (bytes old new : List ℕ) (after : State)
     → option_map (λ (x : PageState). line_in_page x.lines line) (page_in (state_of view) s p) ≡ Some old
     → after ≡ with_written (state_of view) s p line (take at old ++ (new ++ drop k (drop at old))) → new ≡ bytes → k ≡ length bytes → length old ≡ LINE_BYTES
-    → line < PAGE_LINES → at + length bytes ≤ LINE_BYTES → is_writable (state_of view) s p line ≡ true
+    → line < PAGE_LINES → 0 < length bytes → at + length bytes ≤ LINE_BYTES → is_writable (state_of view) s p line ≡ true
     → IsFilled (state_of view) after s (PAGE_BYTES * p + (LINE_BYTES * line + at)) bytes
-line_put view s p line at k bytes old new after is put same count whole low fits can = by_page (page_in (state_of view) s p) refl is
+line_put view s p line at k bytes old new after is put same count whole low nonempty fits can = by_page (page_in (state_of view) s p) refl is
   where
     lists : take at old ++ (new ++ drop k (drop at old)) ≡ overwritten old at bytes
     lists =
@@ -103,7 +112,7 @@ line_put view s p line at k bytes old new after is put same count whole low fits
     by_page (Some x) at_page some =
         subst (λ new. IsFilled (state_of view) new s (4096 * p + (64 * line + at)) bytes)
         (sym (put ∙ ap (with_written (state_of view) s p line) lists))
-        (written_filled (state_of view) s p line at bytes old x at_page is (lines_count view s p x at_page) low whole fits can)
+        (written_filled (state_of view) s p line at bytes old x at_page is (lines_count view s p x at_page) low whole nonempty fits can)
 
 -- one piece after another
 
@@ -116,9 +125,18 @@ filled_more a b c s address next front rest is one two = record {
       ∙ sym (stored_joined (memory_of a s) address front rest);
   ledger = two.ledger ∙ one.ledger;
   base = λ on. two.base (one.beside.mark ∙ on) ∙ one.base on;
+  bases = λ page far.
+      two.bases page (λ k low same. far (length front + k) (omega (arith, both, low)) (ap (λ a. a / 4096) (further k) ∙ same))
+      ∙ one.bases page (λ k low same. far k (omega (arith, both, low)) same);
   writable = λ page line. two.writable page line ∙ one.writable page line;
   beside = beside_both a b c s one.beside two.beside;
 }
+  where
+    both : length (front ++ rest) ≡ length front + length rest
+    both = length-append front rest
+
+    further : (k : ℕ) → address + (length front + k) ≡ next + k
+    further k = omega (arith, is)
 
 pub fill_more : (a b c : State) (s address next done n k : ℕ) (bytes : List ℕ) → done ≤ length bytes → next ≡ address + done → k ≡ n
     → IsFilled a b s address (take done bytes) → IsFilled b c s next (take k (drop done bytes)) → IsFilled a c s address (take (done + n) bytes)

@@ -11,10 +11,10 @@ use Rattle.overlay_pages.specs.Changes.{Fits, is_writable, limit_of, units_of, w
 use Rattle.overlay_pages.specs.Calls.{RisesBy}
 use Rattle.overlay_pages.specs.View.{MemoryView, state_of}
 use Rattle.overlay_memory.specs.declared.error.MemoryError.TheVariants.{Full}
-use Rattle.overlay_memory.specs.declared.room.Excess.{Excess}
+use Rattle.overlay_memory.specs.declared.error.Shortage.{Shortage}
 use Rattle.overlay_memory.specs.Access.{IsAllowed, Stores, stored_books}
 use Rattle.overlay_memory.specs.Pieces.{AreWritable, IsFilled, IsPermitted, lines_under}
-use Rattle.overlay_memory.specs.Room.{IsExcess}
+use Rattle.overlay_memory.specs.Room.{IsShort}
 use Rattle.overlay_memory.specs.StateMemory.{still_there}
 use Rattle.overlay_memory.proofs.Bringing.{HasBrought, brought_none, brought_one, brought_writable, joins_nothing}
 use Rattle.overlay_memory.proofs.Joining.{has_under, one_under}
@@ -88,9 +88,9 @@ module _ {view : MemoryView} {s address : ℕ} {lines bytes : List ℕ} (it : Is
   brought_is : HasBrought v brought s row
   brought_is = brought_one v s page lines it.may.page it.may.there
 
-  pub one_full : (rise : ℕ) (excess : Excess) → RisesBy v s page lines rise → IsExcess view rise excess
-      → Stores view view s address bytes (Err (Full excess.needed excess.limit))
-  one_full rise excess rises too_many = full_store view s address rise bytes excess allowed (ap units row_is ∙ rises.one) too_many
+  pub one_full : (rise : ℕ) (shortage : Shortage) → RisesBy v s page lines rise → IsShort (units_of v + rise) (limit_of v) shortage
+      → Stores view view s address bytes (Err (Full shortage.needed shortage.limit))
+  one_full rise shortage rises short = full_store view s address rise bytes shortage allowed (ap units row_is ∙ rises.one) short
 
   pub one_fits : (rise : ℕ) → RisesBy v s page lines rise → units_of v + rise ≤ limit_of v → Fits brought
   one_fits rise rises room =

@@ -13,10 +13,10 @@ use Rattle.overlay_pages.specs.Changes.{Fits, is_writable, limit_of, units_of, w
 use Rattle.overlay_pages.specs.Calls.{RisesBy}
 use Rattle.overlay_pages.specs.View.{MemoryView, state_of}
 use Rattle.overlay_memory.specs.declared.error.MemoryError.TheVariants.{Full}
-use Rattle.overlay_memory.specs.declared.room.Excess.{Excess}
+use Rattle.overlay_memory.specs.declared.error.Shortage.{Shortage}
 use Rattle.overlay_memory.specs.Access.{IsAllowed, Stores, stored_books}
 use Rattle.overlay_memory.specs.Pieces.{AreWritable, IsFilled, IsPermitted, lines_under}
-use Rattle.overlay_memory.specs.Room.{IsExcess}
+use Rattle.overlay_memory.specs.Room.{IsShort}
 use Rattle.overlay_memory.specs.StateMemory.{beside_both, still_there}
 use Rattle.overlay_memory.proofs.Bringing.{HasBrought, brought_one, brought_two, first_writable, second_writable}
 use Rattle.overlay_memory.proofs.Filling.{filled_more}
@@ -96,10 +96,11 @@ module _ {view : MemoryView} {s address front : ℕ} {lines more bytes : List �
   rises : (one two : ℕ) → RisesBy v s page lines one → RisesBy v s next more two → units row ≡ units_of v + (one + two)
   rises one two first second = let together = first.both next more other_page in let alone = second.one in omega (arith, together, alone)
 
-  pub two_full : (one two : ℕ) (excess : Excess) → RisesBy v s page lines one → RisesBy v s next more two → IsExcess view (one + two) excess
-      → Stores view view s address bytes (Err (Full excess.needed excess.limit))
-  two_full one two excess first second too_many =
-      full_store view s address (one + two) bytes excess allowed (ap units row_is ∙ rises one two first second) too_many
+  pub two_full : (one two : ℕ) (shortage : Shortage) → RisesBy v s page lines one → RisesBy v s next more two
+      → IsShort (units_of v + (one + two)) (limit_of v) shortage
+      → Stores view view s address bytes (Err (Full shortage.needed shortage.limit))
+  two_full one two shortage first second short =
+      full_store view s address (one + two) bytes shortage allowed (ap units row_is ∙ rises one two first second) short
 
   pub first_fits : (one two : ℕ) → RisesBy v s page lines one → units_of v + (one + two) ≤ limit_of v → Fits brought
   first_fits one two first room =

@@ -1,5 +1,6 @@
 use Rattle.std.proofs.Common.{◌≡◌, ℕ, ◌+◌, ◌-◌, ◌≤◌, List, [], ◌∷◌, length, sym, ap, ◌∙◌, refl, arith}
 use Rattle.std.specs.Prelude.{Err}
+use Rattle.std.specs.FinMap.{get}
 use Rattle.ovl_io.specs.Memory.{with_bytes}
 use Rattle.ovl_io.specs.MemoryLaws.{access_front}
 use Rattle.ovl_io.specs.Permissions.{writable}
@@ -7,14 +8,14 @@ use Rattle.ledger.specs.Ledger.{Ledger}
 use Rattle.ledger.specs.Touched.{touched}
 use Rattle.ledger.specs.Units.{units}
 use Rattle.overlay_pages.specs.State.{State, memory_of}
-use Rattle.overlay_pages.specs.Changes.{units_of}
+use Rattle.overlay_pages.specs.Changes.{limit_of, units_of}
 use Rattle.overlay_pages.specs.View.{MemoryView, state_of}
 use Rattle.overlay_memory.specs.declared.error.MemoryError.{MemoryError}
 use Rattle.overlay_memory.specs.declared.error.MemoryError.TheVariants.{Unmapped, Forbidden, Full}
-use Rattle.overlay_memory.specs.declared.room.Excess.{Excess}
+use Rattle.overlay_memory.specs.declared.error.Shortage.{Shortage}
 use Rattle.overlay_memory.specs.Access.{IsAllowed, IsStored, Reads, Stores, stored_books}
 use Rattle.overlay_memory.specs.Pieces.{IsFilled}
-use Rattle.overlay_memory.specs.Room.{IsExcess}
+use Rattle.overlay_memory.specs.Room.{IsShort}
 use Rattle.overlay_memory.specs.StateMemory.{beside_both}
 use Rattle.overlay_memory.proofs.Bringing.{HasBrought}
 
@@ -33,6 +34,7 @@ stored_none view s address [] none = (
     memory = refl;
     ledger = refl;
     base = λ on. refl;
+    bases = λ page far. refl;
     entries = refl;
     awaiting = refl;
     mark = refl;
@@ -53,6 +55,7 @@ stored_by a b c s address bytes after row one two =
       memory = two.memory ∙ ap (λ m. with_bytes m address bytes) one.memory;
       ledger = two.ledger ∙ one.ledger ∙ sym row;
       base = λ on. two.base (one.beside.mark ∙ on) ∙ one.base;
+      bases = λ page far. two.bases page far ∙ ap (λ m. get m page) one.base;
       entries = beside.entries;
       awaiting = beside.awaiting;
       mark = beside.mark;
@@ -80,8 +83,9 @@ front_refused v s need address front n (Forbidden at) fits h =
 front_refused v s need address front n (Full needed limit) fits h = absurd h
 
 -- a store that needs more units than there are
-pub full_store : (view : MemoryView) (s address rise : ℕ) (bytes : List ℕ) (excess : Excess) → IsAllowed (state_of view) s writable address (length bytes)
-    → units (stored_books (state_of view) s address (length bytes)) ≡ units_of (state_of view) + rise → IsExcess view rise excess
-    → Stores view view s address bytes (Err (Full excess.needed excess.limit))
-full_store view s address rise bytes excess may is too_many =
-    (may, record { needed_is = too_many.needed ∙ sym is; limit_is = too_many.limit; over = too_many.over; kept = refl })
+pub full_store : (view : MemoryView) (s address rise : ℕ) (bytes : List ℕ) (shortage : Shortage) → IsAllowed (state_of view) s writable address (length bytes)
+    → units (stored_books (state_of view) s address (length bytes)) ≡ units_of (state_of view) + rise
+    → IsShort (units_of (state_of view) + rise) (limit_of (state_of view)) shortage
+    → Stores view view s address bytes (Err (Full shortage.needed shortage.limit))
+full_store view s address rise bytes shortage may is short =
+    (may, record { needed_is = short.needed_is ∙ sym is; limit_is = short.limit_is; over = short.over; kept = refl })

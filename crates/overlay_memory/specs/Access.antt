@@ -1,4 +1,4 @@
-use Rattle.std.specs.Prelude.{◌≡◌, ℕ, ◌+◌, ◌/◌, ◌%◌, ◌<◌, true, List, length, Option, Some, None, IsSome, Result, Ok, Err}
+use Rattle.std.specs.Prelude.{◌≡◌, ℕ, ◌+◌, ◌/◌, ◌%◌, ◌<◌, ◌≤◌, true, List, length, Option, Some, None, IsSome, Result, Ok, Err}
 use Rattle.std.specs.FinMap.{get}
 use Rattle.sizes.specs.declared.TheConstants.{FRAME_UNITS, LINE_BYTES, PAGE_BYTES, PAGE_LINES}
 use Rattle.ovl_io.specs.Memory.{first_denied, with_bytes}
@@ -15,6 +15,7 @@ use Rattle.overlay_pages.specs.Calls.{entries_in}
 use Rattle.overlay_pages.specs.View.{MemoryView, state_of}
 use Rattle.overlay_pages.specs.Spots.{FindsLine, IsFound, IsFoundAt}
 use Rattle.overlay_pages.specs.declared.spots.FoundLine.{FoundLine}
+use Rattle.overlay_memory.specs.Room.{IsFullAt}
 use Rattle.overlay_memory.specs.declared.error.MemoryError.{MemoryError}
 use Rattle.overlay_memory.specs.declared.error.MemoryError.TheVariants.{Unmapped, Forbidden, Full}
 use Rattle.overlay_memory.specs.declared.error.SpaceError.{SpaceError}
@@ -56,12 +57,17 @@ KeepsFound old new = (found : FoundLine) → IsFound old found → IsFound new f
 abbrev pub stored_books : State → ℕ → ℕ → ℕ → Ledger
 stored_books state space address count = ledger_after (Store (space_in state space).speculating space (touched address count)) (books state)
 
+-- no byte of a store lies in a page
+abbrev pub IsUntouched : ℕ → ℕ → ℕ → Type 0
+IsUntouched address count page = (k : ℕ) → k < count → (address + k) / PAGE_BYTES ≡ page → ⊥
+
 -- Bytes were stored: they stand in the memory of the space, the ledger is that after the store, and nothing else changed. The
--- base of a space that is speculating stays.
+-- base of a space that is speculating stays, and of any space that of each page in which no byte lies.
 pub record IsStored (old new : State) (space address : ℕ) (bytes : List ℕ) : Type 0 where
   pub memory : memory_of new space ≡ with_bytes (memory_of old space) address bytes
   pub ledger : books new ≡ stored_books old space address (length bytes)
   pub base : (space_in old space).speculating ≡ true → base_of new space ≡ base_of old space
+  pub bases : (page : ℕ) → IsUntouched address (length bytes) page → get (base_of new space) page ≡ get (base_of old space) page
   pub entries : entries_in new space ≡ entries_in old space
   pub awaiting : (space_in new space).awaiting ≡ (space_in old space).awaiting
   pub mark : (space_in new space).speculating ≡ (space_in old space).speculating
@@ -69,13 +75,6 @@ pub record IsStored (old new : State) (space address : ℕ) (bytes : List ℕ) :
   pub spaces : (q : ℕ) → holds_space new q ≡ holds_space old q
   pub frames : new.frames ≡ old.frames
   pub zero_frame : new.zero_frame ≡ old.zero_frame
-
--- the units that would be needed exceed the limit, and nothing changed
-pub record IsFullAt (old new : MemoryView) (after needed limit : ℕ) : Type 0 where
-  pub needed_is : needed ≡ after
-  pub limit_is : limit ≡ limit_of (state_of old)
-  pub over : limit < needed
-  pub kept : new ≡ old
 
 -- how a store comes out
 abbrev pub Stores : MemoryView → MemoryView → ℕ → ℕ → List ℕ → Result (Unit {0}) MemoryError → Type 0
@@ -86,10 +85,12 @@ Stores old new space address bytes (Err (Forbidden at)) = IsForbiddenAt (state_o
 Stores old new space address bytes (Err (Full needed limit)) =
     IsAllowed (state_of old) space writable address (length bytes) × IsFullAt old new (units (stored_books (state_of old) space address (length bytes))) needed limit
 
--- how a page is placed: in a new frame, with these bytes; after want of memory segments may have moved
+-- how a page is placed: in a new frame, with these bytes; after want of memory, which comes only where the units would have been
+-- within the limit, segments may have moved
 abbrev pub Places : MemoryView → MemoryView → ℕ → ℕ → (ℕ → PageEntry) → List ℕ → Result (Unit {0}) SpaceError → Type 0
 Places old new space page entry bytes (Ok done) =
     IsPlaced (state_of old) (state_of new) space page (λ frame. whole_page (entry frame) (lines_of_bytes bytes))
     × (units_of (state_of new) ≡ units_of (state_of old) + FRAME_UNITS)
 Places old new space page entry bytes (Err (refused.Full needed limit)) = IsFullAt old new (units_of (state_of old) + FRAME_UNITS) needed limit
-Places old new space page entry bytes (Err refused.Memory) = state_of new ≡ state_of old
+Places old new space page entry bytes (Err refused.Memory) =
+    (units_of (state_of old) + FRAME_UNITS ≤ limit_of (state_of old)) × (state_of new ≡ state_of old)

@@ -88,7 +88,7 @@ pub none_awaits_places : (old new : MemoryView) (s p : ℕ) (entry : ℕ → Pag
 none_awaits_places old new s p entry bytes (Ok done) h settled =
     none_awaits_as _ (state_of new) h.0.placed (none_awaits_page (state_of old) s p _ settled)
 none_awaits_places old new s p entry bytes (Err (refused.Full needed limit)) h settled = none_awaits_view old new h.kept settled
-none_awaits_places old new s p entry bytes (Err refused.Memory) h settled = none_awaits_as (state_of old) (state_of new) h settled
+none_awaits_places old new s p entry bytes (Err refused.Memory) h settled = none_awaits_as (state_of old) (state_of new) h.1 settled
 
 pub none_awaits_mapped : {E : Type 0} (old new : MemoryView) (s from n : ℕ) (entry : PageEntry) (r : Result (Unit {0}) E)
     → OnOk r (state_of new ≡ with_zeros (state_of old) s from n entry) → OnErr r (new ≡ old) → NoneAwaits (state_of old) → NoneAwaits (state_of new)

@@ -1,6 +1,11 @@
--- In reading order: how reads and stores come out, what they come to piece by piece, whether units fit, and laws of states.
+-- In reading order: whether units fit, how reads and stores come out, and what they come to piece by piece; then laws: of states,
+-- of pages that are there, of what own lines count, and of what is true of every memory.
+pub mod Room
 pub mod Access
 pub mod Pieces
-pub mod Room
 pub mod StateMemory
 pub mod AwaitingLaws
+pub mod PageLaws
+pub mod CountLaws
+pub mod Joined
+pub mod Walked

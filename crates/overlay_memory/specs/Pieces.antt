@@ -1,4 +1,4 @@
-use Rattle.std.specs.Prelude.{◌≡◌, ℕ, ◌+◌, ◌-◌, ◌*◌, ◌/◌, ◌<◌, true, false, List, Some, None, Result, Ok, Err}
+use Rattle.std.specs.Prelude.{◌≡◌, ℕ, ◌+◌, ◌-◌, ◌*◌, ◌/◌, ◌<◌, true, false, List, length, Some, None, Result, Ok, Err}
 use Rattle.std.specs.FinMap as map
 use Rattle.sizes.specs.declared.TheConstants.{LINE_BYTES, PAGE_BYTES}
 use Rattle.ovl_io.specs.Memory.{with_bytes}
@@ -9,7 +9,7 @@ use Rattle.overlay_pages.specs.Changes.{is_writable}
 use Rattle.overlay_pages.specs.Calls.{entries_in}
 use Rattle.overlay_pages.specs.View.{IsJoined, MemoryView, state_of}
 use Rattle.overlay_pages.specs.declared.spots.FoundLine.{FoundLine}
-use Rattle.overlay_memory.specs.Access.{IsFoundIn}
+use Rattle.overlay_memory.specs.Access.{IsFoundIn, IsUntouched}
 use Rattle.overlay_memory.specs.declared.error.MemoryError.{MemoryError}
 use Rattle.overlay_memory.specs.declared.error.MemoryError.TheVariants.{Unmapped, Forbidden, Full}
 
@@ -67,6 +67,7 @@ pub record IsFilled (old new : State) (space address : ℕ) (bytes : List ℕ) :
   pub memory : memory_of new space ≡ with_bytes (memory_of old space) address bytes
   pub ledger : books new ≡ books old
   pub base : (space_in old space).speculating ≡ true → base_of new space ≡ base_of old space
+  pub bases : (page : ℕ) → IsUntouched address (length bytes) page → map.get (base_of new space) page ≡ map.get (base_of old space) page
   pub writable : (page line : ℕ) → is_writable new space page line ≡ is_writable old space page line
   pub beside : AreBeside old new space
 

@@ -1,16 +1,41 @@
-use Rattle.std.specs.Prelude.{◌≡◌, ℕ, ◌+◌, ◌<◌, ◌≤◌, Option, Some, None}
-use Rattle.overlay_pages.specs.Changes.{limit_of, units_of}
+use Rattle.std.specs.Prelude.{◌≡◌, ℕ, ◌<◌, ◌≤◌, length, Option, Some, None}
+use Rattle.std.specs.Option.{option_map_or}
+use Rattle.ledger.specs.Events.{Event, ledger_after}
+use Rattle.ledger.specs.Ledger.{holding_at}
+use Rattle.ledger.specs.Units.{class, units}
+use Rattle.overlay_pages.specs.State.{State, books}
+use Rattle.overlay_pages.specs.Changes.{limit_of}
 use Rattle.overlay_pages.specs.View.{MemoryView, state_of}
-use Rattle.overlay_memory.specs.declared.room.Excess.{Excess}
+use Rattle.overlay_memory.specs.declared.error.Shortage.{Shortage}
 
--- Whether the units fit.
+-- Whether units fit.
 
--- as many units more as a rise says would be too many
-pub record IsExcess (view : MemoryView) (rise : ℕ) (excess : Excess) : Type 0 where
-  pub needed : excess.needed ≡ units_of (state_of view) + rise
-  pub limit : excess.limit ≡ limit_of (state_of view)
-  pub over : excess.limit < excess.needed
+-- the units that are needed exceed the limit
+pub record IsShort (needed limit : ℕ) (shortage : Shortage) : Type 0 where
+  pub needed_is : shortage.needed ≡ needed
+  pub limit_is : shortage.limit ≡ limit
+  pub over : shortage.limit < shortage.needed
 
-abbrev pub Exceeds : MemoryView → ℕ → Option Excess → Type 0
-Exceeds view rise None = units_of (state_of view) + rise ≤ limit_of (state_of view)
-Exceeds view rise (Some excess) = IsExcess view rise excess
+-- what is short, where they do; none where they are within the limit
+abbrev pub FallsShort : ℕ → ℕ → Option Shortage → Type 0
+FallsShort needed limit None = needed ≤ limit
+FallsShort needed limit (Some shortage) = IsShort needed limit shortage
+
+-- the units that would be needed exceed the limit, and nothing changed
+pub record IsFullAt (old new : MemoryView) (after needed limit : ℕ) : Type 0 where
+  pub needed_is : needed ≡ after
+  pub limit_is : limit ≡ limit_of (state_of old)
+  pub over : limit < needed
+  pub kept : new ≡ old
+
+-- the units after an event
+abbrev pub units_after : Event → State → ℕ
+units_after event state = units (ledger_after event (books state))
+
+-- the units after an event are within the limit
+abbrev pub FitsAfter : Event → State → Type 0
+FitsAfter event state = units_after event state ≤ limit_of state
+
+-- the units of a page's segment
+unfoldable pub class_at : State → ℕ → ℕ → ℕ
+class_at state space page = option_map_or (λ holding. class (length holding.own)) (holding_at (books state) space page) 0

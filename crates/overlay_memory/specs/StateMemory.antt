@@ -52,6 +52,11 @@ pub base_kept : (v : State) (s p : ℕ) (x y : PageState) → page_in v s p ≡ 
 unfolding base_of
 base_kept v s p x y there same = seen_kept base_page v s p x y there same
 
+-- the base of another page stays
+pub base_beside : (v : State) (s p : ℕ) (x : PageState) (q : ℕ) → (q ≡ p → ⊥) → get (base_of (put_page v s p x) s) q ≡ get (base_of v s) q
+unfolding base_of
+base_beside v s p x q other = ap (λ m. get m q) (seen_put base_page v s p x) ∙ get_other (pages_seen base_page v s) p q (base_page x) other
+
 pub entries_at : (v : State) (s p : ℕ) → get (entries_in v s) p ≡ option_map (λ (x : PageState). x.entry) (page_in v s p)
 unfolding entries_in
 entries_at v s p = seen_at (λ x. x.entry) v s p

@@ -9,6 +9,13 @@ pub enum MemoryError {
     Full(u32, u32),
 }
 
+/// The units that would be needed, and the limit, which is less.
+#[derive(Clone, Copy, Debug, PartialEq, Eq)]
+pub struct Shortage {
+    pub needed: u32,
+    pub limit: u32,
+}
+
 /// Why a page isn't placed.
 #[derive(Clone, Copy, Debug, PartialEq, Eq)]
 pub enum SpaceError {

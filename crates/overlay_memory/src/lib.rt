@@ -17,8 +17,10 @@ mod reading;
 mod room;
 mod storing;
 
-pub use error::{MemoryError, SpaceError};
+pub use error::{MemoryError, Shortage, SpaceError};
 pub use memory::OverlayMemory;
+pub use overlay_pages::FoundLine;
+pub use space_ledger::class_of;
 
 #[cfg(test)]
 mod tests;

@@ -17,11 +17,12 @@ ghost use Rattle.overlay_pages.specs.View.{HasOwnPlace, IsJoined, place_at, stat
 ghost use Rattle.overlay_pages.specs.Calls.{AreShared, AwaitBare, AwaitsLike, IsEmptyState, IsNextPage, NoneAwaitsBelow, entries_in, with_line_at_place};
 ghost use Rattle.overlay_memory.specs.Access.{FindsIn, IsFoundIn, KeepsFound, Places, Reads, Stores};
 ghost use Rattle.overlay_memory.specs.Pieces.{IsEmptied};
+ghost use Rattle.overlay_memory.specs.Room.{FallsShort};
 ghost use Rattle.overlay_memory.specs.contracts.memory.OverlayMemory.{the_row};
 
-use crate::error::{MemoryError, SpaceError};
+use crate::error::{MemoryError, Shortage, SpaceError};
 use crate::reading::{find_line, read_bytes, read_found};
-use crate::room::excess_of;
+use crate::room::{shortage_by, shortage_of};
 use crate::storing::write_bytes;
 use bitflags::Flags;
 use overlay_bits::Bits;
@@ -133,8 +134,8 @@ impl OverlayMemory {
         ensures { Places self.old self.new space page (λ frame. record { perms = perms; frame = frame })
             bytes.now result }
     {
-        if let Some(excess) = excess_of(&self.pages, FRAME_UNITS) {
-            return Err(SpaceError::Full(excess.needed, excess.limit));
+        if let Some(shortage) = shortage_by(&self.pages, FRAME_UNITS) {
+            return Err(SpaceError::Full(shortage.needed, shortage.limit));
         }
         match self.pages.add_page(space, page, perms, bytes) {
             Ok(()) => Ok(()),
@@ -401,11 +402,14 @@ impl OverlayMemory {
     }
 
     /// The units of the ledger. Costs a step.
+    // The limit is asked for what its contract says: that it is few.
     #[inline]
     pub fn units(&self) -> u32
         ensures sum { result ≡ units_of (state_of self.now) }
         ensures fits { Fits (state_of self.now) }
+        ensures few { result ≤ MOST_UNITS }
     {
+        let _limit = self.pages.limit();
         self.pages.units()
     }
 
@@ -416,6 +420,13 @@ impl OverlayMemory {
         ensures few { result ≤ MOST_UNITS }
     {
         self.pages.limit()
+    }
+
+    /// What is short where so many units are needed. None exactly where they are within the limit. Costs a step.
+    pub fn shortage(&self, needed: u32) -> Option<Shortage>
+        ensures { FallsShort needed (limit_of (state_of self.now)) result }
+    {
+        shortage_of(needed, self.pages.limit())
     }
 
     /// How many own lines all pages have. Costs a step.

@@ -12,7 +12,7 @@ ghost use Rattle.overlay_memory.specs.Pieces.{AreWritable, IsFilled, Permits, li
 
 use crate::error::MemoryError;
 use crate::reading::{find, permit};
-use crate::room::excess_of;
+use crate::room::shortage_by;
 use overlay_bits::Bits;
 use overlay_pages::{FoundLine, OverlayPages};
 use ovl_io::Perms;
@@ -37,10 +37,11 @@ fn lines_at(at: usize, count: usize) -> Bits
     Bits::range(first, last + 1)
 }
 
-/// Replaces bytes of a line that was found and can be written.
+/// Replaces some bytes of a line that was found and can be written.
 #[inline]
 fn put(pages: &mut OverlayPages, found: FoundLine, at: usize, bytes: &[u8])
     requires found { IsFound pages.old found }
+    requires some { 0 < length bytes.now }
     requires fits { at + length bytes.now ≤ LINE_BYTES }
     requires writable { is_writable (state_of pages.old) found.space found.page found.line ≡ true }
     ensures { IsFilled (state_of pages.old) (state_of pages.new) found.space
@@ -49,10 +50,11 @@ fn put(pages: &mut OverlayPages, found: FoundLine, at: usize, bytes: &[u8])
     pages.line_at_mut(found)[at..at + bytes.len()].copy_from_slice(bytes);
 }
 
-/// Replaces bytes of a line of a page that is there, where the line can be written.
+/// Replaces some bytes of a line of a page that is there, where the line can be written.
 fn fill_line(pages: &mut OverlayPages, space: u16, page: u64, line: u8, at: usize, bytes: &[u8])
     requires there { IsSome (page_in (state_of pages.old) space page) }
     requires line { line < PAGE_LINES }
+    requires some { 0 < length bytes.now }
     requires fits { at + length bytes.now ≤ LINE_BYTES }
     requires writable { is_writable (state_of pages.old) space page line ≡ true }
     ensures { IsFilled (state_of pages.old) (state_of pages.new) space
@@ -101,8 +103,8 @@ fn write_in_page(
     let at = (address % PAGE_BYTES as u64) as usize;
     let touched = lines_at(at, bytes.len());
     let rise = pages.store_units(space, page, touched);
-    if let Some(excess) = excess_of(pages, rise) {
-        return Err(MemoryError::Full(excess.needed, excess.limit));
+    if let Some(shortage) = shortage_by(pages, rise) {
+        return Err(MemoryError::Full(shortage.needed, shortage.limit));
     }
     pages.bring(space, page, touched);
     fill_page(pages, space, page, at, bytes);
@@ -137,8 +139,8 @@ fn write_in_two(
     let more = lines_at(0, bytes.len() - front);
     let one = pages.store_units(space, page, lines);
     let two = pages.store_units(space, page + 1, more);
-    if let Some(excess) = excess_of(pages, one + two) {
-        return Err(MemoryError::Full(excess.needed, excess.limit));
+    if let Some(shortage) = shortage_by(pages, one + two) {
+        return Err(MemoryError::Full(shortage.needed, shortage.limit));
     }
     pages.bring(space, page, lines);
     pages.bring(space, page + 1, more);

@@ -10,9 +10,10 @@ use Rattle.overlay_pages.specs.State.{PageState, State, books, held_page, page_i
 use Rattle.overlay_pages.specs.StateLaws.{changed_there}
 use Rattle.overlay_pages.specs.Changes.{committed}
 use Rattle.promotion.specs.Settled.{ArePagesApart, HasCommittedAlone, alone_in, with_committed}
-use Rattle.promotion.specs.FateFolds.{after_commit, none_own, own_is, same_turned, widened}
-use Rattle.promotion.specs.Joined.{IsBare}
-use Rattle.promotion.specs.Turns.{HasTurned, WasThere, alone_now, are_settled, held_there, none_yet, one_more, own_now, own_there, said_again, still, was_there}
+use Rattle.overlay_memory.specs.Joined.{IsBare}
+use Rattle.overlay_memory.specs.PageLaws.{held_there, own_is, own_there}
+use Rattle.promotion.specs.FateFolds.{after_commit, none_own, same_turned, widened}
+use Rattle.promotion.specs.Turns.{HasTurned, WasThere, alone_now, are_settled, none_yet, one_more, own_now, said_again, still, was_there}
 use Rattle.promotion.specs.Walks.{at_first, come_past, come_to, next_done, next_kept, not_yet, so_far}
 
 -- Pages that are alone are committed, one after the other.

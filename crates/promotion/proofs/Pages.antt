@@ -1,4 +1,4 @@
-use Rattle.std.specs.Prelude.{◌≡◌, ℕ, ◌+◌, ◌-◌, ◌<◌, ◌≤◌, ◌&&◌, ◌==◌, Bool, true, false, cond, nat_eq, nat_lt, List, [], length, Option, Some, is_some, IfSome, refl}
+use Rattle.std.specs.Prelude.{◌≡◌, ℕ, ◌+◌, ◌-◌, ◌≤◌, ◌&&◌, ◌==◌, Bool, true, false, cond, nat_eq, nat_lt, List, [], length, Option, Some, is_some, IfSome, refl}
 use Rattle.std.proofs.Common.{sym, ap, subst, ◌∙◌, arith}
 use Rattle.std.specs.Option.{option_map}
 use Rattle.sizes.specs.declared.TheConstants.{FRAME_UNITS}
@@ -15,17 +15,18 @@ use Rattle.overlay_pages.specs.State.{PageState, State, books, held_page, page_i
 use Rattle.overlay_pages.specs.StateLaws.{changed_there}
 use Rattle.overlay_pages.specs.Changes.{HasCopyRoom, IsPlaced, committed, copied, limit_of}
 use Rattle.overlay_pages.specs.View.{MemoryView, state_of}
-use Rattle.overlay_memory.specs.Access.{IsFullAt}
-use Rattle.promotion.specs.Counted.{class_at, new_frame_at}
-use Rattle.promotion.specs.Settled.{AreSettled, FitsAfter, IsAfter, alone_in, mark_of, units_after}
+use Rattle.overlay_memory.specs.CountLaws.{HasLines, class_there, has_lines, has_own_is}
+use Rattle.overlay_memory.specs.Joined.{IsBare, all_bare}
+use Rattle.overlay_memory.specs.PageLaws.{held_there, own_is, some_is}
+use Rattle.overlay_memory.specs.Room.{FitsAfter, IsFullAt, IsShort, class_at, units_after}
+use Rattle.overlay_memory.specs.declared.error.Shortage.{Shortage}
+use Rattle.promotion.specs.Counted.{new_frame_at}
+use Rattle.promotion.specs.Settled.{AreSettled, IsAfter, alone_in, mark_of}
 use Rattle.promotion.specs.Promoted.{HasPromoted, one_page}
 use Rattle.promotion.specs.FateLaws.{alike_turned}
-use Rattle.promotion.specs.Fates.{some_is}
-use Rattle.promotion.specs.FateFolds.{after_settle_page, arent_same, none_own, own_is, retold, settle_acts}
+use Rattle.promotion.specs.FateFolds.{after_settle_page, arent_same, none_own, retold, settle_acts}
 use Rattle.promotion.specs.FateUnits.{settled_units}
-use Rattle.promotion.specs.Joined.{IsBare, all_bare}
-use Rattle.promotion.specs.Turns.{HasTurned, are_settled, held_there, none_yet, one_more}
-use Rattle.promotion.specs.CountLaws.{HasLines, class_there, has_lines, has_own_is}
+use Rattle.promotion.specs.Turns.{HasTurned, are_settled, none_yet, one_more}
 use Rattle.promotion.proofs.Counts.{enough_for, frame_is, needs_no_other, needs_none, sum_shared}
 use Rattle.promotion.proofs.CopyWalk.{copied_one, lines_above}
 
@@ -120,7 +121,7 @@ module _ (old : State) (space page : ℕ) (x : PageState) (plain : IsBare old sp
       (copied_one (λ r. false) old old space page x (none_yet seen_page (alone_in old space) old space) at refl shared p.frame p.fresh) p.placed own
 
 -- The units that the code finds are those after it.
-module _ (v : State) (space page n limit : ℕ) (own : List ℕ) (count segment : ℕ) (lines : option_map (λ (x : PageState). x.own) (page_in v space page) ≡ Some own)
+module _ (v : State) (space page n : ℕ) (own : List ℕ) (count segment : ℕ) (lines : option_map (λ (x : PageState). x.own) (page_in v space page) ≡ Some own)
     (count_is : count ≡ length own) (segment_is : segment ≡ class count) (units_is : n ≡ units (books v)) where
   lined : HasLines v space page own
   lined = has_lines v space page own lines
@@ -153,7 +154,7 @@ module _ (v : State) (space page n limit : ℕ) (own : List ℕ) (count segment 
       omega (arith, after, frame, fits)
 
 -- How settling the page comes out.
-module _ (m : MemoryView) (space page n limit : ℕ) (own : List ℕ) (count segment : ℕ)
+module _ (m : MemoryView) (space page n : ℕ) (own : List ℕ) (count segment : ℕ)
     (lines : option_map (λ (x : PageState). x.own) (page_in (state_of m) space page) ≡ Some own)
     (count_is : count ≡ length own) (units_is : n ≡ units (books (state_of m))) (fits : units (books (state_of m)) ≤ limit_of (state_of m)) where
   abbrev v : State
@@ -167,33 +168,34 @@ module _ (m : MemoryView) (space page n limit : ℕ) (own : List ℕ) (count seg
 
   pub stays : count ≡ 0 → HasPromoted v v space page
   stays none =
-      promoted_bare v space page x.x (all_bare m space) x.there (fits_bare v space page n limit own count (class count) lines count_is refl units_is none fits)
+      promoted_bare v space page x.x (all_bare m space) x.there (fits_bare v space page n own count (class count) lines count_is refl units_is none fits)
       (has_own_is v space page own count lines count_is ∙ ap (nat_lt 0) none)
 
   pub commits : (new : State) → (count ≡ 0 → ⊥) → is_alone (books v) space page ≡ true → new ≡ turned_page committed v space page → HasPromoted v new space page
   commits new some alone is =
-      promoted_alone v space page x.x (all_bare m space) x.there (fits_alone v space page n limit own count (class count) lines count_is refl units_is alone fits) new (owned some) alone is
+      promoted_alone v space page x.x (all_bare m space) x.there (fits_alone v space page n own count (class count) lines count_is refl units_is alone fits) new (owned some) alone is
 
-  module _ (segment_is : segment ≡ class count) (limit_is : limit ≡ limit_of v) (some : count ≡ 0 → ⊥) (shared : is_alone (books v) space page ≡ false) where
-    pub fits_copied : n + FRAME_UNITS - segment ≤ limit → FitsAfter (SettlePage space page) v
-    fits_copied le = let is = needed_is v space page n limit own count segment lines count_is segment_is units_is some shared in omega (arith, is, le, limit_is)
+  module _ (segment_is : segment ≡ class count) (some : count ≡ 0 → ⊥) (shared : is_alone (books v) space page ≡ false) where
+    pub fits_copied : n + FRAME_UNITS - segment ≤ limit_of v → FitsAfter (SettlePage space page) v
+    fits_copied le = let is = needed_is v space page n own count segment lines count_is segment_is units_is some shared in omega (arith, is, le)
 
-    pub copies : (new : State) → n + FRAME_UNITS - segment ≤ limit → IfSome (page_in v space page) (λ x. IsPlaced v new space page (λ frame. copied frame x)) → HasPromoted v new space page
+    pub copies : (new : State) → n + FRAME_UNITS - segment ≤ limit_of v → IfSome (page_in v space page) (λ x. IsPlaced v new space page (λ frame. copied frame x)) → HasPromoted v new space page
     copies new le placed =
         promoted_shared v space page x.x (all_bare m space) x.there (fits_copied le) new (owned some) shared
         (subst (λ (o : Option PageState). IfSome o (λ x. IsPlaced v new space page (λ frame. copied frame x))) x.there placed)
 
-    pub has_room : n + FRAME_UNITS - segment ≤ limit → HasCopyRoom v space page
+    pub has_room : n + FRAME_UNITS - segment ≤ limit_of v → HasCopyRoom v space page
     has_room le y there =
         let given : Some y ≡ Some x.x = sym there ∙ x.there in
         let same : class (length y.own) ≡ class (length own) = ap (λ (z : PageState). class (length z.own)) (some_is y x.x given) ∙ ap (λ (l : List ℕ). class (length l)) x.own_is in
         let own_class : class count ≡ class (length own) = ap class count_is in
-        omega (arith, same, own_class, le, segment_is, limit_is, units_is)
+        omega (arith, same, own_class, le, segment_is, units_is)
 
-    pub falls_short : limit < n + FRAME_UNITS - segment → IsFullAt m m (units_after (SettlePage space page) v) (n + FRAME_UNITS - segment) limit
-    falls_short lt = record {
-      needed_is = needed_is v space page n limit own count segment lines count_is segment_is units_is some shared;
-      limit_is = limit_is;
-      over = lt;
+    pub falls_short : (shortage : Shortage) → IsShort (n + FRAME_UNITS - segment) (limit_of v) shortage
+        → IsFullAt m m (units_after (SettlePage space page) v) shortage.needed shortage.limit
+    falls_short shortage short = record {
+      needed_is = short.needed_is ∙ needed_is v space page n own count segment lines count_is segment_is units_is some shared;
+      limit_is = short.limit_is;
+      over = short.over;
       kept = refl;
     }

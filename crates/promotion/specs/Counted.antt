@@ -1,18 +1,13 @@
-use Rattle.std.specs.Prelude.{◌≡◌, ℕ, ◌+◌, ◌&&◌, not, if◌then◌else◌, length}
-use Rattle.std.specs.Option.{option_map_or}
+use Rattle.std.specs.Prelude.{◌≡◌, ℕ, ◌+◌, ◌&&◌, not, if◌then◌else◌}
 use Rattle.sizes.specs.declared.TheConstants.{FRAME_UNITS}
 use Rattle.ledger.specs.Changes.{has_own}
-use Rattle.ledger.specs.Ledger.{holding_at, is_alone}
-use Rattle.ledger.specs.Units.{class}
+use Rattle.ledger.specs.Ledger.{is_alone}
 use Rattle.overlay_pages.specs.State.{State, books}
+use Rattle.overlay_memory.specs.Room.{class_at}
 
 -- What a page counts in units.
 
--- the units of its segment
-unfoldable pub class_at : State → ℕ → ℕ → ℕ
-class_at state space page = option_map_or (λ holding. class (length holding.own)) (holding_at (books state) space page) 0
-
--- those of the frame that it needs when it is settled
+-- the units of the frame that it needs when it is settled
 unfoldable pub new_frame_at : State → ℕ → ℕ → ℕ
 new_frame_at state space page = if has_own (books state) space page && not (is_alone (books state) space page) then FRAME_UNITS else 0
 

@@ -16,6 +16,7 @@ use Rattle.ledger.specs.PlaceLaws.{page_is, same_ledger}
 use Rattle.ledger.specs.AloneLaws.{unused_without}
 use Rattle.ledger.specs.OriginLaws.{new_is_unused}
 use Rattle.ledger.specs.RowLaws.{changed_absent, changed_there}
+use Rattle.overlay_memory.specs.PageLaws.{own_absent, own_is}
 use Rattle.promotion.specs.Fates.{AreTurned, HasFate, IsFate, bare_is, fate_same, none_turned, one_turned}
 use Rattle.promotion.specs.FateLaws.{AreOriginsApart, alike_turned, alone_stays}
 
@@ -213,14 +214,6 @@ after_commit before space =
     (λ now k y e at. clear_acts now space k y (is_alone before space k) e at)
 
 -- what a test of own lines says
-pub own_is : (l : Ledger) (space page : ℕ) (x : Holding) → holding_at l space page ≡ Some x → has_own l space page ≡ nat_lt 0 (length x.own)
-unfolding has_own
-own_is l space page x at = ap (λ (o : Option Holding). option_map_or (λ holding. nat_lt 0 (length holding.own)) o false) at
-
-pub own_absent : (l : Ledger) (space page : ℕ) → holding_at l space page ≡ None → has_own l space page ≡ false
-unfolding has_own
-own_absent l space page none = ap (λ (o : Option Holding). option_map_or (λ holding. nat_lt 0 (length holding.own)) o false) none
-
 pub none_own : (xs : List ℕ) → nat_lt 0 (length xs) ≡ false → xs ≡ []
 none_own [] e = refl
 none_own (x ∷ xs) e = absurd (some (length xs) e)

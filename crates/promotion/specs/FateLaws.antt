@@ -7,7 +7,8 @@ use Rattle.ledger.specs.Ledger.{Holding, Ledger, is_alone, holding_at}
 use Rattle.ledger.specs.Alike.{AreAlike, have_one_origin, is_zero_at, own_at}
 use Rattle.ledger.specs.PlaceLaws.{by_place}
 use Rattle.ledger.specs.AloneLaws.{IsAlone, alone_apart, apart_alone, are, arent, not_true, same_test}
-use Rattle.promotion.specs.Fates.{AreTurned, HasFate, IsFate, some_is}
+use Rattle.overlay_memory.specs.PageLaws.{some_is}
+use Rattle.promotion.specs.Fates.{AreTurned, HasFate, IsFate}
 
 -- What is alone in a ledger in which pages were settled, and when two such are alike.
 

@@ -1,13 +1,13 @@
 use Rattle.std.specs.Prelude.{◌≡◌, ℕ, ◌==◌, Bool, true, false, nat_eq, [], Some, None, is_some, refl}
 use Rattle.std.proofs.Common.{sym, ap, subst, ◌∙◌, arith}
 use Rattle.std.proofs.lemmas.Bool.Decides.{nat_tests}
-use Rattle.std.specs.Option.{option_map_or}
 use Rattle.std.specs.FinMap.{get}
 use Rattle.number_maps.specs.Keys.{by_key}
 use Rattle.ledger.specs.Ledger.{Holding, Ledger, is_alone, is_unused, holding_at, with_page, without_page}
 use Rattle.ledger.specs.Changes.{without_own}
 use Rattle.ledger.specs.PlaceLaws.{gone_other, gone_over, put_here, put_other, put_spaces, space_of_page}
 use Rattle.ledger.specs.UnitLaws.{alone_is}
+use Rattle.overlay_memory.specs.PageLaws.{some_is}
 use Rattle.ledger.specs.AloneLaws.{IsAlone, alone_apart, alone_kept, any_page, contradicts, not_true, unused_parts}
 
 -- A ledger in which some pages of a space were settled, and when two such are alike.
@@ -29,10 +29,6 @@ pub record AreTurned (turned alone : ℕ → Bool) (before now : Ledger) (space 
   pub others : (q r : ℕ) → (q ≡ space → ⊥) → holding_at now q r ≡ holding_at before q r
   pub absent : (r : ℕ) → holding_at before space r ≡ None → holding_at now space r ≡ None
   pub pages : (r : ℕ) (x : Holding) → holding_at before space r ≡ Some x → HasFate (turned r) (alone r) now space r x
-
--- values of options that are there
-pub some_is : {X : Type 0} (x y : X) → Some x ≡ Some y → x ≡ y
-some_is x y e = ap (λ o. option_map_or (λ z. z) o x) e
 
 -- what a page holds without own lines
 pub bare_is : (z : Holding) (o : ℕ) → z.own ≡ [] → z.origin ≡ o → z ≡ without_own o

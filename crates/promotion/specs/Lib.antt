@@ -1,5 +1,5 @@
 -- In reading order: what settling does, what a page counts, and how the calls come out; then laws: what settling pages makes of a
--- ledger, what is true of every memory, and what settling pages makes of its state.
+-- ledger, and of the state of a memory.
 pub mod Settled
 pub mod Counted
 pub mod Promoted
@@ -7,7 +7,5 @@ pub mod Fates
 pub mod FateLaws
 pub mod FateFolds
 pub mod FateUnits
-pub mod Joined
 pub mod Turns
 pub mod Walks
-pub mod CountLaws

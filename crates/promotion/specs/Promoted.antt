@@ -3,10 +3,10 @@ use Rattle.sizes.specs.declared.TheConstants.{PAGE_BYTES}
 use Rattle.ledger.specs.Events.{Settle, SettlePage}
 use Rattle.overlay_pages.specs.State.{State, page_in, space_in}
 use Rattle.overlay_pages.specs.View.{MemoryView, state_of}
-use Rattle.overlay_memory.specs.Access.{IsFullAt}
-use Rattle.promotion.specs.Settled.{AreSettled, FitsAfter, HasSettled, IsAfter, mark_of, units_after}
+use Rattle.overlay_memory.specs.Room.{FitsAfter, IsFullAt, units_after}
+use Rattle.promotion.specs.Settled.{AreSettled, HasSettled, IsAfter, mark_of}
 use Rattle.promotion.specs.declared.error.PromoteError.{PromoteError}
-use Rattle.promotion.specs.declared.error.Shortage.{Shortage}
+use Rattle.overlay_memory.specs.declared.error.Shortage.{Shortage}
 use Rattle.promotion.specs.declared.error.PromoteError.TheVariants.{Unmapped, Speculating, Full}
 
 -- How promotion comes out.

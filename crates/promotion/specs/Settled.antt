@@ -1,17 +1,16 @@
-use Rattle.std.specs.Prelude.{◌≡◌, ℕ, ◌≤◌, ◌&&◌, Bool, true, false, if◌then◌else◌, Result, Ok, Err, IfSome}
+use Rattle.std.specs.Prelude.{◌≡◌, ℕ, ◌&&◌, Bool, true, false, if◌then◌else◌, Result, Ok, Err, IfSome}
 use Rattle.std.specs.FinMap.{get}
 use Rattle.space_ledger.specs.Calls.{NamesOnce}
 use Rattle.ledger.specs.Alike.{AreAlike}
 use Rattle.ledger.specs.Changes.{has_own}
 use Rattle.ledger.specs.Events.{Event, Commit, Settle, ledger_after}
 use Rattle.ledger.specs.Ledger.{is_alone}
-use Rattle.ledger.specs.Units.{units}
 use Rattle.overlay_pages.specs.State.{State, base_of, books, holds_space, memory_of, page_in, space_in, turned_page}
-use Rattle.overlay_pages.specs.Changes.{HasCopyRoom, IsPlaced, committed, copied, limit_of}
+use Rattle.overlay_pages.specs.Changes.{HasCopyRoom, IsPlaced, committed, copied}
 use Rattle.overlay_pages.specs.Calls.{entries_in}
 use Rattle.overlay_pages.specs.View.{MemoryView, state_of}
-use Rattle.overlay_memory.specs.Access.{IsFullAt}
-use Rattle.promotion.specs.declared.error.Shortage.{Shortage}
+use Rattle.overlay_memory.specs.Room.{FitsAfter, IsFullAt, units_after}
+use Rattle.overlay_memory.specs.declared.error.Shortage.{Shortage}
 
 -- What settling does.
 
@@ -47,14 +46,6 @@ alone_in state space page = is_alone (books state) space page
 -- the ledger is the one after an event, but for the numbers of origins
 abbrev pub IsAfter : Event → State → State → Type 0
 IsAfter event old new = AreAlike (books new) (ledger_after event (books old))
-
--- the units after an event
-abbrev pub units_after : Event → State → ℕ
-units_after event state = units (ledger_after event (books state))
-
--- the units after an event are within the limit
-abbrev pub FitsAfter : Event → State → Type 0
-FitsAfter event state = units_after event state ≤ limit_of state
 
 -- no page of a space that is alone has own lines
 abbrev pub NoneAlone : State → ℕ → Type 0

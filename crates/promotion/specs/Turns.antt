@@ -5,18 +5,19 @@ use Rattle.std.specs.FinMap.{get, insert}
 use Rattle.number_maps.specs.Keys.{alike, by_key, get_other, get_same}
 use Rattle.number_maps.specs.Views.{get_viewed, viewed}
 use Rattle.ovl_io.specs.Memory.{Memory, Page}
-use Rattle.ledger.specs.Ledger.{Holding, Ledger, is_alone, is_unused, holding_at, without_page}
+use Rattle.ledger.specs.Ledger.{Holding, Ledger, is_alone, is_unused, without_page}
 use Rattle.ledger.specs.Changes.{has_own}
 use Rattle.space_ledger.specs.View.{origin_of}
 use Rattle.overlay_pages.specs.Lines.{bytes_in_lines}
 use Rattle.overlay_pages.specs.State.{PageState, SpaceState, State, base_of, base_page, books, held_page, holds_space, memory_of, of_pages, page_in, put_mark, put_page, put_space, seen_page, space_in}
 use Rattle.overlay_pages.specs.StateLaws.{ledger_marked, ledger_page, ledger_put, page_of, page_put_beside, page_put_here, space_beside, space_put, there_space}
 use Rattle.overlay_pages.specs.Calls.{entries_in}
-use Rattle.promotion.specs.Joined.{IsBare}
+use Rattle.overlay_memory.specs.Joined.{IsBare}
+use Rattle.overlay_memory.specs.PageLaws.{held_there, own_absent, own_is, some_is, there_of}
 use Rattle.promotion.specs.Settled.{ArePagesApart, AreSettled, mark_of}
-use Rattle.promotion.specs.Fates.{AreTurned, IsFate, none_turned, one_turned, some_is}
+use Rattle.promotion.specs.Fates.{AreTurned, IsFate, none_turned, one_turned}
 use Rattle.promotion.specs.FateLaws.{AreOriginsApart, alone_stays}
-use Rattle.promotion.specs.FateFolds.{arent_same, are_same, or_page, own_absent, own_is, retold}
+use Rattle.promotion.specs.FateFolds.{arent_same, are_same, or_page, retold}
 
 -- States in which pages of a space lost their own lines, one after the other.
 
@@ -40,31 +41,6 @@ pub record HasTurned (to : PageState → Page) (turned alone : ℕ → Bool) (be
   pub frames : now.frames ≡ before.frames
   pub zero_frame : now.zero_frame ≡ before.zero_frame
   pub ledger : AreTurned turned alone (books before) (books now) space
-
--- what the ledger has of a page that is there
-pub held_there : (v : State) (s p : ℕ) (x : PageState) → page_in v s p ≡ Some x → holding_at (books v) s p ≡ Some (held_page v.zero_frame x)
-held_there v s p x there = ledger_page v s p ∙ ap (option_map (held_page v.zero_frame)) there
-
--- a page that the ledger has is there
-pub record IsThere (v : State) (s p : ℕ) (h : Holding) : Type 0 where
-  pub page : PageState
-  pub there : page_in v s p ≡ Some page
-  pub held : h ≡ held_page v.zero_frame page
-
-pub there_of : (v : State) (s p : ℕ) (h : Holding) → holding_at (books v) s p ≡ Some h → IsThere v s p h
-there_of v s p h at = by_page (page_in v s p) refl
-  where
-    by_page : (o : Option PageState) → page_in v s p ≡ o → IsThere v s p h
-    by_page None is = let no = sym (ap is_some at) ∙ ap is_some (ledger_page v s p ∙ ap (option_map (held_page v.zero_frame)) is) in cc
-    by_page (Some x) is = record { page = x; there = is; held = some_is h (held_page v.zero_frame x) (sym at ∙ held_there v s p x is) }
-
--- a page with own lines is there
-pub own_there : (v : State) (s p : ℕ) → has_own (books v) s p ≡ true → is_some (page_in v s p) ≡ true
-own_there v s p own = by_page (page_in v s p) refl
-  where
-    by_page : (o : Option PageState) → page_in v s p ≡ o → is_some (page_in v s p) ≡ true
-    by_page None is = let no = sym own ∙ own_absent (books v) s p (ledger_page v s p ∙ ap (option_map (held_page v.zero_frame)) is) in cc
-    by_page (Some x) is = ap is_some is
 
 -- none was turned yet
 pub none_yet : (to : PageState → Page) (a : ℕ → Bool) (v : State) (space : ℕ) → HasTurned to (λ r. false) a v v space

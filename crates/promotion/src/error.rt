@@ -8,10 +8,3 @@ pub enum PromoteError {
     /// the units that would be needed exceed the limit, which is the second number
     Full(u32, u32),
 }
-
-/// The units that would be needed, and the limit, which is less.
-#[derive(Clone, Copy, Debug, PartialEq, Eq)]
-pub struct Shortage {
-    pub needed: u32,
-    pub limit: u32,
-}

@@ -15,6 +15,6 @@ mod settling;
 mod tests;
 mod units;
 
-pub use error::{PromoteError, Shortage};
+pub use error::PromoteError;
 pub use promoting::{promote, promote_all};
 pub use settling::{commit_alone, settle};

@@ -4,11 +4,10 @@ ghost use Rattle.overlay_pages.specs.State.{holds_space, page_in, space_in};
 ghost use Rattle.overlay_pages.specs.View.{state_of};
 ghost use Rattle.promotion.specs.Promoted.{Promotes, PromotesAll, SettlesPage};
 
-use crate::error::{PromoteError, Shortage};
+use crate::error::PromoteError;
 use crate::settling::settle;
-use overlay_memory::OverlayMemory;
+use overlay_memory::{OverlayMemory, Shortage, class_of};
 use sizes::{FRAME_UNITS, PAGE_BYTES};
-use space_ledger::class_of;
 
 // Whether a page is there.
 fn has_page(mem: &OverlayMemory, space: u16, page: u64) -> bool
@@ -36,9 +35,8 @@ fn settle_page(mem: &mut OverlayMemory, space: u16, page: u64) -> Result<(), Sho
         return Ok(());
     }
     let needed = units + FRAME_UNITS - class_of(own);
-    let limit = mem.limit();
-    if needed > limit {
-        return Err(Shortage { needed, limit });
+    if let Some(shortage) = mem.shortage(needed) {
+        return Err(shortage);
     }
     mem.copy_commit_page(space, page);
     Ok(())
@@ -62,7 +60,7 @@ pub fn promote(mem: &mut OverlayMemory, space: u16, page: u64) -> Result<(), Pro
     }
     match settle_page(mem, space, page) {
         Ok(()) => Ok(()),
-        Err(short) => Err(PromoteError::Full(short.needed, short.limit)),
+        Err(shortage) => Err(PromoteError::Full(shortage.needed, shortage.limit)),
     }
 }
 
@@ -80,6 +78,6 @@ pub fn promote_all(mem: &mut OverlayMemory, space: u16) -> Result<(), PromoteErr
     }
     match settle(mem, space) {
         Ok(()) => Ok(()),
-        Err(short) => Err(PromoteError::Full(short.needed, short.limit)),
+        Err(shortage) => Err(PromoteError::Full(shortage.needed, shortage.limit)),
     }
 }

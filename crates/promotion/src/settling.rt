@@ -6,11 +6,11 @@ ghost use Rattle.sizes.specs.declared.TheConstants.{PAGE_END};
 ghost use Rattle.ledger.specs.Events.{Settle};
 ghost use Rattle.overlay_pages.specs.State.{holds_space, page_in, space_in};
 ghost use Rattle.overlay_pages.specs.View.{state_of};
-ghost use Rattle.promotion.specs.Settled.{CanCopyOwn, FitsAfter, HasCommittedAlone, HasSettled, IsCopied, NoneAlone, Settles, with_committed};
+ghost use Rattle.overlay_memory.specs.Room.{FitsAfter};
+ghost use Rattle.promotion.specs.Settled.{CanCopyOwn, HasCommittedAlone, HasSettled, IsCopied, NoneAlone, Settles, with_committed};
 
-use crate::error::Shortage;
 use crate::units::{see_apart, units_settled};
-use overlay_memory::OverlayMemory;
+use overlay_memory::{OverlayMemory, Shortage};
 
 // The own lines of a page go into its frame, where it has any and is alone.
 fn commit_one(mem: &mut OverlayMemory, space: u16, page: u64)
@@ -84,9 +84,8 @@ pub fn settle(mem: &mut OverlayMemory, space: u16) -> Result<(), Shortage>
 {
     see_apart(mem, space);
     let needed = units_settled(mem, space);
-    let limit = mem.limit();
-    if needed > limit {
-        return Err(Shortage { needed, limit });
+    if let Some(shortage) = mem.shortage(needed) {
+        return Err(shortage);
     }
     commit_alone(mem, space);
     copy_overlaid(mem, space);

@@ -4,8 +4,8 @@ ghost use Rattle.overlay_pages.specs.State.{page_in};
 ghost use Rattle.overlay_pages.specs.Changes.{AreAbsent};
 ghost use Rattle.overlay_pages.specs.View.{state_of};
 
-use crate::{PromoteError, Shortage, commit_alone, promote, promote_all, settle};
-use overlay_memory::{OverlayMemory, SpaceError};
+use crate::{PromoteError, commit_alone, promote, promote_all, settle};
+use overlay_memory::{OverlayMemory, Shortage, SpaceError};
 use ovl_io::Perms;
 use sizes::PAGE_BYTES;
 use std::alloc::{AllocError, Global};

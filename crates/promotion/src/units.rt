@@ -6,12 +6,12 @@ ghost use Rattle.ledger.specs.Events.{Settle};
 ghost use Rattle.overlay_pages.specs.State.{holds_space, page_in};
 ghost use Rattle.overlay_pages.specs.Changes.{limit_of};
 ghost use Rattle.overlay_pages.specs.View.{state_of};
-ghost use Rattle.promotion.specs.Settled.{ArePagesApart, units_after};
-ghost use Rattle.promotion.specs.Counted.{AreUnitsWith, class_at};
+ghost use Rattle.overlay_memory.specs.Room.{class_at, units_after};
+ghost use Rattle.promotion.specs.Settled.{ArePagesApart};
+ghost use Rattle.promotion.specs.Counted.{AreUnitsWith};
 
-use overlay_memory::OverlayMemory;
+use overlay_memory::{OverlayMemory, class_of};
 use sizes::FRAME_UNITS;
-use space_ledger::class_of;
 
 // No two pages of a space have one frame, but for the zero frame.
 pub(crate) fn see_apart(mem: &OverlayMemory, space: u16)

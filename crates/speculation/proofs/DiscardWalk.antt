@@ -14,9 +14,10 @@ use Rattle.overlay_pages.specs.Changes.{discarded}
 use Rattle.overlay_pages.specs.Lines.{bytes_in_lines}
 use Rattle.promotion.specs.Settled.{mark_of}
 use Rattle.promotion.specs.Fates.{IsFate}
-use Rattle.promotion.specs.FateFolds.{after_discard, none_own, own_absent, own_is, same_turned, widened}
-use Rattle.promotion.specs.Joined.{IsBare}
-use Rattle.promotion.specs.Turns.{HasTurned, IsTurn, WasThere, base_at, held_there, memory_at, none_yet, one_more, own_now, own_there, said_again, still, was_there}
+use Rattle.overlay_memory.specs.Joined.{IsBare}
+use Rattle.overlay_memory.specs.PageLaws.{held_there, own_absent, own_is, own_there}
+use Rattle.promotion.specs.FateFolds.{after_discard, none_own, same_turned, widened}
+use Rattle.promotion.specs.Turns.{HasTurned, IsTurn, WasThere, base_at, memory_at, none_yet, one_more, own_now, said_again, still, was_there}
 use Rattle.promotion.specs.Walks.{at_first, come_past, come_to, next_done, not_yet, so_far}
 use Rattle.speculation.specs.Speculated.{HasDiscarded, with_discarded}
 

@@ -4,8 +4,8 @@ use Rattle.ledger.specs.Events.{Commit, Discard, Settle, ledger_after}
 use Rattle.overlay_pages.specs.Changes.{discarded}
 use Rattle.overlay_pages.specs.State.{State, base_of, books, holds_space, memory_of, space_in, turned_page}
 use Rattle.overlay_pages.specs.View.{MemoryView, state_of}
-use Rattle.overlay_memory.specs.Access.{IsFullAt}
-use Rattle.promotion.specs.Settled.{AreSettled, FitsAfter, IsAfter, alone_in, every_page, mark_of, units_after}
+use Rattle.overlay_memory.specs.Room.{FitsAfter, IsFullAt, units_after}
+use Rattle.promotion.specs.Settled.{AreSettled, IsAfter, alone_in, every_page, mark_of}
 use Rattle.speculation.specs.declared.error.SpeculationError.{SpeculationError}
 use Rattle.speculation.specs.declared.error.SpeculationError.TheVariants.{Speculating, NotSpeculating, Full}
 

@@ -5,7 +5,7 @@ use Rattle.promotion.specs.Settled.{HasCommittedAlone, Settles}
 use Rattle.promotion.specs.Promoted.{Promotes, PromotesAll}
 use Rattle.promotion.specs.declared.error.PromoteError.{PromoteError}
 use Rattle.promotion.specs.declared.error.PromoteError.TheVariants as promoted
-use Rattle.promotion.specs.declared.error.Shortage.{Shortage}
+use Rattle.overlay_memory.specs.declared.error.Shortage.{Shortage}
 
 -- what promotion does
 pub none_awaits_promotes : (old new : MemoryView) (s p : ℕ) (r : Result (Unit {0}) PromoteError) → Promotes old new s p r → NoneAwaits (state_of old) → NoneAwaits (state_of new)

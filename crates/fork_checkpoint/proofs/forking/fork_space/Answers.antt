@@ -5,13 +5,15 @@ use Rattle.fork_checkpoint.specs.Forked.{with_copy}
 use Rattle.fork_checkpoint.proofs.Shares.{HasAdded, cut_put, fits_before, has_added, has_forked, needed_is, two_spaces}
 use Rattle.fork_checkpoint.proofs.forking.fork_space.Goals as goal
 
-pub returns-then-needed-limit : goal.returns-then-needed-limit
-returns-then-needed-limit c = record {
-  needed_is = needed_is (state_of c.args.mem.now) c.args.from c.args.to c.units_copied-needed.result
+pub returns-in-Some : goal.returns-in-Some
+returns-in-Some c = record {
+  needed_is =
+      c.in-Some.ensures.needed_is
+      ∙ needed_is (state_of c.args.mem.now) c.args.from c.args.to c.units_copied-needed.result
       (two_spaces (state_of c.args.mem.now) c.args.from c.args.to c.requires.there c.requires.absent)
       c.requires.absent c.units_copied-needed.ensures.sum;
-  limit_is = c.limit-limit.ensures.limit;
-  over = c.if-needed-limit.true;
+  limit_is = c.in-Some.ensures.limit_is;
+  over = c.in-Some.ensures.over;
   kept = refl;
 }
 
@@ -41,30 +43,30 @@ fill_space-requires-clause-low c = (added c).beside.low c.units_copied-needed.en
 pub fill_space-requires-clause-fits : goal.fill_space-requires-clause-fits
 fill_space-requires-clause-fits c =
     (added c).beside.fits
-    (fits_before (state_of c.args.mem.now) c.args.from c.args.to c.units_copied-needed.result c.limit-limit.result (two_spaces (state_of c.args.mem.now) c.args.from c.args.to c.requires.there c.requires.absent)
-    c.requires.absent c.units_copied-needed.ensures.sum c.limit-limit.ensures.limit c.if-needed-limit.false)
+    (fits_before (state_of c.args.mem.now) c.args.from c.args.to c.units_copied-needed.result (two_spaces (state_of c.args.mem.now) c.args.from c.args.to c.requires.there c.requires.absent)
+    c.requires.absent c.units_copied-needed.ensures.sum c.in_default.ensures)
 
 pub returns-in-Ok-fill_space : goal.returns-in-Ok-fill_space
 returns-in-Ok-fill_space c =
     let differs = two_spaces (state_of c.args.mem.now) c.args.from c.args.to c.requires.there c.requires.absent in (
-      fits_before (state_of c.args.mem.now) c.args.from c.args.to c.units_copied-needed.result c.limit-limit.result differs c.requires.absent
-          c.units_copied-needed.ensures.sum c.limit-limit.ensures.limit c.if-needed-limit.false,
+      fits_before (state_of c.args.mem.now) c.args.from c.args.to c.units_copied-needed.result differs c.requires.absent
+          c.units_copied-needed.ensures.sum c.in_default.ensures,
       has_forked (state_of c.args.mem.now) (state_of c.fill_space.new.mem) c.args.from c.args.to differs
           (c.in-Ok-fill_space.ensures ∙ ap (λ (v : State). with_copy v c.args.from c.args.to) c.in-Ok.ensures.added),
     )
 
 pub returns-in-Err-fill_space : goal.returns-in-Err-fill_space
 returns-in-Err-fill_space c = (
-  fits_before (state_of c.args.mem.now) c.args.from c.args.to c.units_copied-needed.result c.limit-limit.result
+  fits_before (state_of c.args.mem.now) c.args.from c.args.to c.units_copied-needed.result
       (two_spaces (state_of c.args.mem.now) c.args.from c.args.to c.requires.there c.requires.absent) c.requires.absent c.units_copied-needed.ensures.sum
-      c.limit-limit.ensures.limit c.if-needed-limit.false,
+      c.in_default.ensures,
   c.in-Err-fill_space.ensures ∙ ap (λ (v : State). cut_space v c.args.to) c.in-Ok.ensures.added ∙ cut_put (state_of c.args.mem.now) c.args.to bare_space c.requires.absent,
 )
 
 pub returns-in-Err : goal.returns-in-Err
 returns-in-Err c = (
-  fits_before (state_of c.args.mem.now) c.args.from c.args.to c.units_copied-needed.result c.limit-limit.result
+  fits_before (state_of c.args.mem.now) c.args.from c.args.to c.units_copied-needed.result
       (two_spaces (state_of c.args.mem.now) c.args.from c.args.to c.requires.there c.requires.absent) c.requires.absent c.units_copied-needed.ensures.sum
-      c.limit-limit.ensures.limit c.if-needed-limit.false,
+      c.in_default.ensures,
   ap state_of c.in-Err.ensures.kept,
 )

@@ -1,7 +1,6 @@
 use Rattle.overlay_pages.specs.View.{state_of}
-use Rattle.promotion.specs.CountLaws.{has_page}
-use Rattle.promotion.specs.Joined.{page_low}
-use Rattle.promotion.specs.Turns.{own_there}
+use Rattle.overlay_memory.specs.Joined.{page_low}
+use Rattle.overlay_memory.specs.PageLaws.{has_page, own_there}
 use Rattle.fork_checkpoint.proofs.Sums.{summed_all, summing_few, summing_more, summing_none}
 use Rattle.fork_checkpoint.proofs.units.units_copied.Goals as goal
 

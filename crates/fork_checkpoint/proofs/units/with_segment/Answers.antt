@@ -1,8 +1,8 @@
 use Rattle.std.proofs.Common.{arith}
 use Rattle.ledger.specs.ClassLaws.{class_most}
 use Rattle.overlay_pages.specs.View.{state_of}
-use Rattle.promotion.specs.CountLaws.{class_is}
-use Rattle.promotion.specs.Joined.{limit_few, page_low}
+use Rattle.overlay_memory.specs.CountLaws.{class_is}
+use Rattle.overlay_memory.specs.Joined.{limit_few, page_low}
 use Rattle.fork_checkpoint.proofs.units.with_segment.Goals as goal
 
 pub overflow_add-result : goal.overflow_add-result

@@ -1,7 +1,6 @@
-use Rattle.std.proofs.Common.{◌≡◌, ◌+◌, ◌-◌, ◌*◌, ◌/◌, ◌%◌, ◌≤◌, true, false, length, take, drop, sym, ap, ◌∙◌, refl, arith}
-use Rattle.std.specs.Prelude.{Err, Some}
+use Rattle.std.proofs.Common.{◌≡◌, ◌+◌, ◌-◌, ◌%◌, true, false, length, take, drop, sym, ap, ◌∙◌, refl, arith}
+use Rattle.std.specs.Prelude.{Err}
 use Rattle.ovl_io.specs.Permissions.{permits}
-use Rattle.overlay_pages.specs.View.{state_of}
 use Rattle.overlay_memory.specs.declared.error.MemoryError.TheVariants.{Forbidden}
 use Rattle.overlay_memory.proofs.Pieced.{found_lacks, found_permits, found_piece, low_address, permitted, reads_of}
 use Rattle.overlay_memory.proofs.reading.read_found.Goals as goal

@@ -10,4 +10,4 @@ returns c =
     let new = c.copy_from_slice.new.self in
     line_put c.args.pages.now c.args.found.space c.args.found.page c.args.found.line at (at + length bytes - at) bytes old new _ c.line_at_mut.ensures.value
     (c.line_at_mut.ensures.state (take at old ++ (new ++ drop (at + length bytes - at) (drop at old)))) c.copy_from_slice.ensures.after (omega arith) (omega arith)
-    c.requires.found.line c.requires.fits c.requires.writable
+    c.requires.found.line c.requires.some c.requires.fits c.requires.writable

@@ -16,7 +16,7 @@ returns-in-Err c =
 pub returns-in-Some : goal.returns-in-Some
 returns-in-Some c =
     one_full (in_one c.in-Ok.ensures c.requires.some c.requires.one_page c.lines_at-touched.ensures)
-    c.store_units-rise.result c.in-Some.excess c.store_units-rise.ensures.rise c.in-Some.ensures
+    c.store_units-rise.result c.in-Some.shortage c.store_units-rise.ensures.rise c.in-Some.ensures
 
 pub bring-requires-clause-fits : goal.bring-requires-clause-fits
 bring-requires-clause-fits c =

@@ -33,7 +33,7 @@ pub returns-in-Some : goal.returns-in-Some
 returns-in-Some c =
     two_full (in_two c.in-Ok.ensures c.in-Ok-permit_store.ensures c.requires.front c.requires.over c.requires.two_pages
     c.lines_at-lines.ensures c.lines_at-more.ensures)
-    c.store_units-one.result c.store_units-two.result c.in-Some.excess c.store_units-one.ensures.rise c.store_units-two.ensures.rise c.in-Some.ensures
+    c.store_units-one.result c.store_units-two.result c.in-Some.shortage c.store_units-one.ensures.rise c.store_units-two.ensures.rise c.in-Some.ensures
 
 pub bring-requires-clause-fits : goal.bring-requires-clause-fits
 bring-requires-clause-fits c =

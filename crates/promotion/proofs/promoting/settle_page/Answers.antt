@@ -1,17 +1,17 @@
 use Rattle.std.proofs.Common.{◌∙◌, sym, arith}
 use Rattle.overlay_pages.specs.View.{state_of}
-use Rattle.promotion.specs.Joined.{limit_few}
+use Rattle.overlay_memory.specs.Joined.{limit_few}
 use Rattle.promotion.proofs.Pages.{commits, copies, falls_short, has_room, segment_within, stays}
 use Rattle.promotion.proofs.promoting.settle_page.Goals as goal
 
 pub returns-then-own-eq0 : goal.returns-then-own-eq0
 returns-then-own-eq0 c =
-    stays c.args.mem.now c.args.space c.args.page c.units-units.result 0 c.lines_of.result c.len-own.result 0 c.lines_of.ensures.own c.len-own.ensures.count c.units-units.ensures.sum
+    stays c.args.mem.now c.args.space c.args.page c.units-units.result c.lines_of.result c.len-own.result 0 c.lines_of.ensures.own c.len-own.ensures.count c.units-units.ensures.sum
     c.units-units.ensures.fits c.if-own-eq0.true
 
 pub returns-then-is_alone : goal.returns-then-is_alone
 returns-then-is_alone c =
-    commits c.args.mem.now c.args.space c.args.page c.units-units.result 0 c.lines_of.result c.len-own.result 0 c.lines_of.ensures.own c.len-own.ensures.count c.units-units.ensures.sum
+    commits c.args.mem.now c.args.space c.args.page c.units-units.result c.lines_of.result c.len-own.result 0 c.lines_of.ensures.own c.len-own.ensures.count c.units-units.ensures.sum
     c.units-units.ensures.fits (state_of c.commit_page.new.self) c.if-own-eq0.false (sym c.is_alone.ensures ∙ c.if-is_alone.true) c.commit_page.ensures
 
 pub overflow_add-needed : goal.overflow_add-needed
@@ -19,22 +19,22 @@ overflow_add-needed c = let few = limit_few c.args.mem.now c.lines_of.ensures.jo
 
 pub overflow_sub-needed : goal.overflow_sub-needed
 overflow_sub-needed c =
-    let within = segment_within (state_of c.args.mem.now) c.args.space c.args.page c.units-units.result 0 c.lines_of.result c.len-own.result c.class_of.result c.lines_of.ensures.own
+    let within = segment_within (state_of c.args.mem.now) c.args.space c.args.page c.units-units.result c.lines_of.result c.len-own.result c.class_of.result c.lines_of.ensures.own
     c.len-own.ensures.count c.class_of.ensures c.units-units.ensures.sum in omega (arith, within)
 
-pub returns-then-needed-limit : goal.returns-then-needed-limit
-returns-then-needed-limit c =
-    falls_short c.args.mem.now c.args.space c.args.page c.units-units.result c.limit-limit.result c.lines_of.result c.len-own.result c.class_of.result
+pub returns-in-Some : goal.returns-in-Some
+returns-in-Some c =
+    falls_short c.args.mem.now c.args.space c.args.page c.units-units.result c.lines_of.result c.len-own.result c.class_of.result
     c.lines_of.ensures.own c.len-own.ensures.count
-    c.units-units.ensures.sum c.units-units.ensures.fits c.class_of.ensures c.limit-limit.ensures.limit c.if-own-eq0.false (sym c.is_alone.ensures ∙ c.if-is_alone.false) c.if-needed-limit.true
+    c.units-units.ensures.sum c.units-units.ensures.fits c.class_of.ensures c.if-own-eq0.false (sym c.is_alone.ensures ∙ c.if-is_alone.false) c.in-Some.shortage c.in-Some.ensures
 
 pub copy_commit_page-requires-clause-room : goal.copy_commit_page-requires-clause-room
 copy_commit_page-requires-clause-room c =
-    has_room c.args.mem.now c.args.space c.args.page c.units-units.result c.limit-limit.result c.lines_of.result c.len-own.result c.class_of.result c.lines_of.ensures.own c.len-own.ensures.count
-    c.units-units.ensures.sum c.units-units.ensures.fits c.class_of.ensures c.limit-limit.ensures.limit c.if-own-eq0.false (sym c.is_alone.ensures ∙ c.if-is_alone.false) c.if-needed-limit.false
+    has_room c.args.mem.now c.args.space c.args.page c.units-units.result c.lines_of.result c.len-own.result c.class_of.result c.lines_of.ensures.own c.len-own.ensures.count
+    c.units-units.ensures.sum c.units-units.ensures.fits c.class_of.ensures c.if-own-eq0.false (sym c.is_alone.ensures ∙ c.if-is_alone.false) c.in_default.ensures
 
 pub returns : goal.returns
 returns c =
-    copies c.args.mem.now c.args.space c.args.page c.units-units.result c.limit-limit.result c.lines_of.result c.len-own.result c.class_of.result c.lines_of.ensures.own c.len-own.ensures.count
-    c.units-units.ensures.sum c.units-units.ensures.fits c.class_of.ensures c.limit-limit.ensures.limit c.if-own-eq0.false (sym c.is_alone.ensures ∙ c.if-is_alone.false)
-    (state_of c.copy_commit_page.new.self) c.if-needed-limit.false c.copy_commit_page.ensures
+    copies c.args.mem.now c.args.space c.args.page c.units-units.result c.lines_of.result c.len-own.result c.class_of.result c.lines_of.ensures.own c.len-own.ensures.count
+    c.units-units.ensures.sum c.units-units.ensures.fits c.class_of.ensures c.if-own-eq0.false (sym c.is_alone.ensures ∙ c.if-is_alone.false)
+    (state_of c.copy_commit_page.new.self) c.in_default.ensures c.copy_commit_page.ensures

@@ -1,7 +1,7 @@
 use Rattle.std.proofs.Common.{◌∙◌}
 use Rattle.overlay_pages.specs.View.{state_of}
-use Rattle.promotion.specs.Turns.{own_there}
-use Rattle.promotion.specs.Joined.{all_bare}
+use Rattle.overlay_memory.specs.Joined.{all_bare}
+use Rattle.overlay_memory.specs.PageLaws.{own_there}
 use Rattle.promotion.proofs.CommitWalk.{committed_all, committing_more, committing_none}
 use Rattle.promotion.proofs.settling.commit_alone.Goals as goal
 

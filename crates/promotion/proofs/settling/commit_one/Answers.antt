@@ -1,8 +1,8 @@
 use Rattle.std.proofs.Common.{◌∙◌, sym}
 use Rattle.overlay_pages.specs.View.{state_of}
-use Rattle.promotion.specs.Joined.{page_low}
+use Rattle.overlay_memory.specs.CountLaws.{has_own_is}
+use Rattle.overlay_memory.specs.Joined.{page_low}
 use Rattle.promotion.proofs.CommitWalk.{commits_it, commits_no_other, commits_none}
-use Rattle.promotion.specs.CountLaws.{has_own_is}
 use Rattle.promotion.proofs.settling.commit_one.Goals as goal
 
 pub returns-then-len-eq0-clause-committed : goal.returns-then-len-eq0-clause-committed

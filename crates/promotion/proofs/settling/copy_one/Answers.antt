@@ -1,7 +1,7 @@
 use Rattle.overlay_pages.specs.View.{state_of}
-use Rattle.promotion.specs.Joined.{page_low}
+use Rattle.overlay_memory.specs.CountLaws.{has_own_is}
+use Rattle.overlay_memory.specs.Joined.{page_low}
 use Rattle.promotion.proofs.CopyWalk.{copies_it, copies_none, lines_above}
-use Rattle.promotion.specs.CountLaws.{has_own_is}
 use Rattle.promotion.proofs.settling.copy_one.Goals as goal
 
 pub returns-then-len-eq0-clause-copied : goal.returns-then-len-eq0-clause-copied

@@ -1,5 +1,5 @@
 use Rattle.overlay_pages.specs.View.{state_of}
-use Rattle.promotion.specs.Turns.{own_there}
+use Rattle.overlay_memory.specs.PageLaws.{own_there}
 use Rattle.promotion.proofs.Counts.{counted_all, counted_few, counting_more, counting_none, segment_there}
 use Rattle.promotion.proofs.units.units_settled.Goals as goal
 

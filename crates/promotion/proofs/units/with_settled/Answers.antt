@@ -1,6 +1,6 @@
 use Rattle.std.proofs.Common.{◌∙◌, sym, arith}
 use Rattle.overlay_pages.specs.View.{state_of}
-use Rattle.promotion.specs.Joined.{limit_few, page_low}
+use Rattle.overlay_memory.specs.Joined.{limit_few, page_low}
 use Rattle.promotion.proofs.Counts.{enough_for, sum_alone, sum_bare, sum_shared}
 use Rattle.promotion.proofs.units.with_settled.Goals as goal
 

@@ -1,6 +1,6 @@
 use Rattle.overlay_pages.specs.View.{state_of}
-use Rattle.promotion.specs.CountLaws.{has_own_is}
-use Rattle.promotion.specs.Joined.{page_low}
+use Rattle.overlay_memory.specs.CountLaws.{has_own_is}
+use Rattle.overlay_memory.specs.Joined.{page_low}
 use Rattle.speculation.proofs.DiscardWalk.{discards_it, discards_none}
 use Rattle.speculation.proofs.discarding.discard_one.Goals as goal
 

@@ -1,16 +1,14 @@
-use Rattle.std.specs.Prelude.{◌≡◌, ℕ, true, nat_lt, List, length, Option, Some, None, is_some, refl}
+use Rattle.std.specs.Prelude.{◌≡◌, ℕ, nat_lt, List, length, Option, Some, None, is_some, refl}
 use Rattle.std.proofs.Common.{sym, ap, ◌∙◌}
 use Rattle.std.specs.Option.{option_map, option_map_or}
 use Rattle.ledger.specs.Ledger.{Holding, holding_at}
 use Rattle.ledger.specs.Changes.{has_own}
 use Rattle.ledger.specs.Units.{class}
 use Rattle.overlay_pages.specs.State.{PageState, State, books, held_page, page_in}
-use Rattle.promotion.specs.Counted.{class_at}
-use Rattle.promotion.specs.Fates.{some_is}
-use Rattle.promotion.specs.FateFolds.{own_is}
-use Rattle.promotion.specs.Turns.{held_there}
+use Rattle.overlay_memory.specs.PageLaws.{held_there, own_is, some_is}
+use Rattle.overlay_memory.specs.Room.{class_at}
 
--- What the own lines of a page count.
+-- Laws: what the own lines of a page count.
 
 pub record HasLines (v : State) (space page : ℕ) (own : List ℕ) : Type 0 where
   pub x : PageState
@@ -44,15 +42,3 @@ pub has_own_is : (v : State) (space page : ℕ) (own : List ℕ) (n : ℕ) → o
 has_own_is v space page own n e count =
     let h = has_lines v space page own e in
     own_is (books v) space page (held_page v.zero_frame h.x) (held_there v space page h.x h.there) ∙ ap (λ (l : List ℕ). nat_lt 0 (length l)) h.own_is ∙ ap (nat_lt 0) (sym count)
-
--- a page that is there
-pub record HasPage (v : State) (space page : ℕ) : Type 0 where
-  pub x : PageState
-  pub there : page_in v space page ≡ Some x
-
-pub has_page : (v : State) (space page : ℕ) → is_some (page_in v space page) ≡ true → HasPage v space page
-has_page v space page some = by_page (page_in v space page) refl
-  where
-    by_page : (o : Option PageState) → page_in v space page ≡ o → HasPage v space page
-    by_page None is = let no = sym some ∙ ap is_some is in cc
-    by_page (Some x) is = record { x = x; there = is }

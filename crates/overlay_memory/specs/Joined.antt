@@ -13,9 +13,9 @@ use Rattle.overlay_pages.specs.Lines.{page_lines}
 use Rattle.overlay_pages.specs.State.{PageState, SpaceState, State, bare_space, page_in, space_in}
 use Rattle.overlay_pages.specs.StateLaws.{page_of}
 use Rattle.overlay_pages.specs.View.{IsJoined, MemoryView, line_seen, page_state, space_state, state_of}
-use Rattle.promotion.specs.Fates.{some_is}
+use Rattle.overlay_memory.specs.PageLaws.{some_is}
 
--- What is true of every memory.
+-- Laws: what is true of every memory.
 
 -- a page without own lines has the lines of its frame
 abbrev pub IsBare : State → ℕ → Type 0
