@@ -10,7 +10,6 @@ use Rattle.overlay_pages.specs.State.{SpaceState, State, bare_space, base_of, cu
 use Rattle.overlay_pages.specs.View.{MemoryView, state_of}
 use Rattle.overlay_memory.specs.declared.error.SpaceError.{SpaceError}
 use Rattle.overlay_memory.specs.declared.error.SpaceError.TheVariants as error
-use Rattle.promotion.specs.Settled.{FitsAfter, units_after}
 use Rattle.fork_checkpoint.specs.Forked.{Forks, HasForked}
 use Rattle.machine_core.specs.declared.process.Process as declared
 use Rattle.machine_core.specs.Machine.{IsDropped, Machine, Processes, has_space, processes_of, spaces_of, whole_in, wholes, with_memory, with_process_at}

@@ -3,8 +3,7 @@ use Rattle.std.proofs.lemmas.Bool.Decides.{nat_tests}
 use Rattle.ledger.specs.Events.{Event}
 use Rattle.overlay_pages.specs.Changes.{limit_of}
 use Rattle.overlay_pages.specs.View.{MemoryView}
-use Rattle.overlay_memory.specs.Access.{IsFullAt}
-use Rattle.promotion.specs.Settled.{FitsAfter, units_after}
+use Rattle.overlay_memory.specs.Room.{FitsAfter, IsFullAt, units_after}
 use Rattle.machine_core.specs.Machine.{Machine, spaces_of, wholes, with_memory}
 use Rattle.command_core.specs.Rows.{event_needs, is_event_full, ledger_by}
 

@@ -85,11 +85,11 @@ module _ (file : List ℕ) (old new : Machine) (drawn : ℕ) (taken : file_refus
   gives_other (error.Full needed limit) (needed_is, limit_is, full, same) =
       row_full (row file before) before (state_of new drawn) needed limit none refl (sym (load_full (drawn + 1) file (wholes old)) ∙ full)
       (needed_is ∙ load_needed (drawn + 1) file (wholes old)) limit_is (subst (λ (m : Machine). AreLikeStates (state_of m drawn) before) (sym same) (states_itself before))
-  gives_other error.Memory same = (refl, ap (λ (w : Wholes). record { wholes = w; drawn = drawn }) (same_wholes old new same))
+  gives_other error.Memory (fits, same) = (refl, ap (λ (w : Wholes). record { wholes = w; drawn = drawn }) (same_wholes old new same))
 
   pub session_other : (e : SpaceError) → Loads (drawn + 1) file old new (Err e) → IsSession old drawn → IsSession new drawn
   session_other (error.Full needed limit) (needed_is, limit_is, full, same) is = subst (λ (m : Machine). IsSession m drawn) (sym same) is
-  session_other error.Memory (spaces, processes) is = session_same old new drawn is spaces processes
+  session_other error.Memory (fits, (spaces, processes)) is = session_same old new drawn is spaces processes
 
 pub told_other : (e : SpaceError) (s : State) → RunsLoaded (answer_of e) s
 told_other (error.Full units limit) s = tt
