@@ -19,6 +19,3 @@ mod storing;
 
 pub use error::{MemoryError, SpaceError};
 pub use memory::OverlayMemory;
-
-#[cfg(test)]
-mod tests;

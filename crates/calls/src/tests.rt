@@ -1,0 +1,3 @@
+mod ledger;
+mod memory;
+mod spaces;
