@@ -5,6 +5,7 @@
 //! - `spaces`: a memory in which no page awaits
 //! - `memory`: calls of `overlay_memory` and `fork_checkpoint`
 //! - `ledger`: calls of `space_ledger`
+//! - `segments`: calls of `segment_store`
 #![tactic(auto)]
 
 #[cfg(test)]
