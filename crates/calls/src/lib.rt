@@ -1,11 +1,13 @@
-//! Tests of calls: those of the memory's layers that no script shows, and those that take memory, each done once where there is enough.
+//! Tests of calls: those that no script shows, those that take memory, each done once where there is enough, and tables of files.
 //!
 //! It has nothing but tests. They stand here and not in the crates whose calls they are, since a crate with tests is proved twice.
 //!
-//! - `spaces`: a memory in which no page awaits
-//! - `memory`: calls of `overlay_memory` and `fork_checkpoint`
-//! - `ledger`: calls of `space_ledger`
+//! - `files`: calls of `elf_loader`
+//! - `pages`: calls of `page_table`
 //! - `segments`: calls of `segment_store`
+//! - `ledger`: calls of `space_ledger`
+//! - `memory`: calls of `overlay_memory` and `fork_checkpoint`
+//! - `spaces`: a memory in which no page awaits
 #![tactic(auto)]
 
 #[cfg(test)]

@@ -1,4 +1,6 @@
+mod files;
 mod ledger;
 mod memory;
+mod pages;
 mod segments;
 mod spaces;

@@ -1,8 +1,8 @@
 ghost use Rattle.std.specs.Prelude.{◌+◌, ◌^◌, ◌<◌, ◌≤◌, IsTrue};
 ghost use Rattle.page_table.specs.Table.{IsFree, AreThere};
 
-use crate::{PageEntry, PageTable};
 use ovl_io::Perms;
+use page_table::{PageEntry, PageTable};
 use std::alloc::AllocError;
 use std::process::Abort;
 use std::test::Fail;
@@ -77,92 +77,6 @@ fn assert_pages(rt: &impl Abort, table: &PageTable, len: u32, rows: &[(u64, Opti
     for &(page, entry) in rows {
         assert_eq!(rt; table.get(page), entry, "page {page}");
     }
-}
-
-#[test]
-fn pages_are_mapped_changed_and_unmapped(rt: HostRuntime) -> Result<(), Fail> {
-    let mut table = PageTable::new(rt.alloc());
-    assert_pages(&rt, &table, 0, &[(0, None), (10, None)]);
-
-    map_pages(&rt, &mut table, 10, 10, CODE)?;
-    let rows = [(9, None), (10, Some(CODE)), (19, Some(CODE)), (20, None)];
-    assert_pages(&rt, &table, 10, &rows);
-
-    set(&rt, &mut table, 12, DATA);
-    let rows = [(11, Some(CODE)), (12, Some(DATA)), (13, Some(CODE))];
-    assert_pages(&rt, &table, 10, &rows);
-
-    unmap(&rt, &mut table, 13, 3);
-    let rows = [(12, Some(DATA)), (13, None), (15, None), (16, Some(CODE))];
-    assert_pages(&rt, &table, 7, &rows);
-
-    map_pages(&rt, &mut table, 14, 2, DATA)?;
-    let rows = [
-        (13, None),
-        (14, Some(DATA)),
-        (15, Some(DATA)),
-        (16, Some(CODE)),
-    ];
-    assert_pages(&rt, &table, 9, &rows);
-
-    // no pages at all
-    map_pages(&rt, &mut table, 10, 0, DATA)?;
-    unmap(&rt, &mut table, 13, 0);
-    assert_pages(&rt, &table, 9, &rows);
-    Ok(())
-}
-
-#[test]
-fn the_last_page_is_a_page(rt: HostRuntime) -> Result<(), Fail> {
-    let mut table = PageTable::new(rt.alloc());
-    map_pages(&rt, &mut table, LAST - 1, 2, CODE)?;
-    unmap(&rt, &mut table, LAST - 1, 1);
-    let rows = [
-        (LAST - 1, None),
-        (LAST, Some(CODE)),
-        (LAST + 1, None),
-        (0, None),
-    ];
-    assert_pages(&rt, &table, 1, &rows);
-    assert_eq!(rt; table.next_from(LAST), Some((LAST, CODE)));
-    assert_eq!(rt; table.next_from(LAST + 1), None);
-    Ok(())
-}
-
-#[test]
-fn the_next_page_is_found(rt: HostRuntime) -> Result<(), Fail> {
-    let mut table = PageTable::new(rt.alloc());
-    assert_eq!(rt; table.next_from(0), None);
-    map_pages(&rt, &mut table, 5, 2, CODE)?;
-    map_pages(&rt, &mut table, 512, 1, DATA)?;
-    let rows = [
-        (0, Some((5, CODE))),
-        (5, Some((5, CODE))),
-        (6, Some((6, CODE))),
-        (7, Some((512, DATA))),
-        (512, Some((512, DATA))),
-        (513, None),
-        (0xFFFF_FFFF_FFFF_FFFF, None),
-    ];
-    for (page, next) in rows {
-        assert_eq!(rt; table.next_from(page), next, "from {page}");
-    }
-    Ok(())
-}
-
-#[test]
-fn a_copy_is_independent_of_its_source(rt: HostRuntime) -> Result<(), Fail> {
-    let mut table = PageTable::new(rt.alloc());
-    map_pages(&rt, &mut table, 1, 3, CODE)?;
-    let copy = table.copy()?;
-    set(&rt, &mut table, 1, DATA);
-    unmap(&rt, &mut table, 2, 2);
-    map_pages(&rt, &mut table, 4, 1, DATA)?;
-    let rows = [(1, Some(CODE)), (2, Some(CODE)), (3, Some(CODE)), (4, None)];
-    assert_pages(&rt, &copy, 3, &rows);
-    let rows = [(1, Some(DATA)), (2, None), (3, None), (4, Some(DATA))];
-    assert_pages(&rt, &table, 2, &rows);
-    Ok(())
 }
 
 // Run with each allocation failing in turn (`rt try --test --fail-alloc N`), this goes the other way.

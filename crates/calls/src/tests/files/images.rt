@@ -1,6 +1,6 @@
-use crate::tests::{ENTRY, FILE, LAST, Row, changed, file_of};
-use crate::{ElfError, ImagePage, read_image};
+use super::{ENTRY, FILE, LAST, Row, changed, file_of};
 use bitflags::Flags;
+use elf_loader::{ElfError, ImagePage, read_image};
 use ovl_io::Perms;
 use std::alloc::Global;
 use std::process::Abort;
@@ -15,11 +15,9 @@ type Piece = (u64, usize, usize);
 // The byte that is wanted at an address.
 fn byte_at(file: &[u8], pieces: &[Piece], address: u64) -> u8 {
     for &(start, from, to) in pieces {
-        if start <= address && address - start < to.saturating_sub(from) as u64 {
-            return match file.get(from + (address - start) as usize) {
-                Some(byte) => *byte,
-                None => 0,
-            };
+        let at = from.saturating_add(address.wrapping_sub(start) as usize);
+        if start <= address && at < to {
+            return file.get(at).copied().unwrap_or(0);
         }
     }
     0

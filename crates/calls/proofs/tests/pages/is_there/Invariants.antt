@@ -1,5 +1,5 @@
 use Rattle.page_table.specs.Table.{AreThere}
-use Rattle.page_table.proofs.tests.is_there.Given as goal
+use Rattle.calls.proofs.tests.pages.is_there.Given as goal
 
 -- the first pages are there
 abbrev pub invariant-asking : goal.invariant-asking

@@ -1,7 +1,7 @@
-use crate::tests::{
+use super::{
     ADDRESS, FILE, FILE_SIZE, LAST, MEMORY_SIZE, OFFSET, Row, TABLE_OFFSET, changed, file_of,
 };
-use crate::{ElfError, read_image};
+use elf_loader::{ElfError, read_image};
 use std::test::Fail;
 
 #[test]
