@@ -5,7 +5,7 @@
 //! - `files`: calls of `elf_loader`
 //! - `pages`: calls of `page_table`
 //! - `segments`: calls of `segment_store`
-//! - `ledger`: calls of `space_ledger`
+//! - `ledgers`: calls of `space_ledger`
 //! - `memory`: calls of `overlay_memory` and `fork_checkpoint`
 //! - `spaces`: a memory in which no page awaits
 #![tactic(auto)]

@@ -1,5 +1,5 @@
 mod files;
-mod ledger;
+mod ledgers;
 mod memory;
 mod pages;
 mod segments;
