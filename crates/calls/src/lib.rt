@@ -3,6 +3,7 @@
 //! It has nothing but tests. They stand here and not in the crates whose calls they are, since a crate with tests is proved twice.
 //!
 //! - `files`: calls of `elf_loader`
+//! - `levels`, `blocks`, `names`: calls of `mark_levels`, `unit_map` and `overlay_mapping_table`
 //! - `pages`: calls of `page_table`
 //! - `segments`: calls of `segment_store`
 //! - `ledgers`: calls of `space_ledger`

@@ -121,39 +121,62 @@ fn the_first_refusal_counts(rt: HostRuntime) -> Result<(), Fail> {
 
 #[test]
 fn no_sum_wraps(rt: HostRuntime) {
-    let rows: [(&[(usize, u64)], Option<ElfError>); 16] = [
-        (&[(TABLE_OFFSET, LAST)], Some(ElfError::TableOutside)),
-        (&[(TABLE_OFFSET, LAST - 55)], Some(ElfError::TableOutside)),
-        (&[(TABLE_OFFSET, 77)], Some(ElfError::TableOutside)),
-        (&[(OFFSET, LAST)], Some(ElfError::SegmentOutside)),
-        (&[(OFFSET, LAST - 11)], Some(ElfError::SegmentOutside)),
-        (&[(OFFSET, LAST), (FILE_SIZE, 0)], None),
+    // where the table, the segment's bytes and its memory begin, its sizes in the file and in memory, and the refusal
+    for (table, offset, address, file_size, memory_size, want) in [
+        (LAST, 120, 0x10078, 12, 12, Some(ElfError::TableOutside)),
         (
-            &[(FILE_SIZE, LAST), (MEMORY_SIZE, LAST)],
+            LAST - 55,
+            120,
+            0x10078,
+            12,
+            12,
+            Some(ElfError::TableOutside),
+        ),
+        (77, 120, 0x10078, 12, 12, Some(ElfError::TableOutside)),
+        (64, LAST, 0x10078, 12, 12, Some(ElfError::SegmentOutside)),
+        (
+            64,
+            LAST - 11,
+            0x10078,
+            12,
+            12,
             Some(ElfError::SegmentOutside),
         ),
-        (&[(FILE_SIZE, LAST)], Some(ElfError::FileLarger)),
+        (64, LAST, 0x10078, 0, 12, None),
+        (64, 120, 0x10078, LAST, LAST, Some(ElfError::SegmentOutside)),
+        (64, 120, 0x10078, LAST, 12, Some(ElfError::FileLarger)),
         (
-            &[(OFFSET, LAST), (FILE_SIZE, LAST), (MEMORY_SIZE, LAST)],
+            64,
+            LAST,
+            0x10078,
+            LAST,
+            LAST,
             Some(ElfError::SegmentOutside),
         ),
-        (&[(ADDRESS, LAST)], Some(ElfError::AddressOutside)),
-        (&[(ADDRESS, LAST - 11)], Some(ElfError::AddressOutside)),
-        (&[(MEMORY_SIZE, LAST)], Some(ElfError::AddressOutside)),
+        (64, 120, LAST, 12, 12, Some(ElfError::AddressOutside)),
+        (64, 120, LAST - 11, 12, 12, Some(ElfError::AddressOutside)),
+        (64, 120, 0x10078, 12, LAST, Some(ElfError::AddressOutside)),
+        (64, 120, LAST, 12, LAST, Some(ElfError::AddressOutside)),
+        (64, 120, 0x10078, 0, 0, Some(ElfError::NothingToLoad)),
+        // one byte into the stack's pages, and none
         (
-            &[(ADDRESS, LAST), (MEMORY_SIZE, LAST)],
+            64,
+            120,
+            0x3FFFFEFFF5,
+            12,
+            12,
             Some(ElfError::AddressOutside),
         ),
-        (
-            &[(FILE_SIZE, 0), (MEMORY_SIZE, 0)],
-            Some(ElfError::NothingToLoad),
-        ),
-        // one byte into the stack's pages, and none
-        (&[(ADDRESS, 0x3FFFFEFFF5)], Some(ElfError::AddressOutside)),
-        (&[(ADDRESS, 0x3FFFFEFFF4)], None),
-    ];
-    for (numbers, want) in rows {
-        let file = changed(&rt, numbers);
+        (64, 120, 0x3FFFFEFFF4, 12, 12, None),
+    ] {
+        let numbers = [
+            (TABLE_OFFSET, table),
+            (OFFSET, offset),
+            (ADDRESS, address),
+            (FILE_SIZE, file_size),
+            (MEMORY_SIZE, memory_size),
+        ];
+        let file = changed(&rt, &numbers);
         assert_eq!(rt; read_image(rt.alloc(), &file).err(), want, "{numbers:?}");
     }
 }

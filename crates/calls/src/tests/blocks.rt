@@ -1,7 +1,7 @@
-use crate::{Block, UnitMap};
 use sizes::MOST_FRAMES;
 use std::process::Abort;
 use std::test::Fail;
+use unit_map::{Block, UnitMap};
 
 // Takes a block of an order, which there has to be, and asserts where it starts.
 fn take_at(rt: &impl Abort, map: &mut UnitMap, order: u8, unit: u32) {

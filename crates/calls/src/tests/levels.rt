@@ -1,4 +1,4 @@
-use crate::{End, Level};
+use mark_levels::{End, Level};
 use std::test::Fail;
 
 #[test]
