@@ -19,6 +19,3 @@ mod sweep;
 
 pub use header::ProgramHeader;
 pub use image::{ElfError, Image, ImagePage, read_image};
-
-#[cfg(test)]
-mod tests;

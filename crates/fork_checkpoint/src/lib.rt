@@ -9,8 +9,6 @@
 
 mod forking;
 mod sharing;
-#[cfg(test)]
-mod tests;
 mod units;
 
 pub use forking::fork_space;

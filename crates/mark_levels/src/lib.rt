@@ -9,6 +9,3 @@
 mod levels;
 
 pub use levels::{End, Level, MOST_GROUPS};
-
-#[cfg(test)]
-mod tests;

@@ -12,6 +12,3 @@ mod table;
 
 pub use entry::Entry;
 pub use table::MappingTable;
-
-#[cfg(test)]
-mod tests;

@@ -21,6 +21,3 @@ pub use error::{MemoryError, Shortage, SpaceError};
 pub use memory::OverlayMemory;
 pub use overlay_pages::FoundLine;
 pub use space_ledger::class_of;
-
-#[cfg(test)]
-mod tests;

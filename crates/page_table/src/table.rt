@@ -126,7 +126,8 @@ impl PageTable {
         }
     }
 
-    /// The first pages not below `page`: as many as lie in one run, if there is one. Costs a binary search of the runs.
+    /// The first pages not below `page`, if there are any: one or more that lie in one run. It may go on behind them. Costs a binary
+    /// search of the runs.
     #[inline]
     pub fn next_run(&self, page: u64) -> Option<PageRun>
         ensures { IsNextRun self.now page result }

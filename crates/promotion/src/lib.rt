@@ -11,8 +11,6 @@
 mod error;
 mod promoting;
 mod settling;
-#[cfg(test)]
-mod tests;
 mod units;
 
 pub use error::PromoteError;

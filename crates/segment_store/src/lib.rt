@@ -21,6 +21,3 @@ mod store;
 
 pub use segment::Segment;
 pub use store::SegmentStore;
-
-#[cfg(test)]
-mod tests;

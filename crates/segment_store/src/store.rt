@@ -177,7 +177,7 @@ impl SegmentStore {
         });
     }
 
-    /// How many frames there are, scratch aside: 1 to 65,536. Costs a step.
+    /// How many frames there are, scratch aside. Costs a step.
     pub fn frames(&self) -> u32
         ensures frames { FRAME_UNITS * result ≡ units_in self.now.blocks }
         ensures store { IsStore self.now }
@@ -221,8 +221,9 @@ impl SegmentStore {
         self.region.line_mut(64 * frame + u32::from(line))
     }
 
-    /// Begins an empty segment of an order from 0 to 4, for which there has to be room, and answers its
-    /// block. Costs what taking a block costs.
+    /// Begins an empty segment of an order from 0 to 4, for which there has to be room, in a block of a free
+    /// block of the least order that is enough, and answers its block. Below order 4 the block's first line
+    /// becomes its line of pointers. No other line changes. Costs what taking a block costs.
     pub fn begin_segment(&mut self, owner: OverlayPage, order: u8) -> Block
         requires order { order ≤ 4 }
         requires room { HasRoom self.old.blocks order }

@@ -21,6 +21,3 @@ mod tables;
 
 pub use frames::class_of;
 pub use spaces::SpaceLedger;
-
-#[cfg(test)]
-mod tests;

@@ -188,7 +188,8 @@ impl SpaceLedger {
         }
     }
 
-    /// Whether each page on a frame is alone: it isn't the zero frame, and one page names it. Costs a step.
+    /// Whether a page that names this frame is alone: the frame isn't the zero frame, and one page names it. Where none does, the
+    /// answer tells nothing. Costs a step.
     #[inline]
     pub fn is_alone_frame(&self, frame: u32) -> bool
         requires { frame < self.now.frames }

@@ -10,8 +10,6 @@
 mod discarding;
 mod error;
 mod speculating;
-#[cfg(test)]
-mod tests;
 
 pub use error::SpeculationError;
 pub use speculating::{commit, discard, start};

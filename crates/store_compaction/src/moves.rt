@@ -16,7 +16,7 @@ pub struct Move {
 
 /// A move on the way to a map in which no two free blocks below a frame are equal in size. None exactly where the
 /// map is so.
-/// Costs a few steps for each of five levels of marks over the frames.
+/// Costs a few steps for each order that it asks, on each of at most five levels: one of bytes and four of marks.
 pub fn next_move(map: &UnitMap) -> Option<Move>
     ensures none { result ≡ None → AreSettled map.now }
     ensures some { IfSome result (IsPairMove map.now) }
@@ -38,7 +38,7 @@ pub fn next_move(map: &UnitMap) -> Option<Move>
 /// Where there is no room, two free blocks below this order are equal in size, so that there is a move. That holds
 /// after any moves too, and no more moves can be made than there are free blocks here. So at most that many make
 /// the room.
-/// Costs a few steps for each of five levels of marks over the frames.
+/// Costs a few steps for each order that it asks, on each of at most five levels: one of bytes and four of marks.
 pub fn room_for(map: &UnitMap, order: u8) -> Option<Move>
     requires order { order ≤ 4 }
     requires enough { 2 ^ order ≤ free_units map.now }

@@ -16,6 +16,3 @@ mod map;
 
 pub use block::Block;
 pub use map::UnitMap;
-
-#[cfg(test)]
-mod tests;

@@ -88,7 +88,7 @@ impl UnitMap {
         self.free += 1u32 << block.order;
     }
 
-    /// How many units are free: at most 1,048,576. Costs a step.
+    /// How many units are free. Costs a step.
     pub fn free_units(&self) -> u32
         ensures sum { result ≡ free_units self.now }
         ensures orders { result ≡ free_by_order self.now }
@@ -110,7 +110,7 @@ impl UnitMap {
         }
     }
 
-    /// The lowest and the highest free block of an order from 0 to 4. None where there are fewer than two.
+    /// Two free blocks of an order from 0 to 4, the lower one first. None where there are fewer than two.
     /// Costs a few steps for each of at most five levels of bytes and marks.
     pub fn two_free(&self, order: u8) -> Option<(Block, Block)>
         requires { order ≤ 4 }

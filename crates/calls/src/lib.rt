@@ -1,0 +1,15 @@
+//! Tests of calls: those that no script shows, those that take memory, each done once where there is enough, and tables of files.
+//!
+//! It has nothing but tests. They stand here and not in the crates whose calls they are, since a crate with tests is proved twice.
+//!
+//! - `files`: calls of `elf_loader`
+//! - `levels`, `blocks`, `names`: calls of `mark_levels`, `unit_map` and `overlay_mapping_table`
+//! - `pages`: calls of `page_table`
+//! - `segments`: calls of `segment_store`
+//! - `ledgers`: calls of `space_ledger`
+//! - `memory`: calls of `overlay_memory` and `fork_checkpoint`
+//! - `spaces`: a memory in which no page awaits
+#![tactic(auto)]
+
+#[cfg(test)]
+mod tests;

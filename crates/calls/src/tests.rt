@@ -1,0 +1,9 @@
+mod blocks;
+mod files;
+mod ledgers;
+mod levels;
+mod memory;
+mod names;
+mod pages;
+mod segments;
+mod spaces;

@@ -1,0 +1,299 @@
+ghost use Rattle.std.specs.Prelude.{◌+◌, ◌^◌, ◌<◌, ◌≤◌, IsTrue};
+ghost use Rattle.page_table.specs.Table.{IsFree, AreThere};
+
+use ovl_io::Perms;
+use page_table::{PageEntry, PageTable};
+use std::alloc::AllocError;
+use std::process::Abort;
+use std::test::Fail;
+
+// 2^36 - 1
+const LAST: u64 = 0xF_FFFF_FFFF;
+
+const CODE: PageEntry = PageEntry {
+    perms: Perms::X,
+    frame: 7,
+};
+
+const DATA: PageEntry = PageEntry {
+    perms: Perms::W,
+    frame: 4_294_967_295,
+};
+
+// Whether none of the n pages from `from` on is there.
+fn is_free(table: &PageTable, from: u64, n: u32) -> bool
+    requires { from + n ≤ 2 ^ 36 }
+    ensures { IsTrue result → IsFree table.now from n }
+{
+    match table.next_from(from) {
+        Some((found, _)) => from + u64::from(n) <= found,
+        None => true,
+    }
+}
+
+// Whether all n pages from `from` on are there.
+fn is_there(table: &PageTable, from: u64, n: u32) -> bool
+    requires { from + n ≤ 2 ^ 36 }
+    ensures { IsTrue result → AreThere table.now from n }
+{
+    'asking: for i in 0..n {
+        if table.get(from + u64::from(i)).is_none() {
+            return false;
+        }
+    }
+    true
+}
+
+// Maps a few pages, which have to be free.
+fn map_pages(
+    rt: &impl Abort,
+    table: &mut PageTable,
+    from: u64,
+    n: u32,
+    entry: PageEntry,
+) -> Result<(), AllocError> {
+    assert!(rt; n < 1000 && table.len() < 1000);
+    assert!(rt; from <= LAST + 1 - u64::from(n));
+    assert!(rt; is_free(table, from, n));
+    table.map_pages(from, n, entry.perms, entry.frame)
+}
+
+// Unmaps pages, which have to be there.
+fn unmap(rt: &impl Abort, table: &mut PageTable, from: u64, n: u32) {
+    assert!(rt; n < 1000 && from <= LAST + 1 - u64::from(n));
+    assert!(rt; is_there(table, from, n));
+    table.unmap(from, n);
+}
+
+// Gives a page, which has to be there, another entry.
+fn set(rt: &impl Abort, table: &mut PageTable, page: u64, entry: PageEntry) {
+    assert!(rt; table.get(page).is_some());
+    table.set(page, entry);
+}
+
+// Asserts how many pages there are, and what each of these has.
+fn assert_pages(rt: &impl Abort, table: &PageTable, len: u32, rows: &[(u64, Option<PageEntry>)]) {
+    assert_eq!(rt; table.len(), len);
+    for &(page, entry) in rows {
+        assert_eq!(rt; table.get(page), entry, "page {page}");
+    }
+}
+
+// Run with each allocation failing in turn (`rt try --test --fail-alloc N`), this goes the other way.
+#[test]
+fn a_mapping_is_whole_or_nothing(rt: HostRuntime) -> Result<(), Fail> {
+    let mut table = PageTable::new(rt.alloc());
+    map_pages(&rt, &mut table, 10, 1, CODE)?;
+    match map_pages(&rt, &mut table, 11, 100, DATA) {
+        Ok(()) => {
+            let rows = [(10, Some(CODE)), (11, Some(DATA)), (110, Some(DATA))];
+            assert_pages(&rt, &table, 101, &rows);
+        }
+        Err(_) => {
+            assert_pages(&rt, &table, 1, &[(10, Some(CODE)), (11, None), (60, None)]);
+            assert_eq!(rt; table.next_from(11), None);
+        }
+    }
+    Ok(())
+}
+
+// The pages of the test below stand from this one on.
+const FIRST: u64 = 977;
+
+const PAGES: usize = 40;
+
+// What a page of the plain list has.
+fn listed(frames: &[Option<u32>; PAGES], at: usize) -> Option<PageEntry>
+    requires { at < PAGES }
+{
+    frames[at].map(|frame| PageEntry {
+        perms: Perms::W,
+        frame,
+    })
+}
+
+// The first page of the list from `at` on, as `next_from` answers it.
+fn next_listed(frames: &[Option<u32>; PAGES], at: usize) -> Option<(u64, PageEntry)> {
+    for next in at..PAGES {
+        if let Some(entry) = listed(frames, next) {
+            return Some((FIRST + next as u64, entry));
+        }
+    }
+    None
+}
+
+// How many pages of the list from `at` on, at most 5, are there, or aren't.
+fn run_listed(frames: &[Option<u32>; PAGES], at: usize, there: bool) -> u32
+    requires { at < PAGES }
+{
+    let end = PAGES.min(at + 5);
+    let mut n = 0;
+    for next in at..end {
+        if frames[next].is_some() != there {
+            break;
+        }
+        n = (next - at) as u32 + 1;
+    }
+    n
+}
+
+// Writes a run of pages into the list.
+fn list(frames: &mut [Option<u32>; PAGES], at: usize, n: u32, frame: Option<u32>)
+    requires { at < PAGES }
+{
+    for next in at..PAGES {
+        if next - at < n as usize {
+            frames[next] = frame;
+        }
+    }
+}
+
+// Runs of 40 pages, beside a list of the frames that they were given: first more come than go, then more go.
+#[test]
+fn a_table_answers_as_a_plain_list_does(rt: HostRuntime) -> Result<(), Fail> {
+    let mut table = PageTable::new(rt.alloc());
+    let mut frames: [Option<u32>; PAGES] = [None; PAGES];
+    let mut seed = 1u32;
+    for call in 0..6000u32 {
+        seed = seed.wrapping_mul(1_664_525).wrapping_add(1_013_904_223);
+        let at = (seed >> 16) as usize % PAGES;
+        let page = FIRST + at as u64;
+        let entry = PageEntry {
+            perms: Perms::W,
+            frame: call,
+        };
+        if (seed >> 8) % 8 < if call / 300 % 2 == 0 { 6 } else { 2 } {
+            let n = run_listed(&frames, at, false);
+            map_pages(&rt, &mut table, page, n, entry)?;
+            list(&mut frames, at, n, Some(call));
+        } else {
+            let n = run_listed(&frames, at, true);
+            unmap(&rt, &mut table, page, n);
+            list(&mut frames, at, n, None);
+        }
+        let at = (seed >> 24) as usize % PAGES;
+        let page = FIRST + at as u64;
+        if frames[at].is_some() {
+            set(&rt, &mut table, page, entry);
+            frames[at] = Some(call);
+        }
+        assert_eq!(rt; table.next_from(0), next_listed(&frames, 0), "call {call}");
+        assert_eq!(rt;
+            table.next_from(page),
+            next_listed(&frames, at),
+            "call {call}"
+        );
+        assert_eq!(rt;
+            table.len() as usize,
+            frames.iter().flatten().count(),
+            "call {call}"
+        );
+        for at in 0..PAGES {
+            assert_eq!(rt;
+                table.get(FIRST + at as u64),
+                listed(&frames, at),
+                "call {call}"
+            );
+        }
+        assert_eq!(rt; table.get(FIRST - 1), None, "call {call}");
+        assert_eq!(rt; table.get(FIRST + PAGES as u64), None, "call {call}");
+    }
+    Ok(())
+}
+
+// The runs of a table from a page on: where each begins, how many pages it has, and its first frame, and whether they rise.
+fn assert_runs(rt: &impl Abort, table: &PageTable, rows: &[(u64, u32, u32, bool)]) {
+    let mut from = 0;
+    for &(page, n, frame, rising) in rows {
+        match table.next_run(from) {
+            Some(run) => {
+                assert_eq!(rt; (run.page, run.n, run.entry.frame), (page, n, frame));
+                assert!(rt;
+                    run.n == 1 || run.rising == rising,
+                    "the run at page {page}"
+                );
+                from = run.page.saturating_add(u64::from(run.n));
+            }
+            None => panic!(rt; "no run at page {page}"),
+        }
+    }
+    assert!(rt; table.next_run(from).is_none(), "no run behind page {from}");
+}
+
+#[test]
+fn pages_that_go_on_make_one_run(rt: HostRuntime) -> Result<(), Fail> {
+    let mut table = PageTable::new(rt.alloc());
+    map_pages(&rt, &mut table, 10, 10, CODE)?;
+    assert_runs(&rt, &table, &[(10, 10, 7, false)]);
+
+    // each page gets a frame of its own, the next one each time
+    for i in 0..10u32 {
+        let perms = CODE.perms;
+        set(
+            &rt,
+            &mut table,
+            10 + u64::from(i),
+            PageEntry {
+                perms,
+                frame: 20 + i,
+            },
+        );
+    }
+    assert_runs(&rt, &table, &[(10, 10, 20, true)]);
+    assert_eq!(rt;
+        table
+            .next_run(14)
+            .map(|run| (run.page, run.n, run.entry.frame)),
+        Some((14, 6, 24))
+    );
+
+    // a page in the middle, and back
+    let middle = PageEntry {
+        perms: CODE.perms,
+        frame: 24,
+    };
+    set(&rt, &mut table, 14, DATA);
+    assert_runs(
+        &rt,
+        &table,
+        &[
+            (10, 4, 20, true),
+            (14, 1, 4_294_967_295, false),
+            (15, 5, 25, true),
+        ],
+    );
+    set(&rt, &mut table, 14, middle);
+    assert_runs(&rt, &table, &[(10, 10, 20, true)]);
+
+    // other permissions make another run, and so do frames that don't go on
+    set(
+        &rt,
+        &mut table,
+        14,
+        PageEntry {
+            perms: Perms::W,
+            frame: 24,
+        },
+    );
+    assert_runs(
+        &rt,
+        &table,
+        &[(10, 4, 20, true), (14, 1, 24, true), (15, 5, 25, true)],
+    );
+    unmap(&rt, &mut table, 12, 4);
+    assert_runs(&rt, &table, &[(10, 2, 20, true), (16, 4, 26, true)]);
+
+    // pages that are mapped beside others of the same kind join them
+    map_pages(&rt, &mut table, 31, 1, CODE)?;
+    map_pages(&rt, &mut table, 30, 1, CODE)?;
+    map_pages(&rt, &mut table, 32, 3, CODE)?;
+    assert_runs(
+        &rt,
+        &table,
+        &[(10, 2, 20, true), (16, 4, 26, true), (30, 5, 7, false)],
+    );
+    unmap(&rt, &mut table, 30, 5);
+    let copy = table.copy()?;
+    assert_runs(&rt, &copy, &[(10, 2, 20, true), (16, 4, 26, true)]);
+    Ok(())
+}

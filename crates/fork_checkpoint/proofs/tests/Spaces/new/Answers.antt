@@ -1,6 +1,0 @@
-use Rattle.overlay_pages.specs.View.{state_of}
-use Rattle.overlay_memory.specs.AwaitingLaws.{none_awaits_new}
-use Rattle.fork_checkpoint.proofs.tests.Spaces.new.Goals as goal
-
-pub invariant_of-result : goal.invariant_of-result
-invariant_of-result g c = none_awaits_new c.args.frames (state_of c.in_ok-new.field-0) c.in_ok-new.ensures.state

@@ -1,5 +1,0 @@
-use Rattle.overlay_memory.specs.AwaitingLaws.{none_awaits_places}
-use Rattle.fork_checkpoint.proofs.tests.Spaces.place.Goals as goal
-
-pub invariant_of-self : goal.invariant_of-self
-invariant_of-self g c = none_awaits_places c.self.inside.memory c.place_page.new.self c.args.space c.args.page _ _ c.place_page.result c.place_page.ensures c.self.invariant

@@ -1,6 +1,0 @@
-use Rattle.page_table.specs.Table.{AreThere}
-use Rattle.page_table.proofs.tests.is_there.Given as goal
-
--- the first pages are there
-abbrev pub invariant-asking : goal.invariant-asking
-invariant-asking l = AreThere l.table l.from l.i
