@@ -1,6 +1,6 @@
 use Rattle.std.proofs.Common.{◌≡◌, ℕ, ◌*◌, ◌<◌, ◌≤◌, Bool, true, false, cond, List, [], ◌∷◌, length, nat_lt, sym, ap, subst, ◌∙◌, refl, arith, Option, Some, None}
 use Rattle.std.specs.Prelude.{Result, Ok, Err}
-use Rattle.std.specs.Option.{option_map_or}
+use Rattle.std.specs.Option.{is_some, option_map_or, unwrap_or}
 use Rattle.std.proofs.lemmas.Bool.Decides.{nat_tests}
 use Rattle.ledger.specs.Ledger.{Ledger}
 use Rattle.ledger.specs.Units.{units}
@@ -21,7 +21,8 @@ use Rattle.overlay_pages.specs.State.{State, base_of, books, memory_of, space_in
 use Rattle.machine_core.specs.declared.process.Process as declared
 use Rattle.machine_core.specs.declared.process.SavedRegs.{SavedRegs}
 use Rattle.machine_core.specs.declared.view.View.{View}
-use Rattle.machine_core.specs.Machine.{kept_in}
+use Rattle.machine_core.specs.Process.{Whole, is_speculating}
+use Rattle.machine_core.specs.Machine.{kept_in, kept_whole, none_saved}
 use Rattle.machine_core.specs.Access.{IsSameLoan, IsStoredBy, IsUnchanged, Leaves, spaces_lent}
 use Rattle.machine_core.specs.Turns.{Guest, executed, execution_of, exceeds, guest_executed, is_full, ledger_executed, ledger_stored, outcome_of, state_executed, store_made, store_of, units_needed}
 use Rattle.machine_core.specs.Slots.{IsBeside, guest_in, guest_lent}
@@ -31,8 +32,7 @@ use Rattle.machine_core.specs.Slots.{IsBeside, guest_in, guest_lent}
 -- its store was done
 pub record HasStored (p : ℕ) (store : ℕ × ℕ) (old new : State) : Type 0 where
   pub ledger : books new ≡ stored_books old p store.0 store.1
-  pub mark : (space_in new p).speculating ≡ (space_in old p).speculating
-  pub kept : kept_in new p ≡ kept_in old p
+  pub kept : (saved : Option SavedRegs) → kept_in new p saved ≡ kept_in old p saved
   pub frames : new.frames ≡ old.frames
   pub beside : IsBeside p old new
 
@@ -60,9 +60,10 @@ not_over l u h = by_test (nat_lt l u) refl
     by_test false e = refl
 
 -- what is kept of a space, by its mark and its base
-kept_same : (m n : Bool) (x y : Memory) → n ≡ m → (m ≡ true → y ≡ x) → cond n (Some y) None ≡ cond m (Some x) None
-kept_same true n x y is base = ap (λ b. cond b (Some y) None) is ∙ ap Some (base refl)
-kept_same false n x y is base = ap (λ b. cond b (Some y) None) is
+kept_same : (m n : Bool) (x y : Memory) (saved : SavedRegs) → n ≡ m → (m ≡ true → y ≡ x)
+    → cond n (Some (kept_whole y saved)) None ≡ cond m (Some (kept_whole x saved)) None
+kept_same true n x y saved is base = ap (λ b. cond b (Some (kept_whole y saved)) None) is ∙ ap (λ m. Some (kept_whole m saved)) (base refl)
+kept_same false n x y saved is base = ap (λ b. cond b (Some (kept_whole y saved)) None) is
 
 -- by the answer of the store
 stored_came : (p : ℕ) (old new : State) (address : ℕ) (bytes : List ℕ) (answer : Result (Unit {0}) Refused) (full : Option (ℕ × ℕ))
@@ -75,7 +76,7 @@ stored_came p old new address bytes (Ok done) full (allowed, stored, fits) is =
     let test = not_over (limit_of old) (units (stored_books old p address (length bytes))) (omega (arith, fits, limit, needed)) in
     subst (λ (o : Option ℕ). Came p old new (option_map_or (λ at. None) o (Some (address, length bytes))) full) (sym allowed)
     (subst (λ b. CameBy p old new (address, length bytes) b full) (sym test)
-    (is, record { ledger = stored.ledger; mark = stored.mark; kept = kept_same (space_in old p).speculating (space_in new p).speculating (base_of old p) (base_of new p) stored.mark stored.base; frames = frames; beside = record { spaces = stored.others; there = stored.spaces; awaiting = stored.awaiting; mark = stored.mark } }))
+    (is, record { ledger = stored.ledger; kept = λ saved. kept_same (space_in old p).speculating (space_in new p).speculating (base_of old p) (base_of new p) (unwrap_or saved none_saved) stored.mark stored.base; frames = frames; beside = record { spaces = stored.others; there = stored.spaces; awaiting = stored.awaiting; mark = stored.mark } }))
 stored_came p old new address bytes (Err (refused.At at)) full (denied, same) is =
     subst (λ (o : Option ℕ). Came p old new (option_map_or (λ at. None) o (Some (address, length bytes))) full) (sym denied) (is, same)
 stored_came p old new address bytes (Err (refused.Full needed limit)) full (allowed, needed_is, limit_is, over, same) is =
@@ -156,12 +157,17 @@ full_by e old old_memory regs memory (outcome.Full n l) needed limit is (steps, 
       memory_is = m;
     }
 
-made : (v : Option SavedRegs) (r s : Registers) (t u : ProcessState) (m n : Memory) (a b : Bool) (c d : Option Memory) (k l : Ledger) (f g : ℕ)
-    → r ≡ s → t ≡ u → m ≡ n → a ≡ b → c ≡ d → k ≡ l → f ≡ g
-    → ◌≡◌ {A = Guest} (record { process = record { registers = r; state = t; memory = m; speculating = a; saved = v; kept = c }; ledger = k; frames = f })
-    (record { process = record { registers = s; state = u; memory = n; speculating = b; saved = v; kept = d }; ledger = l; frames = g })
-made v r s t u m n a b c d k l f g rs tu mn ab cd kl fg =
-    λ i. record { process = record { registers = rs i; state = tu i; memory = mn i; speculating = ab i; saved = v; kept = cd i }; ledger = kl i; frames = fg i }
+made : (r s : Registers) (t u : ProcessState) (m n : Memory) (c d : Option Whole) (k l : Ledger) (f g : ℕ)
+    → r ≡ s → t ≡ u → m ≡ n → c ≡ d → k ≡ l → f ≡ g
+    → ◌≡◌ {A = Guest} (record { process = record { registers = r; state = t; memory = m; kept = c }; ledger = k; frames = f })
+    (record { process = record { registers = s; state = u; memory = n; kept = d }; ledger = l; frames = g })
+made r s t u m n c d k l f g rs tu mn cd kl fg =
+    λ i. record { process = record { registers = rs i; state = tu i; memory = mn i; kept = cd i }; ledger = kl i; frames = fg i }
+
+-- a whole is kept where the mark is
+marked : (mark : Bool) (whole : Whole) → is_some (cond mark (Some whole) None) ≡ mark
+marked true whole = refl
+marked false whole = refl
 
 module _ (p : ℕ) (old new : State) (process : declared.Process) (regs : Registers) (o : Outcome)
     (done : Executes (execution process.regs (memory_of old p)) process.regs (memory_of old p) regs (memory_of new p) o) (runs : process.state ≡ state.Running) where
@@ -171,24 +177,31 @@ module _ (p : ℕ) (old new : State) (process : declared.Process) (regs : Regist
   abbrev left : declared.Process
   left = record { regs = regs; state = state_left o process.state; saved = process.saved }
 
+  speculates : is_speculating guest.process ≡ (space_in old p).speculating
+  speculates = marked (space_in old p).speculating (kept_whole (base_of old p) (unwrap_or process.saved none_saved))
+
   full_is : (store : Option (ℕ × ℕ)) → store_of guest.process ≡ store → is_full p guest ≡ exceeds store (units (ledger_stored p (space_in old p).speculating store (books old))) (limit_of old)
   unfolding is_full ledger_executed
-  full_is store is = ap (λ (s : Option (ℕ × ℕ)). exceeds s (units (ledger_stored p (space_in old p).speculating s (books old))) (limit_of old)) is
+  full_is store is =
+      ap (λ (s : Option (ℕ × ℕ)). exceeds s (units (ledger_stored p (is_speculating guest.process) s (books old))) (limit_of old)) is
+      ∙ ap (λ b. exceeds store (units (ledger_stored p b store (books old))) (limit_of old)) speculates
 
   ledger_is : (store : Option (ℕ × ℕ)) → store_of guest.process ≡ store → ledger_executed p guest ≡ ledger_stored p (space_in old p).speculating store (books old)
   unfolding ledger_executed
-  ledger_is store is = ap (λ (s : Option (ℕ × ℕ)). ledger_stored p (space_in old p).speculating s (books old)) is
+  ledger_is store is =
+      ap (λ (s : Option (ℕ × ℕ)). ledger_stored p (is_speculating guest.process) s (books old)) is
+      ∙ ap (λ b. ledger_stored p b store (books old)) speculates
 
   enough : (store : Option (ℕ × ℕ)) → store_of guest.process ≡ store → is_full p guest ≡ false → full_in o ≡ None → books new ≡ ledger_stored p (space_in old p).speculating store (books old)
-      → (space_in new p).speculating ≡ (space_in old p).speculating → kept_in new p ≡ kept_in old p → new.frames ≡ old.frames → IsBeside p old new
+      → kept_in new p process.saved ≡ kept_in old p process.saved → new.frames ≡ old.frames → IsBeside p old new
       → IsExecuted p old new process left o
-  enough store is not_full none ledger mark kept frames beside =
+  enough store is not_full none ledger kept frames beside =
       let e = execution process.regs (memory_of old p) in
       let d = is_done e process.regs (memory_of old p) regs (memory_of new p) o none done in
       record {
         outcome_is = d.outcome_is ∙ sym (ap (λ b. cond b (outcome.Full (units_needed p guest) (limit_of old)) (outcome_by e.upshot)) not_full);
-        after_is = made process.saved regs e.registers (state_left o process.state) (state_executed e.upshot) (memory_of new p) e.memory _ _ (kept_in new p) (kept_in old p) (books new) (ledger_executed p guest) _ _
-            d.registers (ap (state_left o) runs ∙ d.state_is) d.memory_is mark kept (ledger ∙ sym (ledger_is store is)) frames
+        after_is = made regs e.registers (state_left o process.state) (state_executed e.upshot) (memory_of new p) e.memory (kept_in new p process.saved) (kept_in old p process.saved) (books new) (ledger_executed p guest) _ _
+            d.registers (ap (state_left o) runs ∙ d.state_is) d.memory_is kept (ledger ∙ sym (ledger_is store is)) frames
             ∙ sym (ap (λ b. cond b guest (guest_executed p guest)) not_full);
         beside = beside;
       }
@@ -198,7 +211,7 @@ module _ (p : ℕ) (old new : State) (process : declared.Process) (regs : Regist
 
   by_store : (store : Option (ℕ × ℕ)) → store_of guest.process ≡ store → Came p old new store (full_in o) → IsExecuted p old new process left o
   by_store None is (none, same) =
-      enough None is (full_is None is) none (ap books same) (ap (λ (s : State). (space_in s p).speculating) same) (ap (λ (s : State). kept_in s p) same) (ap (λ (s : State). s.frames) same) (same_beside same)
+      enough None is (full_is None is) none (ap books same) (ap (λ (s : State). kept_in s p process.saved) same) (ap (λ (s : State). s.frames) same) (same_beside same)
   by_store (Some store) is came = by_test (nat_lt (limit_of old) (units (stored_books old p store.0 store.1))) refl came
     where
       by_test : (b : Bool) → nat_lt (limit_of old) (units (stored_books old p store.0 store.1)) ≡ b → CameBy p old new store b (full_in o) → IsExecuted p old new process left o
@@ -208,12 +221,12 @@ module _ (p : ℕ) (old new : State) (process : declared.Process) (regs : Regist
           record {
             outcome_is = f.outcome_is ∙ ap (λ l. outcome.Full (units l) (limit_of old)) (sym (ledger_is (Some store) is))
                 ∙ sym (ap (λ b. cond b (outcome.Full (units_needed p guest) (limit_of old)) (outcome_by (execution_of guest.process).upshot)) test);
-            after_is = made process.saved regs process.regs (state_left o process.state) process.state (memory_of new p) (memory_of old p) _ _ (kept_in new p) (kept_in old p) (books new) (books old) _ _
-                f.registers (ap (state_left o) runs ∙ f.state_is ∙ sym runs) f.memory_is (ap (λ (s : State). (space_in s p).speculating) same) (ap (λ (s : State). kept_in s p) same) (ap books same) (ap (λ (s : State). s.frames) same)
+            after_is = made regs process.regs (state_left o process.state) process.state (memory_of new p) (memory_of old p) (kept_in new p process.saved) (kept_in old p process.saved) (books new) (books old) _ _
+                f.registers (ap (state_left o) runs ∙ f.state_is ∙ sym runs) f.memory_is (ap (λ (s : State). kept_in s p process.saved) same) (ap books same) (ap (λ (s : State). s.frames) same)
                 ∙ sym (ap (λ b. cond b guest (guest_executed p guest)) test);
             beside = same_beside same;
           }
-      by_test false under (none, has) = enough (Some store) is (full_is (Some store) is ∙ under) none has.ledger has.mark has.kept has.frames has.beside
+      by_test false under (none, has) = enough (Some store) is (full_is (Some store) is ∙ under) none has.ledger (has.kept process.saved) has.frames has.beside
 
   pub executes : Came p old new (store_made (memory_of old p) (execution process.regs (memory_of old p)).calls) (full_in o) → IsExecuted p old new process left o
   unfolding store_of

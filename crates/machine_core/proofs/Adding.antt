@@ -1,12 +1,12 @@
-use Rattle.std.proofs.Common.{◌≡◌, ℕ, ◌+◌, ◌-◌, ◌*◌, ◌<◌, ◌≤◌, ◌==◌, zero, suc, Bool, true, false, cond, ◌||◌, List, [], ◌∷◌, ◌++◌, length, map, take, get_or, nat_eq, replicate, sym, ap, subst, ◌∙◌, refl, arith, Option, Some, None}
-use Rattle.std.specs.Option.{is_some, option_map}
-use Rattle.std.specs.List.{fold, list_any, filter, range_with_len}
+use Rattle.std.proofs.Common.{◌≡◌, ℕ, ◌+◌, Bool, true, false, cond, ◌||◌, List, [], ◌∷◌, ◌++◌, length, map, nat_eq, replicate, sym, ap, subst, ◌∙◌, refl, arith, Option, Some, None}
+use Rattle.std.specs.Option.{is_some}
+use Rattle.std.specs.List.{fold, list_any}
 use Rattle.std.specs.Ordering.{nat_cmp, is_eq}
 use Rattle.std.specs.Cmp.{nat_cmp_total}
-use Rattle.std.specs.FinMap.{FinMap, empty, get, insert, len, len-insert, get-insert}
+use Rattle.std.specs.FinMap.{empty, get, insert, len, len-insert, get-insert}
 use Rattle.std.proofs.lemmas.List.{length-append, map-append}
 use Rattle.std.proofs.lemmas.List.Sums.{fold-append}
-use Rattle.number_maps.specs.Keys.{by_key, differs, get_other, get_same, tied}
+use Rattle.number_maps.specs.Keys.{get_other, get_same, tied}
 use Rattle.number_maps.specs.Views.{viewed, viewed_put}
 use Rattle.ovl_io.specs.Memory.{Memory, Page}
 use Rattle.ovl_io.specs.declared.perms.Perms.{Perms}
@@ -21,7 +21,7 @@ use Rattle.ledger.specs.Origins.{new_origin}
 use Rattle.ledger.specs.RowLaws.{loaded_new, loaded_zero}
 use Rattle.overlay_pages.specs.Changes.{IsPlaced, whole_page, with_zeros}
 use Rattle.overlay_pages.specs.Lines.{lines_of_bytes, zero_page}
-use Rattle.overlay_pages.specs.State.{PageState, SpaceState, State, books, held_page, holds_space, memory_of, of_pages, page_in, put_page, put_space, seen_page, space_in}
+use Rattle.overlay_pages.specs.State.{PageState, SpaceState, State, books, holds_space, memory_of, of_pages, page_in, put_page, put_space, seen_page, space_in}
 use Rattle.overlay_pages.specs.StateLaws.{ledger_put, page_of, space_put}
 use Rattle.machine_core.specs.Loading.{HasAdded, IsAdded, IsOpen, is_among, one_loaded, zero_content}
 use Rattle.machine_core.proofs.PageLines.{lines_joined, page_length_is, zero_bytes_are}

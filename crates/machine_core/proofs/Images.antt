@@ -1,29 +1,24 @@
-use Rattle.std.proofs.Common.{◌≡◌, ℕ, ◌+◌, ◌-◌, ◌*◌, ◌<◌, ◌≤◌, zero, suc, Bool, true, false, cond, ◌||◌, List, [], ◌∷◌, ◌++◌, length, map, take, drop, get_or, sym, ap, subst, ◌∙◌, refl, arith, append-nil, Option, Some, None}
-use Rattle.std.specs.List.{filter, fold, list_any, range_with_len}
-use Rattle.std.specs.Option.{is_some, option_map}
-use Rattle.std.specs.Ordering.{nat_cmp, is_eq}
-use Rattle.std.specs.Cmp.{nat_cmp_total}
-use Rattle.std.specs.FinMap.{empty, find, get, get-empty, get-from_entries, insert, len, len-empty}
+use Rattle.std.proofs.Common.{◌≡◌, ℕ, ◌+◌, ◌-◌, ◌*◌, ◌<◌, ◌≤◌, zero, suc, Bool, true, false, cond, ◌||◌, List, [], ◌∷◌, ◌++◌, length, map, take, get_or, sym, ap, subst, ◌∙◌, refl, arith, Option, Some, None}
+use Rattle.std.specs.List.{filter, list_any, range_with_len}
+use Rattle.std.specs.Option.{option_map}
+use Rattle.std.specs.Ordering.{nat_cmp}
+use Rattle.std.specs.FinMap.{get, get-empty, len, len-empty}
 use Rattle.std.proofs.lemmas.List.FromFn.{length-range_with_len}
-use Rattle.std.proofs.lemmas.List.{get_or-map, length-map, length-take-le, map-append, take_all}
-use Rattle.std.proofs.lemmas.List.Sums.{fold-append}
-use Rattle.number_maps.specs.Keys.{alike, differs, get_other, get_same, tied}
+use Rattle.std.proofs.lemmas.List.{get_or-map, length-map, length-take-le}
+use Rattle.number_maps.specs.Keys.{differs}
 use Rattle.number_maps.specs.Views.{get_viewed}
-use Rattle.ovl_io.specs.Memory.{Memory, Page}
 use Rattle.elf_loader.specs.Accepted.{file_refusal}
 use Rattle.elf_loader.specs.Fields.{loads_of}
 use Rattle.elf_loader.specs.Image.{image_page, image_pages, is_stored, listed_page, page_numbers, touches_memory}
 use Rattle.elf_loader.specs.TakenLaws.{few_pages, kept_numbers, low_page}
 use Rattle.elf_loader.specs.declared.image.ImagePage.{ImagePage}
-use Rattle.ledger.specs.Alike.{AreAlike}
 use Rattle.ledger.specs.AlikeLaws.{alike_itself}
 use Rattle.ledger.specs.AlikeUnits.{units_alike}
-use Rattle.ledger.specs.Ledger.{Ledger, holding_at}
-use Rattle.ledger.specs.Units.{units}
+use Rattle.ledger.specs.Ledger.{holding_at}
 use Rattle.overlay_pages.specs.Changes.{limit_of, units_of}
 use Rattle.overlay_pages.specs.State.{PageState, SpaceState, State, bare_space, books, held_page, holds_space, memory_of, page_in, seen_page, space_in}
 use Rattle.overlay_pages.specs.StateLaws.{ledger_page, ledger_spaces, page_of}
-use Rattle.machine_core.specs.Load.{stack_page, stack_pages, stored_pages}
+use Rattle.machine_core.specs.Load.{stack_page, stored_pages}
 use Rattle.machine_core.specs.Loading.{HasAdded, HasImage, IsAdded, IsReady, is_among, zero_content}
 use Rattle.machine_core.proofs.Adding.{added_more}
 use Rattle.machine_core.proofs.Marks.{units_so_far}

@@ -19,7 +19,7 @@ use Rattle.overlay_memory.specs.declared.error.Shortage.{Shortage}
 use Rattle.overlay_memory.specs.declared.error.SpaceError.TheVariants.{Full}
 use Rattle.overlay_pages.specs.State.{SpaceState, State, bare_space, base_of, books, cut_space, holds_space, space_in}
 use Rattle.machine_core.specs.declared.process.Process as declared
-use Rattle.machine_core.specs.Machine.{Machine, has_space, processes_of, shown_process, spaces_of, whole_in, wholes}
+use Rattle.machine_core.specs.Machine.{Machine, has_space, kept_whole, none_saved, processes_of, shown_process, spaces_of, whole_in, wholes}
 use Rattle.machine_core.specs.Laws.{processes_at, whole_by}
 use Rattle.machine_core.specs.Load.{IsLoaded, Loads, is_load_full, load_needs, loaded_process, stored_count, stored_pages}
 use Rattle.machine_core.specs.Loading.{IsSpaceOf}
@@ -36,8 +36,8 @@ module _ (file : List ℕ) (p : ℕ) (old new : Machine) (has : IsSpaceOf file p
     (processes : new.processes ≡ insert old.processes p (shown_process (loaded_process file))) where
   whole_is : whole_in (spaces_of new) p (shown_process (loaded_process file)) ≡ loaded_process file
   whole_is =
-      let kept = ap (λ b. cond b (Some (base_of (spaces_of new) p)) None) has.mark in
-      λ i. record { registers = first_registers (entry_of file) STACK_POINTER; state = Running; memory = has.memory i; speculating = has.mark i; saved = None; kept = kept i }
+      let kept = ap (λ b. cond b (Some (kept_whole (base_of (spaces_of new) p) none_saved)) None) has.mark in
+      λ i. record { registers = first_registers (entry_of file) STACK_POINTER; state = Running; memory = has.memory i; kept = kept i }
 
   others_by : (q : ℕ) → (q ≡ p → ⊥) → (o : Option declared.Process) → option_map (whole_in (spaces_of new) q) o ≡ option_map (whole_in (spaces_of old) q) o
   others_by q other None = refl

@@ -1,6 +1,6 @@
-use Rattle.std.proofs.Common.{◌≡◌, ℕ, ◌<◌, ◌≤◌, zero, suc, Bool, true, false, ◌||◌, List, [], ◌∷◌, map, length, get_or, sym, ap, subst, ◌∙◌, refl, arith, inl, inr, Option, Some, None}
+use Rattle.std.proofs.Common.{◌≡◌, ℕ, ◌<◌, ◌≤◌, zero, suc, Bool, true, false, cond, ◌||◌, List, [], ◌∷◌, map, length, get_or, sym, ap, subst, ◌∙◌, refl, arith, inl, inr, Option, Some, None}
 use Rattle.std.specs.Prelude.{nat_le, slice_get}
-use Rattle.std.specs.Option.{is_some, option_map, option_map_or, MatchOption}
+use Rattle.std.specs.Option.{is_some, option_map, option_map_or, unwrap_or, MatchOption}
 use Rattle.std.specs.Global.{Vec}
 use Rattle.std.specs.List.{All, filter}
 use Rattle.std.specs.FinMap.{FinMap, get, insert, remove, entries, get-entries, empty, get-empty}
@@ -9,11 +9,12 @@ use Rattle.std.proofs.lemmas.Bool.{cases_lt, cases_order}
 use Rattle.std.proofs.lemmas.Bool.Decides.{nat_tests}
 use Rattle.number_maps.specs.Keys.{alike, by_key, get_other, get_same, removed_other, removed_same}
 use Rattle.number_maps.specs.Slots.{get_slotted}
-use Rattle.overlay_pages.specs.State.{SpaceState, State, books, space_in}
+use Rattle.overlay_pages.specs.State.{SpaceState, State, base_of, books, space_in}
 use Rattle.overlay_pages.specs.View.{MemoryView, state_of}
 use Rattle.machine_core.specs.Process.{Process, runs}
 use Rattle.machine_core.specs.declared.process.Process as declared
-use Rattle.machine_core.specs.Machine.{AreLike, KeepsPlaces, Machine, Processes, StaysBut, Wholes, is_running, keys_from, processes_of, running_numbers, shown_at, shown_process, whole_in, wholes, with_process_at, without_process_at}
+use Rattle.machine_core.specs.declared.process.SavedRegs.{SavedRegs}
+use Rattle.machine_core.specs.Machine.{AreLike, KeepsPlaces, Machine, Processes, StaysBut, Wholes, has_saved, is_marked, is_running, kept_whole, keys_from, none_saved, processes_of, registers_at, registers_of, registers_shown, running_numbers, saved_of, shown_at, shown_process, whole_in, wholes, with_process_at, without_process_at}
 use Rattle.machine_core.specs.Turns.{Guest, guest_at, guest_of, with_guest}
 use Rattle.machine_core.specs.Laws.{processes_at, whole_by}
 use Rattle.machine_core.specs.Slots.{IsChanged, IsEdited, IsNextProcess, IsRunningList, Slots, guest_in, is_in, seen, slot_at, slot_guest, slot_process, slot_runs}
@@ -66,13 +67,41 @@ module _ (self : Machine) (memory : MemoryView) (old : Slots) (view : kept memor
       ∙ ap (λ (o : Option Process). option_map_or (λ (process : Process). runs process.state) o false) (whole_seen memory old p)
       ∙ runs_seen (slot_process (slot_at old p))
 
-  shown_seen : (o : Option declared.Process) → o ≡ option_map shown_process (option_map (whole_in (state_of memory) p) o)
-  shown_seen None = refl
-  shown_seen (Some process) = refl
+  registers_seen : (o : Option declared.Process)
+      → registers_shown o ≡ option_map registers_of (option_map (whole_in (state_of memory) p) o)
+  registers_seen None = refl
+  registers_seen (Some process) = refl
 
-  pub is_shown : slot_process (slot_at old p) ≡ shown_at (wholes self) p
-  is_shown =
-      shown_seen (slot_process (slot_at old p)) ∙ sym (ap (option_map shown_process) (whole_seen memory old p))
+  pub registers_are : registers_shown (slot_process (slot_at old p)) ≡ registers_at (wholes self) p
+  registers_are =
+      registers_seen (slot_process (slot_at old p))
+      ∙ sym (ap (option_map registers_of) (whole_seen memory old p))
+      ∙ ap (λ (m : Machine). registers_at (wholes m) p) view
+
+  -- what is saved, where that agrees with the mark
+  saved_seen : (mark : Bool) (saved : Option SavedRegs) → mark ≡ is_some saved
+      → saved ≡ option_map saved_of (cond mark (Some (kept_whole (base_of (state_of memory) p) (unwrap_or saved none_saved))) None)
+  saved_seen true (Some saved) agree = refl
+  saved_seen false None agree = refl
+  saved_seen true None agree = cc
+  saved_seen false (Some saved) agree = cc
+
+  shown_seen : (o : Option declared.Process) → (space_in (state_of memory) p).speculating ≡ option_map_or (λ (process : declared.Process). is_some process.saved) o false
+      → o ≡ option_map shown_process (option_map (whole_in (state_of memory) p) o)
+  shown_seen None agree = refl
+  shown_seen (Some process) agree =
+      let saved = saved_seen (space_in (state_of memory) p).speculating process.saved agree in
+      ap (λ (s : Option SavedRegs). Some (record { regs = process.regs; state = process.state; saved = s })) saved
+
+  agreed : is_marked self p ≡ has_saved self p
+      → (space_in (state_of memory) p).speculating ≡ option_map_or (λ (process : declared.Process). is_some process.saved) (slot_process (slot_at old p)) false
+  agreed agree =
+      ap (λ (m : Machine). is_marked m p) view ∙ agree
+      ∙ ap (λ (o : Option declared.Process). option_map_or (λ (process : declared.Process). is_some process.saved) o false) has_process
+
+  pub is_shown : is_marked self p ≡ has_saved self p → slot_process (slot_at old p) ≡ shown_at (wholes self) p
+  is_shown agree =
+      shown_seen (slot_process (slot_at old p)) (agreed agree) ∙ sym (ap (option_map shown_process) (whole_seen memory old p))
       ∙ ap (λ (m : Machine). shown_at (wholes m) p) view
 
   -- a process was changed with its space
@@ -137,27 +166,21 @@ module _ (self : Machine) (memory : MemoryView) (old : Slots) (view : kept memor
     some_mapped g None = refl
     some_mapped g (Some z) = refl
 
-    -- whether registers and state are kept, by what is kept of the process in its place
-    saves_seen : (o : Option declared.Process) (s : State) → option_map_or (λ (process : declared.Process). is_some process.saved) o false
-        ≡ option_map_or (λ (guest : Guest). is_some guest.process.saved) (option_map (guest_in p s) o) false
-    saves_seen None s = refl
-    saves_seen (Some process) s = refl
+    -- whether registers and state are saved, by what is saved
+    saves_seen : (o : Option declared.Process) → option_map_or (λ (process : declared.Process). is_some process.saved) o false
+        ≡ option_map_or (λ (saved : Option SavedRegs). is_some saved) (option_map (λ (process : declared.Process). process.saved) o) false
+    saves_seen None = refl
+    saves_seen (Some process) = refl
 
-    saves_mapped : ((guest : Guest) → (f guest).process.saved ≡ guest.process.saved) → (o : Option Guest)
-        → option_map_or (λ (guest : Guest). is_some guest.process.saved) (option_map f o) false ≡ option_map_or (λ (guest : Guest). is_some guest.process.saved) o false
-    saves_mapped same None = refl
-    saves_mapped same (Some guest) = ap is_some (same guest)
-
-    saved_here : ((guest : Guest) → (f guest).process.saved ≡ guest.process.saved)
-        → option_map_or (λ (process : declared.Process). is_some process.saved) (slot_process (slot_at new p)) false
+    saved_here : option_map_or (λ (process : declared.Process). is_some process.saved) (slot_process (slot_at new p)) false
         ≡ option_map_or (λ (process : declared.Process). is_some process.saved) (slot_process (slot_at old p)) false
-    saved_here same =
-        saves_seen (slot_process (slot_at new p)) y
-        ∙ ap (λ (o : Option Guest). option_map_or (λ (guest : Guest). is_some guest.process.saved) o false) changed.here
-        ∙ saves_mapped same (slot_guest p x (slot_at old p)) ∙ sym (saves_seen (slot_process (slot_at old p)) x)
+    saved_here =
+        saves_seen (slot_process (slot_at new p))
+        ∙ ap (λ (o : Option (Option SavedRegs)). option_map_or (λ (saved : Option SavedRegs). is_some saved) o false) changed.saved
+        ∙ sym (saves_seen (slot_process (slot_at old p)))
 
-    pub places : ((guest : Guest) → (f guest).process.saved ≡ guest.process.saved) → KeepsPlaces self (kept after new)
-    places same_saved = subst (λ (m : Machine). KeepsPlaces m (kept after new)) view (record {
+    pub places : KeepsPlaces self (kept after new)
+    places = subst (λ (m : Machine). KeepsPlaces m (kept after new)) view (record {
       spaces = changed.beside.there;
       awaiting = λ q. by_key q p
           (λ same. ap (λ n. (space_in y n).awaiting) same ∙ changed.beside.awaiting ∙ sym (ap (λ n. (space_in x n).awaiting) same))
@@ -171,7 +194,7 @@ module _ (self : Machine) (memory : MemoryView) (old : Slots) (view : kept memor
           (λ same. ap (λ n. (space_in y n).speculating) same ∙ changed.beside.mark ∙ sym (ap (λ n. (space_in x n).speculating) same))
           (λ other. ap (λ (s : SpaceState). s.speculating) (changed.beside.spaces q other));
       saves = λ q. ap (λ (o : Option declared.Process). option_map_or (λ (process : declared.Process). is_some process.saved) o false) (process_at new q) ∙ by_key q p
-          (λ same. ap (λ n. option_map_or (λ (process : declared.Process). is_some process.saved) (slot_process (slot_at new n)) false) same ∙ saved_here same_saved
+          (λ same. ap (λ n. option_map_or (λ (process : declared.Process). is_some process.saved) (slot_process (slot_at new n)) false) same ∙ saved_here
           ∙ sym (ap (λ n. option_map_or (λ (process : declared.Process). is_some process.saved) (slot_process (slot_at old n)) false) same))
           (λ other. ap (λ s. option_map_or (λ (process : declared.Process). is_some process.saved) (slot_process s) false) (changed.others q other))
           ∙ sym (ap (λ (o : Option declared.Process). option_map_or (λ (process : declared.Process). is_some process.saved) o false) (process_at old q));
@@ -204,6 +227,9 @@ module _ (self : Machine) (memory : MemoryView) (old : Slots) (view : kept memor
 -- what is read off the processes alone
 pub shows_both : (p : ℕ) (a b : Wholes) → AreLike a b → shown_at a p ≡ shown_at b p
 shows_both p a b like = ap (λ (ps : Processes). option_map shown_process (get ps p)) like.processes
+
+pub registers_both : (p : ℕ) (a b : Wholes) → AreLike a b → registers_at a p ≡ registers_at b p
+registers_both p a b like = ap (λ (ps : Processes). option_map registers_of (get ps p)) like.processes
 
 pub numbers_both : (a b : Wholes) → AreLike a b → running_numbers a ≡ running_numbers b
 numbers_both a b like = ap (λ (ps : Processes). map (λ e. e.0) (filter (λ e. runs e.1.state) (entries ps))) like.processes
@@ -246,11 +272,16 @@ none_are : (ks : List ℕ) → ((q : ℕ) → is_in ks q ≡ false) → ks ≡ [
 none_are [] none = refl
 none_are (x ∷ ks) none = absurd (let not_in = none x in let here = ap (λ b. b || is_in ks x) (numbers.same_is x x refl) in cc)
 
-not_shown : (o : Option Process) → None ≡ option_map shown_process o → o ≡ None
+not_shown : (o : Option Process) → None ≡ option_map registers_of o → o ≡ None
 not_shown None h = refl
 not_shown (Some process) h = cc
 
-is_there : (o : Option Process) → is_some (option_map shown_process o) ≡ true → (from q : ℕ) → from ≤ q → option_map_or (λ x. nat_le from q) o false ≡ true
+still_some : (o : Option declared.Process) → is_some (registers_shown o) ≡ is_some o
+still_some None = refl
+still_some (Some process) = refl
+
+is_there : (o : Option Process) → is_some (option_map registers_of o) ≡ true → (from q : ℕ) → from ≤ q
+    → option_map_or (λ x. nat_le from q) o false ≡ true
 is_there None h from q le = h
 is_there (Some process) h from q le = grind (arith, nat_tests)
 
@@ -266,7 +297,7 @@ module _ (self : Machine) (memory : MemoryView) (old : Slots) (view : kept memor
   absent : (q : ℕ) → slot_process (slot_at old q) ≡ None → is_in (keys_from from (wholes self)) q ≡ false
   absent q none =
       keys_are from (wholes self) q
-      ∙ ap (λ (o : Option Process). option_map_or (λ (process : Process). nat_le from q) o false) (not_shown _ (sym none ∙ is_shown self memory old view q))
+      ∙ ap (λ (o : Option Process). option_map_or (λ (process : Process). nat_le from q) o false) (not_shown _ (ap registers_shown (sym none) ∙ registers_are self memory old view q))
 
   lower_key : (q : ℕ) → q < from → is_in (keys_from from (wholes self)) q ≡ false
   lower_key q below = keys_are from (wholes self) q ∙ is_lower (get (wholes self).processes q) from q below
@@ -276,5 +307,5 @@ module _ (self : Machine) (memory : MemoryView) (old : Slots) (view : kept memor
   next_is None none = none_are _ (λ q. elim (cases_lt q from) [ inl below ↦ lower_key q below | inr le ↦ absent q (none q le) ])
   next_is (Some p) next =
       first_is _ p (keys_rise from (wholes self))
-      (keys_are from (wholes self) p ∙ is_there (get (wholes self).processes p) (sym (ap (λ (o : Option declared.Process). is_some o) (is_shown self memory old view p)) ∙ next.1) from p next.0)
+      (keys_are from (wholes self) p ∙ is_there (get (wholes self).processes p) (sym (ap is_some (registers_are self memory old view p)) ∙ still_some (slot_process (slot_at old p)) ∙ next.1) from p next.0)
       (λ q below. elim (cases_lt q from) [ inl lower ↦ lower_key q lower | inr le ↦ absent q (next.2 q le below) ])

@@ -1,18 +1,18 @@
-use Rattle.std.proofs.Common.{◌≡◌, ℕ, ◌+◌, ◌*◌, ◌<◌, ◌≤◌, zero, suc, Bool, true, false, cond, not, ◌&&◌, List, [], ◌∷◌, ◌++◌, length, map, take, drop, get_or, nat_eq, sym, ap, subst, ◌∙◌, refl, arith, Option, Some, None}
+use Rattle.std.proofs.Common.{◌≡◌, ℕ, ◌+◌, ◌*◌, ◌<◌, ◌≤◌, zero, suc, Bool, true, false, cond, List, [], ◌∷◌, ◌++◌, length, map, take, drop, get_or, sym, ap, subst, ◌∙◌, refl, arith, None}
 use Rattle.std.specs.List.{filter, fold, list_any, range_with_len}
-use Rattle.std.proofs.lemmas.List.{length-map, map-append, take-append-drop, take_more}
+use Rattle.std.proofs.lemmas.List.{map-append, take-append-drop, take_more}
 use Rattle.std.proofs.Math.Seq.{drop-cons}
 use Rattle.elf_loader.specs.declared.image.ImagePage.{ImagePage}
 use Rattle.elf_loader.specs.Accepted.{file_refusal}
 use Rattle.elf_loader.specs.Fields.{loads_of}
 use Rattle.elf_loader.specs.Image.{image_pages, is_stored, page_numbers, touches_memory}
-use Rattle.elf_loader.specs.TakenLaws.{few_pages, kept_numbers, low_page}
+use Rattle.elf_loader.specs.TakenLaws.{kept_numbers, low_page}
 use Rattle.sizes.specs.declared.TheConstants.{STACK_PAGE}
 use Rattle.std.specs.FinMap.{empty, get, insert}
 use Rattle.std.specs.Option.{is_some}
 use Rattle.number_maps.specs.Values.{remove_absent}
 use Rattle.ledger.specs.Ledger.{Ledger, Space, all_holdings, holding_at, is_unused, with_page}
-use Rattle.ledger.specs.AloneLaws.{are, not_true, spaces_with, unused_parts, without_absent}
+use Rattle.ledger.specs.AloneLaws.{are, not_true, unused_parts, without_absent}
 use Rattle.ledger.specs.Changes.{without_own}
 use Rattle.ledger.specs.ClassLaws.{class_none}
 use Rattle.ledger.specs.OriginLaws.{new_is_unused}
@@ -20,7 +20,7 @@ use Rattle.ledger.specs.Origins.{new_origin}
 use Rattle.ledger.specs.PlaceLaws.{no_page, page_is, pages_put, put_other}
 use Rattle.ledger.specs.TallyLaws.{empty_holdings, same_units}
 use Rattle.ledger.specs.UnitLaws.{frame_for, units_new}
-use Rattle.ledger.specs.Units.{class, units}
+use Rattle.ledger.specs.Units.{units}
 use Rattle.number_maps.specs.Keys.{get_same}
 use Rattle.machine_core.specs.Load.{load_pages, loaded_ledger, stack_pages, stored_count, stored_pages}
 use Rattle.machine_core.specs.Loading.{one_loaded}

@@ -1,25 +1,25 @@
-use Rattle.std.proofs.Common.{◌≡◌, ℕ, ◌+◌, ◌*◌, ◌<◌, ◌≤◌, Bool, true, false, cond, ◌||◌, List, [], ◌∷◌, ◌++◌, map, sym, ap, subst, ◌∙◌, refl, arith, append-nil, inl, inr, Option, Some, None}
+use Rattle.std.proofs.Common.{◌≡◌, ℕ, ◌+◌, ◌*◌, ◌≤◌, Bool, true, false, cond, ◌||◌, List, [], ◌∷◌, ◌++◌, map, sym, ap, subst, ◌∙◌, refl, arith, append-nil, inl, inr, Option, Some, None}
 use Rattle.std.specs.List.{fold}
-use Rattle.std.specs.Option.{is_some, option_map}
+use Rattle.std.specs.Option.{is_some}
 use Rattle.std.specs.Ordering.{nat_cmp, is_eq}
 use Rattle.std.specs.Cmp.{nat_cmp_total}
-use Rattle.std.specs.FinMap.{FinMap, empty, find, get, get-from_entries, insert, remove}
+use Rattle.std.specs.FinMap.{empty, find, get, get-from_entries, insert, remove}
 use Rattle.std.proofs.lemmas.Bool.{cases_lt}
 use Rattle.std.proofs.lemmas.List.Sums.{fold-append}
 use Rattle.number_maps.specs.Keys.{alike, by_key, get_other, get_same, removed_other, removed_same, tied}
 use Rattle.number_maps.specs.Values.{remove_absent}
 use Rattle.number_maps.specs.Views.{viewed_empty}
-use Rattle.ovl_io.specs.Memory.{Memory, Page}
+use Rattle.ovl_io.specs.Memory.{Page}
 use Rattle.elf_loader.specs.Accepted.{file_refusal}
 use Rattle.elf_loader.specs.Image.{image_page, image_pages, is_stored}
 use Rattle.elf_loader.specs.TakenLaws.{low_page}
 use Rattle.ledger.specs.Alike.{AreAlike}
 use Rattle.ledger.specs.AlikeLaws.{alike_itself}
-use Rattle.ledger.specs.Ledger.{Holding, Ledger, all_holdings}
+use Rattle.ledger.specs.Ledger.{Ledger, all_holdings}
 use Rattle.ledger.specs.TallyLaws.{empty_holdings, same_units}
 use Rattle.ledger.specs.Units.{units}
 use Rattle.overlay_pages.specs.Changes.{limit_of, units_of}
-use Rattle.overlay_pages.specs.State.{PageState, SpaceState, State, bare_space, books, cut_space, held_page, holds_space, memory_of, put_space, space_in}
+use Rattle.overlay_pages.specs.State.{PageState, SpaceState, State, bare_space, books, cut_space, held_page, holds_space, put_space, space_in}
 use Rattle.overlay_pages.specs.StateLaws.{ledger_spaces, ledger_with, space_put}
 use Rattle.machine_core.specs.Load.{image_memory, load_pages, loaded_ledger, stack_page, stack_pages, stored_pages}
 use Rattle.machine_core.specs.Loading.{HasPages, IsOpen, IsSpaceOf, is_among, one_loaded}

@@ -199,27 +199,6 @@ module _ (p : ℕ) where
       guest_runs (slot_process (slot_at new p)) after
       ∙ slot_by (slot_guest p before (slot_at old p)) (slot_guest p after (slot_at new p)) most o (sym (guest_runs (slot_process (slot_at old p)) before) ∙ run) came changed.here
 
--- What is kept of a process stays.
-saved_one : (p : ℕ) (guest : Guest) → (executed p guest).process.saved ≡ guest.process.saved
-saved_one p guest = by_test (is_full p guest)
-  where
-    by_test : (b : Bool) → (cond b guest (guest_executed p guest)).process.saved ≡ guest.process.saved
-    by_test true = refl
-    by_test false = refl
-
-saved_first : (o : Outcome) (now next : Guest) (others : Executions) → next.process.saved ≡ now.process.saved → others.after.process.saved ≡ now.process.saved
-    → (first_execution o now next others).after.process.saved ≡ now.process.saved
-saved_first outcome.Stepped now next others one rest = rest
-saved_first outcome.Asked now next others one rest = one
-saved_first (outcome.Fault kind address) now next others one rest = one
-saved_first (outcome.Full units limit) now next others one rest = one
-
-pub saved_all : (p most : ℕ) (guest : Guest) → (all_executed p most guest).process.saved ≡ guest.process.saved
-saved_all p zero guest = refl
-saved_all p (suc most) guest =
-    saved_first (outcome_of p guest) guest (executed p guest) (executions p most (executed p guest)) (saved_one p guest)
-    (saved_all p most (executed p guest) ∙ saved_one p guest)
-
 -- The list of running numbers, where one still runs and where one has ended.
 pub list_kept : (old new : Slots) (running : Vec ℕ) (p : ℕ) → IsRunningList old running → slot_runs (slot_at old p) ≡ true
     → slot_runs (slot_at new p) ≡ true → ((q : ℕ) → (q ≡ p → ⊥) → slot_at new q ≡ slot_at old q) → length new ≡ length old → IsRunningList new running

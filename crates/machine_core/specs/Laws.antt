@@ -1,6 +1,6 @@
 use Rattle.std.specs.Prelude.{◌≡◌, ℕ, zero, suc, ◌+◌, Bool, true, false, cond, List, [], ◌∷◌, Option, Some, None, refl, map}
 use Rattle.std.proofs.Common.{sym, ap, subst, ◌∙◌}
-use Rattle.std.specs.Option.{option_map, option_map_or}
+use Rattle.std.specs.Option.{option_map, option_map_or, unwrap_or}
 use Rattle.std.specs.FinMap.{FinMap, get, insert, remove}
 use Rattle.std.specs.Ordering.{nat_cmp}
 use Rattle.number_maps.specs.Keys.{alike, by_key, get_same, insert_kept, insert_over}
@@ -16,6 +16,7 @@ use Rattle.ledger.specs.Units.{units}
 use Rattle.overlay_pages.specs.State.{SpaceState, State, base_of, base_page, books, cut_space, memory_of, seen_page, space_in}
 use Rattle.overlay_pages.specs.StateLaws.{ledger_without, space_left}
 use Rattle.machine_core.specs.declared.process.Process as declared
+use Rattle.machine_core.specs.declared.process.SavedRegs.{SavedRegs}
 use Rattle.ovl_io.specs.declared.process_state.ProcessState.TheVariants as state
 use Rattle.ovl_io.specs.declared.turn.Turn.{Turn}
 use Rattle.ovl_io.specs.declared.turn.Turn.TheVariants as turn
@@ -24,8 +25,8 @@ use Rattle.rv_execute.specs.declared.outcome.Outcome.TheVariants as outcome
 use Rattle.rv_execute.specs.Calls.{access_of}
 use Rattle.rv_execute.specs.Execution.{Execution, Upshot, Steps, Asks, Faults, outcome_by}
 use Rattle.rv_execute.specs.Step.{Request, request, turned}
-use Rattle.machine_core.specs.Process.{Process, runs}
-use Rattle.machine_core.specs.Machine.{AnswersAs, AreLike, IsDropped, LeadsTo, Machine, Processes, Wholes, is_running, kept_in, limit_of, processes_of, spaces_of, whole_in, wholes, with_process_at, without_pages, without_process, without_process_at}
+use Rattle.machine_core.specs.Process.{Process, is_speculating, runs}
+use Rattle.machine_core.specs.Machine.{AnswersAs, AreLike, IsDropped, LeadsTo, Machine, Processes, Wholes, is_running, kept_in, kept_whole, limit_of, none_saved, processes_of, spaces_of, whole_in, wholes, with_process_at, without_pages, without_process, without_process_at}
 use Rattle.machine_core.specs.Turns.{Guest, asked_found, after_asked, after_execution, after_request, after_step, after_turn, came_to, exceeds, executed, execution_of, guest_after, guest_answered, guest_at, guest_executed, guest_of, is_full, ledger_executed, ledger_stored, outcome_found, outcome_of, process_after, process_executed, request_of, state_executed, step_of, store_of, turn_asked, turn_in, turn_of, units_needed, with_guest}
 use Rattle.machine_core.specs.Executions.{Executions, after_executions, all_executed, came_to_last, executions, first_execution, steps_to}
 use Rattle.machine_core.specs.Play.{after_number, run_over}
@@ -42,16 +43,16 @@ memory_by : (x y : State) (q : ℕ) → space_in x q ≡ space_in y q → memory
 unfolding memory_of
 memory_by x y q same = ap (λ (s : SpaceState). viewed (λ _ x. seen_page x) s.pages) same
 
-kept_by : (x y : State) (q : ℕ) → space_in x q ≡ space_in y q → kept_in x q ≡ kept_in y q
+kept_by : (x y : State) (q : ℕ) → space_in x q ≡ space_in y q → (saved : Option SavedRegs) → kept_in x q saved ≡ kept_in y q saved
 unfolding base_of
-kept_by x y q same = ap (λ (s : SpaceState). cond s.speculating (Some (viewed (λ _ x. base_page x) s.pages)) None) same
+kept_by x y q same saved =
+    ap (λ (s : SpaceState). cond s.speculating (Some (kept_whole (viewed (λ _ x. base_page x) s.pages) (unwrap_or saved none_saved))) None) same
 
 pub whole_by : (x y : State) (q : ℕ) → space_in x q ≡ space_in y q → (process : declared.Process) → whole_in x q process ≡ whole_in y q process
 whole_by x y q same process =
     let memory = memory_by x y q same in
-    let mark = ap (λ (s : SpaceState). s.speculating) same in
-    let kept = kept_by x y q same in
-    λ i. record { registers = process.regs; state = process.state; memory = memory i; speculating = mark i; saved = process.saved; kept = kept i }
+    let kept = kept_by x y q same process.saved in
+    λ i. record { registers = process.regs; state = process.state; memory = memory i; kept = kept i }
 
 -- a process put, and taken away
 pub processes_with : (machine : Machine) (p : ℕ) (process : declared.Process)
@@ -145,8 +146,8 @@ alike_stored p speculating (Some store) k l alike = alike_after (event.Store spe
 pub like_ledger : (p : ℕ) (a b : Guest) → AreLikeGuests a b → AreAlike (ledger_executed p a) (ledger_executed p b)
 unfolding ledger_executed
 like_ledger p a b like =
-    subst (λ (process : Process). AreAlike (ledger_stored p a.process.speculating (store_of a.process) a.ledger) (ledger_stored p process.speculating (store_of process) b.ledger)) like.process
-    (alike_stored p a.process.speculating (store_of a.process) a.ledger b.ledger like.ledger)
+    subst (λ (process : Process). AreAlike (ledger_stored p (is_speculating a.process) (store_of a.process) a.ledger) (ledger_stored p (is_speculating process) (store_of process) b.ledger)) like.process
+    (alike_stored p (is_speculating a.process) (store_of a.process) a.ledger b.ledger like.ledger)
 
 pub like_needed : (p : ℕ) (a b : Guest) → AreLikeGuests a b → units_needed p a ≡ units_needed p b
 like_needed p a b like = units_alike (ledger_executed p a) (ledger_executed p b) (like_ledger p a b like)
@@ -354,16 +355,16 @@ module _ (all : Wholes) (p : ℕ) (process : Process) (there : get all.processes
         ∙ ap (λ v. left_by (after_step process (turned p v e.registers e.memory (map access_of e.calls)))) is
 
     executed_by : (u : Upshot) → e.upshot ≡ u
-        → after_execution all p ≡ left_by (record { registers = e.registers; state = state_executed u; memory = e.memory; speculating = process.speculating; saved = process.saved; kept = process.kept })
+        → after_execution all p ≡ left_by (record { registers = e.registers; state = state_executed u; memory = e.memory; kept = process.kept })
     unfolding left_by
     executed_by u is =
         executed_there ∙ ap (λ b. with_guest all p (cond b guest (guest_executed p guest))) enough
-        ∙ ap (λ v. left_by (record { registers = e.registers; state = state_executed v; memory = e.memory; speculating = process.speculating; saved = process.saved; kept = process.kept })) is
+        ∙ ap (λ v. left_by (record { registers = e.registers; state = state_executed v; memory = e.memory; kept = process.kept })) is
 
     asked_there : (u : Upshot) → e.upshot ≡ u → u ≡ Asks → IsRequest all p
     unfolding left_by
     asked_there u is same =
-        let left : Process = record { registers = e.registers; state = state.Running; memory = e.memory; speculating = process.speculating; saved = process.saved; kept = process.kept } in
+        let left : Process = record { registers = e.registers; state = state.Running; memory = e.memory; kept = process.kept } in
         let now : after_execution all p ≡ left_by left = executed_by Asks (is ∙ same) in
         let found : get (left_by left).processes p ≡ Some left = get_same all.processes p p left refl in
         let asks : Request = request p e.registers e.memory in

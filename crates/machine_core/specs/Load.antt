@@ -48,7 +48,7 @@ stored_pages file = stored_count (map (is_stored file) (image_pages file))
 -- the process, at its entry
 abbrev pub loaded_process : List ℕ → Process
 loaded_process file =
-    record { registers = first_registers (entry_of file) STACK_POINTER; state = Running; memory = image_memory file; speculating = false; saved = None; kept = None }
+    record { registers = first_registers (entry_of file) STACK_POINTER; state = Running; memory = image_memory file; kept = None }
 
 -- the ledger with its pages, and how many units that needs
 unfoldable pub loaded_ledger : ℕ → List ℕ → Ledger → Ledger

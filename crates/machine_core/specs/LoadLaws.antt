@@ -1,19 +1,17 @@
-use Rattle.std.specs.Prelude.{◌≡◌, ℕ, ◌+◌, ◌*◌, nat_lt, Bool, true, false, List, Result, Ok, Err, refl}
+use Rattle.std.specs.Prelude.{◌≡◌, ℕ, nat_lt, List, Result, Ok, Err}
 use Rattle.std.proofs.Common.{sym, ap, subst, ◌∙◌}
 use Rattle.std.specs.FinMap.{FinMap, get, insert}
 use Rattle.std.specs.Ordering.{nat_cmp}
 use Rattle.number_maps.specs.Views.{viewed}
-use Rattle.ledger.specs.Ledger.{Ledger}
 use Rattle.ledger.specs.Alike.{AreAlike}
 use Rattle.ledger.specs.AlikeUnits.{units_alike}
 use Rattle.ledger.specs.Events.{Load}
 use Rattle.ledger.specs.RowLaws.{alike_after}
-use Rattle.ledger.specs.Units.{units}
 use Rattle.overlay_pages.specs.State.{State, books, holds_space, space_in}
 use Rattle.overlay_memory.specs.declared.error.SpaceError.{SpaceError}
 use Rattle.overlay_memory.specs.declared.error.SpaceError.TheVariants.{Full, Memory}
 use Rattle.machine_core.specs.declared.process.Process as declared
-use Rattle.machine_core.specs.Machine.{AreLike, Machine, Processes, StaysBut, Wholes, has_space, limit_of, processes_of, spaces_of, whole_in, wholes}
+use Rattle.machine_core.specs.Machine.{AreLike, Machine, Processes, StaysBut, Wholes, limit_of, processes_of, spaces_of, whole_in, wholes}
 use Rattle.machine_core.specs.Load.{IsAsBefore, Loads, LoadsAs, is_load_full, load_needs, load_pages, loaded_ledger, loaded_process, with_loaded}
 use Rattle.machine_core.specs.Laws.{like_chain}
 

@@ -1,6 +1,6 @@
 use Rattle.std.specs.Prelude.{◌≡◌, ℕ, ◌*◌, nat_le, Bool, true, false, List, map, if◌then◌else◌, Option, Some, None}
 use Rattle.std.specs.List.{filter}
-use Rattle.std.specs.Option.{is_some, option_map, option_map_or}
+use Rattle.std.specs.Option.{is_some, option_map, option_map_or, unwrap_or}
 use Rattle.std.specs.Ordering.{nat_cmp}
 use Rattle.std.specs.FinMap.{FinMap, get, insert, remove, entries}
 use Rattle.number_maps.specs.Views.{viewed}
@@ -10,8 +10,12 @@ use Rattle.ledger.specs.Alike.{AreAlike}
 use Rattle.overlay_pages.specs.State.{State, base_of, books, cut_space, holds_space, memory_of, space_in}
 use Rattle.overlay_pages.specs.View.{MemoryView, state_of}
 use Rattle.ovl_io.specs.Memory.{Memory}
-use Rattle.machine_core.specs.Process.{Process, runs}
+use Rattle.ovl_io.specs.declared.process_state.ProcessState.{ProcessState}
+use Rattle.ovl_io.specs.declared.process_state.ProcessState.TheVariants.{Running}
+use Rattle.rv_execute.specs.Registers.{Registers, first_registers}
+use Rattle.machine_core.specs.Process.{Process, Whole, runs}
 use Rattle.machine_core.specs.declared.process.Process as declared
+use Rattle.machine_core.specs.declared.process.SavedRegs.{SavedRegs}
 
 -- Whole processes by number: each with a memory of its own.
 abbrev pub Processes : Type 0
@@ -41,22 +45,31 @@ spaces_of machine = state_of machine.memory
 abbrev pub has_space : Machine → ℕ → Bool
 has_space machine p = holds_space (spaces_of machine) p
 
--- what is shown of a process: without its memory
+-- what is saved of a whole: all but its memory
+abbrev pub saved_of : Whole → SavedRegs
+saved_of whole = record { regs = whole.registers; state = whole.state }
+
+-- what is shown of a process: all but its memory, and what is saved of the whole that is kept
 abbrev pub shown_process : Process → declared.Process
-shown_process process = record { regs = process.registers; state = process.state; saved = process.saved }
+shown_process process = record { regs = process.registers; state = process.state; saved = option_map saved_of process.kept }
 
--- a process with its memory
-abbrev pub whole : declared.Process → Memory → Bool → Option Memory → Process
-whole process memory speculating kept =
-    record { registers = process.regs; state = process.state; memory = memory; speculating = speculating; saved = process.saved; kept = kept }
+-- what stands for what is saved where a space is marked and nothing is, which no session comes to
+unfoldable pub none_saved : SavedRegs
+none_saved = record { regs = first_registers 0 0; state = Running }
 
--- the memory that is kept of a space: its base, where it is marked as speculating
-abbrev pub kept_in : State → ℕ → Option Memory
-kept_in spaces p = if (space_in spaces p).speculating then Some (base_of spaces p) else None
+-- a whole, of what is saved and a memory
+abbrev pub kept_whole : Memory → SavedRegs → Whole
+kept_whole memory saved = record { registers = saved.regs; state = saved.state; memory = memory }
+
+-- what is kept of a process: where its space is marked as speculating, what is saved with the base of that space
+abbrev pub kept_in : State → ℕ → Option SavedRegs → Option Whole
+kept_in spaces p saved =
+    if (space_in spaces p).speculating then Some (kept_whole (base_of spaces p) (unwrap_or saved none_saved)) else None
 
 -- a process with the space of its number; with no page, where that isn't there
 abbrev pub whole_in : State → ℕ → declared.Process → Process
-whole_in spaces p process = whole process (memory_of spaces p) (space_in spaces p).speculating (kept_in spaces p)
+whole_in spaces p process =
+    record { registers = process.regs; state = process.state; memory = memory_of spaces p; kept = kept_in spaces p process.saved }
 
 -- the whole processes, and all of the copying machine that a machine shows
 unfoldable pub processes_of : Machine → Processes
@@ -137,6 +150,16 @@ is_running state p = option_map_or (λ process. runs process.state) (get state.p
 
 abbrev pub shown_at : Wholes → ℕ → Option declared.Process
 shown_at state p = option_map shown_process (get state.processes p)
+
+-- the registers and the state of a process; of that of a number; and of what is shown of one
+abbrev pub registers_of : Process → Registers × ProcessState
+registers_of process = (process.registers, process.state)
+
+abbrev pub registers_at : Wholes → ℕ → Option (Registers × ProcessState)
+registers_at state p = option_map registers_of (get state.processes p)
+
+abbrev pub registers_shown : Option declared.Process → Option (Registers × ProcessState)
+registers_shown found = option_map (λ (process : declared.Process). (process.regs, process.state)) found
 
 -- the space of each process that runs is there
 abbrev pub HaveSpaces : Machine → Type 0

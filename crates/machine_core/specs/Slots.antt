@@ -14,6 +14,7 @@ use Rattle.machine_core.specs.Turns.{Guest}
 use Rattle.machine_core.specs.Access.{spaces_lent}
 use Rattle.machine_core.specs.declared.view.View.{View}
 use Rattle.machine_core.specs.declared.process.Process as declared
+use Rattle.machine_core.specs.declared.process.SavedRegs.{SavedRegs}
 
 -- What the slots hold, as the processes that they stand for.
 
@@ -31,6 +32,10 @@ slot_process (Some slot) = Some slot.value
 -- whether a slot has a process that runs
 abbrev pub slot_runs : Option (Box declared.Process) → Bool
 slot_runs slot = option_map_or (λ (process : declared.Process). runs process.state) (slot_process slot) false
+
+-- what a slot has saved of its process
+abbrev pub slot_saved : Option (Box declared.Process) → Option (Option SavedRegs)
+slot_saved slot = option_map (λ (process : declared.Process). process.saved) (slot_process slot)
 
 -- the processes of slots
 unfoldable pub seen : Slots → FinMap nat_cmp declared.Process
@@ -54,9 +59,10 @@ pub record IsBeside (p : ℕ) (old new : State) : Type 0 where
   pub awaiting : (space_in new p).awaiting ≡ (space_in old p).awaiting
   pub mark : (space_in new p).speculating ≡ (space_in old p).speculating
 
--- the process of a slot is changed with its space, and each other slot is as it was
+-- the process of a slot is changed with its space, but for what is saved, and each other slot is as it was
 pub record IsChanged (f : Guest → Guest) (p : ℕ) (old new : Slots) (before after : State) : Type 0 where
   pub here : slot_guest p after (slot_at new p) ≡ option_map f (slot_guest p before (slot_at old p))
+  pub saved : slot_saved (slot_at new p) ≡ slot_saved (slot_at old p)
   pub others : (q : ℕ) → (q ≡ p → ⊥) → slot_at new q ≡ slot_at old q
   pub beside : IsBeside p before after
 

@@ -16,7 +16,7 @@ use Rattle.rv_execute.specs.Execution.{Execution, Upshot, Steps, Asks, Faults, e
 use Rattle.rv_execute.specs.declared.outcome.Outcome.{Outcome}
 use Rattle.rv_execute.specs.declared.outcome.Outcome.TheVariants as outcome
 use Rattle.rv_execute.specs.Step.{Request, Step, request, step}
-use Rattle.machine_core.specs.Process.{Process}
+use Rattle.machine_core.specs.Process.{Process, is_speculating}
 use Rattle.machine_core.specs.Machine.{Wholes, limit_of}
 use Rattle.machine_core.specs.declared.process.Process as declared
 use Rattle.machine_core.specs.declared.process.SavedRegs.{SavedRegs}
@@ -54,7 +54,7 @@ state_executed (Faults kind address) = state.Faulted kind address
 abbrev pub process_executed : Process → Process
 process_executed process =
     let e = execution_of process in
-    record { registers = e.registers; state = state_executed e.upshot; memory = e.memory; speculating = process.speculating; saved = process.saved; kept = process.kept }
+    record { registers = e.registers; state = state_executed e.upshot; memory = e.memory; kept = process.kept }
 
 -- The store that some calls make of a memory, where each of its bytes may be written: its address, and how many bytes it has.
 abbrev pub store_made : Memory → List Call → Option (ℕ × ℕ)
@@ -79,7 +79,7 @@ exceeds (Some store) needed limit = nat_lt limit needed
 
 -- of the next instruction of a process: the ledger after its store, and whether there aren't units enough for that
 unfoldable pub ledger_executed : ℕ → Guest → Ledger
-ledger_executed p guest = ledger_stored p guest.process.speculating (store_of guest.process) guest.ledger
+ledger_executed p guest = ledger_stored p (is_speculating guest.process) (store_of guest.process) guest.ledger
 
 abbrev pub units_needed : ℕ → Guest → ℕ
 units_needed p guest = units (ledger_executed p guest)
@@ -129,8 +129,6 @@ after_step process s = record {
   registers = s.registers;
   state = state_after s.turn;
   memory = s.memory;
-  speculating = process.speculating;
-  saved = process.saved;
   kept = process.kept;
 }
 
@@ -161,8 +159,6 @@ after_request memory process asked = record {
   registers = asked.registers;
   state = state_after asked.turn;
   memory = memory;
-  speculating = process.speculating;
-  saved = process.saved;
   kept = process.kept;
 }
 

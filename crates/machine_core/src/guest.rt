@@ -125,6 +125,7 @@ fn execute_one(process: &mut Process, view: &mut View) -> Outcome
     ensures outcome { result ≡ outcome_of view.old.space (guest_lent view.old process.old) }
     ensures after { guest_lent view.new process.new
         ≡ executed view.old.space (guest_lent view.old process.old) }
+    ensures saved { process.new.saved ≡ process.old.saved }
     ensures beside { IsBeside view.old.space (spaces_lent view.old) (spaces_lent view.new) }
 {
     let outcome = execute(&mut process.regs, view);
@@ -146,6 +147,7 @@ fn step_up_to(process: &mut Process, view: &mut View, most: u32) -> (u32, Outcom
         ≡ (executions view.old.space most (guest_lent view.old process.old)).outcome }
     ensures after { guest_lent view.new process.new
         ≡ all_executed view.old.space most (guest_lent view.old process.old) }
+    ensures saved { process.new.saved ≡ process.old.saved }
     ensures beside { IsBeside view.old.space (spaces_lent view.old) (spaces_lent view.new) }
 {
     let mut steps = 0u32;
@@ -177,6 +179,7 @@ pub(crate) fn execute_up_to(
         ≡ (executions p most (guest_in p (state_of memory.old) process.old)).outcome }
     ensures after { guest_in p (state_of memory.new) process.new
         ≡ all_executed p most (guest_in p (state_of memory.old) process.old) }
+    ensures saved { process.new.saved ≡ process.old.saved }
     ensures beside { IsBeside p (state_of memory.old) (state_of memory.new) }
 {
     let mut view = View {

@@ -10,7 +10,7 @@ ghost use Rattle.sizes.specs.declared.TheConstants.{LAST_SPACE, MOST_FRAMES};
 ghost use Rattle.elf_loader.specs.Image.{IsImageOf};
 ghost use Rattle.overlay_pages.specs.State.{space_in};
 ghost use Rattle.overlay_pages.specs.Calls.{IsEmptyState};
-ghost use Rattle.machine_core.specs.Machine.{AnswersAs, AreLike, HaveSpaces, IsDropped, KeepsPlaces, LeadsTo, StaysBut, has_space, is_running, keys_from, running_numbers, shown_at, spaces_of, wholes, with_memory, with_process_at, without_pages, without_process, without_process_at};
+ghost use Rattle.machine_core.specs.Machine.{AnswersAs, AreLike, HaveSpaces, IsDropped, KeepsPlaces, LeadsTo, StaysBut, has_saved, has_space, is_marked, is_running, keys_from, registers_at, registers_shown, running_numbers, shown_at, spaces_of, wholes, with_memory, with_process_at, without_pages, without_process, without_process_at};
 ghost use Rattle.machine_core.specs.Turns.{after_asked, after_execution, after_turn, came_to, turn_asked, turn_of};
 ghost use Rattle.machine_core.specs.Executions.{after_executions, came_to_last, steps_to};
 ghost use Rattle.machine_core.specs.Play.{AreOwnTurns, after_number, run_over};
@@ -129,11 +129,17 @@ impl Machine {
         adopt(self.alloc, &mut self.slots, &mut self.running, p, process)
     }
 
-    /// What is kept of a process beside its memory; none exactly where there is no process of that number.
+    /// What is shown of a process, which is all but its memory; none exactly where there is no process of that number. What is
+    /// saved of it is that of the whole that is kept, where its space is marked exactly where something is saved.
     pub fn process(&self, p: u16) -> Option<&Process>
         ensures kept { option_copied result ≡ map.get self.now.processes p }
-        ensures shown { option_copied result ≡ shown_at (wholes self.now) p }
-        ensures stands { AnswersAs (λ state. shown_at state p) self.now (option_copied result) }
+        ensures registers { registers_shown (option_copied result) ≡ registers_at (wholes self.now) p }
+        ensures registers_stand { AnswersAs (λ state. registers_at state p) self.now
+            (registers_shown (option_copied result)) }
+        ensures shown { is_marked self.now p ≡ has_saved self.now p
+            → option_copied result ≡ shown_at (wholes self.now) p }
+        ensures stands { is_marked self.now p ≡ has_saved self.now p
+            → AnswersAs (λ state. shown_at state p) self.now (option_copied result) }
     {
         process_in(&self.slots, p)
     }

@@ -6,7 +6,7 @@ ghost use Rattle.overlay_pages.specs.State.{holds_space};
 ghost use Rattle.overlay_pages.specs.View.{state_of};
 ghost use Rattle.machine_core.specs.Turns.{asked_found, guest_answered};
 ghost use Rattle.machine_core.specs.Executions.{all_executed, last_outcome, steps_of};
-ghost use Rattle.machine_core.specs.Slots.{slot_at, slot_guest, slot_process, slot_runs, IsBeside, IsChanged, IsEdited, IsNextProcess};
+ghost use Rattle.machine_core.specs.Slots.{slot_at, slot_guest, slot_process, slot_runs, slot_saved, IsBeside, IsChanged, IsEdited, IsNextProcess};
 
 use crate::guest::{answer_request, execute_up_to};
 use crate::process::{Process, is_running};
@@ -56,6 +56,7 @@ fn execute_slot(
     ensures outcome { result.1 ≡ last_outcome p most (slot_guest p (state_of memory.old) slot.old) }
     ensures changed { slot_guest p (state_of memory.new) slot.new
         ≡ option_map (all_executed p most) (slot_guest p (state_of memory.old) slot.old) }
+    ensures saved { slot_saved slot.new ≡ slot_saved slot.old }
     ensures beside { IsBeside p (state_of memory.old) (state_of memory.new) }
 {
     match slot {
@@ -95,6 +96,7 @@ fn answer_slot(slot: &mut Option<Box<Process>>, memory: &mut OverlayMemory, p: u
     ensures turn { result ≡ asked_found p (slot_guest p (state_of memory.old) slot.old) }
     ensures changed { slot_guest p (state_of memory.new) slot.new
         ≡ option_map (guest_answered p) (slot_guest p (state_of memory.old) slot.old) }
+    ensures saved { slot_saved slot.new ≡ slot_saved slot.old }
     ensures same { state_of memory.new ≡ state_of memory.old }
 {
     match slot {

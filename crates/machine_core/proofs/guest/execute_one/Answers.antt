@@ -1,4 +1,4 @@
-use Rattle.std.proofs.Common.{sym, ap, ◌∙◌}
+use Rattle.std.proofs.Common.{sym, ap, ◌∙◌, refl}
 use Rattle.rv_execute.specs.declared.outcome.Outcome.TheVariants.{Fault}
 use Rattle.machine_core.specs.Slots.{guest_lent}
 use Rattle.machine_core.proofs.Accessing.{lent, performed, state_kept}
@@ -33,5 +33,6 @@ returns-in_default c =
       space = all.space;
       outcome = all.outcome_is;
       after = ap (λ s. guest_lent made.mem (record { regs = made.regs; state = s; saved = old.saved })) (sym (state_kept c.execute-outcome.result old.state c.in_default.not-Fault)) ∙ all.after_is;
+      saved = refl;
       beside = all.beside;
     }

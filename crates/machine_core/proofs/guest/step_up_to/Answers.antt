@@ -1,5 +1,5 @@
 use Rattle.std.proofs.Common.{rules, ◌∙◌, arith}
-use Rattle.rv_execute.specs.declared.outcome.Outcome.TheVariants.{Asked, Fault, Full}
+use Rattle.rv_execute.specs.declared.outcome.Outcome.TheVariants.{Asked, Full}
 use Rattle.machine_core.specs.Executions.{executions}
 use Rattle.machine_core.specs.Slots.{guest_lent}
 use Rattle.machine_core.proofs.Stepping.{last_in, step_in, still_runs}
@@ -67,6 +67,16 @@ stepping-preserved c =
       all = step_in p c.stepping.view.space so_far.space (executions p c.args.most (guest_lent c.args.view.now c.args.process.now)) c.args.most c.stepping.steps now next
           (omega (arith, c.stepping-test.true)) so_far.all c.in-Stepped.ensures.outcome c.in-Stepped.ensures.after;
       running = still_runs c.stepping.view.space now next so_far.running c.in-Stepped.ensures.outcome c.in-Stepped.ensures.after;
+      saved = c.in-Stepped.ensures.saved ∙ so_far.saved;
       beside = search rules;
       within = omega (arith, c.stepping-test.true);
     }
+
+pub returns-in-Asked-clause-saved : goal.returns-in-Asked-clause-saved
+returns-in-Asked-clause-saved c = c.in-Asked.ensures.saved ∙ c.stepping.invariant.saved
+
+pub returns-in-Full-clause-saved : goal.returns-in-Full-clause-saved
+returns-in-Full-clause-saved c = c.in-Full.ensures.saved ∙ c.stepping.invariant.saved
+
+pub returns-in-Fault-clause-saved : goal.returns-in-Fault-clause-saved
+returns-in-Fault-clause-saved c = c.in-Fault.ensures.saved ∙ c.stepping.invariant.saved

@@ -17,6 +17,7 @@ invariant-stepping l = record {
   all : executions l.fn.view.space l.most (guest_lent l.fn.view l.fn.process)
       ≡ behind l.steps (executions l.fn.view.space (l.most - l.steps) (guest_lent l.view l.process));
   running : l.process.state ≡ Running;
+  saved : l.process.saved ≡ l.fn.process.saved;
   beside : IsBeside l.fn.view.space (spaces_lent l.fn.view) (spaces_lent l.view);
   within : l.steps ≤ l.most;
 }

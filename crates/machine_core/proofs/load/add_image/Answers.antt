@@ -1,13 +1,11 @@
-use Rattle.std.proofs.Common.{sym, ap, subst, ◌∙◌, length, arith, get_or, take}
-use Rattle.std.proofs.lemmas.List.{length-map, take_all, take_more}
-use Rattle.elf_loader.specs.Image.{image_page, image_pages, is_stored, listed_page, page_bytes}
+use Rattle.std.proofs.Common.{sym, ap, subst, ◌∙◌, get_or, take}
+use Rattle.std.proofs.lemmas.List.{take_more}
+use Rattle.elf_loader.specs.Image.{image_page, image_pages, is_stored, page_bytes}
 use Rattle.elf_loader.specs.declared.image.ImagePage.{ImagePage}
 use Rattle.overlay_pages.specs.View.{state_of}
-use Rattle.overlay_pages.specs.State.{State}
-use Rattle.machine_core.specs.Loading.{HasAdded, IsAdded, IsOpen, IsReady}
+use Rattle.machine_core.specs.Loading.{HasAdded, IsAdded, IsReady}
 use Rattle.machine_core.proofs.Adding.{added_more, added_none, open_itself}
 use Rattle.machine_core.proofs.Images.{next_fits, next_ready, no_page, page_at}
-use Rattle.machine_core.proofs.Results.{on_ok}
 use Rattle.machine_core.proofs.load.add_image.Goals as goal
 
 pub adding-init : goal.adding-init

@@ -1,4 +1,4 @@
-use Rattle.std.proofs.Common.{◌-◌, ◌≤◌, false}
+use Rattle.std.proofs.Common.{◌-◌, false}
 use Rattle.std.specs.List.{range_with_len}
 use Rattle.overlay_pages.specs.View.{state_of}
 use Rattle.machine_core.specs.Load.{stack_page}

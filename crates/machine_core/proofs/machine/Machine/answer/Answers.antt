@@ -1,4 +1,4 @@
-use Rattle.std.proofs.Common.{sym, ap, ◌∙◌, refl}
+use Rattle.std.proofs.Common.{sym, ap, ◌∙◌}
 use Rattle.machine_core.specs.Machine.{Machine, has_space}
 use Rattle.machine_core.specs.Turns.{after_asked, asked_found, guest_answered, turn_asked}
 use Rattle.machine_core.specs.Laws.{answers, leads, like_after_asked, like_asked}
@@ -38,4 +38,4 @@ returns-clause-others c =
 pub returns-clause-places : goal.returns-clause-places
 returns-clause-places c =
     places c.args.self.now c.self.inside.memory c.self.inside.slots.items c.self.view_is c.args.p
-    (guest_answered c.args.p) c.answer_turn.new.memory c.answer_turn.new.slots.items c.answer_turn.ensures.changed (λ guest. refl)
+    (guest_answered c.args.p) c.answer_turn.new.memory c.answer_turn.new.slots.items c.answer_turn.ensures.changed

@@ -3,7 +3,6 @@ use Rattle.machine_core.specs.Machine.{Machine, has_space}
 use Rattle.machine_core.specs.Executions.{after_executions, all_executed, came_to_last, last_outcome, steps_of, steps_to}
 use Rattle.machine_core.specs.Laws.{answers, leads, like_after_executions, like_came, like_steps}
 use Rattle.machine_core.proofs.Machines.{after_change, has_guest, has_running, kept, places, stays}
-use Rattle.machine_core.proofs.Stepping.{saved_all}
 use Rattle.machine_core.proofs.machine.Machine.execute_up_to.Goals as goal
 
 pub execute_turns-requires-clause-runs : goal.execute_turns-requires-clause-runs
@@ -49,4 +48,3 @@ pub returns-clause-places : goal.returns-clause-places
 returns-clause-places c =
     places c.args.self.now c.self.inside.memory c.self.inside.slots.items c.self.view_is c.args.p
     (all_executed c.args.p c.args.most) c.execute_turns.new.memory c.execute_turns.new.slots.items c.execute_turns.ensures.changed
-    (saved_all c.args.p c.args.most)

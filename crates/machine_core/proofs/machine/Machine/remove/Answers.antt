@@ -1,5 +1,5 @@
 use Rattle.std.proofs.Common.{ap, ◌∙◌}
-use Rattle.machine_core.specs.Machine.{Machine, wholes, without_process, without_process_at}
+use Rattle.machine_core.specs.Machine.{wholes, without_process}
 use Rattle.machine_core.specs.Laws.{leads, like_without, wholes_without}
 use Rattle.machine_core.proofs.Machines.{kept, removed_is}
 use Rattle.machine_core.proofs.machine.Machine.remove.Goals as goal
