@@ -3,7 +3,7 @@ use Rattle.std.specs.Prelude.{◌==◌, ◌||◌, Result, Ok, Err}
 use Rattle.std.specs.Option.{is_some, option_map, unwrap_or}
 use Rattle.std.specs.FinMap.{get, insert, remove}
 use Rattle.std.proofs.lemmas.Bool.Decides.{nat_tests}
-use Rattle.number_maps.specs.Keys.{alike, by_key, get_other, removed_other, removed_same}
+use Rattle.number_maps.specs.Keys.{alike, by_key, get_other, get_same, removed_other, removed_same}
 use Rattle.ledger.specs.Events.{Copy}
 use Rattle.overlay_pages.specs.Changes.{limit_of}
 use Rattle.overlay_pages.specs.State.{SpaceState, State, bare_space, base_of, cut_space, holds_space, space_in}
@@ -12,7 +12,7 @@ use Rattle.overlay_memory.specs.declared.error.SpaceError.{SpaceError}
 use Rattle.overlay_memory.specs.declared.error.SpaceError.TheVariants as error
 use Rattle.fork_checkpoint.specs.Forked.{Forks, HasForked}
 use Rattle.machine_core.specs.declared.process.Process as declared
-use Rattle.machine_core.specs.Machine.{IsDropped, Machine, Processes, has_space, processes_of, spaces_of, whole_in, wholes, with_memory, with_process_at}
+use Rattle.machine_core.specs.Machine.{IsDropped, Machine, Processes, has_space, kept_whole, none_saved, processes_of, spaces_of, whole_in, wholes, with_memory, with_process_at}
 use Rattle.machine_core.specs.Laws.{processes_at, processes_with, whole_by}
 use Rattle.machine_core.specs.Load.{IsAsBefore}
 use Rattle.command_core.specs.Rows.{ledger_by}
@@ -69,9 +69,10 @@ module _ (p q : ℕ) (old : Machine) (memory : MemoryView) (forked : HasForked (
   module _ (process : declared.Process) (unmarked : (space_in (spaces_of old) p).speculating ≡ false) (absent : get old.processes q ≡ None) where
     whole_is : whole_in (state_of memory) q process ≡ whole_in (spaces_of old) p process
     whole_is =
-        let mark = forked.mark ∙ sym unmarked in
-        let kept = ap (λ b. cond b (Some (base_of (state_of memory) q)) None) forked.mark ∙ sym (ap (λ b. cond b (Some (base_of (spaces_of old) p)) None) unmarked) in
-        λ i. record { registers = process.regs; state = process.state; memory = forked.memory i; speculating = mark i; saved = process.saved; kept = kept i }
+        let saved = unwrap_or process.saved none_saved in
+        let kept = ap (λ b. cond b (Some (kept_whole (base_of (state_of memory) q) saved)) None) forked.mark
+        ∙ sym (ap (λ b. cond b (Some (kept_whole (base_of (spaces_of old) p) saved)) None) unmarked) in
+        λ i. record { registers = process.regs; state = process.state; memory = forked.memory i; kept = kept i }
 
     others_by : (r : ℕ) → (r ≡ q → ⊥) → (o : Option declared.Process) → option_map (whole_in (state_of memory) r) o ≡ option_map (whole_in (spaces_of old) r) o
     others_by r other None = refl
@@ -93,6 +94,7 @@ module _ (p q : ℕ) (old : Machine) (memory : MemoryView) (forked : HasForked (
     unfolding ledger_by
     is_forked = record {
       after = λ i. record { processes = all_are i; ledger = forked.ledger i; frames = forked.frames i };
+      adopted = get_same old.processes q q process refl;
       there = space_made;
       settled = forked.awaiting;
       others = record {

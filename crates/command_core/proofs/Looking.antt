@@ -8,15 +8,18 @@ use Rattle.std.proofs.lemmas.Bool.{cases_lt}
 use Rattle.std.proofs.lemmas.Bool.Decides.{nat_tests}
 use Rattle.ovl_io.specs.Keys.{ties, differs}
 use Rattle.number_maps.specs.Views.{len_viewed}
+use Rattle.ovl_io.specs.declared.process_state.ProcessState.{ProcessState}
+use Rattle.rv_execute.specs.Registers.{Registers}
 use Rattle.overlay_pages.specs.State.{State, memory_of, seen_page, space_in}
 use Rattle.machine_core.specs.declared.process.Process as declared
-use Rattle.machine_core.specs.Machine.{Machine, Wholes, keys_from, shown_at, shown_process, spaces_of, whole_in, wholes}
+use Rattle.machine_core.specs.Machine.{Machine, Wholes, keys_from, registers_at, registers_of, registers_shown, spaces_of, whole_in, wholes}
 use Rattle.machine_core.specs.Laws.{processes_at}
 use Rattle.machine_core.specs.NumberLaws.{Rises, entries_rise}
 use Rattle.command_core.specs.declared.session.ProcessView.{ProcessView}
 use Rattle.sizes.specs.declared.TheConstants.{LAST_SPACE}
 use Rattle.command_core.specs.Sessions.{IsSession}
 use Rattle.command_core.specs.Looks.{NextProcess, looked_at}
+use Rattle.command_core.proofs.Places.{marked_is}
 
 -- Processes by number: the entries ascend, so those from a number on are the first of them and those behind it.
 
@@ -111,20 +114,21 @@ abbrev pub shown : declared.Process → Bool → ℕ → ProcessView
 shown process speculating pages = record { regs = process.regs; state = process.state; speculating = speculating; pages = pages }
 
 by_parts : (spaces : State) (p : ℕ) (o : Option declared.Process) (there : declared.Process) (mark : Bool) (pages : ℕ)
-    → Some there ≡ option_map shown_process (option_map (whole_in spaces p) o) → mark ≡ (space_in spaces p).speculating → pages ≡ len (memory_of spaces p)
-    → Ok (shown there mark pages) ≡ looked_at (option_map (whole_in spaces p) o)
+    → registers_shown (Some there) ≡ option_map registers_of (option_map (whole_in spaces p) o) → mark ≡ (space_in spaces p).speculating
+    → pages ≡ len (memory_of spaces p) → Ok (shown there mark pages) ≡ looked_at (option_map (whole_in spaces p) o)
 by_parts spaces p None there mark pages shows is count = cc
 by_parts spaces p (Some process) there mark pages shows is count =
-    let same : there ≡ process = cc in
-    ap (λ x. Ok (shown x mark pages)) same ∙ ap (λ m. Ok (shown process m pages)) is ∙ ap (λ n. Ok (shown process (space_in spaces p).speculating n)) count
+    let marked = is ∙ sym (marked_is spaces p process (space_in spaces p).speculating refl) in
+    let same : ◌≡◌ {A = Registers × ProcessState} (there.regs, there.state) (process.regs, process.state) = cc in
+    λ i. Ok (record { regs = (same i).0; state = (same i).1; speculating = marked i; pages = count i })
 
 pages_are : (spaces : State) (p : ℕ) → len (memory_of spaces p) ≡ len (space_in spaces p).pages
 unfolding memory_of
 pages_are spaces p = len_viewed (λ _ x. seen_page x) (space_in spaces p).pages
 
-pub looked_is : (machine : Machine) (p : ℕ) (there : declared.Process) (mark : Bool) (pages : ℕ) → Some there ≡ shown_at (wholes machine) p
+pub looked_is : (machine : Machine) (p : ℕ) (there : declared.Process) (mark : Bool) (pages : ℕ) → registers_shown (Some there) ≡ registers_at (wholes machine) p
     → mark ≡ (space_in (spaces_of machine) p).speculating → pages ≡ len (space_in (spaces_of machine) p).pages
     → Ok (shown there mark pages) ≡ looked_at (get (wholes machine).processes p)
 looked_is machine p there mark pages shows is count =
-    by_parts (spaces_of machine) p (get machine.processes p) there mark pages (shows ∙ ap (option_map shown_process) (processes_at machine p)) is (count ∙ sym (pages_are (spaces_of machine) p))
+    by_parts (spaces_of machine) p (get machine.processes p) there mark pages (shows ∙ ap (option_map registers_of) (processes_at machine p)) is (count ∙ sym (pages_are (spaces_of machine) p))
     ∙ ap looked_at (sym (processes_at machine p))

@@ -1,5 +1,5 @@
-use Rattle.std.proofs.Common.{◌≡◌, ℕ, ◌+◌, ◌≤◌, ◌==◌, Bool, true, false, sym, ap, ◌∙◌, refl, arith, Option, Some, None, List}
-use Rattle.std.specs.Option.{is_some, option_map, option_map_or}
+use Rattle.std.proofs.Common.{◌≡◌, ℕ, ◌+◌, ◌≤◌, ◌==◌, Bool, true, false, cond, sym, ap, ◌∙◌, refl, arith, Option, Some, None, List}
+use Rattle.std.specs.Option.{is_some, option_map, option_map_or, unwrap_or}
 use Rattle.std.specs.Ordering.{nat_cmp}
 use Rattle.std.proofs.lemmas.Bool.Decides.{nat_tests}
 use Rattle.std.specs.FinMap.{FinMap, empty, get, get-empty}
@@ -7,11 +7,11 @@ use Rattle.number_maps.specs.Keys.{alike, by_key, get_same, removed_other, remov
 use Rattle.number_maps.specs.Views.{viewed, viewed_empty}
 use Rattle.sizes.specs.declared.TheConstants.{LAST_SPACE}
 use Rattle.overlay_pages.specs.Calls.{IsEmptyState}
-use Rattle.overlay_pages.specs.State.{SpaceState, State, books, cut_space, held_page, holds_space, space_in}
+use Rattle.overlay_pages.specs.State.{SpaceState, State, base_of, books, cut_space, held_page, holds_space, space_in}
 use Rattle.overlay_pages.specs.StateLaws.{space_absent, space_left}
-use Rattle.machine_core.specs.Process.{Process, runs}
+use Rattle.machine_core.specs.Process.{Process, is_speculating, runs}
 use Rattle.machine_core.specs.declared.process.Process as declared
-use Rattle.machine_core.specs.Machine.{IsDropped, KeepsPlaces, Machine, Processes, StaysBut, has_saved, has_space, is_marked, is_running, processes_of, spaces_of, whole_in, wholes, without_process_at}
+use Rattle.machine_core.specs.Machine.{IsDropped, KeepsPlaces, Machine, Processes, StaysBut, has_saved, has_space, is_marked, is_running, kept_whole, none_saved, processes_of, shown_process, spaces_of, whole_in, wholes, without_process_at}
 use Rattle.machine_core.specs.Laws.{processes_at, runs_shown}
 use Rattle.machine_core.specs.Load.{IsLoaded, loaded_process}
 use Rattle.command_core.specs.Sessions.{IsSession, OwnSpaces}
@@ -38,16 +38,23 @@ same_then a b c first second = record {
 abbrev saved_of : Option declared.Process → Bool
 saved_of found = option_map_or (λ (process : declared.Process). is_some process.saved) found false
 
--- of a process with its memory
-pub kept_at : (machine : Machine) (p : ℕ) (whole : Process) → get (processes_of machine) p ≡ Some whole → is_some whole.saved ≡ whole.speculating
-    → is_marked machine p ≡ has_saved machine p
-kept_at machine p whole there same = by_found (get machine.processes p) refl (sym (processes_at machine p) ∙ there)
+-- a process is speculating where its space is marked
+pub marked_is : (spaces : State) (p : ℕ) (process : declared.Process) (mark : Bool) → (space_in spaces p).speculating ≡ mark → is_speculating (whole_in spaces p process) ≡ mark
+marked_is spaces p process mark is = ap (λ b. is_some (cond b (Some (kept_whole (base_of spaces p) (unwrap_or process.saved none_saved))) None)) is ∙ by_mark mark
   where
-    by_found : (o : Option declared.Process) → get machine.processes p ≡ o → option_map (whole_in (spaces_of machine) p) o ≡ Some whole → is_marked machine p ≡ has_saved machine p
-    by_found None is shown = cc
-    by_found (Some process) is shown =
-        ap (λ (o : Option Process). option_map_or (λ (q : Process). q.speculating) o false) shown ∙ sym same
-        ∙ sym (ap (λ (o : Option Process). option_map_or (λ (q : Process). is_some q.saved) o false) shown) ∙ sym (ap saved_of is)
+    by_mark : (b : Bool) → is_some (cond b (Some (kept_whole (base_of spaces p) (unwrap_or process.saved none_saved))) None) ≡ b
+    by_mark true = refl
+    by_mark false = refl
+
+-- of a process with its memory
+pub mark_at : (machine : Machine) (p : ℕ) (whole : Process) → get (processes_of machine) p ≡ Some whole → is_marked machine p ≡ is_speculating whole
+mark_at machine p whole there = by_found (get machine.processes p) (sym (processes_at machine p) ∙ there)
+  where
+    by_found : (o : Option declared.Process) → option_map (whole_in (spaces_of machine) p) o ≡ Some whole → is_marked machine p ≡ is_speculating whole
+    by_found None shown = cc
+    by_found (Some process) shown =
+        sym (marked_is (spaces_of machine) p process (is_marked machine p) refl)
+        ∙ ap (λ (o : Option Process). option_map_or (λ (q : Process). is_speculating q) o false) shown
 
 -- a process that runs is there, and so is its space
 
@@ -128,8 +135,10 @@ session_more old new drawn is below there settled kept others = record {
 pub session_load : (old new : Machine) (drawn : ℕ) (file : List ℕ) → IsSession old drawn → drawn + 1 ≤ LAST_SPACE → IsLoaded (drawn + 1) file old new → IsSession new (drawn + 1)
 session_load old new drawn file is below loaded =
     session_more old new drawn is below loaded.there loaded.settled
-    (kept_at new (drawn + 1) (loaded_process file)
-    (ap (λ (ps : Processes). get ps (drawn + 1)) loaded.like.processes ∙ get_same (wholes old).processes (drawn + 1) (drawn + 1) (loaded_process file) refl) refl)
+    (mark_at new (drawn + 1) (loaded_process file)
+    (ap (λ (ps : Processes). get ps (drawn + 1)) loaded.like.processes ∙ get_same (wholes old).processes (drawn + 1) (drawn + 1) (loaded_process file) refl)
+    ∙ sym (ap saved_of (ap (λ (ps : FinMap nat_cmp declared.Process). get ps (drawn + 1)) loaded.processes
+    ∙ get_same old.processes (drawn + 1) (drawn + 1) (shown_process (loaded_process file)) refl)))
     loaded.others
 
 -- after want of memory

@@ -13,9 +13,9 @@ use Rattle.report_text.specs.declared.answer.Code.{Code}
 use Rattle.report_text.specs.declared.answer.Code.TheVariants.{NoProcess}
 use Rattle.command_core.specs.State.{AreLikeStates, Registry, State, registry_of}
 use Rattle.command_core.specs.Sessions.{IsSession, KeepsSession, state_of}
-use Rattle.command_core.specs.Rows.{Changed, MemoryTaken, Row, TakesLast, accepts, change_by, event_needs, falls_short, first_refusal, is_event_full, is_full, may_want_memory, refuses, wants_by, within_units}
+use Rattle.command_core.specs.Rows.{Changed, MemoryTaken, Row, TakesLast, accepts, change_by, event_needs, falls_short, first_refusal, is_event_full, is_full, may_want_memory, refused_row, refuses, wants_by, within_units}
 use Rattle.command_core.specs.Giving.{ComesTo, GivesChange, MachineGives}
-use Rattle.command_core.specs.Changes.{on_process, refused_row}
+use Rattle.command_core.specs.Changes.{on_process}
 use Rattle.command_core.specs.LikeLaws.{states_itself}
 
 -- What a row comes to, by its first refusal and its units.

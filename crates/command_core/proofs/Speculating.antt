@@ -20,10 +20,10 @@ use Rattle.promotion.specs.declared.error.PromoteError.TheVariants as promote
 use Rattle.speculation.specs.Speculated.{Commits, Discards, Starts}
 use Rattle.speculation.specs.declared.error.SpeculationError.{SpeculationError}
 use Rattle.speculation.specs.declared.error.SpeculationError.TheVariants as speculation
-use Rattle.machine_core.specs.Process.{Process, runs}
+use Rattle.machine_core.specs.Process.{Process, Whole, is_speculating, runs}
 use Rattle.machine_core.specs.declared.process.Process as declared
 use Rattle.machine_core.specs.declared.process.SavedRegs.{SavedRegs}
-use Rattle.machine_core.specs.Machine.{AreLike, Machine, Processes, has_saved, is_marked, processes_of, spaces_of, whole_in, wholes, with_memory, with_process_at}
+use Rattle.machine_core.specs.Machine.{AreLike, Machine, Processes, has_saved, is_marked, kept_in, kept_whole, none_saved, processes_of, spaces_of, whole_in, wholes, with_memory, with_process_at}
 use Rattle.machine_core.specs.Laws.{processes_at, whole_by}
 use Rattle.report_text.specs.declared.answer.Answer.TheVariants.{Done, Refused}
 use Rattle.report_text.specs.declared.answer.Code.{Code}
@@ -32,11 +32,12 @@ use Rattle.command_core.specs.declared.overlays.OverlayChange.{OverlayChange}
 use Rattle.command_core.specs.declared.overlays.OverlayChange.TheVariants.{Speculate, Commit, Discard, Promote, PromoteAll}
 use Rattle.command_core.specs.State.{Registry}
 use Rattle.command_core.specs.Sessions.{KeepsSession}
-use Rattle.command_core.specs.Rows.{Row, first_refusal, ledger_by, refused_if}
+use Rattle.command_core.specs.Rows.{Row, first_refusal, ledger_by, plain_row, refused_if, refused_row}
+use Rattle.command_core.specs.Giving.{MachineGives}
 use Rattle.command_core.specs.Refusals.{by_not_speculating, by_speculating}
-use Rattle.command_core.specs.Overlays.{ChangesOverlays, after_commit, after_discard, after_speculate, overlay_row, promotion_answer, speculation_answer}
+use Rattle.command_core.specs.Overlays.{ChangesOverlays, after_commit, after_discard, after_speculate, leaves, overlay_row, promotion_answer, speculation_answer}
 use Rattle.command_core.proofs.Limits.{fits, is_short}
-use Rattle.command_core.proofs.Places.{none_is}
+use Rattle.command_core.proofs.Places.{marked_is, none_is}
 use Rattle.command_core.proofs.Rows.{machine_done, machine_full, machine_refused}
 
 -- A machine of which the overlays of one process were changed.
@@ -106,10 +107,18 @@ module _ (p : ℕ) (process : declared.Process) (old : Machine) (memory : Memory
   left_again : insert (processes_of old) p before ≡ processes_of old
   left_again = insert_kept (processes_of old) p before (processes_at old p ∙ ap (option_map (whole_in (spaces_of old) p)) there)
 
-  -- what is kept of a space, by its mark
-  kept_by : (mark : Bool) (kept : Memory) → (space_in (state_of memory) p).speculating ≡ mark → base_of (state_of memory) p ≡ kept
-      → cond (space_in (state_of memory) p).speculating (Some (base_of (state_of memory) p)) None ≡ cond mark (Some kept) None
-  kept_by mark kept is base = ap (λ b. cond b (Some (base_of (state_of memory) p)) None) is ∙ ap (λ m. cond mark (Some m) None) base
+  -- what is kept of the process, by the mark of its space
+  kept_by : (saved : Option SavedRegs) (mark : Bool) (base : Memory) → (space_in (state_of memory) p).speculating ≡ mark → base_of (state_of memory) p ≡ base
+      → kept_in (state_of memory) p saved ≡ cond mark (Some (kept_whole base (unwrap_or saved none_saved))) None
+  kept_by saved mark base is same =
+      ap (λ b. cond b (Some (kept_whole (base_of (state_of memory) p) (unwrap_or saved none_saved))) None) is
+      ∙ ap (λ m. cond mark (Some (kept_whole m (unwrap_or saved none_saved))) None) same
+
+  kept_before : (mark : Bool) → is_marked old p ≡ mark → before.kept ≡ cond mark (Some (kept_whole (base_of (spaces_of old) p) (unwrap_or process.saved none_saved))) None
+  kept_before mark is = ap (λ b. cond b (Some (kept_whole (base_of (spaces_of old) p) (unwrap_or process.saved none_saved))) None) is
+
+  speculates : (mark : Bool) → is_marked old p ≡ mark → is_speculating before ≡ mark
+  speculates mark is = marked_is (spaces_of old) p process mark is
 
   -- A speculation begins.
   abbrev begins : Registry → Row
@@ -118,7 +127,8 @@ module _ (p : ℕ) (process : declared.Process) (old : Machine) (memory : Memory
   start_refusal : (mark : Bool) → runs process.state ≡ true → is_marked old p ≡ mark → (r : Registry)
       → first_refusal (begins r).refusals ≡ first_refusal (by_speculating mark ∷ [])
   start_refusal mark run is r =
-      ap (λ b. first_refusal (refused_if (not b) Ended ∷ by_speculating (is_marked old p) ∷ [])) run ∙ ap (λ b. first_refusal (by_speculating b ∷ [])) is
+      ap (λ b. first_refusal (refused_if (not b) Ended ∷ by_speculating (is_speculating before) ∷ [])) run
+      ∙ ap (λ b. first_refusal (by_speculating b ∷ [])) (speculates mark is)
 
   abbrev saved : SavedRegs
   saved = record { regs = process.regs; state = process.state }
@@ -129,9 +139,9 @@ module _ (p : ℕ) (process : declared.Process) (old : Machine) (memory : Memory
   pub started : Starts old.memory memory p (Ok tt) → runs process.state ≡ true → ChangesOverlays p Speculate process old Done (with_process_at mid p begun)
   started (unmarked, within, has) run =
       let s = has.settled in
-      let kept = kept_by true (memory_of (spaces_of old) p) s.marked (has.base ∙ s.memory) in
+      let kept = kept_by (Some saved) true (memory_of (spaces_of old) p) s.marked (has.base ∙ s.memory) in
       let is : whole_in (state_of memory) p begun ≡ after_speculate before =
-      λ i. record { registers = process.regs; state = process.state; memory = s.memory i; speculating = s.marked i; saved = Some saved; kept = kept i } in
+      λ i. record { registers = process.regs; state = process.state; memory = s.memory i; kept = kept i } in
       machine_done begins old (with_process_at mid p begun) (start_refusal false run unmarked) (λ drawn. fits (event.Settle p) old within) (λ r. refl)
       (λ drawn. wholes_are (event.Settle p) begun (after_speculate before) is s.others has.ledger s.frames) (λ r. refl)
       (stays (event.Settle p) begun (after_speculate before) is s.others s.spaces s.awaiting (λ h. s.marked))
@@ -147,8 +157,8 @@ module _ (p : ℕ) (process : declared.Process) (old : Machine) (memory : Memory
   abbrev ends : OverlayChange → Registry → Row
   ends change = overlay_row p change before
 
-  end_refusal : (mark : Bool) → is_marked old p ≡ mark → first_refusal (by_not_speculating (is_marked old p) ∷ []) ≡ first_refusal (by_not_speculating mark ∷ [])
-  end_refusal mark is = ap (λ b. first_refusal (by_not_speculating b ∷ [])) is
+  end_refusal : (mark : Bool) → is_marked old p ≡ mark → first_refusal (by_not_speculating (is_speculating before) ∷ []) ≡ first_refusal (by_not_speculating mark ∷ [])
+  end_refusal mark is = ap (λ b. first_refusal (by_not_speculating b ∷ [])) (speculates mark is)
 
   abbrev forgotten : declared.Process
   forgotten = record { regs = process.regs; state = process.state; saved = None }
@@ -156,9 +166,9 @@ module _ (p : ℕ) (process : declared.Process) (old : Machine) (memory : Memory
   pub has_committed : Commits old.memory memory p (Ok tt) → ChangesOverlays p Commit process old Done (with_process_at mid p forgotten)
   has_committed (marked, has) =
       let s = has.settled in
-      let kept = kept_by false (base_of (state_of memory) p) s.marked refl in
+      let kept = kept_by None false (base_of (state_of memory) p) s.marked refl in
       let is : whole_in (state_of memory) p forgotten ≡ after_commit before =
-      λ i. record { registers = process.regs; state = process.state; memory = s.memory i; speculating = s.marked i; saved = None; kept = kept i } in
+      λ i. record { registers = process.regs; state = process.state; memory = s.memory i; kept = kept i } in
       let ledger = subst (AreAlike (books (state_of memory))) has.ledger (alike_itself (books (state_of memory))) in
       machine_done (ends Commit) old (with_process_at mid p forgotten) (λ r. end_refusal true marked) (λ drawn. refl) (λ r. refl)
       (λ drawn. wholes_are (event.Commit p) forgotten (after_commit before) is s.others ledger s.frames) (λ r. refl)
@@ -169,38 +179,48 @@ module _ (p : ℕ) (process : declared.Process) (old : Machine) (memory : Memory
   not_committed speculation.NotSpeculating had = machine_refused (ends Commit) old mid NotSpeculating (λ r. end_refusal false had.mark_is) (ap (with_memory old) had.kept)
   not_committed (speculation.Full needed limit) h = absurd h
 
+  -- the row of one that ends as if it hadn't begun, by what is kept
+  abbrev goes_back : Option Whole → Registry → Row
+  goes_back kept r = option_map_or (λ whole. plain_row false [] (event.Discard p) (leaves p (after_discard whole) r)) kept (refused_row NotSpeculating r)
+
+  not_kept : is_marked old p ≡ false → (new : Machine) → new ≡ old → ChangesOverlays p Discard process old (Refused NotSpeculating) new
+  not_kept unmarked new same =
+      subst (λ (kept : Option Whole). MachineGives (goes_back kept) old (Refused NotSpeculating) new) (sym (kept_before false unmarked))
+      (machine_refused (goes_back None) old new NotSpeculating (λ r. refl) same)
+
   abbrev again : SavedRegs → declared.Process
   again saved = record { regs = saved.regs; state = saved.state; saved = None }
 
   pub has_discarded : (saved : SavedRegs) → process.saved ≡ Some saved → Discards old.memory memory p (Ok tt)
       → ChangesOverlays p Discard process old Done (with_process_at mid p (again saved))
   has_discarded saved here (marked, has) =
-      let kept = kept_by false (base_of (state_of memory) p) has.marked refl in
-      let regs = ap (λ (o : Option SavedRegs). option_map_or (λ (s : SavedRegs). s.regs) o process.regs) (sym here) in
-      let condition = ap (λ (o : Option SavedRegs). option_map_or (λ (s : SavedRegs). s.state) o process.state) (sym here) in
-      let pages = has.memory ∙ ap (λ b. unwrap_or (cond b (Some (base_of (spaces_of old) p)) None) (memory_of (spaces_of old) p)) (sym marked) in
-      let is : whole_in (state_of memory) p (again saved) ≡ after_discard before =
-      λ i. record { registers = regs i; state = condition i; memory = pages i; speculating = has.marked i; saved = None; kept = kept i } in
+      let kept = kept_by None false (base_of (state_of memory) p) has.marked refl in
+      let whole = kept_whole (base_of (spaces_of old) p) saved in
+      let was : before.kept ≡ Some whole =
+      kept_before true marked ∙ ap (λ (o : Option SavedRegs). Some (kept_whole (base_of (spaces_of old) p) (unwrap_or o none_saved))) here in
+      let is : whole_in (state_of memory) p (again saved) ≡ after_discard whole =
+      λ i. record { registers = saved.regs; state = saved.state; memory = has.memory i; kept = kept i } in
       let ledger = subst (AreAlike (books (state_of memory))) has.ledger (alike_itself (books (state_of memory))) in
-      machine_done (ends Discard) old (with_process_at mid p (again saved)) (λ r. end_refusal true marked) (λ drawn. refl) (λ r. refl)
-      (λ drawn. wholes_are (event.Discard p) (again saved) (after_discard before) is has.others ledger has.frames) (λ r. refl)
-      (stays (event.Discard p) (again saved) (after_discard before) is has.others has.spaces has.awaiting (λ h. has.marked))
+      subst (λ (o : Option Whole). MachineGives (goes_back o) old Done (with_process_at mid p (again saved))) (sym was)
+      (machine_done (goes_back (Some whole)) old (with_process_at mid p (again saved)) (λ r. refl) (λ drawn. refl) (λ r. refl)
+      (λ drawn. wholes_are (event.Discard p) (again saved) (after_discard whole) is has.others ledger has.frames) (λ r. refl)
+      (stays (event.Discard p) (again saved) (after_discard whole) is has.others has.spaces has.awaiting (λ h. has.marked)))
 
   pub not_discarded : (e : SpeculationError) → Discards old.memory memory p (Err e) → ChangesOverlays p Discard process old (speculation_answer e) mid
   not_discarded speculation.Speculating h = absurd h
-  not_discarded speculation.NotSpeculating had = machine_refused (ends Discard) old mid NotSpeculating (λ r. end_refusal false had.mark_is) (ap (with_memory old) had.kept)
+  not_discarded speculation.NotSpeculating had = not_kept had.mark_is mid (ap (with_memory old) had.kept)
   not_discarded (speculation.Full needed limit) h = absurd h
 
-  pub none_saved : process.saved ≡ None → is_marked old p ≡ has_saved old p → ChangesOverlays p Discard process old (Refused NotSpeculating) old
-  none_saved none kept = machine_refused (ends Discard) old old NotSpeculating (λ r. end_refusal false (kept ∙ saved_here ∙ ap is_some none)) refl
+  pub nothing_saved : process.saved ≡ None → is_marked old p ≡ has_saved old p → ChangesOverlays p Discard process old (Refused NotSpeculating) old
+  nothing_saved none kept = not_kept (kept ∙ saved_here ∙ ap is_some none) old refl
 
   -- Pages are promoted.
   module _ (which : ℕ → Bool) (s : AreSettled which (is_marked old p) (spaces_of old) (state_of memory) p) (unmarked : is_marked old p ≡ false) (e : Event)
       (ledger : AreAlike (books (state_of memory)) (ledger_after e (books (spaces_of old)))) where
     process_is : whole_in (state_of memory) p process ≡ before
     process_is =
-        let kept = kept_by false (base_of (state_of memory) p) (s.marked ∙ unmarked) refl ∙ sym (ap (λ b. cond b (Some (base_of (spaces_of old) p)) None) unmarked) in
-        λ i. record { registers = process.regs; state = process.state; memory = s.memory i; speculating = s.marked i; saved = process.saved; kept = kept i }
+        let kept = kept_by process.saved false (base_of (state_of memory) p) (s.marked ∙ unmarked) refl ∙ sym (kept_before false unmarked) in
+        λ i. record { registers = process.regs; state = process.state; memory = s.memory i; kept = kept i }
 
     promoted : AreLike (wholes mid) (record { processes = processes_of old; ledger = ledger_by e (books (spaces_of old)); frames = (spaces_of old).frames })
     promoted =
@@ -212,7 +232,7 @@ module _ (p : ℕ) (process : declared.Process) (old : Machine) (memory : Memory
     promoted_stays = subst (KeepsSession old) put_again (stays e process before process_is s.others s.spaces s.awaiting (λ h. s.marked ∙ h ∙ saved_here))
 
   all_refusal : (mark : Bool) → is_marked old p ≡ mark → (r : Registry) → first_refusal (overlay_row p PromoteAll before r).refusals ≡ first_refusal (by_speculating mark ∷ [])
-  all_refusal mark is r = ap (λ b. first_refusal (by_speculating b ∷ [])) is
+  all_refusal mark is r = ap (λ b. first_refusal (by_speculating b ∷ [])) (speculates mark is)
 
   pub all_promoted : PromotesAll old.memory memory p (Ok tt) → ChangesOverlays p PromoteAll process old Done mid
   all_promoted (unmarked, within, has) =
@@ -238,7 +258,7 @@ module _ (p : ℕ) (process : declared.Process) (old : Machine) (memory : Memory
 
     page_refusal : (mark : Bool) (o : Option PageState) → is_marked old p ≡ mark → found ≡ o → (r : Registry) → first_refusal (one r).refusals ≡ refusal_of mark (is_some o)
     page_refusal mark o is there_is r =
-        ap (λ b. refusal_of b (is_some (get (memory_of (spaces_of old) p) (address / PAGE_BYTES)))) is
+        ap (λ b. refusal_of b (is_some (get (memory_of (spaces_of old) p) (address / PAGE_BYTES)))) (speculates mark is)
         ∙ ap (λ (x : Option Page). refusal_of mark (is_some x)) (memory_at (spaces_of old) p (address / PAGE_BYTES))
         ∙ by_page found ∙ ap (λ (x : Option PageState). refusal_of mark (is_some x)) there_is
       where

@@ -1,9 +1,8 @@
 use Rattle.std.proofs.Common.{refl}
 use Rattle.report_text.specs.declared.answer.Answer.TheVariants.{Done}
 use Rattle.command_core.specs.State.{AreLikeStates, State, registry_of}
-use Rattle.command_core.specs.Rows.{accepts, ledger_by}
+use Rattle.command_core.specs.Rows.{accepts, ledger_by, still_row}
 use Rattle.command_core.specs.Giving.{GivesChange}
-use Rattle.command_core.specs.Changes.{still_row}
 use Rattle.command_core.specs.LikeLaws.{states_itself}
 use Rattle.command_core.proofs.Rows.{row_accepted}
 

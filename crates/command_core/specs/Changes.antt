@@ -17,19 +17,12 @@ use Rattle.script_text.specs.declared.command.Command.{Command}
 use Rattle.script_text.specs.declared.command.Command.TheVariants as command
 use Rattle.command_core.specs.declared.overlays.OverlayChange.TheVariants.{Speculate, Commit, Discard, Promote, PromoteAll}
 use Rattle.command_core.specs.State.{Registry}
-use Rattle.command_core.specs.Rows.{Row, TakesFirst, plain_row}
+use Rattle.command_core.specs.Rows.{Row, TakesFirst, plain_row, refused_row, still_row}
 use Rattle.command_core.specs.Refusals.{by_numbers_used}
 use Rattle.command_core.specs.Forks.{draws, fork_row}
 use Rattle.command_core.specs.Overlays.{overlay_row}
 
 -- The changes that commands make.
-
--- nothing is done, and nothing refused; and nothing but a refusal
-abbrev pub still_row : Registry → Row
-still_row = plain_row false [] event.Other
-
-abbrev pub refused_row : Code → Registry → Row
-refused_row code = plain_row false (Some code ∷ []) event.Other
 
 -- a change of a process: refused where there is none
 abbrev pub on_process : ℕ → (Process → Registry → Row) → Registry → Row

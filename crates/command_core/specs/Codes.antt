@@ -1,13 +1,11 @@
-use Rattle.std.specs.Prelude.{ℕ, Bool, List, Option, refl}
-use Rattle.std.specs.Coded.{Coded, code_by, coded×, coded_ℕ, coded_bool, coded_list, coded_option}
+use Rattle.std.specs.Prelude.{ℕ, List, Option, refl}
+use Rattle.std.specs.Coded.{Coded, code_by, coded×, coded_ℕ, coded_list, coded_option}
 use Rattle.std.specs.FinMap.{code}
 use Rattle.ovl_io.specs.Memory.{Memory}
 use Rattle.ovl_io.specs.declared.process_state.ProcessState.{ProcessState}
 use Rattle.ovl_io.specs.contracts.process_state.ProcessState as state
 use Rattle.rv_execute.specs.Registers.{Registers}
-use Rattle.machine_core.specs.Process.{Process}
-use Rattle.machine_core.specs.declared.process.SavedRegs.{SavedRegs}
-use Rattle.machine_core.specs.contracts.process.SavedRegs as saved
+use Rattle.machine_core.specs.Process.{Process, Whole}
 use Rattle.ledger.specs.Ledger.{Holding, Ledger}
 use Rattle.machine_core.specs.Machine.{Processes, Wholes}
 use Rattle.machine_core.specs.Codes.{memory_code}
@@ -19,12 +17,17 @@ use Rattle.command_core.specs.Sessions.{InSession}
 abbrev pub registers_code : Coded Registers
 registers_code = code_by (ℕ × List ℕ) (coded× coded_ℕ (coded_list coded_ℕ)) (λ r. (r.pc, r.x)) (λ t. record { pc = t.0; x = t.1 }) (λ _. refl)
 
+abbrev pub whole_code : Coded Whole
+whole_code =
+    code_by (Registers × (ProcessState × Memory)) (coded× registers_code (coded× state.the_row.coded memory_code)) (λ w. (w.registers, (w.state, w.memory)))
+    (λ t. record { registers = t.0; state = t.1.0; memory = t.1.1 }) (λ _. refl)
+
 abbrev pub process_code : Coded Process
 process_code =
-    code_by (Registers × (ProcessState × (Memory × (Bool × (Option SavedRegs × Option Memory)))))
-    (coded× registers_code (coded× state.the_row.coded (coded× memory_code (coded× coded_bool (coded× (coded_option saved.the_row.coded) (coded_option memory_code))))))
-    (λ p. (p.registers, (p.state, (p.memory, (p.speculating, (p.saved, p.kept))))))
-    (λ t. record { registers = t.0; state = t.1.0; memory = t.1.1.0; speculating = t.1.1.1.0; saved = t.1.1.1.1.0; kept = t.1.1.1.1.1 }) (λ _. refl)
+    code_by (Registers × (ProcessState × (Memory × Option Whole)))
+    (coded× registers_code (coded× state.the_row.coded (coded× memory_code (coded_option whole_code))))
+    (λ p. (p.registers, (p.state, (p.memory, p.kept))))
+    (λ t. record { registers = t.0; state = t.1.0; memory = t.1.1.0; kept = t.1.1.1 }) (λ _. refl)
 
 abbrev pub processes_code : Coded Processes
 processes_code = code coded_ℕ process_code

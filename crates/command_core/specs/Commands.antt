@@ -1,7 +1,7 @@
 use Rattle.std.specs.Prelude.{◌≡◌, ℕ, nat_lt, ◌||◌, Bool, true, false, List, [], ◌++◌, length, flat_map, Option, Some, None, if◌then◌else◌}
 use Rattle.std.specs.FinMap.{entries, get, len}
 use Rattle.sizes.specs.declared.TheConstants.{MOST_FILE_BYTES}
-use Rattle.machine_core.specs.Process.{Process, runs}
+use Rattle.machine_core.specs.Process.{Process, is_speculating, runs}
 use Rattle.script_text.specs.declared.command.Command.{Command}
 use Rattle.script_text.specs.declared.command.Command.TheVariants.{Exec, Load, Run, Step}
 use Rattle.script_text.specs.declared.command.Command.TheVariants as command
@@ -142,7 +142,7 @@ run_done quantum turns state = takes_turns (by_turns quantum turns) state
 
 -- the lines of all processes, by number; there are no checkpoints
 unfoldable pub process_text : ℕ × Process → List ℕ
-process_text entry = process_line entry.0 entry.1.state entry.1.speculating (len entry.1.memory)
+process_text entry = process_line entry.0 entry.1.state (is_speculating entry.1) (len entry.1.memory)
 
 unfoldable pub list_head : State → List ℕ
 list_head state = list_line (length (entries state.wholes.processes)) 0

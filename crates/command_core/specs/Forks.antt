@@ -1,11 +1,11 @@
-use Rattle.std.specs.Prelude.{◌≡◌, ℕ, ◌+◌, Bool, true, false, List, [], ◌∷◌, Option, Result, Ok, Err}
-use Rattle.std.specs.FinMap.{empty, insert}
+use Rattle.std.specs.Prelude.{◌≡◌, ℕ, ◌+◌, Bool, true, false, List, [], ◌∷◌, Option, Some, Result, Ok, Err}
+use Rattle.std.specs.FinMap.{empty, get, insert}
 use Rattle.ovl_io.specs.declared.process_state.ProcessState.{ProcessState}
 use Rattle.ledger.specs.Events.{Copy}
 use Rattle.overlay_pages.specs.State.{space_in}
 use Rattle.overlay_memory.specs.declared.error.SpaceError.{SpaceError}
 use Rattle.overlay_memory.specs.declared.error.SpaceError.TheVariants.{Full, Memory}
-use Rattle.machine_core.specs.Process.{Process}
+use Rattle.machine_core.specs.Process.{Process, is_speculating}
 use Rattle.machine_core.specs.declared.process.Process as declared
 use Rattle.machine_core.specs.Machine.{IsDropped, Machine, StaysBut, Wholes, has_space, limit_of, spaces_of, whole_in, wholes, with_process_at}
 use Rattle.machine_core.specs.Load.{IsAsBefore}
@@ -27,7 +27,7 @@ fork_refusals state speculating drawn = by_ended state ∷ by_speculating specul
 -- `fork`: the same process under the next number too, with a copy of its pages in the ledger
 abbrev pub fork_row : ℕ → Process → Registry → Row
 fork_row p process registry = record {
-  refusals = fork_refusals process.state process.speculating registry.drawn;
+  refusals = fork_refusals process.state (is_speculating process) registry.drawn;
   memory = TakesLast;
   event = Copy p (registry.drawn + 1);
   may_need_units = true;
@@ -43,6 +43,7 @@ with_forked p q process state =
 -- a machine with that process, its space, and nothing else changed
 pub record IsForked (p q : ℕ) (process : declared.Process) (old new : Machine) : Type 0 where
   pub after : wholes new ≡ with_forked p q (whole_in (spaces_of old) p process) (wholes old)
+  pub adopted : get new.processes q ≡ Some process
   pub there : has_space new q ≡ true
   pub settled : (space_in (spaces_of new) q).awaiting ≡ empty
   pub others : StaysBut q old new

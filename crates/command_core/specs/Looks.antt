@@ -2,7 +2,7 @@ use Rattle.std.specs.Prelude.{◌≡◌, ℕ, ◌+◌, nat_le, List, [], ◌∷�
 use Rattle.std.specs.List.{filter}
 use Rattle.std.specs.FinMap.{entries, get, len}
 use Rattle.machine_core.specs.Machine.{Processes, Wholes}
-use Rattle.machine_core.specs.Process.{Process, runs}
+use Rattle.machine_core.specs.Process.{Process, is_speculating, runs}
 use Rattle.report_text.specs.declared.answer.Code.{Code}
 use Rattle.report_text.specs.declared.answer.Code.TheVariants.{NoProcess, Ended}
 use Rattle.command_core.specs.declared.session.ProcessView.{ProcessView}
@@ -12,7 +12,7 @@ use Rattle.command_core.specs.Turns.{InRun, alone, run_found}
 
 -- a process, as it is shown
 abbrev pub view_of : Process → ProcessView
-view_of process = record { regs = process.registers; state = process.state; speculating = process.speculating; pages = len process.memory }
+view_of process = record { regs = process.registers; state = process.state; speculating = is_speculating process; pages = len process.memory }
 
 abbrev pub looked_at : Option Process → Result ProcessView Code
 looked_at None = Err NoProcess

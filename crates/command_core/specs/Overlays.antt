@@ -1,11 +1,10 @@
 use Rattle.std.specs.Prelude.{ℕ, ◌/◌, true, false, [], ◌∷◌, Some, None}
-use Rattle.std.specs.Option.{option_map_or, unwrap_or}
+use Rattle.std.specs.Option.{option_map_or}
 use Rattle.std.specs.FinMap.{insert}
 use Rattle.sizes.specs.declared.TheConstants.{PAGE_BYTES}
 use Rattle.ledger.specs.Events as event
-use Rattle.machine_core.specs.Process.{Process}
+use Rattle.machine_core.specs.Process.{Process, Whole, is_speculating}
 use Rattle.machine_core.specs.declared.process.Process as declared
-use Rattle.machine_core.specs.declared.process.SavedRegs.{SavedRegs}
 use Rattle.machine_core.specs.Machine.{Machine, spaces_of, whole_in}
 use Rattle.promotion.specs.declared.error.PromoteError.{PromoteError}
 use Rattle.promotion.specs.declared.error.PromoteError.TheVariants as promote
@@ -17,44 +16,28 @@ use Rattle.report_text.specs.declared.answer.Code.TheVariants.{Speculating, NotS
 use Rattle.command_core.specs.declared.overlays.OverlayChange.{OverlayChange}
 use Rattle.command_core.specs.declared.overlays.OverlayChange.TheVariants.{Speculate, Commit, Discard, Promote, PromoteAll}
 use Rattle.command_core.specs.State.{Registry}
-use Rattle.command_core.specs.Rows.{Row, plain_row}
+use Rattle.command_core.specs.Rows.{Row, plain_row, refused_row}
 use Rattle.command_core.specs.Giving.{MachineGives}
 use Rattle.command_core.specs.Refusals.{by_ended, by_not_speculating, by_speculating, by_unmapped}
 
 -- What speculation and promotion make of a process that is there.
 
--- A speculation begins: the registers, the state and the memory are kept.
+-- A speculation begins: the whole is kept.
 abbrev pub after_speculate : Process → Process
 after_speculate process = record {
   registers = process.registers;
   state = process.state;
   memory = process.memory;
-  speculating = true;
-  saved = Some (record { regs = process.registers; state = process.state });
-  kept = Some process.memory;
+  kept = Some (record { registers = process.registers; state = process.state; memory = process.memory });
 }
 
 -- it ends, and what was kept is forgotten
 abbrev pub after_commit : Process → Process
-after_commit process = record {
-  registers = process.registers;
-  state = process.state;
-  memory = process.memory;
-  speculating = false;
-  saved = None;
-  kept = None;
-}
+after_commit process = record { registers = process.registers; state = process.state; memory = process.memory; kept = None }
 
--- it ends, and what was kept is there again
-abbrev pub after_discard : Process → Process
-after_discard process = record {
-  registers = option_map_or (λ (saved : SavedRegs). saved.regs) process.saved process.registers;
-  state = option_map_or (λ (saved : SavedRegs). saved.state) process.saved process.state;
-  memory = unwrap_or process.kept process.memory;
-  speculating = false;
-  saved = None;
-  kept = None;
-}
+-- it ends, and the whole that was kept is there again
+abbrev pub after_discard : Whole → Process
+after_discard whole = record { registers = whole.registers; state = whole.state; memory = whole.memory; kept = None }
 
 -- the process in its place
 abbrev pub leaves : ℕ → Process → Registry → Registry
@@ -63,14 +46,14 @@ leaves p process registry = record { processes = insert registry.processes p pro
 -- The five changes, a row each: whether it may need units, its refusals, what happens to the ledger, and what it leaves.
 abbrev pub overlay_row : ℕ → OverlayChange → Process → Registry → Row
 overlay_row p Speculate process registry =
-    plain_row true (by_ended process.state ∷ by_speculating process.speculating ∷ []) (event.Settle p) (leaves p (after_speculate process) registry)
+    plain_row true (by_ended process.state ∷ by_speculating (is_speculating process) ∷ []) (event.Settle p) (leaves p (after_speculate process) registry)
 overlay_row p Commit process registry =
-    plain_row false (by_not_speculating process.speculating ∷ []) (event.Commit p) (leaves p (after_commit process) registry)
+    plain_row false (by_not_speculating (is_speculating process) ∷ []) (event.Commit p) (leaves p (after_commit process) registry)
 overlay_row p Discard process registry =
-    plain_row false (by_not_speculating process.speculating ∷ []) (event.Discard p) (leaves p (after_discard process) registry)
+    option_map_or (λ whole. plain_row false [] (event.Discard p) (leaves p (after_discard whole) registry)) process.kept (refused_row NotSpeculating registry)
 overlay_row p (Promote address) process registry =
-    plain_row true (by_speculating process.speculating ∷ by_unmapped address process.memory ∷ []) (event.SettlePage p (address / PAGE_BYTES)) registry
-overlay_row p PromoteAll process registry = plain_row true (by_speculating process.speculating ∷ []) (event.Settle p) registry
+    plain_row true (by_speculating (is_speculating process) ∷ by_unmapped address process.memory ∷ []) (event.SettlePage p (address / PAGE_BYTES)) registry
+overlay_row p PromoteAll process registry = plain_row true (by_speculating (is_speculating process) ∷ []) (event.Settle p) registry
 
 -- what a machine answers of one of them, at a process that stood in its place
 abbrev pub ChangesOverlays : ℕ → OverlayChange → declared.Process → Machine → Answer → Machine → Type 0

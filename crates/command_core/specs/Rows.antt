@@ -1,7 +1,7 @@
 use Rattle.std.specs.Prelude.{ℕ, nat_lt, ◌&&◌, not, Bool, true, false, if◌then◌else◌, List, [], ◌∷◌, Option, Some, None}
 use Rattle.std.specs.Option.{is_some, option_map_or}
 use Rattle.ledger.specs.Ledger.{Ledger}
-use Rattle.ledger.specs.Events.{Event, ledger_after}
+use Rattle.ledger.specs.Events.{Event, Other, ledger_after}
 use Rattle.ledger.specs.Units.{units}
 use Rattle.machine_core.specs.Machine.{Wholes, limit_of}
 use Rattle.report_text.specs.declared.answer.Answer.{Answer}
@@ -32,6 +32,13 @@ pub record Row : Type 0 where
 abbrev pub plain_row : Bool → List (Option Code) → Event → Registry → Row
 plain_row may_need_units refusals event after =
     record { refusals = refusals; memory = TakesNone; event = event; may_need_units = may_need_units; answer = Done; after = after }
+
+-- nothing is done, and nothing refused; and nothing but a refusal
+abbrev pub still_row : Registry → Row
+still_row = plain_row false [] Other
+
+abbrev pub refused_row : Code → Registry → Row
+refused_row code = plain_row false (Some code ∷ []) Other
 
 -- a refusal with its condition
 abbrev pub refused_if : Bool → Code → Option Code

@@ -1,6 +1,6 @@
-use Rattle.command_core.proofs.Speculating.{none_saved}
+use Rattle.command_core.proofs.Speculating.{nothing_saved}
 use Rattle.command_core.proofs.overlays.discard_process.Goals as goal
 
 pub returns-in-None-clause-done : goal.returns-in-None-clause-done
 returns-in-None-clause-done c =
-    none_saved c.args.p c.args.process c.args.machine.now c.args.machine.now.memory c.requires.there c.in-None.is c.requires.kept
+    nothing_saved c.args.p c.args.process c.args.machine.now c.args.machine.now.memory c.requires.there c.in-None.is c.requires.kept

@@ -14,7 +14,7 @@ returns-clause-looks c =
     let p = c.args.p in
     subst (λ (processes : Processes). LooksAt processes p (Ok (shown c.in-Some.process.now c.is_speculating.result c.pages.result)))
     (ap (λ (s : InSession). s.state.wholes.processes) c.self.view_is)
-    (looked_is c.self.inside.machine p c.in-Some.process.now c.is_speculating.result c.pages.result c.in-Some.ensures.shown
+    (looked_is c.self.inside.machine p c.in-Some.process.now c.is_speculating.result c.pages.result c.in-Some.ensures.registers
     (c.is_speculating.ensures.mark ∙ ap (λ (m : MemoryView). (space_in (state_of m) p).speculating) c.memory.ensures)
     (c.pages.ensures.count ∙ ap (λ (m : MemoryView). len (space_in (state_of m) p).pages) c.memory-in-Some.ensures))
 
