@@ -63,9 +63,4 @@ answer_of error.Memory = Memory
 -- an answer that has a line, or want of memory
 abbrev pub CanBeTold : Answer → Type 0
 CanBeTold Memory = Unit {0}
-CanBeTold Done = Unit {0}
-CanBeTold (Loaded p pages entry) = Unit {0}
-CanBeTold (Forked p q) = Unit {0}
-CanBeTold (Saved p name space) = HasAnswerLine (Saved p name space)
-CanBeTold (Refused code) = HasAnswerLine (Refused code)
-CanBeTold (Full units limit) = Unit {0}
+CanBeTold answer = HasAnswerLine answer

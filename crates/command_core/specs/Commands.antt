@@ -43,16 +43,13 @@ file_asked files command = asked_for (asks command) files
 
 -- whether a command has what it asks for, and the file that it then has; none where it asks for none
 abbrev pub has_all : FileAsked → Bool
-has_all AsksNothing = true
-has_all (HasFile file) = true
 has_all IsMissing = false
 has_all IsTooLong = false
+has_all other = true
 
 abbrev pub file_in : FileAsked → List ℕ
-file_in AsksNothing = []
 file_in (HasFile file) = file
-file_in IsMissing = []
-file_in IsTooLong = []
+file_in other = []
 
 -- What a command comes to: its text, the state after it, and whether it may want memory in place of both.
 pub record Performed : Type 0 where
@@ -121,12 +118,7 @@ tells_exec turns answer state = record {
 -- a process that was just loaded is there, and runs
 abbrev pub RunsLoaded : Answer → State → Type 0
 RunsLoaded (Loaded p pages entry) state = (process : Process) × (get state.wholes.processes p ≡ Some process) × (runs process.state ≡ true)
-RunsLoaded Done state = Unit {0}
-RunsLoaded (Forked p q) state = Unit {0}
-RunsLoaded (Saved p name space) state = Unit {0}
-RunsLoaded (Refused code) state = Unit {0}
-RunsLoaded (Full units limit) state = Unit {0}
-RunsLoaded Memory state = Unit {0}
+RunsLoaded other state = Unit {0}
 
 -- the turns of one process, which has to be there and to run
 abbrev pub steps : ℕ → ℕ → Option Process → State → Performed

@@ -17,8 +17,8 @@ use Rattle.command_core.specs.Commands.{FileAsked, AsksNothing, HasFile, IsMissi
 use Rattle.command_core.specs.LikeLaws.{AreLikePerformed, like_performed, states_chain, states_same}
 use Rattle.overlay_top.specs.declared.running.TheConstants.{FRAMES, QUANTUM}
 use Rattle.overlay_top.specs.Sending.{IsSent, IsCut}
-use Rattle.overlay_top.specs.Outcome.{Passage, RunOutcome, report_of, passage_after, passage_of, first_report, ended_by, done, texts_of, with_asked, run_from, named, command_done}
-use Rattle.overlay_top.specs.Running.{FailedAt, FailedFor, LacksMemory, WasGiven, RunEnds, Sends}
+use Rattle.overlay_top.specs.Outcome.{Passage, RunOutcome, report_of, passage_after, passage_of, first_report, ended_by, not_fetched, done, texts_of, with_asked, run_from, named, command_done}
+use Rattle.overlay_top.specs.Running.{FailedAt, FailedFor, LacksMemory, Reported, WasGiven, RunEnds, Sends}
 use Rattle.overlay_top.specs.Outside.{RefusedFor}
 use Rattle.overlay_top.proofs.Asks.{asked_at, fetches_all}
 
@@ -196,6 +196,23 @@ all_done h k all index files session shelf_old shelf_new start now last none has
       λ is_told. run.sent is_told ∙ ap (λ bs. k.taken start ++ bs) (sym (reported (run_from all (fresh FRAMES) files) run.passages false ending.Done comes)),
     )
 
+-- the file of the next command isn't had, and that ends the call
+unfetched : {H K : Type 0} (h : ShelfOf H) (k : SinkOf K) (status : Status) (all : List Command) (index : ℕ) (command : Command)
+    (files now_files : List ℕ → Option (List ℕ)) (state : State) (shelf_old shelf_new : H) (start now new : K)
+    (run : HasRun all index files state k.tells (k.taken start) (k.taken now))
+    → AsksFor h.fetched (named (take (index + 1) (map asks all))) shelf_old shelf_new → (k.tells → k.taken new ≡ k.taken now)
+    → run_from all (fresh FRAMES) files ≡ behind run.passages (not_fetched status)
+    → ((run_from all (fresh FRAMES) files).status ≡ status)
+    × AsksFor h.fetched (named (take (length (run_from all (fresh FRAMES) files).passages + 1) (map asks all))) shelf_old shelf_new
+    × Reported k start (report_of (run_from all (fresh FRAMES) files)) new
+unfetched h k status all index command files now_files state shelf_old shelf_new start now new run asked sends comes =
+    let out = run_from all (fresh FRAMES) files in
+    let long : index + 1 ≡ length out.passages + 1 = ap (λ n. n + 1) (sym run.as_many ∙ sym (as_long out run.passages _ status comes)) in (
+      ap (λ (o : RunOutcome). o.status) comes,
+      subst (λ n. AsksFor h.fetched (named (take n (map asks all))) shelf_old shelf_new) long asked,
+      λ is_told. sends is_told ∙ run.sent is_told ∙ ap (λ bs. k.taken start ++ bs) (sym (reported out run.passages true status comes)),
+    )
+
 -- the next command isn't done
 halted : {H K : Type 0} (h : ShelfOf H) (k : SinkOf K) (halt : Halt) (all : List Command) (index : ℕ) (command : Command)
     (files now_files : List ℕ → Option (List ℕ)) (state : State) (shelf_old shelf_new : H) (start now new : K)
@@ -207,23 +224,15 @@ halted : {H K : Type 0} (h : ShelfOf H) (k : SinkOf K) (halt : Halt) (all : List
     → AsksFor h.fetched (named (take (index + 1) (map asks all))) shelf_old shelf_new
     → RunEnds h k (run_from all (fresh FRAMES) files) (map asks all) shelf_old shelf_new start new (Err halt)
 halted h k Missing all index command files now_files state shelf_old shelf_new start now new below is same run given lacks sends failed asked =
-    let passage = passage_of (file_asked now_files command) (command_done now_files command state) in
-    let left = run_from (drop (index + 1) all) (command_done now_files command state).after files in
-    let comes = comes_at all index command files now_files state k.tells (k.taken start) (k.taken now) below is same run ∙ ap (λ a. behind run.passages (with_asked a passage left)) given in
-    let long : index + 1 ≡ length (run_from all (fresh FRAMES) files).passages + 1 = ap (λ n. n + 1) (sym run.as_many ∙ sym (as_long (run_from all (fresh FRAMES) files) run.passages _ ending.ReadFailed comes)) in (
-      ap (λ (o : RunOutcome). o.status) comes,
-      subst (λ n. AsksFor h.fetched (named (take n (map asks all))) shelf_old shelf_new) long asked,
-      λ is_told. sends is_told ∙ run.sent is_told ∙ ap (λ bs. k.taken start ++ bs) (sym (reported (run_from all (fresh FRAMES) files) run.passages true ending.ReadFailed comes)),
-    )
+    unfetched h k ending.ReadFailed all index command files now_files state shelf_old shelf_new start now new run asked sends
+    (comes_at all index command files now_files state k.tells (k.taken start) (k.taken now) below is same run
+    ∙ ap (λ a. behind run.passages (with_asked a (passage_of (file_asked now_files command) (command_done now_files command state))
+    (run_from (drop (index + 1) all) (command_done now_files command state).after files))) given)
 halted h k TooLong all index command files now_files state shelf_old shelf_new start now new below is same run given lacks sends failed asked =
-    let passage = passage_of (file_asked now_files command) (command_done now_files command state) in
-    let left = run_from (drop (index + 1) all) (command_done now_files command state).after files in
-    let comes = comes_at all index command files now_files state k.tells (k.taken start) (k.taken now) below is same run ∙ ap (λ a. behind run.passages (with_asked a passage left)) given in
-    let long : index + 1 ≡ length (run_from all (fresh FRAMES) files).passages + 1 = ap (λ n. n + 1) (sym run.as_many ∙ sym (as_long (run_from all (fresh FRAMES) files) run.passages _ ending.TooLong comes)) in (
-      ap (λ (o : RunOutcome). o.status) comes,
-      subst (λ n. AsksFor h.fetched (named (take n (map asks all))) shelf_old shelf_new) long asked,
-      λ is_told. sends is_told ∙ run.sent is_told ∙ ap (λ bs. k.taken start ++ bs) (sym (reported (run_from all (fresh FRAMES) files) run.passages true ending.TooLong comes)),
-    )
+    unfetched h k ending.TooLong all index command files now_files state shelf_old shelf_new start now new run asked sends
+    (comes_at all index command files now_files state k.tells (k.taken start) (k.taken now) below is same run
+    ∙ ap (λ a. behind run.passages (with_asked a (passage_of (file_asked now_files command) (command_done now_files command state))
+    (run_from (drop (index + 1) all) (command_done now_files command state).after files))) given)
 halted h k FetchFailed all index command files now_files state shelf_old shelf_new start now new below is same run given lacks sends failed asked =
     let left = run_from (drop index all) state files in
     let named_by = failed_name h shelf_new (asks command) failed in

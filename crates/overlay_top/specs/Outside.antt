@@ -37,21 +37,15 @@ WasRefused h new answer = (name : List ℕ) × RefusedFor h new name answer
 
 -- The faults of a sink to which something was to be sent, by how that ended.
 abbrev pub SinkBy : {K : Type 0} → SinkOf K → K → K → Result (Unit {0}) Halt → Type 0
-SinkBy k old new (Ok done) = SinkSound k old new
 SinkBy k old new (Err SendFailed) = SinkRose k old new
-SinkBy k old new (Err Missing) = SinkSound k old new
-SinkBy k old new (Err FetchFailed) = SinkSound k old new
-SinkBy k old new (Err TooLong) = SinkSound k old new
-SinkBy k old new (Err Memory) = SinkSound k old new
+SinkBy k old new other = SinkSound k old new
 
 -- The faults of a shelf that was asked for files, by how that ended: they rose where a fetch failed, whose
 -- answer the shelf then tells, as it does of a file that isn't there.
 abbrev pub ShelfHalted : {H : Type 0} → ShelfOf H → H → H → Halt → Type 0
 ShelfHalted h old new Missing = ShelfSound h old new × WasRefused h new shelf.Missing
 ShelfHalted h old new FetchFailed = ShelfRose h old new × WasRefused h new shelf.Failed
-ShelfHalted h old new TooLong = ShelfSound h old new
-ShelfHalted h old new Memory = ShelfSound h old new
-ShelfHalted h old new SendFailed = ShelfSound h old new
+ShelfHalted h old new other = ShelfSound h old new
 
 abbrev pub ShelfBy : {T H : Type 0} → ShelfOf H → H → H → Result T Halt → Type 0
 ShelfBy h old new (Ok done) = ShelfSound h old new
@@ -59,11 +53,9 @@ ShelfBy h old new (Err halt) = ShelfHalted h old new halt
 
 -- a fetch that gave no file: one that failed was one of this name, and no sink failed
 abbrev pub HaltedFor : {H : Type 0} → ShelfOf H → H → List ℕ → Halt → Type 0
-HaltedFor h new name Missing = Unit {0}
 HaltedFor h new name FetchFailed = RefusedFor h new name shelf.Failed
-HaltedFor h new name TooLong = Unit {0}
-HaltedFor h new name Memory = Unit {0}
 HaltedFor h new name SendFailed = ⊥
+HaltedFor h new name other = Unit {0}
 
 abbrev pub FetchedFor : {T H : Type 0} → ShelfOf H → H → List ℕ → Result T Halt → Type 0
 FetchedFor h new name (Ok done) = Unit {0}

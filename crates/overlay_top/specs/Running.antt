@@ -49,19 +49,12 @@ WasGiven asked (Err SendFailed) = has_all asked ≡ true
 abbrev pub Sends : List ℕ → List ℕ → List ℕ → Result (Unit {0}) Halt → Type 0
 Sends old text new (Ok done) = IsSent old text new
 Sends old text new (Err SendFailed) = IsCut old text new
-Sends old text new (Err Missing) = new ≡ old
-Sends old text new (Err TooLong) = new ≡ old
-Sends old text new (Err FetchFailed) = new ≡ old
-Sends old text new (Err Memory) = new ≡ old
+Sends old text new other = new ≡ old
 
 -- there was no memory for a command that asks for no file: it may want that
 abbrev pub LacksMemory : FileAsked → Performed → Result (Unit {0}) Halt → Type 0
 LacksMemory asked performed (Err Memory) = asked ≡ AsksNothing → performed.wants_memory ≡ true
-LacksMemory asked performed (Err Missing) = Unit {0}
-LacksMemory asked performed (Err TooLong) = Unit {0}
-LacksMemory asked performed (Err FetchFailed) = Unit {0}
-LacksMemory asked performed (Err SendFailed) = Unit {0}
-LacksMemory asked performed (Ok done) = Unit {0}
+LacksMemory asked performed other = Unit {0}
 
 -- a fetch that failed was one of the name that a command asked for
 abbrev pub FailedAt : {H : Type 0} → ShelfOf H → H → Option (List ℕ) → Type 0
@@ -70,18 +63,13 @@ FailedAt h new (Some name) = RefusedFor h new name shelf.Failed
 
 abbrev pub HaltedAt : {H : Type 0} → ShelfOf H → H → Option (List ℕ) → Halt → Type 0
 HaltedAt h new asked FetchFailed = FailedAt h new asked
-HaltedAt h new asked Missing = Unit {0}
-HaltedAt h new asked TooLong = Unit {0}
-HaltedAt h new asked Memory = Unit {0}
-HaltedAt h new asked SendFailed = Unit {0}
+HaltedAt h new asked other = Unit {0}
 
 abbrev pub FetchesFor : {T H : Type 0} → ShelfOf H → H → Option (List ℕ) → Result T Halt → Type 0
-FetchesFor h new asked (Ok done) = Unit {0}
 FetchesFor h new asked (Err FetchFailed) = FailedAt h new asked
-FetchesFor h new asked (Err Missing) = Unit {0}
-FetchesFor h new asked (Err TooLong) = Unit {0}
 FetchesFor h new asked (Err Memory) = IsSome asked
 FetchesFor h new asked (Err SendFailed) = ⊥
+FetchesFor h new asked other = Unit {0}
 
 abbrev pub FailedFor : {H : Type 0} → ShelfOf H → H → Option (List ℕ) → Result (Unit {0}) Halt → Type 0
 FailedFor h new asked (Ok done) = Unit {0}
@@ -107,9 +95,7 @@ abbrev pub Tells : {K : Type 0} → SinkOf K → Answer → K → K → Result (
 Tells k answer old new (Ok unit) = (answer ≡ told.Memory → ⊥) × SinkSound k old new × (k.tells → IsSent (k.taken old) (answer_text answer) (k.taken new))
 Tells k answer old new (Err SendFailed) = (answer ≡ told.Memory → ⊥) × SinkRose k old new × (k.tells → IsCut (k.taken old) (answer_text answer) (k.taken new))
 Tells k answer old new (Err Memory) = (answer ≡ told.Memory) × (new ≡ old)
-Tells k answer old new (Err Missing) = ⊥
-Tells k answer old new (Err FetchFailed) = ⊥
-Tells k answer old new (Err TooLong) = ⊥
+Tells k answer old new other = ⊥
 
 -- What a command with a file comes to was sent, and done; or there was no memory, where it may want that, and nothing was sent; or the sink
 -- failed.
@@ -118,9 +104,7 @@ EndsCommand k old new done after (Ok unit) =
     SinkSound k old new × (k.tells → IsSent (k.taken old) done.text (k.taken new)) × AreLikeStates after done.after
 EndsCommand k old new done after (Err SendFailed) = SinkRose k old new × (k.tells → IsCut (k.taken old) done.text (k.taken new))
 EndsCommand k old new done after (Err Memory) = SinkSound k old new × (k.tells → k.taken new ≡ k.taken old) × (done.wants_memory ≡ true)
-EndsCommand k old new done after (Err Missing) = ⊥
-EndsCommand k old new done after (Err FetchFailed) = ⊥
-EndsCommand k old new done after (Err TooLong) = ⊥
+EndsCommand k old new done after other = ⊥
 
 pub record DoesCommand {K : Type 0} (k : SinkOf K) (sink_old sink_new : K) (done : Performed) (old new : InSession) (result : Result (Unit {0}) Halt) : Type 0 where
   pub ends : EndsCommand k sink_old sink_new done new.state result
