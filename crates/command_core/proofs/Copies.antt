@@ -17,7 +17,7 @@ use Rattle.machine_core.specs.Laws.{processes_at, processes_with, whole_by}
 use Rattle.machine_core.specs.Load.{IsAsBefore}
 use Rattle.command_core.specs.Rows.{ledger_by}
 use Rattle.command_core.specs.Forks.{Adopts, ForksProcess, IsForked}
-use Rattle.command_core.proofs.Limits.{fits, is_short}
+use Rattle.command_core.proofs.Rows.{fits, is_short}
 use Rattle.command_core.proofs.Places.{none_is}
 
 -- A machine with a copy of a space, and with a process in it.

@@ -1,13 +1,10 @@
 mod Looking
-pub mod Among
 pub mod Places
+pub mod Rows
 pub mod Rans
 pub mod Stretches
 pub mod Stretching
 pub mod Standing
-pub mod Rows
-pub mod Limits
-pub mod Still
 pub mod Loadings
 pub mod Dropping
 pub mod Copies

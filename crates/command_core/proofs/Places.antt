@@ -1,6 +1,8 @@
 use Rattle.std.proofs.Common.{◌≡◌, ℕ, ◌+◌, ◌≤◌, ◌==◌, Bool, true, false, cond, sym, ap, ◌∙◌, refl, arith, Option, Some, None, List}
 use Rattle.std.specs.Option.{is_some, option_map, option_map_or, unwrap_or}
+use Rattle.std.specs.List.{All}
 use Rattle.std.specs.Ordering.{nat_cmp}
+use Rattle.std.specs.Prelude.{IfSome}
 use Rattle.std.proofs.lemmas.Bool.Decides.{nat_tests}
 use Rattle.std.specs.FinMap.{FinMap, empty, get, get-empty}
 use Rattle.number_maps.specs.Keys.{alike, by_key, get_same, removed_other, removed_same}
@@ -11,9 +13,11 @@ use Rattle.overlay_pages.specs.State.{SpaceState, State, base_of, books, cut_spa
 use Rattle.overlay_pages.specs.StateLaws.{space_absent, space_left}
 use Rattle.machine_core.specs.Process.{Process, is_speculating, runs}
 use Rattle.machine_core.specs.declared.process.Process as declared
-use Rattle.machine_core.specs.Machine.{IsDropped, KeepsPlaces, Machine, Processes, StaysBut, has_saved, has_space, is_marked, is_running, kept_whole, none_saved, processes_of, shown_process, spaces_of, whole_in, wholes, without_process_at}
+use Rattle.machine_core.specs.Machine.{IsDropped, KeepsPlaces, Machine, Processes, StaysBut, has_saved, has_space, is_marked, is_running, kept_whole, none_saved, processes_of, shown_process, spaces_of, whole_in, wholes, without_process_at, Wholes}
 use Rattle.machine_core.specs.Laws.{processes_at, runs_shown}
 use Rattle.machine_core.specs.Load.{IsLoaded, loaded_process}
+use Rattle.round_robin.specs.MemberLaws.{next_has}
+use Rattle.round_robin.specs.Turns.{Turns, next_number}
 use Rattle.command_core.specs.Sessions.{IsSession, OwnSpaces}
 
 -- Which spaces and processes are there.
@@ -55,6 +59,12 @@ mark_at machine p whole there = by_found (get machine.processes p) (sym (process
     by_found (Some process) shown =
         sym (marked_is (spaces_of machine) p process (is_marked machine p) refl)
         ∙ ap (λ (o : Option Process). option_map_or (λ (q : Process). is_speculating q) o false) shown
+
+-- the one whose turn is next runs
+pub next_runs : (processes : Wholes) (next : Option ℕ) (turns : Turns) (running : List ℕ) → All (λ p. is_running processes p ≡ true) running
+    → next ≡ next_number turns running → IfSome next (λ p. is_running processes p ≡ true)
+next_runs processes None turns running all is = tt
+next_runs processes (Some p) turns running all is = next_has (λ q. is_running processes q ≡ true) turns running p all (sym is)
 
 -- a process that runs is there, and so is its space
 

@@ -1,11 +1,15 @@
-use Rattle.std.proofs.Common.{◌≡◌, ℕ, ◌+◌, ◌&&◌, Bool, true, false, cond, sym, ap, subst, ◌∙◌, refl, Option, Some, None}
+use Rattle.std.proofs.Common.{◌≡◌, ℕ, ◌+◌, ◌≤◌, ◌<◌, ◌&&◌, nat_lt, arith, Bool, true, false, cond, sym, ap, subst, ◌∙◌, refl, Option, Some, None}
 use Rattle.std.specs.Prelude.{not}
 use Rattle.std.specs.Option.{is_some, option_map, option_map_or}
 use Rattle.std.specs.FinMap.{get}
+use Rattle.std.proofs.lemmas.Bool.Decides.{nat_tests}
 use Rattle.machine_core.specs.Process.{Process}
 use Rattle.machine_core.specs.declared.process.Process as declared
 use Rattle.ledger.specs.Events.{Event}
-use Rattle.machine_core.specs.Machine.{AreLike, Machine, limit_of, spaces_of, whole_in, wholes}
+use Rattle.overlay_pages.specs.Changes.{limit_of as limit_in}
+use Rattle.overlay_pages.specs.View.{MemoryView}
+use Rattle.overlay_memory.specs.Room.{FitsAfter, IsFullAt, units_after}
+use Rattle.machine_core.specs.Machine.{AreLike, Machine, limit_of, spaces_of, whole_in, wholes, with_memory}
 use Rattle.machine_core.specs.Laws.{processes_at}
 use Rattle.report_text.specs.declared.answer.Answer.{Answer}
 use Rattle.report_text.specs.declared.answer.Answer.TheVariants.{Done, Full, Refused}
@@ -13,10 +17,42 @@ use Rattle.report_text.specs.declared.answer.Code.{Code}
 use Rattle.report_text.specs.declared.answer.Code.TheVariants.{NoProcess}
 use Rattle.command_core.specs.State.{AreLikeStates, Registry, State, registry_of}
 use Rattle.command_core.specs.Sessions.{IsSession, KeepsSession, state_of}
-use Rattle.command_core.specs.Rows.{Changed, MemoryTaken, Row, TakesLast, accepts, change_by, event_needs, falls_short, first_refusal, is_event_full, is_full, may_want_memory, refused_row, refuses, wants_by, within_units}
+use Rattle.command_core.specs.Rows.{Changed, MemoryTaken, Row, TakesLast, accepts, change_by, event_needs, falls_short, first_refusal, is_event_full, is_full, ledger_by, may_want_memory, refused_row, refuses, still_row, wants_by, within_units}
 use Rattle.command_core.specs.Giving.{ComesTo, GivesChange, MachineGives}
 use Rattle.command_core.specs.Changes.{on_process}
 use Rattle.command_core.specs.LikeLaws.{states_itself}
+
+-- Whether there are units enough for an event.
+
+not_over : (limit needed : ℕ) → needed ≤ limit → nat_lt limit needed ≡ false
+not_over limit needed h = by_test (nat_lt limit needed) refl
+  where
+    by_test : (b : Bool) → nat_lt limit needed ≡ b → b ≡ false
+    by_test true e = absurd (grind (arith, nat_tests))
+    by_test false e = refl
+
+is_over : (limit needed : ℕ) → limit < needed → nat_lt limit needed ≡ true
+is_over limit needed h = grind (arith, nat_tests)
+
+pub fits : (e : Event) (old : Machine) → FitsAfter e (spaces_of old) → is_event_full e (wholes old) ≡ false
+unfolding ledger_by
+fits e old within = not_over (limit_in (spaces_of old)) (units_after e (spaces_of old)) within
+
+pub record IsShort (e : Event) (old : Machine) (memory : MemoryView) (needed limit : ℕ) : Type 0 where
+  pub needed_is : needed ≡ event_needs e (wholes old)
+  pub limit_is : limit ≡ limit_in (spaces_of old)
+  pub full : is_event_full e (wholes old) ≡ true
+  pub same : with_memory old memory ≡ old
+
+pub is_short : (e : Event) (old : Machine) (memory : MemoryView) (needed limit : ℕ) → IsFullAt old.memory memory (units_after e (spaces_of old)) needed limit
+    → IsShort e old memory needed limit
+unfolding ledger_by
+is_short e old memory needed limit full = record {
+  needed_is = full.needed_is;
+  limit_is = full.limit_is;
+  full = subst (λ n. nat_lt (limit_in (spaces_of old)) n ≡ true) full.needed_is (subst (λ n. nat_lt n needed ≡ true) full.limit_is (is_over limit needed full.over));
+  same = ap (with_memory old) full.kept;
+}
 
 -- What a row comes to, by its first refusal and its units.
 
@@ -55,6 +91,15 @@ module _ (row : Row) (old new : State) where
   row_wants last none enough =
       ap (λ (m : MemoryTaken). wants_by m (is_some (first_refusal row.refusals)) (is_full row old)) last
       ∙ ap (λ (o : Option Code). not (is_some o) && not (is_full row old)) none ∙ ap not enough
+
+-- A command that isn't there changes nothing.
+
+still_like : (s : State) → AreLikeStates s (accepts (still_row (registry_of s)) s).after
+unfolding ledger_by
+still_like s = states_itself s
+
+pub gives_still : (s : State) → GivesChange (still_row (registry_of s)) s Done s
+gives_still s = row_accepted (still_row (registry_of s)) s s refl refl (still_like s)
 
 -- The row of a process, by whether it is there.
 module _ (old : Machine) (drawn p : ℕ) (row : Process → Registry → Row) where

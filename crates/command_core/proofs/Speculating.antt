@@ -36,9 +36,8 @@ use Rattle.command_core.specs.Rows.{Row, first_refusal, ledger_by, plain_row, re
 use Rattle.command_core.specs.Giving.{MachineGives}
 use Rattle.command_core.specs.Refusals.{by_not_speculating, by_speculating}
 use Rattle.command_core.specs.Overlays.{ChangesOverlays, after_commit, after_discard, after_speculate, leaves, overlay_row, promotion_answer, speculation_answer}
-use Rattle.command_core.proofs.Limits.{fits, is_short}
 use Rattle.command_core.proofs.Places.{marked_is, none_is}
-use Rattle.command_core.proofs.Rows.{machine_done, machine_full, machine_refused}
+use Rattle.command_core.proofs.Rows.{fits, is_short, machine_done, machine_full, machine_refused}
 
 -- A machine of which the overlays of one process were changed.
 

@@ -143,9 +143,9 @@ left_found state run below = by_stop (ending state run) refl
 pub registries_same : (a b : State) → AreLikeStates a b → registry_of a ≡ registry_of b
 registries_same a b like = λ i. record { processes = like.wholes.processes i; drawn = like.drawn i }
 
-pub record AreLikeChanges (c d : Changed) : Type 0 where
-  pub answer_is : c.answer ≡ d.answer
-  pub after : AreLikeStates c.after d.after
+-- one comes to what another does
+abbrev pub AreLikeChanges : Changed → Changed → Type 0
+AreLikeChanges c d = ComesTo d c.answer c.after
 
 -- one row, of states that are alike
 module _ (row : Row) (a b : State) (like : AreLikeStates a b) where
@@ -167,10 +167,10 @@ module _ (row : Row) (a b : State) (like : AreLikeStates a b) where
   like_within : (x y : Bool) → x ≡ y → AreLikeChanges (cond x (falls_short row a) (accepts row a)) (cond y (falls_short row b) (accepts row b))
   like_within true true same = record {
     answer_is = ap (λ n. Full n (limit_of a.wholes.frames)) like_needs ∙ ap (λ n. Full (event_needs row.event b.wholes) (limit_of n)) like.wholes.frames;
-    after = like;
+    after_is = like;
   }
   like_within false false same =
-      record { answer_is = refl; after = record { wholes = record { processes = refl; ledger = like_ledger; frames = like.wholes.frames }; drawn = refl } }
+      record { answer_is = refl; after_is = record { wholes = record { processes = refl; ledger = like_ledger; frames = like.wholes.frames }; drawn = refl } }
   like_within true false same = cc
   like_within false true same = cc
 
@@ -180,7 +180,7 @@ module _ (row : Row) (a b : State) (like : AreLikeStates a b) where
       by_refusal : (o : Option Code) → AreLikeChanges
           (option_map_or (λ code. refuses code a) o (within_units row a)) (option_map_or (λ code. refuses code b) o (within_units row b))
       by_refusal None = like_within (is_full row a) (is_full row b) like_full
-      by_refusal (Some code) = record { answer_is = refl; after = like }
+      by_refusal (Some code) = record { answer_is = refl; after_is = like }
 
 -- the row that each has
 module _ (row : Registry → Row) (a b : State) (like : AreLikeStates a b) where
@@ -198,7 +198,7 @@ module _ (row : Registry → Row) (old new : InSession) where
       → AreLikeStates old.state state → ComesTo (change_by (row (registry_of state)) state) answer new.state
   gives_each answer comes state stands =
       let like = like_change row old.state state stands in
-      record { answer_is = comes.answer_is ∙ like.answer_is; after_is = states_chain new.state _ _ comes.after_is like.after }
+      record { answer_is = comes.answer_is ∙ like.answer_is; after_is = states_chain new.state _ _ comes.after_is like.after_is }
 
   pub gives_as : (answer : Answer) → GivesChange (row (registry_of old.state)) old.state answer new.state → GivesAs row old answer new
   gives_as Memory (wants, same) = λ state stands.
@@ -220,7 +220,7 @@ pub record AreLikePerformed (x y : Performed) : Type 0 where
 like_told : (row : Registry → Row) (a b : State) → AreLikeStates a b → AreLikePerformed (row_told (row (registry_of a)) a) (row_told (row (registry_of b)) b)
 like_told row a b like =
     let change = like_change row a b like in
-    record { text = ap answer_text change.answer_is; after = change.after; wants = like_wanting row a b like }
+    record { text = ap answer_text change.answer_is; after = change.after_is; wants = like_wanting row a b like }
 
 pub like_takes : (run : Progress) (a b : State) → AreLikeStates a b → AreLikePerformed (takes_turns run a) (takes_turns run b)
 like_takes run a b like =
@@ -241,7 +241,7 @@ like_exec file turns a b like =
     let x = change_by (load_row file (registry_of a)) a in
     let y = change_by (load_row file (registry_of b)) b in
     let first = like_change (load_row file) a b like in
-    let next = like_exec_turns turns x.answer x.after y.after first.after in
+    let next = like_exec_turns turns x.answer x.after y.after first.after_is in
     record {
       text = ap (λ t. answer_text t ++ (exec_turns turns x.answer x.after).text) first.answer_is
           ∙ ap (λ t. answer_text y.answer ++ t) next.text ∙ ap (λ t. answer_text y.answer ++ (exec_turns turns t y.after).text) first.answer_is;

@@ -400,7 +400,7 @@ impl Session {
     }
 
     /// Does a command that asks for no file, by its row.
-    #[tactic(auto, using(crate::proofs::Still::gives_still))]
+    #[tactic(auto, using(crate::proofs::Rows::gives_still))]
     fn do_row(&mut self, command: &Command) -> Answer
         requires { asks command.now ≡ None }
         ensures gives { GivesChange (change_row [] command.now (registry_of self.old.state)) self.old.state

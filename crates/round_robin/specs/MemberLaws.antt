@@ -4,11 +4,9 @@ use Rattle.std.specs.Option.{option_or}
 use Rattle.std.proofs.lemmas.Bool.{and_parts}
 use Rattle.std.proofs.lemmas.Bool.Decides.{nat_tests}
 use Rattle.std.proofs.lemmas.List.Elements.{All-head, All-tail}
-use Rattle.std.specs.Prelude.{IfSome}
-use Rattle.machine_core.specs.Machine.{Wholes, is_running}
 use Rattle.round_robin.specs.Turns.{Last, Turns, goes_on, least, least_above, lesser, next_after, next_number}
 
--- The number whose turn is next is one of those that are running.
+-- The number whose turn is next is one of those that are running: what holds of all of them holds of it.
 
 IsIn : ℕ → List ℕ → Type 0
 IsIn p [] = ⊥
@@ -84,10 +82,5 @@ all_in P [] p all is = absurd is
 all_in P (n ∷ ns) p all (inl same) = subst P (sym same) (All-head P n ns all)
 all_in P (n ∷ ns) p all (inr more) = all_in P ns p (All-tail P n ns all) more
 
-next_has : (P : ℕ → Type 0) (turns : Turns) (running : List ℕ) (p : ℕ) → All P running → next_number turns running ≡ Some p → P p
+pub next_has : (P : ℕ → Type 0) (turns : Turns) (running : List ℕ) (p : ℕ) → All P running → next_number turns running ≡ Some p → P p
 next_has P turns running p all next = all_in P running p all (next_in turns.quantum turns.last running p next)
-
-pub next_runs : (processes : Wholes) (next : Option ℕ) (turns : Turns) (running : List ℕ) → All (λ p. is_running processes p ≡ true) running
-    → next ≡ next_number turns running → IfSome next (λ p. is_running processes p ≡ true)
-next_runs processes None turns running all is = tt
-next_runs processes (Some p) turns running all is = next_has (λ q. is_running processes q ≡ true) turns running p all (sym is)
