@@ -1,11 +1,10 @@
 ghost use Rattle.std.specs.Prelude.{◌≡◌, ◌<◌, ◌≤◌, Ok};
 ghost use Rattle.sizes.specs.declared.TheConstants.{MOST_FRAMES};
 
-use crate::view::View;
 use crate::{Machine, Process, SpaceError};
 use elf_loader::read_image;
-use ovl_io::{ProcessState, Turn};
-use rv_execute::{GuestMemory, Outcome, Refused};
+use ovl_io::{FaultKind, ProcessState, Turn};
+use rv_execute::Outcome;
 use std::alloc::{AllocError, Global};
 use std::process::Abort;
 use std::test::Fail;
@@ -149,56 +148,23 @@ fn a_turn_comes_in_two_parts(rt: HostRuntime) -> Result<(), Fail> {
     Ok(())
 }
 
-// A fetch, a load or a store of 4 bytes in space 1: the word that comes, or the address that is refused.
-fn access(
-    rt: &impl Abort,
-    machine: &mut Machine,
-    (what, address, word): (&str, u64, u32),
-) -> Result<u32, u64> {
-    assert!(rt; machine.memory().has_space(1));
-    let mut view = View {
-        memory: machine.memory_mut(),
-        space: 1,
-        code: None,
-    };
-    let mut bytes = word.to_le_bytes();
-    match what {
-        "fetch" => {
-            assert!(rt; address % 4 == 0);
-            return view.fetch(address).map_err(|denied| denied.address);
-        }
-        "load" => view
-            .load(address, &mut bytes)
-            .map_err(|denied| denied.address)?,
-        _ => match view.store(address, &bytes) {
-            Ok(()) => {}
-            Err(Refused::At(address)) => return Err(address),
-            Err(Refused::Full(_, _)) => panic!(rt; "{address:#x} is full"),
-        },
-    }
-    Ok(u32::from_le_bytes(bytes))
-}
+// lui x5, 0x12; addi x6, x0, -1; sd x6, -4(x5), of which the last 4 bytes lie in a page that isn't there
+const CROSSES: &[u32] = &[0x0001_22B7, 0xFFF0_0313, 0xFE62_BE23];
 
 #[test]
-fn a_refused_store_changes_nothing(rt: HostRuntime) -> Result<(), Fail> {
-    let file = file_of(rt.alloc(), 7, EXIT_7, 4096)?;
-    let (mut machine, _) = loaded(&rt, rt.alloc(), 1024, file.as_slice())?;
-    // the code's page, one of zeros behind it, and none behind that
-    let rows: [(&str, u64, u32, Result<u32, u64>); 9] = [
-        ("store", 0x11FFE, 0x0403_0201, Err(0x12000)),
-        ("load", 0x11FFC, 0, Ok(0)),
-        ("store", 0x11FFC, 0x0403_0201, Ok(0x0403_0201)),
-        ("load", 0x11FFB, 0, Ok(0x0302_0100)),
-        ("fetch", CODE, 0, Ok(0x05D0_0893)),
-        ("store", CODE, 0x0403_0201, Ok(0x0403_0201)),
-        ("fetch", CODE, 0, Ok(0x0403_0201)),
-        ("load", STACK_TOP - 1, 0, Err(STACK_TOP)),
-        ("load", u64::MAX, 0, Err(u64::MAX)),
-    ];
-    for (what, address, word, want) in rows {
-        let came = access(&rt, &mut machine, (what, address, word));
-        assert_eq!(rt; came, want, "{what} at {address:#x}");
+fn a_store_that_faults_changes_nothing(rt: HostRuntime) -> Result<(), Fail> {
+    let file = file_of(rt.alloc(), 7, CROSSES, 4096)?;
+    let (mut machine, pages) = loaded(&rt, rt.alloc(), 1024, file.as_slice())?;
+    assert_eq!(rt; pages, 18);
+    for _ in 0..2 {
+        assert!(rt; matches!(event(&rt, &mut machine), Turn::Stepped));
     }
+    let turn = event(&rt, &mut machine);
+    assert!(rt; matches!(turn, Turn::Faulted(FaultKind::Store, 0x12000)));
+    let mut bytes = [0xFF; 4];
+    assert!(rt; machine.memory().has_space(1));
+    assert!(rt; machine.memory().read(1, 0x11FFC, &mut bytes).is_ok());
+    assert_eq!(rt; bytes, [0, 0, 0, 0]);
     Ok(())
 }
 
