@@ -4,16 +4,12 @@ ghost use Rattle.sizes.specs.declared.TheConstants.{MOST_FRAMES};
 use crate::{Machine, Process, SpaceError};
 use elf_loader::read_image;
 use ovl_io::{FaultKind, ProcessState, Turn};
-use rv_execute::Outcome;
 use std::alloc::{AllocError, Global};
 use std::process::Abort;
 use std::test::Fail;
 
 // Where the code of a file stands.
 const CODE: u64 = 0x10078;
-
-// The first address above the stack.
-const STACK_TOP: u64 = 0x40_0000_0000;
 
 // addi x17, x0, 93; addi x10, x0, 7; ecall
 const EXIT_7: &[u32] = &[0x05D0_0893, 0x0070_0513, 0x0000_0073];
@@ -112,42 +108,6 @@ fn a_load_that_needs_too_many_units_is_full(rt: HostRuntime) -> Result<(), Fail>
     Ok(())
 }
 
-// Executes up to one instruction of process 1: how many stepped, and what the last one came to.
-fn executed(rt: &impl Abort, machine: &mut Machine) -> (u32, Outcome) {
-    assert!(rt; machine.is_running(1));
-    assert!(rt; machine.memory().has_space(1));
-    machine.execute_up_to(1, 1)
-}
-
-// What process 1 asked for is answered.
-fn answered(rt: &impl Abort, machine: &mut Machine) -> Turn {
-    assert!(rt; machine.is_running(1));
-    assert!(rt; machine.memory().has_space(1));
-    machine.answer(1)
-}
-
-#[test]
-fn a_turn_comes_in_two_parts(rt: HostRuntime) -> Result<(), Fail> {
-    let file = file_of(rt.alloc(), 5, EXIT_7, 0)?;
-    let (mut machine, _) = loaded(&rt, rt.alloc(), 1024, file.as_slice())?;
-    // pc, x10 and x17, and what the instruction there comes to
-    for (pc, x10, x17, outcome) in [
-        (CODE, 0, 0, (1, Outcome::Stepped)),
-        (CODE + 4, 0, 93, (1, Outcome::Stepped)),
-        (CODE + 8, 7, 93, (0, Outcome::Asked)),
-    ] {
-        let regs = shown(&rt, &machine).regs;
-        assert_eq!(rt; (regs.pc(), regs.get(10), regs.get(17)), (pc, x10, x17));
-        assert_eq!(rt; (regs.get(0), regs.get(2)), (0, STACK_TOP - 16));
-        assert_eq!(rt; executed(&rt, &mut machine), outcome, "at {pc:#x}");
-    }
-    assert!(rt; matches!(answered(&rt, &mut machine), Turn::Exited(7)));
-    let process = shown(&rt, &machine);
-    assert_eq!(rt; process.state, ProcessState::Exited(7));
-    assert_eq!(rt; process.regs.pc(), CODE + 12);
-    Ok(())
-}
-
 // lui x5, 0x12; addi x6, x0, -1; sd x6, -4(x5), of which the last 4 bytes lie in a page that isn't there
 const CROSSES: &[u32] = &[0x0001_22B7, 0xFFF0_0313, 0xFE62_BE23];
 
@@ -168,16 +128,8 @@ fn a_store_that_faults_changes_nothing(rt: HostRuntime) -> Result<(), Fail> {
     Ok(())
 }
 
-#[test]
-fn processes_take_turns(rt: HostRuntime) -> Result<(), Fail> {
-    let file = file_of(rt.alloc(), 5, EXIT_7, 0)?;
-    let image = read_image(rt.alloc(), file.as_slice())?;
-    let mut machine = Machine::new(rt.alloc(), 1024)?;
-    pages_of(&rt, machine.load(5, &image, file.as_slice()));
-    pages_of(&rt, machine.load(2, &image, file.as_slice()));
-    assert!(rt; machine.running() == [2, 5].as_slice());
-    // 7 isn't there, and 2 has ended when its last turn comes
-    machine.play(&[2, 5, 7, 2, 2, 2]);
+// Process 2 has ended by its third turn, and process 5 has taken one.
+fn assert_played(rt: &impl Abort, machine: &Machine) -> Result<(), Fail> {
     assert!(rt; machine.running() == [5].as_slice());
     let first = *machine.process(2).ok_or("no process")?;
     assert_eq!(rt; first.state, ProcessState::Exited(7));
@@ -189,23 +141,13 @@ fn processes_take_turns(rt: HostRuntime) -> Result<(), Fail> {
 }
 
 #[test]
-fn a_process_changes_and_leaves(rt: HostRuntime) -> Result<(), Fail> {
+fn processes_take_turns(rt: HostRuntime) -> Result<(), Fail> {
     let file = file_of(rt.alloc(), 5, EXIT_7, 0)?;
     let image = read_image(rt.alloc(), file.as_slice())?;
     let mut machine = Machine::new(rt.alloc(), 1024)?;
     pages_of(&rt, machine.load(5, &image, file.as_slice()));
-    let running = *machine.process(5).ok_or("no process")?;
-    let mut ended = running;
-    ended.state = ProcessState::Exited(1);
-    machine.set_process(5, ended);
-    assert!(rt; machine.running().is_empty());
-    machine.set_process(5, running);
-    machine.remove(5);
-    assert!(rt; machine.running().is_empty());
-    machine.adopt(5, running)?;
-    assert!(rt; machine.running() == [5].as_slice());
-    machine.remove(5);
-    machine.drop_space(5);
-    assert_eq!(rt; machine.next_process(0), None);
-    Ok(())
+    pages_of(&rt, machine.load(2, &image, file.as_slice()));
+    // 7 isn't there, and 2 has ended when its last turn comes
+    machine.play(&[2, 5, 7, 2, 2, 2]);
+    assert_played(&rt, &machine)
 }
