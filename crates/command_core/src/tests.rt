@@ -1,11 +1,12 @@
+ghost use Rattle.command_core.specs.Changes.{CanBeTold};
+
 use crate::{Running, Session};
-use report_text::{Answer, Code, Line, stop_line};
-use script_text::Command;
+use ovl_io::{ProcessState, Turn};
+use report_text::{Answer, Line, answer_line, stop_line};
+use script_text::{Command, parse};
 use std::alloc::{AllocError, Global};
 use std::process::Abort;
 use std::test::Fail;
-
-mod overlays;
 
 // Writes `hi` and a line end, and exits with 0: the words, and then the three bytes.
 const HI: &[u32] = &[
@@ -43,7 +44,8 @@ const STORES: &[u32] = &[
 ];
 
 // A file of one segment at 0x10078, from offset 120, that may be read and executed.
-fn file_of(alloc: Global, words: &[u32], size: u64) -> Result<Vec<u8>, AllocError> {
+fn file_of(alloc: Global, words: &[u32]) -> Result<Vec<u8>, AllocError> {
+    let size = words.len() as u64 * 4;
     let mut file = Vec::new(alloc);
     file.extend_from_slice(b"\x7FELF\x02\x01\x01\0\0\0\0\0\0\0\0\0\x02\0\xF3\0\x01\0\0\0")?;
     for number in [0x10078u64, 64, 0] {
@@ -60,149 +62,182 @@ fn file_of(alloc: Global, words: &[u32], size: u64) -> Result<Vec<u8>, AllocErro
     Ok(file)
 }
 
-// The lines of a run, by the call that makes lines alone.
-fn lines_of(
-    alloc: Global,
+// Appends the line of an answer.
+fn tell(rt: &impl Abort, answer: &Answer, report: &mut Vec<u8>) -> Result<(), AllocError>
+    requires { CanBeTold answer.now }
+{
+    if let Answer::Memory = answer {
+        panic!(rt; "no memory");
+    }
+    let mut line = Line::new();
+    answer_line(answer, &mut line);
+    report.extend_from_slice(line.as_slice())
+}
+
+// Takes the turns of a run, and appends its lines.
+fn take_turns(
     session: &mut Session,
     running: &mut Running,
-) -> Result<Vec<u8>, AllocError> {
-    let mut text = Vec::new(alloc);
+    report: &mut Vec<u8>,
+) -> Result<(), AllocError> {
     let mut line = Line::new();
     for _ in 0..100 {
         if !session.turn_line(running, &mut line) {
             break;
         }
-        text.extend_from_slice(line.as_slice())?;
+        report.extend_from_slice(line.as_slice())?;
     }
     if let Some(stop) = running.stop() {
         stop_line(running.taken(), &stop, &mut line);
-        text.extend_from_slice(line.as_slice())?;
+        report.extend_from_slice(line.as_slice())?;
     }
-    Ok(text)
+    Ok(())
 }
 
-#[test]
-fn two_processes_take_turns(rt: HostRuntime) -> Result<(), Fail> {
-    // the quantum, and the lines of a run of two processes
-    let rows: [(u32, &[u8]); 2] = [
-        (
-            1,
-            b"out 1 hi\\0a\nout 2 hi\\0a\nexited 1 0\nexited 2 0\nran 18 idle\n",
-        ),
-        (
-            1000,
-            b"out 1 hi\\0a\nexited 1 0\nout 2 hi\\0a\nexited 2 0\nran 18 idle\n",
-        ),
-    ];
-    let file = file_of(rt.alloc(), HI, 39)?;
-    for (quantum, want) in rows {
-        assert!(rt; quantum >= 1);
-        let mut session = Session::new(rt.alloc(), 1024, quantum)?;
-        for p in [1u16, 2] {
-            match session.load(file.as_slice()) {
-                Answer::Loaded(q, 17, 0x10078) => assert_eq!(rt; q, p),
-                _ => panic!(rt; "process {p} isn't loaded"),
-            }
+// Does a command, whose file is this one, and appends its lines.
+fn do_command(
+    rt: &impl Abort,
+    session: &mut Session,
+    file: &[u8],
+    command: &Command,
+    report: &mut Vec<u8>,
+) -> Result<(), AllocError> {
+    match command {
+        Command::Load(_) => tell(rt, &session.load(file), report),
+        Command::Run(turns) => {
+            let mut running = session.begin_run(*turns);
+            take_turns(session, &mut running, report)
         }
-        let mut running = session.begin_run(100);
-        let text = lines_of(rt.alloc(), &mut session, &mut running)?;
-        assert!(rt; text.as_slice() == want, "with a quantum of {quantum}");
+        Command::Step(p, turns) => match session.begin_step(*p, *turns) {
+            Ok(running) => {
+                let mut running = running;
+                take_turns(session, &mut running, report)
+            }
+            Err(_) => panic!(rt; "process {p} doesn't run"),
+        },
+        Command::Fork(_)
+        | Command::Speculate(_)
+        | Command::Commit(_)
+        | Command::Discard(_)
+        | Command::Promote(_, _)
+        | Command::PromoteAll(_)
+        | Command::Drop(_) => tell(rt, &session.change(command), report),
+        _ => panic!(rt; "no row has another command"),
+    }
+}
+
+// How many frames there are, the quantum, the words of the file that a script loads, the script, and its report.
+type Row = (u32, u32, &'static [u32], &'static [u8], &'static [u8]);
+
+// What no script reaches over 1,024 frames, with a quantum of 100.
+const ROWS: [Row; 10] = [
+    (
+        1024,
+        1,
+        HI,
+        b"load f\nload f\nrun 100",
+        b"loaded 1 pages 17 entry 0x10078\nloaded 2 pages 17 entry 0x10078\nout 1 hi\\0a\nout 2 hi\\0a\nexited 1 0\nexited 2 0\nran 18 idle\n",
+    ),
+    (
+        4,
+        1000,
+        STORES,
+        b"load f\nload f\nstep 1 16\nfork 1\ndrop 2\nfork 1",
+        b"loaded 1 pages 17 entry 0x10078\nloaded 2 pages 17 entry 0x10078\nran 16 limit\nforked 1 3\nok\nforked 1 4\n",
+    ),
+    (
+        4,
+        1000,
+        STORES,
+        b"load f\nload f\nstep 1 16\nstep 2 1\nfork 1\ndrop 2\nfork 1",
+        b"loaded 1 pages 17 entry 0x10078\nloaded 2 pages 17 entry 0x10078\nran 16 limit\nran 1 limit\nfull 65 64\nok\nforked 1 3\n",
+    ),
+    (
+        4,
+        1000,
+        STORES,
+        b"load f\nload f\nstep 1 16\nspeculate 1",
+        b"loaded 1 pages 17 entry 0x10078\nloaded 2 pages 17 entry 0x10078\nran 16 limit\nok\n",
+    ),
+    (
+        4,
+        1000,
+        STORES,
+        b"load f\nload f\nstep 1 16\nstep 2 1\nspeculate 1\ndrop 2\nspeculate 1",
+        b"loaded 1 pages 17 entry 0x10078\nloaded 2 pages 17 entry 0x10078\nran 16 limit\nran 1 limit\nfull 65 64\nok\nok\n",
+    ),
+    (
+        4,
+        1000,
+        STORES,
+        b"load f\nload f\nstep 1 16\npromote 1 0x3ffffff800",
+        b"loaded 1 pages 17 entry 0x10078\nloaded 2 pages 17 entry 0x10078\nran 16 limit\nok\n",
+    ),
+    (
+        4,
+        1000,
+        STORES,
+        b"load f\nload f\nstep 1 16\nstep 2 1\npromote 1 0x3ffffff800\ndrop 2\npromote 1 0x3ffffff800",
+        b"loaded 1 pages 17 entry 0x10078\nloaded 2 pages 17 entry 0x10078\nran 16 limit\nran 1 limit\nfull 65 64\nok\nok\n",
+    ),
+    (
+        4,
+        1000,
+        STORES,
+        b"load f\nload f\nstep 1 16\npromote 1 all",
+        b"loaded 1 pages 17 entry 0x10078\nloaded 2 pages 17 entry 0x10078\nran 16 limit\nok\n",
+    ),
+    (
+        4,
+        1000,
+        STORES,
+        b"load f\nload f\nstep 1 16\nstep 2 1\npromote 1 all\ndrop 2\npromote 1 all",
+        b"loaded 1 pages 17 entry 0x10078\nloaded 2 pages 17 entry 0x10078\nran 16 limit\nran 1 limit\nfull 65 64\nok\nok\n",
+    ),
+    (
+        4,
+        1000,
+        STORES,
+        b"load f\nstep 1 8\npromote 1 all\nfork 1\nspeculate 1\nstep 1 8\ncommit 1\nload f\npromote 1 all\nload f\ndrop 2\nload f",
+        b"loaded 1 pages 17 entry 0x10078\nran 8 limit\nok\nforked 1 2\nok\nran 8 limit\nok\nfull 68 64\nok\nfull 80 64\nok\nloaded 3 pages 17 entry 0x10078\n",
+    ),
+];
+
+#[test]
+fn few_frames_and_another_quantum(rt: HostRuntime) -> Result<(), Fail> {
+    for (frames, quantum, words, script, want) in ROWS {
+        assert!(rt; frames >= 1 && frames <= 65_536 && quantum >= 1 && script.len() <= 1000);
+        let file = file_of(rt.alloc(), words)?;
+        let commands = parse(rt.alloc(), script).map_err(|_| "no script")?;
+        let mut session = Session::new(rt.alloc(), frames, quantum)?;
+        let mut report = Vec::new(rt.alloc());
+        for command in commands.as_slice() {
+            do_command(&rt, &mut session, file.as_slice(), command, &mut report)?;
+        }
         assert!(rt;
-            session.turn(&mut running).is_none(),
-            "nothing is left to run"
+            report.as_slice() == want,
+            "another report of {script:?}: {report:?}"
         );
     }
     Ok(())
 }
 
-// Loads a file, of which process `p` is made.
-fn load(rt: &impl Abort, session: &mut Session, file: &[u8], p: u16) {
-    match session.load(file) {
-        Answer::Loaded(q, 17, 0x10078) => assert_eq!(rt; q, p),
-        _ => panic!(rt; "process {p} isn't loaded"),
-    }
-}
-
-// The lines of so many turns of a running process.
-fn step(
-    rt: &impl Abort,
-    alloc: Global,
-    session: &mut Session,
-    p: u16,
-    turns: u32,
-) -> Result<Vec<u8>, AllocError> {
-    match session.begin_step(p, turns) {
-        Ok(running) => {
-            let mut running = running;
-            lines_of(alloc, session, &mut running)
-        }
-        Err(_) => panic!(rt; "process {p} doesn't run"),
-    }
-}
-
-// What a fork comes to, in a word and two numbers.
-fn forked(session: &mut Session, p: u16) -> (&'static str, u32, u32) {
-    match session.change(&Command::Fork(p)) {
-        Answer::Forked(p, q) => ("forked", u32::from(p), u32::from(q)),
-        Answer::Full(units, limit) => ("full", units, limit),
-        Answer::Refused(Code::NoProcess) => ("no process", 0, 0),
-        Answer::Refused(Code::Ended) => ("ended", 0, 0),
-        _ => ("another", 0, 0),
-    }
-}
-
 #[test]
-fn a_fork_goes_on_where_the_process_was(rt: HostRuntime) -> Result<(), Fail> {
-    let file = file_of(rt.alloc(), HI, 39)?;
-    let mut session = Session::new(rt.alloc(), 1024, 1000)?;
-    load(&rt, &mut session, file.as_slice(), 1);
-    let text = step(&rt, rt.alloc(), &mut session, 1, 2)?;
-    assert!(rt; text.as_slice() == b"ran 2 limit\n".as_slice());
-    assert_eq!(rt; forked(&mut session, 1), ("forked", 1, 2));
-    let mut running = session.begin_run(100);
-    let text = lines_of(rt.alloc(), &mut session, &mut running)?;
-    let want: &[u8] = b"out 1 hi\\0a\nexited 1 0\nout 2 hi\\0a\nexited 2 0\nran 14 idle\n";
-    assert!(rt; text.as_slice() == want);
-    Ok(())
-}
-
-#[test]
-fn a_fork_draws_a_number_and_a_refused_one_does_not(rt: HostRuntime) -> Result<(), Fail> {
-    let file = file_of(rt.alloc(), HI, 39)?;
-    let mut session = Session::new(rt.alloc(), 1024, 1000)?;
-    assert_eq!(rt; forked(&mut session, 1), ("no process", 0, 0));
-    load(&rt, &mut session, file.as_slice(), 1);
-    assert_eq!(rt; forked(&mut session, 2), ("no process", 0, 0));
-    assert_eq!(rt; forked(&mut session, 1), ("forked", 1, 2));
-    assert_eq!(rt; forked(&mut session, 2), ("forked", 2, 3));
-    step(&rt, rt.alloc(), &mut session, 2, 100)?;
-    assert_eq!(rt; forked(&mut session, 2), ("ended", 0, 0));
-    load(&rt, &mut session, file.as_slice(), 4);
-    assert_eq!(rt; forked(&mut session, 3), ("forked", 3, 5));
-    Ok(())
-}
-
-#[test]
-fn a_fork_takes_the_units_of_a_copy(rt: HostRuntime) -> Result<(), Fail> {
-    // how many lines process 2 has stored into, and what a fork of process 1 comes to: one that is full draws no number
-    let rows = [(0u32, ("forked", 1u32, 3u32)), (1, ("full", 65, 64))];
-    let file = file_of(rt.alloc(), STORES, 68)?;
-    for (lines, want) in rows {
-        let mut session = Session::new(rt.alloc(), 4, 1000)?;
-        load(&rt, &mut session, file.as_slice(), 1);
-        load(&rt, &mut session, file.as_slice(), 2);
-        step(&rt, rt.alloc(), &mut session, 1, 16)?;
-        if lines > 0 {
-            step(&rt, rt.alloc(), &mut session, 2, lines)?;
-        }
-        assert_eq!(rt; forked(&mut session, 1), want);
-        assert_eq!(rt; session.look_process(3).is_ok(), lines == 0);
-        match session.change(&Command::Drop(2)) {
-            Answer::Done => {}
-            _ => panic!(rt; "process 2 isn't given up"),
-        }
-        let next = if lines == 0 { 4 } else { 3 };
-        assert_eq!(rt; forked(&mut session, 1), ("forked", 1, next));
-    }
+fn a_process_is_looked_up(rt: HostRuntime) -> Result<(), Fail> {
+    let file = file_of(rt.alloc(), HI)?;
+    let mut session = Session::new(rt.alloc(), 1024, 100)?;
+    assert!(rt;
+        matches!(
+            session.load(file.as_slice()),
+            Answer::Loaded(1, 17, 0x10078)
+        )
+    );
+    let mut running = session.begin_run(1);
+    assert!(rt; matches!(session.turn(&mut running), Some((1, Turn::Stepped))));
+    assert!(rt; session.turn(&mut running).is_none());
+    let process = session.look_process(1).map_err(|_| "no process")?;
+    assert_eq!(rt; (process.state, process.pages), (ProcessState::Running, 17));
+    assert_eq!(rt; (process.regs.pc(), process.speculating), (0x1007C, false));
+    assert_eq!(rt; session.next_process(2), None);
     Ok(())
 }
