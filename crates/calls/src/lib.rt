@@ -1,8 +1,11 @@
-//! Tests of calls: those that no script shows, those that take memory, each done once where there is enough, and tables of files.
+//! Tests of calls: those that no script shows, those that take memory, each done once where there is enough, and tables of
+//! files, scripts and words.
 //!
 //! It has nothing but tests. They stand here and not in the crates whose calls they are, since a crate with tests is proved twice.
 //!
+//! - `scripts`: calls of `script_text`
 //! - `files`: calls of `elf_loader`
+//! - `words`: calls of `rv_decode`
 //! - `levels`, `blocks`, `names`: calls of `mark_levels`, `unit_map` and `overlay_mapping_table`
 //! - `pages`: calls of `page_table`
 //! - `segments`: calls of `segment_store`

@@ -5,5 +5,7 @@ mod levels;
 mod memory;
 mod names;
 mod pages;
+mod scripts;
 mod segments;
 mod spaces;
+mod words;
