@@ -1,9 +1,16 @@
+mod addresses;
 mod blocks;
 mod files;
+mod frames;
 mod ledgers;
 mod levels;
+mod lines;
 mod memory;
 mod names;
 mod pages;
+mod reports;
+mod scripts;
 mod segments;
 mod spaces;
+mod turns;
+mod words;

@@ -9,6 +9,3 @@
 mod pool;
 
 pub use pool::FramePool;
-
-#[cfg(test)]
-mod tests;

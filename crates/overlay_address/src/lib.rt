@@ -9,6 +9,3 @@
 mod page;
 
 pub use page::OverlayPage;
-
-#[cfg(test)]
-mod tests;

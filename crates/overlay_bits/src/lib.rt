@@ -14,6 +14,3 @@ mod iter;
 pub use bits::Bits;
 pub use composed::compose;
 pub use iter::BitsIter;
-
-#[cfg(test)]
-mod tests;

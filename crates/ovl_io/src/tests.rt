@@ -1,6 +1,5 @@
 use crate::{
-    Bytes, CountSink, Failed, MemoryShelf, MemorySink, MemorySource, OneFileShelf, Perms, Shelf,
-    ShelfError, Sink, Source, SureSource,
+    Bytes, Failed, MemoryShelf, MemorySink, OneFileShelf, Perms, Shelf, ShelfError, Sink, Source,
 };
 use bitflags::Flags;
 use std::alloc::{AllocError, Global};
@@ -101,43 +100,6 @@ fn bytes_are_copied(rt: HostRuntime) -> Result<(), Fail> {
 }
 
 #[test]
-fn a_failed_read_loses_nothing(rt: HostRuntime) -> Result<(), Fail> {
-    // the most bytes a call, the calls that fail, and how many of them a reader by threes meets
-    let rows: [(usize, &[u32], u32); 6] = [
-        (1, &[], 0),
-        (1, &[0], 1),
-        (1, &[1], 1),
-        (2, &[3, 0, 1], 3),
-        (100, &[2], 1),
-        (100, &[5], 0),
-    ];
-    for (most, fails, failures) in rows {
-        assert!(rt; most > 0);
-        let mut source = MemorySource::new(
-            TEXT.to_vec(rt.alloc())?,
-            most,
-            fails.to_vec(rt.alloc())?,
-        );
-        let (bytes, met) = drain(rt.alloc(), &mut source)?;
-        assert_eq!(rt; bytes.as_slice(), TEXT, "{most} a call, {fails:?} fail");
-        assert_eq!(rt; met, failures, "{most} a call, {fails:?} fail");
-    }
-    Ok(())
-}
-
-#[test]
-fn a_sure_source_gives_all_bytes(rt: HostRuntime) -> Result<(), Fail> {
-    for most in [1, 2, 100] {
-        assert!(rt; most > 0);
-        let mut source = SureSource::new(TEXT.to_vec(rt.alloc())?, most);
-        let (bytes, met) = drain(rt.alloc(), &mut source)?;
-        assert_eq!(rt; bytes.as_slice(), TEXT, "{most} a call");
-        assert_eq!(rt; met, 0);
-    }
-    Ok(())
-}
-
-#[test]
 fn a_sink_takes_what_it_has_room_for(rt: HostRuntime) -> Result<(), Fail> {
     // the room, the most bytes a call, the calls that fail, and then what is taken of the text and how
     // many of at most 10 writes fail
@@ -164,41 +126,6 @@ fn a_sink_takes_what_it_has_room_for(rt: HostRuntime) -> Result<(), Fail> {
         );
         assert_eq!(rt; sink.write(b""), Ok(0), "an empty piece needs no room");
     }
-    Ok(())
-}
-
-#[test]
-fn a_count_sink_counts(rt: HostRuntime) {
-    let mut sink = CountSink::new();
-    assert_eq!(rt; sink.count(), 0);
-    assert_eq!(rt; pour(&mut sink, TEXT), 0);
-    assert_eq!(rt; pour(&mut sink, b"hi"), 0);
-    assert_eq!(rt; sink.count(), 9);
-}
-
-#[test]
-fn a_shelf_gives_the_first_of_a_name(rt: HostRuntime) -> Result<(), Fail> {
-    let long_name = [b'n'; 255];
-    let pairs: [(&[u8], &[u8]); 5] = [
-        (b"a", b"one"),
-        (b"b", b"two"),
-        (b"a", b"three"),
-        (b"empty", b""),
-        (&long_name, b"\xff\0"),
-    ];
-    let mut files = Vec::new(rt.alloc());
-    for (name, file) in pairs {
-        let name = Bytes::new(name.to_vec(rt.alloc())?);
-        files.push((name, Bytes::new(file.to_vec(rt.alloc())?)))?;
-    }
-    let mut shelf = MemoryShelf::new(files, [1].to_vec(rt.alloc())?);
-    assert_fetch(&rt, rt.alloc(), &mut shelf, b"a", Ok(b"one"));
-    assert_fetch(&rt, rt.alloc(), &mut shelf, b"a", Err(ShelfError::Failed));
-    assert_fetch(&rt, rt.alloc(), &mut shelf, b"a", Ok(b"one"));
-    assert_fetch(&rt, rt.alloc(), &mut shelf, b"aa", Err(ShelfError::Missing));
-    assert_fetch(&rt, rt.alloc(), &mut shelf, b"b", Ok(b"two"));
-    assert_fetch(&rt, rt.alloc(), &mut shelf, b"empty", Ok(b""));
-    assert_fetch(&rt, rt.alloc(), &mut shelf, &long_name, Ok(b"\xff\0"));
     Ok(())
 }
 

@@ -30,6 +30,3 @@ pub const LINE_ROOM: usize = 4 * MOST_WRITTEN;
 
 /// The most bytes of a checkpoint's name.
 pub const MOST_NAME: usize = 32;
-
-#[cfg(test)]
-mod tests;

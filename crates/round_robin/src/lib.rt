@@ -9,6 +9,3 @@
 mod turns;
 
 pub use turns::RoundRobin;
-
-#[cfg(test)]
-mod tests;

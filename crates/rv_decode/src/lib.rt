@@ -26,8 +26,6 @@ mod instruction;
 mod names;
 mod rows;
 mod table;
-#[cfg(test)]
-mod tests;
 
 pub use base_table::rv64i;
 pub use decoder::decode;

@@ -28,6 +28,3 @@ pub use script::parse;
 
 /// The most turns of a command.
 pub const MOST_TURNS: u32 = 10_000_000;
-
-#[cfg(test)]
-mod tests;

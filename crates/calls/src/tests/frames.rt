@@ -1,6 +1,6 @@
 ghost use Rattle.std.specs.Prelude.{◌≡◌, ◌<◌, length};
 
-use crate::FramePool;
+use frame_pool::FramePool;
 use std::process::Abort;
 use std::test::Fail;
 

@@ -1,6 +1,6 @@
 ghost use Rattle.std.specs.Prelude.{◌≡◌, ◌<◌, [], ◌∷◌};
 
-use crate::{Bits, compose};
+use overlay_bits::{Bits, compose};
 use std::process::Abort;
 use std::test::Fail;
 

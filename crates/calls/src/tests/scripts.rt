@@ -5,10 +5,10 @@ mod long_rows;
 mod overlay_rows;
 mod rows;
 
-use crate::{Command, ScriptError, line_count, parse};
 use long_rows::LONG_ROWS;
 use overlay_rows::OVERLAY_ROWS;
 use rows::ROWS;
+use script_text::{Command, ScriptError, line_count, parse};
 use sizes::{MOST_SCRIPT_BYTES, MOST_SCRIPT_LINES};
 use std::alloc::{AllocError, Global};
 use std::test::Fail;

@@ -1,4 +1,4 @@
-use crate::RoundRobin;
+use round_robin::RoundRobin;
 use std::test::Fail;
 
 #[test]

@@ -1,10 +1,10 @@
-use crate::{
-    Answer, Code, LINE_ROOM, Line, Stop, answer_line, bad_line, checkpoint_line, list_line,
-    process_line, stop_line, turn_line,
-};
 use arrayvec::ArrayVec;
 use elf_loader::ElfError;
 use ovl_io::{Bytes, FaultKind, ProcessState, Turn, Written};
+use report_text::{
+    Answer, Code, LINE_ROOM, Line, Stop, answer_line, bad_line, checkpoint_line, list_line,
+    process_line, stop_line, turn_line,
+};
 use std::test::Fail;
 
 #[test]

@@ -1,6 +1,6 @@
 //! Words as an assembler wrote them, against the fields in the assembly, and words that another disassembler refuses.
 
-use super::*;
+use rv_decode::{CaseRow, CaseTable, Format, Instr, Name, decode, encode, rv64i};
 use std::test::Fail;
 
 #[test]

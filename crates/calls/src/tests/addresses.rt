@@ -1,4 +1,4 @@
-use crate::OverlayPage;
+use overlay_address::OverlayPage;
 use std::process::Abort;
 use std::test::Fail;
 
