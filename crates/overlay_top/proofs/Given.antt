@@ -13,7 +13,7 @@ use Rattle.command_core.specs.LikeLaws.{AreLikePerformed, like_exec_turns, state
 use Rattle.overlay_top.specs.declared.running.Halt.{Halt}
 use Rattle.overlay_top.specs.declared.running.Halt.TheVariants as halt
 use Rattle.overlay_top.specs.Sending.{IsCut, IsSent}
-use Rattle.overlay_top.specs.Running.{EndsCommand, TakesOn, Tells}
+use Rattle.overlay_top.specs.Running.{EndsCommand, TakesOn, TellsAnswer}
 
 -- What a change gave, and what was sent of it.
 
@@ -28,7 +28,7 @@ given_is row old Memory new gives other = absurd (other refl)
 
 -- its line, or nothing for want of memory
 pub tells_row : {K : Type 0} (k : SinkOf K) (row : Row) (old : State) (answer : Answer) (new : State) (sink_old sink_new : K) (r : Result (Unit {0}) Halt)
-    → GivesChange row old answer new → Tells k answer sink_old sink_new r → EndsCommand k sink_old sink_new (row_told row old) new r
+    → GivesChange row old answer new → TellsAnswer k answer sink_old sink_new r → EndsCommand k sink_old sink_new (row_told row old) new r
 tells_row k row old answer new sink_old sink_new (Ok unit) gives (other, sound, sent) =
     let comes = given_is row old answer new gives other in (
       sound,

@@ -91,11 +91,11 @@ pub record TakesOn {K T E : Type 0} (k : SinkOf K) (sink_old sink_new : K) (done
   pub quantum : new.quantum ≡ old.quantum
 
 -- what came of a change was told: its line; or nothing for want of memory
-abbrev pub Tells : {K : Type 0} → SinkOf K → Answer → K → K → Result (Unit {0}) Halt → Type 0
-Tells k answer old new (Ok unit) = (answer ≡ told.Memory → ⊥) × SinkSound k old new × (k.tells → IsSent (k.taken old) (answer_text answer) (k.taken new))
-Tells k answer old new (Err SendFailed) = (answer ≡ told.Memory → ⊥) × SinkRose k old new × (k.tells → IsCut (k.taken old) (answer_text answer) (k.taken new))
-Tells k answer old new (Err Memory) = (answer ≡ told.Memory) × (new ≡ old)
-Tells k answer old new other = ⊥
+abbrev pub TellsAnswer : {K : Type 0} → SinkOf K → Answer → K → K → Result (Unit {0}) Halt → Type 0
+TellsAnswer k answer old new (Ok unit) = (answer ≡ told.Memory → ⊥) × SinkSound k old new × (k.tells → IsSent (k.taken old) (answer_text answer) (k.taken new))
+TellsAnswer k answer old new (Err SendFailed) = (answer ≡ told.Memory → ⊥) × SinkRose k old new × (k.tells → IsCut (k.taken old) (answer_text answer) (k.taken new))
+TellsAnswer k answer old new (Err Memory) = (answer ≡ told.Memory) × (new ≡ old)
+TellsAnswer k answer old new other = ⊥
 
 -- What a command with a file comes to was sent, and done; or there was no memory, where it may want that, and nothing was sent; or the sink
 -- failed.

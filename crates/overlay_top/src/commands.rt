@@ -5,7 +5,7 @@ ghost use Rattle.report_text.specs.Answers.{HasAnswerLine, answer_text};
 ghost use Rattle.command_core.specs.Changes.{CanBeTold};
 ghost use Rattle.command_core.specs.Commands.{RunsLoaded, asks, change_told, exec_done, exec_turns, list_done, list_text, load_told, performed_in, processes_text, run_done, step_done, takes_left, tells_exec};
 ghost use Rattle.overlay_top.specs.Sending.{SendsText};
-ghost use Rattle.overlay_top.specs.Running.{DoesCommand, TakesOn, Tells};
+ghost use Rattle.overlay_top.specs.Running.{DoesCommand, TakesOn, TellsAnswer};
 
 use crate::running::Halt;
 use crate::sending::Report;
@@ -27,7 +27,7 @@ fn send_answer<K: Sink>(answer: &Answer, report: &mut Report<K>) -> Result<(), F
 /// Sends the line of what came of a change. For want of memory there is none.
 fn tell<K: Sink>(answer: &Answer, report: &mut Report<K>) -> Result<(), Halt>
     requires { CanBeTold answer.now }
-    ensures tells { Tells K.Sink answer.now report.old.sink.now report.new.sink.now result }
+    ensures tells { TellsAnswer K.Sink answer.now report.old.sink.now report.new.sink.now result }
     ensures same { report.new.sink.ghost_name ≡ report.old.sink.ghost_name }
 {
     if let Answer::Memory = answer {
