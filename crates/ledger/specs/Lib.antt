@@ -1,5 +1,5 @@
 -- In reading order: the ledger, its units, new origins, what an access touches, what is done to a page, the ledger after each
--- event, and ledgers that are alike.
+-- event, and ledgers that are alike; then laws, and examples that the checker computes.
 pub mod Ledger
 pub mod Units
 pub mod Origins
@@ -18,3 +18,5 @@ pub mod RowLaws
 pub mod TallyLaws
 pub mod StoreLaws
 pub mod CopyLaws
+pub mod Written
+pub mod Examples

@@ -1,0 +1,196 @@
+use Rattle.std.specs.Prelude.{◌≡◌, ℕ, ◌+◌, ◌*◌, true, false, List, [], ◌∷◌, ◌++◌, map, refl}
+use Rattle.std.proofs.Common.{◌∙◌}
+use Rattle.std.specs.List.{range_with_len}
+use Rattle.std.specs.FinMap.{empty}
+use Rattle.sizes.specs.declared.TheConstants.{PAGE_BYTES}
+use Rattle.ledger.specs.Units.{class, units}
+use Rattle.ledger.specs.Changes.{with_lines}
+use Rattle.ledger.specs.Events.{Event, Load, Store, Copy, Settle, SettlePage, Commit, Discard, Map, Unmap, Drop}
+use Rattle.ledger.specs.UnitLaws.{frame_for}
+use Rattle.ledger.specs.Touched.{lines_on_page, touched, touched_between}
+use Rattle.ledger.specs.Written.{all_after, units_are}
+
+-- The units after some events, as the checker computes them from what each event does.
+
+-- some events, from no space on, come to so many units
+abbrev pub Needs : List Event → ℕ → Type 0
+Needs events count = units (all_after events empty) ≡ count
+
+-- a load of 17 pages: page 16, which is stored, and the stack
+abbrev loads : ℕ → Event
+loads space = Load space ((16, true) ∷ map (λ page. (page, false)) (range_with_len 67108848 16))
+
+-- a store of so many bytes at an address, in a space that isn't speculating, and in one that is
+abbrev stores : ℕ → ℕ → ℕ → Event
+stores space address count = Store false space (touched address count)
+
+abbrev stores_speculating : ℕ → ℕ → ℕ → Event
+stores_speculating space address count = Store true space (touched address count)
+
+-- a load of 17 pages of which one is stored: 32 units
+pub units_loaded : Needs (loads 1 ∷ []) 32
+unfolding class frame_for
+units_loaded = units_are (loads 1 ∷ []) ∙ refl
+
+-- Stores into the stack.
+
+abbrev stack_once : List Event
+stack_once = loads 1 ∷ stores 1 274877906928 8 ∷ []
+
+abbrev stack_four_times : List Event
+stack_four_times = stack_once ++ (stores 1 274877906864 8 ∷ stores 1 274877906800 8 ∷ stores 1 274877906736 8 ∷ [])
+
+-- a load, and a store into its stack: 33 units
+pub line_of_the_stack : Needs stack_once 33
+unfolding class frame_for with_lines touched touched_between lines_on_page
+line_of_the_stack = units_are stack_once ∙ refl
+
+-- and stores into three lines more, so that its segment has four: 34
+pub lines_of_the_stack : Needs stack_four_times 34
+unfolding class frame_for with_lines touched touched_between lines_on_page
+lines_of_the_stack = units_are stack_four_times ∙ refl
+
+-- A store over two pages: the first is alone, the second is on the zero frame.
+
+abbrev over_two_pages : List Event
+over_two_pages = loads 1 ∷ loads 2 ∷ Map 1 17 1 ∷ stores 1 69628 8 ∷ []
+
+abbrev over_two_pages_later : List Event
+over_two_pages_later = loads 1 ∷ loads 2 ∷ Map 1 17 1 ∷ Drop 2 ∷ stores 1 69628 8 ∷ []
+
+-- beside another load: 49 units
+pub two_pages_beside : Needs over_two_pages 49
+unfolding class frame_for with_lines touched touched_between lines_on_page
+two_pages_beside = units_are over_two_pages ∙ refl
+
+-- once the other space is gone: 33
+pub two_pages_alone : Needs over_two_pages_later 33
+unfolding class frame_for with_lines touched touched_between lines_on_page
+two_pages_alone = units_are over_two_pages_later ∙ refl
+
+-- Segments that grow: a zero page of which 31 lines are stored, then 32, then 64.
+
+abbrev with_31_lines : List Event
+with_31_lines = loads 1 ∷ Map 1 32 1 ∷ stores 1 131072 1984 ∷ []
+
+abbrev with_32_lines : List Event
+with_32_lines = with_31_lines ++ (stores 1 133056 1 ∷ [])
+
+abbrev with_64_lines : List Event
+with_64_lines = with_32_lines ++ (stores 1 133120 2048 ∷ [])
+
+pub units_of_31_lines : Needs with_31_lines 40
+unfolding class frame_for with_lines touched touched_between lines_on_page
+units_of_31_lines = units_are with_31_lines ∙ refl
+
+pub units_of_32_lines : Needs with_32_lines 48
+unfolding class frame_for with_lines touched touched_between lines_on_page
+units_of_32_lines = units_are with_32_lines ∙ refl
+
+pub units_of_64_lines : Needs with_64_lines 48
+unfolding class frame_for with_lines touched touched_between lines_on_page
+units_of_64_lines = units_are with_64_lines ∙ refl
+
+-- A fork, and a speculation that is given up.
+
+abbrev forked : List Event
+forked = loads 1 ∷ Copy 1 2 ∷ stores 1 67584 1 ∷ []
+
+abbrev started : List Event
+started = forked ++ (Settle 1 ∷ [])
+
+abbrev started_and_stored : List Event
+started_and_stored = started ++ (stores_speculating 1 67584 1 ∷ [])
+
+abbrev stored_alone : List Event
+stored_alone = started ++ (Drop 2 ∷ stores_speculating 1 67584 1 ∷ stores_speculating 1 67648 1 ∷ [])
+
+abbrev given_up : List Event
+given_up = stored_alone ++ (Discard 1 ∷ [])
+
+-- a load, a fork of it, and a store into the page that both have: 33 units
+pub units_forked : Needs forked 33
+unfolding class frame_for with_lines touched touched_between lines_on_page
+units_forked = units_are forked ∙ refl
+
+-- the page is settled in a frame of its own: 48
+pub units_started : Needs started 48
+unfolding class frame_for with_lines touched touched_between lines_on_page
+units_started = units_are started ∙ refl
+
+-- a store while it is speculating: 49
+pub units_speculating : Needs started_and_stored 49
+unfolding class frame_for with_lines touched touched_between lines_on_page
+units_speculating = units_are started_and_stored ∙ refl
+
+-- two of them once the other space is gone: 33
+pub units_speculating_alone : Needs stored_alone 33
+unfolding class frame_for with_lines touched touched_between lines_on_page
+units_speculating_alone = units_are stored_alone ∙ refl
+
+-- and given up: 32
+pub units_given_up : Needs given_up 32
+unfolding class frame_for with_lines touched touched_between lines_on_page
+units_given_up = units_are given_up ∙ refl
+
+-- A speculation that is committed while its page is shared: the overlay stays, with 33 units.
+
+abbrev committed_shared : List Event
+committed_shared = loads 1 ∷ Copy 1 2 ∷ Settle 1 ∷ stores_speculating 1 67584 1 ∷ Commit 1 ∷ []
+
+pub units_committed_shared : Needs committed_shared 33
+unfolding class frame_for with_lines touched touched_between lines_on_page
+units_committed_shared = units_are committed_shared ∙ refl
+
+-- A page that comes to be alone.
+
+abbrev alone_again : List Event
+alone_again = loads 1 ∷ stores 1 67584 1 ∷ Copy 1 2 ∷ stores 1 67584 1 ∷ Drop 2 ∷ stores 1 67648 1 ∷ []
+
+abbrev promoted : List Event
+promoted = alone_again ++ (SettlePage 1 16 ∷ [])
+
+-- what is stored then goes into its frame, beside the overlay that it has: 33 units
+pub units_alone_again : Needs alone_again 33
+unfolding class frame_for with_lines touched touched_between lines_on_page
+units_alone_again = units_are alone_again ∙ refl
+
+-- and promoted, without it: 32
+pub units_promoted : Needs promoted 32
+unfolding class frame_for with_lines touched touched_between lines_on_page
+units_promoted = units_are promoted ∙ refl
+
+-- Sixteen overlays of a line each, of which every other one goes.
+
+abbrev sixteen_overlays : List Event
+sixteen_overlays = loads 1 ∷ Map 1 32 16 ∷ map (λ page. stores 1 (PAGE_BYTES * page) 1) (range_with_len 32 16)
+
+abbrev eight_overlays : List Event
+eight_overlays = sixteen_overlays ++ map (λ k. Unmap 1 (32 + 2 * k) 1) (range_with_len 0 8)
+
+abbrev and_one_of_sixteen_lines : List Event
+and_one_of_sixteen_lines = eight_overlays ++ (Map 1 48 1 ∷ stores 1 196608 1024 ∷ [])
+
+-- 48 units
+pub units_of_sixteen_overlays : Needs sixteen_overlays 48
+unfolding class frame_for with_lines touched touched_between lines_on_page
+units_of_sixteen_overlays = units_are sixteen_overlays ∙ refl
+
+-- 40 once eight of their pages are unmapped
+pub units_of_eight_overlays : Needs eight_overlays 40
+unfolding class frame_for with_lines touched touched_between lines_on_page
+units_of_eight_overlays = units_are eight_overlays ∙ refl
+
+-- and 48 again with one overlay of sixteen lines
+pub units_of_nine_overlays : Needs and_one_of_sixteen_lines 48
+unfolding class frame_for with_lines touched touched_between lines_on_page
+units_of_nine_overlays = units_are and_one_of_sixteen_lines ∙ refl
+
+-- A checkpoint that is restored twice and forgotten: 32 units.
+
+abbrev restored_twice : List Event
+restored_twice = loads 1 ∷ Copy 1 2 ∷ stores 1 67584 1 ∷ Copy 2 1 ∷ stores 1 67584 1 ∷ Copy 2 1 ∷ Drop 2 ∷ []
+
+pub units_restored_twice : Needs restored_twice 32
+unfolding class frame_for with_lines touched touched_between lines_on_page
+units_restored_twice = units_are restored_twice ∙ refl
