@@ -10,7 +10,7 @@ use Rattle.overlay_memory.specs.Walked.{one_further}
 use Rattle.promotion.specs.FateFolds.{arent_same, or_page}
 use Rattle.promotion.specs.Turns.{HasTurned, own_now, said_again, still}
 
--- The pages of a space, walked in ascending order: all of them, or those with own lines alone.
+-- The pages of a space with own lines, walked in ascending order.
 
 -- none is behind at first
 walked_none : (r : ℕ) → nat_lt r 0 ≡ false
