@@ -402,14 +402,12 @@ impl OverlayMemory {
     }
 
     /// The units of the ledger. Costs a step.
-    // The limit is asked for what its contract says: that it is few.
     #[inline]
     pub fn units(&self) -> u32
         ensures sum { result ≡ units_of (state_of self.now) }
         ensures fits { Fits (state_of self.now) }
         ensures few { result ≤ MOST_UNITS }
     {
-        let _limit = self.pages.limit();
         self.pages.units()
     }
 

@@ -225,6 +225,7 @@ impl OverlayPages {
     pub fn units(&self) -> u32
         ensures sum { result ≡ units_of (state_of self.now) }
         ensures fits { Fits (state_of self.now) }
+        ensures few { result ≤ MOST_UNITS }
     {
         self.ledger.units()
     }
