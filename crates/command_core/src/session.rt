@@ -286,7 +286,7 @@ fn not_made(error: SpaceError) -> Answer
 }
 
 impl Session {
-    /// A session without a process, of 1 to 65,536 frames, whose turns have this quantum: 1 to 1,000,000.
+    /// A session without a process, of 1 to 65,536 frames, whose turns have this quantum: 1 or more.
     pub fn new(alloc: Global, frames: u32, quantum: u32) -> Result<Session, AllocError>
         requires some { 0 < frames }
         requires few { frames ≤ MOST_FRAMES }
