@@ -1,18 +1,17 @@
-use Rattle.std.proofs.Common.{◌≡◌, ℕ, ◌≤◌, ◌<◌, nat_lt, Bool, true, false, cond, sym, ap, subst, ◌∙◌, refl, arith, Option, Some, None}
+use Rattle.std.proofs.Common.{◌≡◌, ℕ, Bool, true, false, cond, sym, ap, subst, ◌∙◌, refl, arith, Option, Some, None}
 use Rattle.std.specs.Prelude.{◌==◌, ◌||◌, Result, Ok, Err}
 use Rattle.std.specs.Option.{is_some, option_map, unwrap_or}
 use Rattle.std.specs.FinMap.{get, insert, remove}
 use Rattle.std.proofs.lemmas.Bool.Decides.{nat_tests}
 use Rattle.number_maps.specs.Keys.{alike, by_key, get_other, get_same, removed_other, removed_same}
 use Rattle.ledger.specs.Events.{Copy}
-use Rattle.overlay_pages.specs.Changes.{limit_of}
 use Rattle.overlay_pages.specs.State.{SpaceState, State, bare_space, base_of, cut_space, holds_space, space_in}
 use Rattle.overlay_pages.specs.View.{MemoryView, state_of}
 use Rattle.overlay_memory.specs.declared.error.SpaceError.{SpaceError}
 use Rattle.overlay_memory.specs.declared.error.SpaceError.TheVariants as error
 use Rattle.fork_checkpoint.specs.Forked.{Forks, HasForked}
 use Rattle.machine_core.specs.declared.process.Process as declared
-use Rattle.machine_core.specs.Machine.{IsDropped, Machine, Processes, has_space, kept_whole, none_saved, processes_of, spaces_of, whole_in, wholes, with_memory, with_process_at}
+use Rattle.machine_core.specs.Machine.{IsDropped, Machine, Processes, has_space, kept_whole, none_saved, processes_of, spaces_of, whole_in, with_memory, with_process_at}
 use Rattle.machine_core.specs.Laws.{processes_at, processes_with, whole_by}
 use Rattle.machine_core.specs.Load.{IsAsBefore}
 use Rattle.command_core.specs.Rows.{ledger_by}

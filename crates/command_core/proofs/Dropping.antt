@@ -4,7 +4,7 @@ use Rattle.machine_core.specs.declared.process.Process as declared
 use Rattle.machine_core.specs.Machine.{IsDropped, Machine, Wholes, spaces_of, whole_in, wholes, without_pages, without_process}
 use Rattle.machine_core.specs.Laws.{wholes_dropped}
 use Rattle.report_text.specs.declared.answer.Answer.TheVariants.{Done}
-use Rattle.command_core.specs.State.{State, registry_of}
+use Rattle.command_core.specs.State.{registry_of}
 use Rattle.command_core.specs.Sessions.{state_of}
 use Rattle.command_core.specs.Rows.{accepts, ledger_by}
 use Rattle.command_core.specs.Giving.{GivesChange}

@@ -1,4 +1,4 @@
-use Rattle.std.proofs.Common.{◌≡◌, ℕ, ◌+◌, ◌≤◌, ◌<◌, ◌&&◌, nat_lt, arith, Bool, true, false, cond, sym, ap, subst, ◌∙◌, refl, Option, Some, None}
+use Rattle.std.proofs.Common.{◌≡◌, ℕ, ◌≤◌, ◌<◌, ◌&&◌, nat_lt, arith, Bool, true, false, cond, sym, ap, subst, ◌∙◌, refl, Option, Some, None}
 use Rattle.std.specs.Prelude.{not}
 use Rattle.std.specs.Option.{is_some, option_map, option_map_or}
 use Rattle.std.specs.FinMap.{get}

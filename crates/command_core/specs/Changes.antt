@@ -1,4 +1,4 @@
-use Rattle.std.specs.Prelude.{◌≡◌, ℕ, ◌+◌, true, false, List, [], ◌∷◌, Some}
+use Rattle.std.specs.Prelude.{ℕ, ◌+◌, true, false, List, [], ◌∷◌}
 use Rattle.std.specs.Option.{option_map, option_map_or}
 use Rattle.std.specs.FinMap.{get, remove}
 use Rattle.elf_loader.specs.Accepted.{file_refusal}
@@ -9,8 +9,7 @@ use Rattle.machine_core.specs.Load.{load_pages, loaded_process, page_count}
 use Rattle.overlay_memory.specs.declared.error.SpaceError.{SpaceError}
 use Rattle.overlay_memory.specs.declared.error.SpaceError.TheVariants as error
 use Rattle.report_text.specs.declared.answer.Answer.{Answer}
-use Rattle.report_text.specs.declared.answer.Answer.TheVariants.{Done, Loaded, Forked, Saved, Refused, Full, Memory}
-use Rattle.report_text.specs.declared.answer.Code.{Code}
+use Rattle.report_text.specs.declared.answer.Answer.TheVariants.{Loaded, Full, Memory}
 use Rattle.report_text.specs.declared.answer.Code.TheVariants.{NoProcess, Elf}
 use Rattle.report_text.specs.Answers.{HasAnswerLine}
 use Rattle.script_text.specs.declared.command.Command.{Command}

@@ -1,4 +1,4 @@
-use Rattle.std.specs.Prelude.{◌≡◌, ℕ, zero, suc, ◌+◌, ◌-◌, ◌==◌, nat_lt, ◌&&◌, Bool, true, false, cond, List, ◌∷◌, ◌++◌, flat_map, length, Option, Some, None, refl, ◌≤◌}
+use Rattle.std.specs.Prelude.{◌≡◌, ℕ, zero, suc, ◌-◌, ◌==◌, nat_lt, ◌&&◌, Bool, true, false, cond, List, ◌∷◌, ◌++◌, flat_map, length, Option, Some, None, refl, ◌≤◌}
 use Rattle.std.proofs.Common.{sym, ap, subst, ◌∙◌, arith, eqb-true}
 use Rattle.std.specs.Option.{is_some, option_map_or}
 use Rattle.std.specs.FinMap.{entries, get}

@@ -1,11 +1,10 @@
 use Rattle.std.proofs.Common.{rules, ◌+◌, ◌≤◌, subst, sym, Some, None}
 use Rattle.sizes.specs.declared.TheConstants.{LAST_SPACE}
-use Rattle.command_core.specs.State.{State, registry_of}
+use Rattle.command_core.specs.State.{registry_of}
 use Rattle.command_core.specs.Sessions.{InSession, state_of}
 use Rattle.command_core.specs.Giving.{GivesChange}
 use Rattle.command_core.specs.Forks.{fork_row}
 use Rattle.command_core.specs.Changes.{on_process}
-use Rattle.report_text.specs.declared.answer.Answer.{Answer}
 use Rattle.report_text.specs.declared.answer.Answer.TheVariants.{Forked, Refused}
 use Rattle.command_core.proofs.Forkings.{gives_forked, gives_refused, gives_unforked, refusal_by, session_forked}
 use Rattle.command_core.proofs.Rows.{gives_found}

@@ -1,4 +1,4 @@
-use Rattle.std.proofs.Common.{◌≡◌, ◌+◌, ◌==◌, false, ap, subst, sym, ◌∙◌}
+use Rattle.std.proofs.Common.{◌+◌, ◌==◌, ap, subst, sym, ◌∙◌}
 use Rattle.sizes.specs.declared.TheConstants.{LAST_SPACE}
 use Rattle.command_core.specs.State.{registry_of}
 use Rattle.command_core.specs.Sessions.{InSession, state_of}
