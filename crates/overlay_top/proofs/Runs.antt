@@ -2,7 +2,7 @@ use Rattle.std.proofs.Common.{◌≡◌, ℕ, suc, ◌+◌, ◌<◌, ◌≤◌, 
 use Rattle.std.proofs.Math.Seq.{take-append_seam, drop-cons}
 use Rattle.std.proofs.lemmas.Grind.{flat_map-append}
 use Rattle.std.proofs.lemmas.List.{length-map}
-use Rattle.std.specs.Prelude.{flat_map, map}
+use Rattle.std.specs.Prelude.{map}
 use Rattle.ovl_io.specs.Outside.{AsksFor}
 use Rattle.ovl_io.specs.declared.shelf.ShelfError.TheVariants as shelf
 use Rattle.ovl_io.specs.declared.shelf.Shelf.{Ghosts as ShelfOf}

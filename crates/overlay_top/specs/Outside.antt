@@ -6,7 +6,7 @@ use Rattle.ovl_io.specs.declared.source.Source.{Ghosts as SourceOf}
 use Rattle.ovl_io.specs.declared.shelf.Shelf.{Ghosts as ShelfOf}
 use Rattle.ovl_io.specs.declared.sink.Sink.{Ghosts as SinkOf}
 use Rattle.overlay_top.specs.declared.running.Halt.{Halt}
-use Rattle.overlay_top.specs.declared.running.Halt.TheVariants.{Missing, FetchFailed, TooLong, Memory, SendFailed}
+use Rattle.overlay_top.specs.declared.running.Halt.TheVariants.{Missing, FetchFailed, SendFailed}
 
 -- What the outside shows of a call, by its objects before it and after it: whether its faults rose, or none came.
 
