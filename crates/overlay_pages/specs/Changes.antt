@@ -10,7 +10,8 @@ use Rattle.ledger.specs.Ledger.{is_alone, is_unused}
 use Rattle.ledger.specs.Changes.{with_lines}
 use Rattle.ledger.specs.Units.{class, units}
 use Rattle.overlay_pages.specs.Lines.{zero_page}
-use Rattle.overlay_pages.specs.State.{PageState, State, books, page_in, put_page, put_shared, space_in, turned_page}
+use Rattle.overlay_pages.specs.State.{PageState, State, books}
+use Rattle.space_maps.specs.Spaces.{page_in, put_page, put_shared, space_in, turned_page}
 
 -- What is done to a page.
 
@@ -72,7 +73,7 @@ with_written state space page line bytes = turned_page (written line bytes) stat
 
 -- pages on the zero frame, one after the other
 unfoldable pub with_zeros : State → ℕ → ℕ → ℕ → PageEntry → State
-with_zeros state space from count entry = fold (λ s page. put_page s space page (whole_page entry zero_page)) state (range_with_len from count)
+with_zeros state space from count entry = put_pages state space from count (whole_page entry zero_page)
 
 -- a page of an adopted table is shared from another space
 unfoldable pub with_shared : State → ℕ → ℕ → ℕ → State
