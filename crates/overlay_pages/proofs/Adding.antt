@@ -12,7 +12,7 @@ use Rattle.space_maps.specs.Laws.{keeps_page_put, page_put_here}
 use Rattle.space_maps.specs.Spaces.{holds_space, page_in, put_page, put_space, space_in}
 use Rattle.space_ledger.specs.View.{LedgerView, PageView, ledger_of, overlay_at, with_zero_pages}
 use Rattle.overlay_pages.specs.Lines.{zero_page}
-use Rattle.overlay_pages.specs.State.{PageState, State, books}
+use Rattle.overlay_pages.specs.State.{State}
 use Rattle.overlay_pages.specs.Changes.{IsPlaced, limit_of, moved_to, units_of, whole_page}
 use Rattle.overlay_pages.specs.Steps.{Moved}
 use Rattle.overlay_pages.specs.View.{IsJoined, MemoryView, state_of, view_of}

@@ -16,8 +16,8 @@ use Rattle.segment_store.specs.Kept.{IsStore}
 use Rattle.segment_store.specs.Store.{Store, IsFrame, frame_line, frame_page, frame_place, line_in, place_of, scratch_line, scratch_page, segment_at}
 use Rattle.segment_store.specs.Changes.{KeepsFrames, KeepsScratch, Lifts}
 use Rattle.space_maps.specs.Books.{books_page, books_put_page}
-use Rattle.space_maps.specs.Laws.{keeps_page_put, page_again, page_put_here, set_some, there_space}
-use Rattle.space_maps.specs.Spaces.{of_pages, page_in, put_page, put_space, set_page, space_in, turned_page}
+use Rattle.space_maps.specs.Laws.{keeps_page_put, page_again, page_over, page_put_here, set_some, there_space}
+use Rattle.space_maps.specs.Spaces.{page_in, put_page, put_space, set_page, space_in, turned_page}
 use Rattle.space_ledger.specs.View.{LedgerView, PageView, ledger_of, lines_of, overlay_at}
 use Rattle.overlay_pages.specs.Lines.{line_in_page, page_lines, same_lines}
 use Rattle.overlay_pages.specs.LineLaws.{lines_same}
@@ -28,7 +28,7 @@ use Rattle.overlay_pages.specs.View.{IsHeld, IsJoined, IsOwned, MemoryView, line
 use Rattle.overlay_pages.specs.ViewLaws.{state_awaiting, state_books, state_holds, state_page_some, state_page_there}
 use Rattle.overlay_pages.proofs.Steps.{Step, some_page, state_stepped, stepped}
 use Rattle.overlay_pages.proofs.Joining.{Has, page_with}
-use Rattle.overlay_pages.proofs.Growing.{free_is, put_over, turn_is, turned_limit, turned_units}
+use Rattle.overlay_pages.proofs.Growing.{free_is, turn_is, turned_limit, turned_units}
 use Rattle.overlay_pages.proofs.Lending.{alone_frame, alone_not_zero}
 
 -- A frame that is a page's alone is filled.
@@ -109,7 +109,7 @@ pub commits : (a b c : MemoryView) (s p : ℕ) (x : PageView) → page_in a.tabl
 commits a b c s p x there b_is same c_is =
     let at_b = ap (λ st. page_in st s p) b_is ∙ page_put_here (state_of a) s p (page_state b.store x) s p refl refl in
     c_is ∙ turn_is discarded (state_of b) s p (page_state b.store x) at_b ∙ ap (λ st. put_page st s p (discarded (page_state b.store x))) b_is
-    ∙ put_over (state_of a) s p (page_state b.store x) (discarded (page_state b.store x)) ∙ ap (put_page (state_of a) s p) same
+    ∙ page_over (state_of a) s p (page_state b.store x) (discarded (page_state b.store x)) ∙ ap (put_page (state_of a) s p) same
     ∙ sym (turn_is committed (state_of a) s p (page_state a.store x) (state_page_there a s p x there))
 
 pub page_frame : (v : LedgerView) (s p : ℕ) (x : PageView) (frame : ℕ) → page_in v s p ≡ Some x → option_map (λ (y : PageView). y.entry.frame) (page_in v s p) ≡ Some frame → x.entry.frame ≡ frame
@@ -223,5 +223,5 @@ module _ (a : MemoryView) (s p : ℕ) (e : Entry) (is : IsJoined a) (there : IsS
       record {
         frame = at.frame;
         fresh = new_then at.frame at.fresh;
-        placed = at.placed ∙ put_over (state_of a) s p (discarded was) (moved_to (discarded was) (same_lines out) at.frame) ∙ ap (λ l. put_page (state_of a) s p (moved_to was l at.frame)) lines;
+        placed = at.placed ∙ page_over (state_of a) s p (discarded was) (moved_to (discarded was) (same_lines out) at.frame) ∙ ap (λ l. put_page (state_of a) s p (moved_to was l at.frame)) lines;
       })

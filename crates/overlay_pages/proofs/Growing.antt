@@ -2,7 +2,6 @@ use Rattle.std.specs.Prelude.{◌≡◌, ℕ, ◌+◌, ◌*◌, ◌^◌, ◌<◌
 use Rattle.std.proofs.Common.{sym, ap, ◌∙◌, arith}
 use Rattle.std.specs.Option.{option_and_then, option_map, option_map_or}
 use Rattle.std.specs.FinMap.{get, insert}
-use Rattle.number_maps.specs.Keys.{insert_over}
 use Rattle.unit_map.specs.Pieces.{free_units, units_in}
 use Rattle.overlay_bits.specs.Lines.{AreLines, has_line, with_line}
 use Rattle.overlay_bits.specs.Laws.{count_with}
@@ -18,8 +17,8 @@ use Rattle.segment_store.specs.Store.{Store, frame_line, frame_place, place_of, 
 use Rattle.segment_store.specs.Changes.{KeepsFrames, KeepsScratch, KeepsSegments, Lifts}
 use Rattle.segment_store.specs.Laws.{count_fits}
 use Rattle.space_maps.specs.Books.{books_page, books_put_page}
-use Rattle.space_maps.specs.Laws.{changed_there, keeps_still, page_put_here, space_put, spaces_alike}
-use Rattle.space_maps.specs.Spaces.{page_in, put_page, space_in, turned_page}
+use Rattle.space_maps.specs.Laws.{changed_there, keeps_still, page_over, page_put_here, spaces_alike}
+use Rattle.space_maps.specs.Spaces.{page_in, put_page, put_space, turned_page}
 use Rattle.space_ledger.specs.View.{LedgerView, PageView, ledger_of, lines_of, overlay_at}
 use Rattle.overlay_pages.specs.LineLaws.{lines_same, set_line}
 use Rattle.overlay_pages.specs.Lines.{page_lines}
@@ -27,7 +26,7 @@ use Rattle.overlay_pages.specs.State.{PageState, State, books, held_page}
 use Rattle.overlay_pages.specs.Changes.{Fits, discarded, limit_of, units_of}
 use Rattle.overlay_pages.specs.Steps.{joins, laid, laid_line}
 use Rattle.overlay_pages.specs.View.{IsHeld, IsJoined, MemoryView, line_seen, page_state, segment_of, state_of, view_of}
-use Rattle.overlay_pages.specs.ViewLaws.{state_alike, state_awaiting, state_books, state_frames, state_holds, state_mark, state_page, state_page_some, state_page_there, state_zero}
+use Rattle.overlay_pages.specs.ViewLaws.{state_books, state_frames, state_page, state_page_some, state_page_there}
 use Rattle.overlay_pages.proofs.Steps.{held_kept, page_kept, state_keeps}
 use Rattle.overlay_pages.proofs.Joining.{Has, order_low, overlay_segment, overlay_set, page_with, sets_are}
 use Rattle.overlay_pages.proofs.Sizes.{can_grow, next_place, next_size}
@@ -38,20 +37,9 @@ use Rattle.overlay_pages.proofs.Sizes.{can_grow, next_place, next_size}
 pub turn_is : (turn : PageState → PageState) (st : State) (s p : ℕ) (y : PageState) → page_in st s p ≡ Some y → turned_page turn st s p ≡ put_page st s p (turn y)
 turn_is turn st s p y there = changed_there turn st s p y there
 
-pub put_over : (st : State) (s p : ℕ) (x y : PageState) → put_page (put_page st s p x) s p y ≡ put_page st s p y
-unfolding put_page Rattle.overlay_pages.specs.State.put_space
-put_over st s p x y =
-    let one = Rattle.overlay_pages.specs.State.of_pages (space_in st s) (insert (space_in st s).pages p x) in
-    let here : space_in (put_page st s p x) s ≡ one = space_put st s one s refl in
-    let pages : insert (space_in (put_page st s p x) s).pages p y ≡ insert (space_in st s).pages p y = ap (λ (z : Rattle.overlay_pages.specs.State.SpaceState). insert z.pages p y) here ∙ insert_over (space_in st s).pages p x y in
-    let space : Rattle.overlay_pages.specs.State.of_pages (space_in (put_page st s p x) s) (insert (space_in (put_page st s p x) s).pages p y) ≡ Rattle.overlay_pages.specs.State.of_pages (space_in st s) (insert (space_in st s).pages p y) =
-    λ i. record { pages = pages i; awaiting = (here i).awaiting; speculating = (here i).speculating } in
-    let all = ap (insert (insert st.spaces s one) s) space ∙ insert_over st.spaces s one (Rattle.overlay_pages.specs.State.of_pages (space_in st s) (insert (space_in st s).pages p y)) in
-    λ i. record { spaces = all i; frames = st.frames; zero_frame = st.zero_frame }
-
 pub turned_twice : (f g : PageState → PageState) (st : State) (s p : ℕ) (y : PageState) → page_in st s p ≡ Some y → turned_page f (turned_page g st s p) s p ≡ put_page st s p (f (g y))
 turned_twice f g st s p y there =
-    ap (λ t. turned_page f t s p) (turn_is g st s p y there) ∙ turn_is f (put_page st s p (g y)) s p (g y) (page_put_here st s p (g y) s p refl refl) ∙ put_over st s p (g y) (f (g y))
+    ap (λ t. turned_page f t s p) (turn_is g st s p y there) ∙ turn_is f (put_page st s p (g y)) s p (g y) (page_put_here st s p (g y) s p refl refl) ∙ page_over st s p (g y) (f (g y))
 
 -- What that makes of the units.
 pub turned_units : (turn : PageState → PageState) (st : State) (s p : ℕ) (y : PageState) → page_in st s p ≡ Some y → (turn y).entry.frame ≡ y.entry.frame
@@ -63,7 +51,7 @@ turned_units turn st s p y there same =
     (ap (Rattle.space_ledger.specs.View.origin_of st.zero_frame) same)
 
 pub turned_limit : (turn : PageState → PageState) (st : State) (s p : ℕ) (y : PageState) → page_in st s p ≡ Some y → limit_of (turned_page turn st s p) ≡ limit_of st
-unfolding put_page Rattle.overlay_pages.specs.State.put_space
+unfolding put_page put_space
 turned_limit turn st s p y there = ap limit_of (turn_is turn st s p y there)
 
 -- how many units are free

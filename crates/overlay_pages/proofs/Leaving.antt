@@ -14,7 +14,7 @@ use Rattle.segment_store.specs.Store.{Store, IsFrame}
 use Rattle.segment_store.specs.Changes.{KeepsFrame, KeepsOtherFrames, KeepsSegments}
 use Rattle.space_maps.specs.Books.{books_cut_page, books_page}
 use Rattle.space_maps.specs.Laws.{page_set_beside, there_space}
-use Rattle.space_maps.specs.Spaces.{cut_page, holds_space, page_in, put_space, set_page}
+use Rattle.space_maps.specs.Spaces.{cut_page, page_in, put_space, set_page}
 use Rattle.space_ledger.specs.View as view
 use Rattle.space_ledger.specs.View.{LedgerView, PageView, holding_of, ledger_of, lines_of}
 use Rattle.space_ledger.specs.Calls.{given_up}

@@ -18,7 +18,7 @@ use Rattle.segment_store.specs.Changes.{KeepsFrame, KeepsFrames, KeepsSegments}
 use Rattle.segment_store.specs.Laws.{frame_inside}
 use Rattle.space_maps.specs.Books.{books_page, books_put_page}
 use Rattle.space_maps.specs.Laws.{changed_there, set_some, there_space}
-use Rattle.space_maps.specs.Spaces.{cut_page, holds_space, page_in, put_page, set_page}
+use Rattle.space_maps.specs.Spaces.{page_in, put_page, set_page}
 use Rattle.space_ledger.specs.View as view
 use Rattle.space_ledger.specs.View.{LedgerView, PageView, holding_of, ledger_of, lines_of, overlay_at, with_frame}
 use Rattle.overlay_pages.specs.Lines.{page_lines}

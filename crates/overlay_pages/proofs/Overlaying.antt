@@ -16,7 +16,7 @@ use Rattle.space_maps.specs.Books.{books_page, books_put_page}
 use Rattle.space_maps.specs.Laws.{changed_there, page_put_here, there_space}
 use Rattle.space_maps.specs.Spaces.{page_in, put_page, set_page, turned_page}
 use Rattle.space_ledger.specs.View.{PageView, holding_of, ledger_of, lines_of, with_overlay}
-use Rattle.overlay_pages.specs.State.{PageState, State}
+use Rattle.overlay_pages.specs.State.{PageState}
 use Rattle.overlay_pages.specs.View.{IsHeld, IsJoined, IsOwned, MemoryView, page_state, segment_of, state_of}
 use Rattle.overlay_pages.specs.ViewLaws.{state_page_there}
 use Rattle.overlay_pages.proofs.Steps.{Step, names_apart, some_page, state_stepped, stepped}
@@ -148,5 +148,5 @@ module _ (old new : MemoryView) (s p : ℕ) (x : PageView) (o : Option Entry) (u
   unfolding set_page
   overlays_state turn same =
       state_stepped old new s p (Some (record { entry = x.entry; overlay = o })) is overlays_step
-      ∙ ap (λ y. Rattle.overlay_pages.specs.State.put_page (state_of old) s p y) same
+      ∙ ap (λ y. put_page (state_of old) s p y) same
       ∙ sym (changed_there turn (state_of old) s p (page_state old.store x) (state_page_there old s p x so.there))

@@ -3,7 +3,6 @@ use Rattle.std.proofs.Common.{sym, ap, subst, ◌∙◌, arith, inl, inr}
 use Rattle.std.proofs.lemmas.Bool.{cases_eq}
 use Rattle.std.specs.Option.{option_and_then, option_map, option_map_or}
 use Rattle.std.specs.FinMap.{get, insert, remove}
-use Rattle.number_maps.specs.Keys.{insert_over}
 use Rattle.sizes.specs.declared.TheConstants.{PAGE_END}
 use Rattle.unit_map.specs.Pieces.{free_units, units_in}
 use Rattle.unit_map.specs.declared.block.Block.{Block}
@@ -22,8 +21,8 @@ use Rattle.segment_store.specs.Kept.{IsStore}
 use Rattle.segment_store.specs.Store.{Store, IsFrame, frame_line, frame_place, line_in, place_of, segment_at}
 use Rattle.segment_store.specs.Changes.{Begins, HasLinesNow, KeepsFrames, KeepsOtherSegments, KeepsScratch, KeepsSegments, Lays, Lifts, block_of}
 use Rattle.space_maps.specs.Books.{books_page, books_put_page, books_spaces}
-use Rattle.space_maps.specs.Laws.{page_put_here, put_shared_as, set_some, space_put, there_space}
-use Rattle.space_maps.specs.Spaces.{holds_space, of_pages, page_in, put_awaiting, put_page, put_shared, put_space, set_page, space_in}
+use Rattle.space_maps.specs.Laws.{page_put_here, put_shared_as, set_some, there_space}
+use Rattle.space_maps.specs.Spaces.{holds_space, page_in, put_awaiting, put_page, put_shared, set_page, space_in}
 use Rattle.space_ledger.specs.View as view
 use Rattle.space_ledger.specs.View.{LedgerView, PageView, SpaceView, frame_at, frame_awaiting, holding_of, ledger_of, lines_of, overlay_at, with_page_shared}
 use Rattle.overlay_pages.specs.Lines.{line_in_page, page_lines}

@@ -20,7 +20,7 @@ use Rattle.segment_store.specs.Kept.{IsStore}
 use Rattle.segment_store.specs.Store.{Store, IsFrame, frame_line, frame_place, line_in, place_of, segment_at}
 use Rattle.segment_store.specs.Changes.{KeepsFrames, KeepsScratch, MakesMove}
 use Rattle.space_maps.specs.Laws.{KeepsSpaces, changed_there, keeps_page_set, keeps_still, keeps_twice, page_set_beside, page_set_here, set_some, spaces_alike, there_space}
-use Rattle.space_maps.specs.Spaces.{holds_space, page_in, set_page, space_in}
+use Rattle.space_maps.specs.Spaces.{holds_space, page_in, set_page}
 use Rattle.space_ledger.specs.View.{LedgerView, PageView, ledger_of, lines_of, overlay_at, with_block}
 use Rattle.overlay_pages.specs.LineLaws.{lines_same}
 use Rattle.overlay_pages.specs.State.{books}
@@ -232,7 +232,7 @@ module _ (was : Store) (old : LedgerView) (is : IsJoined (view_of was old)) wher
   unfolding with_block shift_page shift_entry entry_in
   shifted_some now from to i segment there so = record {
     pages = pages;
-    keeps = keeps_twice old now (relocated now (to + i) (Some segment)) so.keeps (subst (KeepsSpaces now) (sym changed) (keeps_page_set now s p (Some y) there_space));
+    keeps = keeps_twice old now (relocated now (to + i) (Some segment)) so.keeps (subst (KeepsSpaces now) (sym changed) (keeps_page_set now s p (Some y) has_space));
   }
     where
       own : IsOwned old (from + i) segment
@@ -290,8 +290,8 @@ module _ (was : Store) (old : LedgerView) (is : IsJoined (view_of was old)) wher
           let same = only_page (from + i) segment there q r x f e over at_unit in d (same.0 ∙ sym space_is) (same.1 ∙ sym page_is)))
           ∙ sym (ap (option_map (shift_page from to (i + 1))) e)
 
-      there_space : holds_space now s ≡ true
-      there_space = there_space now s p (shift_page from to i own.x) here
+      has_space : holds_space now s ≡ true
+      has_space = there_space now s p (shift_page from to i own.x) here
 
       pages : (q r : ℕ) → page_in (relocated now (to + i) (Some segment)) q r ≡ option_map (shift_page from to (i + 1)) (page_in old q r)
       pages q r = by_place s p q r

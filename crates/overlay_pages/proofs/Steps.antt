@@ -1,10 +1,7 @@
-use Rattle.std.specs.Prelude.{◌≡◌, ℕ, ◌+◌, ◌<◌, ◌≤◌, ◌⊎◌, Bool, true, false, cond, Option, Some, None, is_some, refl}
+use Rattle.std.specs.Prelude.{◌≡◌, ℕ, ◌+◌, ◌<◌, ◌≤◌, ◌⊎◌, Bool, true, false, cond, Option, Some, None, refl}
 use Rattle.std.proofs.Common.{sym, ap, subst, ◌∙◌, arith, inl, inr}
 use Rattle.std.specs.Option.{option_map, option_map_or}
-use Rattle.std.specs.Ordering.{nat_cmp}
-use Rattle.std.specs.FinMap.{get, get-empty, insert, remove}
 use Rattle.sizes.specs.declared.TheConstants.{LAST_SPACE, PAGE_END}
-use Rattle.number_maps.specs.Keys.{by_key, get_same, get_other, insert_kept}
 use Rattle.unit_map.specs.Pieces.{free_units, units_in}
 use Rattle.overlay_bits.specs.Lines.{has_line}
 use Rattle.overlay_address.specs.Names.{overlay_page}
@@ -18,13 +15,13 @@ use Rattle.segment_store.specs.Kept.{IsStore}
 use Rattle.segment_store.specs.Store.{Store, IsFrame, IsSegment, frame_line, frame_place, lines_at, place_of, segment_at}
 use Rattle.segment_store.specs.Changes.{KeepsFrame, KeepsSegment}
 use Rattle.segment_store.specs.Laws.{lines_there}
-use Rattle.space_maps.specs.Laws.{KeepsSpaces, keeps_page_set, page_cut_beside, page_cut_here, page_put_beside, page_put_here, page_set_beside, page_set_here, space_absent, space_beside, space_put, space_there, spaces_alike}
-use Rattle.space_maps.specs.Spaces.{cut_page, holds_space, of_pages, page_in, put_page, put_space, set_page, space_in}
-use Rattle.space_ledger.specs.View.{LedgerView, PageView, SpaceView, ledger_of, lines_of}
+use Rattle.space_maps.specs.Laws.{KeepsSpaces, keeps_page_set, page_set_beside, page_set_here, spaces_alike}
+use Rattle.space_maps.specs.Spaces.{holds_space, page_in, set_page}
+use Rattle.space_ledger.specs.View.{LedgerView, PageView, ledger_of, lines_of}
 use Rattle.overlay_pages.specs.LineLaws.{lines_same}
-use Rattle.overlay_pages.specs.State.{PageState, SpaceState, State}
+use Rattle.overlay_pages.specs.State.{PageState}
 use Rattle.overlay_pages.specs.View.{IsHeld, IsJoined, IsOwned, MemoryView, line_seen, page_state, place_in_page, segment_of, state_of}
-use Rattle.overlay_pages.specs.ViewLaws.{state_alike, state_awaiting, state_frames, state_holds, state_mark, state_page, state_zero}
+use Rattle.overlay_pages.specs.ViewLaws.{state_awaiting, state_frames, state_holds, state_mark, state_page, state_zero}
 
 -- What a change of one page keeps of all others.
 

@@ -2,26 +2,26 @@ use Rattle.std.specs.Prelude.{◌≡◌, ℕ, ◌+◌, ◌*◌, ◌≤◌, ◌<�
 use Rattle.std.proofs.Common.{sym, ap, subst, ◌∙◌, arith}
 use Rattle.std.specs.Option.{option_and_then, option_map, option_map_or}
 use Rattle.std.specs.Ordering.{nat_cmp}
-use Rattle.std.specs.FinMap.{FinMap, empty, get, get-empty, insert, len, remove}
+use Rattle.std.specs.FinMap.{FinMap, empty, get, get-empty, len}
 use Rattle.sizes.specs.declared.TheConstants.{FRAME_UNITS, LAST_SPACE, PAGE_END}
-use Rattle.number_maps.specs.Keys.{alike, insert_kept}
-use Rattle.number_maps.specs.Values.{len_low, remove_absent}
-use Rattle.number_maps.specs.Views.{get_viewed, viewed, viewed_empty}
+use Rattle.number_maps.specs.Keys.{alike}
+use Rattle.number_maps.specs.Values.{len_low}
+use Rattle.number_maps.specs.Views.{get_viewed}
 use Rattle.unit_map.specs.Pieces.{free_units}
 use Rattle.page_table.specs.Table.{Pages}
 use Rattle.page_table.specs.declared.entry.PageEntry.{PageEntry}
-use Rattle.ledger.specs.Ledger.{Ledger, Space, all_holdings, is_alone}
+use Rattle.ledger.specs.Ledger.{Ledger, is_alone}
 use Rattle.ledger.specs.Units.{units}
 use Rattle.ledger.specs.ClassLaws.{class_most}
-use Rattle.ledger.specs.TallyLaws.{empty_holdings, same_units}
+use Rattle.ledger.specs.TallyLaws.{same_units}
 use Rattle.ledger.specs.Events.{Store, ledger_after}
 use Rattle.ledger.specs.StoreLaws.{store_joins, store_nothing, units_joined}
 use Rattle.ledger.specs.Changes.{with_lines}
 use Rattle.segment_store.specs.Store as store
-use Rattle.space_maps.specs.Books.{books_added, books_awaiting, books_cut, books_kept, books_lost, books_marked, books_page, books_put, books_spaces}
-use Rattle.space_maps.specs.Laws.{beside_space, in_space, page_added, page_awaited, page_lost, page_marked, page_of, space_absent, space_left, there_cut, there_put}
+use Rattle.space_maps.specs.Books.{books_added, books_awaiting, books_lost, books_marked, books_page}
+use Rattle.space_maps.specs.Laws.{page_added, page_awaited, page_lost, page_marked, there_cut, there_put}
 use Rattle.space_maps.specs.Spaces.{bare_space, cut_space, holds_space, page_in, put_awaiting, put_mark, put_space, space_in, turned_page}
-use Rattle.space_ledger.specs.View.{LedgerView, PageView, SpaceView, frame_at, holding_of, ledger_of, lines_of, overlay_at}
+use Rattle.space_ledger.specs.View.{LedgerView, PageView, frame_at, holding_of, ledger_of, lines_of, overlay_at}
 use Rattle.space_ledger.specs.Calls as calls
 use Rattle.overlay_pages.specs.State.{PageState, books}
 use Rattle.overlay_pages.specs.Changes.{brought, with_brought, writes_frame}

@@ -1,5 +1,4 @@
 use Rattle.std.specs.Prelude.{◌≡◌, ℕ, ◌+◌, ◌*◌, ◌≤◌, ◌<◌, ◌&&◌, Bool, true, false, cond, not, List, [], Some, None, IsTrue, length, slice_set}
-use Rattle.std.specs.List.{fold, range_with_len}
 use Rattle.std.specs.Option.{option_map_or}
 use Rattle.std.specs.FinMap.{get}
 use Rattle.sizes.specs.declared.TheConstants.{FRAME_UNITS}
@@ -11,7 +10,7 @@ use Rattle.ledger.specs.Changes.{with_lines}
 use Rattle.ledger.specs.Units.{class, units}
 use Rattle.overlay_pages.specs.Lines.{zero_page}
 use Rattle.overlay_pages.specs.State.{PageState, State, books}
-use Rattle.space_maps.specs.Spaces.{page_in, put_page, put_shared, space_in, turned_page}
+use Rattle.space_maps.specs.Spaces.{page_in, put_page, put_pages, put_shared, space_in, turned_page}
 
 -- What is done to a page.
 

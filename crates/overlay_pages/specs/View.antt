@@ -7,14 +7,14 @@ use Rattle.overlay_bits.specs.Lines.{has_line}
 use Rattle.overlay_address.specs.Names.{overlay_page}
 use Rattle.overlay_mapping_table.specs.declared.entry.Entry.{Entry}
 use Rattle.ledger.specs.Units.{class, units}
-use Rattle.number_maps.specs.Views.{viewed}
 use Rattle.segment_store.specs.declared.segment.Segment.{Segment}
 use Rattle.segment_store.specs.Kept.{IsStore}
 use Rattle.segment_store.specs.Store.{Store, IsFrame, frame_line, frame_place, place_of, scratch_place, segment_at}
 use Rattle.space_maps.specs.Spaces.{holds_space, page_in}
-use Rattle.space_ledger.specs.View.{LedgerView, PageView, SpaceView, frame_at, ledger_of, lines_of, overlay_at}
+use Rattle.space_maps.specs.Mapped.{mapped}
+use Rattle.space_ledger.specs.View.{LedgerView, PageView, frame_at, ledger_of, lines_of, overlay_at}
 use Rattle.overlay_pages.specs.Lines.{page_lines, zero_line}
-use Rattle.overlay_pages.specs.State.{PageState, SpaceState, State}
+use Rattle.overlay_pages.specs.State.{PageState, State}
 
 -- What a memory of pages with overlays is seen as.
 

@@ -5,7 +5,7 @@ use Rattle.std.specs.FinMap.{len}
 use Rattle.number_maps.specs.Views.{viewed}
 use Rattle.ledger.specs.PlaceLaws.{same_ledger}
 use Rattle.space_maps.specs.Spaces.{holds_space, page_in, space_in}
-use Rattle.space_maps.specs.Mapped.{mapped_awaiting, mapped_count, mapped_holds, mapped_mark, mapped_page, mapped_pages, mapped_some, mapped_there}
+use Rattle.space_maps.specs.Mapped.{mapped, mapped_awaiting, mapped_count, mapped_holds, mapped_mark, mapped_page, mapped_pages, mapped_some, mapped_there}
 use Rattle.space_maps.specs.Books.{books_page, books_spaces}
 use Rattle.space_ledger.specs.View.{PageView, holding_of, ledger_of}
 use Rattle.overlay_pages.specs.State.{books, held_page}
@@ -15,11 +15,11 @@ use Rattle.overlay_pages.specs.View.{MemoryView, page_state, state_of}
 
 module _ (v : MemoryView) where
   pub state_frames : (state_of v).frames ≡ v.table.frames
-  unfolding state_of
+  unfolding state_of mapped
   state_frames = refl
 
   pub state_zero : (state_of v).zero_frame ≡ v.table.zero_frame
-  unfolding state_of
+  unfolding state_of mapped
   state_zero = refl
 
   pub state_holds : (q : ℕ) → holds_space (state_of v) q ≡ holds_space v.table q
@@ -57,14 +57,11 @@ module _ (v : MemoryView) where
 
   -- the ledger of the state is that of the tables
   pub state_books : books (state_of v) ≡ ledger_of v.table
+  unfolding state_of page_state mapped
   state_books = same_ledger (books (state_of v)) (ledger_of v.table)
       (λ q. books_spaces held_page (state_of v) q ∙ state_holds q ∙ sym (books_spaces holding_of v.table q))
       (λ q r. books_page held_page (state_of v) q r ∙ ap (option_map (held_page (state_of v).zero_frame)) (state_page q r) ∙ at (page_in v.table q r) ∙ sym (books_page holding_of v.table q r))
     where
-      held : (x : PageView) → held_page (state_of v).zero_frame (page_state v.store x) ≡ holding_of v.table.zero_frame x
-      unfolding state_of page_state
-      held x = refl
-
       at : (o : Option PageView) → option_map (held_page (state_of v).zero_frame) (option_map (page_state v.store) o) ≡ option_map (holding_of v.table.zero_frame) o
       at None = refl
-      at (Some x) = ap Some (held x)
+      at (Some x) = refl

@@ -19,7 +19,7 @@ use space_ledger::SpaceLedger;
 fn share_bare(store: &SegmentStore, ledger: &mut SpaceLedger, from: u16, to: u16, page: u64)
     requires joined { IsJoined (view_of store.now ledger.old) }
     requires there { IsSome (page_in ledger.old from page) }
-    requires space { has_space ledger.old to ≡ true }
+    requires space { holds_space ledger.old to ≡ true }
     requires least { IsLeast (space_in ledger.old to).awaiting page }
     requires frame { frame_awaiting ledger.old to page ≡ frame_at ledger.old from page }
     requires bare { overlay_at ledger.old from page ≡ None }
@@ -41,7 +41,7 @@ fn share_overlaid(
 )
     requires joined { IsJoined (view_of store.old ledger.old) }
     requires there { IsSome (page_in ledger.old from page) }
-    requires space { has_space ledger.old to ≡ true }
+    requires space { holds_space ledger.old to ≡ true }
     requires least { IsLeast (space_in ledger.old to).awaiting page }
     requires frame { frame_awaiting ledger.old to page ≡ frame_at ledger.old from page }
     requires overlaid { overlay_at ledger.old from page ≡ Some overlay }
@@ -67,7 +67,7 @@ pub(crate) fn share(
 )
     requires joined { IsJoined (view_of store.old ledger.old) }
     requires there { IsSome (page_in ledger.old from page) }
-    requires space { has_space ledger.old to ≡ true }
+    requires space { holds_space ledger.old to ≡ true }
     requires least { IsLeast (space_in ledger.old to).awaiting page }
     requires frame { frame_awaiting ledger.old to page ≡ frame_at ledger.old from page }
     requires room { HasShareRoom (state_of (view_of store.old ledger.old)) from page }
@@ -92,7 +92,7 @@ pub(crate) fn share_below(
 )
     requires joined { IsJoined (view_of store.now ledger.old) }
     requires differ { from ≢ to }
-    requires space { has_space ledger.old to ≡ true }
+    requires space { holds_space ledger.old to ≡ true }
     requires bare { AwaitBare (state_of (view_of store.now ledger.old)) from to until }
     ensures joined { IsJoined (view_of store.now ledger.new) }
     ensures shared { AreShared from to until (state_of (view_of store.now ledger.old))

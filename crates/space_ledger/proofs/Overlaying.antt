@@ -11,7 +11,7 @@ use Rattle.overlay_address.specs.Names.{overlay_page}
 use Rattle.overlay_mapping_table.specs.declared.entry.Entry.{Entry}
 use Rattle.overlay_mapping_table.specs.Table.{Table, HasRoomFor}
 use Rattle.space_maps.specs.Spaces.{of_pages, page_in, put_page, put_shared, put_space, space_in}
-use Rattle.space_maps.specs.Laws.{changed_there, page_shared_here, space_put}
+use Rattle.space_maps.specs.Laws.{changed_there, page_shared_here, shared_over, space_put}
 use Rattle.space_ledger.specs.declared.tables.Tables.TheInside.{Inside}
 use Rattle.space_ledger.specs.Space.{SpaceTable, awaited}
 use Rattle.space_ledger.specs.View.{LedgerView, PageView, SpaceView, with_overlay}
@@ -119,23 +119,13 @@ room_left show less = let count = show.kept.count in let roomy = show.kept.roomy
 
 -- A page shared: without an overlay, and with one put to it.
 
-shared_put : (v : LedgerView) (s p : ℕ) (x y : PageView) → put_page (put_shared v s p x) s p y ≡ put_shared v s p y
-unfolding put_page put_shared put_space
-shared_put v s p x y =
-    let z : SpaceView = record { pages = insert (space_in v s).pages p x; awaiting = remove (space_in v s).awaiting p; speculating = (space_in v s).speculating } in
-    let is : space_in (put_space v s z) s ≡ z = space_put v s z s refl in
-    ap (λ (u : SpaceView). record { spaces = insert (insert v.spaces s z) s (of_pages u (insert u.pages p y)); frames = v.frames; zero_frame = v.zero_frame }) is
-    ∙ ap (λ m. record { spaces = m; frames = v.frames; zero_frame = v.zero_frame }) (insert_over v.spaces s z _)
-    ∙ ap (λ m. record { spaces = insert v.spaces s (record { pages = m; awaiting = remove (space_in v s).awaiting p; speculating = (space_in v s).speculating }); frames = v.frames; zero_frame = v.zero_frame })
-    (insert_over (space_in v s).pages p x y)
-
-shared_over : (v : LedgerView) (s p : ℕ) (entry : PageEntry) (o : Option Entry)
+shared_overlaid : (v : LedgerView) (s p : ℕ) (entry : PageEntry) (o : Option Entry)
     → with_overlay (put_shared v s p (record { entry = entry; overlay = None })) s p o ≡ put_shared v s p (record { entry = entry; overlay = o })
 unfolding with_overlay
-shared_over v s p entry o =
+shared_overlaid v s p entry o =
     changed_there (λ (z : PageView). record { entry = z.entry; overlay = o }) (put_shared v s p (record { entry = entry; overlay = None })) s p (record { entry = entry; overlay = None })
     (page_shared_here v s p (record { entry = entry; overlay = None }) s p refl refl)
-    ∙ shared_put v s p (record { entry = entry; overlay = None }) (record { entry = entry; overlay = o })
+    ∙ shared_over v s p (record { entry = entry; overlay = None }) (record { entry = entry; overlay = o })
 
 module _ {t : Inside} {v : LedgerView} (show : Shows t v) (s p : ℕ) (x : SpaceTable) (at : get t.spaces s ≡ Some x) (entry : PageEntry) (absent : page_in v s p ≡ None) (low : p < PAGE_END) where
   bare : PageView
@@ -155,5 +145,5 @@ module _ {t : Inside} {v : LedgerView} (show : Shows t v) (s p : ℕ) (x : Space
   unfolding bare
   shown_shared_over new n e name lined spare room entries =
       let there_now : IsSome (page_in (put_shared v s p bare) s p) = ap is_some (page_shared_here v s p bare s p refl refl) in
-      subst (Shows (with_overlays (with_spaces t (insert t.spaces s (awaited x p entry))) new)) (shared_over v s p entry (Some e))
+      subst (Shows (with_overlays (with_spaces t (insert t.spaces s (awaited x p entry))) new)) (shared_overlaid v s p entry (Some e))
       (set_over shown_shared new s p n name there_now room e lined (inr (room_left show spare)) entries)

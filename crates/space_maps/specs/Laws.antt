@@ -133,22 +133,44 @@ module _ {P : Type 0} where
       ap (λ m. put_space v s (of_pages (space_in v s) m)) (insert_kept (space_in v s).pages p x (sym (page_of v s p) ∙ there))
       ∙ same_spaces v s (there_space v s p x there)
 
+  -- A space, and a page, put over another one.
+
+  pub space_over : (v : Spaces P) (s : ℕ) (x y : SpaceOf P) → put_space (put_space v s x) s y ≡ put_space v s y
+  unfolding put_space
+  space_over v s x y = let all = insert_over v.spaces s x y in λ i. record { spaces = all i; frames = v.frames; zero_frame = v.zero_frame }
+
+  -- what is made of the space that was put
+  over_by : (v : Spaces P) (s : ℕ) (x : SpaceOf P) (change : SpaceOf P → SpaceOf P) → put_space (put_space v s x) s (change (space_in (put_space v s x) s)) ≡ put_space v s (change x)
+  over_by v s x change = ap (λ y. put_space (put_space v s x) s (change y)) (space_put v s x s refl) ∙ space_over v s x (change x)
+
+  pub page_over : (v : Spaces P) (s p : ℕ) (x y : P) → put_page (put_page v s p x) s p y ≡ put_page v s p y
+  unfolding put_page
+  page_over v s p x y =
+      over_by v s (of_pages (space_in v s) (insert (space_in v s).pages p x)) (λ z. of_pages z (insert z.pages p y))
+      ∙ ap (λ m. put_space v s (of_pages (space_in v s) m)) (insert_over (space_in v s).pages p x y)
+
+  pub cut_over : (v : Spaces P) (s p : ℕ) (x : P) → cut_page (put_page v s p x) s p ≡ cut_page v s p
+  unfolding cut_page put_page
+  cut_over v s p x =
+      over_by v s (of_pages (space_in v s) (insert (space_in v s).pages p x)) (λ z. of_pages z (remove z.pages p))
+      ∙ ap (λ m. put_space v s (of_pages (space_in v s) m)) (alike _ _ (λ q. by_key q p
+      (λ same. removed_same (insert (space_in v s).pages p x) p q same ∙ sym (removed_same (space_in v s).pages p q same))
+      (λ other. removed_other (insert (space_in v s).pages p x) p q other ∙ get_other (space_in v s).pages p q x other ∙ sym (removed_other (space_in v s).pages p q other))))
+
+  pub shared_over : (v : Spaces P) (s p : ℕ) (x y : P) → put_page (put_shared v s p x) s p y ≡ put_shared v s p y
+  unfolding put_page put_shared
+  shared_over v s p x y =
+      over_by v s (record { pages = insert (space_in v s).pages p x; awaiting = remove (space_in v s).awaiting p; speculating = (space_in v s).speculating }) (λ z. of_pages z (insert z.pages p y))
+      ∙ ap (λ m. put_space v s (record { pages = m; awaiting = remove (space_in v s).awaiting p; speculating = (space_in v s).speculating })) (insert_over (space_in v s).pages p x y)
+
   pub set_some : (v : Spaces P) (s p : ℕ) (x : P) → set_page v s p (Some x) ≡ put_page v s p x
   unfolding set_page
   set_some v s p x = refl
 
   -- A page that is shared is one that is put, and awaits no more.
   pub put_shared_as : (v : Spaces P) (s p : ℕ) (x : P) → put_shared v s p x ≡ put_awaiting (put_page v s p x) s (remove (space_in v s).awaiting p)
-  unfolding put_shared put_awaiting put_page put_space
-  put_shared_as v s p x =
-      let one : SpaceOf P = of_pages (space_in v s) (insert (space_in v s).pages p x) in
-      let here : space_in (put_page v s p x) s ≡ one = space_put v s one s refl in
-      let space : ◌≡◌ {A = SpaceOf P}
-      (record { pages = insert (space_in v s).pages p x; awaiting = remove (space_in v s).awaiting p; speculating = (space_in v s).speculating })
-      (record { pages = (space_in (put_page v s p x) s).pages; awaiting = remove (space_in v s).awaiting p; speculating = (space_in (put_page v s p x) s).speculating }) =
-      λ i. record { pages = (sym here i).pages; awaiting = remove (space_in v s).awaiting p; speculating = (sym here i).speculating } in
-      let all = sym (insert_over v.spaces s one _) ∙ ap (insert (insert v.spaces s one) s) space in
-      λ i. record { spaces = all i; frames = v.frames; zero_frame = v.zero_frame }
+  unfolding put_shared put_awaiting put_page
+  put_shared_as v s p x = sym (over_by v s (of_pages (space_in v s) (insert (space_in v s).pages p x)) (λ z. record { pages = z.pages; awaiting = remove (space_in v s).awaiting p; speculating = z.speculating }))
 
   -- A space without a page put in where none was, or taken away, leaves each page as it was.
 

@@ -3,8 +3,7 @@ use Rattle.std.specs.FinMap.{len}
 use Rattle.overlay_pages.specs.Lines.{lines_of_bytes}
 use Rattle.overlay_pages.specs.Changes.{IsPlaced, limit_of, units_of, whole_page}
 use Rattle.overlay_pages.specs.View.{MemoryView, state_of, view_of}
-use Rattle.overlay_pages.specs.ViewLaws.{state_awaiting, state_holds}
-use Rattle.overlay_pages.specs.TableLaws.{state_count}
+use Rattle.overlay_pages.specs.ViewLaws.{state_count, state_awaiting, state_holds}
 use Rattle.overlay_pages.proofs.Tables.{none_back}
 use Rattle.overlay_pages.proofs.Adding.{added, added_room, added_units, mapped_in, only_one, ready_bare, ready_settled, ready_shared, ready_there}
 use Rattle.overlay_pages.proofs.pages.OverlayPages.add_page.Goals as goal
