@@ -9,7 +9,7 @@ use Rattle.overlay_pages.specs.State.{SpaceState, State, bare_space, base_of, cu
 use Rattle.overlay_pages.specs.View.{MemoryView, state_of}
 use Rattle.overlay_memory.specs.declared.error.SpaceError.{SpaceError}
 use Rattle.overlay_memory.specs.declared.error.SpaceError.TheVariants as error
-use Rattle.fork_checkpoint.specs.Forked.{Forks, HasForked}
+use Rattle.fork_checkpoint.specs.Copied.{Copies, HasCopied}
 use Rattle.machine_core.specs.declared.process.Process as declared
 use Rattle.machine_core.specs.Machine.{IsDropped, Machine, Processes, has_space, kept_whole, none_saved, processes_of, spaces_of, whole_in, with_memory, with_process_at}
 use Rattle.machine_core.specs.Laws.{processes_at, processes_with, whole_by}
@@ -45,7 +45,7 @@ number_other r q other = by_test (r == q) refl
     by_test false e = e
     by_test true e = absurd (other (is_same e))
 
-module _ (p q : ℕ) (old : Machine) (memory : MemoryView) (forked : HasForked (spaces_of old) (state_of memory) p q) where
+module _ (p q : ℕ) (old : Machine) (memory : MemoryView) (forked : HasCopied (spaces_of old) (state_of memory) p q) where
   abbrev mid : Machine
   mid = with_memory old memory
 
@@ -105,7 +105,7 @@ module _ (p q : ℕ) (old : Machine) (memory : MemoryView) (forked : HasForked (
 
 -- how a fork comes out, where the space was made
 pub forks_made : (p q : ℕ) (process : declared.Process) (old new : Machine) (memory : MemoryView) (r : Result (Unit {0}) SpaceError)
-    → Forks old.memory memory p q (Ok tt) → (space_in (spaces_of old) p).speculating ≡ false → has_space old q ≡ false → get old.processes q ≡ None
+    → Copies old.memory memory p q (Ok tt) → (space_in (spaces_of old) p).speculating ≡ false → has_space old q ≡ false → get old.processes q ≡ None
     → Adopts q process (with_memory old memory) new r → ForksProcess p q process old new r
 forks_made p q process old new memory (Ok done) (within, forked) unmarked no_space no_process same =
     (fits (Copy p q) old within, subst (IsForked p q process old) (sym same) (is_forked p q old memory forked process unmarked no_process))
@@ -114,7 +114,7 @@ forks_made p q process old new memory (Err error.Memory) (within, forked) unmark
     (fits (Copy p q) old within, taken_back p q old memory forked new no_space dropped)
 
 -- and where it wasn't
-pub forks_not : (p q : ℕ) (process : declared.Process) (old : Machine) (memory : MemoryView) (e : SpaceError) → Forks old.memory memory p q (Err e)
+pub forks_not : (p q : ℕ) (process : declared.Process) (old : Machine) (memory : MemoryView) (e : SpaceError) → Copies old.memory memory p q (Err e)
     → ForksProcess p q process old (with_memory old memory) (Err e)
 forks_not p q process old memory (error.Full needed limit) full =
     let f = is_short (Copy p q) old memory needed limit full in

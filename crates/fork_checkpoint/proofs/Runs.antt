@@ -14,7 +14,7 @@ use Rattle.overlay_pages.specs.Changes.{with_shared}
 use Rattle.overlay_pages.specs.Calls.{AreShared, AwaitBare, AwaitsLike, IsNextPage, NoneAwaitsBelow, entries_in}
 use Rattle.overlay_pages.specs.Calls.AreShared.{Still, Then}
 use Rattle.fork_checkpoint.specs.Parts.{high_part_past, high_part_some, high_part_there, low_part_past}
-use Rattle.fork_checkpoint.specs.Forked.{ArePagesLow, with_copy}
+use Rattle.fork_checkpoint.specs.Copied.{ArePagesLow, with_copy}
 use Rattle.fork_checkpoint.proofs.Shares.{HasStep, entry_at, entry_some, from_stays, part_space, partly, put_beside, share_step, shared_all, to_waits}
 use Rattle.overlay_memory.specs.PageLaws.{own_there}
 

@@ -9,7 +9,8 @@ use Rattle.space_ledger.specs.Calls.{IsNextOwn}
 use Rattle.overlay_pages.specs.State.{PageState, State, books, held_page, page_in, put_page, seen_page, turned_page}
 use Rattle.overlay_pages.specs.StateLaws.{changed_there}
 use Rattle.overlay_pages.specs.Changes.{committed}
-use Rattle.promotion.specs.Settled.{ArePagesApart, HasCommittedAlone, alone_in, with_committed}
+use Rattle.promotion.specs.Settled.{HasCommittedAlone, alone_in, with_committed}
+use Rattle.overlay_memory.specs.ApartLaws.{ArePagesApart}
 use Rattle.overlay_memory.specs.Joined.{IsBare}
 use Rattle.overlay_memory.specs.PageLaws.{held_there, own_is, own_there}
 use Rattle.promotion.specs.FateFolds.{after_commit, none_own, same_turned, widened}

@@ -1,5 +1,5 @@
 use Rattle.std.specs.Prelude.{◌≡◌, ℕ, ◌+◌, Bool, true, false, cond, nat_eq, nat_lt, ◌||◌, List, [], length, Option, Some, None, is_some, refl}
-use Rattle.std.proofs.Common.{sym, ap, subst, ◌∙◌, arith}
+use Rattle.std.proofs.Common.{sym, ap, subst, ◌∙◌}
 use Rattle.std.specs.Option.{option_map}
 use Rattle.std.specs.FinMap.{get, insert}
 use Rattle.number_maps.specs.Keys.{alike, by_key, get_other, get_same}
@@ -11,12 +11,12 @@ use Rattle.space_ledger.specs.View.{origin_of}
 use Rattle.overlay_pages.specs.Lines.{bytes_in_lines}
 use Rattle.overlay_pages.specs.State.{PageState, SpaceState, State, base_of, base_page, books, held_page, holds_space, memory_of, of_pages, page_in, put_mark, put_page, put_space, seen_page, space_in}
 use Rattle.overlay_pages.specs.StateLaws.{ledger_marked, ledger_page, ledger_put, page_of, page_put_beside, page_put_here, space_beside, space_put, there_space}
-use Rattle.overlay_pages.specs.Calls.{entries_in}
+use Rattle.overlay_memory.specs.ApartLaws.{ArePagesApart, origins_apart}
 use Rattle.overlay_memory.specs.Joined.{IsBare}
 use Rattle.overlay_memory.specs.PageLaws.{held_there, own_absent, own_is, some_is, there_of}
-use Rattle.promotion.specs.Settled.{ArePagesApart, AreSettled, mark_of}
+use Rattle.promotion.specs.Settled.{AreSettled, mark_of}
 use Rattle.promotion.specs.Fates.{AreTurned, IsFate, none_turned, one_turned}
-use Rattle.promotion.specs.FateLaws.{AreOriginsApart, alone_stays}
+use Rattle.promotion.specs.FateLaws.{alone_stays}
 use Rattle.promotion.specs.FateFolds.{arent_same, are_same, or_page, retold}
 
 -- States in which pages of a space lost their own lines, one after the other.
@@ -235,31 +235,6 @@ module _ (t a which : ℕ → Bool) (old new : State) (space : ℕ) (h : HasTurn
     frames = h.frames;
     zero_frame = h.zero_frame;
   }
-
--- pages that have frames of their own have origins of their own
-pub origins_apart : (v : State) (space : ℕ) → ArePagesApart v space → AreOriginsApart (books v) space
-unfolding entries_in
-origins_apart v space apart p q x y at_p at_q same some =
-    let a = there_of v space p x at_p in
-    let b = there_of v space q y at_q in
-    let origins : origin_of v.zero_frame a.page.entry.frame ≡ origin_of v.zero_frame b.page.entry.frame =
-    sym (ap (λ (h : Holding). h.origin) a.held) ∙ same ∙ ap (λ (h : Holding). h.origin) b.held in
-    let frames = by_zero a.page.entry.frame b.page.entry.frame (nat_eq a.page.entry.frame v.zero_frame) refl (nat_eq b.page.entry.frame v.zero_frame) refl origins
-    (sym (ap (λ (h : Holding). nat_eq h.origin 0) a.held) ∙ some) in
-    apart p q a.page.entry b.page.entry (entry_at p a.page a.there) (entry_at q b.page b.there) frames.0 frames.1
-  where
-    entry_at : (r : ℕ) (z : PageState) → page_in v space r ≡ Some z → get (viewed (λ _ (x : PageState). x.entry) (space_in v space).pages) r ≡ Some z.entry
-    entry_at r z there =
-        get_viewed (λ _ (x : PageState). x.entry) (space_in v space).pages r ∙ ap (option_map (λ (x : PageState). x.entry)) (sym (page_of v space r) ∙ there)
-
-    by_zero : (f g : ℕ) (b : Bool) → nat_eq f v.zero_frame ≡ b → (c : Bool) → nat_eq g v.zero_frame ≡ c → origin_of v.zero_frame f ≡ origin_of v.zero_frame g
-        → nat_eq (origin_of v.zero_frame f) 0 ≡ false → (f ≡ g) × (f ≡ v.zero_frame → ⊥)
-    by_zero f g true e c k same some = let no = sym (ap (λ d. nat_eq (cond d 0 (f + 1)) 0) e) ∙ some in cc
-    by_zero f g false e true k same some =
-        let no : f + 1 ≡ 0 = sym (ap (λ d. cond d 0 (f + 1)) e) ∙ same ∙ ap (λ d. cond d 0 (g + 1)) k in absurd (omega (arith, no))
-    by_zero f g false e false k same some =
-        let is : f + 1 ≡ g + 1 = sym (ap (λ d. cond d 0 (f + 1)) e) ∙ same ∙ ap (λ d. cond d 0 (g + 1)) k in
-        (omega (arith, is), λ z. let no = sym (are_same f v.zero_frame z) ∙ e in cc)
 
 -- a frame that no page names
 pub new_origin_of : (first frame : ℕ) → (frame ≡ first → ⊥) → origin_of first frame ≡ frame + 1

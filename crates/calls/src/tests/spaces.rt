@@ -6,7 +6,7 @@ ghost use Rattle.overlay_pages.specs.State.{page_in};
 ghost use Rattle.overlay_pages.specs.Changes.{AreAbsent, is_writable};
 ghost use Rattle.overlay_pages.specs.View.{state_of};
 
-use fork_checkpoint::fork_space;
+use fork_checkpoint::{fork_space, restore_space};
 use overlay_memory::{MemoryError, OverlayMemory, SpaceError};
 use ovl_io::Perms;
 use page_table::PageTable;
@@ -176,5 +176,18 @@ impl Spaces {
         assert!(rt; self.memory.has_space(from) && !self.memory.is_speculating(from));
         assert!(rt; 0 < to && to < 32_768 && !self.memory.has_space(to));
         fork_space(&mut self.memory, from, to)
+    }
+
+    // Gives a space the pages of another one in the place of its own. Neither is speculating.
+    pub(super) fn restore(
+        &mut self,
+        rt: &impl Abort,
+        saved: u16,
+        into: u16,
+    ) -> Result<(), SpaceError> {
+        assert!(rt; saved != into);
+        assert!(rt; self.memory.has_space(saved) && !self.memory.is_speculating(saved));
+        assert!(rt; self.memory.has_space(into) && !self.memory.is_speculating(into));
+        restore_space(&mut self.memory, saved, into)
     }
 }
