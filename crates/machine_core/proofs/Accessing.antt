@@ -25,7 +25,7 @@ use Rattle.machine_core.specs.Process.{Whole, is_speculating}
 use Rattle.machine_core.specs.Machine.{kept_in, kept_whole, none_saved}
 use Rattle.machine_core.specs.Access.{IsSameLoan, IsStoredBy, IsUnchanged, Leaves, spaces_lent}
 use Rattle.machine_core.specs.Turns.{Guest, executed, execution_of, exceeds, guest_executed, is_full, ledger_executed, ledger_stored, outcome_of, state_executed, store_made, store_of, units_needed}
-use Rattle.machine_core.specs.Slots.{IsBeside, guest_in, guest_lent}
+use Rattle.machine_core.specs.Kept.{IsBeside, guest_in, guest_lent}
 
 -- What the calls of one instruction make of the memory of all spaces.
 

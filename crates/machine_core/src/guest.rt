@@ -9,7 +9,7 @@ ghost use Rattle.overlay_pages.specs.View.{state_of};
 ghost use Rattle.machine_core.specs.Turns.{answered_by, executed, outcome_of};
 ghost use Rattle.machine_core.specs.Executions.{all_executed, executions};
 ghost use Rattle.machine_core.specs.Access.{IsReadyView, spaces_lent};
-ghost use Rattle.machine_core.specs.Slots.{IsBeside, guest_in, guest_lent};
+ghost use Rattle.machine_core.specs.Kept.{IsBeside, guest_in, guest_lent};
 
 use crate::process::Process;
 use crate::view::View;
