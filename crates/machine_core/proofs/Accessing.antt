@@ -17,7 +17,8 @@ use Rattle.rv_execute.specs.declared.outcome.Outcome.{Outcome}
 use Rattle.rv_execute.specs.declared.outcome.Outcome.TheVariants as outcome
 use Rattle.overlay_memory.specs.Access.{stored_books}
 use Rattle.overlay_pages.specs.Changes.{limit_of}
-use Rattle.overlay_pages.specs.State.{State, base_of, books, memory_of, space_in}
+use Rattle.overlay_pages.specs.State.{State, base_of, books, memory_of}
+use Rattle.space_maps.specs.Spaces.{space_in}
 use Rattle.machine_core.specs.declared.process.Process as declared
 use Rattle.machine_core.specs.declared.process.SavedRegs.{SavedRegs}
 use Rattle.machine_core.specs.declared.view.View.{View}

@@ -6,9 +6,10 @@ use Rattle.std.specs.List.{All, filter}
 use Rattle.std.specs.FinMap.{get, insert, entries, get-entries}
 use Rattle.std.proofs.lemmas.Bool.{cases_lt, cases_order}
 use Rattle.std.proofs.lemmas.Bool.Decides.{nat_tests}
+use Rattle.space_maps.specs.Spaces.{space_in}
 use Rattle.by_number.specs.Values.{IsNextNumber}
 use Rattle.number_maps.specs.Keys.{alike, by_key, get_other, get_same}
-use Rattle.overlay_pages.specs.State.{SpaceState, State, base_of, space_in}
+use Rattle.overlay_pages.specs.State.{SpaceState, State, base_of}
 use Rattle.ovl_io.specs.declared.process_state.ProcessState.TheVariants.{Running}
 use Rattle.overlay_pages.specs.View.{MemoryView, state_of}
 use Rattle.machine_core.specs.Process.{Process, runs}

@@ -6,8 +6,9 @@ use Rattle.std.specs.FinMap.{FinMap, get}
 use Rattle.std.specs.List.{list_any}
 use Rattle.std.specs.List.Sorted.{IsStrictlyIncreasing}
 use Rattle.std.specs.Vec.{vec_capacity}
-use Rattle.overlay_pages.specs.State.{State, books, holds_space, space_in}
+use Rattle.overlay_pages.specs.State.{State, books}
 use Rattle.overlay_pages.specs.View.{MemoryView}
+use Rattle.space_maps.specs.Spaces.{holds_space, space_in}
 use Rattle.machine_core.specs.Process.{runs}
 use Rattle.machine_core.specs.Machine.{KeepsPlaces, Machine, StaysBut, Wholes, whole_in, wholes}
 use Rattle.machine_core.specs.Turns.{Guest}
