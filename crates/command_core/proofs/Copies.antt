@@ -1,25 +1,32 @@
-use Rattle.std.proofs.Common.{◌≡◌, ℕ, Bool, true, false, cond, sym, ap, subst, ◌∙◌, refl, arith, Option, Some, None}
-use Rattle.std.specs.Prelude.{◌==◌, ◌||◌, Result, Ok, Err}
-use Rattle.std.specs.Option.{is_some, option_map, unwrap_or}
-use Rattle.std.specs.FinMap.{get, insert, remove}
+use Rattle.std.proofs.Common.{◌≡◌, ℕ, Bool, true, false, cond, List, sym, ap, subst, ◌∙◌, refl, arith, Option, Some, None}
+use Rattle.std.specs.Prelude.{◌==◌, ◌||◌, ◌&&◌, Result, Ok, Err}
+use Rattle.std.specs.Option.{is_some, unwrap_or}
+use Rattle.std.specs.FinMap.{get, remove}
 use Rattle.std.proofs.lemmas.Bool.Decides.{nat_tests}
 use Rattle.number_maps.specs.Keys.{alike, by_key, get_other, get_same, removed_other, removed_same}
 use Rattle.ledger.specs.Events.{Copy}
-use Rattle.overlay_pages.specs.State.{SpaceState, State, bare_space, base_of, cut_space, holds_space, space_in}
+use Rattle.overlay_pages.specs.State.{SpaceState, State, base_of}
 use Rattle.overlay_pages.specs.View.{MemoryView, state_of}
 use Rattle.overlay_memory.specs.declared.error.SpaceError.{SpaceError}
 use Rattle.overlay_memory.specs.declared.error.SpaceError.TheVariants as error
+use Rattle.space_maps.specs.Spaces.{bare_space, cut_space, holds_space, space_in}
 use Rattle.fork_checkpoint.specs.Copied.{Copies, HasCopied}
 use Rattle.machine_core.specs.declared.process.Process as declared
-use Rattle.machine_core.specs.Machine.{IsDropped, Machine, Processes, has_space, kept_whole, none_saved, processes_of, spaces_of, whole_in, with_memory, with_process_at}
-use Rattle.machine_core.specs.Laws.{processes_at, processes_with, whole_by}
+use Rattle.machine_core.specs.Machine.{IsDropped, Machine, Wholes, has_space, kept_whole, none_saved, spaces_of, whole_in, wholes, with_memory, with_process_at}
 use Rattle.machine_core.specs.Load.{IsAsBefore}
-use Rattle.command_core.specs.Rows.{ledger_by}
-use Rattle.command_core.specs.Forks.{Adopts, ForksProcess, IsForked}
-use Rattle.command_core.proofs.Rows.{fits, is_short}
-use Rattle.command_core.proofs.Places.{none_is}
+use Rattle.machine_core.specs.LoadLaws.{same_wholes}
+use Rattle.command_core.specs.State.{AreLikeStates, Checkpoint, State as Shown}
+use Rattle.command_core.specs.Sessions.{KeepsSession, state_of as shown_by}
+use Rattle.command_core.specs.Rows.{Row, TakesLast, event_needs, first_refusal, is_event_full, ledger_by}
+use Rattle.command_core.specs.Giving.{GivesChange}
+use Rattle.command_core.specs.Changes.{answer_of}
+use Rattle.command_core.specs.LikeLaws.{states_itself}
+use Rattle.command_core.specs.Copies.{Adopts, CopiesProcess, CopyFails, IsCopied}
+use Rattle.command_core.specs.Checkpoints.{Enters, IsSaved, SavesSpace}
+use Rattle.command_core.proofs.Rows.{fits, is_short, row_full, row_wants}
+use Rattle.command_core.proofs.Places.{keeps_before, keeps_same, none_is, processes_kept, processes_put}
 
--- A machine with a copy of a space, and with a process in it.
+-- A machine with a copy of a space, for a process or for a checkpoint.
 
 -- what is there of a space, by whether it is there and what it has
 space_same : (x y : State) (q : ℕ) → holds_space x q ≡ holds_space y q → space_in x q ≡ space_in y q → get x.spaces q ≡ get y.spaces q
@@ -45,78 +52,118 @@ number_other r q other = by_test (r == q) refl
     by_test false e = e
     by_test true e = absurd (other (is_same e))
 
-module _ (p q : ℕ) (old : Machine) (memory : MemoryView) (forked : HasCopied (spaces_of old) (state_of memory) p q) where
+module _ (from to : ℕ) (old : Machine) (memory : MemoryView) (copied : HasCopied (spaces_of old) (state_of memory) from to) where
   abbrev mid : Machine
   mid = with_memory old memory
 
-  pub space_made : has_space mid q ≡ true
-  space_made = forked.spaces q ∙ ap (λ b. b || holds_space (spaces_of old) q) (number_same q)
+  space_made : has_space mid to ≡ true
+  space_made = copied.spaces to ∙ ap (λ b. b || holds_space (spaces_of old) to) (number_same to)
 
-  others_there : (r : ℕ) → (r ≡ q → ⊥) → has_space mid r ≡ has_space old r
-  others_there r other = forked.spaces r ∙ ap (λ b. b || holds_space (spaces_of old) r) (number_other r q other)
+  others_there : (r : ℕ) → (r ≡ to → ⊥) → has_space mid r ≡ has_space old r
+  others_there r other = copied.spaces r ∙ ap (λ b. b || holds_space (spaces_of old) r) (number_other r to other)
 
   -- the space given up again
-  taken_back : (new : Machine) → has_space old q ≡ false → IsDropped q mid new → IsAsBefore old new
+  taken_back : (new : Machine) → has_space old to ≡ false → IsDropped to mid new → IsAsBefore old new
   unfolding cut_space
   taken_back new absent dropped =
-      let spaces : remove (state_of memory).spaces q ≡ (spaces_of old).spaces = alike _ _ (λ r. by_key r q
-      (λ same. removed_same (state_of memory).spaces q r same ∙ sym (ap (get (spaces_of old).spaces) same ∙ none_is (get (spaces_of old).spaces q) absent))
-      (λ other. removed_other (state_of memory).spaces q r other ∙ space_same (state_of memory) (spaces_of old) r (others_there r other) (forked.others r other))) in
-      (dropped.spaces ∙ (λ i. record { spaces = spaces i; frames = forked.frames i; zero_frame = forked.zero_frame i }), dropped.processes)
+      let spaces : remove (state_of memory).spaces to ≡ (spaces_of old).spaces = alike _ _ (λ r. by_key r to
+      (λ same. removed_same (state_of memory).spaces to r same ∙ sym (ap (get (spaces_of old).spaces) same ∙ none_is (get (spaces_of old).spaces to) absent))
+      (λ other. removed_other (state_of memory).spaces to r other ∙ space_same (state_of memory) (spaces_of old) r (others_there r other) (copied.others r other))) in
+      (dropped.spaces ∙ (λ i. record { spaces = spaces i; frames = copied.frames i; zero_frame = copied.zero_frame i }), dropped.processes)
 
-  -- the process in it
-  module _ (process : declared.Process) (unmarked : (space_in (spaces_of old) p).speculating ≡ false) (absent : get old.processes q ≡ None) where
-    whole_is : whole_in (state_of memory) q process ≡ whole_in (spaces_of old) p process
+  -- the space alone
+  is_saved : get old.processes to ≡ None → IsSaved from to old mid
+  unfolding ledger_by
+  is_saved absent =
+      let processes = processes_kept old memory to copied.others absent in
+      record {
+        memory = copied.memory;
+        after = λ i. record { processes = processes i; ledger = copied.ledger i; frames = copied.frames i };
+        there = space_made;
+        settled = copied.awaiting;
+        unmarked = copied.mark;
+        processes = refl;
+        others = record { spaces = copied.others; there = others_there; processes = λ r other. refl };
+      }
+
+  -- a process in it
+  module _ (process : declared.Process) (unmarked : (space_in (spaces_of old) from).speculating ≡ false) where
+    whole_is : whole_in (state_of memory) to process ≡ whole_in (spaces_of old) from process
     whole_is =
         let saved = unwrap_or process.saved none_saved in
-        let kept = ap (λ b. cond b (Some (kept_whole (base_of (state_of memory) q) saved)) None) forked.mark
-        ∙ sym (ap (λ b. cond b (Some (kept_whole (base_of (spaces_of old) p) saved)) None) unmarked) in
-        λ i. record { registers = process.regs; state = process.state; memory = forked.memory i; kept = kept i }
+        let kept = ap (λ b. cond b (Some (kept_whole (base_of (state_of memory) to) saved)) None) copied.mark
+        ∙ sym (ap (λ b. cond b (Some (kept_whole (base_of (spaces_of old) from) saved)) None) unmarked) in
+        λ i. record { registers = process.regs; state = process.state; memory = copied.memory i; kept = kept i }
 
-    others_by : (r : ℕ) → (r ≡ q → ⊥) → (o : Option declared.Process) → option_map (whole_in (state_of memory) r) o ≡ option_map (whole_in (spaces_of old) r) o
-    others_by r other None = refl
-    others_by r other (Some x) = ap Some (whole_by (state_of memory) (spaces_of old) r (forked.others r other) x)
-
-    others_are : processes_of mid ≡ processes_of old
-    others_are = alike _ _ (λ r. processes_at mid r ∙ by_key r q
-        (λ same. ap (option_map (whole_in (state_of memory) r)) (ap (get old.processes) same ∙ absent)
-        ∙ sym (ap (option_map (whole_in (spaces_of old) r)) (ap (get old.processes) same ∙ absent)))
-        (λ other. others_by r other (get old.processes r))
-        ∙ sym (processes_at old r))
-
-    all_are : processes_of (with_process_at mid q process) ≡ insert (processes_of old) q (whole_in (spaces_of old) p process)
-    all_are =
-        processes_with mid q process ∙ ap (λ (ps : Processes). insert ps q (whole_in (state_of memory) q process)) others_are
-        ∙ ap (insert (processes_of old) q) whole_is
-
-    is_forked : IsForked p q process old (with_process_at mid q process)
+    is_copied : IsCopied from to process old (with_process_at mid to process)
     unfolding ledger_by
-    is_forked = record {
-      after = λ i. record { processes = all_are i; ledger = forked.ledger i; frames = forked.frames i };
-      adopted = get_same old.processes q q process refl;
-      there = space_made;
-      settled = forked.awaiting;
-      others = record {
-        spaces = forked.others;
-        there = others_there;
-        processes = λ r other. get_other old.processes q r process other;
-      };
-    }
+    is_copied =
+        let all_are = processes_put old memory to copied.others process (whole_in (spaces_of old) from process) whole_is in
+        record {
+          after = λ i. record { processes = all_are i; ledger = copied.ledger i; frames = copied.frames i };
+          adopted = get_same old.processes to to process refl;
+          there = space_made;
+          settled = copied.awaiting;
+          others = record {
+            spaces = copied.others;
+            there = others_there;
+            processes = λ r other. get_other old.processes to r process other;
+          };
+        }
 
--- how a fork comes out, where the space was made
-pub forks_made : (p q : ℕ) (process : declared.Process) (old new : Machine) (memory : MemoryView) (r : Result (Unit {0}) SpaceError)
-    → Copies old.memory memory p q (Ok tt) → (space_in (spaces_of old) p).speculating ≡ false → has_space old q ≡ false → get old.processes q ≡ None
-    → Adopts q process (with_memory old memory) new r → ForksProcess p q process old new r
-forks_made p q process old new memory (Ok done) (within, forked) unmarked no_space no_process same =
-    (fits (Copy p q) old within, subst (IsForked p q process old) (sym same) (is_forked p q old memory forked process unmarked no_process))
-forks_made p q process old new memory (Err (error.Full needed limit)) (within, forked) unmarked no_space no_process h = absurd h
-forks_made p q process old new memory (Err error.Memory) (within, forked) unmarked no_space no_process dropped =
-    (fits (Copy p q) old within, taken_back p q old memory forked new no_space dropped)
+module _ (from to : ℕ) (old new : Machine) (memory : MemoryView) where
+  -- how a fork comes out, where the space was made
+  pub forks_made : (process : declared.Process) (r : Result (Unit {0}) SpaceError)
+      → Copies old.memory memory from to (Ok tt) → (space_in (spaces_of old) from).speculating ≡ false → has_space old to ≡ false
+      → Adopts to process (with_memory old memory) new r → CopiesProcess from to process old new r
+  forks_made process (Ok done) (within, copied) unmarked no_space same =
+      (fits (Copy from to) old within, subst (IsCopied from to process old) (sym same) (is_copied from to old memory copied process unmarked))
+  forks_made process (Err (error.Full needed limit)) (within, copied) unmarked no_space h = absurd h
+  forks_made process (Err error.Memory) (within, copied) unmarked no_space dropped =
+      (fits (Copy from to) old within, taken_back from to old memory copied new no_space dropped)
 
--- and where it wasn't
-pub forks_not : (p q : ℕ) (process : declared.Process) (old : Machine) (memory : MemoryView) (e : SpaceError) → Copies old.memory memory p q (Err e)
-    → ForksProcess p q process old (with_memory old memory) (Err e)
-forks_not p q process old memory (error.Full needed limit) full =
-    let f = is_short (Copy p q) old memory needed limit full in
+  -- how a restore does
+  pub restores_made : (process : declared.Process) → Copies old.memory memory from to (Ok tt) → (space_in (spaces_of old) from).speculating ≡ false
+      → new ≡ with_process_at (with_memory old memory) to process → CopiesProcess from to process old new (Ok tt)
+  restores_made process (within, copied) unmarked same =
+      (fits (Copy from to) old within, subst (IsCopied from to process old) (sym same) (is_copied from to old memory copied process unmarked))
+
+  -- and a checkpoint
+  pub saves_made : {T : Type 0} (r : Result T SpaceError) → Copies old.memory memory from to (Ok tt) → has_space old to ≡ false → get old.processes to ≡ None
+      → Enters to (with_memory old memory) new r → SavesSpace from to old new r
+  saves_made (Ok done) (within, copied) no_space no_process same =
+      (fits (Copy from to) old within, subst (IsSaved from to old) (sym same) (is_saved from to old memory copied no_process))
+  saves_made (Err (error.Full needed limit)) (within, copied) no_space no_process h = absurd h
+  saves_made (Err error.Memory) (within, copied) no_space no_process dropped =
+      (fits (Copy from to) old within, taken_back from to old memory copied new no_space dropped)
+
+-- and where it wasn't made
+pub copies_not : (from to : ℕ) (old : Machine) (memory : MemoryView) (e : SpaceError) → Copies old.memory memory from to (Err e)
+    → CopyFails from to old (with_memory old memory) e
+copies_not from to old memory (error.Full needed limit) full =
+    let f = is_short (Copy from to) old memory needed limit full in
     (f.needed_is, f.limit_is, f.full, f.same)
-forks_not p q process old memory error.Memory (within, same) = (fits (Copy p q) old within, (same, refl))
+copies_not from to old memory error.Memory (within, same) = (fits (Copy from to) old within, (same, refl))
+
+-- What stays where nothing was made, and what a row comes to that copies a space.
+
+pub copy_keeps : (from to : ℕ) (old new : Machine) (e : SpaceError) → CopyFails from to old new e → KeepsSession old new
+copy_keeps from to old new (error.Full needed limit) (needed_is, limit_is, full, same) = keeps_same old new same
+copy_keeps from to old new error.Memory (enough, same) = keeps_before old new same
+
+module _ (row : Row) (from to : ℕ) (old new : Machine) (kept : List Checkpoint) (drawn : ℕ)
+    (taken : first_refusal row.refusals ≡ None) (may : row.may_need_units ≡ true) (last : row.memory ≡ TakesLast) (by : row.event ≡ Copy from to) where
+  abbrev before : Shown
+  before = shown_by old kept drawn
+
+  full_is : (b : Bool) → is_event_full (Copy from to) (wholes old) ≡ b → is_event_full row.event (wholes old) ≡ b
+  full_is b is = ap (λ e. is_event_full e (wholes old)) by ∙ is
+
+  pub gives_unmade : (e : SpaceError) → CopyFails from to old new e → GivesChange row before (answer_of e) (shown_by new kept drawn)
+  gives_unmade (error.Full needed limit) (needed_is, limit_is, full, same) =
+      row_full row before (shown_by new kept drawn) needed limit taken may (full_is true full) (needed_is ∙ sym (ap (λ e. event_needs e (wholes old)) by)) limit_is
+      (subst (λ (m : Machine). AreLikeStates (shown_by m kept drawn) before) (sym same) (states_itself before))
+  gives_unmade error.Memory (enough, same) = (
+    row_wants row before (shown_by new kept drawn) last taken (ap (λ b. b && is_event_full row.event (wholes old)) may ∙ full_is false enough),
+    ap (λ (w : Wholes). record { wholes = w; checkpoints = kept; drawn = drawn }) (same_wholes old new same),
+  )

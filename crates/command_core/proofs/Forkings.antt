@@ -1,33 +1,34 @@
-use Rattle.std.proofs.Common.{◌≡◌, ℕ, ◌+◌, ◌≤◌, Bool, false, sym, ap, subst, ◌∙◌, refl, Option, Some, None}
+use Rattle.std.proofs.Common.{◌≡◌, ℕ, ◌+◌, ◌≤◌, Bool, false, List, sym, ap, ◌∙◌, refl, Option, Some, None}
 use Rattle.std.specs.Prelude.{Ok, Err}
 use Rattle.std.specs.Option.{is_some, option_map_or}
 use Rattle.std.specs.FinMap.{get}
 use Rattle.number_maps.specs.Keys.{get_same}
 use Rattle.sizes.specs.declared.TheConstants.{LAST_SPACE}
-use Rattle.overlay_pages.specs.State.{space_in}
 use Rattle.overlay_pages.specs.View.{MemoryView, state_of as spaces_in}
 use Rattle.overlay_memory.specs.declared.error.SpaceError.{SpaceError}
-use Rattle.overlay_memory.specs.declared.error.SpaceError.TheVariants as error
+use Rattle.space_maps.specs.Spaces.{space_in}
 use Rattle.machine_core.specs.Process.{Process}
 use Rattle.machine_core.specs.declared.process.Process as declared
 use Rattle.machine_core.specs.Machine.{Machine, Wholes, is_marked, spaces_of, whole_in, wholes}
-use Rattle.machine_core.specs.LoadLaws.{same_wholes}
 use Rattle.report_text.specs.declared.answer.Answer.TheVariants.{Forked, Refused}
 use Rattle.report_text.specs.declared.answer.Code.{Code}
-use Rattle.command_core.specs.State.{AreLikeStates, State, registry_of}
+use Rattle.command_core.specs.declared.checkpoints.Kept.{Kept}
+use Rattle.command_core.specs.State.{Checkpoint, State, registry_of}
 use Rattle.command_core.specs.Sessions.{IsSession, state_of}
+use Rattle.command_core.specs.Kept.{checkpoints_in, shown_state, spaces_kept}
 use Rattle.command_core.specs.Rows.{Row, accepts, first_refusal}
 use Rattle.command_core.specs.Giving.{GivesChange}
-use Rattle.command_core.specs.Forks.{ForksProcess, fork_refusals, fork_row}
-use Rattle.command_core.specs.Changes.{answer_of}
+use Rattle.command_core.specs.Copies.{CopiesProcess, CopyFails, fork_refusals, fork_row}
+use Rattle.command_core.specs.Changes.{answer_of, on_process}
 use Rattle.command_core.specs.LikeLaws.{states_itself, states_same}
-use Rattle.command_core.proofs.Rows.{row_accepted, row_full, row_refused, row_wants}
-use Rattle.command_core.proofs.Places.{mark_at, marked_is, session_more, session_same}
+use Rattle.command_core.proofs.Copies.{copy_keeps, gives_unmade}
+use Rattle.command_core.proofs.Places.{free_same, mark_at, marked_is, next_same, session_more}
+use Rattle.command_core.proofs.Rows.{gives_found, gives_kept, row_accepted, row_refused}
 
 -- What a fork comes to.
 
 -- whether a process is speculating
-abbrev mark_in : Machine → ℕ → Bool
+abbrev pub mark_in : Machine → ℕ → Bool
 mark_in machine p = (space_in (spaces_of machine) p).speculating
 
 -- why it is refused, by what the memory tells
@@ -38,9 +39,12 @@ refusal_by old drawn p process mark memory o is marked same =
     let here : mark ≡ mark_in old p = marked ∙ ap (λ (m : MemoryView). (space_in (spaces_in m) p).speculating) same in
     sym (is ∙ ap (λ b. first_refusal (fork_refusals process.state b drawn)) here)
 
-module _ (old : Machine) (drawn p : ℕ) (process : declared.Process) where
+module _ (old : Machine) (xs : List Kept) (drawn p : ℕ) (process : declared.Process) where
   abbrev before : State
-  before = state_of old drawn
+  before = shown_state old xs drawn
+
+  abbrev kept : List Checkpoint
+  kept = checkpoints_in (spaces_of old) xs
 
   abbrev row : Row
   row = fork_row p (whole_in (spaces_of old) p process) (registry_of before)
@@ -48,39 +52,39 @@ module _ (old : Machine) (drawn p : ℕ) (process : declared.Process) where
   refusals_are : first_refusal row.refusals ≡ first_refusal (fork_refusals process.state (mark_in old p) drawn)
   refusals_are = ap (λ b. first_refusal (fork_refusals process.state b drawn)) (marked_is (spaces_of old) p process (mark_in old p) refl)
 
-  pub gives_refused : (code : Code) → first_refusal (fork_refusals process.state (mark_in old p) drawn) ≡ Some code → GivesChange row before (Refused code) before
-  gives_refused code is = row_refused row before before code (refusals_are ∙ is) (states_itself before)
+  pub fork_refused : (code : Code) → get old.processes p ≡ Some process → first_refusal (fork_refusals process.state (mark_in old p) drawn) ≡ Some code
+      → GivesChange (on_process p (fork_row p) (registry_of before)) before (Refused code) before
+  fork_refused code there is = gives_found old kept drawn p (fork_row p) process (Refused code) before there (row_refused row before before code (refusals_are ∙ is) (states_itself before))
 
   -- it isn't refused
-  module _ (new : Machine) (taken : first_refusal (fork_refusals process.state (mark_in old p) drawn) ≡ None) where
-    pub gives_forked : ForksProcess p (drawn + 1) process old new (Ok tt) → GivesChange row before (Forked p (drawn + 1)) (state_of new (drawn + 1))
-    gives_forked (enough, forked) =
-        row_accepted row before (state_of new (drawn + 1)) (refusals_are ∙ taken) enough
-        (states_same (state_of new (drawn + 1)) (accepts row before).after (ap (λ (w : Wholes). record { wholes = w; drawn = drawn + 1 }) forked.after))
+  module _ (new : Machine) (is : IsSession old (spaces_kept xs) drawn) (there : get old.processes p ≡ Some process)
+      (taken : first_refusal (fork_refusals process.state (mark_in old p) drawn) ≡ None) where
+    pub forked : CopiesProcess p (drawn + 1) process old new (Ok tt)
+        → GivesChange (on_process p (fork_row p) (registry_of before)) before (Forked p (drawn + 1)) (shown_state new xs (drawn + 1))
+    forked (enough, copied) =
+        let after = state_of new kept (drawn + 1) in
+        gives_kept (on_process p (fork_row p)) old new xs drawn (next_same old new (spaces_kept xs) drawn is copied.others) (Forked p (drawn + 1)) (drawn + 1)
+        (gives_found old kept drawn p (fork_row p) process (Forked p (drawn + 1)) after there
+        (row_accepted row before after (refusals_are ∙ taken) enough
+        (states_same after (accepts row before).after (ap (λ (w : Wholes). record { wholes = w; checkpoints = kept; drawn = drawn + 1 }) copied.after))))
 
-    pub gives_unforked : (e : SpaceError) → ForksProcess p (drawn + 1) process old new (Err e) → GivesChange row before (answer_of e) (state_of new drawn)
-    gives_unforked (error.Full needed limit) (needed_is, limit_is, full, same) =
-        row_full row before (state_of new drawn) needed limit (refusals_are ∙ taken) refl full needed_is limit_is
-        (subst (λ (m : Machine). AreLikeStates (state_of m drawn) before) (sym same) (states_itself before))
-    gives_unforked error.Memory (enough, same) =
-        (row_wants row before (state_of new drawn) refl (refusals_are ∙ taken) enough, ap (λ (w : Wholes). record { wholes = w; drawn = drawn }) (same_wholes old new same))
+    pub not_forked : (e : SpaceError) → CopyFails p (drawn + 1) old new e
+        → GivesChange (on_process p (fork_row p) (registry_of before)) before (answer_of e) (shown_state new xs drawn)
+    not_forked e unmade =
+        gives_kept (on_process p (fork_row p)) old new xs drawn (free_same old new (spaces_kept xs) (copy_keeps p (drawn + 1) old new e unmade).free is.free) (answer_of e) drawn
+        (gives_found old kept drawn p (fork_row p) process (answer_of e) (state_of new kept drawn) there
+        (gives_unmade row p (drawn + 1) old new kept drawn (refusals_are ∙ taken) refl refl refl e unmade))
 
 -- what a session keeps
 abbrev saved_of : Option declared.Process → Bool
 saved_of found = option_map_or (λ (x : declared.Process). is_some x.saved) found false
 
-pub session_forked : (old new : Machine) (drawn p : ℕ) (process : declared.Process) → IsSession old drawn → drawn + 1 ≤ LAST_SPACE → get old.processes p ≡ Some process
-    → ForksProcess p (drawn + 1) process old new (Ok tt) → IsSession new (drawn + 1)
-session_forked old new drawn p process is below there (enough, forked) =
+pub session_forked : (old new : Machine) (spaces : List ℕ) (drawn p : ℕ) (process : declared.Process) → IsSession old spaces drawn → drawn + 1 ≤ LAST_SPACE
+    → get old.processes p ≡ Some process → CopiesProcess p (drawn + 1) process old new (Ok tt) → IsSession new spaces (drawn + 1)
+session_forked old new spaces drawn p process is below there (enough, copied) =
     let q = drawn + 1 in
     let whole : Process = whole_in (spaces_of old) p process in
-    session_more old new drawn is below forked.there forked.settled
-    (mark_at new q whole (ap (λ (w : Wholes). get w.processes q) forked.after ∙ get_same (wholes old).processes q q whole refl)
-    ∙ marked_is (spaces_of old) p process (is_marked old p) refl ∙ is.kept p ∙ ap saved_of there ∙ sym (ap saved_of forked.adopted))
-    forked.others
-
-pub session_unforked : (old new : Machine) (drawn p q : ℕ) (process : declared.Process) (e : SpaceError) → IsSession old drawn
-    → ForksProcess p q process old new (Err e) → IsSession new drawn
-session_unforked old new drawn p q process (error.Full needed limit) is (needed_is, limit_is, full, same) =
-    subst (λ (m : Machine). IsSession m drawn) (sym same) is
-session_unforked old new drawn p q process error.Memory is (enough, (spaces, processes)) = session_same old new drawn is spaces processes
+    session_more old new spaces drawn is below copied.there copied.settled
+    (mark_at new q whole (ap (λ (w : Wholes). get w.processes q) copied.after ∙ get_same (wholes old).processes q q whole refl)
+    ∙ marked_is (spaces_of old) p process (is_marked old p) refl ∙ is.kept p ∙ ap saved_of there ∙ sym (ap saved_of copied.adopted))
+    copied.others

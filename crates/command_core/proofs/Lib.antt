@@ -1,4 +1,6 @@
 mod Looking
+pub mod Entries
+pub mod Keeping
 pub mod Places
 pub mod Rows
 pub mod Rans
@@ -9,4 +11,5 @@ pub mod Loadings
 pub mod Dropping
 pub mod Copies
 pub mod Forkings
+pub mod Savings
 pub mod Speculating

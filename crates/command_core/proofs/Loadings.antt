@@ -15,8 +15,8 @@ use Rattle.machine_core.specs.Load.{Loads, is_load_full, load_needs, load_pages,
 use Rattle.machine_core.specs.LoadLaws.{same_wholes}
 use Rattle.report_text.specs.declared.answer.Answer.TheVariants.{Loaded, Refused}
 use Rattle.report_text.specs.declared.answer.Code.TheVariants.{Elf, NumbersUsed}
-use Rattle.command_core.specs.State.{AreLikeStates, State, registry_of}
-use Rattle.command_core.specs.Sessions.{IsSession, state_of}
+use Rattle.command_core.specs.State.{AreLikeStates, Checkpoint, State, registry_of}
+use Rattle.command_core.specs.Sessions.{KeepsSession, state_of}
 use Rattle.command_core.specs.Rows.{Row, change_by, event_needs, first_refusal, is_event_full, ledger_by, refused_if}
 use Rattle.command_core.specs.Giving.{ComesTo, GivesChange}
 use Rattle.command_core.specs.Refusals.{by_numbers_used}
@@ -24,7 +24,7 @@ use Rattle.command_core.specs.Changes.{answer_of, load_row}
 use Rattle.command_core.specs.Commands.{RunsLoaded}
 use Rattle.command_core.specs.LikeLaws.{states_itself}
 use Rattle.command_core.proofs.Rows.{row_accepted, row_full, row_refused}
-use Rattle.command_core.proofs.Places.{session_same}
+use Rattle.command_core.proofs.Places.{keeps_before, keeps_same}
 
 -- What a load comes to.
 
@@ -60,36 +60,37 @@ module _ (file : List ℕ) (s : State) where
   comes_used taken all = row_refused row s s NumbersUsed (by_number true taken all) (states_itself s)
 
 -- where a number is left, what the machine answers
-module _ (file : List ℕ) (old new : Machine) (drawn : ℕ) (taken : file_refusal file ≡ None) (left : (drawn == LAST_SPACE) ≡ false) where
+module _ (file : List ℕ) (old new : Machine) (kept : List Checkpoint) (drawn : ℕ) (taken : file_refusal file ≡ None) (left : (drawn == LAST_SPACE) ≡ false) where
   abbrev before : State
-  before = state_of old drawn
+  before = state_of old kept drawn
 
   none : first_refusal (row file before).refusals ≡ None
   none = by_number file before false taken left
 
   pub gives_loaded : (n entry : ℕ) → Loads (drawn + 1) file old new (Ok n) → entry ≡ entry_of file
-      → ComesTo (change_by (row file before) before) (Loaded (drawn + 1) n entry) (state_of new (drawn + 1))
+      → ComesTo (change_by (row file before) before) (Loaded (drawn + 1) n entry) (state_of new kept (drawn + 1))
   gives_loaded n entry (count, fits, loaded) is =
       let enough = sym (load_full (drawn + 1) file (wholes old)) ∙ fits in
-      let comes = row_accepted (row file before) before (state_of new (drawn + 1)) none enough (record { wholes = like_accepted (drawn + 1) file (wholes new) (wholes old) loaded.like; drawn = refl }) in
+      let comes = row_accepted (row file before) before (state_of new kept (drawn + 1)) none enough
+      (record { wholes = like_accepted (drawn + 1) file (wholes new) (wholes old) loaded.like; checkpoints = refl; drawn = refl }) in
       record {
         answer_is = ap (λ k. Loaded (drawn + 1) k entry) count ∙ ap (Loaded (drawn + 1) (page_count file)) is ∙ comes.answer_is;
         after_is = comes.after_is;
       }
 
-  pub runs_loaded : (n entry : ℕ) → Loads (drawn + 1) file old new (Ok n) → RunsLoaded (Loaded (drawn + 1) n entry) (state_of new (drawn + 1))
+  pub runs_loaded : (n entry : ℕ) → Loads (drawn + 1) file old new (Ok n) → RunsLoaded (Loaded (drawn + 1) n entry) (state_of new kept (drawn + 1))
   runs_loaded n entry (count, fits, loaded) =
       (loaded_process file, ap (λ (ps : Processes). get ps (drawn + 1)) loaded.like.processes ∙ get_same (wholes old).processes (drawn + 1) (drawn + 1) (loaded_process file) refl, refl)
 
-  pub gives_other : (e : SpaceError) → Loads (drawn + 1) file old new (Err e) → GivesChange (row file before) before (answer_of e) (state_of new drawn)
+  pub gives_other : (e : SpaceError) → Loads (drawn + 1) file old new (Err e) → GivesChange (row file before) before (answer_of e) (state_of new kept drawn)
   gives_other (error.Full needed limit) (needed_is, limit_is, full, same) =
-      row_full (row file before) before (state_of new drawn) needed limit none refl (sym (load_full (drawn + 1) file (wholes old)) ∙ full)
-      (needed_is ∙ load_needed (drawn + 1) file (wholes old)) limit_is (subst (λ (m : Machine). AreLikeStates (state_of m drawn) before) (sym same) (states_itself before))
-  gives_other error.Memory (fits, same) = (refl, ap (λ (w : Wholes). record { wholes = w; drawn = drawn }) (same_wholes old new same))
+      row_full (row file before) before (state_of new kept drawn) needed limit none refl (sym (load_full (drawn + 1) file (wholes old)) ∙ full)
+      (needed_is ∙ load_needed (drawn + 1) file (wholes old)) limit_is (subst (λ (m : Machine). AreLikeStates (state_of m kept drawn) before) (sym same) (states_itself before))
+  gives_other error.Memory (fits, same) = (refl, ap (λ (w : Wholes). record { wholes = w; checkpoints = kept; drawn = drawn }) (same_wholes old new same))
 
-  pub session_other : (e : SpaceError) → Loads (drawn + 1) file old new (Err e) → IsSession old drawn → IsSession new drawn
-  session_other (error.Full needed limit) (needed_is, limit_is, full, same) is = subst (λ (m : Machine). IsSession m drawn) (sym same) is
-  session_other error.Memory (fits, (spaces, processes)) is = session_same old new drawn is spaces processes
+  pub session_other : (e : SpaceError) → Loads (drawn + 1) file old new (Err e) → KeepsSession old new
+  session_other (error.Full needed limit) (needed_is, limit_is, full, same) = keeps_same old new same
+  session_other error.Memory (fits, same) = keeps_before old new same
 
 pub told_other : (e : SpaceError) (s : State) → RunsLoaded (answer_of e) s
 told_other (error.Full units limit) s = tt

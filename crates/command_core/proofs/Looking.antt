@@ -5,12 +5,15 @@ use Rattle.std.specs.List.{filter}
 use Rattle.std.specs.Ordering.{nat_cmp}
 use Rattle.std.specs.FinMap.{find, get, len, entries, get-entries}
 use Rattle.std.proofs.lemmas.Bool.{cases_lt}
+use Rattle.std.proofs.lemmas.List.{length-map}
+use Rattle.std.proofs.lemmas.Option.{slice_get-map, slice_get_within}
 use Rattle.std.proofs.lemmas.Bool.Decides.{nat_tests}
 use Rattle.ovl_io.specs.Keys.{ties, differs}
 use Rattle.number_maps.specs.Views.{len_viewed}
 use Rattle.ovl_io.specs.declared.process_state.ProcessState.{ProcessState}
 use Rattle.rv_execute.specs.Registers.{Registers}
-use Rattle.overlay_pages.specs.State.{State, memory_of, seen_page, space_in}
+use Rattle.overlay_pages.specs.State.{State, memory_of, seen_page}
+use Rattle.space_maps.specs.Spaces.{space_in}
 use Rattle.machine_core.specs.declared.process.Process as declared
 use Rattle.machine_core.specs.Machine.{Machine, Wholes, keys_from, registers_at, registers_of, registers_shown, spaces_of, whole_in, wholes}
 use Rattle.machine_core.specs.Laws.{processes_at}
@@ -18,7 +21,11 @@ use Rattle.machine_core.specs.NumberLaws.{Rises, entries_rise}
 use Rattle.command_core.specs.declared.session.ProcessView.{ProcessView}
 use Rattle.sizes.specs.declared.TheConstants.{LAST_SPACE}
 use Rattle.command_core.specs.Sessions.{IsSession}
-use Rattle.command_core.specs.Looks.{NextProcess, looked_at}
+use Rattle.command_core.specs.declared.checkpoints.Kept.{Kept}
+use Rattle.command_core.specs.declared.session.CheckpointView.{CheckpointView}
+use Rattle.command_core.specs.Kept.{checkpoint_in, checkpoints_in, spaces_kept}
+use Rattle.command_core.specs.Looks.{LooksAtCheckpoint, NextProcess, looked_at}
+use Rattle.command_core.proofs.Keeping.{rise_count}
 use Rattle.command_core.proofs.Places.{marked_is}
 
 -- Processes by number: the entries ascend, so those from a number on are the first of them and those behind it.
@@ -95,19 +102,19 @@ next_from all from p starts =
     (not_below, ap is_some (get-entries all.processes p ∙ found))
 
 -- where a number is the next one, it isn't above those drawn
-few : (machine : Machine) (drawn p : ℕ) → IsSession machine drawn → is_some (get (wholes machine).processes p) ≡ true → p ≤ LAST_SPACE
-few machine drawn p is has = elim (cases_lt drawn p) [
+few : (machine : Machine) (spaces : List ℕ) (drawn p : ℕ) → IsSession machine spaces drawn → is_some (get (wholes machine).processes p) ≡ true → p ≤ LAST_SPACE
+few machine spaces drawn p is has = elim (cases_lt drawn p) [
   | inl above ↦ absurd (let lacks = ap is_some (ap (option_map (whole_in (spaces_of machine) p)) (is.no_process p above)) in
       let both : false ≡ true = sym (ap is_some (processes_at machine p) ∙ lacks) ∙ has in cc)
   | inr le ↦ omega (arith, le, is.few)
 ]
 
-pub next_within : (machine : Machine) (drawn from : ℕ) (r : Option ℕ) → IsSession machine drawn
+pub next_within : (machine : Machine) (spaces : List ℕ) (drawn from : ℕ) (r : Option ℕ) → IsSession machine spaces drawn
     → MatchOption r (keys_from from (wholes machine) ≡ []) (λ p. slice_get (keys_from from (wholes machine)) 0 ≡ Some p)
     → IfSome r (λ p. (from ≤ p) × (p ≤ LAST_SPACE))
-next_within machine drawn from None is starts = tt
-next_within machine drawn from (Some p) is starts =
-    let (not_below, has) = next_from (wholes machine) from p starts in (not_below, few machine drawn p is has)
+next_within machine spaces drawn from None is starts = tt
+next_within machine spaces drawn from (Some p) is starts =
+    let (not_below, has) = next_from (wholes machine) from p starts in (not_below, few machine spaces drawn p is has)
 
 -- A process as it is shown, of its parts: its registers and its state, whether its space is marked, and how many pages that has.
 abbrev pub shown : declared.Process → Bool → ℕ → ProcessView
@@ -132,3 +139,24 @@ pub looked_is : (machine : Machine) (p : ℕ) (there : declared.Process) (mark :
 looked_is machine p there mark pages shows is count =
     by_parts (spaces_of machine) p (get machine.processes p) there mark pages (shows ∙ ap (option_map registers_of) (processes_at machine p)) is (count ∙ sym (pages_are (spaces_of machine) p))
     ∙ ap looked_at (sym (processes_at machine p))
+
+-- A checkpoint as it is shown, by its place.
+module _ (spaces : State) (xs : List Kept) (index : ℕ) where
+  shown_at : (o : Option Kept) → slice_get xs index ≡ o → slice_get (checkpoints_in spaces xs) index ≡ option_map (checkpoint_in spaces) o
+  shown_at o is = slice_get-map (checkpoint_in spaces) xs index ∙ ap (option_map (checkpoint_in spaces)) is
+
+  pub none_kept : slice_get xs index ≡ None → LooksAtCheckpoint (checkpoints_in spaces xs) index None
+  none_kept none = shown_at None none
+
+  pub kept_shown : (x : Kept) (view : CheckpointView) → slice_get xs index ≡ Some x → view.name.now ≡ x.name → view.space ≡ x.space → view.pages ≡ len (space_in spaces x.space).pages
+      → LooksAtCheckpoint (checkpoints_in spaces xs) index (Some view)
+  kept_shown x view is name space pages =
+      (checkpoint_in spaces x, shown_at (Some x) is, record { name = name; space = space; pages = pages ∙ sym (pages_are spaces x.space) })
+
+-- its place is below the number of spaces
+pub kept_within : (machine : Machine) (xs : List Kept) (drawn index : ℕ) (x : Kept) → IsSession machine (spaces_kept xs) drawn → slice_get xs index ≡ Some x → index < LAST_SPACE
+kept_within machine xs drawn index x is found =
+    let inside = slice_get_within xs index x found in
+    let count = rise_count 0 (spaces_kept xs) drawn is.rise in
+    let same = length-map xs (λ (y : Kept). y.space) in
+    omega (arith, inside, count, same, is.few)

@@ -1,4 +1,4 @@
-use Rattle.std.proofs.Common.{◌≡◌, ℕ, ◌≤◌, ◌<◌, ◌&&◌, nat_lt, arith, Bool, true, false, cond, sym, ap, subst, ◌∙◌, refl, Option, Some, None}
+use Rattle.std.proofs.Common.{◌≡◌, ℕ, ◌≤◌, ◌<◌, ◌&&◌, nat_lt, arith, Bool, true, false, cond, List, sym, ap, subst, ◌∙◌, refl, Option, Some, None}
 use Rattle.std.specs.Prelude.{not}
 use Rattle.std.specs.Option.{is_some, option_map, option_map_or}
 use Rattle.std.specs.FinMap.{get}
@@ -14,13 +14,18 @@ use Rattle.machine_core.specs.Laws.{processes_at}
 use Rattle.report_text.specs.declared.answer.Answer.{Answer}
 use Rattle.report_text.specs.declared.answer.Answer.TheVariants.{Done, Full, Refused}
 use Rattle.report_text.specs.declared.answer.Code.{Code}
-use Rattle.report_text.specs.declared.answer.Code.TheVariants.{NoProcess}
-use Rattle.command_core.specs.State.{AreLikeStates, Registry, State, registry_of}
-use Rattle.command_core.specs.Sessions.{IsSession, KeepsSession, state_of}
+use Rattle.report_text.specs.declared.answer.Code.TheVariants.{NoCheckpoint, NoProcess}
+use Rattle.command_core.specs.State.{AreLikeStates, Checkpoint, Registry, State, registry_of}
+use Rattle.command_core.specs.Sessions.{KeepsSession, state_of}
+use Rattle.command_core.specs.declared.checkpoints.Kept.{Kept}
+use Rattle.command_core.specs.Kept.{checkpoints_in, shown_state, spaces_kept}
 use Rattle.command_core.specs.Rows.{Changed, MemoryTaken, Row, TakesLast, accepts, change_by, event_needs, falls_short, first_refusal, is_event_full, is_full, ledger_by, may_want_memory, refused_row, refuses, still_row, wants_by, within_units}
 use Rattle.command_core.specs.Giving.{ComesTo, GivesChange, MachineGives}
+use Rattle.command_core.specs.Checkpoints.{checkpoint_named, on_checkpoint}
 use Rattle.command_core.specs.Changes.{on_process}
 use Rattle.command_core.specs.LikeLaws.{states_itself}
+use Rattle.command_core.proofs.Keeping.{all_shown}
+use Rattle.command_core.proofs.Places.{AreSame, keeps_same}
 
 -- Whether there are units enough for an event.
 
@@ -102,9 +107,9 @@ pub gives_still : (s : State) → GivesChange (still_row (registry_of s)) s Done
 gives_still s = row_accepted (still_row (registry_of s)) s s refl refl (still_like s)
 
 -- The row of a process, by whether it is there.
-module _ (old : Machine) (drawn p : ℕ) (row : Process → Registry → Row) where
+module _ (old : Machine) (kept : List Checkpoint) (drawn p : ℕ) (row : Process → Registry → Row) where
   abbrev before : State
-  before = state_of old drawn
+  before = state_of old kept drawn
 
   found_is : (o : Option declared.Process) → get old.processes p ≡ o
       → on_process p row (registry_of before) ≡ option_map_or (λ process. row process (registry_of before)) (option_map (whole_in (spaces_of old) p) o) (refused_row NoProcess (registry_of before))
@@ -120,19 +125,31 @@ module _ (old : Machine) (drawn p : ℕ) (row : Process → Registry → Row) wh
       → GivesChange (on_process p row (registry_of before)) before answer new
   gives_found process answer new there given = subst (λ (r : Row). GivesChange r before answer new) (sym (found_is (Some process) there)) given
 
+-- The row of a checkpoint, by whether there is one.
+module _ (before : State) (name : List ℕ) where
+  named_is : (row : Checkpoint → Registry → Row) (o : Option Checkpoint) → checkpoint_named name before.checkpoints ≡ o
+      → on_checkpoint name row (registry_of before) ≡ option_map_or (λ x. row x (registry_of before)) o (refused_row NoCheckpoint (registry_of before))
+  named_is row o is = ap (λ (found : Option Checkpoint). option_map_or (λ x. row x (registry_of before)) found (refused_row NoCheckpoint (registry_of before))) is
+
+  pub gives_unnamed : (row : Checkpoint → Registry → Row) → checkpoint_named name before.checkpoints ≡ None
+      → GivesChange (on_checkpoint name row (registry_of before)) before (Refused NoCheckpoint) before
+  gives_unnamed row is = row_refused (on_checkpoint name row (registry_of before)) before before NoCheckpoint (ap (λ (r : Row). first_refusal r.refusals) (named_is row None is)) (states_itself before)
+
+  pub gives_named : (x : Checkpoint) (row : Checkpoint → Registry → Row) (answer : Answer) (new : State) → checkpoint_named name before.checkpoints ≡ Some x
+      → GivesChange (row x (registry_of before)) before answer new → GivesChange (on_checkpoint name row (registry_of before)) before answer new
+  gives_named x row answer new there given = subst (λ (r : Row). GivesChange r before answer new) (sym (named_is row (Some x) there)) given
+
 -- What a machine answers.
 module _ (row : Registry → Row) (old new : Machine) where
-  pub same_keeps : new ≡ old → KeepsSession old new
-  same_keeps same drawn is = subst (λ (m : Machine). IsSession m drawn) (sym same) is
-
-  same_likes : new ≡ old → (drawn : ℕ) → AreLikeStates (state_of new drawn) (state_of old drawn)
-  same_likes same drawn = subst (λ (m : Machine). AreLikeStates (state_of m drawn) (state_of old drawn)) (sym same) (states_itself (state_of old drawn))
+  same_likes : new ≡ old → (kept : List Checkpoint) (drawn : ℕ) → AreLikeStates (state_of new kept drawn) (state_of old kept drawn)
+  same_likes same kept drawn =
+      subst (λ (m : Machine). AreLikeStates (state_of m kept drawn) (state_of old kept drawn)) (sym same) (states_itself (state_of old kept drawn))
 
   pub machine_refused : (code : Code) → ((r : Registry) → first_refusal (row r).refusals ≡ Some code) → new ≡ old → MachineGives row old (Refused code) new
   machine_refused code is same = record {
-    gives = λ drawn. row_refused (row (registry_of (state_of old drawn))) (state_of old drawn) (state_of new drawn) code (is (registry_of (state_of old drawn)))
-        (same_likes same drawn);
-    keeps = same_keeps same;
+    gives = λ kept drawn. row_refused (row (registry_of (state_of old kept drawn))) (state_of old kept drawn) (state_of new kept drawn) code
+        (is (registry_of (state_of old kept drawn))) (same_likes same kept drawn);
+    keeps = keeps_same old new same;
   }
 
   pub machine_full : (event : Event) (needed limit : ℕ) → ((r : Registry) → first_refusal (row r).refusals ≡ None)
@@ -140,23 +157,33 @@ module _ (row : Registry → Row) (old new : Machine) where
       → needed ≡ event_needs event (wholes old) → limit ≡ limit_of (wholes old).frames → is_event_full event (wholes old) ≡ true → new ≡ old
       → MachineGives row old (Full needed limit) new
   machine_full event needed limit none may by needed_is limit_is full same = record {
-    gives = λ drawn.
-        let before = state_of old drawn in
+    gives = λ kept drawn.
+        let before = state_of old kept drawn in
         let r = registry_of before in
-        row_full (row r) before (state_of new drawn) needed limit (none r) (may r) (ap (λ e. is_event_full e before.wholes) (by r) ∙ full)
-        (needed_is ∙ sym (ap (λ e. event_needs e before.wholes) (by r))) limit_is (same_likes same drawn);
-    keeps = same_keeps same;
+        row_full (row r) before (state_of new kept drawn) needed limit (none r) (may r) (ap (λ e. is_event_full e before.wholes) (by r) ∙ full)
+        (needed_is ∙ sym (ap (λ e. event_needs e before.wholes) (by r))) limit_is (same_likes same kept drawn);
+    keeps = keeps_same old new same;
   }
 
-  pub machine_done : ((r : Registry) → first_refusal (row r).refusals ≡ None) → ((drawn : ℕ) → is_full (row (registry_of (state_of old drawn))) (state_of old drawn) ≡ false)
+  pub machine_done : ((r : Registry) → first_refusal (row r).refusals ≡ None)
+      → ((kept : List Checkpoint) (drawn : ℕ) → is_full (row (registry_of (state_of old kept drawn))) (state_of old kept drawn) ≡ false)
       → ((r : Registry) → (row r).answer ≡ Done)
-      → ((drawn : ℕ) → AreLike (wholes new) (accepts (row (registry_of (state_of old drawn))) (state_of old drawn)).after.wholes)
-      → ((r : Registry) → r.drawn ≡ (row r).after.drawn) → KeepsSession old new → MachineGives row old Done new
-  machine_done none enough answers like drawn_is keeps = record {
-    gives = λ drawn.
-        let before = state_of old drawn in
+      → ((kept : List Checkpoint) (drawn : ℕ) → AreLike (wholes new) (accepts (row (registry_of (state_of old kept drawn))) (state_of old kept drawn)).after.wholes)
+      → ((r : Registry) → r.checkpoints ≡ (row r).after.checkpoints) → ((r : Registry) → r.drawn ≡ (row r).after.drawn) → KeepsSession old new → MachineGives row old Done new
+  machine_done none enough answers like kept_is drawn_is keeps = record {
+    gives = λ kept drawn.
+        let before = state_of old kept drawn in
         let r = registry_of before in
-        subst (λ answer. ComesTo (change_by (row r) before) answer (state_of new drawn)) (answers r)
-        (row_accepted (row r) before (state_of new drawn) (none r) (enough drawn) (record { wholes = like drawn; drawn = drawn_is r }));
+        subst (λ answer. ComesTo (change_by (row r) before) answer (state_of new kept drawn)) (answers r)
+        (row_accepted (row r) before (state_of new kept drawn) (none r) (enough kept drawn)
+        (record { wholes = like kept drawn; checkpoints = kept_is r; drawn = drawn_is r }));
     keeps = keeps;
   }
+
+-- What is shown of checkpoints stays where their spaces do.
+module _ (row : Registry → Row) (old new : Machine) (xs : List Kept) (drawn : ℕ) (same : AreSame old new (spaces_kept xs)) where
+  pub gives_kept : (answer : Answer) (after : ℕ) → GivesChange (row (registry_of (shown_state old xs drawn))) (shown_state old xs drawn) answer (state_of new (checkpoints_in (spaces_of old) xs) after)
+      → GivesChange (row (registry_of (shown_state old xs drawn))) (shown_state old xs drawn) answer (shown_state new xs after)
+  gives_kept answer after given =
+      subst (λ (cs : List Checkpoint). GivesChange (row (registry_of (shown_state old xs drawn))) (shown_state old xs drawn) answer (state_of new cs after))
+      (sym (all_shown (spaces_of new) (spaces_of old) xs same)) given

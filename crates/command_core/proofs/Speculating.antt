@@ -3,16 +3,17 @@ use Rattle.std.specs.Prelude.{[], ◌∷◌, not, Ok, Err}
 use Rattle.std.specs.Option.{is_some, option_map, option_map_or, unwrap_or}
 use Rattle.std.specs.Ordering.{nat_cmp}
 use Rattle.std.specs.FinMap.{FinMap, get, insert}
-use Rattle.number_maps.specs.Keys.{alike, by_key, get_other, get_same, insert_kept}
+use Rattle.number_maps.specs.Keys.{by_key, get_other, get_same, insert_kept}
 use Rattle.sizes.specs.declared.TheConstants.{PAGE_BYTES}
 use Rattle.ledger.specs.Alike.{AreAlike}
 use Rattle.ledger.specs.AlikeLaws.{alike_itself}
 use Rattle.ledger.specs.Events.{Event, ledger_after}
 use Rattle.ledger.specs.Events as event
 use Rattle.ovl_io.specs.Memory.{Memory, Page}
-use Rattle.overlay_pages.specs.State.{PageState, SpaceState, base_of, books, holds_space, memory_of, page_in, seen_page, space_in}
+use Rattle.overlay_pages.specs.State.{PageState, SpaceState, base_of, books, memory_of, seen_page}
 use Rattle.overlay_pages.specs.View.{MemoryView, state_of}
 use Rattle.overlay_memory.specs.StateMemory.{memory_at}
+use Rattle.space_maps.specs.Spaces.{holds_space, page_in, space_in}
 use Rattle.promotion.specs.Settled.{AreSettled}
 use Rattle.promotion.specs.Promoted.{Promotes, PromotesAll}
 use Rattle.promotion.specs.declared.error.PromoteError.{PromoteError}
@@ -24,19 +25,20 @@ use Rattle.machine_core.specs.Process.{Process, Whole, is_speculating, runs}
 use Rattle.machine_core.specs.declared.process.Process as declared
 use Rattle.machine_core.specs.declared.process.SavedRegs.{SavedRegs}
 use Rattle.machine_core.specs.Machine.{AreLike, Machine, Processes, has_saved, is_marked, kept_in, kept_whole, none_saved, processes_of, spaces_of, whole_in, wholes, with_memory, with_process_at}
-use Rattle.machine_core.specs.Laws.{processes_at, whole_by}
+use Rattle.machine_core.specs.Laws.{processes_at}
 use Rattle.report_text.specs.declared.answer.Answer.TheVariants.{Done, Refused}
 use Rattle.report_text.specs.declared.answer.Code.{Code}
 use Rattle.report_text.specs.declared.answer.Code.TheVariants.{Ended, Speculating, NotSpeculating, Unmapped}
 use Rattle.command_core.specs.declared.overlays.OverlayChange.{OverlayChange}
 use Rattle.command_core.specs.declared.overlays.OverlayChange.TheVariants.{Speculate, Commit, Discard, Promote, PromoteAll}
 use Rattle.command_core.specs.State.{Registry}
-use Rattle.command_core.specs.Sessions.{KeepsSession}
+use Rattle.command_core.specs.Sessions.{IsFree, KeepsSession}
 use Rattle.command_core.specs.Rows.{Row, first_refusal, ledger_by, plain_row, refused_if, refused_row}
 use Rattle.command_core.specs.Giving.{MachineGives}
 use Rattle.command_core.specs.Refusals.{by_not_speculating, by_speculating}
 use Rattle.command_core.specs.Overlays.{ChangesOverlays, after_commit, after_discard, after_speculate, leaves, overlay_row, promotion_answer, speculation_answer}
-use Rattle.command_core.proofs.Places.{marked_is, none_is}
+use Rattle.command_core.proofs.Keeping.{each}
+use Rattle.command_core.proofs.Places.{marked_is, none_is, not_free, processes_put}
 use Rattle.command_core.proofs.Rows.{fits, is_short, machine_done, machine_full, machine_refused}
 
 -- A machine of which the overlays of one process were changed.
@@ -62,17 +64,8 @@ module _ (p : ℕ) (process : declared.Process) (old : Machine) (memory : Memory
     abbrev new : Machine
     new = with_process_at mid p put
 
-    others_by : (q : ℕ) → (q ≡ p → ⊥) → (o : Option declared.Process) → option_map (whole_in (state_of memory) q) o ≡ option_map (whole_in (spaces_of old) q) o
-    others_by q other None = refl
-    others_by q other (Some x) = ap Some (whole_by (state_of memory) (spaces_of old) q (others q other) x)
-
     processes_are : processes_of new ≡ insert (processes_of old) p left
-    processes_are = alike _ _ (λ q. processes_at new q ∙ by_key q p
-        (λ same. ap (λ n. option_map (whole_in (state_of memory) n) (get (insert old.processes p put) n)) same
-        ∙ ap (option_map (whole_in (state_of memory) p)) (get_same old.processes p p put refl)
-        ∙ ap Some is ∙ sym (get_same (processes_of old) p q left same))
-        (λ other. ap (option_map (whole_in (state_of memory) q)) (get_other old.processes p q put other)
-        ∙ others_by q other (get old.processes q) ∙ sym (processes_at old q) ∙ sym (get_other (processes_of old) p q left other)))
+    processes_are = processes_put old memory p others put left is
 
     wholes_are : AreAlike (books (state_of memory)) (ledger_after e (books (spaces_of old))) → (state_of memory).frames ≡ (spaces_of old).frames
         → AreLike (wholes new) (record { processes = insert (processes_of old) p left; ledger = ledger_by e (books (spaces_of old)); frames = (spaces_of old).frames })
@@ -82,21 +75,26 @@ module _ (p : ℕ) (process : declared.Process) (old : Machine) (memory : Memory
     stays : ((q : ℕ) → holds_space (state_of memory) q ≡ holds_space (spaces_of old) q)
         → (space_in (state_of memory) p).awaiting ≡ (space_in (spaces_of old) p).awaiting
         → (is_marked old p ≡ has_saved old p → (space_in (state_of memory) p).speculating ≡ is_some put.saved) → KeepsSession old new
-    stays spaces awaiting kept drawn session =
+    stays spaces awaiting kept =
         let found : (q : ℕ) → is_some (get new.processes q) ≡ is_some (get old.processes q) = λ q. by_key q p
         (λ same. ap is_some (get_same old.processes p q put same) ∙ sym (ap (λ n. is_some (get old.processes n)) same ∙ ap is_some there))
         (λ other. ap is_some (get_other old.processes p q put other)) in
         record {
-          few = session.few;
-          no_space = λ q above. spaces q ∙ session.no_space q above;
-          no_process = λ q above. none_is (get new.processes q) (found q ∙ ap is_some (session.no_process q above));
-          own_space = λ q some. spaces q ∙ session.own_space q (sym (found q) ∙ some);
-          settled = λ q. by_key q p
-              (λ same. ap (λ n. (space_in (state_of memory) n).awaiting) same ∙ awaiting ∙ session.settled p)
-              (λ other. ap (λ (s : SpaceState). s.awaiting) (others q other) ∙ session.settled q);
-          kept = λ q. by_key q p
-              (λ same. ap (is_marked new) same ∙ kept (session.kept p) ∙ sym (ap saved_of (get_same old.processes p q put same)))
-              (λ other. ap (λ (s : SpaceState). s.speculating) (others q other) ∙ session.kept q ∙ sym (ap saved_of (get_other old.processes p q put other)));
+          session = λ free_spaces drawn session. record {
+            few = session.few;
+            no_space = λ q above. spaces q ∙ session.no_space q above;
+            no_process = λ q above. none_is (get new.processes q) (found q ∙ ap is_some (session.no_process q above));
+            own_space = λ q some. spaces q ∙ session.own_space q (sym (found q) ∙ some);
+            settled = λ q. by_key q p
+                (λ same. ap (λ n. (space_in (state_of memory) n).awaiting) same ∙ awaiting ∙ session.settled p)
+                (λ other. ap (λ (s : SpaceState). s.awaiting) (others q other) ∙ session.settled q);
+            kept = λ q. by_key q p
+                (λ same. ap (is_marked new) same ∙ kept (session.kept p) ∙ sym (ap saved_of (get_same old.processes p q put same)))
+                (λ other. ap (λ (s : SpaceState). s.speculating) (others q other) ∙ session.kept q ∙ sym (ap saved_of (get_other old.processes p q put other)));
+            free = each (IsFree old) (IsFree new) free_spaces (λ q h. (spaces q ∙ h.0, none_is (get new.processes q) (found q ∙ ap is_some h.1))) session.free;
+            rise = session.rise;
+          };
+          free = λ q none. others q (not_free old p q (ap is_some there) none);
         }
 
   -- the process in its place again
@@ -141,8 +139,8 @@ module _ (p : ℕ) (process : declared.Process) (old : Machine) (memory : Memory
       let kept = kept_by (Some saved) true (memory_of (spaces_of old) p) s.marked (has.base ∙ s.memory) in
       let is : whole_in (state_of memory) p begun ≡ after_speculate before =
       λ i. record { registers = process.regs; state = process.state; memory = s.memory i; kept = kept i } in
-      machine_done begins old (with_process_at mid p begun) (start_refusal false run unmarked) (λ drawn. fits (event.Settle p) old within) (λ r. refl)
-      (λ drawn. wholes_are (event.Settle p) begun (after_speculate before) is s.others has.ledger s.frames) (λ r. refl)
+      machine_done begins old (with_process_at mid p begun) (start_refusal false run unmarked) (λ kept drawn. fits (event.Settle p) old within) (λ r. refl)
+      (λ kept drawn. wholes_are (event.Settle p) begun (after_speculate before) is s.others has.ledger s.frames) (λ r. refl) (λ r. refl)
       (stays (event.Settle p) begun (after_speculate before) is s.others s.spaces s.awaiting (λ h. s.marked))
 
   pub not_started : (e : SpeculationError) → Starts old.memory memory p (Err e) → runs process.state ≡ true → ChangesOverlays p Speculate process old (speculation_answer e) mid
@@ -169,8 +167,8 @@ module _ (p : ℕ) (process : declared.Process) (old : Machine) (memory : Memory
       let is : whole_in (state_of memory) p forgotten ≡ after_commit before =
       λ i. record { registers = process.regs; state = process.state; memory = s.memory i; kept = kept i } in
       let ledger = subst (AreAlike (books (state_of memory))) has.ledger (alike_itself (books (state_of memory))) in
-      machine_done (ends Commit) old (with_process_at mid p forgotten) (λ r. end_refusal true marked) (λ drawn. refl) (λ r. refl)
-      (λ drawn. wholes_are (event.Commit p) forgotten (after_commit before) is s.others ledger s.frames) (λ r. refl)
+      machine_done (ends Commit) old (with_process_at mid p forgotten) (λ r. end_refusal true marked) (λ kept drawn. refl) (λ r. refl)
+      (λ kept drawn. wholes_are (event.Commit p) forgotten (after_commit before) is s.others ledger s.frames) (λ r. refl) (λ r. refl)
       (stays (event.Commit p) forgotten (after_commit before) is s.others s.spaces s.awaiting (λ h. s.marked))
 
   pub not_committed : (e : SpeculationError) → Commits old.memory memory p (Err e) → ChangesOverlays p Commit process old (speculation_answer e) mid
@@ -201,8 +199,8 @@ module _ (p : ℕ) (process : declared.Process) (old : Machine) (memory : Memory
       λ i. record { registers = saved.regs; state = saved.state; memory = has.memory i; kept = kept i } in
       let ledger = subst (AreAlike (books (state_of memory))) has.ledger (alike_itself (books (state_of memory))) in
       subst (λ (o : Option Whole). MachineGives (goes_back o) old Done (with_process_at mid p (again saved))) (sym was)
-      (machine_done (goes_back (Some whole)) old (with_process_at mid p (again saved)) (λ r. refl) (λ drawn. refl) (λ r. refl)
-      (λ drawn. wholes_are (event.Discard p) (again saved) (after_discard whole) is has.others ledger has.frames) (λ r. refl)
+      (machine_done (goes_back (Some whole)) old (with_process_at mid p (again saved)) (λ r. refl) (λ kept drawn. refl) (λ r. refl)
+      (λ kept drawn. wholes_are (event.Discard p) (again saved) (after_discard whole) is has.others ledger has.frames) (λ r. refl) (λ r. refl)
       (stays (event.Discard p) (again saved) (after_discard whole) is has.others has.spaces has.awaiting (λ h. has.marked)))
 
   pub not_discarded : (e : SpeculationError) → Discards old.memory memory p (Err e) → ChangesOverlays p Discard process old (speculation_answer e) mid
@@ -235,8 +233,8 @@ module _ (p : ℕ) (process : declared.Process) (old : Machine) (memory : Memory
 
   pub all_promoted : PromotesAll old.memory memory p (Ok tt) → ChangesOverlays p PromoteAll process old Done mid
   all_promoted (unmarked, within, has) =
-      machine_done (overlay_row p PromoteAll before) old mid (all_refusal false unmarked) (λ drawn. fits (event.Settle p) old within) (λ r. refl)
-      (λ drawn. promoted _ has.settled unmarked (event.Settle p) has.ledger) (λ r. refl) (promoted_stays _ has.settled unmarked (event.Settle p) has.ledger)
+      machine_done (overlay_row p PromoteAll before) old mid (all_refusal false unmarked) (λ kept drawn. fits (event.Settle p) old within) (λ r. refl)
+      (λ kept drawn. promoted _ has.settled unmarked (event.Settle p) has.ledger) (λ r. refl) (λ r. refl) (promoted_stays _ has.settled unmarked (event.Settle p) has.ledger)
 
   pub none_promoted : (e : PromoteError) (address : ℕ) → PromotesAll old.memory memory p (Err e) → ChangesOverlays p PromoteAll process old (promotion_answer address e) mid
   none_promoted (promote.Unmapped at) address h = absurd h
@@ -271,8 +269,8 @@ module _ (p : ℕ) (process : declared.Process) (old : Machine) (memory : Memory
     pub page_promoted : Promotes old.memory memory p (address / PAGE_BYTES) (Ok tt) → ChangesOverlays p (Promote address) process old Done mid
     page_promoted (unmarked, has) =
         let e = event.SettlePage p (address / PAGE_BYTES) in
-        machine_done one old mid (here_refusal unmarked has.there) (λ drawn. fits e old has.fits) (λ r. refl)
-        (λ drawn. promoted _ has.settled unmarked e has.ledger) (λ r. refl) (promoted_stays _ has.settled unmarked e has.ledger)
+        machine_done one old mid (here_refusal unmarked has.there) (λ kept drawn. fits e old has.fits) (λ r. refl)
+        (λ kept drawn. promoted _ has.settled unmarked e has.ledger) (λ r. refl) (λ r. refl) (promoted_stays _ has.settled unmarked e has.ledger)
 
     pub not_promoted : (e : PromoteError) → Promotes old.memory memory p (address / PAGE_BYTES) (Err e)
         → ChangesOverlays p (Promote address) process old (promotion_answer address e) mid

@@ -5,13 +5,17 @@ use Rattle.std.specs.FinMap.{get}
 use Rattle.ovl_io.specs.declared.turn.Turn.{Turn}
 use Rattle.ovl_io.specs.declared.turn.Turn.TheVariants as turn
 use Rattle.machine_core.specs.Process.{Process, runs}
-use Rattle.machine_core.specs.Machine.{AreLike, Processes, Wholes}
+use Rattle.machine_core.specs.Machine.{AreLike, Machine, Processes, Wholes, spaces_of}
 use Rattle.machine_core.specs.Turns.{after_turn}
 use Rattle.machine_core.specs.Laws.{like_after_turn, like_back, like_chain, like_itself, like_turn}
 use Rattle.report_text.specs.declared.answer.Code.{Code}
 use Rattle.report_text.specs.declared.answer.Code.TheVariants.{Ended}
-use Rattle.command_core.specs.State.{State}
-use Rattle.command_core.specs.Sessions.{InSession}
+use Rattle.command_core.specs.State.{State, with_wholes}
+use Rattle.command_core.specs.Sessions.{InSession, IsSession, KeepsFree, KeepsRest}
+use Rattle.command_core.specs.declared.checkpoints.Kept.{Kept}
+use Rattle.command_core.specs.Kept.{shown_session, spaces_kept}
+use Rattle.command_core.proofs.Keeping.{all_shown}
+use Rattle.command_core.proofs.Places.{free_same}
 use Rattle.command_core.specs.Looks.{BeginsStep, begun}
 use Rattle.command_core.specs.LikeLaws.{like_ending, like_found, like_left, like_next, like_text}
 use Rattle.command_core.specs.Standing.{SessionAnswersAs, SessionStandsFor, TurnsAs, begun_step, ends_run, speaks, takes_turn}
@@ -66,11 +70,23 @@ takes_like a b new running after (Some (p, t)) like (none, next, came, turned, i
       ),
     )
 
-pub turns_as : (old new : InSession) (running after : InRun) (r : Option (ℕ × Turn)) → takes_turn running r after old.state new.state → new.state.drawn ≡ old.state.drawn
+-- what is kept of the rest
+pub rest_kept : (old new : Machine) (xs : List Kept) (drawn quantum : ℕ) → IsSession old (spaces_kept xs) drawn → KeepsFree old new
+    → KeepsRest (shown_session old xs drawn quantum) (shown_session new xs drawn quantum)
+rest_kept old new xs drawn quantum is free =
+    record { checkpoints = all_shown (spaces_of new) (spaces_of old) xs (free_same old new (spaces_kept xs) free is.free); drawn = refl; quantum = refl }
+
+-- the state after turns that left these processes stands, where all else is as it was
+after_stands : (old new : InSession) (state : State) (left : Wholes) → KeepsRest old new → SessionStandsFor old state → AreLike new.state.wholes left
+    → SessionStandsFor new (with_wholes left state)
+after_stands old new state left rest stands like =
+    record { wholes = like; checkpoints = rest.checkpoints ∙ stands.checkpoints; drawn = rest.drawn ∙ stands.drawn }
+
+pub turns_as : (old new : InSession) (running after : InRun) (r : Option (ℕ × Turn)) → takes_turn running r after old.state new.state → KeepsRest old new
     → TurnsAs (takes_turn running r after) old new
-turns_as old new running after r took drawn state stands =
+turns_as old new running after r took rest state stands =
     let (left, like, turned) = takes_like old.state.wholes state.wholes new.state.wholes running after r stands.wholes took in
-    (record { wholes = left; drawn = state.drawn }, record { wholes = like; drawn = drawn ∙ stands.drawn }, refl, turned)
+    (with_wholes left state, after_stands old new state left rest stands like, refl, refl, turned)
 
 -- turns with a line, and the last ones
 module _ (a b : Wholes) (running : InRun) (like : AreLike a b) where
@@ -80,13 +96,14 @@ module _ (a b : Wholes) (running : InRun) (like : AreLike a b) where
   same_after : AreLike (left_of b running).after (left_of a running).after
   same_after = like_back (left_of a running).after (left_of b running).after (like_left a b running like).after
 
-pub speaks_as : (old new : InSession) (running after : InRun) (line : List ℕ) → speaks running line after old.state new.state → new.state.drawn ≡ old.state.drawn
+pub speaks_as : (old new : InSession) (running after : InRun) (line : List ℕ) → speaks running line after old.state new.state → KeepsRest old new
     → TurnsAs (speaks running line after) old new
-speaks_as old new running after line (text, left) drawn state stands =
+speaks_as old new running after line (text, left) rest state stands =
     let a = old.state.wholes in
     let b = state.wholes in (
-      record { wholes = new.state.wholes; drawn = state.drawn },
-      record { wholes = like_itself new.state.wholes; drawn = drawn ∙ stands.drawn },
+      with_wholes new.state.wholes state,
+      after_stands old new state new.state.wholes rest stands (like_itself new.state.wholes),
+      refl,
       refl,
       (
         same_text a b running stands.wholes ∙ text,
@@ -94,13 +111,14 @@ speaks_as old new running after line (text, left) drawn state stands =
       ),
     )
 
-pub ends_as : (old new : InSession) (running after : InRun) → ends_run running after old.state new.state → new.state.drawn ≡ old.state.drawn
+pub ends_as : (old new : InSession) (running after : InRun) → ends_run running after old.state new.state → KeepsRest old new
     → TurnsAs (ends_run running after) old new
-ends_as old new running after (stop, found, text, left) drawn state stands =
+ends_as old new running after (stop, found, text, left) rest state stands =
     let a = old.state.wholes in
     let b = state.wholes in (
-      record { wholes = new.state.wholes; drawn = state.drawn },
-      record { wholes = like_itself new.state.wholes; drawn = drawn ∙ stands.drawn },
+      with_wholes new.state.wholes state,
+      after_stands old new state new.state.wholes rest stands (like_itself new.state.wholes),
+      refl,
       refl,
       (
         stop,

@@ -18,8 +18,9 @@ use Rattle.command_core.specs.declared.overlays.OverlayChange.TheVariants.{Specu
 use Rattle.command_core.specs.State.{Registry}
 use Rattle.command_core.specs.Rows.{Row, TakesFirst, plain_row, refused_row, still_row}
 use Rattle.command_core.specs.Refusals.{by_numbers_used}
-use Rattle.command_core.specs.Forks.{draws, fork_row}
+use Rattle.command_core.specs.Copies.{draws, fork_row}
 use Rattle.command_core.specs.Overlays.{overlay_row}
+use Rattle.command_core.specs.Checkpoints.{checkpoint_row, forget_row, on_checkpoint, restore_row}
 
 -- The changes that commands make.
 
@@ -40,12 +41,17 @@ load_row file registry = record {
 
 -- `drop`: the process goes, and its pages
 abbrev pub drop_row : ℕ → Process → Registry → Row
-drop_row p process registry = plain_row false [] (event.Drop p) (record { processes = remove registry.processes p; drawn = registry.drawn })
+drop_row p process registry =
+    plain_row false [] (event.Drop p)
+    (record { processes = remove registry.processes p; checkpoints = registry.checkpoints; drawn = registry.drawn })
 
 -- The changes, a row each, with the file that a command asks for. A command that isn't there changes nothing.
 abbrev pub change_row : List ℕ → Command → Registry → Row
 change_row file (command.Load name) = load_row file
 change_row file (command.Fork p) = on_process p (fork_row p)
+change_row file (command.Checkpoint p name) = on_process p (checkpoint_row p name)
+change_row file (command.Restore p name) = on_process p (restore_row p name)
+change_row file (command.Forget name) = on_checkpoint name (forget_row name)
 change_row file (command.Speculate p) = on_process p (overlay_row p Speculate)
 change_row file (command.Commit p) = on_process p (overlay_row p Commit)
 change_row file (command.Discard p) = on_process p (overlay_row p Discard)
@@ -54,7 +60,7 @@ change_row file (command.PromoteAll p) = on_process p (overlay_row p PromoteAll)
 change_row file (command.Drop p) = on_process p (drop_row p)
 change_row file other = still_row
 
--- what is answered where a machine doesn't load a file, or doesn't fork a process
+-- what is answered where a machine doesn't load a file, or doesn't copy a space
 abbrev pub answer_of : SpaceError → Answer
 answer_of (error.Full units limit) = Full units limit
 answer_of error.Memory = Memory

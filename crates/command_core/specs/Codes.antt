@@ -9,7 +9,7 @@ use Rattle.machine_core.specs.Process.{Process, Whole}
 use Rattle.ledger.specs.Ledger.{Holding, Ledger}
 use Rattle.machine_core.specs.Machine.{Processes, Wholes}
 use Rattle.machine_core.specs.Codes.{memory_code}
-use Rattle.command_core.specs.State.{State}
+use Rattle.command_core.specs.State.{Checkpoint, State}
 use Rattle.command_core.specs.Sessions.{InSession}
 
 -- How sessions are told apart as values: by their parts.
@@ -43,9 +43,15 @@ wholes_code =
     code_by (Processes × (Ledger × ℕ)) (coded× processes_code (coded× ledger_code coded_ℕ)) (λ w. (w.processes, (w.ledger, w.frames)))
     (λ t. record { processes = t.0; ledger = t.1.0; frames = t.1.1 }) (λ _. refl)
 
+abbrev pub checkpoint_code : Coded Checkpoint
+checkpoint_code =
+    code_by (List ℕ × (ℕ × Whole)) (coded× (coded_list coded_ℕ) (coded× coded_ℕ whole_code)) (λ c. (c.name, (c.space, c.whole)))
+    (λ t. record { name = t.0; space = t.1.0; whole = t.1.1 }) (λ _. refl)
+
 abbrev pub state_code : Coded State
 state_code =
-    code_by (Wholes × ℕ) (coded× wholes_code coded_ℕ) (λ s. (s.wholes, s.drawn)) (λ t. record { wholes = t.0; drawn = t.1 }) (λ _. refl)
+    code_by (Wholes × (List Checkpoint × ℕ)) (coded× wholes_code (coded× (coded_list checkpoint_code) coded_ℕ)) (λ s. (s.wholes, (s.checkpoints, s.drawn)))
+    (λ t. record { wholes = t.0; checkpoints = t.1.0; drawn = t.1.1 }) (λ _. refl)
 
 abbrev pub session_code : Coded InSession
 session_code = code_by (State × ℕ) (coded× state_code coded_ℕ) (λ s. (s.state, s.quantum)) (λ t. record { state = t.0; quantum = t.1 }) (λ _. refl)

@@ -9,8 +9,8 @@ use Rattle.report_text.specs.declared.answer.Answer.{Answer}
 use Rattle.report_text.specs.declared.answer.Answer.TheVariants.{Loaded}
 use Rattle.report_text.specs.declared.answer.Code.TheVariants.{NoProcess, Ended}
 use Rattle.report_text.specs.Answers.{answer_text}
-use Rattle.report_text.specs.Lines.{list_line, process_line}
-use Rattle.command_core.specs.State.{State, registry_of, with_wholes}
+use Rattle.report_text.specs.Lines.{checkpoint_line, list_line, process_line}
+use Rattle.command_core.specs.State.{Checkpoint, State, registry_of, with_wholes}
 use Rattle.command_core.specs.Sessions.{InSession}
 use Rattle.command_core.specs.Rows.{Changed, Row, change_by, may_want_memory, refuses}
 use Rattle.command_core.specs.Changes.{change_row, load_row}
@@ -132,18 +132,24 @@ step_done p turns state = steps p turns (get state.wholes.processes p) state
 abbrev pub run_done : ℕ → ℕ → State → Performed
 run_done quantum turns state = takes_turns (by_turns quantum turns) state
 
--- the lines of all processes, by number; there are no checkpoints
+-- the lines of all processes, by number, and of all checkpoints, in the order of making
 unfoldable pub process_text : ℕ × Process → List ℕ
 process_text entry = process_line entry.0 entry.1.state (is_speculating entry.1) (len entry.1.memory)
 
+unfoldable pub checkpoint_text : Checkpoint → List ℕ
+checkpoint_text checkpoint = checkpoint_line checkpoint.name checkpoint.space (len checkpoint.whole.memory)
+
 unfoldable pub list_head : State → List ℕ
-list_head state = list_line (length (entries state.wholes.processes)) 0
+list_head state = list_line (length (entries state.wholes.processes)) (length state.checkpoints)
 
 abbrev pub processes_text : State → List ℕ
 processes_text state = flat_map process_text (entries state.wholes.processes)
 
+abbrev pub checkpoints_text : State → List ℕ
+checkpoints_text state = flat_map checkpoint_text state.checkpoints
+
 abbrev pub list_text : State → List ℕ
-list_text state = list_head state ++ processes_text state
+list_text state = list_head state ++ (processes_text state ++ checkpoints_text state)
 
 abbrev pub list_done : State → Performed
 list_done state = record { text = list_text state; after = state; wants_memory = false }

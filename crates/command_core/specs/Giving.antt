@@ -1,8 +1,8 @@
-use Rattle.std.specs.Prelude.{◌≡◌, ℕ, true}
+use Rattle.std.specs.Prelude.{◌≡◌, ℕ, List, true}
 use Rattle.machine_core.specs.Machine.{Machine}
 use Rattle.report_text.specs.declared.answer.Answer.{Answer}
 use Rattle.report_text.specs.declared.answer.Answer.TheVariants.{Memory}
-use Rattle.command_core.specs.State.{AreLikeStates, Registry, State, registry_of}
+use Rattle.command_core.specs.State.{AreLikeStates, Checkpoint, Registry, State, registry_of}
 use Rattle.command_core.specs.Sessions.{KeepsSession, state_of}
 use Rattle.command_core.specs.Rows.{Changed, Row, change_by, may_want_memory}
 
@@ -19,7 +19,7 @@ abbrev pub GivesChange : Row → State → Answer → State → Type 0
 GivesChange row old Memory new = (may_want_memory row old ≡ true) × (new ≡ old)
 GivesChange row old answer new = ComesTo (change_by row old) answer new
 
--- what a machine answers of it, however many numbers were drawn; and it stays that of a session
+-- what a machine answers of it, whatever checkpoints there are and however many numbers were drawn; and it stays that of a session
 pub record MachineGives (row : Registry → Row) (old : Machine) (answer : Answer) (new : Machine) : Type 0 where
-  pub gives : (drawn : ℕ) → GivesChange (row (registry_of (state_of old drawn))) (state_of old drawn) answer (state_of new drawn)
+  pub gives : (kept : List Checkpoint) (drawn : ℕ) → GivesChange (row (registry_of (state_of old kept drawn))) (state_of old kept drawn) answer (state_of new kept drawn)
   pub keeps : KeepsSession old new

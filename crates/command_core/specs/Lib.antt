@@ -1,13 +1,15 @@
--- In reading order: the copying machine's state, what a change is and comes to, what a fork makes, and what speculation and promotion make
--- of a process, all changes, the turns of processes, what each command comes to, and what is looked up.
+-- In reading order: the copying machine's state, what a session keeps, what a change is and comes to, what a fork makes, what speculation
+-- and promotion make of a process, checkpoints, all changes, the turns of processes, what each command comes to, and what is looked up.
 pub mod State
 pub mod Sessions
+pub mod Kept
 pub mod Codes
 pub mod Rows
 pub mod Giving
 pub mod Refusals
-pub mod Forks
+pub mod Copies
 pub mod Overlays
+pub mod Checkpoints
 pub mod Changes
 pub mod Turns
 pub mod Commands

@@ -24,22 +24,26 @@ use Rattle.script_text.specs.declared.command.Command.{Command}
 use Rattle.script_text.specs.declared.command.Command.TheVariants as command
 use Rattle.command_core.specs.declared.turns.Order.{Order}
 use Rattle.command_core.specs.declared.turns.Order.TheVariants.{ByTurns, Alone}
-use Rattle.command_core.specs.State.{AreLikeStates, Registry, State, registry_of}
+use Rattle.command_core.specs.State.{AreLikeStates, Checkpoint, Registry, State, registry_of}
 use Rattle.command_core.specs.Sessions.{InSession}
 use Rattle.command_core.specs.Rows.{Changed, Row, accepts, change_by, event_needs, falls_short, first_refusal, is_full, ledger_by, may_want_memory, refuses, wants_by, within_units}
 use Rattle.command_core.specs.Giving.{ComesTo, GivesChange}
 use Rattle.command_core.specs.Changes.{change_row, load_row}
 use Rattle.command_core.specs.Turns.{InRun, Progress, Ran, ending, ending_by, event_then, first_event, left_by, left_of, next_of, alone, by_turns, ran, ran_text, rest_of, run_after, run_found, stopped, turns_by, ran_from}
-use Rattle.command_core.specs.Commands.{Performed, exec_done, exec_turns, list_head, list_text, performed, process_text, row_told, step_done, steps, takes_turns, told}
+use Rattle.command_core.specs.Commands.{Performed, checkpoint_text, exec_done, exec_turns, list_head, list_text, performed, process_text, row_told, step_done, steps, takes_turns, told}
 use Rattle.command_core.specs.Standing.{GivesAs}
 
 -- States that differ in the numbers of origins alone come to the same texts, and stay so.
 
 pub states_itself : (a : State) → AreLikeStates a a
-states_itself a = record { wholes = like_itself a.wholes; drawn = refl }
+states_itself a = record { wholes = like_itself a.wholes; checkpoints = refl; drawn = refl }
 
 pub states_chain : (a b c : State) → AreLikeStates a b → AreLikeStates b c → AreLikeStates a c
-states_chain a b c h k = record { wholes = like_chain a.wholes b.wholes c.wholes h.wholes k.wholes; drawn = h.drawn ∙ k.drawn }
+states_chain a b c h k = record {
+  wholes = like_chain a.wholes b.wholes c.wholes h.wholes k.wholes;
+  checkpoints = h.checkpoints ∙ k.checkpoints;
+  drawn = h.drawn ∙ k.drawn;
+}
 
 pub states_same : (a b : State) → a ≡ b → AreLikeStates a b
 states_same a b same = subst (AreLikeStates a) same (states_itself a)
@@ -141,7 +145,7 @@ left_found state run below = by_stop (ending state run) refl
 -- Changes.
 
 pub registries_same : (a b : State) → AreLikeStates a b → registry_of a ≡ registry_of b
-registries_same a b like = λ i. record { processes = like.wholes.processes i; drawn = like.drawn i }
+registries_same a b like = λ i. record { processes = like.wholes.processes i; checkpoints = like.checkpoints i; drawn = like.drawn i }
 
 -- one comes to what another does
 abbrev pub AreLikeChanges : Changed → Changed → Type 0
@@ -170,7 +174,10 @@ module _ (row : Row) (a b : State) (like : AreLikeStates a b) where
     after_is = like;
   }
   like_within false false same =
-      record { answer_is = refl; after_is = record { wholes = record { processes = refl; ledger = like_ledger; frames = like.wholes.frames }; drawn = refl } }
+      record {
+        answer_is = refl;
+        after_is = record { wholes = record { processes = refl; ledger = like_ledger; frames = like.wholes.frames }; checkpoints = refl; drawn = refl };
+      }
   like_within true false same = cc
   like_within false true same = cc
 
@@ -225,7 +232,7 @@ like_told row a b like =
 pub like_takes : (run : Progress) (a b : State) → AreLikeStates a b → AreLikePerformed (takes_turns run a) (takes_turns run b)
 like_takes run a b like =
     let rans = like_ran (run.turns - run.taken) a.wholes b.wholes run like.wholes in
-    record { text = like_text _ _ rans; after = record { wholes = rans.after; drawn = like.drawn }; wants = refl }
+    record { text = like_text _ _ rans; after = record { wholes = rans.after; checkpoints = like.checkpoints; drawn = like.drawn }; wants = refl }
 
 pub like_exec_turns : (turns : ℕ) (answer : Answer) (a b : State) → AreLikeStates a b → AreLikePerformed (exec_turns turns answer a) (exec_turns turns answer b)
 like_exec_turns turns (Loaded p pages entry) a b like = like_takes (alone p turns) a b like
@@ -264,7 +271,9 @@ like_step p turns a b like =
 
 pub list_same : (a b : State) → AreLikeStates a b → list_text a ≡ list_text b
 unfolding list_head
-list_same a b like = ap (λ (ps : Processes). list_line (length (entries ps)) 0 ++ flat_map process_text (entries ps)) like.wholes.processes
+list_same a b like =
+    ap (λ (ps : Processes). list_line (length (entries ps)) (length a.checkpoints) ++ (flat_map process_text (entries ps) ++ flat_map checkpoint_text a.checkpoints)) like.wholes.processes
+    ∙ ap (λ (cs : List Checkpoint). list_line (length (entries b.wholes.processes)) (length cs) ++ (flat_map process_text (entries b.wholes.processes) ++ flat_map checkpoint_text cs)) like.checkpoints
 
 pub like_performed : (quantum : ℕ) (file : List ℕ) (c : Command) (a b : State) → AreLikeStates a b → AreLikePerformed (performed quantum file c a) (performed quantum file c b)
 like_performed quantum file (command.Exec x y) a b like = like_exec file y a b like

@@ -1,11 +1,13 @@
-use Rattle.std.specs.Prelude.{◌≡◌, ℕ, ◌+◌, nat_le, List, [], ◌∷◌, if◌then◌else◌, Option, Some, None, Result, Ok, Err}
+use Rattle.std.specs.Prelude.{◌≡◌, ℕ, ◌+◌, nat_le, List, [], ◌∷◌, if◌then◌else◌, slice_get, Option, Some, None, Result, Ok, Err}
 use Rattle.std.specs.List.{filter}
 use Rattle.std.specs.FinMap.{entries, get, len}
 use Rattle.machine_core.specs.Machine.{Processes, Wholes}
 use Rattle.machine_core.specs.Process.{Process, is_speculating, runs}
 use Rattle.report_text.specs.declared.answer.Code.{Code}
 use Rattle.report_text.specs.declared.answer.Code.TheVariants.{NoProcess, Ended}
+use Rattle.command_core.specs.declared.session.CheckpointView.{CheckpointView}
 use Rattle.command_core.specs.declared.session.ProcessView.{ProcessView}
+use Rattle.command_core.specs.State.{Checkpoint}
 use Rattle.command_core.specs.Turns.{InRun, alone, run_found}
 
 -- What is looked up in a session.
@@ -20,6 +22,18 @@ looked_at (Some process) = Ok (view_of process)
 
 abbrev pub LooksAt : Processes → ℕ → Result ProcessView Code → Type 0
 LooksAt processes p result = result ≡ looked_at (get processes p)
+
+-- a checkpoint, as it is shown
+pub record ShowsCheckpoint (checkpoint : Checkpoint) (view : CheckpointView) : Type 0 where
+  pub name : view.name.now ≡ checkpoint.name
+  pub space : view.space ≡ checkpoint.space
+  pub pages : view.pages ≡ len checkpoint.whole.memory
+
+-- the checkpoint of a place, in the order of making
+abbrev pub LooksAtCheckpoint : List Checkpoint → ℕ → Option CheckpointView → Type 0
+LooksAtCheckpoint checkpoints index None = slice_get checkpoints index ≡ None
+LooksAtCheckpoint checkpoints index (Some view) =
+    (checkpoint : Checkpoint) × (slice_get checkpoints index ≡ Some checkpoint) × ShowsCheckpoint checkpoint view
 
 -- the turns of one process are begun: refused where it isn't there, or has ended
 abbrev pub begun : Wholes → ℕ → ℕ → Option Process → Result InRun Code

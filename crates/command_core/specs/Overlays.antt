@@ -15,7 +15,7 @@ use Rattle.report_text.specs.declared.answer.Answer.TheVariants.{Refused, Full}
 use Rattle.report_text.specs.declared.answer.Code.TheVariants.{Speculating, NotSpeculating, Unmapped}
 use Rattle.command_core.specs.declared.overlays.OverlayChange.{OverlayChange}
 use Rattle.command_core.specs.declared.overlays.OverlayChange.TheVariants.{Speculate, Commit, Discard, Promote, PromoteAll}
-use Rattle.command_core.specs.State.{Registry}
+use Rattle.command_core.specs.State.{Registry, process_of, whole_of}
 use Rattle.command_core.specs.Rows.{Row, plain_row, refused_row}
 use Rattle.command_core.specs.Giving.{MachineGives}
 use Rattle.command_core.specs.Refusals.{by_ended, by_not_speculating, by_speculating, by_unmapped}
@@ -28,7 +28,7 @@ after_speculate process = record {
   registers = process.registers;
   state = process.state;
   memory = process.memory;
-  kept = Some (record { registers = process.registers; state = process.state; memory = process.memory });
+  kept = Some (whole_of process);
 }
 
 -- it ends, and what was kept is forgotten
@@ -37,11 +37,12 @@ after_commit process = record { registers = process.registers; state = process.s
 
 -- it ends, and the whole that was kept is there again
 abbrev pub after_discard : Whole → Process
-after_discard whole = record { registers = whole.registers; state = whole.state; memory = whole.memory; kept = None }
+after_discard whole = process_of whole
 
 -- the process in its place
 abbrev pub leaves : ℕ → Process → Registry → Registry
-leaves p process registry = record { processes = insert registry.processes p process; drawn = registry.drawn }
+leaves p process registry =
+    record { processes = insert registry.processes p process; checkpoints = registry.checkpoints; drawn = registry.drawn }
 
 -- The five changes, a row each: whether it may need units, its refusals, what happens to the ledger, and what it leaves.
 abbrev pub overlay_row : ℕ → OverlayChange → Process → Registry → Row

@@ -6,7 +6,7 @@ use Rattle.ovl_io.specs.Memory.{Memory}
 use Rattle.ovl_io.specs.declared.process_state.ProcessState.{ProcessState}
 use Rattle.machine_core.specs.Process.{runs}
 use Rattle.report_text.specs.declared.answer.Code.{Code}
-use Rattle.report_text.specs.declared.answer.Code.TheVariants.{Ended, Speculating, NotSpeculating, Unmapped, NumbersUsed}
+use Rattle.report_text.specs.declared.answer.Code.TheVariants.{Ended, Speculating, NotSpeculating, NoCheckpoint, NameTaken, Unmapped, NumbersUsed}
 use Rattle.command_core.specs.Rows.{refused_if}
 
 -- Why changes are refused, a line each.
@@ -21,6 +21,13 @@ by_speculating mark = refused_if mark Speculating
 
 abbrev pub by_not_speculating : Bool → Option Code
 by_not_speculating mark = refused_if (not mark) NotSpeculating
+
+-- no checkpoint has the name, or one has
+abbrev pub by_no_checkpoint : Bool → Option Code
+by_no_checkpoint found = refused_if (not found) NoCheckpoint
+
+abbrev pub by_name_taken : Bool → Option Code
+by_name_taken found = refused_if found NameTaken
 
 -- the page of an address isn't there
 abbrev pub by_unmapped : ℕ → Memory → Option Code

@@ -1,10 +1,11 @@
-use Rattle.std.specs.Prelude.{◌≡◌, ℕ, ◌<◌, ◌≤◌, true, false, None}
+use Rattle.std.specs.Prelude.{◌≡◌, ℕ, ◌<◌, ◌≤◌, true, false, List, [], ◌∷◌, None}
 use Rattle.std.specs.Option.{is_some}
+use Rattle.std.specs.List.{AllByRecursion}
 use Rattle.std.specs.FinMap.{empty, get}
 use Rattle.sizes.specs.declared.TheConstants.{LAST_SPACE}
-use Rattle.overlay_pages.specs.State.{space_in}
+use Rattle.space_maps.specs.Spaces.{space_in}
 use Rattle.machine_core.specs.Machine.{Machine, has_saved, has_space, is_marked, spaces_of, wholes}
-use Rattle.command_core.specs.State.{State}
+use Rattle.command_core.specs.State.{Checkpoint, State}
 
 -- What a session keeps, and the state that it shows.
 
@@ -12,23 +13,40 @@ use Rattle.command_core.specs.State.{State}
 abbrev pub OwnSpaces : Machine → Type 0
 OwnSpaces machine = (p : ℕ) → is_some (get machine.processes p) ≡ true → has_space machine p ≡ true
 
--- A session keeps a machine: the numbers above those drawn are free, each process has its memory, no page awaits being shared,
--- and registers and state are kept of exactly those processes whose spaces are marked as speculating.
-pub record IsSession (machine : Machine) (drawn : ℕ) : Type 0 where
+-- a space that is there and has no process, as that of a checkpoint
+abbrev pub IsFree : Machine → ℕ → Type 0
+IsFree machine q = (has_space machine q ≡ true) × (get machine.processes q ≡ None)
+
+-- numbers that rise, from above one up to another one
+abbrev pub Rise : ℕ → List ℕ → ℕ → Type 0
+Rise above [] last = above ≤ last
+Rise above (q ∷ qs) last = (above < q) × Rise q qs last
+
+-- A session keeps a machine, and the spaces of checkpoints: the numbers above those drawn are free, each process has its memory, no page
+-- awaits being shared, registers and state are kept of exactly those processes whose spaces are marked as speculating, and the spaces
+-- of checkpoints have no process. Those rise, since each was drawn when it was made.
+pub record IsSession (machine : Machine) (spaces : List ℕ) (drawn : ℕ) : Type 0 where
   pub few : drawn ≤ LAST_SPACE
   pub no_space : (p : ℕ) → drawn < p → has_space machine p ≡ false
   pub no_process : (p : ℕ) → drawn < p → get machine.processes p ≡ None
   pub own_space : OwnSpaces machine
   pub settled : (p : ℕ) → (space_in (spaces_of machine) p).awaiting ≡ empty
   pub kept : (p : ℕ) → is_marked machine p ≡ has_saved machine p
+  pub free : AllByRecursion (IsFree machine) spaces
+  pub rise : Rise 0 spaces drawn
 
--- what a machine is a session of, another one is too
-abbrev pub KeepsSession : Machine → Machine → Type 0
-KeepsSession old new = (drawn : ℕ) → IsSession old drawn → IsSession new drawn
+-- each space without a process is as it was
+abbrev pub KeepsFree : Machine → Machine → Type 0
+KeepsFree old new = (q : ℕ) → get old.processes q ≡ None → space_in (spaces_of new) q ≡ space_in (spaces_of old) q
 
--- the state that a machine shows, with so many numbers drawn
-abbrev pub state_of : Machine → ℕ → State
-state_of machine drawn = record { wholes = wholes machine; drawn = drawn }
+-- what a machine is a session of, another one is too, and its checkpoints are as they were
+pub record KeepsSession (old new : Machine) : Type 0 where
+  pub session : (spaces : List ℕ) (drawn : ℕ) → IsSession old spaces drawn → IsSession new spaces drawn
+  pub free : KeepsFree old new
+
+-- the state that a machine shows, with these checkpoints and so many numbers drawn
+abbrev pub state_of : Machine → List Checkpoint → ℕ → State
+state_of machine checkpoints drawn = record { wholes = wholes machine; checkpoints = checkpoints; drawn = drawn }
 
 -- A session: the state, and the quantum of turns by round robin.
 pub record InSession : Type 0 where
@@ -36,5 +54,7 @@ pub record InSession : Type 0 where
   pub quantum : ℕ
 
 -- all but the processes is as it was
-abbrev pub KeepsRest : InSession → InSession → Type 0
-KeepsRest old new = (new.state.drawn ≡ old.state.drawn) × (new.quantum ≡ old.quantum)
+pub record KeepsRest (old new : InSession) : Type 0 where
+  pub checkpoints : new.state.checkpoints ≡ old.state.checkpoints
+  pub drawn : new.state.drawn ≡ old.state.drawn
+  pub quantum : new.quantum ≡ old.quantum

@@ -1,37 +1,55 @@
-use Rattle.std.specs.Prelude.{◌≡◌, ℕ}
+use Rattle.std.specs.Prelude.{◌≡◌, ℕ, List, [], None}
 use Rattle.std.specs.FinMap.{empty}
 use Rattle.ledger.specs.Ledger.{Ledger}
+use Rattle.machine_core.specs.Process.{Process, Whole}
 use Rattle.machine_core.specs.Machine.{AreLike, Processes, Wholes}
 
--- The copying machine: the processes by number, each with its whole memory, with the ledger of their pages, and how many numbers
--- were drawn.
+-- A checkpoint: its name, the number of its space, and the whole that is kept.
+pub record Checkpoint : Type 0 where
+  pub name : List ℕ
+  pub space : ℕ
+  pub whole : Whole
+
+-- The copying machine: the processes by number, each with its whole memory, with the ledger of the pages of all spaces; the
+-- checkpoints, in the order of making; and how many numbers were drawn.
 pub record State : Type 0 where
   pub wholes : Wholes
+  pub checkpoints : List Checkpoint
   pub drawn : ℕ
 
 -- the state at the start, with so many frames
 abbrev pub fresh : ℕ → State
-fresh frames = record { wholes = record { processes = empty; ledger = empty; frames = frames }; drawn = 0 }
+fresh frames = record { wholes = record { processes = empty; ledger = empty; frames = frames }; checkpoints = []; drawn = 0 }
 
 abbrev pub with_wholes : Wholes → State → State
-with_wholes wholes state = record { wholes = wholes; drawn = state.drawn }
+with_wholes wholes state = record { wholes = wholes; checkpoints = state.checkpoints; drawn = state.drawn }
 
 -- What a command looks at and leaves: all of the state but the ledger and the frames. Those say only whether there are units enough.
 pub record Registry : Type 0 where
   pub processes : Processes
+  pub checkpoints : List Checkpoint
   pub drawn : ℕ
 
 abbrev pub registry_of : State → Registry
-registry_of state = record { processes = state.wholes.processes; drawn = state.drawn }
+registry_of state = record { processes = state.wholes.processes; checkpoints = state.checkpoints; drawn = state.drawn }
 
 -- the state with another registry and another ledger
 abbrev pub with_registry : Registry → Ledger → State → State
 with_registry registry ledger state = record {
   wholes = record { processes = registry.processes; ledger = ledger; frames = state.wholes.frames };
+  checkpoints = registry.checkpoints;
   drawn = registry.drawn;
 }
+
+-- the whole of a process, and the process that is a whole, of which nothing is kept
+abbrev pub whole_of : Process → Whole
+whole_of process = record { registers = process.registers; state = process.state; memory = process.memory }
+
+abbrev pub process_of : Whole → Process
+process_of whole = record { registers = whole.registers; state = whole.state; memory = whole.memory; kept = None }
 
 -- states that differ in the numbers of origins alone
 pub record AreLikeStates (a b : State) : Type 0 where
   pub wholes : AreLike a.wholes b.wholes
+  pub checkpoints : a.checkpoints ≡ b.checkpoints
   pub drawn : a.drawn ≡ b.drawn

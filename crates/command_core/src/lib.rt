@@ -1,20 +1,24 @@
 //! The session: what the commands of a script do to a machine of several processes.
 //!
-//! The model is the copying machine: the processes by number, each with its whole memory, and how many numbers
-//! were drawn; for each command what it comes to, as one value.
+//! The model is the copying machine: the processes by number, each with its whole memory, the checkpoints by name, and how
+//! many numbers were drawn; for each command what it comes to, as one value.
 //!
 //! - `session`: loads, changes, and what is looked up
 //! - `forking`: a process under a second number
+//! - `saving`: checkpoints of processes, made and put back
+//! - `checkpoints`: what is kept of them, by name
 //! - `overlays`: speculation and promotion
 //! - `turns`: the turns of `run` and `step`
 #![tactic(auto)]
 
+mod checkpoints;
 mod forking;
 mod overlays;
+mod saving;
 mod session;
 mod turns;
 
-pub use session::{ProcessView, Session};
+pub use session::{CheckpointView, ProcessView, Session};
 pub use turns::{Order, Running};
 
 #[cfg(test)]

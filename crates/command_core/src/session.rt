@@ -1,26 +1,30 @@
 ghost use Rattle.std.specs.Prelude.{◌≡◌, ◌==◌, ◌≢◌, ◌+◌, ◌≤◌, ◌<◌, [], Some, None, true, false, IfOk, IfSome};
-ghost use Rattle.report_text.specs.Answers.{turn_text};
+ghost use Rattle.script_text.specs.Given.{IsGiven};
+ghost use Rattle.report_text.specs.Answers.{IsCheckpointName, turn_text};
 ghost use Rattle.machine_core.specs.Machine.{KeepsPlaces, has_space, is_running, wholes};
 ghost use Rattle.machine_core.specs.Turns.{after_asked, turn_asked};
 ghost use Rattle.sizes.specs.declared.TheConstants.{LAST_SPACE, MOST_FRAMES};
 ghost use Rattle.command_core.specs.State.{fresh, registry_of};
-ghost use Rattle.command_core.specs.Sessions.{KeepsRest, OwnSpaces};
+ghost use Rattle.command_core.specs.Sessions.{KeepsFree, KeepsRest, OwnSpaces};
 ghost use Rattle.command_core.specs.Giving.{GivesChange};
-ghost use Rattle.command_core.specs.Forks.{fork_row};
+ghost use Rattle.command_core.specs.Copies.{fork_row};
 ghost use Rattle.command_core.specs.Overlays.{overlay_row};
+ghost use Rattle.command_core.specs.Checkpoints.{checkpoint_row, forget_row, on_checkpoint, restore_row};
 ghost use Rattle.command_core.specs.Changes.{CanBeTold, answer_of, change_row, drop_row, load_row, on_process};
 ghost use Rattle.command_core.specs.Commands.{RunsLoaded, asks};
-ghost use Rattle.command_core.specs.Looks.{BeginsStep, LooksAt, NextProcess, looked_at};
+ghost use Rattle.command_core.specs.Looks.{BeginsStep, LooksAt, LooksAtCheckpoint, NextProcess, looked_at};
 ghost use Rattle.command_core.specs.Standing.{SessionAnswersAs, GivesAs, HoldsFor, SessionStandsFor, TurnsAs, begun_run, begun_step, ends_run, speaks, takes_turn};
 ghost use Rattle.std.specs.FinMap.{get};
 ghost use Rattle.command_core.specs.Turns.{EndsRun, GoesOn, Speaks, TakesTurn, begun_by, by_turns, ending, lines_left, next_of, rest_of, run_found, run_turned};
 
+use crate::checkpoints::{Checkpoints, Kept};
 use crate::forking::{fork_process, fork_refusal};
 use crate::overlays::{OverlayChange, change_overlays};
+use crate::saving::{checkpoint_refusal, restore_process, save_process};
 use crate::turns::{Order, Running};
 use elf_loader::{ElfError, read_image};
 use machine_core::{Machine, SpaceError};
-use ovl_io::{FaultKind, ProcessState, Turn};
+use ovl_io::{Bytes, FaultKind, ProcessState, Turn};
 use report_text::{Answer, Code, Line, Stop, turn_line};
 use round_robin::RoundRobin;
 use rv_execute::{Outcome, Regs};
@@ -40,31 +44,39 @@ pub struct ProcessView {
     pub pages: u32,
 }
 
-/// Processes by number, what commands do to them, and the quantum of their turns.
+/// A checkpoint, as the commands that print it see it.
+#[derive(Clone, Copy, Debug)]
+pub struct CheckpointView<'a> {
+    pub name: &'a Bytes,
+    /// The number of its space.
+    pub space: u16,
+    /// How many pages it has.
+    pub pages: u32,
+}
+
+/// Processes by number, checkpoints by name, what commands do to them, and the quantum of turns.
 #[derive(Drop)]
 pub struct Session {
     alloc: Global,
     machine: Machine,
+    checkpoints: Checkpoints,
     drawn: u16,
     quantum: u32,
 }
 
 impl Model for Session {
     ghost use Rattle.std.specs.Prelude.{◌≤◌};
-    ghost use Rattle.machine_core.specs.Machine.{wholes};
     ghost use Rattle.command_core.specs.Sessions.{InSession, IsSession};
+    ghost use Rattle.command_core.specs.Kept.{shown_session, spaces_kept};
     ghost use Rattle.command_core.specs.Codes.{session_code};
 
     ghost Value = { InSession };
 
     ghost coded = { session_code };
 
-    ghost view = { λ s. record {
-      state = record { wholes = wholes s.machine; drawn = s.drawn };
-      quantum = s.quantum;
-    } };
+    ghost view = { λ s. shown_session s.machine s.checkpoints s.drawn s.quantum };
 
-    ghost invariant = { λ s. IsSession s.machine s.drawn × (1 ≤ s.quantum) };
+    ghost invariant = { λ s. IsSession s.machine (spaces_kept s.checkpoints) s.drawn × (1 ≤ s.quantum) };
 }
 
 /// Does what a process asked for. Where that has a line, sets it and answers true.
@@ -76,6 +88,7 @@ fn answer_request(machine: &mut Machine, p: u16, line: &mut Line) -> bool
     ensures quiet { result ≡ false → turn_text p (turn_asked (wholes machine.old) p) ≡ [] }
     ensures after { wholes machine.new ≡ after_asked (wholes machine.old) p }
     ensures kept { KeepsPlaces machine.old machine.new }
+    ensures free { KeepsFree machine.old machine.new }
 {
     turn_line(p, &machine.answer(p), line)
 }
@@ -115,6 +128,7 @@ fn take_turns(machine: &mut Machine, running: &mut Running, p: u16, line: &mut L
     ensures asked { running.new.run.turns ≡ running.old.run.turns }
     ensures within { running.new.run.taken ≤ running.new.run.turns }
     ensures kept { KeepsPlaces machine.old machine.new }
+    ensures free { KeepsFree machine.old machine.new }
 {
     let (steps, outcome) = machine.execute_up_to(p, running.stretch(p));
     match outcome {
@@ -205,6 +219,7 @@ fn next_turn(machine: &mut Machine, running: &mut Running) -> Option<(u16, Turn)
     requires { OwnSpaces machine.old }
     ensures turn { TakesTurn (wholes machine.old) running.old result (wholes machine.new) running.new }
     ensures kept { KeepsPlaces machine.old machine.new }
+    ensures free { KeepsFree machine.old machine.new }
 {
     match running.stop() {
         Some(_) => return None,
@@ -240,6 +255,7 @@ fn quiet_turns(machine: &mut Machine, running: &mut Running, line: &mut Line) ->
     ensures asked { running.new.run.turns ≡ running.old.run.turns }
     ensures within { running.new.run.taken ≤ running.new.run.turns }
     ensures kept { KeepsPlaces machine.old machine.new }
+    ensures free { KeepsFree machine.old machine.new }
 {
     'quiet: while running.has_left() {
         match next(machine, running.order()) {
@@ -268,6 +284,7 @@ fn turns_to_line(machine: &mut Machine, running: &mut Running, line: &mut Line) 
     ensures asked { running.new.run.turns ≡ running.old.run.turns }
     ensures within { running.new.run.taken ≤ running.new.run.turns }
     ensures kept { KeepsPlaces machine.old machine.new }
+    ensures free { KeepsFree machine.old machine.new }
 {
     if running.has_ended() {
         return false;
@@ -275,13 +292,26 @@ fn turns_to_line(machine: &mut Machine, running: &mut Running, line: &mut Line) 
     quiet_turns(machine, running, line)
 }
 
-/// What a load or a fork that wasn't done answers.
+/// What a load or a copy that wasn't done answers.
 fn not_made(error: SpaceError) -> Answer
     ensures { result ≡ answer_of error }
 {
     match error {
         SpaceError::Full(units, limit) => Answer::Full(units, limit),
         SpaceError::Memory => Answer::Memory,
+    }
+}
+
+/// A checkpoint of so many pages, as it is shown.
+fn view_of(kept: &Kept, pages: u32) -> CheckpointView<'_>
+    ensures name { result.name.now ≡ kept.now.name }
+    ensures space { result.space ≡ kept.now.space }
+    ensures pages { result.pages ≡ pages }
+{
+    CheckpointView {
+        name: &kept.name,
+        space: kept.space,
+        pages,
     }
 }
 
@@ -298,6 +328,7 @@ impl Session {
         Ok(Session {
             alloc,
             machine: Machine::new(alloc, frames)?,
+            checkpoints: Checkpoints::new(alloc),
             drawn: 0,
             quantum,
         })
@@ -366,6 +397,85 @@ impl Session {
         }
     }
 
+    /// Keeps a process's registers, state and memory under a name, with the next number as its space: `Saved`, or why not. `Full` exactly
+    /// where it isn't refused and the units after it would exceed the limit. After want of memory everything is as before.
+    fn checkpoint(&mut self, p: u16, name: &Bytes) -> Answer
+        requires { IsCheckpointName name.now }
+        ensures gives { GivesChange (on_process p (checkpoint_row p name.now) (registry_of self.old.state))
+            self.old.state result self.new.state }
+        ensures told { CanBeTold result }
+        ensures quantum { self.new.quantum ≡ self.old.quantum }
+    {
+        let process = match self.machine.process(p) {
+            None => return Answer::Refused(Code::NoProcess),
+            Some(process) => *process,
+        };
+        let speculating = self.machine.memory().is_speculating(p);
+        let taken = self.checkpoints.has(name.as_slice());
+        match checkpoint_refusal(speculating, taken, self.drawn) {
+            Some(refusal) => return Answer::Refused(refusal),
+            None => {}
+        }
+        let q = self.drawn + 1;
+        match save_process(
+            self.alloc,
+            &mut self.machine,
+            &mut self.checkpoints,
+            p,
+            q,
+            process,
+            name,
+        ) {
+            Ok(told) => {
+                self.drawn = q;
+                Answer::Saved(p, told, q)
+            }
+            Err(error) => not_made(error),
+        }
+    }
+
+    /// Gives a process the registers, the state and the memory that are kept under a name. `Full` exactly where it isn't refused and the
+    /// units after it would exceed the limit. After want of memory everything is as before.
+    fn restore(&mut self, p: u16, name: &Bytes) -> Answer
+        ensures gives { GivesChange (on_process p (restore_row p name.now) (registry_of self.old.state))
+            self.old.state result self.new.state }
+        ensures told { CanBeTold result }
+        ensures quantum { self.new.quantum ≡ self.old.quantum }
+    {
+        match self.machine.process(p) {
+            None => return Answer::Refused(Code::NoProcess),
+            Some(_) => {}
+        }
+        if self.machine.memory().is_speculating(p) {
+            return Answer::Refused(Code::Speculating);
+        }
+        let (q, process) = match self.checkpoints.get(name.as_slice()) {
+            None => return Answer::Refused(Code::NoCheckpoint),
+            Some(kept) => (kept.space, kept.process()),
+        };
+        match restore_process(&mut self.machine, q, p, process) {
+            Ok(()) => {}
+            Err(error) => return not_made(error),
+        }
+        Answer::Done
+    }
+
+    /// Gives up the checkpoint of a name.
+    fn forget(&mut self, name: &Bytes) -> Answer
+        ensures gives { GivesChange (on_checkpoint name.now (forget_row name.now) (registry_of self.old.state))
+            self.old.state result self.new.state }
+        ensures told { CanBeTold result }
+        ensures quantum { self.new.quantum ≡ self.old.quantum }
+    {
+        match self.checkpoints.remove(name.as_slice()) {
+            None => Answer::Refused(Code::NoCheckpoint),
+            Some(kept) => {
+                self.machine.drop_space(kept.space);
+                Answer::Done
+            }
+        }
+    }
+
     /// Does a change to the overlays of a process: a speculation begins or ends, or pages are promoted. Answers what came of it, or why
     /// it wasn't done. `Full` exactly where it isn't refused and the units after it would exceed the limit.
     fn change_overlays(&mut self, p: u16, change: OverlayChange) -> Answer
@@ -402,7 +512,8 @@ impl Session {
     /// Does a command that asks for no file, by its row.
     #[tactic(auto, using(crate::proofs::Rows::gives_still))]
     fn do_row(&mut self, command: &Command) -> Answer
-        requires { asks command.now ≡ None }
+        requires asks { asks command.now ≡ None }
+        requires given { IsGiven command.now }
         ensures gives { GivesChange (change_row [] command.now (registry_of self.old.state)) self.old.state
             result self.new.state }
         ensures told { CanBeTold result }
@@ -410,6 +521,9 @@ impl Session {
     {
         match command {
             Command::Fork(p) => self.fork(*p),
+            Command::Checkpoint(p, name) => self.checkpoint(*p, name),
+            Command::Restore(p, name) => self.restore(*p, name),
+            Command::Forget(name) => self.forget(name),
             Command::Speculate(p) => self.change_overlays(*p, OverlayChange::Speculate),
             Command::Commit(p) => self.change_overlays(*p, OverlayChange::Commit),
             Command::Discard(p) => self.change_overlays(*p, OverlayChange::Discard),
@@ -422,11 +536,12 @@ impl Session {
         }
     }
 
-    /// Does a change: a command that asks for no file, and that isn't `run`, `step` or a printing one, which change nothing here. Answers
-    /// what came of it, or why it wasn't done. Want of memory comes only of a command that takes memory, that nothing refuses, and for
+    /// Does a change: a command of a script that asks for no file, and that isn't `run`, `step` or a printing one, which change nothing
+    /// here. Answers what came of it, or why it wasn't done. Want of memory comes only of a command that takes memory, that nothing refuses, and for
     /// which there are units enough; then everything is as before.
     pub fn change(&mut self, command: &Command) -> Answer
-        requires { asks command.now ≡ None }
+        requires asks { asks command.now ≡ None }
+        requires given { IsGiven command.now }
         ensures gives { GivesChange (change_row [] command.now (registry_of self.old.state)) self.old.state
             result self.new.state }
         ensures stands { GivesAs (change_row [] command.now) self.old result self.new }
@@ -520,5 +635,17 @@ impl Session {
         ensures within { IfSome result (λ p. (from ≤ p) × (p ≤ LAST_SPACE)) }
     {
         self.machine.next_process(from)
+    }
+    /// The checkpoint of a place, in the order of making; none exactly past the last.
+    pub fn checkpoint_at(&self, index: usize) -> Option<CheckpointView<'_>>
+        ensures looks { LooksAtCheckpoint self.now.state.checkpoints index result }
+        ensures stands { HoldsFor (λ state. LooksAtCheckpoint state.checkpoints index result) self.now }
+        ensures named { IfSome result (λ view. IsCheckpointName view.name.now) }
+        ensures within { IfSome result (λ view. index < LAST_SPACE) }
+    {
+        match self.checkpoints.at(index) {
+            None => None,
+            Some(kept) => Some(view_of(kept, self.machine.memory().pages(kept.space))),
+        }
     }
 }

@@ -5,19 +5,19 @@ use Rattle.std.proofs.lemmas.Bool.{and_parts}
 use Rattle.std.proofs.lemmas.Bool.Decides.{nat_tests}
 use lib.Pointwise.{pointwise}
 use Rattle.ovl_io.specs.Outside.{HasName}
-use Rattle.script_text.specs.declared.TheConstants.{MOST_TURNS}
+use Rattle.script_text.specs.declared.TheConstants.{MOST_CHECKPOINT_NAME, MOST_TURNS}
 use Rattle.sizes.specs.declared.TheConstants.{LAST_SPACE, MOST_FILE_NAME}
 use Rattle.script_text.specs.declared.command.Command.{Command}
-use Rattle.script_text.specs.declared.command.Command.TheVariants.{Exec, Load, Fork, Run, Step, Speculate, Commit, Discard, Promote, Drop}
+use Rattle.script_text.specs.declared.command.Command.TheVariants.{Exec, Load, Fork, Run, Step, Checkpoint, Restore, Forget, Speculate, Commit, Discard, Promote, Drop}
 use Rattle.script_text.specs.declared.command.Meaning.TheVariants.{Does, Nothing}
 use Rattle.script_text.specs.Words.{words_of}
 use Rattle.script_text.specs.Lines.{without_return}
 use Rattle.script_text.specs.Numbers.{within, number_in}
-use Rattle.script_text.specs.Kinds.{Kind, is_file_name, file_word, turns_word, process_word, address_word, is_all, all_word}
+use Rattle.script_text.specs.Kinds.{Kind, is_file_name, file_word, is_name_byte, is_checkpoint_name, checkpoint_word, turns_word, process_word, address_word, is_all, all_word}
 use Rattle.script_text.specs.Forms.{Form, forms, no_words, one_word, two_words, both, promote_all, made_by, command_of}
 use Rattle.script_text.specs.Script.{is_comment, as_command, meaning_of_words, meaning_of}
 use Rattle.script_text.specs.FormLaws.{◌beside◌}
-use Rattle.script_text.specs.Given.{IsGiven, IsTurns, IsProcess, IsAddress}
+use Rattle.script_text.specs.Given.{IsGiven, IsTurns, IsProcess, IsAddress, IsCheckpoint}
 
 -- Each command of a script has its values in the ranges of their kinds.
 
@@ -35,6 +35,15 @@ named word h =
 
 file_given : (word : List ℕ) → IfSome (file_word word) HasName
 file_given word = where_true HasName (is_file_name word) word (named word)
+
+checkpoint_named : (word : List ℕ) → is_checkpoint_name word ≡ true → IsCheckpoint word
+checkpoint_named word h =
+    let lengths = and_parts (nat_le 1 (length word) && nat_le (length word) MOST_CHECKPOINT_NAME) (list_all (λ b. is_name_byte b) word) h in
+    let both = and_parts (nat_le 1 (length word)) (nat_le (length word) MOST_CHECKPOINT_NAME) lengths.0 in
+    (grind (arith, nat_tests), grind (arith, nat_tests))
+
+checkpoint_given : (word : List ℕ) → IfSome (checkpoint_word word) IsCheckpoint
+checkpoint_given word = where_true IsCheckpoint (is_checkpoint_name word) word (checkpoint_named word)
 
 in_range : (least most : ℕ) (o : Option ℕ) → IfSome (within least most o) (λ n. (least ≤ n) × (n ≤ most))
 in_range least most None = tt
@@ -113,6 +122,9 @@ all_give =
     beside one_given IsProcess process_word Fork process_given (λ a h. h)
     beside one_given IsTurns turns_word Run turns_given (λ a h. h)
     beside two_given IsProcess IsTurns process_word turns_word Step process_given turns_given (λ a b h k. (h, k))
+    beside two_given IsProcess IsCheckpoint process_word checkpoint_word Checkpoint process_given checkpoint_given (λ a b h k. (h, k))
+    beside two_given IsProcess IsCheckpoint process_word checkpoint_word Restore process_given checkpoint_given (λ a b h k. (h, k))
+    beside one_given IsCheckpoint checkpoint_word Forget checkpoint_given (λ a h. h)
     beside one_given IsProcess process_word Speculate process_given (λ a h. h)
     beside one_given IsProcess process_word Commit process_given (λ a h. h)
     beside one_given IsProcess process_word Discard process_given (λ a h. h)

@@ -3,9 +3,9 @@ use Rattle.std.specs.Option.{option_map, option_or}
 use Rattle.std.specs.List.{filter_map}
 use lib.Pointwise.{pointwise}
 use Rattle.script_text.specs.declared.command.Command.{Command}
-use Rattle.script_text.specs.declared.command.Command.TheVariants.{Exec, Load, Fork, Run, Step, Speculate, Commit, Discard, Promote, PromoteAll, Drop}
+use Rattle.script_text.specs.declared.command.Command.TheVariants.{Exec, Load, Fork, Run, Step, Checkpoint, Restore, Forget, Speculate, Commit, Discard, Promote, PromoteAll, Drop}
 use Rattle.script_text.specs.declared.command.Command.TheVariants as command
-use Rattle.script_text.specs.Kinds.{Kind, file_word, turns_word, process_word, address_word, all_word}
+use Rattle.script_text.specs.Kinds.{Kind, file_word, checkpoint_word, turns_word, process_word, address_word, all_word}
 
 -- The forms of commands.
 
@@ -49,6 +49,9 @@ forms =
     ∷ form (codes "fork") (one_word process_word Fork)
     ∷ form (codes "run") (one_word turns_word Run)
     ∷ form (codes "step") (two_words process_word turns_word Step)
+    ∷ form (codes "checkpoint") (two_words process_word checkpoint_word Checkpoint)
+    ∷ form (codes "restore") (two_words process_word checkpoint_word Restore)
+    ∷ form (codes "forget") (one_word checkpoint_word Forget)
     ∷ form (codes "speculate") (one_word process_word Speculate)
     ∷ form (codes "commit") (one_word process_word Commit)
     ∷ form (codes "discard") (one_word process_word Discard)

@@ -1,9 +1,9 @@
-use Rattle.std.specs.Prelude.{ℕ, ◌≤◌, ◌<◌, ◌^◌}
+use Rattle.std.specs.Prelude.{ℕ, ◌≤◌, ◌<◌, ◌^◌, List, length}
 use Rattle.ovl_io.specs.Outside.{HasName}
 use Rattle.sizes.specs.declared.TheConstants.{LAST_SPACE}
-use Rattle.script_text.specs.declared.TheConstants.{MOST_TURNS}
+use Rattle.script_text.specs.declared.TheConstants.{MOST_CHECKPOINT_NAME, MOST_TURNS}
 use Rattle.script_text.specs.declared.command.Command.{Command}
-use Rattle.script_text.specs.declared.command.Command.TheVariants.{Exec, Load, Fork, Run, Step, Speculate, Commit, Discard, Promote, PromoteAll, Drop}
+use Rattle.script_text.specs.declared.command.Command.TheVariants.{Exec, Load, Fork, Run, Step, Checkpoint, Restore, Forget, Speculate, Commit, Discard, Promote, PromoteAll, Drop}
 use Rattle.script_text.specs.declared.command.Command.TheVariants as command
 
 -- What holds of each command that a script gives.
@@ -17,6 +17,10 @@ IsProcess p = (1 ≤ p) × (p ≤ LAST_SPACE)
 abbrev pub IsAddress : ℕ → Type 0
 IsAddress address = address < 2 ^ 64
 
+-- a checkpoint's name has 1 to 32 bytes
+abbrev pub IsCheckpoint : List ℕ → Type 0
+IsCheckpoint name = (1 ≤ length name) × (length name ≤ MOST_CHECKPOINT_NAME)
+
 -- Each value lies in the range of its kind. No form makes one of the other commands yet.
 abbrev pub IsGiven : Command → Type 0
 IsGiven (Exec name turns) = HasName name × IsTurns turns
@@ -24,6 +28,9 @@ IsGiven (Load name) = HasName name
 IsGiven (Fork p) = IsProcess p
 IsGiven (Run turns) = IsTurns turns
 IsGiven (Step p turns) = IsProcess p × IsTurns turns
+IsGiven (Checkpoint p name) = IsProcess p × IsCheckpoint name
+IsGiven (Restore p name) = IsProcess p × IsCheckpoint name
+IsGiven (Forget name) = IsCheckpoint name
 IsGiven (Speculate p) = IsProcess p
 IsGiven (Commit p) = IsProcess p
 IsGiven (Discard p) = IsProcess p
@@ -31,9 +38,6 @@ IsGiven (Promote p address) = IsProcess p × IsAddress address
 IsGiven (PromoteAll p) = IsProcess p
 IsGiven (Drop p) = IsProcess p
 IsGiven command.List = Unit {0}
-IsGiven (command.Checkpoint p name) = ⊥
-IsGiven (command.Restore p name) = ⊥
-IsGiven (command.Forget name) = ⊥
 IsGiven command.Compact = ⊥
 IsGiven (command.Map p address pages perms) = ⊥
 IsGiven (command.Unmap p address pages) = ⊥

@@ -1,9 +1,9 @@
-use Rattle.std.specs.Prelude.{ℕ, ◌-◌, ◌^◌, ◌&&◌, nat_le, nat_eq, Bool, List, length, Option, Some, None, codes, if◌then◌else◌}
+use Rattle.std.specs.Prelude.{ℕ, ◌-◌, ◌^◌, ◌==◌, ◌&&◌, ◌||◌, nat_le, nat_eq, Bool, List, length, Option, Some, None, codes, if◌then◌else◌}
 use Rattle.std.specs.List.{list_all}
 use lib.Pointwise.{pointwise}
-use Rattle.script_text.specs.declared.TheConstants.{MOST_TURNS}
+use Rattle.script_text.specs.declared.TheConstants.{MOST_CHECKPOINT_NAME, MOST_TURNS}
 use Rattle.sizes.specs.declared.TheConstants.{LAST_SPACE, MOST_FILE_NAME}
-use Rattle.script_text.specs.Numbers.{number_between}
+use Rattle.script_text.specs.Numbers.{is_decimal, number_between}
 
 -- The kinds of words. A kind is what it makes of a word: what the word says, or nothing where it is none of
 -- the kind.
@@ -17,6 +17,17 @@ is_file_name word =
 
 abbrev pub file_word : Kind (List ℕ)
 file_word word = if is_file_name word then Some word else None
+
+-- NAME: 1 to 32 bytes, each a letter, a digit, `_` or `-`
+abbrev pub is_name_byte : ℕ → Bool
+is_name_byte b = is_decimal b || nat_le 65 b && nat_le b 90 || nat_le 97 b && nat_le b 122 || b == 95 || b == 45
+
+abbrev pub is_checkpoint_name : List ℕ → Bool
+is_checkpoint_name word =
+    nat_le 1 (length word) && nat_le (length word) MOST_CHECKPOINT_NAME && list_all (λ b. is_name_byte b) word
+
+abbrev pub checkpoint_word : Kind (List ℕ)
+checkpoint_word word = if is_checkpoint_name word then Some word else None
 
 -- N: a number of turns
 abbrev pub turns_word : Kind ℕ

@@ -1,15 +1,15 @@
 ghost use Rattle.std.specs.Prelude.{◌≡◌, ℕ, IfOk};
 ghost use Rattle.std.specs.Option.{option_map, option_or};
 ghost use Rattle.script_text.specs.Words.{words_of};
-ghost use Rattle.script_text.specs.Kinds.{file_word, turns_word, process_word, address_word, all_word};
+ghost use Rattle.script_text.specs.Kinds.{file_word, checkpoint_word, turns_word, process_word, address_word, all_word};
 ghost use Rattle.script_text.specs.Forms.{no_words, one_word, two_words, promote_all, command_of};
 ghost use Rattle.script_text.specs.Script.{is_comment, meaning_of};
 ghost use Rattle.script_text.specs.declared.command.Command.{Command};
-ghost use Rattle.script_text.specs.declared.command.Command.TheVariants.{Exec, Load, Fork, Run, Step, Speculate, Commit, Discard, Promote, PromoteAll, Drop};
+ghost use Rattle.script_text.specs.declared.command.Command.TheVariants.{Exec, Load, Fork, Run, Step, Checkpoint, Restore, Forget, Speculate, Commit, Discard, Promote, PromoteAll, Drop};
 ghost use Rattle.script_text.specs.declared.command.Command.TheVariants as command;
 
 use crate::command::{Command, Meaning};
-use crate::kinds::{address_word, file_word, is_all, process_word, turns_word};
+use crate::kinds::{address_word, checkpoint_word, file_word, is_all, process_word, turns_word};
 use crate::lines::without_return;
 use crate::words::{next_word, no_words, one_word, two_words};
 use std::alloc::{AllocError, Global};
@@ -98,6 +98,58 @@ fn step(words: &[u8]) -> Option<Command>
     match turns_word(turns) {
         Some(turns) => Some(Command::Step(p, turns)),
         None => None,
+    }
+}
+
+/// `checkpoint P NAME`
+fn checkpoint(alloc: Global, words: &[u8]) -> Result<Option<Command>, AllocError>
+    ensures { IfOk result (λ command. command
+        ≡ two_words process_word checkpoint_word Checkpoint (words_of words.now)) }
+{
+    let (p, name) = match two_words(words) {
+        Some(words) => words,
+        None => return Ok(None),
+    };
+    let p = match process_word(p) {
+        Some(p) => p,
+        None => return Ok(None),
+    };
+    match checkpoint_word(alloc, name)? {
+        Some(name) => Ok(Some(Command::Checkpoint(p, name))),
+        None => Ok(None),
+    }
+}
+
+/// `restore P NAME`
+fn restore(alloc: Global, words: &[u8]) -> Result<Option<Command>, AllocError>
+    ensures { IfOk result (λ command. command
+        ≡ two_words process_word checkpoint_word Restore (words_of words.now)) }
+{
+    let (p, name) = match two_words(words) {
+        Some(words) => words,
+        None => return Ok(None),
+    };
+    let p = match process_word(p) {
+        Some(p) => p,
+        None => return Ok(None),
+    };
+    match checkpoint_word(alloc, name)? {
+        Some(name) => Ok(Some(Command::Restore(p, name))),
+        None => Ok(None),
+    }
+}
+
+/// `forget NAME`
+fn forget(alloc: Global, words: &[u8]) -> Result<Option<Command>, AllocError>
+    ensures { IfOk result (λ command. command ≡ one_word checkpoint_word Forget (words_of words.now)) }
+{
+    let name = match one_word(words) {
+        Some(name) => name,
+        None => return Ok(None),
+    };
+    match checkpoint_word(alloc, name)? {
+        Some(name) => Ok(Some(Command::Forget(name))),
+        None => Ok(None),
     }
 }
 
@@ -214,6 +266,12 @@ fn command_of(alloc: Global, first: &[u8], words: &[u8]) -> Result<Option<Comman
         Ok(run(words))
     } else if first == b"step".as_slice() {
         Ok(step(words))
+    } else if first == b"checkpoint".as_slice() {
+        checkpoint(alloc, words)
+    } else if first == b"restore".as_slice() {
+        restore(alloc, words)
+    } else if first == b"forget".as_slice() {
+        forget(alloc, words)
     } else if first == b"speculate".as_slice() {
         Ok(speculate(words))
     } else if first == b"commit".as_slice() {

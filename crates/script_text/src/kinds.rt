@@ -1,9 +1,9 @@
 ghost use Rattle.std.specs.Prelude.{◌≡◌, ◌&&◌, nat_le, IfOk};
 ghost use Rattle.std.specs.List.{list_all};
-ghost use Rattle.script_text.specs.Kinds.{is_file_name, file_word, turns_word, process_word, address_word, is_all};
+ghost use Rattle.script_text.specs.Kinds.{is_file_name, file_word, is_name_byte, is_checkpoint_name, checkpoint_word, turns_word, process_word, address_word, is_all};
 
-use crate::MOST_TURNS;
-use crate::numbers::number_between;
+use crate::numbers::{is_decimal, number_between};
+use crate::{MOST_CHECKPOINT_NAME, MOST_TURNS};
 use ovl_io::Bytes;
 use sizes::{LAST_SPACE, MOST_FILE_NAME};
 use std::alloc::{AllocError, Global};
@@ -30,6 +30,44 @@ pub(crate) fn file_word(alloc: Global, word: &[u8]) -> Result<Option<Bytes>, All
     ensures { IfOk result (λ name. name ≡ file_word word.now) }
 {
     if !is_file_name(word) {
+        return Ok(None);
+    }
+    Ok(Some(Bytes::new(Vec::from_slice(alloc, word)?)))
+}
+
+/// Whether a byte is a letter, a digit, `_` or `-`.
+fn is_name_byte(b: u8) -> bool
+    ensures { result ≡ is_name_byte b }
+{
+    is_decimal(b)
+        || (b'A'..=b'Z').contains(&b)
+        || (b'a'..=b'z').contains(&b)
+        || b == b'_'
+        || b == b'-'
+}
+
+/// Whether each byte may stand in a checkpoint's name.
+fn all_name_bytes(bytes: &[u8]) -> bool
+    ensures { result ≡ list_all (λ b. is_name_byte b) bytes.now }
+{
+    bytes.iter().all(|b| is_name_byte(*b))
+}
+
+/// Whether a word is a checkpoint's name.
+fn is_checkpoint_name(word: &[u8]) -> bool
+    ensures { result ≡ is_checkpoint_name word.now }
+{
+    if word.is_empty() || word.len() > MOST_CHECKPOINT_NAME {
+        return false;
+    }
+    all_name_bytes(word)
+}
+
+/// The checkpoint's name that a word is.
+pub(crate) fn checkpoint_word(alloc: Global, word: &[u8]) -> Result<Option<Bytes>, AllocError>
+    ensures { IfOk result (λ name. name ≡ checkpoint_word word.now) }
+{
+    if !is_checkpoint_name(word) {
         return Ok(None);
     }
     Ok(Some(Bytes::new(Vec::from_slice(alloc, word)?)))

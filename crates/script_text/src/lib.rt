@@ -28,3 +28,6 @@ pub use script::parse;
 
 /// The most turns of a command.
 pub const MOST_TURNS: u32 = 10_000_000;
+
+/// The most bytes of a checkpoint's name.
+pub const MOST_CHECKPOINT_NAME: usize = 32;

@@ -3,7 +3,7 @@ ghost use Rattle.std.specs.List.{list_all};
 ghost use Rattle.script_text.specs.Numbers.{is_decimal, is_hexadecimal, digit, spelled, is_marked, number_in, number_between, within};
 
 /// Whether a byte is a decimal digit.
-fn is_decimal(b: u8) -> bool
+pub(crate) fn is_decimal(b: u8) -> bool
     ensures { result ≡ is_decimal b }
 {
     (b'0'..=b'9').contains(&b)

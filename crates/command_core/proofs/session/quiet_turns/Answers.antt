@@ -1,7 +1,7 @@
 use Rattle.std.proofs.Common.{◌≡◌, ◌∙◌, sym, subst, Some, None, ◌⊎◌, inl, inr, false, nat_lt, arith}
 use Rattle.command_core.specs.Turns.{EndsRun, next_of}
 use Rattle.machine_core.specs.Machine.{wholes}
-use Rattle.command_core.proofs.Places.{own_kept, same_then, space_there}
+use Rattle.command_core.proofs.Places.{free_then, own_kept, same_then, space_there}
 use Rattle.command_core.proofs.Rans.{next_is, run_ended}
 use Rattle.command_core.proofs.session.quiet_turns.Goals as goal
 use Rattle.command_core.proofs.session.quiet_turns.Goals.{else-quiet-test, then-quiet-test+in-None}
@@ -24,6 +24,7 @@ quiet-preserved c =
       goes = done.ensures.goes c.if-take_turns.false;
       asked = done.ensures.asked ∙ c.quiet.invariant.asked;
       kept = same_then c.args.machine.now c.quiet.machine done.new.machine c.quiet.invariant.kept done.ensures.kept;
+      free = free_then c.args.machine.now c.quiet.machine done.new.machine c.quiet.invariant.kept c.quiet.invariant.free done.ensures.free;
       spaces = own_kept c.quiet.machine done.new.machine c.quiet.invariant.spaces done.ensures.kept;
     }
 
@@ -38,3 +39,10 @@ returns-clause-ends c silent =
     let ends = run_ended (wholes c.args.machine.now) (wholes c.quiet.machine) c.args.running.now run found c.requires.goes c.ending-stop.ensures c.quiet.invariant.text c.quiet.invariant.after why
     c.has_left.ensures.within in
     subst (EndsRun (wholes c.args.machine.now) c.args.running.now (wholes c.quiet.machine)) (sym c.set_stop.ensures) ends
+
+pub returns-then-take_turns-clause-free : goal.returns-then-take_turns-clause-free
+returns-then-take_turns-clause-free c =
+    free_then c.args.machine.now c.quiet.machine c.take_turns.new.machine c.quiet.invariant.kept c.quiet.invariant.free c.take_turns.ensures.free
+
+pub returns-clause-free : goal.returns-clause-free
+returns-clause-free c = c.quiet.invariant.free

@@ -1,6 +1,6 @@
 use Rattle.std.proofs.Common.{◌≡◌, ◌≤◌, None}
 use Rattle.machine_core.specs.Machine.{KeepsPlaces, wholes}
-use Rattle.command_core.specs.Sessions.{OwnSpaces}
+use Rattle.command_core.specs.Sessions.{KeepsFree, OwnSpaces}
 use Rattle.command_core.specs.Turns.{lines_left, ran_from, ran_text}
 use Rattle.command_core.proofs.session.quiet_turns.Given as goal
 
@@ -13,6 +13,7 @@ invariant-quiet l = record {
   goes : l.running.stop ≡ None;
   asked : l.running.run.turns ≡ l.fn.running.run.turns;
   kept : KeepsPlaces l.fn.machine l.machine;
+  free : KeepsFree l.fn.machine l.machine;
   spaces : OwnSpaces l.machine;
 }
 

@@ -6,6 +6,7 @@ use Rattle.machine_core.specs.Turns.{after_asked, turn_asked}
 use Rattle.command_core.specs.Turns.{InRun}
 use Rattle.report_text.specs.declared.answer.Stop.TheVariants as stop
 use Rattle.command_core.proofs.Rans.{asked_counted, fewer_left, is_counted, speaks_last, speaks_on}
+use Rattle.command_core.proofs.Places.{free_stays, free_then, process_there}
 use Rattle.command_core.proofs.Stretching.{all_taken, goes_on, last_turn, one_more, says_full, says_last}
 use Rattle.command_core.proofs.session.take_turns.Goals as goal
 
@@ -147,3 +148,23 @@ returns-in-Full-clause-says c spoke =
     (ap (λ (r : InRun). r.stop) c.set_stop.ensures)
     (says_full (wholes c.args.machine.now) p done.result.0 c.args.running.now.run c.in-Full.units c.in-Full.limit (wholes done.new.self) c.full_line.new.line.items
     c.set_stop.new.self.run last c.full_line.ensures ended)
+
+-- no free space was touched
+
+pub returns-in-Stepped-clause-free : goal.returns-in-Stepped-clause-free
+returns-in-Stepped-clause-free c =
+    free_stays c.args.p c.args.machine.now c.execute_up_to-steps.new.self c.execute_up_to-steps.ensures.others (process_there c.args.machine.now c.args.p c.requires.runs)
+
+pub returns-in-Asked-clause-free : goal.returns-in-Asked-clause-free
+returns-in-Asked-clause-free c =
+    let done = c.execute_up_to-steps in
+    free_then c.args.machine.now done.new.self c.answer_request.new.machine done.ensures.places
+    (free_stays c.args.p c.args.machine.now done.new.self done.ensures.others (process_there c.args.machine.now c.args.p c.requires.runs)) c.answer_request.ensures.free
+
+pub returns-in-Fault-clause-free : goal.returns-in-Fault-clause-free
+returns-in-Fault-clause-free c =
+    free_stays c.args.p c.args.machine.now c.execute_up_to-steps.new.self c.execute_up_to-steps.ensures.others (process_there c.args.machine.now c.args.p c.requires.runs)
+
+pub returns-in-Full-clause-free : goal.returns-in-Full-clause-free
+returns-in-Full-clause-free c =
+    free_stays c.args.p c.args.machine.now c.execute_up_to-steps.new.self c.execute_up_to-steps.ensures.others (process_there c.args.machine.now c.args.p c.requires.runs)

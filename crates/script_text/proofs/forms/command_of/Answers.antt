@@ -1,8 +1,8 @@
 use Rattle.std.proofs.Common.{refl, codes, ◌∙◌}
-use Rattle.script_text.specs.declared.command.Command.TheVariants.{Exec, Load, Fork, Run, Step, Speculate, Commit, Discard, Promote, Drop}
+use Rattle.script_text.specs.declared.command.Command.TheVariants.{Exec, Load, Fork, Run, Step, Checkpoint, Restore, Forget, Speculate, Commit, Discard, Promote, Drop}
 use Rattle.script_text.specs.declared.command.Command.TheVariants as command
 use Rattle.script_text.specs.Words.{words_of}
-use Rattle.script_text.specs.Kinds.{file_word, turns_word, process_word, address_word, all_word}
+use Rattle.script_text.specs.Kinds.{file_word, checkpoint_word, turns_word, process_word, address_word, all_word}
 use Rattle.script_text.specs.Forms.{no_words, one_word, two_words, promote_all, command_of}
 use Rattle.script_text.specs.FormLaws.{◌beside◌}
 use Rattle.script_text.proofs.Rows.{at_row, at_rows, at_no_row, not_text, if_ok}
@@ -37,48 +37,69 @@ returns-then-eq-5 c =
 
 pub returns-then-eq-6 : goal.returns-then-eq-6
 returns-then-eq-6 c =
-    c.speculate.ensures
-    ∙ at_row (codes "speculate") c.as_slice-else-eq-5.result.now (one_word process_word Speculate) c.args.first.now (words_of c.args.words.now) (λ ws. refl) c.as_slice-else-eq-5.ensures c.if-eq-6.ensures
+    let words = words_of c.args.words.now in
+    if_ok c.checkpoint.result (two_words process_word checkpoint_word Checkpoint words) (command_of c.args.first.now words)
+    (at_row (codes "checkpoint") c.as_slice-else-eq-5.result.now (two_words process_word checkpoint_word Checkpoint) c.args.first.now (words_of c.args.words.now) (λ ws. refl) c.as_slice-else-eq-5.ensures c.if-eq-6.ensures) c.checkpoint.ensures
 
 pub returns-then-eq-7 : goal.returns-then-eq-7
 returns-then-eq-7 c =
-    c.commit.ensures
-    ∙ at_row (codes "commit") c.as_slice-else-eq-6.result.now (one_word process_word Commit) c.args.first.now (words_of c.args.words.now) (λ ws. refl) c.as_slice-else-eq-6.ensures c.if-eq-7.ensures
+    let words = words_of c.args.words.now in
+    if_ok c.restore.result (two_words process_word checkpoint_word Restore words) (command_of c.args.first.now words)
+    (at_row (codes "restore") c.as_slice-else-eq-6.result.now (two_words process_word checkpoint_word Restore) c.args.first.now (words_of c.args.words.now) (λ ws. refl) c.as_slice-else-eq-6.ensures c.if-eq-7.ensures) c.restore.ensures
 
 pub returns-then-eq-8 : goal.returns-then-eq-8
 returns-then-eq-8 c =
-    c.discard.ensures
-    ∙ at_row (codes "discard") c.as_slice-else-eq-7.result.now (one_word process_word Discard) c.args.first.now (words_of c.args.words.now) (λ ws. refl) c.as_slice-else-eq-7.ensures c.if-eq-8.ensures
+    let words = words_of c.args.words.now in
+    if_ok c.forget.result (one_word checkpoint_word Forget words) (command_of c.args.first.now words)
+    (at_row (codes "forget") c.as_slice-else-eq-7.result.now (one_word checkpoint_word Forget) c.args.first.now (words_of c.args.words.now) (λ ws. refl) c.as_slice-else-eq-7.ensures c.if-eq-8.ensures) c.forget.ensures
 
 pub returns-then-eq-9 : goal.returns-then-eq-9
 returns-then-eq-9 c =
-    c.promote.ensures
-    ∙ at_rows (codes "promote") c.as_slice-else-eq-8.result.now (two_words process_word address_word Promote) (two_words process_word all_word promote_all) c.args.first.now (words_of c.args.words.now) (λ ws. refl) c.as_slice-else-eq-8.ensures c.if-eq-9.ensures
+    c.speculate.ensures
+    ∙ at_row (codes "speculate") c.as_slice-else-eq-8.result.now (one_word process_word Speculate) c.args.first.now (words_of c.args.words.now) (λ ws. refl) c.as_slice-else-eq-8.ensures c.if-eq-9.ensures
 
 pub returns-then-eq-10 : goal.returns-then-eq-10
 returns-then-eq-10 c =
-    c.give_up.ensures
-    ∙ at_row (codes "drop") c.as_slice-else-eq-9.result.now (one_word process_word Drop) c.args.first.now (words_of c.args.words.now) (λ ws. refl) c.as_slice-else-eq-9.ensures c.if-eq-10.ensures
+    c.commit.ensures
+    ∙ at_row (codes "commit") c.as_slice-else-eq-9.result.now (one_word process_word Commit) c.args.first.now (words_of c.args.words.now) (λ ws. refl) c.as_slice-else-eq-9.ensures c.if-eq-10.ensures
 
 pub returns-then-eq-11 : goal.returns-then-eq-11
 returns-then-eq-11 c =
-    c.list.ensures
-    ∙ at_row (codes "list") c.as_slice-else-eq-10.result.now (no_words command.List) c.args.first.now (words_of c.args.words.now) (λ ws. refl) c.as_slice-else-eq-10.ensures c.if-eq-11.ensures
+    c.discard.ensures
+    ∙ at_row (codes "discard") c.as_slice-else-eq-10.result.now (one_word process_word Discard) c.args.first.now (words_of c.args.words.now) (λ ws. refl) c.as_slice-else-eq-10.ensures c.if-eq-11.ensures
 
-pub returns-else-eq-11 : goal.returns-else-eq-11
-returns-else-eq-11 c =
+pub returns-then-eq-12 : goal.returns-then-eq-12
+returns-then-eq-12 c =
+    c.promote.ensures
+    ∙ at_rows (codes "promote") c.as_slice-else-eq-11.result.now (two_words process_word address_word Promote) (two_words process_word all_word promote_all) c.args.first.now (words_of c.args.words.now) (λ ws. refl) c.as_slice-else-eq-11.ensures c.if-eq-12.ensures
+
+pub returns-then-eq-13 : goal.returns-then-eq-13
+returns-then-eq-13 c =
+    c.give_up.ensures
+    ∙ at_row (codes "drop") c.as_slice-else-eq-12.result.now (one_word process_word Drop) c.args.first.now (words_of c.args.words.now) (λ ws. refl) c.as_slice-else-eq-12.ensures c.if-eq-13.ensures
+
+pub returns-then-eq-14 : goal.returns-then-eq-14
+returns-then-eq-14 c =
+    c.list.ensures
+    ∙ at_row (codes "list") c.as_slice-else-eq-13.result.now (no_words command.List) c.args.first.now (words_of c.args.words.now) (λ ws. refl) c.as_slice-else-eq-13.ensures c.if-eq-14.ensures
+
+pub returns-else-eq-14 : goal.returns-else-eq-14
+returns-else-eq-14 c =
     at_no_row c.args.first.now (words_of c.args.words.now) (
     not_text (codes "exec") c.as_slice.result.now c.args.first.now c.as_slice.ensures c.if-eq.ensures
     beside not_text (codes "load") c.as_slice-else-eq.result.now c.args.first.now c.as_slice-else-eq.ensures c.if-eq-2.ensures
     beside not_text (codes "fork") c.as_slice-else-eq-2.result.now c.args.first.now c.as_slice-else-eq-2.ensures c.if-eq-3.ensures
     beside not_text (codes "run") c.as_slice-else-eq-3.result.now c.args.first.now c.as_slice-else-eq-3.ensures c.if-eq-4.ensures
     beside not_text (codes "step") c.as_slice-else-eq-4.result.now c.args.first.now c.as_slice-else-eq-4.ensures c.if-eq-5.ensures
-    beside not_text (codes "speculate") c.as_slice-else-eq-5.result.now c.args.first.now c.as_slice-else-eq-5.ensures c.if-eq-6.ensures
-    beside not_text (codes "commit") c.as_slice-else-eq-6.result.now c.args.first.now c.as_slice-else-eq-6.ensures c.if-eq-7.ensures
-    beside not_text (codes "discard") c.as_slice-else-eq-7.result.now c.args.first.now c.as_slice-else-eq-7.ensures c.if-eq-8.ensures
-    beside not_text (codes "promote") c.as_slice-else-eq-8.result.now c.args.first.now c.as_slice-else-eq-8.ensures c.if-eq-9.ensures
-    beside not_text (codes "promote") c.as_slice-else-eq-8.result.now c.args.first.now c.as_slice-else-eq-8.ensures c.if-eq-9.ensures
-    beside not_text (codes "drop") c.as_slice-else-eq-9.result.now c.args.first.now c.as_slice-else-eq-9.ensures c.if-eq-10.ensures
-    beside not_text (codes "list") c.as_slice-else-eq-10.result.now c.args.first.now c.as_slice-else-eq-10.ensures c.if-eq-11.ensures
+    beside not_text (codes "checkpoint") c.as_slice-else-eq-5.result.now c.args.first.now c.as_slice-else-eq-5.ensures c.if-eq-6.ensures
+    beside not_text (codes "restore") c.as_slice-else-eq-6.result.now c.args.first.now c.as_slice-else-eq-6.ensures c.if-eq-7.ensures
+    beside not_text (codes "forget") c.as_slice-else-eq-7.result.now c.args.first.now c.as_slice-else-eq-7.ensures c.if-eq-8.ensures
+    beside not_text (codes "speculate") c.as_slice-else-eq-8.result.now c.args.first.now c.as_slice-else-eq-8.ensures c.if-eq-9.ensures
+    beside not_text (codes "commit") c.as_slice-else-eq-9.result.now c.args.first.now c.as_slice-else-eq-9.ensures c.if-eq-10.ensures
+    beside not_text (codes "discard") c.as_slice-else-eq-10.result.now c.args.first.now c.as_slice-else-eq-10.ensures c.if-eq-11.ensures
+    beside not_text (codes "promote") c.as_slice-else-eq-11.result.now c.args.first.now c.as_slice-else-eq-11.ensures c.if-eq-12.ensures
+    beside not_text (codes "promote") c.as_slice-else-eq-11.result.now c.args.first.now c.as_slice-else-eq-11.ensures c.if-eq-12.ensures
+    beside not_text (codes "drop") c.as_slice-else-eq-12.result.now c.args.first.now c.as_slice-else-eq-12.ensures c.if-eq-13.ensures
+    beside not_text (codes "list") c.as_slice-else-eq-13.result.now c.args.first.now c.as_slice-else-eq-13.ensures c.if-eq-14.ensures
     beside tt
     )

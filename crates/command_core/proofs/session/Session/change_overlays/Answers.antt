@@ -1,20 +1,28 @@
 use Rattle.std.proofs.Common.{subst, sym}
+use Rattle.machine_core.specs.Machine.{spaces_of}
 use Rattle.command_core.specs.State.{registry_of}
 use Rattle.command_core.specs.Sessions.{InSession, state_of}
+use Rattle.command_core.specs.Kept.{checkpoints_in, shown_state, spaces_kept}
 use Rattle.command_core.specs.Giving.{GivesChange}
 use Rattle.command_core.specs.Overlays.{overlay_row}
 use Rattle.command_core.specs.Changes.{on_process}
-use Rattle.command_core.proofs.Rows.{gives_found}
+use Rattle.command_core.proofs.Places.{free_same}
+use Rattle.command_core.proofs.Rows.{gives_found, gives_kept}
 use Rattle.command_core.proofs.session.Session.change_overlays.Goals as goal
 
 pub invariant_of-self : goal.invariant_of-self
-invariant_of-self c = (c.change_overlays.ensures.done.keeps c.self.inside.drawn c.self.invariant.0, c.self.invariant.1)
+invariant_of-self c =
+    (c.change_overlays.ensures.done.keeps.session (spaces_kept c.self.inside.checkpoints) c.self.inside.drawn c.self.invariant.0, c.self.invariant.1)
 
 pub returns-in-Some-clause-gives : goal.returns-in-Some-clause-gives
 returns-in-Some-clause-gives c =
-    let drawn = c.self.inside.drawn in
+    let s = c.self.inside in
+    let old = s.machine in
+    let new = c.change_overlays.new.machine in
     let row = overlay_row c.args.p c.args.change in
-    let new = state_of c.change_overlays.new.machine drawn in
-    subst (λ (s : InSession). GivesChange (on_process c.args.p row (registry_of s.state)) s.state c.change_overlays.result new) c.self.view_is
-    (gives_found c.self.inside.machine drawn c.args.p row c.in-Some.process.now c.change_overlays.result new (sym c.in-Some.ensures.kept)
-    (c.change_overlays.ensures.done.gives drawn))
+    let kept = checkpoints_in (spaces_of old) s.checkpoints in
+    let done = c.change_overlays.ensures.done in
+    subst (λ (s : InSession). GivesChange (on_process c.args.p row (registry_of s.state)) s.state c.change_overlays.result (shown_state new c.self.inside.checkpoints c.self.inside.drawn)) c.self.view_is
+    (gives_kept (on_process c.args.p row) old new s.checkpoints s.drawn (free_same old new (spaces_kept s.checkpoints) done.keeps.free c.self.invariant.0.free) c.change_overlays.result s.drawn
+    (gives_found old kept s.drawn c.args.p row c.in-Some.process.now c.change_overlays.result (state_of new kept s.drawn) (sym c.in-Some.ensures.kept)
+    (done.gives kept s.drawn)))

@@ -1,21 +1,29 @@
-use Rattle.std.proofs.Common.{ap}
+use Rattle.std.proofs.Common.{ap, subst, sym, ◌∙◌, []}
 use Rattle.machine_core.specs.Machine.{Wholes}
+use Rattle.command_core.specs.declared.checkpoints.Kept.{Kept}
 use Rattle.command_core.specs.State.{State, fresh}
-use Rattle.command_core.specs.Sessions.{InSession}
+use Rattle.command_core.specs.Sessions.{InSession, IsSession}
+use Rattle.command_core.specs.Kept.{shown_session, shown_state, spaces_kept}
 use Rattle.command_core.specs.LikeLaws.{states_same}
 use Rattle.command_core.proofs.Places.{session_start, wholes_start}
 use Rattle.command_core.proofs.session.Session.new.Goals as goal
 
 pub returns-clause-session : goal.returns-clause-session
 returns-clause-session c =
-    let started : Wholes → InSession = λ w. record { state = record { wholes = w; drawn = 0 }; quantum = c.args.quantum } in
-    ap started (wholes_start c.in_ok-new.field-0 c.args.frames c.in_ok-new.ensures.spaces c.in_ok-new.ensures.processes)
+    let started : Wholes → InSession = λ w. record { state = record { wholes = w; checkpoints = []; drawn = 0 }; quantum = c.args.quantum } in
+    ap (λ xs. shown_session c.in_ok-new.field-0 xs 0 c.args.quantum) c.new-2.ensures
+    ∙ ap started (wholes_start c.in_ok-new.field-0 c.args.frames c.in_ok-new.ensures.spaces c.in_ok-new.ensures.processes)
 
 pub returns-clause-stands : goal.returns-clause-stands
 returns-clause-stands c =
-    let started : Wholes → State = λ w. record { wholes = w; drawn = 0 } in
-    states_same _ (fresh c.args.frames) (ap started (wholes_start c.in_ok-new.field-0 c.args.frames c.in_ok-new.ensures.spaces c.in_ok-new.ensures.processes))
+    let started : Wholes → State = λ w. record { wholes = w; checkpoints = []; drawn = 0 } in
+    states_same _ (fresh c.args.frames)
+    (ap (λ xs. shown_state c.in_ok-new.field-0 xs 0) c.new-2.ensures
+    ∙ ap started (wholes_start c.in_ok-new.field-0 c.args.frames c.in_ok-new.ensures.spaces c.in_ok-new.ensures.processes))
 
 pub invariant_of-result : goal.invariant_of-result
-invariant_of-result c =
-    (session_start c.in_ok-new.field-0 c.args.frames c.in_ok-new.ensures.spaces c.in_ok-new.ensures.processes, c.requires.quantum)
+invariant_of-result c = (
+  subst (λ xs. IsSession c.in_ok-new.field-0 (spaces_kept xs) 0) (sym c.new-2.ensures)
+      (session_start c.in_ok-new.field-0 c.args.frames c.in_ok-new.ensures.spaces c.in_ok-new.ensures.processes),
+  c.requires.quantum,
+)

@@ -1,6 +1,7 @@
 use Rattle.std.proofs.Common.{ap, subst}
 use Rattle.machine_core.specs.Machine.{Processes, wholes}
 use Rattle.command_core.specs.Sessions.{InSession}
+use Rattle.command_core.specs.Kept.{spaces_kept}
 use Rattle.command_core.proofs.Standing.{for_each}
 use Rattle.command_core.specs.Looks.{NextProcess}
 use Rattle.command_core.proofs.Looking.{next_is, next_within}
@@ -17,4 +18,4 @@ returns-clause-stands c =
 
 pub returns-clause-within : goal.returns-clause-within
 returns-clause-within c =
-    next_within c.self.inside.machine c.self.inside.drawn c.args.from c.next_process.result c.self.invariant.0 c.next_process.ensures
+    next_within c.self.inside.machine (spaces_kept c.self.inside.checkpoints) c.self.inside.drawn c.args.from c.next_process.result c.self.invariant.0 c.next_process.ensures

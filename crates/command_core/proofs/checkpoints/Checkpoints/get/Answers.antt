@@ -1,0 +1,10 @@
+use Rattle.std.proofs.Common.{subst, ap, ◌∙◌}
+use Rattle.std.specs.Map.{values_of}
+use Rattle.command_core.proofs.Entries.{found_under}
+use Rattle.command_core.specs.Kept.{kept_named}
+use Rattle.command_core.proofs.checkpoints.Checkpoints.get.Goals as goal
+
+pub returns : goal.returns
+returns c =
+    c.get.ensures.value ∙ found_under (λ key. key.items) c.args.name.now c.self.inside.by_name.entries c.self.invariant
+    ∙ ap (kept_named c.args.name.now) c.self.view_is

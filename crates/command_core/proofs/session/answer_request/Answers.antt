@@ -1,0 +1,6 @@
+use Rattle.command_core.proofs.Places.{free_stays, process_there}
+use Rattle.command_core.proofs.session.answer_request.Goals as goal
+
+pub returns-clause-free : goal.returns-clause-free
+returns-clause-free c =
+    free_stays c.args.p c.args.machine.now c.answer.new.self c.answer.ensures.others (process_there c.args.machine.now c.args.p c.requires.runs)
