@@ -12,8 +12,7 @@ use Rattle.ledger.specs.PlaceLaws.{page_is, pages_beside, pages_put, pages_there
 use Rattle.ledger.specs.UnitLaws.{frame_for, units_at}
 use Rattle.ledger.specs.AloneLaws.{alone_apart, apart_alone, not_true, same_test}
 use Rattle.ledger.specs.TallyLaws.{empty_holdings, same_units}
-use Rattle.overlay_pages.specs.State.{PageState, State, books, held_page, holds_space, page_in}
-use Rattle.overlay_pages.specs.StateLaws.{ledger_page, ledger_spaces}
+use Rattle.overlay_pages.specs.State.{PageState, State, books, held_page}
 use Rattle.overlay_pages.specs.Calls.{IsNextPage}
 use Rattle.overlay_pages.specs.Changes.{limit_of, units_of}
 use Rattle.overlay_memory.specs.ApartLaws.{AreOriginsApart, ArePagesApart, origins_apart}
@@ -21,6 +20,8 @@ use Rattle.overlay_memory.specs.CountLaws.{class_is, class_there}
 use Rattle.overlay_memory.specs.PageLaws.{HasPage, has_page, held_there, some_is}
 use Rattle.overlay_memory.specs.Room.{class_at, units_after}
 use Rattle.overlay_memory.specs.Walked.{one_further, walked_all}
+use Rattle.space_maps.specs.Books.{books_page, books_spaces}
+use Rattle.space_maps.specs.Spaces.{holds_space, page_in}
 use Rattle.fork_checkpoint.specs.Parts.{high_part, high_part_all, high_part_at, high_part_less, high_part_none, high_part_past, high_part_there}
 use Rattle.fork_checkpoint.specs.Copied.{page_units}
 use Rattle.fork_checkpoint.proofs.Sums.{in_state}
@@ -130,7 +131,7 @@ pub record IsLeaving (v : State) (space units_kept from : ℕ) : Type 0 where
 pub leaving_none : (v : State) (space n : ℕ) → holds_space v space ≡ true → n ≡ units_of v → units_of v ≤ limit_of v → IsLeaving v space n 0
 leaving_none v space n here is fits =
     let within : n ≤ limit_of v = omega (arith, is, fits) in record {
-      sum = is ∙ ap units (sym (left_none (books v) space (ledger_spaces v space ∙ here)));
+      sum = is ∙ ap units (sym (left_none (books v) space (books_spaces held_page v space ∙ here)));
       low = omega arith;
       few = within;
     }
@@ -147,7 +148,7 @@ module _ (v : State) (space n from page : ℕ) (apart : ArePagesApart v space) (
   had = held_there v space page p.x p.there
 
   reached : units (left_from (books v) space from) ≡ units (left_from (books v) space page)
-  reached = ap units (left_past (books v) space from page next.0 (λ q ge lt. ledger_page v space q ∙ ap (option_map (held_page v.zero_frame)) (next.2 q ge lt)))
+  reached = ap units (left_past (books v) space from page next.0 (λ q ge lt. books_page held_page v space q ∙ ap (option_map (held_page v.zero_frame)) (next.2 q ge lt)))
 
   one : units (left_from (books v) space page) ≡ units (left_from (books v) space (page + 1)) + page_units v space page
   one =

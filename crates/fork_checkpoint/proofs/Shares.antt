@@ -9,6 +9,9 @@ use Rattle.number_maps.specs.Values.{remove_absent}
 use Rattle.number_maps.specs.Views.{get_viewed, viewed}
 use Rattle.page_table.specs.Table.{Pages}
 use Rattle.page_table.specs.declared.entry.PageEntry.{PageEntry}
+use Rattle.space_maps.specs.Books.{books_page, books_pages, books_put, books_put_shared, books_spaces}
+use Rattle.space_maps.specs.Laws.{beside_space, in_space, page_of, put_there, space_beside, space_put, space_there}
+use Rattle.space_maps.specs.Spaces.{bare_space, cut_space, holds_space, of_pages, page_in, put_awaiting, put_shared, put_space, space_in}
 use Rattle.space_ledger.specs.Calls.{NamesOnce}
 use Rattle.space_ledger.specs.Space.{IsLeast}
 use Rattle.ledger.specs.Ledger.{Holding, Ledger, Space, pages_of, without_page}
@@ -18,8 +21,7 @@ use Rattle.ledger.specs.CopyLaws.{class_sum, units_copied}
 use Rattle.ledger.specs.PlaceLaws.{page_is, pages_beside}
 use Rattle.ledger.specs.AloneLaws.{are, arent, without_absent}
 use Rattle.ledger.specs.UnitLaws.{units_new}
-use Rattle.overlay_pages.specs.State.{PageState, SpaceState, State, bare_space, base_of, base_page, books, cut_space, held_page, holds_space, memory_of, of_pages, page_in, put_awaiting, put_shared, put_space, seen_page, space_in}
-use Rattle.overlay_pages.specs.StateLaws.{beside_space, in_space, ledger_page, ledger_shared, ledger_spaces, ledger_with, page_of, pages_in, put_there, space_beside, space_put, space_there}
+use Rattle.overlay_pages.specs.State.{PageState, SpaceState, State, base_of, base_page, books, held_page, memory_of, seen_page}
 use Rattle.overlay_pages.specs.Changes.{HasShareRoom, limit_of, shared_page, units_of, with_shared}
 use Rattle.overlay_pages.specs.Calls.{AwaitsLike, IsNextPage, entries_in}
 use Rattle.overlay_memory.specs.PageLaws.{has_page, some_is}
@@ -121,8 +123,8 @@ part_fewer v from to end differs =
 partly_books : (v : State) (from to end : ℕ) → books (partly v from to end) ≡ insert (books v) to (low_part (pages_of (books v) from) end)
 unfolding partly
 partly_books v from to end =
-    ledger_with v to _
-    ∙ ap (insert (books v) to) (viewed_low_part (λ page y. held_page v.zero_frame y) (space_in v from).pages end ∙ ap (λ (m : Space). low_part m end) (sym (pages_in v from)))
+    books_put held_page v to _
+    ∙ ap (insert (books v) to) (viewed_low_part (λ page y. held_page v.zero_frame y) (space_in v from).pages end ∙ ap (λ (m : Space). low_part m end) (sym (books_pages held_page v from)))
 
 module _ (v : State) (from to : ℕ) (differs : from ≡ to → ⊥) where
   -- at first all await
@@ -238,8 +240,8 @@ module _ (v : State) (from to : ℕ) (differs : from ≡ to → ⊥) where
     absent : without_page (books now) to page ≡ books now
     unfolding partly
     absent =
-        without_absent (books now) to page (ledger_spaces now to ∙ to_there end)
-        (ledger_page now to page ∙ ap (option_map (held_page now.zero_frame)) (in_space v to (part_space v from to end) to page refl ∙ low_part_absent (space_in v from).pages end page next.0))
+        without_absent (books now) to page (books_spaces held_page now to ∙ to_there end)
+        (books_page held_page now to page ∙ ap (option_map (held_page now.zero_frame)) (in_space v to (part_space v from to end) to page refl ∙ low_part_absent (space_in v from).pages end page next.0))
 
     pub has_room : FitsAfter (Copy from to) v → HasShareRoom now from page
     has_room fits y at =
@@ -247,7 +249,7 @@ module _ (v : State) (from to : ℕ) (differs : from ≡ to → ⊥) where
         let is = ap units (partly_books v from to (page + 1)) in
         let frames = partly_frames end in
         let new = units_new (books now) to page (held_page now.zero_frame x) absent in
-        let put = ap units (sym (ledger_shared now to page x) ∙ ap books put_more) in
+        let put = ap units (sym (books_put_shared held_page now to page x) ∙ ap books put_more) in
         let same = ap (λ (z : PageState). class (length z.own)) (some_is y x (sym at ∙ at_now)) in
         omega (arith, le, is, fits, frames, new, put, same)
 
@@ -269,7 +271,7 @@ copy_over v from to x differs mark =
 pub copy_books : (v : State) (from to : ℕ) (x : SpaceState) → (from ≡ to → ⊥)
     → ledger_after (Copy from to) (books (put_space v to x)) ≡ ledger_after (Copy from to) (books v)
 copy_books v from to x differs =
-    ap (λ (l : Ledger). insert l to (pages_of l from)) (ledger_with v to x)
+    ap (λ (l : Ledger). insert l to (pages_of l from)) (books_put held_page v to x)
     ∙ insert_over (books v) to _ _
     ∙ ap (insert (books v) to) (pages_beside (books v) to _ from differs)
 
@@ -289,7 +291,7 @@ pub needed_is : (v : State) (from to n kept : ℕ) → holds_space v from ≡ tr
     → n ≡ units_after (Copy from to) v
 needed_is v from to n kept there absent kept_is is =
     let after = copy_units v from to (two_spaces v from to there absent) in
-    let same = ap units (remove_absent (books v) to (none (get (books v) to) (ledger_spaces v to ∙ absent))) in
+    let same = ap units (remove_absent (books v) to (none (get (books v) to) (books_spaces held_page v to ∙ absent))) in
     omega (arith, is, kept_is, after, same)
   where
     none : (o : Option Space) → is_some o ≡ false → o ≡ None
@@ -323,7 +325,7 @@ unfolding memory_of base_of
 has_made v from to = record {
   memory = ap (λ (x : SpaceState). viewed (λ _ (y : PageState). seen_page y) x.pages) here;
   base = ap (λ (x : SpaceState). viewed (λ _ (y : PageState). base_page y) x.pages) here;
-  ledger = ledger_with v to (made v from) ∙ ap (insert (books v) to) (sym (pages_in v from));
+  ledger = books_put held_page v to (made v from) ∙ ap (insert (books v) to) (sym (books_pages held_page v from));
   awaiting = ap (λ (x : SpaceState). x.awaiting) here;
   mark = ap (λ (x : SpaceState). x.speculating) here;
   others = λ q d. space_beside v to (made v from) q d;

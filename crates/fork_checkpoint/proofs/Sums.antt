@@ -11,8 +11,9 @@ use Rattle.ledger.specs.CopyLaws.{class_sum, units_space}
 use Rattle.ledger.specs.PlaceLaws.{page_is, pages_kept}
 use Rattle.ledger.specs.AloneLaws.{any_page, are, not_true}
 use Rattle.ledger.specs.UnitLaws.{have, unused_in}
-use Rattle.overlay_pages.specs.State.{PageState, State, books, held_page, page_in}
+use Rattle.overlay_pages.specs.State.{PageState, State, books, held_page}
 use Rattle.overlay_pages.specs.Changes.{limit_of}
+use Rattle.space_maps.specs.Spaces.{page_in}
 use Rattle.space_ledger.specs.Calls.{IsNextOwn}
 use Rattle.ledger.specs.Changes.{has_own}
 use Rattle.std.specs.Option.{option_map_or}

@@ -6,8 +6,9 @@ use Rattle.ledger.specs.CopyLaws.{class_sum}
 use Rattle.ledger.specs.Events.{Copy, ledger_after}
 use Rattle.ledger.specs.Ledger.{is_alone, pages_of}
 use Rattle.page_table.specs.Table.{Pages}
+use Rattle.space_maps.specs.Spaces.{cut_space, holds_space, page_in, put_space, space_in}
 use Rattle.space_ledger.specs.Calls.{NamesOnce}
-use Rattle.overlay_pages.specs.State.{State, base_of, books, cut_space, holds_space, memory_of, page_in, put_space, space_in}
+use Rattle.overlay_pages.specs.State.{State, base_of, books, memory_of}
 use Rattle.overlay_pages.specs.Calls.{entries_in}
 use Rattle.overlay_pages.specs.View.{MemoryView, state_of}
 use Rattle.overlay_memory.specs.Room.{FitsAfter, IsFullAt, class_at, units_after}

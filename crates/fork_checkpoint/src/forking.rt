@@ -3,8 +3,8 @@
 ghost use Rattle.std.specs.Prelude.{◌≡◌, ◌<◌, ◌≤◌, true, false};
 ghost use Rattle.std.specs.FinMap as map;
 ghost use Rattle.sizes.specs.declared.TheConstants.{LAST_SPACE};
-ghost use Rattle.overlay_pages.specs.State.{holds_space, space_in};
 ghost use Rattle.overlay_pages.specs.View.{state_of};
+ghost use Rattle.space_maps.specs.Spaces.{holds_space, space_in};
 ghost use Rattle.fork_checkpoint.specs.Copied.{Copies};
 
 use crate::sharing::fill_space;

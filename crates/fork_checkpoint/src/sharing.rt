@@ -3,9 +3,9 @@
 ghost use Rattle.std.specs.Prelude.{◌≡◌, ◌≢◌, true};
 ghost use Rattle.std.specs.FinMap as map;
 ghost use Rattle.ledger.specs.Events.{Copy};
-ghost use Rattle.overlay_pages.specs.State.{bare_space, holds_space, space_in};
 ghost use Rattle.overlay_pages.specs.View.{state_of};
 ghost use Rattle.overlay_memory.specs.Room.{FitsAfter};
+ghost use Rattle.space_maps.specs.Spaces.{bare_space, holds_space, space_in};
 ghost use Rattle.fork_checkpoint.specs.Copied.{ArePagesLow, AwaitsAll, CanHave, FillsSpace, RefillsSpace, with_copy};
 
 use overlay_memory::OverlayMemory;

@@ -5,9 +5,10 @@ use Rattle.std.specs.Cmp.{nat_cmp_total}
 use Rattle.std.specs.FinMap.{FinMap, empty, get, get-empty, insert, len, len-insert, remove}
 use Rattle.number_maps.specs.Cuts.{insert_removed}
 use Rattle.number_maps.specs.Keys.{alike, by_key, get_other, insert_kept, insert_over, removed_other, removed_same}
-use Rattle.overlay_pages.specs.State.{PageState, SpaceState, State, cut_page, cut_space, holds_space, of_pages, page_in, put_space, space_in}
-use Rattle.overlay_pages.specs.StateLaws.{page_of, put_there, space_put, space_there}
+use Rattle.overlay_pages.specs.State.{PageState, SpaceState, State}
 use Rattle.overlay_memory.specs.Pieces.{IsEmptied, emptied_space}
+use Rattle.space_maps.specs.Laws.{page_of, put_there, space_put, space_there}
+use Rattle.space_maps.specs.Spaces.{cut_page, cut_space, holds_space, of_pages, page_in, put_space, space_in}
 
 -- A space that loses its pages one by one.
 

@@ -5,10 +5,11 @@ use Rattle.std.specs.FinMap.{get}
 use Rattle.number_maps.specs.Views.{get_viewed, viewed}
 use Rattle.ledger.specs.Ledger.{Holding, Ledger, holding_at}
 use Rattle.ledger.specs.AloneLaws.{are}
+use Rattle.space_maps.specs.Laws.{page_of}
+use Rattle.space_maps.specs.Spaces.{page_in, space_in}
 use Rattle.space_ledger.specs.Calls.{NamesOnce}
 use Rattle.space_ledger.specs.View.{origin_of}
-use Rattle.overlay_pages.specs.State.{PageState, State, books, page_in, space_in}
-use Rattle.overlay_pages.specs.StateLaws.{page_of}
+use Rattle.overlay_pages.specs.State.{PageState, State, books}
 use Rattle.overlay_pages.specs.Calls.{entries_in}
 use Rattle.overlay_memory.specs.PageLaws.{there_of}
 

@@ -4,7 +4,6 @@ pub mod Room
 pub mod Access
 pub mod Pieces
 pub mod StateMemory
-pub mod AwaitingLaws
 pub mod PageLaws
 pub mod ApartLaws
 pub mod CountLaws

@@ -4,7 +4,7 @@ use Rattle.sizes.specs.declared.TheConstants.{LINE_BYTES, PAGE_BYTES}
 use Rattle.ovl_io.specs.Memory.{with_bytes}
 use Rattle.ovl_io.specs.Permissions.{permits}
 use Rattle.overlay_bits.specs.Lines.{lines_between}
-use Rattle.overlay_pages.specs.State.{PageState, State, base_of, books, cut_space, holds_space, memory_of, of_pages, page_in, put_space, seen_page, space_in}
+use Rattle.overlay_pages.specs.State.{PageState, State, base_of, books, memory_of, seen_page}
 use Rattle.overlay_pages.specs.Changes.{is_writable}
 use Rattle.overlay_pages.specs.Calls.{entries_in}
 use Rattle.overlay_pages.specs.View.{IsJoined, MemoryView, state_of}
@@ -12,6 +12,7 @@ use Rattle.overlay_pages.specs.declared.spots.FoundLine.{FoundLine}
 use Rattle.overlay_memory.specs.Access.{IsFoundIn, IsUntouched}
 use Rattle.overlay_memory.specs.declared.error.MemoryError.{MemoryError}
 use Rattle.overlay_memory.specs.declared.error.MemoryError.TheVariants.{Unmapped, Forbidden, Full}
+use Rattle.space_maps.specs.Spaces.{cut_space, holds_space, of_pages, page_in, put_space, space_in}
 
 -- What reads and stores come to, piece by piece.
 

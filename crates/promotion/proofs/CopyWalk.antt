@@ -11,8 +11,9 @@ use Rattle.ledger.specs.Ledger.{Ledger, is_alone, is_unused, without_page}
 use Rattle.ledger.specs.Changes.{has_own}
 use Rattle.ledger.specs.Events.{Settle, ledger_after}
 use Rattle.ledger.specs.AloneLaws.{unused_without}
+use Rattle.space_maps.specs.Spaces.{page_in, put_page}
 use Rattle.space_ledger.specs.Calls.{IsNextOwn}
-use Rattle.overlay_pages.specs.State.{PageState, State, books, held_page, page_in, put_page, seen_page}
+use Rattle.overlay_pages.specs.State.{PageState, State, books, held_page, seen_page}
 use Rattle.overlay_pages.specs.Changes.{HasCopyRoom, IsNewFrame, IsPlaced, copied}
 use Rattle.overlay_memory.specs.ApartLaws.{ArePagesApart, origins_apart}
 use Rattle.overlay_memory.specs.Joined.{IsBare}

@@ -10,8 +10,9 @@ use Rattle.ledger.specs.Units.{class, units}
 use Rattle.ledger.specs.AlikeUnits.{units_alike}
 use Rattle.ledger.specs.ClassLaws.{class_none}
 use Rattle.ledger.specs.UnitLaws.{units_at}
+use Rattle.space_maps.specs.Spaces.{page_in}
 use Rattle.space_ledger.specs.Calls.{IsNextOwn}
-use Rattle.overlay_pages.specs.State.{PageState, State, books, held_page, page_in}
+use Rattle.overlay_pages.specs.State.{PageState, State, books, held_page}
 use Rattle.overlay_pages.specs.Changes.{limit_of}
 use Rattle.overlay_memory.specs.ApartLaws.{ArePagesApart, origins_apart}
 use Rattle.overlay_memory.specs.CountLaws.{class_is, class_there, has_own_is}

@@ -4,11 +4,12 @@ use Rattle.ledger.specs.Alike.{AreAlike}
 use Rattle.ledger.specs.Changes.{has_own}
 use Rattle.ledger.specs.Events.{Event, Commit, Settle, ledger_after}
 use Rattle.ledger.specs.Ledger.{is_alone}
-use Rattle.overlay_pages.specs.State.{State, base_of, books, holds_space, memory_of, page_in, space_in, turned_page}
+use Rattle.overlay_pages.specs.State.{State, base_of, books, memory_of}
 use Rattle.overlay_pages.specs.Changes.{HasCopyRoom, IsPlaced, committed, copied}
 use Rattle.overlay_pages.specs.View.{MemoryView, state_of}
 use Rattle.overlay_memory.specs.Room.{FitsAfter, IsFullAt, units_after}
 use Rattle.overlay_memory.specs.declared.error.Shortage.{Shortage}
+use Rattle.space_maps.specs.Spaces.{holds_space, page_in, space_in, turned_page}
 
 -- What settling does.
 

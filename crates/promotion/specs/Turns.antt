@@ -7,10 +7,12 @@ use Rattle.number_maps.specs.Views.{get_viewed, viewed}
 use Rattle.ovl_io.specs.Memory.{Memory, Page}
 use Rattle.ledger.specs.Ledger.{Holding, Ledger, is_alone, is_unused, without_page}
 use Rattle.ledger.specs.Changes.{has_own}
+use Rattle.space_maps.specs.Books.{books_marked, books_page, books_put_page}
+use Rattle.space_maps.specs.Laws.{page_of, page_put_beside, page_put_here, space_beside, space_put, there_space}
+use Rattle.space_maps.specs.Spaces.{holds_space, of_pages, page_in, put_mark, put_page, put_space, space_in}
 use Rattle.space_ledger.specs.View.{origin_of}
 use Rattle.overlay_pages.specs.Lines.{bytes_in_lines}
-use Rattle.overlay_pages.specs.State.{PageState, SpaceState, State, base_of, base_page, books, held_page, holds_space, memory_of, of_pages, page_in, put_mark, put_page, put_space, seen_page, space_in}
-use Rattle.overlay_pages.specs.StateLaws.{ledger_marked, ledger_page, ledger_put, page_of, page_put_beside, page_put_here, space_beside, space_put, there_space}
+use Rattle.overlay_pages.specs.State.{PageState, SpaceState, State, base_of, base_page, books, held_page, memory_of, seen_page}
 use Rattle.overlay_memory.specs.ApartLaws.{ArePagesApart, origins_apart}
 use Rattle.overlay_memory.specs.Joined.{IsBare}
 use Rattle.overlay_memory.specs.PageLaws.{held_there, own_absent, own_is, some_is, there_of}
@@ -110,7 +112,7 @@ module _ (to : PageState → Page) (t a : ℕ → Bool) (before now : State) (sp
 
   turned_ledger : AreTurned (or_page t page) a (books before) (books (put_page now space page z)) space
   turned_ledger =
-      subst (λ (l : Ledger). AreTurned (or_page t page) a (books before) l space) (sym (ledger_put now space page z))
+      subst (λ (l : Ledger). AreTurned (or_page t page) a (books before) l space) (sym (books_put_page held_page now space page z))
       (one_turned t (or_page t page) a (books before) (books now) space page (held_page before.zero_frame x) (held_page now.zero_frame x) (held_page now.zero_frame z)
       h.ledger (held_there before space page x was) (held_there now space page x at_page)
       (ap (λ b. t page || b) (are_same page page refl) ∙ or_true (t page))
@@ -213,7 +215,7 @@ module _ (t a which : ℕ → Bool) (old new : State) (space : ℕ) (h : HasTurn
   none_owned r named = by_page (page_in old space r) refl
     where
       by_page : (o : Option PageState) → page_in old space r ≡ o → has_own (books new) space r ≡ false
-      by_page None had = own_absent (books new) space r (h.ledger.absent r (ledger_page old space r ∙ ap (option_map (held_page old.zero_frame)) had))
+      by_page None had = own_absent (books new) space r (h.ledger.absent r (books_page held_page old space r ∙ ap (option_map (held_page old.zero_frame)) had))
       by_page (Some x) had =
           let f = h.ledger.pages r (held_page old.zero_frame x) (held_there old space r x had) in
           own_is (books new) space r f.is f.there ∙ ap (λ (l : List ℕ). nat_lt 0 (length l)) (by_turn (t r) (a r) refl f.is f.fate)
@@ -305,7 +307,7 @@ pub is_marked : (v w : State) (s : ℕ) (on : Bool) → holds_space v s ≡ true
 is_marked v w s on there is = subst (λ (u : State). IsMarked v u s on) (sym is) (record {
   memory = marked_memory v s on;
   base = marked_base v s on;
-  ledger = ledger_marked v s on there;
+  ledger = books_marked held_page v s on there;
   awaiting = ap (λ (x : SpaceState). x.awaiting) (marked_space v s on);
   marked = ap (λ (x : SpaceState). x.speculating) (marked_space v s on);
   others = marked_beside v s on;

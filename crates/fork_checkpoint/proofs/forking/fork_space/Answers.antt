@@ -1,7 +1,8 @@
 use Rattle.std.proofs.Common.{◌≤◌, sym, subst, ◌∙◌, ap, refl}
-use Rattle.overlay_pages.specs.State.{State, bare_space, cut_space}
+use Rattle.overlay_pages.specs.State.{State}
 use Rattle.overlay_pages.specs.Changes.{limit_of}
 use Rattle.overlay_pages.specs.View.{state_of}
+use Rattle.space_maps.specs.Spaces.{bare_space, cut_space}
 use Rattle.fork_checkpoint.specs.Copied.{with_copy}
 use Rattle.fork_checkpoint.proofs.Shares.{HasAdded, cut_put, fits_before, has_added, has_forked, needed_is, two_spaces}
 use Rattle.fork_checkpoint.proofs.forking.fork_space.Goals as goal

@@ -1,6 +1,7 @@
 use Rattle.std.proofs.Common.{ap, ◌∙◌}
-use Rattle.overlay_pages.specs.State.{State, holds_space, space_in}
+use Rattle.overlay_pages.specs.State.{State}
 use Rattle.overlay_pages.specs.View.{state_of}
+use Rattle.space_maps.specs.Spaces.{holds_space, space_in}
 use Rattle.fork_checkpoint.proofs.Shares.{ready_cleared, refilled}
 use Rattle.fork_checkpoint.proofs.sharing.refill_space.Goals as goal
 

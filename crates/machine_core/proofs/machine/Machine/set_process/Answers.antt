@@ -1,12 +1,9 @@
-use Rattle.std.proofs.Common.{sym, ap, ◌∙◌, Option}
-use Rattle.std.specs.Option.{is_some}
-use Rattle.machine_core.specs.declared.process.Process as declared
-use Rattle.machine_core.proofs.Machines.{has_process, put_is}
+use Rattle.std.proofs.Common.{ap}
+use Rattle.machine_core.specs.Kept.{machine_of}
 use Rattle.machine_core.proofs.machine.Machine.set_process.Goals as goal
 
 pub set-requires-clause-there : goal.set-requires-clause-there
-set-requires-clause-there c =
-    sym (ap (λ (o : Option declared.Process). is_some o) (has_process c.args.self.now c.self.inside.memory c.self.inside.slots.items c.self.view_is c.args.p)) ∙ c.requires.there
+set-requires-clause-there c = rw (← c.self.view_is) at c.requires.there
 
 pub returns : goal.returns
-returns c = put_is c.args.self.now c.self.inside.memory c.self.inside.slots.items c.self.view_is c.args.p c.set.new.slots.items c.args.process c.set.ensures.set
+returns c = rw (← c.self.view_is) (ap (machine_of c.self.inside.memory) c.set.ensures.set)
