@@ -74,7 +74,8 @@ module _ (l : Ledger) (space page : ℕ) (x : Holding) (at_page : holding_at l s
   was : (q r : ℕ) (y : Holding) → holding_at now q r ≡ Some y → holding_at l q r ≡ Some y
   was q r y at = by_key q space
       (λ same. page_is l q r ∙ ap (λ (s : ℕ). get (pages_of l s) r) same
-      ∙ behind (nat_lt r page) (get (pages_of l space) r) (sym (page_is now q r ∙ ap (λ (m : Space). get m r) (pages_put l space rest q same) ∙ high_part_at (pages_of l space) page r) ∙ at))
+      ∙ behind (nat_lt r page) (get (pages_of l space) r)
+      (sym (page_is now q r ∙ ap (λ (m : Space). get m r) (pages_put l space rest q same) ∙ high_part_at (pages_of l space) page r) ∙ at))
       (λ other. sym (beside q r other) ∙ at)
     where
       behind : (b : Bool) (o : Option Holding) → cond b None o ≡ Some y → o ≡ Some y
@@ -84,7 +85,8 @@ module _ (l : Ledger) (space page : ℕ) (x : Holding) (at_page : holding_at l s
   alone_left : AreOriginsApart l space → is_alone now space page ≡ is_alone l space page
   alone_left apart = same_test (is_alone now space page) (is_alone l space page) forth back
     where
-      other_space : (q r : ℕ) (y : Holding) → (q ≡ space → r ≡ page → ⊥) → holding_at l q r ≡ Some y → nat_eq y.origin x.origin ≡ true → nat_eq x.origin 0 ≡ false → q ≡ space → ⊥
+      other_space : (q r : ℕ) (y : Holding) → (q ≡ space → r ≡ page → ⊥) → holding_at l q r ≡ Some y
+          → nat_eq y.origin x.origin ≡ true → nat_eq x.origin 0 ≡ false → q ≡ space → ⊥
       other_space q r y differs at same some is =
           let origin : y.origin ≡ x.origin = grind (arith, nat_tests) in
           differs is (apart r page y x (ap (λ s. holding_at l s r) (sym is) ∙ at) at_page origin (ap (λ o. nat_eq o 0) origin ∙ some))

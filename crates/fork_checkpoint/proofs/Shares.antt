@@ -281,12 +281,16 @@ fits_too v from to x differs fits =
     let frames = (put_frames v to x).0 in
     omega (arith, same, frames, fits)
 
+-- a space that is there isn't one that isn't
+pub two_spaces : (v : State) (from to : ℕ) → holds_space v from ≡ true → holds_space v to ≡ false → from ≡ to → ⊥
+two_spaces v from to there absent same = let no = sym there ∙ ap (holds_space v) same ∙ absent in cc
+
 -- The units that the code finds are those after it: of a fork, with those of now, and of a restore, with those without the space's
 -- own pages.
-pub needed_is : (v : State) (from to n kept : ℕ) → (from ≡ to → ⊥) → holds_space v to ≡ false → kept ≡ units_of v → n ≡ with_copies kept v from
+pub needed_is : (v : State) (from to n kept : ℕ) → holds_space v from ≡ true → holds_space v to ≡ false → kept ≡ units_of v → n ≡ with_copies kept v from
     → n ≡ units_after (Copy from to) v
-needed_is v from to n kept differs absent kept_is is =
-    let after = copy_units v from to differs in
+needed_is v from to n kept there absent kept_is is =
+    let after = copy_units v from to (two_spaces v from to there absent) in
     let same = ap units (remove_absent (books v) to (none (get (books v) to) (books_spaces held_page v to ∙ absent))) in
     omega (arith, is, kept_is, after, same)
   where
@@ -294,17 +298,13 @@ needed_is v from to n kept differs absent kept_is is =
     none None e = refl
     none (Some y) e = cc
 
-pub fits_before : (v : State) (from to n kept : ℕ) → (from ≡ to → ⊥) → holds_space v to ≡ false → kept ≡ units_of v → n ≡ with_copies kept v from
+pub fits_before : (v : State) (from to n kept : ℕ) → holds_space v from ≡ true → holds_space v to ≡ false → kept ≡ units_of v → n ≡ with_copies kept v from
     → n ≤ limit_of v → FitsAfter (Copy from to) v
-fits_before v from to n kept differs absent kept_is is le = let needed = needed_is v from to n kept differs absent kept_is is in omega (arith, needed, le)
+fits_before v from to n kept there absent kept_is is le = let needed = needed_is v from to n kept there absent kept_is is in omega (arith, needed, le)
 
 pub restored_units : (v : State) (from to n left : ℕ) → (from ≡ to → ⊥) → left ≡ units_after (Drop to) v → n ≡ with_copies left v from
     → n ≡ units_after (Copy from to) v
 restored_units v from to n left differs left_is is = is ∙ ap (λ k. with_copies k v from) left_is ∙ sym (copy_units v from to differs)
-
--- a space that is there isn't one that isn't
-pub two_spaces : (v : State) (from to : ℕ) → holds_space v from ≡ true → holds_space v to ≡ false → from ≡ to → ⊥
-two_spaces v from to there absent same = let no = sym there ∙ ap (holds_space v) same ∙ absent in cc
 
 -- what a copy makes
 abbrev made : State → ℕ → SpaceState
