@@ -27,10 +27,6 @@ use Rattle.machine_core.proofs.Marks.{units_so_far}
 
 -- What is known of the pages of a file that is taken.
 
-page_numbers_is : page_numbers ≡ 67108864
-unfolding page_numbers
-page_numbers_is = refl
-
 -- an image has at most 65,536 pages
 pub few_items : (file : List ℕ) (items : List ImagePage) → file_refusal file ≡ None → items ≡ map (listed_page file) (image_pages file) → length items ≤ 65536
 few_items file items taken same = omega (arith, ap length same, length-map (image_pages file) (listed_page file), few_pages file taken)

@@ -17,13 +17,11 @@ use Rattle.machine_core.specs.declared.process.Process as declared
 use Rattle.machine_core.specs.declared.process.SavedRegs.{SavedRegs}
 use Rattle.machine_core.specs.Machine.{AreLike, Machine, Processes, Wholes, has_saved, is_marked, is_running, kept_whole, keys_from, none_saved, processes_of, registers_at, registers_of, registers_shown, running_numbers, saved_of, shown_at, shown_process, spaces_of, whole_in, wholes}
 use Rattle.machine_core.specs.Turns.{Guest, guest_at, guest_of, with_guest}
-use Rattle.rv_execute.specs.declared.outcome.Outcome.{Outcome}
-use Rattle.machine_core.specs.Executions.{after_executions, came_to_last}
 use Rattle.machine_core.specs.Laws.{processes_at, runs_shown, whole_by}
-use Rattle.machine_core.specs.Kept.{IsBeside, IsChanged, IsRunningList, guest_in, is_in, machine_of, runs_at}
+use Rattle.machine_core.specs.Kept.{IsBeside, IsChanged, IsRunningList, guest_in, is_in, machine_of}
 use Rattle.machine_core.specs.NumberLaws.{Rises, entries_rise, in_passing, none_below, numbers_are, numbers_rise, rises_passing}
 use Rattle.machine_core.specs.NumberLaws as numbers
-use Rattle.machine_core.proofs.Stepping.{of_running, runs_on, runs_then}
+use Rattle.machine_core.proofs.Stepping.{of_running}
 use Rattle.machine_core.proofs.Listed.{runs_found}
 use Rattle.machine_core.proofs.Rising.{rises, found_in, same_rising}
 
@@ -129,12 +127,6 @@ module _ (f : Guest → Guest) (p : ℕ) (old : Machine) (memory : MemoryView) (
     where
       saves : Option declared.Process → Bool
       saves o = option_map_or (λ (process : declared.Process). is_some process.saved) o false
-
--- whether it runs after executions, by what came of the last one
-pub runs_now : (p most : ℕ) (old new : Machine) (o : Outcome) → is_running (wholes old) p ≡ true → IsChanged p old new (after_executions most (wholes old) p)
-    → o ≡ came_to_last most (wholes old) p → runs_at new.processes p ≡ runs_on o
-runs_now p most old new o run changed came =
-    sym (runs_shown new p) ∙ ap (λ (s : Wholes). is_running s p) changed.after ∙ runs_then p (wholes old) most run ∙ ap runs_on (sym came)
 
 -- what is read off the processes alone
 pub shows_both : (p : ℕ) (a b : Wholes) → AreLike a b → shown_at a p ≡ shown_at b p

@@ -74,12 +74,6 @@ in_insert (x ∷ xs) zero p q within = refl
 in_insert (x ∷ xs) (suc i) p q within =
     ap (λ b. (x == q) || b) (in_insert xs i p q (omega arith)) ∙ swapped (x == q) (p == q) (is_in xs q)
 
-pub length_insert : (xs : List ℕ) (i p : ℕ) → i ≤ length xs → length (insert xs i p) ≡ suc (length xs)
-length_insert [] zero p within = refl
-length_insert [] (suc i) p within = absurd (omega arith)
-length_insert (x ∷ xs) zero p within = refl
-length_insert (x ∷ xs) (suc i) p within = ap suc (length_insert xs i p (omega arith))
-
 -- one fewer
 pub rises_remove : (k : ℕ) (xs : List ℕ) (i : ℕ) → Rises k xs → i < length xs → Rises k (remove xs i)
 rises_remove k [] i h within = absurd (omega arith)

@@ -1,16 +1,14 @@
-use Rattle.std.proofs.Common.{◌≡◌, ℕ, zero, suc, ◌+◌, ◌-◌, ◌<◌, Bool, true, false, cond, sym, ap, ◌∙◌, refl, arith, Option, Some, None}
-use Rattle.std.specs.Option.{option_map, option_map_or}
-use Rattle.std.specs.FinMap.{get}
-use Rattle.number_maps.specs.Keys.{get_same}
+use Rattle.std.proofs.Common.{◌≡◌, ℕ, suc, ◌+◌, ◌-◌, ◌<◌, Bool, true, false, cond, sym, ap, ◌∙◌, refl, arith, Option, Some, None}
+use Rattle.std.specs.Option.{option_map_or}
 use Rattle.ovl_io.specs.declared.process_state.ProcessState.{ProcessState}
 use Rattle.ovl_io.specs.declared.process_state.ProcessState.TheVariants as state
 use Rattle.rv_execute.specs.declared.outcome.Outcome.{Outcome}
 use Rattle.rv_execute.specs.declared.outcome.Outcome.TheVariants as outcome
 use Rattle.rv_execute.specs.Execution.{Upshot, Steps, Asks, Faults, outcome_by}
-use Rattle.machine_core.specs.Process.{Process, runs}
-use Rattle.machine_core.specs.Machine.{Wholes, is_running, limit_of}
-use Rattle.machine_core.specs.Turns.{Guest, after_execution, execution_of, executed, guest_at, guest_executed, guest_of, is_full, outcome_found, outcome_of, state_executed, units_needed, with_guest}
-use Rattle.machine_core.specs.Executions.{Executions, after_executions, all_executed, came_to_last, executions, first_execution, last_outcome, no_execution}
+use Rattle.machine_core.specs.Process.{runs}
+use Rattle.machine_core.specs.Machine.{Wholes, limit_of}
+use Rattle.machine_core.specs.Turns.{Guest, after_execution, execution_of, executed, guest_at, guest_executed, is_full, outcome_found, outcome_of, state_executed, units_needed, with_guest}
+use Rattle.machine_core.specs.Executions.{Executions, after_executions, all_executed, executions, first_execution, last_outcome, no_execution}
 
 -- Executions so far, and those that are left.
 
@@ -36,14 +34,6 @@ single_after (outcome.Fault kind address) now next = refl
 single_after (outcome.Full units limit) now next = refl
 
 module _ (p : ℕ) where
-  pub none_yet : (most : ℕ) (now : Guest) → executions p most now ≡ behind 0 (executions p (most - 0) now)
-  none_yet most now =
-      let all = executions p most now in
-      let none : all.steps ≡ 0 + all.steps = omega arith in
-      let whole : most ≡ most - 0 = omega arith in
-      ap (λ n. record { steps = n; before = all.before; outcome = all.outcome; after = all.after }) none
-      ∙ ap (λ n. behind 0 (executions p n now)) whole
-
   left_more : (most k : ℕ) → k < most → most - k ≡ suc (most - (k + 1))
   left_more most k below = omega arith
 
@@ -86,18 +76,6 @@ module _ (p : ℕ) where
         steps = omega (arith, ap (λ (e : Executions). e.steps) last);
         outcome_is = sym (ap (λ (e : Executions). e.outcome) last);
         after_is = moved ∙ sym (ap (λ (e : Executions). e.after) last);
-      }
-
-  -- all were steps
-  pub all_steps : (all : Executions) (most k : ℕ) (now : Guest) → most ≡ k → all ≡ behind k (executions p (most - k) now)
-      → IsLast all k outcome.Stepped now
-  all_steps all most k now same is =
-      let none : most - k ≡ 0 = omega (arith, same) in
-      let last : all ≡ behind k (no_execution now) = is ∙ ap (λ n. behind k (executions p n now)) none in
-      record {
-        steps = omega (arith, ap (λ (e : Executions). e.steps) last);
-        outcome_is = sym (ap (λ (e : Executions). e.outcome) last);
-        after_is = sym (ap (λ (e : Executions). e.after) last);
       }
 
   -- a single one
@@ -159,30 +137,3 @@ module _ (p : ℕ) where
   pub still_runs : (now next : Guest) → now.process.state ≡ state.Running → outcome.Stepped ≡ outcome_of p now → next ≡ executed p now → next.process.state ≡ state.Running
   still_runs now next running stepped moved =
       of_running next.process.state (ap (λ (g : Guest). runs g.process.state) moved ∙ runs_after_one now running ∙ sym (ap runs_on stepped))
-
-  runs_first : (o : Outcome) (now next : Guest) (others : Executions) → runs next.process.state ≡ runs_on o
-      → (runs next.process.state ≡ true → runs others.after.process.state ≡ runs_on others.outcome)
-      → runs (first_execution o now next others).after.process.state ≡ runs_on (first_execution o now next others).outcome
-  runs_first outcome.Stepped now next others is rest = rest is
-  runs_first outcome.Asked now next others is rest = is
-  runs_first (outcome.Fault kind address) now next others is rest = is
-  runs_first (outcome.Full units limit) now next others is rest = is
-
-  pub runs_after : (most : ℕ) (now : Guest) → runs now.process.state ≡ true → runs (executions p most now).after.process.state ≡ runs_on (executions p most now).outcome
-  runs_after zero now running = running
-  runs_after (suc most) now running =
-      runs_first (outcome_of p now) now (executed p now) (executions p most (executed p now)) (runs_after_one now (of_running now.process.state running))
-      (λ is. runs_after most (executed p now) is)
-
-  -- a process that ran runs after them, or has ended, by what came of the last one
-  pub runs_then : (all : Wholes) (most : ℕ) → is_running all p ≡ true → is_running (after_executions most all p) p ≡ runs_on (came_to_last most all p)
-  runs_then all most run = by_process (get all.processes p) run
-    where
-      by_process : (o : Option Process) → option_map_or (λ (process : Process). runs process.state) o false ≡ true
-          → is_running (option_map_or (λ guest. with_guest all p (all_executed p most guest)) (option_map (guest_of all) o) all) p
-          ≡ runs_on (last_outcome p most (option_map (guest_of all) o))
-      by_process None run = cc
-      by_process (Some process) run =
-          ap (λ (o : Option Process). option_map_or (λ (process : Process). runs process.state) o false)
-          (get_same all.processes p p (all_executed p most (guest_of all process)).process refl)
-          ∙ runs_after most (guest_of all process) run

@@ -71,3 +71,9 @@ pub record IsRunningList (processes : Kept) (running : Vec ℕ) : Type 0 where
   pub ascending : IsStrictlyIncreasing running.items
   pub listed : (q : ℕ) → is_in running.items q ≡ runs_at processes q
   pub room : (q : ℕ) → is_some (get processes q) ≡ true → q < vec_capacity running
+
+-- the same, but that it may be wrong of one number
+pub record IsListBut (p : ℕ) (processes : Kept) (running : Vec ℕ) : Type 0 where
+  pub ascending : IsStrictlyIncreasing running.items
+  pub listed : (q : ℕ) → (q ≡ p → ⊥) → is_in running.items q ≡ runs_at processes q
+  pub room : (q : ℕ) → is_some (get processes q) ≡ true → q < vec_capacity running

@@ -1,16 +1,16 @@
 //! Processes by number and the list of running numbers, kept together by turns and by edits.
 
-ghost use Rattle.std.specs.Prelude.{◌≡◌, None, true, OnOk, OnErr};
+ghost use Rattle.std.specs.Prelude.{◌≡◌, true, OnOk, OnErr};
 ghost use Rattle.std.specs.FinMap as map;
 ghost use Rattle.std.specs.Option.{is_some};
 ghost use Rattle.machine_core.specs.Machine.{has_space, is_running, wholes};
 ghost use Rattle.machine_core.specs.Turns.{after_asked, turn_asked};
 ghost use Rattle.machine_core.specs.Executions.{after_executions, came_to_last, steps_to};
-ghost use Rattle.machine_core.specs.Kept.{IsChanged, IsRunningList, machine_of, runs_at};
+ghost use Rattle.machine_core.specs.Kept.{IsChanged, IsListBut, IsRunningList, machine_of, runs_at};
 
 use crate::guest::{answer_request, execute_up_to};
 use crate::process::{Process, is_running};
-use crate::running::{list, reserve, take_out};
+use crate::running::{list, reserve};
 use by_number::ByNumber;
 use overlay_memory::OverlayMemory;
 use ovl_io::Turn;
@@ -28,23 +28,38 @@ pub(crate) fn runs_in(processes: &ByNumber<Process>, p: u16) -> bool
     }
 }
 
-/// Executes up to so many instructions of a running process, whose space is there, as long as each is a step.
+/// Lists a number where its process runs, and else takes it out. The list is right of each other number.
+fn relist(processes: &ByNumber<Process>, running: &mut Vec<u16>, p: u16)
+    requires { IsListBut p processes.now running.old }
+    ensures { IsRunningList processes.now running.new }
+{
+    list(running, p, runs_in(processes, p));
+}
+
+/// Executes up to so many instructions of a running process, whose space is there, as long as each is a step. Answers also whether
+/// it still runs.
 #[inline]
 fn execute_in(
     processes: &mut ByNumber<Process>,
     memory: &mut OverlayMemory,
     p: u16,
     most: u32,
-) -> (u32, Outcome)
+) -> ((u32, Outcome), bool)
     requires runs { is_running (wholes (machine_of memory.old processes.old)) p ≡ true }
     requires there { has_space (machine_of memory.old processes.old) p ≡ true }
-    ensures steps { result.0 ≡ steps_to most (wholes (machine_of memory.old processes.old)) p }
-    ensures outcome { result.1 ≡ came_to_last most (wholes (machine_of memory.old processes.old)) p }
-    ensures changed { IsChanged p (machine_of memory.old processes.old) (machine_of memory.new processes.new)
+    ensures steps { result.0.0 ≡ steps_to most (wholes (machine_of memory.old processes.old)) p }
+    ensures outcome { result.0.1
+        ≡ came_to_last most (wholes (machine_of memory.old processes.old)) p }
+    ensures changed { IsChanged p (machine_of memory.old processes.old)
+        (machine_of memory.new processes.new)
         (after_executions most (wholes (machine_of memory.old processes.old)) p) }
+    ensures runs { result.1 ≡ runs_at processes.new p }
 {
     match processes.get_mut(p) {
-        Some(process) => execute_up_to(process, memory, p, most),
+        Some(process) => {
+            let came = execute_up_to(process, memory, p, most);
+            (came, is_running(process))
+        }
         None => unreachable!(),
     }
 }
@@ -63,33 +78,36 @@ pub(crate) fn execute_turns(
     requires runs { is_running (wholes (machine_of memory.old processes.old)) p ≡ true }
     requires there { has_space (machine_of memory.old processes.old) p ≡ true }
     ensures steps { result.0 ≡ steps_to most (wholes (machine_of memory.old processes.old)) p }
-    ensures outcome { result.1 ≡ came_to_last most (wholes (machine_of memory.old processes.old)) p }
-    ensures changed { IsChanged p (machine_of memory.old processes.old) (machine_of memory.new processes.new)
+    ensures outcome { result.1
+        ≡ came_to_last most (wholes (machine_of memory.old processes.old)) p }
+    ensures changed { IsChanged p (machine_of memory.old processes.old)
+        (machine_of memory.new processes.new)
         (after_executions most (wholes (machine_of memory.old processes.old)) p) }
     ensures kept { IsRunningList processes.new running.new }
 {
-    let (steps, outcome) = execute_in(processes, memory, p, most);
-    match outcome {
-        Outcome::Stepped => (steps, Outcome::Stepped),
-        Outcome::Asked => (steps, Outcome::Asked),
-        Outcome::Fault(kind, address) => {
-            take_out(running, p);
-            (steps, Outcome::Fault(kind, address))
-        }
-        Outcome::Full(units, limit) => (steps, Outcome::Full(units, limit)),
+    let (came, runs) = execute_in(processes, memory, p, most);
+    if runs {
+        return came;
     }
+    relist(processes, running, p);
+    came
 }
 
-/// Does what a running process, whose space is there, asked for.
-fn answer_in(processes: &mut ByNumber<Process>, memory: &mut OverlayMemory, p: u16) -> Turn
+/// Does what a running process, whose space is there, asked for. Answers also whether it still runs.
+fn answer_in(processes: &mut ByNumber<Process>, memory: &mut OverlayMemory, p: u16) -> (Turn, bool)
     requires runs { is_running (wholes (machine_of memory.old processes.old)) p ≡ true }
     requires there { has_space (machine_of memory.old processes.old) p ≡ true }
-    ensures turn { result ≡ turn_asked (wholes (machine_of memory.old processes.old)) p }
-    ensures changed { IsChanged p (machine_of memory.old processes.old) (machine_of memory.new processes.new)
+    ensures turn { result.0 ≡ turn_asked (wholes (machine_of memory.old processes.old)) p }
+    ensures changed { IsChanged p (machine_of memory.old processes.old)
+        (machine_of memory.new processes.new)
         (after_asked (wholes (machine_of memory.old processes.old)) p) }
+    ensures runs { result.1 ≡ runs_at processes.new p }
 {
     match processes.get_mut(p) {
-        Some(process) => answer_request(process, memory, p),
+        Some(process) => {
+            let turn = answer_request(process, memory, p);
+            (turn, is_running(process))
+        }
         None => unreachable!(),
     }
 }
@@ -105,19 +123,20 @@ pub(crate) fn answer_turn(
     requires runs { is_running (wholes (machine_of memory.old processes.old)) p ≡ true }
     requires there { has_space (machine_of memory.old processes.old) p ≡ true }
     ensures turn { result ≡ turn_asked (wholes (machine_of memory.old processes.old)) p }
-    ensures changed { IsChanged p (machine_of memory.old processes.old) (machine_of memory.new processes.new)
+    ensures changed { IsChanged p (machine_of memory.old processes.old)
+        (machine_of memory.new processes.new)
         (after_asked (wholes (machine_of memory.old processes.old)) p) }
     ensures kept { IsRunningList processes.new running.new }
 {
-    let turn = answer_in(processes, memory, p);
-    if runs_in(processes, p) {
+    let (turn, runs) = answer_in(processes, memory, p);
+    if runs {
         return turn;
     }
-    take_out(running, p);
+    relist(processes, running, p);
     turn
 }
 
-/// Gives a number, which has none, a process. After want of memory each number has what it had.
+/// Gives a number a process. After want of memory each number has what it had.
 pub(crate) fn adopt(
     processes: &mut ByNumber<Process>,
     running: &mut Vec<u16>,
@@ -125,17 +144,15 @@ pub(crate) fn adopt(
     process: Process,
 ) -> Result<(), AllocError>
     requires kept { IsRunningList processes.old running.old }
-    requires absent { map.get processes.old p ≡ None }
     ensures ok { OnOk result (processes.new ≡ map.insert processes.old p process) }
     ensures err { OnErr result (processes.new ≡ processes.old) }
     ensures kept { IsRunningList processes.new running.new }
 {
     reserve(running, p as usize + 1)?;
-    let runs = is_running(&process);
-    // as it is, it isn't moved into a call of another crate: the types of its fields have to stand here
+    // it is handed on field by field: the checker has to be told of their types here
     let Process { regs, state, saved } = process;
     processes.insert(p, Process { regs, state, saved })?;
-    list(running, p, runs);
+    relist(processes, running, p);
     Ok(())
 }
 
@@ -151,11 +168,11 @@ pub(crate) fn set(
     ensures set { processes.new ≡ map.insert processes.old p process }
     ensures kept { IsRunningList processes.new running.new }
 {
-    list(running, p, is_running(&process));
     match processes.get_mut(p) {
         Some(place) => *place = process,
         None => unreachable!(),
     }
+    relist(processes, running, p);
 }
 
 /// Takes a process away.
@@ -164,6 +181,6 @@ pub(crate) fn remove(processes: &mut ByNumber<Process>, running: &mut Vec<u16>, 
     ensures removed { processes.new ≡ map.remove processes.old p }
     ensures kept { IsRunningList processes.new running.new }
 {
-    take_out(running, p);
     processes.remove(p);
+    relist(processes, running, p);
 }

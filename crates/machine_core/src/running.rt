@@ -35,7 +35,7 @@ fn put_in(running: &mut Vec<u16>, p: u16) -> Result<(), AllocError>
 }
 
 /// Takes a number out, where it is there.
-pub(crate) fn take_out(running: &mut Vec<u16>, p: u16)
+fn take_out(running: &mut Vec<u16>, p: u16)
     requires { IsStrictlyIncreasing running.old.items }
     ensures ascending { IsStrictlyIncreasing running.new.items }
     ensures listed { IsListed p false running.old.items running.new.items }
@@ -49,10 +49,10 @@ pub(crate) fn take_out(running: &mut Vec<u16>, p: u16)
     }
 }
 
-/// Lists a number, or takes it out. Where it isn't there yet, there is room for it, so it takes no memory.
+/// Lists a number, or takes it out. Where it is to be listed and isn't yet, there is room for it, so it takes no memory.
 pub(crate) fn list(running: &mut Vec<u16>, p: u16, listed: bool)
     requires ascending { IsStrictlyIncreasing running.old.items }
-    requires room { is_in running.old.items p ≡ false
+    requires room { listed ≡ true → is_in running.old.items p ≡ false
         → length running.old.items < vec_capacity running.old }
     ensures ascending { IsStrictlyIncreasing running.new.items }
     ensures listed { IsListed p listed running.old.items running.new.items }

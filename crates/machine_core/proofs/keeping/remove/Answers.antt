@@ -1,8 +1,8 @@
-use Rattle.machine_core.proofs.Listed.{list_removed}
+use Rattle.std.proofs.Common.{subst, sym}
+use Rattle.machine_core.specs.Kept.{IsListBut, Kept}
+use Rattle.machine_core.proofs.Listed.{removed_but}
 use Rattle.machine_core.proofs.keeping.remove.Goals as goal
 
-pub returns-clause-kept : goal.returns-clause-kept
-returns-clause-kept c =
-    let left = c.take_out.ensures in
-    list_removed c.args.processes.now c.remove.new.self c.args.running.now c.take_out.new.running c.args.p c.requires.kept c.remove.ensures
-    left.ascending left.listed left.room
+pub relist-requires : goal.relist-requires
+relist-requires c =
+    subst (λ (m : Kept). IsListBut c.args.p m c.args.running.now) (sym c.remove.ensures) (removed_but c.args.processes.now c.args.running.now c.args.p c.requires.kept)

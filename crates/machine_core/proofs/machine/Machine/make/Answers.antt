@@ -11,9 +11,6 @@ use Rattle.machine_core.specs.Loading.{IsSpaceOf}
 use Rattle.machine_core.proofs.Loaded.{loaded, made_process, taken_back}
 use Rattle.machine_core.proofs.machine.Machine.make.Goals as goal
 
-pub adopt-requires-clause-absent : goal.adopt-requires-clause-absent
-adopt-requires-clause-absent c = rw (← c.self.view_is) at c.requires.no_process
-
 pub returns-in-Ok-clause-made : goal.returns-in-Ok-clause-made
 returns-in-Ok-clause-made c =
     let file = c.args.file.now in

@@ -4,11 +4,9 @@ use Rattle.machine_core.specs.Kept.{machine_of}
 use Rattle.machine_core.specs.Laws.{leads, like_without, wholes_without}
 use Rattle.machine_core.proofs.machine.Machine.remove.Goals as goal
 
-pub returns-clause-removed : goal.returns-clause-removed
-returns-clause-removed c = rw (← c.self.view_is) (ap (machine_of c.self.inside.memory) c.remove.ensures.removed)
-
 pub returns-clause-after : goal.returns-clause-after
-returns-clause-after c = ap wholes (returns-clause-removed c) ∙ wholes_without c.args.self.now c.args.p
+returns-clause-after c =
+    let removed = ap (machine_of c.self.inside.memory) c.remove.ensures.removed in rw (← c.self.view_is) (ap wholes removed ∙ wholes_without _ c.args.p)
 
 pub returns-clause-stands : goal.returns-clause-stands
 returns-clause-stands c =
