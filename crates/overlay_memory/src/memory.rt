@@ -15,9 +15,9 @@ ghost use Rattle.overlay_pages.specs.Lines.{line_in_page};
 ghost use Rattle.overlay_pages.specs.State.{books, memory_of};
 ghost use Rattle.overlay_pages.specs.Changes.{AreAbsent, Fits, HasCopyRoom, HasShareRoom, IsPlaced, committed, copied, discarded, is_writable, limit_of, units_of, with_shared, with_written, with_zeros};
 ghost use Rattle.overlay_pages.specs.View.{HasOwnPlace, IsJoined, place_at, state_of};
-ghost use Rattle.overlay_pages.specs.Calls.{AreShared, AwaitBare, AwaitsLike, IsEmptyState, IsNextPage, NoneAwaitsBelow, entries_in, with_line_at_place};
+ghost use Rattle.overlay_pages.specs.Calls.{AreShared, AreZeros, AwaitBare, AwaitsLike, IsEmptyState, IsNextPage, NoneAwaitsBelow, entries_in, with_line_at_place};
 ghost use Rattle.overlay_memory.specs.Access.{FindsIn, IsFoundIn, KeepsFound, Places, Reads, Stores};
-ghost use Rattle.overlay_memory.specs.Pieces.{IsEmptied, emptied_space};
+ghost use Rattle.overlay_memory.specs.Pieces.{IsEmptied, LosesSome, emptied_space};
 ghost use Rattle.overlay_memory.specs.Room.{FallsShort};
 ghost use Rattle.overlay_memory.specs.contracts.memory.OverlayMemory.{the_row};
 
@@ -86,7 +86,8 @@ impl OverlayMemory {
         self.pages.add_space(space)
     }
 
-    /// Gives a space up, with its pages. Takes no memory. Costs its pages.
+    /// Gives a space up, with its pages. Takes no memory. Costs a few look-ups for each run of pages on the zero frame without own
+    /// lines, and for each other page.
     pub fn drop_space(&mut self, space: u16)
         requires there { holds_space (state_of self.old) space ≡ true }
         requires settled { (space_in (state_of self.old) space).awaiting ≡ map.empty }
@@ -96,7 +97,7 @@ impl OverlayMemory {
         self.pages.end_space(space);
     }
 
-    /// Gives the pages of a space up, and not the space, whose mark stays. Takes no memory. Costs its pages.
+    /// Gives the pages of a space up, and not the space, whose mark stays. Takes no memory. Costs as much as `drop_space`.
     pub fn clear_space(&mut self, space: u16)
         requires there { holds_space (state_of self.old) space ≡ true }
         requires settled { (space_in (state_of self.old) space).awaiting ≡ map.empty }
@@ -355,6 +356,17 @@ impl OverlayMemory {
         self.pages.next_page(space, page)
     }
 
+    /// How many pages from one on are there, on the zero frame and without own lines: at least those that lie in one run with it. No
+    /// page of the space awaits. Costs two look-ups.
+    pub fn zeros_from(&self, space: u16, page: u64) -> u32
+        requires there { holds_space (state_of self.now) space ≡ true }
+        requires settled { (space_in (state_of self.now) space).awaiting ≡ map.empty }
+        ensures zeros { AreZeros (state_of self.now) space page result }
+        ensures low { 0 < result → page + result ≤ PAGE_END }
+    {
+        self.pages.zeros_from(space, page)
+    }
+
     /// The least page of a space not below one that has own lines. None exactly where none has. Costs a look-up.
     pub fn next_overlaid(&self, space: u16, page: u64) -> Option<u64>
         requires there { holds_space (state_of self.now) space ≡ true }
@@ -453,6 +465,22 @@ fn remove_pages(pages: &mut OverlayPages, space: u16)
     ensures { IsEmptied (state_of pages.old) (state_of pages.new) space }
 {
     'removing: while let Some(page) = pages.next_page(space, 0) {
+        remove_from(pages, space, page);
+    }
+}
+
+/// Takes away a page that is there. Where it is on the zero frame and has no own lines, those like it that lie in one run with it go in
+/// the same step.
+fn remove_from(pages: &mut OverlayPages, space: u16, page: u64)
+    requires space { holds_space (state_of pages.old) space ≡ true }
+    requires settled { (space_in (state_of pages.old) space).awaiting ≡ map.empty }
+    requires there { IsSome (page_in (state_of pages.old) space page) }
+    ensures { LosesSome (state_of pages.old) (state_of pages.new) space page }
+{
+    let zeros = pages.zeros_from(space, page);
+    if zeros == 0 {
         pages.remove_page(space, page);
+    } else {
+        pages.remove_zeros(space, page, zeros);
     }
 }
