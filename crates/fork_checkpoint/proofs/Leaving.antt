@@ -179,7 +179,7 @@ unfolding is_unused
 zero_units v space page held =
     let frame : is_alone (books v) space page ≡ false = alone_is (books v) space page zero_holding held ∙ nothing_zero (without_page (books v) space page) in
     let segment = class_there v space page zero_holding held in
-    ap (λ (b : Bool). (if b then FRAME_UNITS else 0) + class_at v space page) frame ∙ sym segment ∙ class_none
+    ap (λ (b : Bool). (if b then FRAME_UNITS else 0) + class_at v space page) frame ∙ omega (arith, segment, class_none)
   where
     nothing_zero : (l : Ledger) → is_unused l 0 ≡ false
     nothing_zero l = refl
