@@ -5,11 +5,12 @@ use Rattle.std.specs.FinMap.{get, remove}
 use Rattle.std.proofs.lemmas.Bool.Decides.{nat_tests}
 use Rattle.number_maps.specs.Keys.{alike, by_key, get_other, get_same, removed_other, removed_same}
 use Rattle.ledger.specs.Events.{Copy}
-use Rattle.overlay_pages.specs.State.{SpaceState, State, bare_space, base_of, cut_space, holds_space, space_in}
+use Rattle.overlay_pages.specs.State.{SpaceState, State, base_of}
 use Rattle.overlay_pages.specs.View.{MemoryView, state_of}
 use Rattle.overlay_memory.specs.declared.error.SpaceError.{SpaceError}
 use Rattle.overlay_memory.specs.declared.error.SpaceError.TheVariants as error
-use Rattle.fork_checkpoint.specs.Forked.{Forks, HasForked}
+use Rattle.space_maps.specs.Spaces.{bare_space, cut_space, holds_space, space_in}
+use Rattle.fork_checkpoint.specs.Copied.{Copies, HasCopied}
 use Rattle.machine_core.specs.declared.process.Process as declared
 use Rattle.machine_core.specs.Machine.{IsDropped, Machine, Wholes, has_space, kept_whole, none_saved, spaces_of, whole_in, wholes, with_memory, with_process_at}
 use Rattle.machine_core.specs.Load.{IsAsBefore}
@@ -20,7 +21,7 @@ use Rattle.command_core.specs.Rows.{Row, TakesLast, event_needs, first_refusal, 
 use Rattle.command_core.specs.Giving.{GivesChange}
 use Rattle.command_core.specs.Changes.{answer_of}
 use Rattle.command_core.specs.LikeLaws.{states_itself}
-use Rattle.command_core.specs.Forks.{Adopts, CopiesProcess, CopyFails, IsCopied}
+use Rattle.command_core.specs.Copies.{Adopts, CopiesProcess, CopyFails, IsCopied}
 use Rattle.command_core.specs.Checkpoints.{Enters, IsSaved, SavesSpace}
 use Rattle.command_core.proofs.Rows.{fits, is_short, row_full, row_wants}
 use Rattle.command_core.proofs.Places.{keeps_before, keeps_same, none_is, processes_kept, processes_put}
@@ -51,7 +52,7 @@ number_other r q other = by_test (r == q) refl
     by_test false e = e
     by_test true e = absurd (other (is_same e))
 
-module _ (from to : ℕ) (old : Machine) (memory : MemoryView) (copied : HasForked (spaces_of old) (state_of memory) from to) where
+module _ (from to : ℕ) (old : Machine) (memory : MemoryView) (copied : HasCopied (spaces_of old) (state_of memory) from to) where
   abbrev mid : Machine
   mid = with_memory old memory
 
@@ -113,7 +114,7 @@ module _ (from to : ℕ) (old : Machine) (memory : MemoryView) (copied : HasFork
 module _ (from to : ℕ) (old new : Machine) (memory : MemoryView) where
   -- how a fork comes out, where the space was made
   pub forks_made : (process : declared.Process) (r : Result (Unit {0}) SpaceError)
-      → Forks old.memory memory from to (Ok tt) → (space_in (spaces_of old) from).speculating ≡ false → has_space old to ≡ false
+      → Copies old.memory memory from to (Ok tt) → (space_in (spaces_of old) from).speculating ≡ false → has_space old to ≡ false
       → Adopts to process (with_memory old memory) new r → CopiesProcess from to process old new r
   forks_made process (Ok done) (within, copied) unmarked no_space same =
       (fits (Copy from to) old within, subst (IsCopied from to process old) (sym same) (is_copied from to old memory copied process unmarked))
@@ -122,13 +123,13 @@ module _ (from to : ℕ) (old new : Machine) (memory : MemoryView) where
       (fits (Copy from to) old within, taken_back from to old memory copied new no_space dropped)
 
   -- how a restore does
-  pub restores_made : (process : declared.Process) → Forks old.memory memory from to (Ok tt) → (space_in (spaces_of old) from).speculating ≡ false
+  pub restores_made : (process : declared.Process) → Copies old.memory memory from to (Ok tt) → (space_in (spaces_of old) from).speculating ≡ false
       → new ≡ with_process_at (with_memory old memory) to process → CopiesProcess from to process old new (Ok tt)
   restores_made process (within, copied) unmarked same =
       (fits (Copy from to) old within, subst (IsCopied from to process old) (sym same) (is_copied from to old memory copied process unmarked))
 
   -- and a checkpoint
-  pub saves_made : {T : Type 0} (r : Result T SpaceError) → Forks old.memory memory from to (Ok tt) → has_space old to ≡ false → get old.processes to ≡ None
+  pub saves_made : {T : Type 0} (r : Result T SpaceError) → Copies old.memory memory from to (Ok tt) → has_space old to ≡ false → get old.processes to ≡ None
       → Enters to (with_memory old memory) new r → SavesSpace from to old new r
   saves_made (Ok done) (within, copied) no_space no_process same =
       (fits (Copy from to) old within, subst (IsSaved from to old) (sym same) (is_saved from to old memory copied no_process))
@@ -137,7 +138,7 @@ module _ (from to : ℕ) (old new : Machine) (memory : MemoryView) where
       (fits (Copy from to) old within, taken_back from to old memory copied new no_space dropped)
 
 -- and where it wasn't made
-pub copies_not : (from to : ℕ) (old : Machine) (memory : MemoryView) (e : SpaceError) → Forks old.memory memory from to (Err e)
+pub copies_not : (from to : ℕ) (old : Machine) (memory : MemoryView) (e : SpaceError) → Copies old.memory memory from to (Err e)
     → CopyFails from to old (with_memory old memory) e
 copies_not from to old memory (error.Full needed limit) full =
     let f = is_short (Copy from to) old memory needed limit full in

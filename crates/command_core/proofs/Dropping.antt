@@ -3,7 +3,7 @@ use Rattle.std.specs.List.{AllByRecursion}
 use Rattle.std.specs.Option.{is_some, option_map}
 use Rattle.std.specs.FinMap.{get, remove}
 use Rattle.number_maps.specs.Values.{remove_absent}
-use Rattle.overlay_pages.specs.State.{cut_space, space_in}
+use Rattle.space_maps.specs.Spaces.{cut_space, space_in}
 use Rattle.machine_core.specs.declared.process.Process as declared
 use Rattle.machine_core.specs.Machine.{IsDropped, Machine, Wholes, spaces_of, whole_in, wholes, without_pages, without_process, without_process_at}
 use Rattle.machine_core.specs.Laws.{wholes_dropped}

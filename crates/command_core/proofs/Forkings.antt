@@ -4,9 +4,9 @@ use Rattle.std.specs.Option.{is_some, option_map_or}
 use Rattle.std.specs.FinMap.{get}
 use Rattle.number_maps.specs.Keys.{get_same}
 use Rattle.sizes.specs.declared.TheConstants.{LAST_SPACE}
-use Rattle.overlay_pages.specs.State.{space_in}
 use Rattle.overlay_pages.specs.View.{MemoryView, state_of as spaces_in}
 use Rattle.overlay_memory.specs.declared.error.SpaceError.{SpaceError}
+use Rattle.space_maps.specs.Spaces.{space_in}
 use Rattle.machine_core.specs.Process.{Process}
 use Rattle.machine_core.specs.declared.process.Process as declared
 use Rattle.machine_core.specs.Machine.{Machine, Wholes, is_marked, spaces_of, whole_in, wholes}
@@ -18,7 +18,7 @@ use Rattle.command_core.specs.Sessions.{IsSession, state_of}
 use Rattle.command_core.specs.Kept.{checkpoints_in, shown_state, spaces_kept}
 use Rattle.command_core.specs.Rows.{Row, accepts, first_refusal}
 use Rattle.command_core.specs.Giving.{GivesChange}
-use Rattle.command_core.specs.Forks.{CopiesProcess, CopyFails, fork_refusals, fork_row}
+use Rattle.command_core.specs.Copies.{CopiesProcess, CopyFails, fork_refusals, fork_row}
 use Rattle.command_core.specs.Changes.{answer_of, on_process}
 use Rattle.command_core.specs.LikeLaws.{states_itself, states_same}
 use Rattle.command_core.proofs.Copies.{copy_keeps, gives_unmade}

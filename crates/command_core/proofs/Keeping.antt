@@ -2,8 +2,9 @@ use Rattle.std.proofs.Common.{◌≡◌, ℕ, ◌+◌, ◌<◌, ◌≤◌, Bool,
 use Rattle.std.specs.Prelude.{nat_eq, slice_get}
 use Rattle.std.specs.List.{AllByRecursion}
 use Rattle.std.specs.Option.{option_map}
+use Rattle.space_maps.specs.Spaces.{space_in}
 use lib.Pointwise.{pointwise}
-use Rattle.overlay_pages.specs.State.{State, space_in}
+use Rattle.overlay_pages.specs.State.{State}
 use Rattle.machine_core.specs.Process.{Process}
 use Rattle.machine_core.specs.Laws.{whole_by}
 use Rattle.command_core.specs.declared.checkpoints.Kept.{Kept}

@@ -12,7 +12,8 @@ use Rattle.ovl_io.specs.Keys.{ties, differs}
 use Rattle.number_maps.specs.Views.{len_viewed}
 use Rattle.ovl_io.specs.declared.process_state.ProcessState.{ProcessState}
 use Rattle.rv_execute.specs.Registers.{Registers}
-use Rattle.overlay_pages.specs.State.{State, memory_of, seen_page, space_in}
+use Rattle.overlay_pages.specs.State.{State, memory_of, seen_page}
+use Rattle.space_maps.specs.Spaces.{space_in}
 use Rattle.machine_core.specs.declared.process.Process as declared
 use Rattle.machine_core.specs.Machine.{Machine, Wholes, keys_from, registers_at, registers_of, registers_shown, spaces_of, whole_in, wholes}
 use Rattle.machine_core.specs.Laws.{processes_at}

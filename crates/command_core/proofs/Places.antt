@@ -9,9 +9,11 @@ use Rattle.number_maps.specs.Keys.{alike, by_key, get_other, get_same, removed_o
 use Rattle.number_maps.specs.Views.{viewed, viewed_empty}
 use Rattle.sizes.specs.declared.TheConstants.{LAST_SPACE}
 use Rattle.overlay_pages.specs.Calls.{IsEmptyState}
-use Rattle.overlay_pages.specs.State.{SpaceState, State, base_of, books, cut_space, held_page, holds_space, space_in}
-use Rattle.overlay_pages.specs.StateLaws.{space_absent, space_left}
+use Rattle.overlay_pages.specs.State.{SpaceState, State, base_of, books, held_page}
 use Rattle.overlay_pages.specs.View.{MemoryView, state_of as spaces_in}
+use Rattle.space_maps.specs.Books.{books_empty}
+use Rattle.space_maps.specs.Laws.{space_absent, space_left}
+use Rattle.space_maps.specs.Spaces.{cut_space, holds_space, space_in}
 use Rattle.machine_core.specs.Process.{Process, is_speculating, runs}
 use Rattle.machine_core.specs.declared.process.Process as declared
 use Rattle.machine_core.specs.Machine.{IsDropped, KeepsPlaces, Machine, Processes, StaysBut, has_saved, has_space, is_marked, is_running, kept_whole, none_saved, processes_of, shown_process, spaces_of, whole_in, wholes, with_memory, with_process_at, Wholes}
@@ -135,10 +137,7 @@ module _ (machine : Machine) (frames : ℕ) (none : IsEmptyState frames (spaces_
   }
 
   no_books : books (spaces_of machine) ≡ empty
-  unfolding books
-  no_books =
-      ap (viewed (λ _ (x : SpaceState). viewed (λ _ y. held_page (spaces_of machine).zero_frame y) x.pages)) none.spaces
-      ∙ viewed_empty (λ _ (x : SpaceState). viewed (λ _ y. held_page (spaces_of machine).zero_frame y) x.pages)
+  no_books = books_empty held_page (spaces_of machine) none.spaces
 
   no_wholes : processes_of machine ≡ empty
   no_wholes = alike _ _ (λ q. processes_at machine q ∙ ap (option_map (whole_in (spaces_of machine) q)) (no_process_yet q) ∙ sym (get-empty nat_cmp q))

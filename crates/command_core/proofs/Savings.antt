@@ -5,9 +5,10 @@ use Rattle.std.specs.FinMap.{get}
 use Rattle.number_maps.specs.Keys.{by_key, get_same}
 use Rattle.sizes.specs.declared.TheConstants.{LAST_SPACE}
 use Rattle.ledger.specs.Events.{Copy}
-use Rattle.overlay_pages.specs.State.{SpaceState, base_of, memory_of, space_in}
+use Rattle.overlay_pages.specs.State.{SpaceState, base_of, memory_of}
 use Rattle.overlay_pages.specs.View.{MemoryView, state_of as spaces_in}
 use Rattle.overlay_memory.specs.declared.error.SpaceError.{SpaceError}
+use Rattle.space_maps.specs.Spaces.{space_in}
 use Rattle.machine_core.specs.Process.{Process}
 use Rattle.machine_core.specs.declared.process.Process as declared
 use Rattle.machine_core.specs.Machine.{Machine, Wholes, has_saved, has_space, is_marked, kept_whole, none_saved, spaces_of, whole_in, wholes}
@@ -21,7 +22,7 @@ use Rattle.command_core.specs.Sessions.{IsFree, IsSession, state_of}
 use Rattle.command_core.specs.Kept.{checkpoint_in, checkpoints_in, kept_named, kept_process, shown_state, spaces_kept}
 use Rattle.command_core.specs.Rows.{Row, accepts, first_refusal}
 use Rattle.command_core.specs.Giving.{GivesChange}
-use Rattle.command_core.specs.Forks.{CopiesProcess, CopyFails, with_copied}
+use Rattle.command_core.specs.Copies.{CopiesProcess, CopyFails, with_copied}
 use Rattle.command_core.specs.Checkpoints.{SavesSpace, checkpoint_named, checkpoint_refusals, checkpoint_row, restore_row, restores}
 use Rattle.command_core.specs.Changes.{answer_of, on_process}
 use Rattle.command_core.specs.LikeLaws.{states_itself, states_same}

@@ -10,9 +10,10 @@ use Rattle.ledger.specs.AlikeLaws.{alike_itself}
 use Rattle.ledger.specs.Events.{Event, ledger_after}
 use Rattle.ledger.specs.Events as event
 use Rattle.ovl_io.specs.Memory.{Memory, Page}
-use Rattle.overlay_pages.specs.State.{PageState, SpaceState, base_of, books, holds_space, memory_of, page_in, seen_page, space_in}
+use Rattle.overlay_pages.specs.State.{PageState, SpaceState, base_of, books, memory_of, seen_page}
 use Rattle.overlay_pages.specs.View.{MemoryView, state_of}
 use Rattle.overlay_memory.specs.StateMemory.{memory_at}
+use Rattle.space_maps.specs.Spaces.{holds_space, page_in, space_in}
 use Rattle.promotion.specs.Settled.{AreSettled}
 use Rattle.promotion.specs.Promoted.{Promotes, PromotesAll}
 use Rattle.promotion.specs.declared.error.PromoteError.{PromoteError}

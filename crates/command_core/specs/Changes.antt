@@ -18,7 +18,7 @@ use Rattle.command_core.specs.declared.overlays.OverlayChange.TheVariants.{Specu
 use Rattle.command_core.specs.State.{Registry}
 use Rattle.command_core.specs.Rows.{Row, TakesFirst, plain_row, refused_row, still_row}
 use Rattle.command_core.specs.Refusals.{by_numbers_used}
-use Rattle.command_core.specs.Forks.{draws, fork_row}
+use Rattle.command_core.specs.Copies.{draws, fork_row}
 use Rattle.command_core.specs.Overlays.{overlay_row}
 use Rattle.command_core.specs.Checkpoints.{checkpoint_row, forget_row, on_checkpoint, restore_row}
 

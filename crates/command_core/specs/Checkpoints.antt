@@ -1,10 +1,11 @@
 use Rattle.std.specs.Prelude.{◌≡◌, ℕ, ◌+◌, nat_eq, Bool, true, false, List, [], ◌∷◌, ◌++◌, Option, Some, None, if◌then◌else◌, Result, Ok, Err}
 use Rattle.std.specs.Option.{is_some, option_map_or}
 use Rattle.std.specs.FinMap.{empty}
+use Rattle.space_maps.specs.Spaces.{space_in}
 use lib.Pointwise.{pointwise}
 use Rattle.ledger.specs.Events.{Event, Copy, Other}
 use Rattle.ledger.specs.Events as event
-use Rattle.overlay_pages.specs.State.{memory_of, space_in}
+use Rattle.overlay_pages.specs.State.{memory_of}
 use Rattle.overlay_memory.specs.declared.error.SpaceError.{SpaceError}
 use Rattle.overlay_memory.specs.declared.error.SpaceError.TheVariants.{Full, Memory}
 use Rattle.machine_core.specs.Process.{Process, is_speculating}
@@ -15,7 +16,7 @@ use Rattle.report_text.specs.declared.answer.Code.TheVariants.{NoCheckpoint}
 use Rattle.command_core.specs.State.{Checkpoint, Registry, process_of, whole_of}
 use Rattle.command_core.specs.Rows.{Row, TakesLast, ledger_by, plain_row, refused_row}
 use Rattle.command_core.specs.Refusals.{by_name_taken, by_no_checkpoint, by_numbers_used, by_speculating}
-use Rattle.command_core.specs.Forks.{CopyEnds}
+use Rattle.command_core.specs.Copies.{CopyEnds}
 use Rattle.command_core.specs.Overlays.{leaves}
 
 -- Checkpoints, by name: made, restored and given up.

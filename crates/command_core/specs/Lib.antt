@@ -7,7 +7,7 @@ pub mod Codes
 pub mod Rows
 pub mod Giving
 pub mod Refusals
-pub mod Forks
+pub mod Copies
 pub mod Overlays
 pub mod Checkpoints
 pub mod Changes

@@ -3,7 +3,7 @@ use Rattle.std.specs.Option.{is_some}
 use Rattle.std.specs.List.{AllByRecursion}
 use Rattle.std.specs.FinMap.{empty, get}
 use Rattle.sizes.specs.declared.TheConstants.{LAST_SPACE}
-use Rattle.overlay_pages.specs.State.{space_in}
+use Rattle.space_maps.specs.Spaces.{space_in}
 use Rattle.machine_core.specs.Machine.{Machine, has_saved, has_space, is_marked, spaces_of, wholes}
 use Rattle.command_core.specs.State.{Checkpoint, State}
 

@@ -3,10 +3,10 @@
 ghost use Rattle.std.specs.Prelude.{◌≡◌, ◌<◌, ◌≤◌, None, true, false};
 ghost use Rattle.std.specs.FinMap.{empty, get};
 ghost use Rattle.sizes.specs.declared.TheConstants.{LAST_SPACE};
-ghost use Rattle.overlay_pages.specs.State.{space_in};
+ghost use Rattle.space_maps.specs.Spaces.{space_in};
 ghost use Rattle.machine_core.specs.Machine.{has_space, spaces_of};
 ghost use Rattle.command_core.specs.Rows.{first_refusal};
-ghost use Rattle.command_core.specs.Forks.{Adopts, CopiesProcess, fork_refusals};
+ghost use Rattle.command_core.specs.Copies.{Adopts, CopiesProcess, fork_refusals};
 
 use fork_checkpoint::fork_space;
 use machine_core::{Machine, Process, SpaceError};

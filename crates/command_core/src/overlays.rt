@@ -2,7 +2,7 @@
 
 ghost use Rattle.std.specs.Prelude.{◌≡◌, Some, true};
 ghost use Rattle.std.specs.FinMap.{empty, get};
-ghost use Rattle.overlay_pages.specs.State.{space_in};
+ghost use Rattle.space_maps.specs.Spaces.{space_in};
 ghost use Rattle.machine_core.specs.Machine.{has_saved, has_space, is_marked, spaces_of};
 ghost use Rattle.command_core.specs.Changes.{CanBeTold};
 ghost use Rattle.command_core.specs.Overlays.{ChangesOverlays, promotion_answer, speculation_answer};

@@ -4,11 +4,11 @@ ghost use Rattle.std.specs.Prelude.{◌≡◌, ◌<◌, ◌≤◌, ◌≢◌, No
 ghost use Rattle.std.specs.Option.{is_some};
 ghost use Rattle.std.specs.FinMap.{empty, get};
 ghost use Rattle.sizes.specs.declared.TheConstants.{LAST_SPACE};
-ghost use Rattle.overlay_pages.specs.State.{space_in};
+ghost use Rattle.space_maps.specs.Spaces.{space_in};
 ghost use Rattle.machine_core.specs.Machine.{has_space, spaces_of};
 ghost use Rattle.report_text.specs.Answers.{IsCheckpointName};
 ghost use Rattle.command_core.specs.Rows.{first_refusal};
-ghost use Rattle.command_core.specs.Forks.{CopiesProcess};
+ghost use Rattle.command_core.specs.Copies.{CopiesProcess};
 ghost use Rattle.command_core.specs.Checkpoints.{Enters, SavesSpace, checkpoint_refusals};
 ghost use Rattle.command_core.specs.Kept.{EntersName, kept_named};
 

@@ -7,7 +7,7 @@ ghost use Rattle.sizes.specs.declared.TheConstants.{LAST_SPACE, MOST_FRAMES};
 ghost use Rattle.command_core.specs.State.{fresh, registry_of};
 ghost use Rattle.command_core.specs.Sessions.{KeepsFree, KeepsRest, OwnSpaces};
 ghost use Rattle.command_core.specs.Giving.{GivesChange};
-ghost use Rattle.command_core.specs.Forks.{fork_row};
+ghost use Rattle.command_core.specs.Copies.{fork_row};
 ghost use Rattle.command_core.specs.Overlays.{overlay_row};
 ghost use Rattle.command_core.specs.Checkpoints.{checkpoint_row, forget_row, on_checkpoint, restore_row};
 ghost use Rattle.command_core.specs.Changes.{CanBeTold, answer_of, change_row, drop_row, load_row, on_process};

@@ -1,3 +1,4 @@
 pub mod Sums
+pub mod Leaving
 pub mod Shares
 pub mod Runs

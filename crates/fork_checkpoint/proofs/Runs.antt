@@ -5,16 +5,17 @@ use Rattle.std.specs.FinMap.{get}
 use Rattle.page_table.specs.Table.{Pages}
 use Rattle.page_table.specs.declared.entry.PageEntry.{PageEntry}
 use Rattle.ledger.specs.Changes.{has_own}
+use Rattle.space_maps.specs.Laws.{page_of}
+use Rattle.space_maps.specs.Spaces.{holds_space, page_in, put_space, space_in}
 use Rattle.space_ledger.specs.Space.{IsLeast}
 use Rattle.sizes.specs.declared.TheConstants.{PAGE_END}
 use Rattle.space_ledger.specs.Calls.{IsNextOwn}
-use Rattle.overlay_pages.specs.State.{PageState, State, books, holds_space, page_in, put_space, space_in}
-use Rattle.overlay_pages.specs.StateLaws.{page_of}
+use Rattle.overlay_pages.specs.State.{PageState, State, books}
 use Rattle.overlay_pages.specs.Changes.{with_shared}
 use Rattle.overlay_pages.specs.Calls.{AreShared, AwaitBare, AwaitsLike, IsNextPage, NoneAwaitsBelow, entries_in}
 use Rattle.overlay_pages.specs.Calls.AreShared.{Still, Then}
 use Rattle.fork_checkpoint.specs.Parts.{high_part_past, high_part_some, high_part_there, low_part_past}
-use Rattle.fork_checkpoint.specs.Forked.{ArePagesLow, with_copy}
+use Rattle.fork_checkpoint.specs.Copied.{ArePagesLow, with_copy}
 use Rattle.fork_checkpoint.proofs.Shares.{HasStep, entry_at, entry_some, from_stays, part_space, partly, put_beside, share_step, shared_all, to_waits}
 use Rattle.overlay_memory.specs.PageLaws.{own_there}
 

@@ -9,23 +9,27 @@ use Rattle.number_maps.specs.Values.{remove_absent}
 use Rattle.number_maps.specs.Views.{get_viewed, viewed}
 use Rattle.page_table.specs.Table.{Pages}
 use Rattle.page_table.specs.declared.entry.PageEntry.{PageEntry}
+use Rattle.space_maps.specs.Books.{books_page, books_pages, books_put, books_put_shared, books_spaces}
+use Rattle.space_maps.specs.Laws.{beside_space, in_space, page_of, put_there, space_beside, space_put, space_there}
+use Rattle.space_maps.specs.Spaces.{bare_space, cut_space, holds_space, of_pages, page_in, put_awaiting, put_shared, put_space, space_in}
+use Rattle.space_ledger.specs.Calls.{NamesOnce}
 use Rattle.space_ledger.specs.Space.{IsLeast}
 use Rattle.ledger.specs.Ledger.{Holding, Ledger, Space, pages_of, without_page}
-use Rattle.ledger.specs.Events.{Copy, ledger_after}
+use Rattle.ledger.specs.Events.{Copy, Drop, ledger_after}
 use Rattle.ledger.specs.Units.{class, units}
 use Rattle.ledger.specs.CopyLaws.{class_sum, units_copied}
 use Rattle.ledger.specs.PlaceLaws.{page_is, pages_beside}
 use Rattle.ledger.specs.AloneLaws.{are, arent, without_absent}
 use Rattle.ledger.specs.UnitLaws.{units_new}
-use Rattle.overlay_pages.specs.State.{PageState, SpaceState, State, bare_space, base_of, base_page, books, cut_space, held_page, holds_space, memory_of, page_in, put_awaiting, put_shared, put_space, seen_page, space_in}
-use Rattle.overlay_pages.specs.StateLaws.{beside_space, in_space, ledger_page, ledger_shared, ledger_spaces, ledger_with, page_of, pages_in, put_there, space_beside, space_put, space_there}
+use Rattle.overlay_pages.specs.State.{PageState, SpaceState, State, base_of, base_page, books, held_page, memory_of, seen_page}
 use Rattle.overlay_pages.specs.Changes.{HasShareRoom, limit_of, shared_page, units_of, with_shared}
 use Rattle.overlay_pages.specs.Calls.{AwaitsLike, IsNextPage, entries_in}
 use Rattle.overlay_memory.specs.PageLaws.{has_page, some_is}
+use Rattle.overlay_memory.specs.Pieces.{emptied_space}
 use Rattle.overlay_memory.specs.Room.{FitsAfter, units_after}
 use Rattle.overlay_memory.specs.Walked.{walked_all, walked_one}
 use Rattle.fork_checkpoint.specs.Parts.{low_part, low_part_absent, low_part_all, low_part_at, low_part_more, low_part_none, high_part, high_part_all, high_part_less, high_part_none, high_part_some, high_part_there, sum_low_part, viewed_low_part}
-use Rattle.fork_checkpoint.specs.Forked.{ArePagesLow, HasForked, with_copy}
+use Rattle.fork_checkpoint.specs.Copied.{ArePagesLow, CanHave, HasCopied, with_copies, with_copy}
 use Rattle.fork_checkpoint.proofs.Sums.{units_part}
 
 -- The pages below one were shared, the others await.
@@ -119,8 +123,8 @@ part_fewer v from to end differs =
 partly_books : (v : State) (from to end : ℕ) → books (partly v from to end) ≡ insert (books v) to (low_part (pages_of (books v) from) end)
 unfolding partly
 partly_books v from to end =
-    ledger_with v to _
-    ∙ ap (insert (books v) to) (viewed_low_part (λ page y. held_page v.zero_frame y) (space_in v from).pages end ∙ ap (λ (m : Space). low_part m end) (sym (pages_in v from)))
+    books_put held_page v to _
+    ∙ ap (insert (books v) to) (viewed_low_part (λ page y. held_page v.zero_frame y) (space_in v from).pages end ∙ ap (λ (m : Space). low_part m end) (sym (books_pages held_page v from)))
 
 module _ (v : State) (from to : ℕ) (differs : from ≡ to → ⊥) where
   -- at first all await
@@ -236,8 +240,8 @@ module _ (v : State) (from to : ℕ) (differs : from ≡ to → ⊥) where
     absent : without_page (books now) to page ≡ books now
     unfolding partly
     absent =
-        without_absent (books now) to page (ledger_spaces now to ∙ to_there end)
-        (ledger_page now to page ∙ ap (option_map (held_page now.zero_frame)) (in_space v to (part_space v from to end) to page refl ∙ low_part_absent (space_in v from).pages end page next.0))
+        without_absent (books now) to page (books_spaces held_page now to ∙ to_there end)
+        (books_page held_page now to page ∙ ap (option_map (held_page now.zero_frame)) (in_space v to (part_space v from to end) to page refl ∙ low_part_absent (space_in v from).pages end page next.0))
 
     pub has_room : FitsAfter (Copy from to) v → HasShareRoom now from page
     has_room fits y at =
@@ -245,7 +249,7 @@ module _ (v : State) (from to : ℕ) (differs : from ≡ to → ⊥) where
         let is = ap units (partly_books v from to (page + 1)) in
         let frames = partly_frames end in
         let new = units_new (books now) to page (held_page now.zero_frame x) absent in
-        let put = ap units (sym (ledger_shared now to page x) ∙ ap books put_more) in
+        let put = ap units (sym (books_put_shared held_page now to page x) ∙ ap books put_more) in
         let same = ap (λ (z : PageState). class (length z.own)) (some_is y x (sym at ∙ at_now)) in
         omega (arith, le, is, fits, frames, new, put, same)
 
@@ -267,7 +271,7 @@ copy_over v from to x differs mark =
 pub copy_books : (v : State) (from to : ℕ) (x : SpaceState) → (from ≡ to → ⊥)
     → ledger_after (Copy from to) (books (put_space v to x)) ≡ ledger_after (Copy from to) (books v)
 copy_books v from to x differs =
-    ap (λ (l : Ledger). insert l to (pages_of l from)) (ledger_with v to x)
+    ap (λ (l : Ledger). insert l to (pages_of l from)) (books_put held_page v to x)
     ∙ insert_over (books v) to _ _
     ∙ ap (insert (books v) to) (pages_beside (books v) to _ from differs)
 
@@ -277,27 +281,32 @@ fits_too v from to x differs fits =
     let frames = (put_frames v to x).0 in
     omega (arith, same, frames, fits)
 
--- the units that the code finds are those after it
-pub needed_is : (v : State) (from to n : ℕ) → (from ≡ to → ⊥) → holds_space v to ≡ false
-    → n ≡ units_of v + class_sum (values (pages_of (books v) from)) → n ≡ units_after (Copy from to) v
-needed_is v from to n differs absent is =
-    let after = copy_units v from to differs in
-    let same = ap units (remove_absent (books v) to (none (get (books v) to) (ledger_spaces v to ∙ absent))) in
-    omega (arith, is, after, same)
+-- a space that is there isn't one that isn't
+pub two_spaces : (v : State) (from to : ℕ) → holds_space v from ≡ true → holds_space v to ≡ false → from ≡ to → ⊥
+two_spaces v from to there absent same = let no = sym there ∙ ap (holds_space v) same ∙ absent in cc
+
+-- The units that the code finds are those after it: of a fork, with those of now, and of a restore, with those without the space's
+-- own pages.
+pub needed_is : (v : State) (from to n kept : ℕ) → holds_space v from ≡ true → holds_space v to ≡ false → kept ≡ units_of v → n ≡ with_copies kept v from
+    → n ≡ units_after (Copy from to) v
+needed_is v from to n kept there absent kept_is is =
+    let after = copy_units v from to (two_spaces v from to there absent) in
+    let same = ap units (remove_absent (books v) to (none (get (books v) to) (books_spaces held_page v to ∙ absent))) in
+    omega (arith, is, kept_is, after, same)
   where
     none : (o : Option Space) → is_some o ≡ false → o ≡ None
     none None e = refl
     none (Some y) e = cc
 
-pub fits_before : (v : State) (from to n : ℕ) → (from ≡ to → ⊥) → holds_space v to ≡ false
-    → n ≡ units_of v + class_sum (values (pages_of (books v) from)) → n ≤ limit_of v → FitsAfter (Copy from to) v
-fits_before v from to n differs absent is le = let needed = needed_is v from to n differs absent is in omega (arith, needed, le)
+pub fits_before : (v : State) (from to n kept : ℕ) → holds_space v from ≡ true → holds_space v to ≡ false → kept ≡ units_of v → n ≡ with_copies kept v from
+    → n ≤ limit_of v → FitsAfter (Copy from to) v
+fits_before v from to n kept there absent kept_is is le = let needed = needed_is v from to n kept there absent kept_is is in omega (arith, needed, le)
 
--- a space that is there isn't one that isn't
-pub two_spaces : (v : State) (from to : ℕ) → holds_space v from ≡ true → holds_space v to ≡ false → from ≡ to → ⊥
-two_spaces v from to there absent same = let no = sym there ∙ ap (holds_space v) same ∙ absent in cc
+pub restored_units : (v : State) (from to n left : ℕ) → (from ≡ to → ⊥) → left ≡ units_after (Drop to) v → n ≡ with_copies left v from
+    → n ≡ units_after (Copy from to) v
+restored_units v from to n left differs left_is is = is ∙ ap (λ k. with_copies k v from) left_is ∙ sym (copy_units v from to differs)
 
--- what a fork makes
+-- what a copy makes
 abbrev made : State → ℕ → SpaceState
 made v from = record { pages = (space_in v from).pages; awaiting = empty; speculating = false }
 
@@ -311,12 +320,12 @@ whole v from to differs =
       speculating = ap (λ (y : SpaceState). y.speculating) (space_put v to bare_space to refl) i;
     })
 
-forked : (v : State) (from to : ℕ) → HasForked v (put_space v to (made v from)) from to
+has_made : (v : State) (from to : ℕ) → HasCopied v (put_space v to (made v from)) from to
 unfolding memory_of base_of
-forked v from to = record {
+has_made v from to = record {
   memory = ap (λ (x : SpaceState). viewed (λ _ (y : PageState). seen_page y) x.pages) here;
   base = ap (λ (x : SpaceState). viewed (λ _ (y : PageState). base_page y) x.pages) here;
-  ledger = ledger_with v to (made v from) ∙ ap (insert (books v) to) (sym (pages_in v from));
+  ledger = books_put held_page v to (made v from) ∙ ap (insert (books v) to) (sym (books_pages held_page v from));
   awaiting = ap (λ (x : SpaceState). x.awaiting) here;
   mark = ap (λ (x : SpaceState). x.speculating) here;
   others = λ q d. space_beside v to (made v from) q d;
@@ -328,8 +337,15 @@ forked v from to = record {
     here : space_in (put_space v to (made v from)) to ≡ made v from
     here = space_put v to (made v from) to refl
 
-pub has_forked : (v w : State) (from to : ℕ) → (from ≡ to → ⊥) → w ≡ with_copy (put_space v to bare_space) from to → HasForked v w from to
-has_forked v w from to differs is = subst (λ (u : State). HasForked v u from to) (sym (is ∙ whole v from to differs)) (forked v from to)
+pub has_forked : (v w : State) (from to : ℕ) → (from ≡ to → ⊥) → w ≡ with_copy (put_space v to bare_space) from to → HasCopied v w from to
+has_forked v w from to differs is = subst (λ (u : State). HasCopied v u from to) (sym (is ∙ whole v from to differs)) (has_made v from to)
+
+-- the same of a space that was there, without a mark
+pub has_restored : (v w : State) (from to : ℕ) → (space_in v to).speculating ≡ false → w ≡ with_copy v from to → HasCopied v w from to
+unfolding with_copy
+has_restored v w from to unmarked is =
+    subst (λ (u : State). HasCopied v u from to)
+    (sym (is ∙ ap (λ b. put_space v to (record { pages = (space_in v from).pages; awaiting = empty; speculating = b })) unmarked)) (has_made v from to)
 
 -- One step of the walk, in a state that is partly shared.
 pub record HasStep (v w : State) (from to end page : ℕ) : Type 0 where
@@ -384,6 +400,54 @@ put_beside v from to x differs = record {
     or_true true c e = refl
     or_true false c e = e
 
+-- A space without a page that can have those of another one: one that was just made, and one that lost its own.
+pub ready_made : (v u : State) (from to : ℕ) (table : Pages) → (from ≡ to → ⊥) → holds_space v from ≡ true → holds_space v to ≡ true → space_in v to ≡ bare_space
+    → ArePagesLow v from → FitsAfter (Copy from to) v → u ≡ v → table ≡ entries_in v from → NamesOnce v.zero_frame table → CanHave u from to table
+ready_made v u from to table differs here made is_bare are_low fit same is named = subst (λ (s : State). CanHave s from to table) (sym same) (record {
+  differ = differs;
+  there = here;
+  space = made;
+  bare = ap (λ (y : SpaceState). y.pages) is_bare;
+  settled = ap (λ (y : SpaceState). y.awaiting) is_bare;
+  entries = is;
+  once = named;
+  low = are_low;
+  fits = fit;
+})
+
+abbrev cleared : State → ℕ → SpaceState
+cleared v to = of_pages (space_in v to) empty
+
+cleared_is : (v u w : State) (to : ℕ) → u ≡ v → w ≡ emptied_space u to → w ≡ put_space v to (cleared v to)
+unfolding emptied_space
+cleared_is v u w to same is = is ∙ ap (λ (s : State). emptied_space s to) same
+
+pub ready_cleared : (v u w : State) (from to : ℕ) (table : Pages) → (from ≡ to → ⊥) → holds_space v from ≡ true → (space_in v to).awaiting ≡ empty
+    → ArePagesLow v from → FitsAfter (Copy from to) v → u ≡ v → w ≡ emptied_space u to → table ≡ entries_in v from → NamesOnce v.zero_frame table → CanHave w from to table
+ready_cleared v u w from to table differs here none_awaits are_low fit same gone is named =
+    subst (λ (s : State). CanHave s from to table) (sym (cleared_is v u w to same gone)) (record {
+      differ = differs;
+      there = beside.there here;
+      space = beside.space;
+      bare = ap (λ (y : SpaceState). y.pages) now;
+      settled = ap (λ (y : SpaceState). y.awaiting) now ∙ none_awaits;
+      entries = is ∙ sym beside.entries;
+      once = subst (λ z. NamesOnce z table) (sym (put_frames v to (cleared v to)).1) named;
+      low = beside.low are_low;
+      fits = beside.fits fit;
+    })
+  where
+    beside : IsBeside v (put_space v to (cleared v to)) from to
+    beside = put_beside v from to (cleared v to) differs
+
+    now : space_in (put_space v to (cleared v to)) to ≡ cleared v to
+    now = space_put v to (cleared v to) to refl
+
+-- what it has then
+pub refilled : (v u w new : State) (from to : ℕ) → (from ≡ to → ⊥) → u ≡ v → w ≡ emptied_space u to → new ≡ with_copy w from to → new ≡ with_copy v from to
+refilled v u w new from to differs same gone is =
+    is ∙ ap (λ (s : State). with_copy s from to) (cleared_is v u w to same gone) ∙ copy_over v from to (cleared v to) differs refl
+
 -- the table was adopted
 pub record HasAdopted (v w : State) (from to : ℕ) : Type 0 where
   pub beside : IsBeside v w from to
@@ -391,22 +455,21 @@ pub record HasAdopted (v w : State) (from to : ℕ) : Type 0 where
   pub awaits : (space_in w to).awaiting ≡ entries_in w from
   pub copy : with_copy w from to ≡ with_copy v from to
 
-pub has_adopted : (v u w : State) (from to : ℕ) (table : Pages) → (from ≡ to → ⊥) → u ≡ v → space_in v to ≡ bare_space → table ≡ entries_in v from
-    → w ≡ put_awaiting u to table → HasAdopted v w from to
+pub has_adopted : (v w : State) (from to : ℕ) (table : Pages) → CanHave v from to table → w ≡ put_awaiting v to table → HasAdopted v w from to
 unfolding put_awaiting
-has_adopted v u w from to table differs same bare is put =
-    subst (λ (s : State). HasAdopted v s from to) (sym (put ∙ ap (λ (s : State). put_awaiting s to table) same)) (record {
+has_adopted v w from to table can put =
+    subst (λ (s : State). HasAdopted v s from to) (sym put) (record {
       beside = beside;
-      empty_is = ap (λ (y : SpaceState). y.pages) (space_put v to x to refl) ∙ ap (λ (y : SpaceState). y.pages) bare;
-      awaits = ap (λ (y : SpaceState). y.awaiting) (space_put v to x to refl) ∙ is ∙ sym beside.entries;
-      copy = copy_over v from to x differs refl;
+      empty_is = ap (λ (y : SpaceState). y.pages) (space_put v to x to refl) ∙ can.bare;
+      awaits = ap (λ (y : SpaceState). y.awaiting) (space_put v to x to refl) ∙ can.entries ∙ sym beside.entries;
+      copy = copy_over v from to x can.differ refl;
     })
   where
     x : SpaceState
     x = record { pages = (space_in v to).pages; awaiting = table; speculating = (space_in v to).speculating }
 
     beside : IsBeside v (put_space v to x) from to
-    beside = put_beside v from to x differs
+    beside = put_beside v from to x can.differ
 
 -- the space was made
 pub record HasAdded (v w : State) (from to : ℕ) : Type 0 where

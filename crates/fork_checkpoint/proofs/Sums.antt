@@ -11,8 +11,9 @@ use Rattle.ledger.specs.CopyLaws.{class_sum, units_space}
 use Rattle.ledger.specs.PlaceLaws.{page_is, pages_kept}
 use Rattle.ledger.specs.AloneLaws.{any_page, are, not_true}
 use Rattle.ledger.specs.UnitLaws.{have, unused_in}
-use Rattle.overlay_pages.specs.State.{PageState, State, books, held_page, page_in}
-use Rattle.overlay_pages.specs.Changes.{limit_of, units_of}
+use Rattle.overlay_pages.specs.State.{PageState, State, books, held_page}
+use Rattle.overlay_pages.specs.Changes.{limit_of}
+use Rattle.space_maps.specs.Spaces.{page_in}
 use Rattle.space_ledger.specs.Calls.{IsNextOwn}
 use Rattle.ledger.specs.Changes.{has_own}
 use Rattle.std.specs.Option.{option_map_or}
@@ -21,7 +22,7 @@ use Rattle.overlay_memory.specs.PageLaws.{held_there, there_of}
 use Rattle.overlay_memory.specs.Room.{class_at}
 use Rattle.overlay_memory.specs.Walked.{one_further}
 use Rattle.fork_checkpoint.specs.Parts.{low_part, low_part_absent, low_part_all, low_part_more, low_part_none, low_part_past}
-use Rattle.fork_checkpoint.specs.Forked.{ArePagesLow}
+use Rattle.fork_checkpoint.specs.Copied.{ArePagesLow, with_copies}
 
 -- The units with copies of overlays.
 
@@ -48,7 +49,7 @@ abbrev pub pages_until : State → ℕ → ℕ → Space
 pages_until v space from = low_part (pages_of (books v) space) from
 
 -- they are there in the state too
-in_state : (v : State) (space r : ℕ) → is_some (get (pages_of (books v) space) r) ≡ true → is_some (page_in v space r) ≡ true
+pub in_state : (v : State) (space r : ℕ) → is_some (get (pages_of (books v) space) r) ≡ true → is_some (page_in v space r) ≡ true
 in_state v space r some = at (holding_at (books v) space r) refl (ap is_some (page_is (books v) space r) ∙ some)
   where
     at : (o : Option Holding) → holding_at (books v) space r ≡ o → is_some (holding_at (books v) space r) ≡ true → is_some (page_in v space r) ≡ true
@@ -105,27 +106,27 @@ module _ (v : State) (space : ℕ) where
       back = omega (arith, le)
 
 -- The units with copies of the overlays below a page.
-pub record IsSumming (v : State) (space units_kept from : ℕ) : Type 0 where
-  pub sum : units_kept ≡ units_of v + class_sum (values (pages_until v space from))
+pub record IsSumming (v : State) (space kept units_kept from : ℕ) : Type 0 where
+  pub sum : units_kept ≡ kept + class_sum (values (pages_until v space from))
   pub low : from ≤ PAGE_END
   pub few : units_kept ≤ limit_of v + FRAME_UNITS * from
 
-pub summing_none : (v : State) (space n : ℕ) → n ≡ units_of v → units_of v ≤ limit_of v → IsSumming v space n 0
+pub summing_none : (v : State) (space kept : ℕ) → kept ≤ limit_of v → IsSumming v space kept kept 0
 unfolding class_sum
-summing_none v space n is fits =
+summing_none v space kept fits =
     let none : class_sum (values (pages_until v space 0)) ≡ 0 = ap (λ (m : Space). class_sum (values m)) (low_part_none (pages_of (books v) space)) ∙ ap class_sum no_values in record {
-      sum = omega (arith, is, none);
+      sum = omega (arith, none);
       low = omega arith;
-      few = omega (arith, is, fits);
+      few = omega (arith, fits);
     }
 
-pub summing_few : (v : State) (space n from page : ℕ) → IsSumming v space n from → from ≤ page → n ≤ limit_of v + FRAME_UNITS * page
-summing_few v space n from page h le = let few = h.few in omega (arith, few, le)
+pub summing_few : (v : State) (space kept n from page : ℕ) → IsSumming v space kept n from → from ≤ page → n ≤ limit_of v + FRAME_UNITS * page
+summing_few v space kept n from page h le = let few = h.few in omega (arith, few, le)
 
-pub summing_more : (v : State) (space n from page m : ℕ) (x : PageState) → IsSumming v space n from → IsNextOwn (books v) space from (Some page) → page_in v space page ≡ Some x
-    → m ≡ n + class_at v space page → page < PAGE_END → IsSumming v space m (page + 1)
+pub summing_more : (v : State) (space kept n from page m : ℕ) (x : PageState) → IsSumming v space kept n from → IsNextOwn (books v) space from (Some page) → page_in v space page ≡ Some x
+    → m ≡ n + class_at v space page → page < PAGE_END → IsSumming v space kept m (page + 1)
 unfolding class_sum
-summing_more v space n from page m x h next there sum low =
+summing_more v space kept n from page m x h next there sum low =
     let held = held_page v.zero_frame x in
     let had = held_there v space page x there in
     let between = bare_between v space from page next.0 next.2 in
@@ -135,21 +136,21 @@ summing_more v space n from page m x h next there sum low =
     sum_new (λ (y : Holding). class (length y.own)) (pages_until v space page) page held (low_part_absent (pages_of (books v) space) page page (omega arith)) in
     let segment = class_there v space page held had in
     let most = class_most (length x.own) in
-    let kept = h.sum in
-    let few = summing_few v space n from page h next.0 in record {
-      sum = omega (arith, sum, more, one, segment, kept, between);
+    let so_far = h.sum in
+    let few = summing_few v space kept n from page h next.0 in record {
+      sum = omega (arith, sum, more, one, segment, so_far, between);
       low = omega arith;
       few = omega (arith, few, sum, segment, most);
     }
 
-pub summed_all : (v : State) (space n from : ℕ) → IsSumming v space n from → ArePagesLow v space → IsNextOwn (books v) space from None
-    → n ≡ units_of v + class_sum (values (pages_of (books v) space))
-summed_all v space n from h low none =
+pub summed_all : (v : State) (space kept n from : ℕ) → IsSumming v space kept n from → ArePagesLow v space → IsNextOwn (books v) space from None
+    → n ≡ with_copies kept v space
+summed_all v space kept n from h low none =
     let rest = bare_between v space from PAGE_END h.low (λ q le lt. none q le) in
     let all : class_sum (values (pages_until v space PAGE_END)) ≡ class_sum (values (pages_of (books v) space)) =
     ap (λ (m : Space). class_sum (values m)) (low_part_all (pages_of (books v) space) PAGE_END (λ r some. below r (low r (in_state v space r some)))) in
-    let kept = h.sum in
-    omega (arith, kept, rest, all)
+    let so_far = h.sum in
+    omega (arith, so_far, rest, all)
   where
     below : (r : ℕ) → r < PAGE_END → nat_lt r PAGE_END ≡ true
     below r lt = grind (arith, nat_tests)

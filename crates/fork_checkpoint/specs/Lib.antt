@@ -1,3 +1,3 @@
--- In reading order: what a fork makes, and how the calls come out; then laws: the pages below one.
-pub mod Forked
+-- In reading order: what a fork and a restore make, and how the calls come out; then laws: the pages below one.
+pub mod Copied
 pub mod Parts

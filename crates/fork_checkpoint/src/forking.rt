@@ -3,9 +3,9 @@
 ghost use Rattle.std.specs.Prelude.{◌≡◌, ◌<◌, ◌≤◌, true, false};
 ghost use Rattle.std.specs.FinMap as map;
 ghost use Rattle.sizes.specs.declared.TheConstants.{LAST_SPACE};
-ghost use Rattle.overlay_pages.specs.State.{holds_space, space_in};
 ghost use Rattle.overlay_pages.specs.View.{state_of};
-ghost use Rattle.fork_checkpoint.specs.Forked.{Forks};
+ghost use Rattle.space_maps.specs.Spaces.{holds_space, space_in};
+ghost use Rattle.fork_checkpoint.specs.Copied.{Copies};
 
 use crate::sharing::fill_space;
 use crate::units::units_copied;
@@ -22,9 +22,10 @@ pub fn fork_space(mem: &mut OverlayMemory, from: u16, to: u16) -> Result<(), Spa
     requires some { 0 < to }
     requires last { to ≤ LAST_SPACE }
     requires absent { holds_space (state_of mem.old) to ≡ false }
-    ensures { Forks mem.old mem.new from to result }
+    ensures { Copies mem.old mem.new from to result }
 {
-    let needed = units_copied(mem, from);
+    let units = mem.units();
+    let needed = units_copied(mem, from, units);
     if let Some(shortage) = mem.shortage(needed) {
         return Err(SpaceError::Full(shortage.needed, shortage.limit));
     }

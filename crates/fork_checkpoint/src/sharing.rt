@@ -1,14 +1,15 @@
-//! The pages of a space are shared with a new one.
+//! The pages of a space are shared with another one.
 
 ghost use Rattle.std.specs.Prelude.{◌≡◌, ◌≢◌, true};
 ghost use Rattle.std.specs.FinMap as map;
 ghost use Rattle.ledger.specs.Events.{Copy};
-ghost use Rattle.overlay_pages.specs.State.{bare_space, holds_space, space_in};
 ghost use Rattle.overlay_pages.specs.View.{state_of};
 ghost use Rattle.overlay_memory.specs.Room.{FitsAfter};
-ghost use Rattle.fork_checkpoint.specs.Forked.{ArePagesLow, AwaitsAll, FillsSpace, with_copy};
+ghost use Rattle.space_maps.specs.Spaces.{bare_space, holds_space, space_in};
+ghost use Rattle.fork_checkpoint.specs.Copied.{ArePagesLow, AwaitsAll, CanHave, FillsSpace, RefillsSpace, with_copy};
 
 use overlay_memory::OverlayMemory;
+use page_table::PageTable;
 use sizes::PAGE_END;
 use std::alloc::AllocError;
 
@@ -33,6 +34,15 @@ fn share_all(mem: &mut OverlayMemory, from: u16, to: u16)
     mem.share_bare(from, to, PAGE_END);
 }
 
+// A space without a page gets those of another one, whose entries the table has.
+fn share_table(mem: &mut OverlayMemory, from: u16, to: u16, table: PageTable)
+    requires ready { CanHave (state_of mem.old) from to table }
+    ensures { state_of mem.new ≡ with_copy (state_of mem.old) from to }
+{
+    mem.adopt_table(to, table);
+    share_all(mem, from, to);
+}
+
 /// Gives a space that was just made the pages of another one, of which none awaits. The units after it are there. After want of
 /// memory the new space is gone. Costs a step for each page, and a copy of each own line.
 pub(crate) fn fill_space(mem: &mut OverlayMemory, from: u16, to: u16) -> Result<(), AllocError>
@@ -47,13 +57,35 @@ pub(crate) fn fill_space(mem: &mut OverlayMemory, from: u16, to: u16) -> Result<
 {
     match mem.copy_table(from, to) {
         Ok(table) => {
-            mem.adopt_table(to, table);
-            share_all(mem, from, to);
+            share_table(mem, from, to, table);
             Ok(())
         }
         Err(_) => {
             mem.drop_space(to);
             Err(AllocError)
         }
+    }
+}
+
+/// Gives a space the pages of another one in the place of its own; no page of either awaits. The units after it are there. The table
+/// is all the memory that it takes, so it is copied first: after want of memory everything is as before. Costs a step for each page
+/// of both, and a copy of each own line.
+pub(crate) fn refill_space(mem: &mut OverlayMemory, from: u16, to: u16) -> Result<(), AllocError>
+    requires differ { from ≢ to }
+    requires from_there { holds_space (state_of mem.old) from ≡ true }
+    requires from_settled { (space_in (state_of mem.old) from).awaiting ≡ map.empty }
+    requires there { holds_space (state_of mem.old) to ≡ true }
+    requires settled { (space_in (state_of mem.old) to).awaiting ≡ map.empty }
+    requires low { ArePagesLow (state_of mem.old) from }
+    requires fits { FitsAfter (Copy from to) (state_of mem.old) }
+    ensures { RefillsSpace (state_of mem.old) (state_of mem.new) from to result }
+{
+    match mem.copy_table(from, to) {
+        Ok(table) => {
+            mem.clear_space(to);
+            share_table(mem, from, to, table);
+            Ok(())
+        }
+        Err(_) => Err(AllocError),
     }
 }

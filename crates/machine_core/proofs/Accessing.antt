@@ -17,7 +17,8 @@ use Rattle.rv_execute.specs.declared.outcome.Outcome.{Outcome}
 use Rattle.rv_execute.specs.declared.outcome.Outcome.TheVariants as outcome
 use Rattle.overlay_memory.specs.Access.{stored_books}
 use Rattle.overlay_pages.specs.Changes.{limit_of}
-use Rattle.overlay_pages.specs.State.{State, base_of, books, memory_of, space_in}
+use Rattle.overlay_pages.specs.State.{State, base_of, books, memory_of}
+use Rattle.space_maps.specs.Spaces.{space_in}
 use Rattle.machine_core.specs.declared.process.Process as declared
 use Rattle.machine_core.specs.declared.process.SavedRegs.{SavedRegs}
 use Rattle.machine_core.specs.declared.view.View.{View}
@@ -25,7 +26,7 @@ use Rattle.machine_core.specs.Process.{Whole, is_speculating}
 use Rattle.machine_core.specs.Machine.{kept_in, kept_whole, none_saved}
 use Rattle.machine_core.specs.Access.{IsSameLoan, IsStoredBy, IsUnchanged, Leaves, spaces_lent}
 use Rattle.machine_core.specs.Turns.{Guest, executed, execution_of, exceeds, guest_executed, is_full, ledger_executed, ledger_stored, outcome_of, state_executed, store_made, store_of, units_needed}
-use Rattle.machine_core.specs.Slots.{IsBeside, guest_in, guest_lent}
+use Rattle.machine_core.specs.Kept.{IsBeside, guest_in, guest_lent}
 
 -- What the calls of one instruction make of the memory of all spaces.
 

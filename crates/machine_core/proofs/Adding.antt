@@ -21,8 +21,10 @@ use Rattle.ledger.specs.Origins.{new_origin}
 use Rattle.ledger.specs.RowLaws.{loaded_new, loaded_zero}
 use Rattle.overlay_pages.specs.Changes.{IsPlaced, whole_page, with_zeros}
 use Rattle.overlay_pages.specs.Lines.{lines_of_bytes, zero_page}
-use Rattle.overlay_pages.specs.State.{PageState, SpaceState, State, books, holds_space, memory_of, of_pages, page_in, put_page, put_space, seen_page, space_in}
-use Rattle.overlay_pages.specs.StateLaws.{ledger_put, page_of, space_put}
+use Rattle.overlay_pages.specs.State.{PageState, SpaceState, State, books, held_page, memory_of, seen_page}
+use Rattle.space_maps.specs.Books.{books_put_page}
+use Rattle.space_maps.specs.Laws.{page_of, space_put}
+use Rattle.space_maps.specs.Spaces.{holds_space, of_pages, page_in, put_page, put_pages, put_space, space_in}
 use Rattle.machine_core.specs.Loading.{HasAdded, IsAdded, IsOpen, is_among, one_loaded, zero_content}
 use Rattle.machine_core.proofs.PageLines.{lines_joined, page_length_is, zero_bytes_are}
 
@@ -38,7 +40,7 @@ placed_added old new p page perms bytes whole placed =
     let other = arent placed.frame old.zero_frame placed.fresh.other in
     let origin : cond (nat_eq placed.frame old.zero_frame) 0 (placed.frame + 1) ≡ placed.frame + 1 = ap (λ b. cond b 0 (placed.frame + 1)) other in
     let now : books new ≡ with_page (books old) p page (without_own (placed.frame + 1)) =
-    ap books placed.placed ∙ ledger_put old p page x ∙ ap (λ n. with_page (books old) p page (without_own n)) origin in
+    ap books placed.placed ∙ books_put_page held_page old p page x ∙ ap (λ n. with_page (books old) p page (without_own n)) origin in
     record {
       x = x;
       put = placed.placed;
@@ -51,13 +53,13 @@ placed_added old new p page perms bytes whole placed =
 -- one on the zero frame
 pub zero_added : (old new : State) (p page : ℕ) (perms : Perms) → new ≡ with_zeros old p page 1 (record { perms = perms; frame = old.zero_frame })
     → IsAdded old new p page (zero_content perms.0) false
-unfolding with_zeros
+unfolding with_zeros put_pages
 zero_added old new p page perms is =
     let entry : PageEntry = record { perms = perms; frame = old.zero_frame } in
     let x : PageState = whole_page entry zero_page in
     let origin : cond (nat_eq old.zero_frame old.zero_frame) 0 (old.zero_frame + 1) ≡ 0 = ap (λ b. cond b 0 (old.zero_frame + 1)) (are old.zero_frame old.zero_frame refl) in
     let now : books new ≡ with_page (books old) p page (without_own 0) =
-    ap books is ∙ ledger_put old p page x ∙ ap (λ n. with_page (books old) p page (without_own n)) origin in
+    ap books is ∙ books_put_page held_page old p page x ∙ ap (λ n. with_page (books old) p page (without_own n)) origin in
     record {
       x = x;
       put = is;

@@ -16,18 +16,16 @@ use Rattle.ledger.specs.AlikeLaws.{alike_itself}
 use Rattle.ledger.specs.AlikeUnits.{units_alike}
 use Rattle.ledger.specs.Ledger.{holding_at}
 use Rattle.overlay_pages.specs.Changes.{limit_of, units_of}
-use Rattle.overlay_pages.specs.State.{PageState, SpaceState, State, bare_space, books, held_page, holds_space, memory_of, page_in, seen_page, space_in}
-use Rattle.overlay_pages.specs.StateLaws.{ledger_page, ledger_spaces, page_of}
+use Rattle.overlay_pages.specs.State.{PageState, SpaceState, State, books, held_page, memory_of, seen_page}
+use Rattle.space_maps.specs.Books.{books_page, books_spaces}
+use Rattle.space_maps.specs.Laws.{page_of}
+use Rattle.space_maps.specs.Spaces.{bare_space, holds_space, page_in, space_in}
 use Rattle.machine_core.specs.Load.{stack_page, stored_pages}
 use Rattle.machine_core.specs.Loading.{HasAdded, HasImage, IsAdded, IsReady, is_among, zero_content}
 use Rattle.machine_core.proofs.Adding.{added_more}
 use Rattle.machine_core.proofs.Marks.{units_so_far}
 
 -- What is known of the pages of a file that is taken.
-
-page_numbers_is : page_numbers ≡ 67108864
-unfolding page_numbers
-page_numbers_is = refl
 
 -- an image has at most 65,536 pages
 pub few_items : (file : List ℕ) (items : List ImagePage) → file_refusal file ≡ None → items ≡ map (listed_page file) (image_pages file) → length items ≤ 65536
@@ -103,7 +101,7 @@ module _ (s : State) (p : ℕ) (bare : space_in s p ≡ bare_space) where
   bare_count = ap (λ (x : SpaceState). len x.pages) bare ∙ len-empty nat_cmp PageState
 
   pub bare_holding : (q : ℕ) → holding_at (books s) p q ≡ None
-  bare_holding q = ledger_page s p q ∙ ap (option_map (held_page s.zero_frame)) (bare_page q)
+  bare_holding q = books_page held_page s p q ∙ ap (option_map (held_page s.zero_frame)) (bare_page q)
 
 -- a page that the memory lacks isn't there, and the other way round
 pub seen_at : (s : State) (p q : ℕ) → get (memory_of s p) q ≡ option_map seen_page (page_in s p q)
@@ -141,7 +139,7 @@ module _ (file : List ℕ) (p : ℕ) (before now : State) (i : ℕ) (taken : fil
   pub next_fits : units_of before + 16 * stored_pages file ≤ limit_of before → is_stored file (get_or (image_pages file) i 0) ≡ true
       → units_of now + 16 ≤ limit_of now
   next_fits fits stored =
-      let so = units_so_far p file (books before) i (ledger_spaces before p ∙ there) (bare_holding before p bare) below stored in
+      let so = units_so_far p file (books before) i (books_spaces held_page before p ∙ there) (bare_holding before p bare) below stored in
       let same = units_alike _ _ (so_far.ledger (books before) (alike_itself (books before))) in
       let limit = ap (λ n. 16 * n) so_far.rest.frames in
       omega (arith, so, same, limit, fits)

@@ -1,7 +1,5 @@
-pub mod Keys
-pub mod Results
 pub mod Rising
-pub mod Room
+pub mod Listed
 pub mod Accessing
 pub mod Stepping
 pub mod Machines

@@ -17,7 +17,8 @@ use Rattle.overlay_pages.specs.Changes.{limit_of, units_of}
 use Rattle.overlay_memory.specs.Room.{IsShort}
 use Rattle.overlay_memory.specs.declared.error.Shortage.{Shortage}
 use Rattle.overlay_memory.specs.declared.error.SpaceError.TheVariants.{Full}
-use Rattle.overlay_pages.specs.State.{SpaceState, State, bare_space, base_of, books, cut_space, holds_space, space_in}
+use Rattle.overlay_pages.specs.State.{SpaceState, State, base_of, books}
+use Rattle.space_maps.specs.Spaces.{bare_space, cut_space, holds_space, space_in}
 use Rattle.machine_core.specs.declared.process.Process as declared
 use Rattle.machine_core.specs.Machine.{Machine, has_space, kept_whole, none_saved, processes_of, shown_process, spaces_of, whole_in, wholes}
 use Rattle.machine_core.specs.Laws.{processes_at, whole_by}

@@ -3,226 +3,130 @@ use Rattle.std.specs.Prelude.{nat_le, slice_get}
 use Rattle.std.specs.Option.{is_some, option_map, option_map_or, unwrap_or, MatchOption}
 use Rattle.std.specs.Global.{Vec}
 use Rattle.std.specs.List.{All, filter}
-use Rattle.std.specs.FinMap.{FinMap, get, insert, remove, entries, get-entries, empty, get-empty}
-use Rattle.std.specs.Ordering.{nat_cmp}
+use Rattle.std.specs.FinMap.{get, insert, entries, get-entries}
 use Rattle.std.proofs.lemmas.Bool.{cases_lt, cases_order}
 use Rattle.std.proofs.lemmas.Bool.Decides.{nat_tests}
-use Rattle.number_maps.specs.Keys.{alike, by_key, get_other, get_same, removed_other, removed_same}
-use Rattle.number_maps.specs.Slots.{get_slotted}
-use Rattle.overlay_pages.specs.State.{SpaceState, State, base_of, books, space_in}
+use Rattle.space_maps.specs.Spaces.{space_in}
+use Rattle.by_number.specs.Values.{IsNextNumber}
+use Rattle.number_maps.specs.Keys.{alike, by_key, get_other, get_same}
+use Rattle.overlay_pages.specs.State.{SpaceState, State, base_of}
+use Rattle.ovl_io.specs.declared.process_state.ProcessState.TheVariants.{Running}
 use Rattle.overlay_pages.specs.View.{MemoryView, state_of}
 use Rattle.machine_core.specs.Process.{Process, runs}
 use Rattle.machine_core.specs.declared.process.Process as declared
 use Rattle.machine_core.specs.declared.process.SavedRegs.{SavedRegs}
-use Rattle.machine_core.specs.Machine.{AreLike, KeepsPlaces, Machine, Processes, StaysBut, Wholes, has_saved, is_marked, is_running, kept_whole, keys_from, none_saved, processes_of, registers_at, registers_of, registers_shown, running_numbers, saved_of, shown_at, shown_process, whole_in, wholes, with_process_at, without_process_at}
+use Rattle.machine_core.specs.Machine.{AreLike, Machine, Processes, Wholes, has_saved, is_marked, is_running, kept_whole, keys_from, none_saved, processes_of, registers_at, registers_of, registers_shown, running_numbers, saved_of, shown_at, shown_process, spaces_of, whole_in, wholes}
 use Rattle.machine_core.specs.Turns.{Guest, guest_at, guest_of, with_guest}
-use Rattle.machine_core.specs.Laws.{processes_at, whole_by}
-use Rattle.machine_core.specs.Slots.{IsChanged, IsEdited, IsNextProcess, IsRunningList, Slots, guest_in, is_in, seen, slot_at, slot_guest, slot_process, slot_runs}
+use Rattle.machine_core.specs.Laws.{processes_at, runs_shown, whole_by}
+use Rattle.machine_core.specs.Kept.{IsBeside, IsChanged, IsRunningList, guest_in, is_in, machine_of}
 use Rattle.machine_core.specs.NumberLaws.{Rises, entries_rise, in_passing, none_below, numbers_are, numbers_rise, rises_passing}
 use Rattle.machine_core.specs.NumberLaws as numbers
+use Rattle.machine_core.proofs.Stepping.{of_running}
+use Rattle.machine_core.proofs.Listed.{runs_found}
 use Rattle.machine_core.proofs.Rising.{rises, found_in, same_rising}
 
--- What a machine's slots and its memory say of it.
+-- What a machine says of its processes.
 
-pub process_at : (slots : Slots) (q : ℕ) → get (seen slots) q ≡ slot_process (slot_at slots q)
-unfolding seen
-process_at slots q = get_slotted (λ k slot. slot_process slot) None (λ k. refl) slots q
+-- a process that is there, in its place
+pub guest_is : (machine : Machine) (p : ℕ) (process : declared.Process) → get machine.processes p ≡ Some process
+    → guest_at (wholes machine) p ≡ Some (guest_in p (spaces_of machine) process)
+guest_is machine p process there =
+    ap (option_map (guest_of (wholes machine))) (processes_at machine p ∙ ap (option_map (whole_in (spaces_of machine) p)) there)
 
-pub none_seen : (slots : Slots) → slots ≡ [] → seen slots ≡ empty
-none_seen slots none =
-    alike _ _ (λ q. process_at slots q ∙ ap (λ (s : Slots). slot_process (slot_at s q)) none ∙ sym (get-empty nat_cmp q))
+-- one that runs is there, and in the state of running
+pub none_runs : (machine : Machine) (p : ℕ) → get machine.processes p ≡ None → is_running (wholes machine) p ≡ true → ⊥
+none_runs machine p none run = let no : true ≡ false = sym run ∙ runs_shown machine p ∙ ap runs_found none in cc
 
-abbrev pub kept : MemoryView → Slots → Machine
-kept memory slots = record { memory = memory; processes = seen slots }
+pub state_is : (machine : Machine) (p : ℕ) (process : declared.Process) → get machine.processes p ≡ Some process → is_running (wholes machine) p ≡ true → process.state ≡ Running
+state_is machine p process there run =
+    of_running process.state (sym (runs_shown machine p ∙ ap runs_found there) ∙ run)
 
-abbrev kept_with : MemoryView → FinMap nat_cmp declared.Process → Machine
-kept_with memory processes = record { memory = memory; processes = processes }
+module _ (machine : Machine) (p : ℕ) where
+  abbrev spaces : State
+  spaces = spaces_of machine
 
-whole_seen : (memory : MemoryView) (slots : Slots) (q : ℕ) → get (processes_of (kept memory slots)) q ≡ option_map (whole_in (state_of memory) q) (slot_process (slot_at slots q))
-whole_seen memory slots q =
-    processes_at (kept memory slots) q ∙ ap (option_map (whole_in (state_of memory) q)) (process_at slots q)
-
-module _ (self : Machine) (memory : MemoryView) (old : Slots) (view : kept memory old ≡ self) (p : ℕ) where
-  pub has_process : get self.processes p ≡ slot_process (slot_at old p)
-  has_process = ap (λ (m : Machine). get m.processes p) (sym view) ∙ process_at old p
-
-  guest_seen : (o : Option declared.Process) → option_map (guest_of (wholes (kept memory old))) (option_map (whole_in (state_of memory) p) o) ≡ option_map (guest_in p (state_of memory)) o
-  guest_seen None = refl
-  guest_seen (Some process) = refl
-
-  pub has_guest : guest_at (wholes self) p ≡ slot_guest p (state_of memory) (slot_at old p)
-  has_guest =
-      ap (λ (m : Machine). guest_at (wholes m) p) (sym view)
-      ∙ ap (option_map (guest_of (wholes (kept memory old)))) (whole_seen memory old p)
-      ∙ guest_seen (slot_process (slot_at old p))
-
-  runs_seen : (o : Option declared.Process) → option_map_or (λ (process : Process). runs process.state) (option_map (whole_in (state_of memory) p) o) false
-      ≡ option_map_or (λ (process : declared.Process). runs process.state) o false
-  runs_seen None = refl
-  runs_seen (Some process) = refl
-
-  pub has_running : is_running (wholes self) p ≡ slot_runs (slot_at old p)
-  has_running =
-      ap (λ (m : Machine). is_running (wholes m) p) (sym view)
-      ∙ ap (λ (o : Option Process). option_map_or (λ (process : Process). runs process.state) o false) (whole_seen memory old p)
-      ∙ runs_seen (slot_process (slot_at old p))
-
-  registers_seen : (o : Option declared.Process)
-      → registers_shown o ≡ option_map registers_of (option_map (whole_in (state_of memory) p) o)
+  registers_seen : (o : Option declared.Process) → registers_shown o ≡ option_map registers_of (option_map (whole_in spaces p) o)
   registers_seen None = refl
   registers_seen (Some process) = refl
 
-  pub registers_are : registers_shown (slot_process (slot_at old p)) ≡ registers_at (wholes self) p
-  registers_are =
-      registers_seen (slot_process (slot_at old p))
-      ∙ sym (ap (option_map registers_of) (whole_seen memory old p))
-      ∙ ap (λ (m : Machine). registers_at (wholes m) p) view
+  pub registers_are : registers_shown (get machine.processes p) ≡ registers_at (wholes machine) p
+  registers_are = registers_seen (get machine.processes p) ∙ sym (ap (option_map registers_of) (processes_at machine p))
 
   -- what is saved, where that agrees with the mark
   saved_seen : (mark : Bool) (saved : Option SavedRegs) → mark ≡ is_some saved
-      → saved ≡ option_map saved_of (cond mark (Some (kept_whole (base_of (state_of memory) p) (unwrap_or saved none_saved))) None)
+      → saved ≡ option_map saved_of (cond mark (Some (kept_whole (base_of spaces p) (unwrap_or saved none_saved))) None)
   saved_seen true (Some saved) agree = refl
   saved_seen false None agree = refl
   saved_seen true None agree = cc
   saved_seen false (Some saved) agree = cc
 
-  shown_seen : (o : Option declared.Process) → (space_in (state_of memory) p).speculating ≡ option_map_or (λ (process : declared.Process). is_some process.saved) o false
-      → o ≡ option_map shown_process (option_map (whole_in (state_of memory) p) o)
+  shown_seen : (o : Option declared.Process) → is_marked machine p ≡ option_map_or (λ (process : declared.Process). is_some process.saved) o false
+      → o ≡ option_map shown_process (option_map (whole_in spaces p) o)
   shown_seen None agree = refl
   shown_seen (Some process) agree =
-      let saved = saved_seen (space_in (state_of memory) p).speculating process.saved agree in
+      let saved = saved_seen (is_marked machine p) process.saved agree in
       ap (λ (s : Option SavedRegs). Some (record { regs = process.regs; state = process.state; saved = s })) saved
 
-  agreed : is_marked self p ≡ has_saved self p
-      → (space_in (state_of memory) p).speculating ≡ option_map_or (λ (process : declared.Process). is_some process.saved) (slot_process (slot_at old p)) false
-  agreed agree =
-      ap (λ (m : Machine). is_marked m p) view ∙ agree
-      ∙ ap (λ (o : Option declared.Process). option_map_or (λ (process : declared.Process). is_some process.saved) o false) has_process
+  pub is_shown : is_marked machine p ≡ has_saved machine p → get machine.processes p ≡ shown_at (wholes machine) p
+  is_shown agree = shown_seen (get machine.processes p) agree ∙ sym (ap (option_map shown_process) (processes_at machine p))
 
-  pub is_shown : is_marked self p ≡ has_saved self p → slot_process (slot_at old p) ≡ shown_at (wholes self) p
-  is_shown agree =
-      shown_seen (slot_process (slot_at old p)) (agreed agree) ∙ sym (ap (option_map shown_process) (whole_seen memory old p))
-      ∙ ap (λ (m : Machine). shown_at (wholes m) p) view
+-- spaces that stay are beside
+pub same_beside : (p : ℕ) (old new : State) → new ≡ old → IsBeside p old new
+same_beside p old new same = subst (λ s. IsBeside p s new) same (record { spaces = λ q other. refl; there = λ q. refl; awaiting = refl; mark = refl })
 
-  -- a process was changed with its space
-  module _ (f : Guest → Guest) (after : MemoryView) (new : Slots) (changed : IsChanged f p old new (state_of memory) (state_of after)) where
-    abbrev x : State
-    x = state_of memory
+-- A process was changed with its space, but for what is saved of it.
+module _ (f : Guest → Guest) (p : ℕ) (old : Machine) (memory : MemoryView) (process next : declared.Process) (there : get old.processes p ≡ Some process)
+    (done : guest_in p (state_of memory) next ≡ f (guest_in p (spaces_of old) process))
+    (saved : next.saved ≡ process.saved) (beside : IsBeside p (spaces_of old) (state_of memory)) where
+  abbrev new : Machine
+  new = machine_of memory (insert old.processes p next)
 
-    abbrev y : State
-    y = state_of after
+  here : get new.processes p ≡ Some next
+  here = get_same old.processes p p next refl
 
-    -- by what the slot has now
-    record IsLeft (guest : Guest) : Type 0 where
-      process : option_map (whole_in y p) (slot_process (slot_at new p)) ≡ Some guest.process
-      ledger : books y ≡ guest.ledger
-      frames : y.frames ≡ guest.frames
+  elsewhere : (q : ℕ) → (q ≡ p → ⊥) → get new.processes q ≡ get old.processes q
+  elsewhere q other = get_other old.processes p q next other
 
-    left_by : (o : Option declared.Process) → slot_process (slot_at new p) ≡ o → (guest : Guest) → option_map (guest_in p y) o ≡ Some guest → IsLeft guest
-    left_by None is guest here = cc
-    left_by (Some process) is guest here =
-        record {
-          process = ap (option_map (whole_in y p)) is ∙ ap (option_map (λ (g : Guest). g.process)) here;
-          ledger = ap (λ (o : Option Guest). option_map_or (λ g. g.ledger) o (books y)) here;
-          frames = ap (λ (o : Option Guest). option_map_or (λ g. g.frames) o y.frames) here;
-        }
+  others_seen : (q : ℕ) → (q ≡ p → ⊥) → (o : Option declared.Process) → option_map (whole_in (spaces_of new) q) o ≡ option_map (whole_in (spaces_of old) q) o
+  others_seen q other None = refl
+  others_seen q other (Some process) = ap Some (whole_by (spaces_of new) (spaces_of old) q (beside.spaces q other) process)
 
-    others_seen : (q : ℕ) → (q ≡ p → ⊥) → get (processes_of (kept after new)) q ≡ get (processes_of (kept memory old)) q
-    others_seen q other =
-        whole_seen after new q ∙ ap (λ s. option_map (whole_in y q) (slot_process s)) (changed.others q other)
-        ∙ by_process (slot_process (slot_at old q)) ∙ sym (whole_seen memory old q)
-      where
-        by_process : (o : Option declared.Process) → option_map (whole_in y q) o ≡ option_map (whole_in x q) o
-        by_process None = refl
-        by_process (Some process) = ap Some (whole_by y x q (changed.beside.spaces q other) process)
+  abbrev guest : Guest
+  guest = f (guest_in p (spaces_of old) process)
 
-    changed_there : (o : Option declared.Process) → slot_process (slot_at old p) ≡ o → option_map_or (λ (process : declared.Process). runs process.state) o false ≡ true
-        → wholes (kept after new) ≡ option_map_or (λ g. with_guest (wholes (kept memory old)) p (f g)) (option_map (guest_in p x) o) (wholes (kept memory old))
-    changed_there None is run = cc
-    changed_there (Some process) is run =
-        let guest : Guest = f (guest_in p x process) in
-        let left = left_by (slot_process (slot_at new p)) refl guest (changed.here ∙ ap (λ o. option_map f (option_map (guest_in p x) o)) is) in
-        let processes : processes_of (kept after new) ≡ insert (processes_of (kept memory old)) p guest.process =
-        alike _ _ (λ q. by_key q p
-        (λ same. ap (get (processes_of (kept after new))) same ∙ whole_seen after new p ∙ left.process ∙ sym (get_same (processes_of (kept memory old)) p q guest.process same))
-        (λ other. others_seen q other ∙ sym (get_other (processes_of (kept memory old)) p q guest.process other))) in
-        λ i. record { processes = processes i; ledger = left.ledger i; frames = left.frames i }
+  processes_put : processes_of new ≡ insert (processes_of old) p guest.process
+  processes_put = alike _ _ (λ q. processes_at new q ∙ by_key q p
+      (λ same. ap (λ n. option_map (whole_in (spaces_of new) n) (get new.processes n)) same ∙ ap (option_map (whole_in (spaces_of new) p)) here
+      ∙ ap (λ (g : Guest). Some g.process) done ∙ sym (get_same (processes_of old) p q guest.process same))
+      (λ other. ap (option_map (whole_in (spaces_of new) q)) (elsewhere q other) ∙ others_seen q other (get old.processes q)
+      ∙ sym (processes_at old q) ∙ sym (get_other (processes_of old) p q guest.process other)))
 
-    pub after_change : slot_runs (slot_at old p) ≡ true
-        → wholes (kept after new) ≡ option_map_or (λ g. with_guest (wholes self) p (f g)) (guest_at (wholes self) p) (wholes self)
-    after_change run =
-        changed_there (slot_process (slot_at old p)) refl run
-        ∙ ap (λ o. option_map_or (λ g. with_guest (wholes (kept memory old)) p (f g)) o (wholes (kept memory old))) (sym has_guest)
-        ∙ ap (λ (m : Machine). option_map_or (λ g. with_guest (wholes m) p (f g)) (guest_at (wholes self) p) (wholes m)) view
+  wholes_put : wholes new ≡ with_guest (wholes old) p guest
+  wholes_put = λ i. record { processes = processes_put i; ledger = (done i).ledger; frames = (done i).frames }
 
-    pub stays : StaysBut p self (kept after new)
-    stays = subst (λ (m : Machine). StaysBut p m (kept after new)) view (record {
-      spaces = changed.beside.spaces;
-      there = λ q other. changed.beside.there q;
-      processes = λ q other. process_at new q ∙ ap slot_process (changed.others q other) ∙ sym (process_at old q);
-    })
-
-    some_mapped : {X Y : Type 0} (g : X → Y) (o : Option X) → is_some o ≡ is_some (option_map g o)
-    some_mapped g None = refl
-    some_mapped g (Some z) = refl
-
-    -- whether registers and state are saved, by what is saved
-    saves_seen : (o : Option declared.Process) → option_map_or (λ (process : declared.Process). is_some process.saved) o false
-        ≡ option_map_or (λ (saved : Option SavedRegs). is_some saved) (option_map (λ (process : declared.Process). process.saved) o) false
-    saves_seen None = refl
-    saves_seen (Some process) = refl
-
-    saved_here : option_map_or (λ (process : declared.Process). is_some process.saved) (slot_process (slot_at new p)) false
-        ≡ option_map_or (λ (process : declared.Process). is_some process.saved) (slot_process (slot_at old p)) false
-    saved_here =
-        saves_seen (slot_process (slot_at new p))
-        ∙ ap (λ (o : Option (Option SavedRegs)). option_map_or (λ (saved : Option SavedRegs). is_some saved) o false) changed.saved
-        ∙ sym (saves_seen (slot_process (slot_at old p)))
-
-    pub places : KeepsPlaces self (kept after new)
-    places = subst (λ (m : Machine). KeepsPlaces m (kept after new)) view (record {
-      spaces = changed.beside.there;
+  pub changed : IsChanged p old new (option_map_or (λ g. with_guest (wholes old) p (f g)) (guest_at (wholes old) p) (wholes old))
+  changed = record {
+    after = wholes_put ∙ sym (ap (λ (o : Option Guest). option_map_or (λ g. with_guest (wholes old) p (f g)) o (wholes old)) (guest_is old p process there));
+    others = record { spaces = beside.spaces; there = λ q other. beside.there q; processes = elsewhere };
+    places = record {
+      spaces = beside.there;
       awaiting = λ q. by_key q p
-          (λ same. ap (λ n. (space_in y n).awaiting) same ∙ changed.beside.awaiting ∙ sym (ap (λ n. (space_in x n).awaiting) same))
-          (λ other. ap (λ (s : SpaceState). s.awaiting) (changed.beside.spaces q other));
-      processes = λ q. ap is_some (process_at new q) ∙ by_key q p
-          (λ same. ap (λ n. is_some (slot_process (slot_at new n))) same ∙ some_mapped (guest_in p y) (slot_process (slot_at new p)) ∙ ap is_some changed.here
-          ∙ sym (some_mapped f (slot_guest p x (slot_at old p))) ∙ sym (some_mapped (guest_in p x) (slot_process (slot_at old p))) ∙ sym (ap (λ n. is_some (slot_process (slot_at old n))) same))
-          (λ other. ap (λ s. is_some (slot_process s)) (changed.others q other))
-          ∙ sym (ap is_some (process_at old q));
+          (λ same. subst (λ n. (space_in (spaces_of new) n).awaiting ≡ (space_in (spaces_of old) n).awaiting) (sym same) beside.awaiting)
+          (λ other. ap (λ (s : SpaceState). s.awaiting) (beside.spaces q other));
+      processes = λ q. by_key q p
+          (λ same. subst (λ n. is_some (get new.processes n) ≡ is_some (get old.processes n)) (sym same) (ap is_some here ∙ sym (ap is_some there)))
+          (λ other. ap is_some (elsewhere q other));
       marks = λ q. by_key q p
-          (λ same. ap (λ n. (space_in y n).speculating) same ∙ changed.beside.mark ∙ sym (ap (λ n. (space_in x n).speculating) same))
-          (λ other. ap (λ (s : SpaceState). s.speculating) (changed.beside.spaces q other));
-      saves = λ q. ap (λ (o : Option declared.Process). option_map_or (λ (process : declared.Process). is_some process.saved) o false) (process_at new q) ∙ by_key q p
-          (λ same. ap (λ n. option_map_or (λ (process : declared.Process). is_some process.saved) (slot_process (slot_at new n)) false) same ∙ saved_here
-          ∙ sym (ap (λ n. option_map_or (λ (process : declared.Process). is_some process.saved) (slot_process (slot_at old n)) false) same))
-          (λ other. ap (λ s. option_map_or (λ (process : declared.Process). is_some process.saved) (slot_process s) false) (changed.others q other))
-          ∙ sym (ap (λ (o : Option declared.Process). option_map_or (λ (process : declared.Process). is_some process.saved) o false) (process_at old q));
-    })
-
--- edits
-pub seen_put : (old new : Slots) (p : ℕ) (process : declared.Process) → IsEdited old new p (Some process) → seen new ≡ insert (seen old) p process
-seen_put old new p process edited = alike _ _ (λ q. process_at new q ∙ by_key q p
-    (λ same. ap (λ n. slot_process (slot_at new n)) same ∙ edited.process_is ∙ sym (get_same (seen old) p q process same))
-    (λ other. ap slot_process (edited.others q other) ∙ sym (process_at old q) ∙ sym (get_other (seen old) p q process other)))
-
-pub seen_removed : (old new : Slots) (p : ℕ) → IsEdited old new p None → seen new ≡ remove (seen old) p
-seen_removed old new p edited = alike _ _ (λ q. process_at new q ∙ by_key q p
-    (λ same. ap (λ n. slot_process (slot_at new n)) same ∙ edited.process_is ∙ sym (removed_same (seen old) p q same))
-    (λ other. ap slot_process (edited.others q other) ∙ sym (process_at old q) ∙ sym (removed_other (seen old) p q other)))
-
-pub same_seen : (old new : Slots) → ((q : ℕ) → slot_at new q ≡ slot_at old q) → seen new ≡ seen old
-same_seen old new same = alike _ _ (λ q. process_at new q ∙ ap slot_process (same q) ∙ sym (process_at old q))
-
-module _ (self : Machine) (memory : MemoryView) (old : Slots) (view : kept memory old ≡ self) (p : ℕ) (new : Slots) where
-  pub put_is : (process : declared.Process) → IsEdited old new p (Some process) → kept memory new ≡ with_process_at self p process
-  put_is process edited = ap (kept_with memory) (seen_put old new p process edited) ∙ ap (λ (m : Machine). with_process_at m p process) view
-
-  pub removed_is : IsEdited old new p None → kept memory new ≡ without_process_at self p
-  removed_is edited = ap (kept_with memory) (seen_removed old new p edited) ∙ ap (λ (m : Machine). without_process_at m p) view
-
-  pub same_is : ((q : ℕ) → slot_at new q ≡ slot_at old q) → kept memory new ≡ self
-  same_is same = ap (kept_with memory) (same_seen old new same) ∙ view
+          (λ same. subst (λ n. is_marked new n ≡ is_marked old n) (sym same) beside.mark)
+          (λ other. ap (λ (s : SpaceState). s.speculating) (beside.spaces q other));
+      saves = λ q. by_key q p
+          (λ same. subst (λ n. has_saved new n ≡ has_saved old n) (sym same) (ap saves here ∙ ap is_some saved ∙ sym (ap saves there)))
+          (λ other. ap saves (elsewhere q other));
+    };
+  }
+    where
+      saves : Option declared.Process → Bool
+      saves o = option_map_or (λ (process : declared.Process). is_some process.saved) o false
 
 -- what is read off the processes alone
 pub shows_both : (p : ℕ) (a b : Wholes) → AreLike a b → shown_at a p ≡ shown_at b p
@@ -235,16 +139,16 @@ pub numbers_both : (a b : Wholes) → AreLike a b → running_numbers a ≡ runn
 numbers_both a b like = ap (λ (ps : Processes). map (λ e. e.0) (filter (λ e. runs e.1.state) (entries ps))) like.processes
 
 -- the list that is kept
-pub running_is : (self : Machine) (memory : MemoryView) (slots : Slots) (running : Vec ℕ) → kept memory slots ≡ self → IsRunningList slots running → running.items ≡ running_numbers (wholes self)
-running_is self memory slots running view listed =
-    same_rising 0 running.items (running_numbers (wholes self)) (rises running.items listed.ascending) (numbers_rise (wholes self))
-    (λ q. listed.listed q ∙ sym (has_running self memory slots view q) ∙ sym (numbers_are (wholes self) q))
+pub running_is : (machine : Machine) (running : Vec ℕ) → IsRunningList machine.processes running → running.items ≡ running_numbers (wholes machine)
+running_is machine running kept =
+    same_rising 0 running.items (running_numbers (wholes machine)) (rises running.items kept.ascending) (numbers_rise (wholes machine))
+    (λ q. kept.listed q ∙ sym (runs_shown machine q) ∙ sym (numbers_are (wholes machine) q))
 
-pub each_runs : (self : Machine) (memory : MemoryView) (slots : Slots) (running : Vec ℕ) → kept memory slots ≡ self → IsRunningList slots running → All (λ p. is_running (wholes self) p ≡ true) running.items
-each_runs self memory slots running view listed = λ k d below.
+pub each_runs : (machine : Machine) (running : Vec ℕ) → IsRunningList machine.processes running → All (λ p. is_running (wholes machine) p ≡ true) running.items
+each_runs machine running kept = λ k d below.
     let p = get_or running.items k d in
     let at : get_or running.items k 0 ≡ p = same_default running.items k d below in
-    has_running self memory slots view p ∙ sym (listed.listed p) ∙ found_in running.items k p below at
+    runs_shown machine p ∙ sym (kept.listed p) ∙ found_in running.items k p below at
   where
     same_default : (xs : List ℕ) (k d : ℕ) → k < length xs → get_or xs k 0 ≡ get_or xs k d
     same_default [] k d below = absurd (omega arith)
@@ -255,10 +159,17 @@ each_runs self memory slots running view listed = λ k d below.
 keys_rise : (from : ℕ) (all : Wholes) → Rises 0 (keys_from from all)
 keys_rise from all = rises_passing (λ e. nat_le from e.0) 0 (entries all.processes) (entries_rise all.processes)
 
-keys_are : (from : ℕ) (all : Wholes) (q : ℕ) → is_in (keys_from from all) q ≡ option_map_or (λ x. nat_le from q) (get all.processes q) false
-keys_are from all q =
-    in_passing (λ e. nat_le from e.0) 0 (entries all.processes) q (entries_rise all.processes)
-    ∙ ap (λ (o : Option Process). option_map_or (λ (process : Process). nat_le from q) o false) (sym (get-entries all.processes q))
+keys_are : (machine : Machine) (from q : ℕ) → is_in (keys_from from (wholes machine)) q ≡ option_map_or (λ process. nat_le from q) (get machine.processes q) false
+keys_are machine from q =
+    let all = (wholes machine).processes in
+    in_passing (λ e. nat_le from e.0) 0 (entries all) q (entries_rise all)
+    ∙ ap (λ (o : Option Process). option_map_or (λ process. nat_le from q) o false) (sym (get-entries all q) ∙ processes_at machine q)
+    ∙ by_process (get machine.processes q)
+  where
+    by_process : (o : Option declared.Process) → option_map_or (λ (process : Process). nat_le from q) (option_map (whole_in (spaces_of machine) q) o) false
+        ≡ option_map_or (λ (process : declared.Process). nat_le from q) o false
+    by_process None = refl
+    by_process (Some process) = refl
 
 first_is : (ks : List ℕ) (p : ℕ) → Rises 0 ks → is_in ks p ≡ true → ((q : ℕ) → q < p → is_in ks q ≡ false) → slice_get ks 0 ≡ Some p
 first_is [] p h has least = cc
@@ -272,20 +183,11 @@ none_are : (ks : List ℕ) → ((q : ℕ) → is_in ks q ≡ false) → ks ≡ [
 none_are [] none = refl
 none_are (x ∷ ks) none = absurd (let not_in = none x in let here = ap (λ b. b || is_in ks x) (numbers.same_is x x refl) in cc)
 
-not_shown : (o : Option Process) → None ≡ option_map registers_of o → o ≡ None
-not_shown None h = refl
-not_shown (Some process) h = cc
-
-still_some : (o : Option declared.Process) → is_some (registers_shown o) ≡ is_some o
-still_some None = refl
-still_some (Some process) = refl
-
-is_there : (o : Option Process) → is_some (option_map registers_of o) ≡ true → (from q : ℕ) → from ≤ q
-    → option_map_or (λ x. nat_le from q) o false ≡ true
+is_there : (o : Option declared.Process) → is_some o ≡ true → (from q : ℕ) → from ≤ q → option_map_or (λ process. nat_le from q) o false ≡ true
 is_there None h from q le = h
 is_there (Some process) h from q le = grind (arith, nat_tests)
 
-is_lower : (o : Option Process) (from q : ℕ) → q < from → option_map_or (λ x. nat_le from q) o false ≡ false
+is_lower : (o : Option declared.Process) (from q : ℕ) → q < from → option_map_or (λ process. nat_le from q) o false ≡ false
 is_lower None from q below = refl
 is_lower (Some process) from q below = by_test (nat_le from q) refl
   where
@@ -293,19 +195,16 @@ is_lower (Some process) from q below = by_test (nat_le from q) refl
     by_test true e = absurd (grind (arith, nat_tests))
     by_test false e = refl
 
-module _ (self : Machine) (memory : MemoryView) (old : Slots) (view : kept memory old ≡ self) (from : ℕ) where
-  absent : (q : ℕ) → slot_process (slot_at old q) ≡ None → is_in (keys_from from (wholes self)) q ≡ false
-  absent q none =
-      keys_are from (wholes self) q
-      ∙ ap (λ (o : Option Process). option_map_or (λ (process : Process). nat_le from q) o false) (not_shown _ (ap registers_shown (sym none) ∙ registers_are self memory old view q))
+module _ (machine : Machine) (from : ℕ) where
+  absent : (q : ℕ) → get machine.processes q ≡ None → is_in (keys_from from (wholes machine)) q ≡ false
+  absent q none = keys_are machine from q ∙ ap (λ (o : Option declared.Process). option_map_or (λ process. nat_le from q) o false) none
 
-  lower_key : (q : ℕ) → q < from → is_in (keys_from from (wholes self)) q ≡ false
-  lower_key q below = keys_are from (wholes self) q ∙ is_lower (get (wholes self).processes q) from q below
+  lower_key : (q : ℕ) → q < from → is_in (keys_from from (wholes machine)) q ≡ false
+  lower_key q below = keys_are machine from q ∙ is_lower (get machine.processes q) from q below
 
-  pub next_is : (r : Option ℕ) → IsNextProcess old from r
-      → MatchOption r (keys_from from (wholes self) ≡ []) (λ p. slice_get (keys_from from (wholes self)) 0 ≡ Some p)
+  pub next_is : (r : Option ℕ) → IsNextNumber machine.processes from r
+      → MatchOption r (keys_from from (wholes machine) ≡ []) (λ p. slice_get (keys_from from (wholes machine)) 0 ≡ Some p)
   next_is None none = none_are _ (λ q. elim (cases_lt q from) [ inl below ↦ lower_key q below | inr le ↦ absent q (none q le) ])
   next_is (Some p) next =
-      first_is _ p (keys_rise from (wholes self))
-      (keys_are from (wholes self) p ∙ is_there (get (wholes self).processes p) (sym (ap is_some (registers_are self memory old view p)) ∙ still_some (slot_process (slot_at old p)) ∙ next.1) from p next.0)
+      first_is _ p (keys_rise from (wholes machine)) (keys_are machine from p ∙ is_there (get machine.processes p) next.1 from p next.0)
       (λ q below. elim (cases_lt q from) [ inl lower ↦ lower_key q lower | inr le ↦ absent q (next.2 q le below) ])

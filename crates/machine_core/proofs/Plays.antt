@@ -1,7 +1,6 @@
-use Rattle.std.proofs.Common.{◌≡◌, ℕ, ◌+◌, ◌<◌, ◌==◌, ◌&&◌, not, zero, suc, Bool, true, false, cond, List, [], ◌∷◌, length, drop, get_or, sym, ap, subst, ◌∙◌, refl, arith, Option, Some, None}
+use Rattle.std.proofs.Common.{◌≡◌, ℕ, ◌+◌, ◌<◌, ◌==◌, ◌&&◌, not, zero, suc, Bool, true, false, cond, List, [], ◌∷◌, length, drop, sym, ap, subst, ◌∙◌, refl, arith, Option, Some, None}
 use Rattle.std.specs.Option.{option_map, option_map_or}
 use Rattle.std.specs.FinMap.{get}
-use Rattle.std.proofs.Math.Seq.{drop-cons}
 use Rattle.ovl_io.specs.Keys.{by_key, get_same, get_other}
 use Rattle.machine_core.specs.declared.process.Process as declared
 use Rattle.machine_core.specs.Process.{Process, runs}
@@ -92,13 +91,6 @@ each_own (q ∷ turns) state = λ p.
     ∙ one_turn state q p (turns_of p turns (after_number q state)) (is_running state q) refl
 
 -- the run over what is left of a list
-pub run_more : (turns : List ℕ) (i : ℕ) (state : Wholes) → i < length turns
-    → run_over (drop i turns) state ≡ run_over (drop (i + 1) turns) (after_number (get_or turns i 0) state)
-run_more turns i state below =
-    let next : suc i ≡ i + 1 = omega arith in
-    ap (λ rest. run_over rest state) (drop-cons turns i 0 below)
-    ∙ ap (λ k. run_over (drop k turns) (after_number (get_or turns i 0) state)) next
-
 drop_past : (turns : List ℕ) (i : ℕ) → length turns < i + 1 → drop i turns ≡ []
 drop_past [] zero h = refl
 drop_past [] (suc i) h = refl
@@ -107,24 +99,6 @@ drop_past (x ∷ turns) (suc i) h = drop_past turns i (omega arith)
 
 pub run_all : (turns : List ℕ) (i : ℕ) (state : Wholes) → length turns < i + 1 → run_over (drop i turns) state ≡ state
 run_all turns i state past = ap (λ rest. run_over rest state) (drop_past turns i past)
-
-pub run_running : (state after : Wholes) (p : ℕ) → is_running state p ≡ true → after ≡ after_turn state p → after ≡ after_number p state
-run_running state after p running is = is ∙ sym (ap (λ b. cond b (after_turn state p) state) running)
-
-pub run_passed : (state : Wholes) (p : ℕ) → is_running state p ≡ false → state ≡ after_number p state
-run_passed state p stopped = sym (ap (λ b. cond b (after_turn state p) state) stopped)
-
--- What two changes of one process leave.
-
-pub both_stay : (p : ℕ) (a b c : Machine) → StaysBut p a b → StaysBut p b c → StaysBut p a c
-both_stay p a b c h k = record {
-  spaces = λ q other. k.spaces q other ∙ h.spaces q other;
-  there = λ q other. k.there q other ∙ h.there q other;
-  processes = λ q other. k.processes q other ∙ h.processes q other;
-}
-
-pub both_places : (a b c : Machine) → KeepsPlaces a b → KeepsPlaces b c → KeepsPlaces a c
-both_places a b c h k = record { spaces = λ q. k.spaces q ∙ h.spaces q; awaiting = λ q. k.awaiting q ∙ h.awaiting q; processes = λ q. k.processes q ∙ h.processes q; marks = λ q. k.marks q ∙ h.marks q; saves = λ q. k.saves q ∙ h.saves q }
 
 -- where one still runs, its space is still there
 pub spaces_kept : (p : ℕ) (old new : Machine) → HaveSpaces old → is_running (wholes old) p ≡ true → StaysBut p old new → KeepsPlaces old new → HaveSpaces new

@@ -8,7 +8,7 @@ use Rattle.std.specs.List.Sorted.{IsBinarySearchResult}
 use Rattle.std.specs.Ordering.{nat_cmp}
 use Rattle.std.specs.Prelude.{Result, Ok, Err}
 use Rattle.ovl_io.specs.Keys.{by_key}
-use Rattle.machine_core.specs.Slots.{is_in, IsPlaceOf}
+use Rattle.machine_core.specs.Kept.{IsListed, IsPlaceOf, is_in}
 use Rattle.machine_core.specs.NumberLaws.{Rises, lower, none_below, other_is, same_is}
 
 -- Numbers that rise.
@@ -67,18 +67,12 @@ swapped true true c = refl
 swapped true false c = refl
 swapped false b c = refl
 
-pub in_insert : (xs : List ℕ) (i p q : ℕ) → i ≤ length xs → is_in (insert xs i p) q ≡ ((p == q) || is_in xs q)
+in_insert : (xs : List ℕ) (i p q : ℕ) → i ≤ length xs → is_in (insert xs i p) q ≡ ((p == q) || is_in xs q)
 in_insert [] zero p q within = refl
 in_insert [] (suc i) p q within = absurd (omega arith)
 in_insert (x ∷ xs) zero p q within = refl
 in_insert (x ∷ xs) (suc i) p q within =
     ap (λ b. (x == q) || b) (in_insert xs i p q (omega arith)) ∙ swapped (x == q) (p == q) (is_in xs q)
-
-pub length_insert : (xs : List ℕ) (i p : ℕ) → i ≤ length xs → length (insert xs i p) ≡ suc (length xs)
-length_insert [] zero p within = refl
-length_insert [] (suc i) p within = absurd (omega arith)
-length_insert (x ∷ xs) zero p within = refl
-length_insert (x ∷ xs) (suc i) p within = ap suc (length_insert xs i p (omega arith))
 
 -- one fewer
 pub rises_remove : (k : ℕ) (xs : List ℕ) (i : ℕ) → Rises k xs → i < length xs → Rises k (remove xs i)
@@ -86,7 +80,7 @@ rises_remove k [] i h within = absurd (omega arith)
 rises_remove k (x ∷ xs) zero h within = lower k (suc x) xs (omega (arith, h.0)) h.1
 rises_remove k (x ∷ xs) (suc i) h within = (h.0, rises_remove (suc x) xs i h.1 (omega arith))
 
-pub in_remove : (k : ℕ) (xs : List ℕ) (i p q : ℕ) → Rises k xs → i < length xs → get_or xs i 0 ≡ p → is_in (remove xs i) q ≡ cond (p == q) false (is_in xs q)
+in_remove : (k : ℕ) (xs : List ℕ) (i p q : ℕ) → Rises k xs → i < length xs → get_or xs i 0 ≡ p → is_in (remove xs i) q ≡ cond (p == q) false (is_in xs q)
 in_remove k [] i p q h within is = absurd (omega arith)
 in_remove k (x ∷ xs) zero p q h within is = by_key p q
     (λ same. none_below (suc x) xs q h.1 (omega (arith, is, same)) ∙ sym (ap (λ b. cond b false (is_in (x ∷ xs) q)) (same_is p q same)))
@@ -184,13 +178,15 @@ not_there_yet xs i p at =
 pub put_in_place : (xs : List ℕ) (i p : ℕ) → IsStrictlyIncreasing xs → IsPlaceOf xs p (Err i) → IsStrictlyIncreasing (insert xs i p)
 put_in_place xs i p up at = increases 0 (insert xs i p) (rises_insert 0 xs i p (rises xs up) (omega arith) at.0 at.1 at.2)
 
--- a number that is in already, and one that isn't in anyway
-pub in_anyway : (xs : List ℕ) (p q : ℕ) → is_in xs p ≡ true → is_in xs q ≡ ((p == q) || is_in xs q)
-in_anyway xs p q has = by_key p q
-    (λ same. ap (is_in xs) (sym same) ∙ has ∙ sym (ap (λ b. b || is_in xs q) (same_is p q same)))
-    (λ other. sym (ap (λ b. b || is_in xs q) (other_is p q other)))
+-- a number put in its place, and one taken out of it
+pub joined : (xs : List ℕ) (i p : ℕ) → i ≤ length xs → IsListed p true xs (insert xs i p)
+joined xs i p within = record {
+  here = in_insert xs i p p within ∙ ap (λ b. b || is_in xs p) (same_is p p refl);
+  others = λ q other. in_insert xs i p q within ∙ ap (λ b. b || is_in xs q) (other_is p q (λ same. other (sym same)));
+}
 
-pub out_anyway : (xs : List ℕ) (p q : ℕ) → is_in xs p ≡ false → is_in xs q ≡ cond (p == q) false (is_in xs q)
-out_anyway xs p q has = by_key p q
-    (λ same. ap (is_in xs) (sym same) ∙ has ∙ sym (ap (λ b. cond b false (is_in xs q)) (same_is p q same)))
-    (λ other. sym (ap (λ b. cond b false (is_in xs q)) (other_is p q other)))
+pub left_out : (xs : List ℕ) (i p : ℕ) → IsStrictlyIncreasing xs → i < length xs → get_or xs i 0 ≡ p → IsListed p false xs (remove xs i)
+left_out xs i p up within is = record {
+  here = in_remove 0 xs i p p (rises xs up) within is ∙ ap (λ b. cond b false (is_in xs p)) (same_is p p refl);
+  others = λ q other. in_remove 0 xs i p q (rises xs up) within is ∙ ap (λ b. cond b false (is_in xs q)) (other_is p q (λ same. other (sym same)));
+}

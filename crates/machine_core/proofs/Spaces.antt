@@ -19,8 +19,10 @@ use Rattle.ledger.specs.Ledger.{Ledger, all_holdings}
 use Rattle.ledger.specs.TallyLaws.{empty_holdings, same_units}
 use Rattle.ledger.specs.Units.{units}
 use Rattle.overlay_pages.specs.Changes.{limit_of, units_of}
-use Rattle.overlay_pages.specs.State.{PageState, SpaceState, State, bare_space, books, cut_space, held_page, holds_space, put_space, space_in}
-use Rattle.overlay_pages.specs.StateLaws.{ledger_spaces, ledger_with, space_put}
+use Rattle.overlay_pages.specs.State.{PageState, SpaceState, State, books, held_page}
+use Rattle.space_maps.specs.Books.{books_put, books_spaces}
+use Rattle.space_maps.specs.Laws.{space_put}
+use Rattle.space_maps.specs.Spaces.{bare_space, cut_space, holds_space, put_space, space_in}
 use Rattle.machine_core.specs.Load.{image_memory, load_pages, loaded_ledger, stack_page, stack_pages, stored_pages}
 use Rattle.machine_core.specs.Loading.{HasPages, IsOpen, IsSpaceOf, is_among, one_loaded}
 use Rattle.machine_core.proofs.Images.{above_all, bare_page, isnt_seen, none_below}
@@ -37,7 +39,7 @@ absent_at s p without = lacks (get s.spaces p) without
     lacks (Some x) h = cc
 
 pub ledger_absent : (s : State) (p : ℕ) → holds_space s p ≡ false → get (books s) p ≡ None
-ledger_absent s p without = lacks (get (books s) p) (ledger_spaces s p ∙ without)
+ledger_absent s p without = lacks (get (books s) p) (books_spaces held_page s p ∙ without)
   where
     lacks : {X : Type 0} (o : Option X) → is_some o ≡ false → o ≡ None
     lacks None h = refl
@@ -103,7 +105,7 @@ module _ (file : List ℕ) (p : ℕ) (old begun : State) (taken : file_refusal f
 
   begun_ledger : books begun ≡ insert (books old) p empty
   begun_ledger =
-      ap books is ∙ ledger_with old p bare_space
+      ap books is ∙ books_put held_page old p bare_space
       ∙ ap (insert (books old) p) (viewed_empty (λ (page : ℕ) (y : PageState). held_page old.zero_frame y))
 
   pub begun_fits : units (loaded_ledger p file (books old)) ≤ limit_of old → units_of begun + 16 * stored_pages file ≤ limit_of begun

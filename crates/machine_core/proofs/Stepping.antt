@@ -1,22 +1,14 @@
-use Rattle.std.proofs.Common.{◌≡◌, ℕ, zero, suc, ◌+◌, ◌-◌, ◌<◌, Bool, true, false, cond, length, sym, ap, ◌∙◌, refl, arith, Option, Some, None}
-use Rattle.std.specs.Option.{option_map, option_map_or}
-use Rattle.std.specs.Global.{Vec}
-use Rattle.std.specs.Vec.{vec_capacity}
-use Rattle.std.specs.List.Sorted.{IsStrictlyIncreasing}
-use Rattle.ovl_io.specs.Keys.{by_key}
+use Rattle.std.proofs.Common.{◌≡◌, ℕ, suc, ◌+◌, ◌-◌, ◌<◌, Bool, true, false, cond, sym, ap, ◌∙◌, refl, arith, Option, Some, None}
+use Rattle.std.specs.Option.{option_map_or}
 use Rattle.ovl_io.specs.declared.process_state.ProcessState.{ProcessState}
 use Rattle.ovl_io.specs.declared.process_state.ProcessState.TheVariants as state
 use Rattle.rv_execute.specs.declared.outcome.Outcome.{Outcome}
 use Rattle.rv_execute.specs.declared.outcome.Outcome.TheVariants as outcome
 use Rattle.rv_execute.specs.Execution.{Upshot, Steps, Asks, Faults, outcome_by}
-use Rattle.overlay_pages.specs.State.{State}
-use Rattle.machine_core.specs.declared.process.Process as declared
 use Rattle.machine_core.specs.Process.{runs}
 use Rattle.machine_core.specs.Machine.{Wholes, limit_of}
 use Rattle.machine_core.specs.Turns.{Guest, after_execution, execution_of, executed, guest_at, guest_executed, is_full, outcome_found, outcome_of, state_executed, units_needed, with_guest}
 use Rattle.machine_core.specs.Executions.{Executions, after_executions, all_executed, executions, first_execution, last_outcome, no_execution}
-use Rattle.machine_core.specs.Slots.{Slots, guest_in, slot_at, slot_guest, slot_process, slot_runs, is_in, HasLeft, IsChanged, IsRunningList}
-use Rattle.machine_core.specs.NumberLaws.{other_is, same_is}
 
 -- Executions so far, and those that are left.
 
@@ -42,14 +34,6 @@ single_after (outcome.Fault kind address) now next = refl
 single_after (outcome.Full units limit) now next = refl
 
 module _ (p : ℕ) where
-  pub none_yet : (most : ℕ) (now : Guest) → executions p most now ≡ behind 0 (executions p (most - 0) now)
-  none_yet most now =
-      let all = executions p most now in
-      let none : all.steps ≡ 0 + all.steps = omega arith in
-      let whole : most ≡ most - 0 = omega arith in
-      ap (λ n. record { steps = n; before = all.before; outcome = all.outcome; after = all.after }) none
-      ∙ ap (λ n. behind 0 (executions p n now)) whole
-
   left_more : (most k : ℕ) → k < most → most - k ≡ suc (most - (k + 1))
   left_more most k below = omega arith
 
@@ -94,18 +78,6 @@ module _ (p : ℕ) where
         after_is = moved ∙ sym (ap (λ (e : Executions). e.after) last);
       }
 
-  -- all were steps
-  pub all_steps : (all : Executions) (most k : ℕ) (now : Guest) → most ≡ k → all ≡ behind k (executions p (most - k) now)
-      → IsLast all k outcome.Stepped now
-  all_steps all most k now same is =
-      let none : most - k ≡ 0 = omega (arith, same) in
-      let last : all ≡ behind k (no_execution now) = is ∙ ap (λ n. behind k (executions p n now)) none in
-      record {
-        steps = omega (arith, ap (λ (e : Executions). e.steps) last);
-        outcome_is = sym (ap (λ (e : Executions). e.outcome) last);
-        after_is = sym (ap (λ (e : Executions). e.after) last);
-      }
-
   -- a single one
   pub single_outcome : (found : Option Guest) → last_outcome p 1 found ≡ outcome_found p found
   single_outcome None = refl
@@ -142,7 +114,7 @@ runs_on outcome.Asked = true
 runs_on (outcome.Fault kind address) = false
 runs_on (outcome.Full units limit) = true
 
-of_running : (s : ProcessState) → runs s ≡ true → s ≡ state.Running
+pub of_running : (s : ProcessState) → runs s ≡ true → s ≡ state.Running
 of_running state.Running is = refl
 of_running (state.Exited code) is = cc
 of_running (state.Faulted kind address) is = cc
@@ -165,60 +137,3 @@ module _ (p : ℕ) where
   pub still_runs : (now next : Guest) → now.process.state ≡ state.Running → outcome.Stepped ≡ outcome_of p now → next ≡ executed p now → next.process.state ≡ state.Running
   still_runs now next running stepped moved =
       of_running next.process.state (ap (λ (g : Guest). runs g.process.state) moved ∙ runs_after_one now running ∙ sym (ap runs_on stepped))
-
-  runs_first : (o : Outcome) (now next : Guest) (others : Executions) → runs next.process.state ≡ runs_on o
-      → (runs next.process.state ≡ true → runs others.after.process.state ≡ runs_on others.outcome)
-      → runs (first_execution o now next others).after.process.state ≡ runs_on (first_execution o now next others).outcome
-  runs_first outcome.Stepped now next others is rest = rest is
-  runs_first outcome.Asked now next others is rest = is
-  runs_first (outcome.Fault kind address) now next others is rest = is
-  runs_first (outcome.Full units limit) now next others is rest = is
-
-  pub runs_after : (most : ℕ) (now : Guest) → runs now.process.state ≡ true → runs (executions p most now).after.process.state ≡ runs_on (executions p most now).outcome
-  runs_after zero now running = running
-  runs_after (suc most) now running =
-      runs_first (outcome_of p now) now (executed p now) (executions p most (executed p now)) (runs_after_one now (of_running now.process.state running))
-      (λ is. runs_after most (executed p now) is)
-
-  guest_runs : (o : Option declared.Process) (spaces : State) → option_map_or (λ (process : declared.Process). runs process.state) o false
-      ≡ option_map_or (λ (guest : Guest). runs guest.process.state) (option_map (guest_in p spaces) o) false
-  guest_runs None spaces = refl
-  guest_runs (Some process) spaces = refl
-
-  slot_by : (old new : Option Guest) (most : ℕ) (o : Outcome) → option_map_or (λ (g : Guest). runs g.process.state) old false ≡ true
-      → o ≡ last_outcome p most old → new ≡ option_map (all_executed p most) old
-      → option_map_or (λ (g : Guest). runs g.process.state) new false ≡ runs_on o
-  slot_by None new most o run came is = cc
-  slot_by (Some now) new most o run came is =
-      ap (λ (found : Option Guest). option_map_or (λ (g : Guest). runs g.process.state) found false) is
-      ∙ runs_after most now run ∙ sym (ap runs_on came)
-
-  pub slot_after : (old new : Slots) (before after : State) (most : ℕ) (o : Outcome) → slot_runs (slot_at old p) ≡ true → IsChanged (all_executed p most) p old new before after
-      → o ≡ last_outcome p most (slot_guest p before (slot_at old p)) → slot_runs (slot_at new p) ≡ runs_on o
-  slot_after old new before after most o run changed came =
-      guest_runs (slot_process (slot_at new p)) after
-      ∙ slot_by (slot_guest p before (slot_at old p)) (slot_guest p after (slot_at new p)) most o (sym (guest_runs (slot_process (slot_at old p)) before) ∙ run) came changed.here
-
--- The list of running numbers, where one still runs and where one has ended.
-pub list_kept : (old new : Slots) (running : Vec ℕ) (p : ℕ) → IsRunningList old running → slot_runs (slot_at old p) ≡ true
-    → slot_runs (slot_at new p) ≡ true → ((q : ℕ) → (q ≡ p → ⊥) → slot_at new q ≡ slot_at old q) → length new ≡ length old → IsRunningList new running
-list_kept old new running p kept was is others same = record {
-  ascending = kept.ascending;
-  listed = λ q. by_key q p
-      (λ at. kept.listed q ∙ ap (λ n. slot_runs (slot_at old n)) at ∙ was ∙ sym (ap (λ n. slot_runs (slot_at new n)) at ∙ is))
-      (λ other. kept.listed q ∙ sym (ap slot_runs (others q other)));
-  room = omega (arith, kept.room, same);
-  few = omega (arith, kept.few, same);
-}
-
-pub list_left : (old new : Slots) (running left : Vec ℕ) (p : ℕ) → IsRunningList old running → slot_runs (slot_at new p) ≡ false
-    → ((q : ℕ) → (q ≡ p → ⊥) → slot_at new q ≡ slot_at old q) → length new ≡ length old
-    → IsStrictlyIncreasing left.items → HasLeft p running.items left.items → vec_capacity left ≡ vec_capacity running → IsRunningList new left
-list_left old new running left p kept is others same rising taken room = record {
-  ascending = rising;
-  listed = λ q. by_key q p
-      (λ at. taken q ∙ ap (λ b. cond b false (is_in running.items q)) (same_is p q (sym at)) ∙ sym (ap (λ n. slot_runs (slot_at new n)) at ∙ is))
-      (λ other. taken q ∙ ap (λ b. cond b false (is_in running.items q)) (other_is p q (λ at. other (sym at))) ∙ kept.listed q ∙ sym (ap slot_runs (others q other)));
-  room = omega (arith, kept.room, same, room);
-  few = omega (arith, kept.few, same);
-}

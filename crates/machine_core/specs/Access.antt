@@ -7,11 +7,12 @@ use Rattle.rv_execute.specs.declared.memory.Refused.TheVariants as refused
 use Rattle.overlay_memory.specs.Access.{IsStored, stored_books}
 use Rattle.overlay_memory.specs.declared.error.MemoryError.{MemoryError}
 use Rattle.overlay_memory.specs.declared.error.MemoryError.TheVariants.{Unmapped, Forbidden, Full}
-use Rattle.overlay_pages.specs.State.{State, holds_space, memory_of}
+use Rattle.overlay_pages.specs.State.{State, memory_of}
 use Rattle.overlay_pages.specs.Changes.{Fits, limit_of}
 use Rattle.overlay_pages.specs.View.{MemoryView, state_of}
 use Rattle.overlay_pages.specs.Spots.{IsFound}
 use Rattle.overlay_pages.specs.declared.spots.FoundLine.{FoundLine}
+use Rattle.space_maps.specs.Spaces.{holds_space}
 use Rattle.machine_core.specs.declared.view.View.{View}
 
 -- What the calls of an instruction make of the memory of all spaces.

@@ -13,8 +13,10 @@ use Rattle.ledger.specs.Events as event
 use Rattle.ledger.specs.RowLaws.{alike_after}
 use Rattle.ledger.specs.Touched.{touched}
 use Rattle.ledger.specs.Units.{units}
-use Rattle.overlay_pages.specs.State.{SpaceState, State, base_of, base_page, books, cut_space, memory_of, seen_page, space_in}
-use Rattle.overlay_pages.specs.StateLaws.{ledger_without, space_left}
+use Rattle.overlay_pages.specs.State.{SpaceState, State, base_of, base_page, books, held_page, memory_of, seen_page}
+use Rattle.space_maps.specs.Books.{books_cut}
+use Rattle.space_maps.specs.Laws.{space_left}
+use Rattle.space_maps.specs.Spaces.{cut_space, space_in}
 use Rattle.machine_core.specs.declared.process.Process as declared
 use Rattle.machine_core.specs.declared.process.SavedRegs.{SavedRegs}
 use Rattle.ovl_io.specs.declared.process_state.ProcessState.TheVariants as state
@@ -87,7 +89,7 @@ wholes_dropped p old new absent dropped =
     ∙ sym (ap (option_map (whole_in (spaces_of old) q)) (ap (get old.processes) same ∙ absent)))
     (λ other. by_process q other (get old.processes q))
     ∙ sym (processes_at old q)) in
-    let ledger : books (spaces_of new) ≡ remove (books (spaces_of old)) p = ap books dropped.spaces ∙ ledger_without (spaces_of old) p in
+    let ledger : books (spaces_of new) ≡ remove (books (spaces_of old)) p = ap books dropped.spaces ∙ books_cut held_page (spaces_of old) p in
     let frames : (spaces_of new).frames ≡ (spaces_of old).frames = ap (λ (s : State). s.frames) dropped.spaces in
     λ i. record { processes = processes i; ledger = ledger i; frames = frames i }
   where

@@ -9,5 +9,5 @@ pub mod Load
 pub mod Loading
 pub mod Laws
 pub mod LoadLaws
-pub mod Slots
+pub mod Kept
 pub mod NumberLaws

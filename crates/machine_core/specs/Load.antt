@@ -9,10 +9,10 @@ use Rattle.elf_loader.specs.Image.{page_length, image_pages, image_page, is_stor
 use Rattle.ledger.specs.Ledger.{Ledger}
 use Rattle.ledger.specs.Events.{Load, ledger_after}
 use Rattle.ledger.specs.Units.{units}
-use Rattle.overlay_pages.specs.State.{space_in}
 use Rattle.overlay_memory.specs.declared.error.SpaceError.{SpaceError}
 use Rattle.overlay_memory.specs.declared.error.SpaceError.TheVariants.{Full, Memory as NoMemory}
 use Rattle.rv_execute.specs.Registers.{first_registers}
+use Rattle.space_maps.specs.Spaces.{space_in}
 use Rattle.machine_core.specs.Process.{Process}
 use Rattle.machine_core.specs.Machine.{AreLike, Machine, StandsFor, StaysBut, Wholes, has_space, limit_of, shown_process, spaces_of, wholes}
 

@@ -7,9 +7,10 @@ use Rattle.ledger.specs.Alike.{AreAlike}
 use Rattle.ledger.specs.AlikeUnits.{units_alike}
 use Rattle.ledger.specs.Events.{Load}
 use Rattle.ledger.specs.RowLaws.{alike_after}
-use Rattle.overlay_pages.specs.State.{State, books, holds_space, space_in}
+use Rattle.overlay_pages.specs.State.{State, books}
 use Rattle.overlay_memory.specs.declared.error.SpaceError.{SpaceError}
 use Rattle.overlay_memory.specs.declared.error.SpaceError.TheVariants.{Full, Memory}
+use Rattle.space_maps.specs.Spaces.{holds_space, space_in}
 use Rattle.machine_core.specs.declared.process.Process as declared
 use Rattle.machine_core.specs.Machine.{AreLike, Machine, Processes, StaysBut, Wholes, limit_of, processes_of, spaces_of, whole_in, wholes}
 use Rattle.machine_core.specs.Load.{IsAsBefore, Loads, LoadsAs, is_load_full, load_needs, load_pages, loaded_ledger, loaded_process, with_loaded}

@@ -9,7 +9,8 @@ use Rattle.ledger.specs.Ledger.{Ledger, with_page}
 use Rattle.ledger.specs.Alike.{AreAlike}
 use Rattle.ledger.specs.Changes.{without_own}
 use Rattle.ledger.specs.Origins.{new_origin}
-use Rattle.overlay_pages.specs.State.{PageState, State, books, holds_space, memory_of, page_in, put_page, seen_page, space_in}
+use Rattle.overlay_pages.specs.State.{PageState, State, books, memory_of, seen_page}
+use Rattle.space_maps.specs.Spaces.{holds_space, page_in, put_page, space_in}
 use Rattle.machine_core.specs.Load.{image_memory, loaded_ledger, stack_page, stack_pages}
 
 -- What a load does, page by page.

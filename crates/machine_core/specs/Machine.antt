@@ -7,12 +7,13 @@ use Rattle.number_maps.specs.Views.{viewed}
 use Rattle.sizes.specs.declared.TheConstants.{FRAME_UNITS}
 use Rattle.ledger.specs.Ledger.{Ledger}
 use Rattle.ledger.specs.Alike.{AreAlike}
-use Rattle.overlay_pages.specs.State.{State, base_of, books, cut_space, holds_space, memory_of, space_in}
+use Rattle.overlay_pages.specs.State.{State, base_of, books, memory_of}
 use Rattle.overlay_pages.specs.View.{MemoryView, state_of}
 use Rattle.ovl_io.specs.Memory.{Memory}
 use Rattle.ovl_io.specs.declared.process_state.ProcessState.{ProcessState}
 use Rattle.ovl_io.specs.declared.process_state.ProcessState.TheVariants.{Running}
 use Rattle.rv_execute.specs.Registers.{Registers, first_registers}
+use Rattle.space_maps.specs.Spaces.{cut_space, holds_space, space_in}
 use Rattle.machine_core.specs.Process.{Process, Whole, runs}
 use Rattle.machine_core.specs.declared.process.Process as declared
 use Rattle.machine_core.specs.declared.process.SavedRegs.{SavedRegs}

@@ -12,7 +12,7 @@ use Rattle.std.proofs.lemmas.Bool.Decides.{nat_tests}
 use Rattle.ovl_io.specs.Keys.{by_key, ties, differs}
 use Rattle.machine_core.specs.Process.{Process, runs}
 use Rattle.machine_core.specs.Machine.{Processes, Wholes, is_running, running_numbers}
-use Rattle.machine_core.specs.Slots.{is_in}
+use Rattle.machine_core.specs.Kept.{is_in}
 
 -- Numbers that rise, as those of processes do.
 

@@ -4,12 +4,13 @@ ghost use Rattle.std.specs.Prelude.{◌≡◌, ℕ, ◌≤◌, length, true};
 ghost use Rattle.sizes.specs.declared.TheConstants.{MOST_WRITTEN};
 ghost use Rattle.rv_execute.specs.Registers.{with_register};
 ghost use Rattle.rv_execute.specs.Step.{exit, request, write};
-ghost use Rattle.overlay_pages.specs.State.{holds_space, memory_of};
+ghost use Rattle.overlay_pages.specs.State.{memory_of};
 ghost use Rattle.overlay_pages.specs.View.{state_of};
+ghost use Rattle.space_maps.specs.Spaces.{holds_space};
 ghost use Rattle.machine_core.specs.Turns.{answered_by, executed, outcome_of};
 ghost use Rattle.machine_core.specs.Executions.{all_executed, executions};
 ghost use Rattle.machine_core.specs.Access.{IsReadyView, spaces_lent};
-ghost use Rattle.machine_core.specs.Slots.{IsBeside, guest_in, guest_lent};
+ghost use Rattle.machine_core.specs.Kept.{IsBeside, guest_in, guest_lent};
 
 use crate::process::Process;
 use crate::view::View;

@@ -1,129 +1,186 @@
-//! The slots and the list of running numbers, kept together by turns and by edits.
+//! Processes by number and the list of running numbers, kept together by turns and by edits.
 
-ghost use Rattle.std.specs.Prelude.{◌≡◌, ℕ, None, Some, true, OnOk, OnErr};
+ghost use Rattle.std.specs.Prelude.{◌≡◌, true, OnOk, OnErr};
+ghost use Rattle.std.specs.FinMap as map;
 ghost use Rattle.std.specs.Option.{is_some};
-ghost use Rattle.overlay_pages.specs.State.{holds_space};
-ghost use Rattle.overlay_pages.specs.View.{state_of};
-ghost use Rattle.machine_core.specs.Turns.{asked_found, guest_answered};
-ghost use Rattle.machine_core.specs.Executions.{all_executed, last_outcome, steps_of};
-ghost use Rattle.machine_core.specs.Slots.{slot_at, slot_guest, slot_process, slot_runs, IsChanged, IsEdited, IsRunningList};
+ghost use Rattle.machine_core.specs.Machine.{has_space, is_running, wholes};
+ghost use Rattle.machine_core.specs.Turns.{after_asked, turn_asked};
+ghost use Rattle.machine_core.specs.Executions.{after_executions, came_to_last, steps_to};
+ghost use Rattle.machine_core.specs.Kept.{IsChanged, IsListBut, IsRunningList, machine_of, runs_at};
 
+use crate::guest::{answer_request, execute_up_to};
 use crate::process::{Process, is_running};
-use crate::running::{put_in, reserve, take_out};
-use crate::slots::{
-    Slots, answer_in, execute_in, fill, grow, new_slot, remove_in, runs_in, set_in,
-};
+use crate::running::{list, reserve};
+use by_number::ByNumber;
 use overlay_memory::OverlayMemory;
 use ovl_io::Turn;
 use rv_execute::Outcome;
-use std::alloc::{AllocError, Global};
+use std::alloc::AllocError;
+
+/// Whether there is a process of that number, and it runs.
+#[inline]
+pub(crate) fn runs_in(processes: &ByNumber<Process>, p: u16) -> bool
+    ensures { result ≡ runs_at processes.now p }
+{
+    match processes.get(p) {
+        Some(process) => is_running(process),
+        None => false,
+    }
+}
+
+/// Lists a number where its process runs, and else takes it out. The list is right of each other number.
+fn relist(processes: &ByNumber<Process>, running: &mut Vec<u16>, p: u16)
+    requires { IsListBut p processes.now running.old }
+    ensures { IsRunningList processes.now running.new }
+{
+    list(running, p, runs_in(processes, p));
+}
+
+/// Executes up to so many instructions of a running process, whose space is there, as long as each is a step. Answers also whether
+/// it still runs.
+#[inline]
+fn execute_in(
+    processes: &mut ByNumber<Process>,
+    memory: &mut OverlayMemory,
+    p: u16,
+    most: u32,
+) -> ((u32, Outcome), bool)
+    requires runs { is_running (wholes (machine_of memory.old processes.old)) p ≡ true }
+    requires there { has_space (machine_of memory.old processes.old) p ≡ true }
+    ensures steps { result.0.0 ≡ steps_to most (wholes (machine_of memory.old processes.old)) p }
+    ensures outcome { result.0.1
+        ≡ came_to_last most (wholes (machine_of memory.old processes.old)) p }
+    ensures changed { IsChanged p (machine_of memory.old processes.old)
+        (machine_of memory.new processes.new)
+        (after_executions most (wholes (machine_of memory.old processes.old)) p) }
+    ensures runs { result.1 ≡ runs_at processes.new p }
+{
+    match processes.get_mut(p) {
+        Some(process) => {
+            let came = execute_up_to(process, memory, p, most);
+            (came, is_running(process))
+        }
+        None => unreachable!(),
+    }
+}
 
 /// Executes up to so many instructions of a running process, whose space is there, as long as each is a step. One that faults
 /// is taken out of the list.
 #[inline]
 pub(crate) fn execute_turns(
-    slots: &mut Slots,
+    processes: &mut ByNumber<Process>,
     memory: &mut OverlayMemory,
     running: &mut Vec<u16>,
     p: u16,
     most: u32,
 ) -> (u32, Outcome)
-    requires kept { IsRunningList slots.old.items running.old }
-    requires runs { slot_runs (slot_at slots.old.items p) ≡ true }
-    requires there { holds_space (state_of memory.old) p ≡ true }
-    ensures steps { result.0
-        ≡ steps_of p most (slot_guest p (state_of memory.old) (slot_at slots.old.items p)) }
+    requires kept { IsRunningList processes.old running.old }
+    requires runs { is_running (wholes (machine_of memory.old processes.old)) p ≡ true }
+    requires there { has_space (machine_of memory.old processes.old) p ≡ true }
+    ensures steps { result.0 ≡ steps_to most (wholes (machine_of memory.old processes.old)) p }
     ensures outcome { result.1
-        ≡ last_outcome p most (slot_guest p (state_of memory.old) (slot_at slots.old.items p)) }
-    ensures changed { IsChanged (all_executed p most) p slots.old.items slots.new.items
-        (state_of memory.old) (state_of memory.new) }
-    ensures kept { IsRunningList slots.new.items running.new }
+        ≡ came_to_last most (wholes (machine_of memory.old processes.old)) p }
+    ensures changed { IsChanged p (machine_of memory.old processes.old)
+        (machine_of memory.new processes.new)
+        (after_executions most (wholes (machine_of memory.old processes.old)) p) }
+    ensures kept { IsRunningList processes.new running.new }
 {
-    let (steps, outcome) = execute_in(slots, memory, p, most);
-    match outcome {
-        Outcome::Stepped => (steps, Outcome::Stepped),
-        Outcome::Asked => (steps, Outcome::Asked),
-        Outcome::Fault(kind, address) => {
-            take_out(running, p);
-            (steps, Outcome::Fault(kind, address))
+    let (came, runs) = execute_in(processes, memory, p, most);
+    if runs {
+        return came;
+    }
+    relist(processes, running, p);
+    came
+}
+
+/// Does what a running process, whose space is there, asked for. Answers also whether it still runs.
+fn answer_in(processes: &mut ByNumber<Process>, memory: &mut OverlayMemory, p: u16) -> (Turn, bool)
+    requires runs { is_running (wholes (machine_of memory.old processes.old)) p ≡ true }
+    requires there { has_space (machine_of memory.old processes.old) p ≡ true }
+    ensures turn { result.0 ≡ turn_asked (wholes (machine_of memory.old processes.old)) p }
+    ensures changed { IsChanged p (machine_of memory.old processes.old)
+        (machine_of memory.new processes.new)
+        (after_asked (wholes (machine_of memory.old processes.old)) p) }
+    ensures runs { result.1 ≡ runs_at processes.new p }
+{
+    match processes.get_mut(p) {
+        Some(process) => {
+            let turn = answer_request(process, memory, p);
+            (turn, is_running(process))
         }
-        Outcome::Full(units, limit) => (steps, Outcome::Full(units, limit)),
+        None => unreachable!(),
     }
 }
 
 /// Does what a running process, whose space is there, asked for. One that exits is taken out of the list.
 pub(crate) fn answer_turn(
-    slots: &mut Slots,
+    processes: &mut ByNumber<Process>,
     memory: &mut OverlayMemory,
     running: &mut Vec<u16>,
     p: u16,
 ) -> Turn
-    requires kept { IsRunningList slots.old.items running.old }
-    requires runs { slot_runs (slot_at slots.old.items p) ≡ true }
-    requires there { holds_space (state_of memory.old) p ≡ true }
-    ensures turn { result
-        ≡ asked_found p (slot_guest p (state_of memory.old) (slot_at slots.old.items p)) }
-    ensures changed { IsChanged (guest_answered p) p slots.old.items slots.new.items
-        (state_of memory.old) (state_of memory.new) }
-    ensures kept { IsRunningList slots.new.items running.new }
+    requires kept { IsRunningList processes.old running.old }
+    requires runs { is_running (wholes (machine_of memory.old processes.old)) p ≡ true }
+    requires there { has_space (machine_of memory.old processes.old) p ≡ true }
+    ensures turn { result ≡ turn_asked (wholes (machine_of memory.old processes.old)) p }
+    ensures changed { IsChanged p (machine_of memory.old processes.old)
+        (machine_of memory.new processes.new)
+        (after_asked (wholes (machine_of memory.old processes.old)) p) }
+    ensures kept { IsRunningList processes.new running.new }
 {
-    let turn = answer_in(slots, memory, p);
-    if runs_in(slots, p) {
+    let (turn, runs) = answer_in(processes, memory, p);
+    if runs {
         return turn;
     }
-    take_out(running, p);
+    relist(processes, running, p);
     turn
 }
 
-/// Gives a number, which has none, a process. Where there is no memory for it each slot is as it was.
+/// Gives a number a process. After want of memory each number has what it had.
 pub(crate) fn adopt(
-    alloc: Global,
-    slots: &mut Slots,
+    processes: &mut ByNumber<Process>,
     running: &mut Vec<u16>,
     p: u16,
     process: Process,
 ) -> Result<(), AllocError>
-    requires kept { IsRunningList slots.old.items running.old }
-    requires absent { slot_process (slot_at slots.old.items p) ≡ None }
-    ensures ok { OnOk result (IsEdited slots.old.items slots.new.items p (Some process)) }
-    ensures err { OnErr result ((q : ℕ) → slot_at slots.new.items q ≡ slot_at slots.old.items q) }
-    ensures kept { IsRunningList slots.new.items running.new }
+    requires kept { IsRunningList processes.old running.old }
+    ensures ok { OnOk result (processes.new ≡ map.insert processes.old p process) }
+    ensures err { OnErr result (processes.new ≡ processes.old) }
+    ensures kept { IsRunningList processes.new running.new }
 {
-    let count = p as usize + 1;
-    reserve(running, count)?;
-    grow(slots, count)?;
-    let slot = new_slot(alloc, process)?;
-    if is_running(&slot) {
-        put_in(running, p)?;
-    }
-    fill(slots, p, slot);
+    reserve(running, p as usize + 1)?;
+    // it is handed on field by field: the checker has to be told of their types here
+    let Process { regs, state, saved } = process;
+    processes.insert(p, Process { regs, state, saved })?;
+    relist(processes, running, p);
     Ok(())
 }
 
 /// Puts a process in the place of one. Takes no memory: there is room for each number.
-pub(crate) fn set(slots: &mut Slots, running: &mut Vec<u16>, p: u16, process: Process)
-    requires kept { IsRunningList slots.old.items running.old }
-    requires there { is_some (slot_process (slot_at slots.old.items p)) ≡ true }
-    ensures set { IsEdited slots.old.items slots.new.items p (Some process) }
-    ensures kept { IsRunningList slots.new.items running.new }
+pub(crate) fn set(
+    processes: &mut ByNumber<Process>,
+    running: &mut Vec<u16>,
+    p: u16,
+    process: Process,
+)
+    requires kept { IsRunningList processes.old running.old }
+    requires there { is_some (map.get processes.old p) ≡ true }
+    ensures set { processes.new ≡ map.insert processes.old p process }
+    ensures kept { IsRunningList processes.new running.new }
 {
-    if is_running(&process) {
-        match put_in(running, p) {
-            Ok(()) => (),
-            Err(_) => unreachable!(),
-        }
-    } else {
-        take_out(running, p);
+    match processes.get_mut(p) {
+        Some(place) => *place = process,
+        None => unreachable!(),
     }
-    set_in(slots, p, process);
+    relist(processes, running, p);
 }
 
 /// Takes a process away.
-pub(crate) fn remove(slots: &mut Slots, running: &mut Vec<u16>, number: u16)
-    requires kept { IsRunningList slots.old.items running.old }
-    ensures removed { IsEdited slots.old.items slots.new.items number None }
-    ensures kept { IsRunningList slots.new.items running.new }
+pub(crate) fn remove(processes: &mut ByNumber<Process>, running: &mut Vec<u16>, p: u16)
+    requires kept { IsRunningList processes.old running.old }
+    ensures removed { processes.new ≡ map.remove processes.old p }
+    ensures kept { IsRunningList processes.new running.new }
 {
-    take_out(running, number);
-    remove_in(slots, number);
+    processes.remove(p);
+    relist(processes, running, p);
 }

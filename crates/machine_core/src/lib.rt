@@ -8,9 +8,8 @@
 //! - `view`: the memory of one space, as an instruction sees it
 //! - `guest`: one process, its turn, and what it asks for
 //! - `load`: what a load makes of an image
-//! - `slots`: processes by number
 //! - `running`: the numbers that run, ascending
-//! - `keeping`: slots and that list, kept together
+//! - `keeping`: processes by number and that list, kept together
 //! - `machine`: `Machine` with its calls
 #![tactic(auto)]
 
@@ -20,7 +19,6 @@ mod load;
 mod machine;
 mod process;
 mod running;
-mod slots;
 mod view;
 
 pub use machine::Machine;

@@ -6,8 +6,9 @@ ghost use Rattle.sizes.specs.declared.TheConstants.{FRAME_UNITS, LAST_SPACE, MOS
 ghost use Rattle.elf_loader.specs.Image.{IsImageOf, is_stored, page_bytes};
 ghost use Rattle.ledger.specs.Units.{units};
 ghost use Rattle.overlay_pages.specs.Changes.{limit_of, units_of};
-ghost use Rattle.overlay_pages.specs.State.{bare_space, books, holds_space, page_in, space_in};
+ghost use Rattle.overlay_pages.specs.State.{books};
 ghost use Rattle.overlay_pages.specs.View.{state_of};
+ghost use Rattle.space_maps.specs.Spaces.{bare_space, holds_space, page_in, space_in};
 ghost use Rattle.machine_core.specs.Load.{loaded_ledger, stored_count, stored_pages};
 ghost use Rattle.machine_core.specs.Loading.{HasImage, HasStack, IsAdded, IsOpen, IsReady, HasPages, IsSpaceOf, zero_content};
 

@@ -8,8 +8,8 @@ ghost use Rattle.std.specs.List.Sorted.{IsStrictlyIncreasing};
 ghost use Rattle.std.specs.Option.{MatchOption, is_some, option_copied};
 ghost use Rattle.sizes.specs.declared.TheConstants.{LAST_SPACE, MOST_FRAMES};
 ghost use Rattle.elf_loader.specs.Image.{IsImageOf};
-ghost use Rattle.overlay_pages.specs.State.{space_in};
 ghost use Rattle.overlay_pages.specs.Calls.{IsEmptyState};
+ghost use Rattle.space_maps.specs.Spaces.{space_in};
 ghost use Rattle.machine_core.specs.Machine.{AnswersAs, AreLike, HaveSpaces, IsDropped, KeepsPlaces, LeadsTo, StaysBut, has_saved, has_space, is_marked, is_running, keys_from, registers_at, registers_shown, running_numbers, shown_at, spaces_of, wholes, with_memory, with_process_at, without_pages, without_process, without_process_at};
 ghost use Rattle.machine_core.specs.Turns.{after_asked, after_execution, after_turn, came_to, turn_asked, turn_of};
 ghost use Rattle.machine_core.specs.Executions.{after_executions, came_to_last, steps_to};
@@ -18,10 +18,10 @@ ghost use Rattle.machine_core.specs.Load.{IsAsBefore, IsLoaded, Loads, LoadsAs, 
 ghost use Rattle.machine_core.specs.contracts.machine.Machine.{the_row};
 ghost use Rattle.overlay_memory.specs.contracts.memory.OverlayMemory as memory;
 
-use crate::keeping::{adopt, answer_turn, execute_turns, remove, set};
+use crate::keeping::{adopt, answer_turn, execute_turns, remove, runs_in, set};
 use crate::load::{load_space, stored_in};
 use crate::process::Process;
-use crate::slots::{Slots, next_in, process_in, runs_in};
+use by_number::ByNumber;
 use elf_loader::Image;
 use overlay_memory::{OverlayMemory, SpaceError};
 use ovl_io::{ProcessState, Turn};
@@ -33,9 +33,8 @@ use std::marker::Model;
 /// The memories of spaces by number, and processes by number, each with the space of its own number.
 #[derive(Drop)]
 pub struct Machine {
-    alloc: Global,
     memory: OverlayMemory,
-    slots: Slots,
+    processes: ByNumber<Process>,
     running: Vec<u16>,
 }
 
@@ -47,11 +46,11 @@ impl Model for Machine {
 
     ghost coded = { machine_code };
 
-    ghost use Rattle.machine_core.specs.Slots.{seen, IsRunningList};
+    ghost use Rattle.machine_core.specs.Kept.{machine_of, IsRunningList};
 
-    ghost view = { λ m. record { memory = m.memory; processes = seen m.slots.items } };
+    ghost view = { λ m. machine_of m.memory m.processes };
 
-    ghost invariant = { λ m. IsRunningList m.slots.items m.running };
+    ghost invariant = { λ m. IsRunningList m.processes m.running };
 }
 
 impl Machine {
@@ -64,9 +63,8 @@ impl Machine {
         ensures processes { IfOk result (λ machine. machine.processes ≡ map.empty) }
     {
         Ok(Machine {
-            alloc,
             memory: OverlayMemory::new(alloc, frames)?,
-            slots: Vec::new(alloc),
+            processes: ByNumber::new(alloc),
             running: Vec::new(alloc),
         })
     }
@@ -110,7 +108,7 @@ impl Machine {
             saved: None,
         };
         load_space(&mut self.memory, p, image, file)?;
-        match adopt(self.alloc, &mut self.slots, &mut self.running, p, process) {
+        match adopt(&mut self.processes, &mut self.running, p, process) {
             Ok(()) => Ok(()),
             Err(AllocError) => {
                 self.memory.drop_space(p);
@@ -126,7 +124,7 @@ impl Machine {
         ensures ok { OnOk result (self.new ≡ with_process_at self.old p process) }
         ensures err { OnErr result (self.new ≡ self.old) }
     {
-        adopt(self.alloc, &mut self.slots, &mut self.running, p, process)
+        adopt(&mut self.processes, &mut self.running, p, process)
     }
 
     /// What is shown of a process, which is all but its memory; none exactly where there is no process of that number. What is
@@ -141,7 +139,7 @@ impl Machine {
         ensures stands { is_marked self.now p ≡ has_saved self.now p
             → AnswersAs (λ state. shown_at state p) self.now (option_copied result) }
     {
-        process_in(&self.slots, p)
+        self.processes.get(p)
     }
 
     /// Puts a process in the place of process `p`, which is there. Takes no memory.
@@ -149,7 +147,7 @@ impl Machine {
         requires there { is_some (map.get self.old.processes p) ≡ true }
         ensures { self.new ≡ with_process_at self.old p process }
     {
-        set(&mut self.slots, &mut self.running, p, process);
+        set(&mut self.processes, &mut self.running, p, process);
     }
 
     /// Takes away process `p`, which is there. Its space stays.
@@ -159,7 +157,7 @@ impl Machine {
         ensures after { wholes self.new ≡ without_process p (wholes self.old) }
         ensures stands { LeadsTo (without_process p) self.old self.new }
     {
-        remove(&mut self.slots, &mut self.running, p);
+        remove(&mut self.processes, &mut self.running, p);
     }
 
     /// Takes away space `p`, which is there, of which no page awaits being shared, and which has no process; gives up its pages.
@@ -193,7 +191,7 @@ impl Machine {
         ensures running { result ≡ is_running (wholes self.now) p }
         ensures stands { AnswersAs (λ state. is_running state p) self.now result }
     {
-        runs_in(&self.slots, p)
+        runs_in(&self.processes, p)
     }
 
     /// The numbers of the processes that run, ascending. They are kept, not looked for.
@@ -212,7 +210,7 @@ impl Machine {
         ensures { MatchOption result (keys_from from (wholes self.now) ≡ [])
             (λ p. slice_get (keys_from from (wholes self.now)) 0 ≡ Some p) }
     {
-        next_in(&self.slots, from)
+        self.processes.next_from(from)
     }
 
     /// Executes up to so many instructions of a running process, whose space is there, as long as each is a step, but not what
@@ -233,7 +231,7 @@ impl Machine {
         ensures places { KeepsPlaces self.old self.new }
     {
         execute_turns(
-            &mut self.slots,
+            &mut self.processes,
             &mut self.memory,
             &mut self.running,
             p,
@@ -264,7 +262,7 @@ impl Machine {
         ensures others { StaysBut p self.old self.new }
         ensures places { KeepsPlaces self.old self.new }
     {
-        answer_turn(&mut self.slots, &mut self.memory, &mut self.running, p)
+        answer_turn(&mut self.processes, &mut self.memory, &mut self.running, p)
     }
 
     /// One instruction of a running process, whose space is there, and what came of it: an execution, and then what it asked

@@ -1,9 +1,9 @@
 //! The numbers of the processes that run, ascending.
 
-ghost use Rattle.std.specs.Prelude.{◌≡◌, ◌≤◌, ◌<◌, true, length, OnOk, OnErr, IsOk};
+ghost use Rattle.std.specs.Prelude.{◌≡◌, ◌≤◌, ◌<◌, true, false, length, OnOk, OnErr, IsOk};
 ghost use Rattle.std.specs.List.Sorted.{IsStrictlyIncreasing};
 ghost use Rattle.std.specs.Vec.{vec_capacity};
-ghost use Rattle.machine_core.specs.Slots.{HasJoined, HasLeft, IsPlaceOf, is_in};
+ghost use Rattle.machine_core.specs.Kept.{IsListed, IsPlaceOf, is_in};
 
 use std::alloc::AllocError;
 
@@ -16,10 +16,10 @@ fn place(running: &[u16], p: u16) -> Result<usize, usize>
 }
 
 /// Puts a number in its place, where it isn't there yet.
-pub(crate) fn put_in(running: &mut Vec<u16>, p: u16) -> Result<(), AllocError>
+fn put_in(running: &mut Vec<u16>, p: u16) -> Result<(), AllocError>
     requires { IsStrictlyIncreasing running.old.items }
     ensures ascending { IsStrictlyIncreasing running.new.items }
-    ensures listed { OnOk result (HasJoined p running.old.items running.new.items) }
+    ensures listed { OnOk result (IsListed p true running.old.items running.new.items) }
     ensures err { OnErr result (running.new.items ≡ running.old.items) }
     ensures room { vec_capacity running.old ≤ vec_capacity running.new }
     ensures already { is_in running.old.items p ≡ true → IsOk result }
@@ -35,10 +35,10 @@ pub(crate) fn put_in(running: &mut Vec<u16>, p: u16) -> Result<(), AllocError>
 }
 
 /// Takes a number out, where it is there.
-pub(crate) fn take_out(running: &mut Vec<u16>, p: u16)
+fn take_out(running: &mut Vec<u16>, p: u16)
     requires { IsStrictlyIncreasing running.old.items }
     ensures ascending { IsStrictlyIncreasing running.new.items }
-    ensures listed { HasLeft p running.old.items running.new.items }
+    ensures listed { IsListed p false running.old.items running.new.items }
     ensures room { vec_capacity running.new ≡ vec_capacity running.old }
 {
     match place(running.as_slice(), p) {
@@ -46,6 +46,25 @@ pub(crate) fn take_out(running: &mut Vec<u16>, p: u16)
             let _ = running.remove(at);
         }
         Err(_) => (),
+    }
+}
+
+/// Lists a number, or takes it out. Where it is to be listed and isn't yet, there is room for it, so it takes no memory.
+pub(crate) fn list(running: &mut Vec<u16>, p: u16, listed: bool)
+    requires ascending { IsStrictlyIncreasing running.old.items }
+    requires room { listed ≡ true → is_in running.old.items p ≡ false
+        → length running.old.items < vec_capacity running.old }
+    ensures ascending { IsStrictlyIncreasing running.new.items }
+    ensures listed { IsListed p listed running.old.items running.new.items }
+    ensures room { vec_capacity running.old ≤ vec_capacity running.new }
+{
+    if listed {
+        match put_in(running, p) {
+            Ok(()) => (),
+            Err(_) => unreachable!(),
+        }
+    } else {
+        take_out(running, p);
     }
 }
 

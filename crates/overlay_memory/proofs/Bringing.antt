@@ -5,13 +5,15 @@ use Rattle.ledger.specs.Changes.{joined}
 use Rattle.ledger.specs.Events.{Store, ledger_after}
 use Rattle.ledger.specs.PlaceLaws.{put_again}
 use Rattle.ledger.specs.StoreLaws.{joined_there, store_joins, store_nothing}
-use Rattle.overlay_pages.specs.State.{PageState, State, base_of, books, held_page, memory_of, page_in, put_page, space_in, turned_page}
+use Rattle.overlay_pages.specs.State.{PageState, State, base_of, books, held_page, memory_of}
 use Rattle.overlay_pages.specs.Changes.{brought, is_writable, with_brought, writes_frame}
-use Rattle.overlay_pages.specs.StateLaws.{changed_there, ledger_put, page_put_beside, page_put_here}
 use Rattle.overlay_memory.specs.PageLaws.{held_there}
 use Rattle.overlay_memory.specs.Pieces.{AreBeside}
 use Rattle.overlay_memory.proofs.Joining.{joined_has, with_own_line}
 use Rattle.overlay_memory.specs.StateMemory.{alone_kept, base_kept, beside_both, beside_put, beside_same, memory_kept, writable_at, writable_same, writes_same}
+use Rattle.space_maps.specs.Books.{books_put_page}
+use Rattle.space_maps.specs.Laws.{changed_there, page_put_beside, page_put_here}
+use Rattle.space_maps.specs.Spaces.{page_in, put_page, space_in, turned_page}
 
 -- Lines that join a page's own before they are written.
 
@@ -56,7 +58,7 @@ module _ (v : State) (s p : ℕ) (lines : List ℕ) (x : PageState) (there : pag
         memory = memory_kept v s p (brought lines x) x there refl;
         base = base_kept v s p (brought lines x) x there refl;
         ledger =
-            ledger_put v s p (brought lines x)
+            books_put_page held_page v s p (brought lines x)
             ∙ sym (store_joins (space_in v s).speculating (books v) s p lines frame ∙ joined_there (books v) s p lines (held_page v.zero_frame x) (held_there v s p x there));
         beside = beside_put v s p (brought lines x) x there refl;
       })

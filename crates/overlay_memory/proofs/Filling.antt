@@ -12,16 +12,17 @@ use Rattle.ovl_io.specs.PageBytes.{overwritten}
 use Rattle.overlay_bits.specs.Lines.{has_line}
 use Rattle.ledger.specs.Ledger.{is_alone}
 use Rattle.overlay_pages.specs.Lines.{bytes_in_lines, line_in_page}
-use Rattle.overlay_pages.specs.State.{PageState, State, base_of, base_page, books, memory_of, page_in, put_page, seen_page, space_in}
+use Rattle.overlay_pages.specs.State.{PageState, State, base_of, base_page, books, memory_of, seen_page}
 use Rattle.overlay_pages.specs.Changes.{is_writable, with_written, writes_frame, written}
 use Rattle.overlay_pages.specs.View.{MemoryView, state_of}
-use Rattle.overlay_pages.specs.StateLaws.{changed_there, page_put_beside, page_put_here}
 use Rattle.overlay_memory.specs.Access.{IsUntouched}
 use Rattle.overlay_memory.specs.Pieces.{IsFilled}
 use Rattle.overlay_memory.specs.StateMemory.{base_beside, base_kept, beside_both, beside_put, books_kept, mark_put, memory_put, writable_at, writable_same, writes_same}
 use Rattle.overlay_memory.proofs.LineBytes.{line_written, page_count}
 use Rattle.overlay_memory.proofs.Pieced.{seen_there}
 use Rattle.overlay_memory.proofs.Views.{lines_count}
+use Rattle.space_maps.specs.Laws.{changed_there, page_put_beside, page_put_here}
+use Rattle.space_maps.specs.Spaces.{page_in, put_page, space_in}
 
 -- Bytes that are put in lines that can be written.
 

@@ -8,7 +8,7 @@ use Rattle.overlay_bits.specs.Lines.{has_line}
 use Rattle.ledger.specs.Events.{Store, ledger_after}
 use Rattle.ledger.specs.Ledger.{Ledger}
 use Rattle.ledger.specs.Units.{units}
-use Rattle.overlay_pages.specs.State.{State, books, memory_of, page_in, space_in}
+use Rattle.overlay_pages.specs.State.{State, books, memory_of}
 use Rattle.overlay_pages.specs.Changes.{Fits, is_writable, limit_of, units_of, with_brought}
 use Rattle.overlay_pages.specs.Calls.{RisesBy}
 use Rattle.overlay_pages.specs.View.{MemoryView, state_of}
@@ -24,6 +24,7 @@ use Rattle.overlay_memory.proofs.Joining.{has_under}
 use Rattle.overlay_memory.proofs.Pieced.{permitted}
 use Rattle.overlay_memory.proofs.Stored.{IsDone, full_store, stored_by}
 use Rattle.overlay_memory.proofs.Touching.{touched_two}
+use Rattle.space_maps.specs.Spaces.{page_in, space_in}
 
 -- Stores whose bytes lie in two pages.
 

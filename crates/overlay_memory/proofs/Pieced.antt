@@ -9,7 +9,7 @@ use Rattle.ovl_io.specs.PageBytes.{page_allows}
 use Rattle.ovl_io.specs.declared.perms.Perms.{Perms}
 use Rattle.ovl_io.specs.Permissions.{permits}
 use Rattle.overlay_pages.specs.Lines.{line_in_page}
-use Rattle.overlay_pages.specs.State.{PageState, State, memory_of, page_in, seen_page}
+use Rattle.overlay_pages.specs.State.{PageState, State, memory_of, seen_page}
 use Rattle.overlay_memory.specs.declared.error.MemoryError.{MemoryError}
 use Rattle.overlay_memory.specs.declared.error.MemoryError.TheVariants.{Unmapped, Forbidden, Full}
 use Rattle.overlay_pages.specs.View.{IsJoined, MemoryView, state_of}
@@ -20,6 +20,7 @@ use Rattle.overlay_memory.specs.Pieces.{IsLacking, IsPermitted, Permits}
 use Rattle.overlay_memory.specs.StateMemory.{memory_at}
 use Rattle.overlay_memory.proofs.LineBytes.{line_part, page_count}
 use Rattle.overlay_memory.proofs.Views.{page_low}
+use Rattle.space_maps.specs.Spaces.{page_in}
 
 -- What a look-up for one byte says of an access in its page, and what is read from a line.
 

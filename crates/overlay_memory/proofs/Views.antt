@@ -1,54 +1,30 @@
 use Rattle.std.proofs.Common.{◌≡◌, ℕ, ◌<◌, List, length, Option, Some, None, sym, ap, subst, ◌∙◌, refl}
 use Rattle.std.specs.Option.{option_map}
-use Rattle.std.specs.Ordering.{nat_cmp}
-use Rattle.std.specs.FinMap.{get, get-empty}
 use Rattle.std.proofs.lemmas.List.FromFn.{length-map-range_with_len}
 use Rattle.sizes.specs.declared.TheConstants.{PAGE_END, PAGE_LINES}
-use Rattle.number_maps.specs.Views.{get_viewed}
 use Rattle.overlay_bits.specs.Lines.{AreLines}
 use Rattle.overlay_bits.specs.Laws.{are_none}
 use Rattle.overlay_mapping_table.specs.declared.entry.Entry.{Entry}
 use Rattle.segment_store.specs.Store.{Store}
-use Rattle.space_ledger.specs.View.{PageView, SpaceView, lines_of, page_at}
-use Rattle.space_ledger.specs.ViewLaws as seen
+use Rattle.space_maps.specs.Spaces.{page_in}
+use Rattle.space_ledger.specs.View.{PageView, lines_of}
 use Rattle.overlay_pages.specs.Lines.{lines_of_page, page_lines}
-use Rattle.overlay_pages.specs.State.{PageState, SpaceState, page_in}
-use Rattle.overlay_pages.specs.StateLaws.{page_of, space_absent, space_there}
-use Rattle.overlay_pages.specs.View.{IsJoined, MemoryView, page_state, space_state, state_of}
+use Rattle.overlay_pages.specs.State.{PageState}
+use Rattle.overlay_pages.specs.View.{IsJoined, MemoryView, page_state, state_of}
+use Rattle.overlay_pages.specs.ViewLaws.{state_page}
 
 -- What is true of a page of a memory as it is kept.
-
-spaces_seen : (view : MemoryView) (s : ℕ) → get (state_of view).spaces s ≡ option_map (space_state view.store) (get view.table.spaces s)
-unfolding state_of
-spaces_seen view s = get_viewed (λ _ x. space_state view.store x) view.table.spaces s
-
-pub page_seen : (view : MemoryView) (s p : ℕ) → page_in (state_of view) s p ≡ option_map (page_state view.store) (page_at view.table s p)
-page_seen view s p = by_space (get view.table.spaces s) refl
-  where
-    by_space : (o : Option SpaceView) → get view.table.spaces s ≡ o → page_in (state_of view) s p ≡ option_map (page_state view.store) (page_at view.table s p)
-    by_space None is =
-        page_of (state_of view) s p
-        ∙ ap (λ (y : SpaceState). get y.pages p) (space_absent (state_of view) s (spaces_seen view s ∙ ap (option_map (space_state view.store)) is))
-        ∙ get-empty {X = PageState} nat_cmp p
-        ∙ sym (ap (option_map (page_state view.store))
-        (seen.page_of view.table s p ∙ ap (λ (y : SpaceView). get y.pages p) (seen.space_absent view.table s is) ∙ get-empty {X = PageView} nat_cmp p))
-    by_space (Some x) is =
-        page_of (state_of view) s p
-        ∙ ap (λ (y : SpaceState). get y.pages p) (space_there (state_of view) s (space_state view.store x)
-        (spaces_seen view s ∙ ap (option_map (space_state view.store)) is))
-        ∙ get_viewed (λ _ y. page_state view.store y) x.pages p
-        ∙ sym (ap (option_map (page_state view.store)) (seen.page_of view.table s p ∙ ap (λ (y : SpaceView). get y.pages p) (seen.space_there view.table s x is)))
 
 -- the page of the tables that a page is seen of
 record IsSeen (view : MemoryView) (s p : ℕ) (x : PageState) : Type 0 where
   kept : PageView
-  there : page_at view.table s p ≡ Some kept
+  there : page_in view.table s p ≡ Some kept
   is : page_state view.store kept ≡ x
 
 seen_of : (view : MemoryView) (s p : ℕ) (x : PageState) → page_in (state_of view) s p ≡ Some x → IsSeen view s p x
-seen_of view s p x there = by_page (page_at view.table s p) refl (sym (page_seen view s p) ∙ there)
+seen_of view s p x there = by_page (page_in view.table s p) refl (sym (state_page view s p) ∙ there)
   where
-    by_page : (o : Option PageView) → page_at view.table s p ≡ o → option_map (page_state view.store) (page_at view.table s p) ≡ Some x → IsSeen view s p x
+    by_page : (o : Option PageView) → page_in view.table s p ≡ o → option_map (page_state view.store) (page_in view.table s p) ≡ Some x → IsSeen view s p x
     by_page None is h = let no = sym h ∙ ap (option_map (page_state view.store)) is in cc
     by_page (Some y) is h = let same = sym (ap (option_map (page_state view.store)) is) ∙ h in record { kept = y; there = is; is = cc }
 
@@ -80,7 +56,7 @@ own_set view s p x joined there =
     let it = seen_of view s p x there in
     subst AreLines (sym (own_kept view.store it.kept) ∙ ap (λ (y : PageState). y.own) it.is) (by_overlay it.kept it.there it.kept.overlay refl)
   where
-    by_overlay : (y : PageView) → page_at view.table s p ≡ Some y → (o : Option Entry) → y.overlay ≡ o → AreLines (lines_of y.overlay)
+    by_overlay : (y : PageView) → page_in view.table s p ≡ Some y → (o : Option Entry) → y.overlay ≡ o → AreLines (lines_of y.overlay)
     by_overlay y at None is = subst (λ o. AreLines (lines_of o)) (sym is) are_none
     by_overlay y at (Some overlay) is =
         subst (λ o. AreLines (lines_of o)) (sym is) (joined.store.sets overlay.block.unit _ ((joined.held s p y at).segment overlay is))

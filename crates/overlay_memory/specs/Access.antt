@@ -9,7 +9,7 @@ use Rattle.ledger.specs.Touched.{touched}
 use Rattle.ledger.specs.Units.{units}
 use Rattle.page_table.specs.declared.entry.PageEntry.{PageEntry}
 use Rattle.overlay_pages.specs.Lines.{lines_of_bytes}
-use Rattle.overlay_pages.specs.State.{State, base_of, books, holds_space, memory_of, space_in}
+use Rattle.overlay_pages.specs.State.{State, base_of, books, memory_of}
 use Rattle.overlay_pages.specs.Changes.{IsPlaced, limit_of, units_of, whole_page}
 use Rattle.overlay_pages.specs.Calls.{entries_in}
 use Rattle.overlay_pages.specs.View.{MemoryView, state_of}
@@ -20,6 +20,7 @@ use Rattle.overlay_memory.specs.declared.error.MemoryError.{MemoryError}
 use Rattle.overlay_memory.specs.declared.error.MemoryError.TheVariants.{Unmapped, Forbidden, Full}
 use Rattle.overlay_memory.specs.declared.error.SpaceError.{SpaceError}
 use Rattle.overlay_memory.specs.declared.error.SpaceError.TheVariants as refused
+use Rattle.space_maps.specs.Spaces.{holds_space, space_in}
 
 -- How reads and stores come out.
 

@@ -4,9 +4,10 @@ use Rattle.std.specs.Option.{option_map, option_map_or}
 use Rattle.ledger.specs.Ledger.{Holding, holding_at}
 use Rattle.ledger.specs.Changes.{has_own}
 use Rattle.ledger.specs.Units.{class}
-use Rattle.overlay_pages.specs.State.{PageState, State, books, held_page, page_in}
+use Rattle.overlay_pages.specs.State.{PageState, State, books, held_page}
 use Rattle.overlay_memory.specs.PageLaws.{held_there, own_is, some_is}
 use Rattle.overlay_memory.specs.Room.{class_at}
+use Rattle.space_maps.specs.Spaces.{page_in}
 
 -- Laws: what the own lines of a page count.
 

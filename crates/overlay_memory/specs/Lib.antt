@@ -1,11 +1,11 @@
 -- In reading order: whether units fit, how reads and stores come out, and what they come to piece by piece; then laws: of states,
--- of pages that are there, of what own lines count, and of what is true of every memory.
+-- of pages that are there and of their frames, of what own lines count, and of what is true of every memory.
 pub mod Room
 pub mod Access
 pub mod Pieces
 pub mod StateMemory
-pub mod AwaitingLaws
 pub mod PageLaws
+pub mod ApartLaws
 pub mod CountLaws
 pub mod Joined
 pub mod Walked

@@ -3,8 +3,9 @@ use Rattle.std.proofs.Common.{sym, ap, ◌∙◌}
 use Rattle.std.specs.Option.{option_map, option_map_or}
 use Rattle.ledger.specs.Ledger.{Holding, Ledger, holding_at}
 use Rattle.ledger.specs.Changes.{has_own}
-use Rattle.overlay_pages.specs.State.{PageState, State, books, held_page, page_in}
-use Rattle.overlay_pages.specs.StateLaws.{ledger_page}
+use Rattle.overlay_pages.specs.State.{PageState, State, books, held_page}
+use Rattle.space_maps.specs.Books.{books_page}
+use Rattle.space_maps.specs.Spaces.{page_in}
 
 -- Laws: pages that are there, and what the ledger has of them.
 
@@ -26,7 +27,7 @@ has_page v space page some = by_page (page_in v space page) refl
 
 -- what the ledger has of a page that is there
 pub held_there : (v : State) (s p : ℕ) (x : PageState) → page_in v s p ≡ Some x → holding_at (books v) s p ≡ Some (held_page v.zero_frame x)
-held_there v s p x there = ledger_page v s p ∙ ap (option_map (held_page v.zero_frame)) there
+held_there v s p x there = books_page held_page v s p ∙ ap (option_map (held_page v.zero_frame)) there
 
 -- a page that the ledger has is there
 pub record IsThere (v : State) (s p : ℕ) (h : Holding) : Type 0 where
@@ -38,7 +39,7 @@ pub there_of : (v : State) (s p : ℕ) (h : Holding) → holding_at (books v) s 
 there_of v s p h at = by_page (page_in v s p) refl
   where
     by_page : (o : Option PageState) → page_in v s p ≡ o → IsThere v s p h
-    by_page None is = let no = sym (ap is_some at) ∙ ap is_some (ledger_page v s p ∙ ap (option_map (held_page v.zero_frame)) is) in cc
+    by_page None is = let no = sym (ap is_some at) ∙ ap is_some (books_page held_page v s p ∙ ap (option_map (held_page v.zero_frame)) is) in cc
     by_page (Some x) is = record { page = x; there = is; held = some_is h (held_page v.zero_frame x) (sym at ∙ held_there v s p x is) }
 
 -- whether a page has own lines
@@ -55,5 +56,5 @@ pub own_there : (v : State) (s p : ℕ) → has_own (books v) s p ≡ true → i
 own_there v s p own = by_page (page_in v s p) refl
   where
     by_page : (o : Option PageState) → page_in v s p ≡ o → is_some (page_in v s p) ≡ true
-    by_page None is = let no = sym own ∙ own_absent (books v) s p (ledger_page v s p ∙ ap (option_map (held_page v.zero_frame)) is) in cc
+    by_page None is = let no = sym own ∙ own_absent (books v) s p (books_page held_page v s p ∙ ap (option_map (held_page v.zero_frame)) is) in cc
     by_page (Some x) is = ap is_some is

@@ -4,7 +4,7 @@ use Rattle.sizes.specs.declared.TheConstants.{LINE_BYTES, PAGE_BYTES}
 use Rattle.ovl_io.specs.Memory.{with_bytes}
 use Rattle.ovl_io.specs.Permissions.{permits}
 use Rattle.overlay_bits.specs.Lines.{lines_between}
-use Rattle.overlay_pages.specs.State.{PageState, State, base_of, books, cut_space, holds_space, memory_of, page_in, seen_page, space_in}
+use Rattle.overlay_pages.specs.State.{PageState, State, base_of, books, memory_of, seen_page}
 use Rattle.overlay_pages.specs.Changes.{is_writable}
 use Rattle.overlay_pages.specs.Calls.{entries_in}
 use Rattle.overlay_pages.specs.View.{IsJoined, MemoryView, state_of}
@@ -12,6 +12,7 @@ use Rattle.overlay_pages.specs.declared.spots.FoundLine.{FoundLine}
 use Rattle.overlay_memory.specs.Access.{IsFoundIn, IsUntouched}
 use Rattle.overlay_memory.specs.declared.error.MemoryError.{MemoryError}
 use Rattle.overlay_memory.specs.declared.error.MemoryError.TheVariants.{Unmapped, Forbidden, Full}
+use Rattle.space_maps.specs.Spaces.{cut_space, holds_space, of_pages, page_in, put_space, space_in}
 
 -- What reads and stores come to, piece by piece.
 
@@ -71,8 +72,13 @@ pub record IsFilled (old new : State) (space address : ℕ) (bytes : List ℕ) :
   pub writable : (page line : ℕ) → is_writable new space page line ≡ is_writable old space page line
   pub beside : AreBeside old new space
 
+-- a space without its pages; its mark stays
+unfoldable pub emptied_space : State → ℕ → State
+emptied_space state space = put_space state space (of_pages (space_in state space) map.empty)
+
 -- a space lost its pages, and is still there; without it, all is as it would have been before
 pub record IsEmptied (old new : State) (space : ℕ) : Type 0 where
+  pub state : new ≡ emptied_space old space
   pub there : holds_space new space ≡ true
   pub empty : (space_in new space).pages ≡ map.empty
   pub settled : (space_in new space).awaiting ≡ map.empty

@@ -9,11 +9,13 @@ use Rattle.overlay_bits.specs.Lines.{has_line}
 use Rattle.ledger.specs.Ledger.{is_alone, with_page}
 use Rattle.ledger.specs.AloneLaws.{alone_same}
 use Rattle.ledger.specs.PlaceLaws.{put_again}
-use Rattle.overlay_pages.specs.State.{PageState, SpaceState, State, base_of, base_page, books, held_page, holds_space, memory_of, of_pages, page_in, put_page, put_space, seen_page, space_in}
+use Rattle.overlay_pages.specs.State.{PageState, SpaceState, State, base_of, base_page, books, held_page, memory_of, seen_page}
 use Rattle.overlay_pages.specs.Changes.{is_writable, writes_frame}
 use Rattle.overlay_pages.specs.Calls.{entries_in}
-use Rattle.overlay_pages.specs.StateLaws.{ledger_page, ledger_put, page_of, space_beside, space_put, there_space}
 use Rattle.overlay_memory.specs.Pieces.{AreBeside}
+use Rattle.space_maps.specs.Books.{books_page, books_put_page}
+use Rattle.space_maps.specs.Laws.{page_of, space_beside, space_put, there_space}
+use Rattle.space_maps.specs.Spaces.{holds_space, of_pages, page_in, put_page, put_space, space_in}
 
 -- What a page that is put makes of the memory of its space, of its base, of the entries of its pages, and of the ledger.
 
@@ -68,18 +70,18 @@ entries_kept v s p x y there same = seen_kept (λ x. x.entry) v s p x y there sa
 -- a page with the same entry and the same own lines changes no ledger
 pub books_kept : (v : State) (s p : ℕ) (x y : PageState) → page_in v s p ≡ Some y → x.entry ≡ y.entry → x.own ≡ y.own → books (put_page v s p x) ≡ books v
 books_kept v s p x y there entry own =
-    ledger_put v s p x
+    books_put_page held_page v s p x
     ∙ ap (λ e. with_page (books v) s p (held_page v.zero_frame (record { entry = e; own = x.own; lines = x.lines; base = x.base }))) entry
     ∙ ap (λ o. with_page (books v) s p (held_page v.zero_frame (record { entry = y.entry; own = o; lines = x.lines; base = x.base }))) own
-    ∙ put_again (books v) s p (held_page v.zero_frame y) (ledger_page v s p ∙ ap (option_map (held_page v.zero_frame)) there)
+    ∙ put_again (books v) s p (held_page v.zero_frame y) (books_page held_page v s p ∙ ap (option_map (held_page v.zero_frame)) there)
 
 -- and one with the same entry leaves the same pages alone
 pub alone_kept : (v : State) (s p : ℕ) (x y : PageState) → page_in v s p ≡ Some y → x.entry ≡ y.entry → (q r : ℕ)
     → is_alone (books (put_page v s p x)) q r ≡ is_alone (books v) q r
 alone_kept v s p x y there entry q r =
-    ap (λ l. is_alone l q r) (ledger_put v s p x)
+    ap (λ l. is_alone l q r) (books_put_page held_page v s p x)
     ∙ alone_same (books v) s p (held_page v.zero_frame y) (held_page v.zero_frame x)
-    (ledger_page v s p ∙ ap (option_map (held_page v.zero_frame)) there)
+    (books_page held_page v s p ∙ ap (option_map (held_page v.zero_frame)) there)
     (ap (λ e. (held_page v.zero_frame (record { entry = e; own = x.own; lines = x.lines; base = x.base })).origin) entry) q r
 
 -- Beside a page that is put.

@@ -1,8 +1,9 @@
 use Rattle.std.specs.Prelude.{◌≡◌, ℕ, ◌+◌, ◌≤◌, ◌<◌, Bool, true, false, ◌||◌, nat_eq, nat_lt, Some, None, is_some, refl}
 use Rattle.std.proofs.Common.{sym, ap, ◌∙◌, arith}
 use Rattle.std.proofs.lemmas.Bool.Decides.{nat_tests}
-use Rattle.overlay_pages.specs.State.{State, page_in}
+use Rattle.overlay_pages.specs.State.{State}
 use Rattle.overlay_pages.specs.Calls.{IsNextPage}
+use Rattle.space_maps.specs.Spaces.{page_in}
 
 -- Laws: the pages of a space, walked in ascending order.
 

@@ -8,15 +8,16 @@ ghost use Rattle.sizes.specs.declared.TheConstants.{LAST_SPACE, LINE_BYTES, MOST
 ghost use Rattle.ovl_io.specs.Memory.{bytes_at};
 ghost use Rattle.ledger.specs.Ledger.{is_alone};
 ghost use Rattle.ledger.specs.Units.{own_lines};
+ghost use Rattle.space_maps.specs.Spaces.{bare_space, cut_space, holds_space, page_in, put_awaiting, put_mark, put_space, space_in, turned_page};
 ghost use Rattle.space_ledger.specs.Space.{IsLeast};
 ghost use Rattle.space_ledger.specs.Calls.{IsNextOwn, NamesOnce};
 ghost use Rattle.overlay_pages.specs.Lines.{line_in_page};
-ghost use Rattle.overlay_pages.specs.State.{bare_space, books, cut_space, holds_space, memory_of, page_in, put_awaiting, put_mark, put_space, space_in, turned_page};
+ghost use Rattle.overlay_pages.specs.State.{books, memory_of};
 ghost use Rattle.overlay_pages.specs.Changes.{AreAbsent, Fits, HasCopyRoom, HasShareRoom, IsPlaced, committed, copied, discarded, is_writable, limit_of, units_of, with_shared, with_written, with_zeros};
 ghost use Rattle.overlay_pages.specs.View.{HasOwnPlace, IsJoined, place_at, state_of};
 ghost use Rattle.overlay_pages.specs.Calls.{AreShared, AwaitBare, AwaitsLike, IsEmptyState, IsNextPage, NoneAwaitsBelow, entries_in, with_line_at_place};
 ghost use Rattle.overlay_memory.specs.Access.{FindsIn, IsFoundIn, KeepsFound, Places, Reads, Stores};
-ghost use Rattle.overlay_memory.specs.Pieces.{IsEmptied};
+ghost use Rattle.overlay_memory.specs.Pieces.{IsEmptied, emptied_space};
 ghost use Rattle.overlay_memory.specs.Room.{FallsShort};
 ghost use Rattle.overlay_memory.specs.contracts.memory.OverlayMemory.{the_row};
 
@@ -93,6 +94,15 @@ impl OverlayMemory {
     {
         remove_pages(&mut self.pages, space);
         self.pages.end_space(space);
+    }
+
+    /// Gives the pages of a space up, and not the space, whose mark stays. Takes no memory. Costs its pages.
+    pub fn clear_space(&mut self, space: u16)
+        requires there { holds_space (state_of self.old) space ≡ true }
+        requires settled { (space_in (state_of self.old) space).awaiting ≡ map.empty }
+        ensures { state_of self.new ≡ emptied_space (state_of self.old) space }
+    {
+        remove_pages(&mut self.pages, space);
     }
 
     /// Maps `n` pages from `page` on, which aren't there, on the zero frame and without own lines. After want of memory

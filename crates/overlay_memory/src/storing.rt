@@ -3,12 +3,12 @@
 ghost use Rattle.std.specs.Prelude.{◌≡◌, ◌+◌, ◌-◌, ◌*◌, ◌/◌, ◌%◌, ◌<◌, ◌≤◌, IsSome, length, true};
 ghost use Rattle.sizes.specs.declared.TheConstants.{LINE_BYTES, PAGE_BYTES, PAGE_LINES};
 ghost use Rattle.ovl_io.specs.Permissions.{writable};
-ghost use Rattle.overlay_pages.specs.State.{page_in};
 ghost use Rattle.overlay_pages.specs.Changes.{is_writable};
 ghost use Rattle.overlay_pages.specs.View.{state_of};
 ghost use Rattle.overlay_pages.specs.Spots.{IsFound};
 ghost use Rattle.overlay_memory.specs.Access.{Stores};
 ghost use Rattle.overlay_memory.specs.Pieces.{AreWritable, IsFilled, Permits, lines_under};
+ghost use Rattle.space_maps.specs.Spaces.{page_in};
 
 use crate::error::MemoryError;
 use crate::reading::{find, permit};

@@ -8,17 +8,16 @@ use Rattle.unit_map.specs.Pieces.{free_units}
 use Rattle.page_table.specs.Table.{is_within}
 use Rattle.page_table.specs.declared.entry.PageEntry.{PageEntry}
 use Rattle.ledger.specs.Ledger.{Ledger, is_alone}
-use Rattle.space_ledger.specs.View.{LedgerView, PageView, has_space, ledger_of, overlay_at, page_at, space_at, with_page_at, with_zero_pages}
-use Rattle.space_ledger.specs.ViewLaws as tables
+use Rattle.space_maps.specs.Laws.{keeps_page_put, page_put_here}
+use Rattle.space_maps.specs.Spaces.{holds_space, page_in, put_page, put_space, space_in}
+use Rattle.space_ledger.specs.View.{LedgerView, PageView, ledger_of, overlay_at, with_zero_pages}
 use Rattle.overlay_pages.specs.Lines.{zero_page}
-use Rattle.overlay_pages.specs.State.{PageState, State, books, holds_space, page_in, put_page, space_in}
-use Rattle.overlay_pages.specs.StateLaws as states
+use Rattle.overlay_pages.specs.State.{State}
 use Rattle.overlay_pages.specs.Changes.{IsPlaced, limit_of, moved_to, units_of, whole_page}
 use Rattle.overlay_pages.specs.Steps.{Moved}
 use Rattle.overlay_pages.specs.View.{IsJoined, MemoryView, state_of, view_of}
 use Rattle.overlay_pages.specs.ViewLaws.{state_awaiting, state_books, state_holds, state_zero}
 use Rattle.overlay_pages.proofs.Growing.{bare_still, free_is, there_still}
-use Rattle.overlay_pages.proofs.Steps.{space_put_at}
 use Rattle.overlay_pages.proofs.Tables.{none_back}
 use Rattle.overlay_pages.proofs.Zeros.{zeros_joined}
 use Rattle.overlay_pages.proofs.Placed.{one_zero, one_zero_state, placed_before, placed_units, zero_shared}
@@ -28,8 +27,8 @@ use Rattle.overlay_pages.proofs.Placed.{one_zero, one_zero_state, placed_before,
 same_page : (page q : ℕ) → IsTrue (is_within page 1 q) → q ≡ page
 same_page page q inside = grind (arith, nat_tests, inside)
 
-pub only_one : (v : LedgerView) (s page q : ℕ) → IsTrue (is_within page 1 q) → page_at v s page ≡ None → page_at v s q ≡ None
-only_one v s page q inside absent = ap (page_at v s) (same_page page q inside) ∙ absent
+pub only_one : (v : LedgerView) (s page q : ℕ) → IsTrue (is_within page 1 q) → page_in v s page ≡ None → page_in v s q ≡ None
+only_one v s page q inside absent = ap (page_in v s) (same_page page q inside) ∙ absent
 
 pub added_room : (v : MemoryView) → IsJoined v → units_of (state_of v) + 16 ≤ limit_of (state_of v) → 16 ≤ free_units v.store.blocks
 added_room v is fits = omega (arith, free_is v is, fits)
@@ -37,17 +36,17 @@ added_room v is fits = omega (arith, free_is v is, fits)
 -- the page was mapped
 pub record HasMapped (v : MemoryView) (table : LedgerView) (s p : ℕ) (entry : PageEntry) : Type 0 where
   pub joined : IsJoined (view_of v.store table)
-  pub table_is : table ≡ with_page_at v.table s p (record { entry = entry; overlay = None })
+  pub table_is : table ≡ put_page v.table s p (record { entry = entry; overlay = None })
   pub state : state_of (view_of v.store table) ≡ put_page (state_of v) s p (whole_page entry zero_page)
   pub there : holds_space (state_of v) s ≡ true
   pub absent : page_in (state_of v) s p ≡ None
   pub zero_is : entry.frame ≡ (state_of v).zero_frame
 
-pub mapped_in : (v : MemoryView) (table : LedgerView) (s p : ℕ) (entry : PageEntry) → IsJoined v → has_space v.table s ≡ true → p < PAGE_END → page_in (state_of v) s p ≡ None → entry.frame ≡ v.table.zero_frame
+pub mapped_in : (v : MemoryView) (table : LedgerView) (s p : ℕ) (entry : PageEntry) → IsJoined v → holds_space v.table s ≡ true → p < PAGE_END → page_in (state_of v) s p ≡ None → entry.frame ≡ v.table.zero_frame
     → table ≡ with_zero_pages v.table s p 1 entry → HasMapped v table s p entry
 mapped_in v table s p entry is there low absent zero_is table_is =
     let none = none_back v s p absent in
-    let all = zeros_joined 1 p v.store v.table s entry is there (omega (arith, low)) (λ page from to. let same : page ≡ p = omega (arith, from, to) in ap (page_at v.table s) same ∙ none) zero_is in
+    let all = zeros_joined 1 p v.store v.table s entry is there (omega (arith, low)) (λ page from to. let same : page ≡ p = omega (arith, from, to) in ap (page_in v.table s) same ∙ none) zero_is in
     record {
       joined = subst (λ (t : LedgerView). IsJoined (view_of v.store t)) (sym table_is) all.0;
       table_is = table_is ∙ one_zero v.table s p entry;
@@ -61,10 +60,10 @@ module _ (v now : MemoryView) (table : LedgerView) (s p : ℕ) (entry : PageEntr
   mapped_page : PageView
   mapped_page = record { entry = entry; overlay = None }
 
-  at_table : page_at table s p ≡ Some (record { entry = entry; overlay = None })
-  at_table = ap (λ (t : LedgerView). page_at t s p) so.table_is ∙ tables.view_put v.table s p (record { entry = entry; overlay = None }) s p refl refl
+  at_table : page_in table s p ≡ Some (record { entry = entry; overlay = None })
+  at_table = ap (λ (t : LedgerView). page_in t s p) so.table_is ∙ page_put_here v.table s p (record { entry = entry; overlay = None }) s p refl refl
 
-  some_table : IsSome (page_at table s p)
+  some_table : IsSome (page_in table s p)
   some_table = ap is_some at_table
 
   bare_table : overlay_at table s p ≡ None
@@ -74,26 +73,25 @@ module _ (v now : MemoryView) (table : LedgerView) (s p : ℕ) (entry : PageEntr
   now_state = moved.state ∙ so.state
 
   now_page : page_in (state_of now) s p ≡ Some (whole_page entry zero_page)
-  now_page = ap (λ st. page_in st s p) now_state ∙ states.page_put_here (state_of v) s p (whole_page entry zero_page) s p refl refl
+  now_page = ap (λ st. page_in st s p) now_state ∙ page_put_here (state_of v) s p (whole_page entry zero_page) s p refl refl
 
-  pub ready_there : IsSome (page_at now.table s p)
+  pub ready_there : IsSome (page_in now.table s p)
   ready_there = there_still (view_of v.store table) now s p moved.state some_table
 
   pub ready_bare : overlay_at now.table s p ≡ None
   ready_bare = bare_still (view_of v.store table) now s p moved.joined moved.state some_table bare_table
 
   now_zero : entry.frame ≡ (state_of now).zero_frame
-  unfolding put_page Rattle.overlay_pages.specs.State.put_space
+  unfolding put_page put_space
   now_zero = so.zero_is ∙ sym (ap (λ (st : State). st.zero_frame) now_state)
 
   pub ready_shared : is_alone (ledger_of now.table) s p ≡ false
   ready_shared = ap (λ (l : Ledger). is_alone l s p) (sym (state_books now)) ∙ zero_shared (state_of now) s p (whole_page entry zero_page) now_page now_zero
 
-  pub ready_settled : (space_at v.table s).awaiting ≡ empty → (space_at now.table s).awaiting ≡ empty
-  unfolding put_page
+  pub ready_settled : (space_in v.table s).awaiting ≡ empty → (space_in now.table s).awaiting ≡ empty
   ready_settled none =
       sym (state_awaiting now s) ∙ ap (λ (st : State). (space_in st s).awaiting) now_state
-      ∙ (space_put_at (state_of v) s so.there s (Rattle.overlay_pages.specs.State.of_pages (space_in (state_of v) s) (Rattle.std.specs.FinMap.insert (space_in (state_of v) s).pages p (whole_page entry zero_page))) refl refl).1
+      ∙ (keeps_page_put (state_of v) s p (whole_page entry zero_page) so.there).awaiting s
       ∙ state_awaiting v s ∙ none
 
   placed_now : (new : MemoryView) (lines : List (List ℕ)) → IfSome (page_in (state_of now) s p) (λ x. IsPlaced (state_of now) (state_of new) s p (moved_to x lines))

@@ -14,17 +14,17 @@ use Rattle.segment_store.specs.Store.{frame_line, frame_place, place_of}
 use Rattle.segment_store.specs.Laws.{frame_inside}
 use Rattle.unit_map.specs.Pieces.{units_in}
 use Rattle.page_table.specs.declared.entry.PageEntry.{PageEntry}
+use Rattle.space_maps.specs.Laws.{page_again, page_put_here}
+use Rattle.space_maps.specs.Spaces.{page_in, put_page, turned_page}
 use Rattle.space_ledger.specs.Joined.{put_same}
-use Rattle.space_ledger.specs.View.{LedgerView, PageView, lines_of, overlay_at, page_at}
+use Rattle.space_ledger.specs.View.{LedgerView, PageView, lines_of, overlay_at}
 use Rattle.overlay_pages.specs.Lines.{page_lines}
 use Rattle.overlay_pages.specs.LineLaws.{lines_same, set_line}
-use Rattle.overlay_pages.specs.State.{PageState, page_in, put_page, turned_page}
+use Rattle.overlay_pages.specs.State.{PageState}
 use Rattle.overlay_pages.specs.Changes.{Fits, brought, limit_of, units_of}
 use Rattle.overlay_pages.specs.Steps.{joins}
 use Rattle.overlay_pages.specs.View.{IsJoined, MemoryView, line_seen, page_state, state_of}
 use Rattle.overlay_pages.specs.ViewLaws.{state_page_some, state_page_there}
-use Rattle.overlay_pages.specs.StateLaws as states
-use Rattle.overlay_pages.proofs.Steps.{put_again}
 use Rattle.overlay_pages.proofs.Joining.{sets_are}
 use Rattle.overlay_pages.proofs.Growing.{turn_is, turned_limit, turned_twice, turned_units}
 
@@ -44,7 +44,7 @@ none_more : (lines : List ℕ) → with_lines lines [] ≡ lines
 unfolding with_lines
 none_more lines = refl
 
-page_own : (v : MemoryView) (s p : ℕ) → IsJoined v → (x : PageView) → page_at v.table s p ≡ Some x → AreLines (lines_of x.overlay)
+page_own : (v : MemoryView) (s p : ℕ) → IsJoined v → (x : PageView) → page_in v.table s p ≡ Some x → AreLines (lines_of x.overlay)
 page_own v s p is x there = at x.overlay refl
   where
     at : (o : Option Entry) → x.overlay ≡ o → AreLines (lines_of x.overlay)
@@ -53,12 +53,12 @@ page_own v s p is x there = at x.overlay refl
 
 record Found (v : MemoryView) (s p : ℕ) : Type 0 where
   pub x : PageView
-  pub there : page_at v.table s p ≡ Some x
+  pub there : page_in v.table s p ≡ Some x
 
-found : (v : MemoryView) (s p : ℕ) → IsSome (page_at v.table s p) → Found v s p
-found v s p some = at (page_at v.table s p) refl some
+found : (v : MemoryView) (s p : ℕ) → IsSome (page_in v.table s p) → Found v s p
+found v s p some = at (page_in v.table s p) refl some
   where
-    at : (o : Option PageView) → page_at v.table s p ≡ o → IsSome o → Found v s p
+    at : (o : Option PageView) → page_in v.table s p ≡ o → IsSome o → Found v s p
     at None e h = absurd (not_some h)
       where
         not_some : IsSome {T = PageView} None → ⊥
@@ -66,11 +66,11 @@ found v s p some = at (page_at v.table s p) refl some
     at (Some x) e h = record { x = x; there = e }
 
 -- A line that is there already: nothing is brought.
-pub brought_already : (v : MemoryView) (s p line : ℕ) → IsJoined v → IsSome (page_at v.table s p) → line < 64 → has_line (lines_of (overlay_at v.table s p)) line ≡ true
+pub brought_already : (v : MemoryView) (s p line : ℕ) → IsJoined v → IsSome (page_in v.table s p) → line < 64 → has_line (lines_of (overlay_at v.table s p)) line ≡ true
     → state_of v ≡ turned_page (brought (line ∷ [])) (state_of v) s p
 unfolding page_state
 brought_already v s p line is there low has =
-    sym (turn_is (brought (line ∷ [])) (state_of v) s p (page_state v.store f.x) y_there ∙ ap (put_page (state_of v) s p) same ∙ put_again (state_of v) s p (page_state v.store f.x) y_there)
+    sym (turn_is (brought (line ∷ [])) (state_of v) s p (page_state v.store f.x) y_there ∙ ap (put_page (state_of v) s p) same ∙ page_again (state_of v) s p (page_state v.store f.x) y_there)
   where
     f : Found v s p
     f = found v s p there
@@ -91,8 +91,8 @@ brought_already v s p line is there low has =
     same = λ i. record { entry = f.x.entry; own = own i; lines = page_lines (line_seen v.store f.x); base = page_lines (frame_line v.store f.x.entry.frame) }
 
 -- One that isn't there comes as the frame has it, so what is seen stays.
-pub brought_is : (v : MemoryView) (s p line frame : ℕ) (bytes : List ℕ) → IsJoined v → IsSome (page_at v.table s p) → line < 64 → has_line (lines_of (overlay_at v.table s p)) line ≡ false
-    → option_map (λ (x : PageView). x.entry.frame) (page_at v.table s p) ≡ Some frame → bytes ≡ frame_line v.store frame line
+pub brought_is : (v : MemoryView) (s p line frame : ℕ) (bytes : List ℕ) → IsJoined v → IsSome (page_in v.table s p) → line < 64 → has_line (lines_of (overlay_at v.table s p)) line ≡ false
+    → option_map (λ (x : PageView). x.entry.frame) (page_in v.table s p) ≡ Some frame → bytes ≡ frame_line v.store frame line
     → turned_page (joins line bytes) (state_of v) s p ≡ turned_page (brought (line ∷ [])) (state_of v) s p
 unfolding page_state
 brought_is v s p line frame bytes is there low absent framed bytes_is =
@@ -139,7 +139,7 @@ pub record HasBrought (first now : MemoryView) (s p : ℕ) (lines front rest : L
   pub joined : IsJoined now
   pub state : state_of now ≡ turned_page (brought front) (state_of first) s p
 
-pub none_brought : (v : MemoryView) (s p : ℕ) (lines rest : List ℕ) → IsJoined v → IsSome (page_at v.table s p) → rest ≡ lines → HasBrought v v s p lines [] rest
+pub none_brought : (v : MemoryView) (s p : ℕ) (lines rest : List ℕ) → IsJoined v → IsSome (page_in v.table s p) → rest ≡ lines → HasBrought v v s p lines [] rest
 unfolding page_state
 none_brought v s p lines rest is there same =
     let f = found v s p there in
@@ -149,10 +149,10 @@ none_brought v s p lines rest is there same =
     record {
       whole = sym same;
       joined = is;
-      state = sym (turn_is (brought []) (state_of v) s p (page_state v.store f.x) y_there ∙ ap (put_page (state_of v) s p) back ∙ put_again (state_of v) s p (page_state v.store f.x) y_there);
+      state = sym (turn_is (brought []) (state_of v) s p (page_state v.store f.x) y_there ∙ ap (put_page (state_of v) s p) back ∙ page_again (state_of v) s p (page_state v.store f.x) y_there);
     }
 
-module _ (first now : MemoryView) (s p : ℕ) (lines front rest : List ℕ) (line : ℕ) (more : List ℕ) (there : IsSome (page_at first.table s p)) (cut : rest ≡ line ∷ more)
+module _ (first now : MemoryView) (s p : ℕ) (lines front rest : List ℕ) (line : ℕ) (more : List ℕ) (there : IsSome (page_in first.table s p)) (cut : rest ≡ line ∷ more)
     (so : HasBrought first now s p lines front rest) where
   y : (x : PageState) × (page_in (state_of first) s p ≡ Some x)
   y = let f = found first s p there in (page_state first.store f.x, state_page_there first s p f.x f.there)
@@ -194,20 +194,20 @@ module _ (first now : MemoryView) (s p : ℕ) (lines front rest : List ℕ) (lin
   one_brought after joined state = record { whole = next_is; joined = joined; state = state ∙ next_state }
 
 -- The frame of a page's entry.
-pub entry_frame : (v : LedgerView) (s p : ℕ) (entry : PageEntry) → option_map (λ (x : PageView). x.entry) (page_at v s p) ≡ Some entry → option_map (λ (x : PageView). x.entry.frame) (page_at v s p) ≡ Some entry.frame
-entry_frame v s p entry is = at (page_at v s p) refl
+pub entry_frame : (v : LedgerView) (s p : ℕ) (entry : PageEntry) → option_map (λ (x : PageView). x.entry) (page_in v s p) ≡ Some entry → option_map (λ (x : PageView). x.entry.frame) (page_in v s p) ≡ Some entry.frame
+entry_frame v s p entry is = at (page_in v s p) refl
   where
-    at : (o : Option PageView) → page_at v s p ≡ o → option_map (λ (x : PageView). x.entry.frame) (page_at v s p) ≡ Some entry.frame
+    at : (o : Option PageView) → page_in v s p ≡ o → option_map (λ (x : PageView). x.entry.frame) (page_in v s p) ≡ Some entry.frame
     at None e = absurd (no_entry (sym (ap (option_map (λ (x : PageView). x.entry)) e) ∙ is))
       where
         no_entry : None ≡ Some entry → ⊥
         no_entry h = cc
     at (Some x) e = ap (option_map (λ (x : PageView). x.entry.frame)) e ∙ ap (option_map (λ (f : PageEntry). f.frame)) (sym (ap (option_map (λ (x : PageView). x.entry)) e) ∙ is)
 
-pub frame_in : (v : MemoryView) (s p : ℕ) (entry : PageEntry) → IsJoined v → option_map (λ (x : PageView). x.entry) (page_at v.table s p) ≡ Some entry → 16 * entry.frame + 16 ≤ units_in v.store.blocks
-frame_in v s p entry is at_entry = at (page_at v.table s p) refl
+pub frame_in : (v : MemoryView) (s p : ℕ) (entry : PageEntry) → IsJoined v → option_map (λ (x : PageView). x.entry) (page_in v.table s p) ≡ Some entry → 16 * entry.frame + 16 ≤ units_in v.store.blocks
+frame_in v s p entry is at_entry = at (page_in v.table s p) refl
   where
-    at : (o : Option PageView) → page_at v.table s p ≡ o → 16 * entry.frame + 16 ≤ units_in v.store.blocks
+    at : (o : Option PageView) → page_in v.table s p ≡ o → 16 * entry.frame + 16 ≤ units_in v.store.blocks
     at None e = absurd (no_entry (sym (ap (option_map (λ (x : PageView). x.entry)) e) ∙ at_entry))
       where
         no_entry : None ≡ Some entry → ⊥
@@ -217,9 +217,9 @@ frame_in v s p entry is at_entry = at (page_at v.table s p) refl
         omega (arith, frame_inside v.store is.store x.entry.frame (is.held s p x e).frame, ap (λ (f : PageEntry). f.frame) same)
 
 -- the page is there still
-pub brought_there : (first now : MemoryView) (s p : ℕ) (lines front rest : List ℕ) → IsSome (page_at first.table s p) → HasBrought first now s p lines front rest → IsSome (page_at now.table s p)
+pub brought_there : (first now : MemoryView) (s p : ℕ) (lines front rest : List ℕ) → IsSome (page_in first.table s p) → HasBrought first now s p lines front rest → IsSome (page_in now.table s p)
 brought_there first now s p lines front rest there so =
     let f = found first s p there in
     let at_first = state_page_there first s p f.x f.there in
     sym (state_page_some now s p) ∙ ap (λ st. is_some (page_in st s p)) (so.state ∙ turn_is (brought front) (state_of first) s p (page_state first.store f.x) at_first)
-    ∙ ap is_some (states.page_put_here (state_of first) s p (brought front (page_state first.store f.x)) s p refl refl)
+    ∙ ap is_some (page_put_here (state_of first) s p (brought front (page_state first.store f.x)) s p refl refl)

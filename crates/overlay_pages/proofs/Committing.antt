@@ -15,31 +15,32 @@ use Rattle.ledger.specs.AloneLaws.{origin_with, unused_from, unused_parts}
 use Rattle.segment_store.specs.Kept.{IsStore}
 use Rattle.segment_store.specs.Store.{Store, IsFrame, frame_line, frame_page, frame_place, line_in, place_of, scratch_line, scratch_page, segment_at}
 use Rattle.segment_store.specs.Changes.{KeepsFrames, KeepsScratch, Lifts}
-use Rattle.space_ledger.specs.View.{LedgerView, PageView, ledger_of, lines_of, overlay_at, page_at, space_at}
-use Rattle.space_ledger.specs.ViewLaws as tables
+use Rattle.space_maps.specs.Books.{books_page, books_put_page}
+use Rattle.space_maps.specs.Laws.{keeps_page_put, page_again, page_over, page_put_here, set_some, there_space}
+use Rattle.space_maps.specs.Spaces.{page_in, put_page, put_space, set_page, space_in, turned_page}
+use Rattle.space_ledger.specs.View.{LedgerView, PageView, ledger_of, lines_of, overlay_at}
 use Rattle.overlay_pages.specs.Lines.{line_in_page, page_lines, same_lines}
 use Rattle.overlay_pages.specs.LineLaws.{lines_same}
-use Rattle.overlay_pages.specs.State.{PageState, State, books, held_page, of_pages, page_in, put_page, put_space, space_in, turned_page}
-use Rattle.overlay_pages.specs.StateLaws as states
+use Rattle.overlay_pages.specs.State.{PageState, State, books, held_page}
 use Rattle.overlay_pages.specs.Changes.{HasCopyRoom, IsNewFrame, IsPlaced, committed, copied, discarded, limit_of, moved_to, units_of}
 use Rattle.overlay_pages.specs.Steps.{FillsFrame}
 use Rattle.overlay_pages.specs.View.{IsHeld, IsJoined, IsOwned, MemoryView, line_seen, page_state, segment_of, state_of, view_of}
-use Rattle.overlay_pages.specs.ViewLaws.{state_awaiting, state_books, state_page_some, state_page_there}
-use Rattle.overlay_pages.proofs.Steps.{Step, some_page, space_put_at, state_stepped, state_with, stepped, table_again, table_with, with_some}
+use Rattle.overlay_pages.specs.ViewLaws.{state_awaiting, state_books, state_holds, state_page_some, state_page_there}
+use Rattle.overlay_pages.proofs.Steps.{Step, some_page, state_stepped, stepped}
 use Rattle.overlay_pages.proofs.Joining.{Has, page_with}
-use Rattle.overlay_pages.proofs.Growing.{free_is, put_over, turn_is, turned_limit, turned_units}
+use Rattle.overlay_pages.proofs.Growing.{free_is, turn_is, turned_limit, turned_units}
 use Rattle.overlay_pages.proofs.Lending.{alone_frame, alone_not_zero}
 
 -- A frame that is a page's alone is filled.
 
-module _ (v : MemoryView) (new : Store) (s p : ℕ) (x : PageView) (frame : ℕ) (is : IsJoined v) (there : page_at v.table s p ≡ Some x) (frame_is : x.entry.frame ≡ frame)
+module _ (v : MemoryView) (new : Store) (s p : ℕ) (x : PageView) (frame : ℕ) (is : IsJoined v) (there : page_in v.table s p ≡ Some x) (frame_is : x.entry.frame ≡ frame)
     (alone : is_alone (ledger_of v.table) s p ≡ true) (fills : FillsFrame v.store new frame) where
-  fills_table : v.table ≡ table_with v.table s p (Some x)
-  fills_table = sym (with_some v.table s p x ∙ table_again v.table s p x there)
+  fills_table : v.table ≡ set_page v.table s p (Some x)
+  fills_table = sym (set_some v.table s p x ∙ page_again v.table s p x there)
 
   fills_step : Step v (view_of new v.table) s p (Some x)
   fills_step = record {
-    there = tables.there_space v.table s p x there;
+    there = there_space v.table s p x there;
     number = (is.held s p x there).number;
     low = (is.held s p x there).low;
     table_is = fills_table;
@@ -71,7 +72,7 @@ module _ (v : MemoryView) (new : Store) (s p : ℕ) (x : PageView) (frame : ℕ)
   fills_joined = stepped v (view_of new v.table) s p (Some x) is fills_step
 
   pub fills_state : state_of (view_of new v.table) ≡ put_page (state_of v) s p (page_state new x)
-  unfolding state_with
+  unfolding set_page
   fills_state = state_stepped v (view_of new v.table) s p (Some x) is fills_step
 
 -- The lines of the overlay are in the frame; once the overlay ended, the page is committed.
@@ -92,7 +93,7 @@ committed_page old new x e frame over frame_is lines =
 pub bare_committed : (v : MemoryView) (s p : ℕ) → Has v.table s p None → state_of v ≡ turned_page committed (state_of v) s p
 unfolding page_state
 bare_committed v s p has =
-    sym (turn_is committed (state_of v) s p (page_state v.store has.x) at ∙ ap (put_page (state_of v) s p) same ∙ Rattle.overlay_pages.proofs.Steps.put_again (state_of v) s p (page_state v.store has.x) at)
+    sym (turn_is committed (state_of v) s p (page_state v.store has.x) at ∙ ap (put_page (state_of v) s p) same ∙ page_again (state_of v) s p (page_state v.store has.x) at)
   where
     at : page_in (state_of v) s p ≡ Some (page_state v.store has.x)
     at = state_page_there v s p has.x has.there
@@ -103,15 +104,15 @@ bare_committed v s p has =
         let own : [] ≡ lines_of has.x.overlay = sym (ap lines_of has.is) in
         λ i. record { entry = has.x.entry; own = own i; lines = page_lines (line_seen v.store has.x); base = sym lines i }
 
-pub commits : (a b c : MemoryView) (s p : ℕ) (x : PageView) → page_at a.table s p ≡ Some x → state_of b ≡ put_page (state_of a) s p (page_state b.store x) → discarded (page_state b.store x) ≡ committed (page_state a.store x)
+pub commits : (a b c : MemoryView) (s p : ℕ) (x : PageView) → page_in a.table s p ≡ Some x → state_of b ≡ put_page (state_of a) s p (page_state b.store x) → discarded (page_state b.store x) ≡ committed (page_state a.store x)
     → state_of c ≡ turned_page discarded (state_of b) s p → state_of c ≡ turned_page committed (state_of a) s p
 commits a b c s p x there b_is same c_is =
-    let at_b = ap (λ st. page_in st s p) b_is ∙ states.page_put_here (state_of a) s p (page_state b.store x) s p refl refl in
+    let at_b = ap (λ st. page_in st s p) b_is ∙ page_put_here (state_of a) s p (page_state b.store x) s p refl refl in
     c_is ∙ turn_is discarded (state_of b) s p (page_state b.store x) at_b ∙ ap (λ st. put_page st s p (discarded (page_state b.store x))) b_is
-    ∙ put_over (state_of a) s p (page_state b.store x) (discarded (page_state b.store x)) ∙ ap (put_page (state_of a) s p) same
+    ∙ page_over (state_of a) s p (page_state b.store x) (discarded (page_state b.store x)) ∙ ap (put_page (state_of a) s p) same
     ∙ sym (turn_is committed (state_of a) s p (page_state a.store x) (state_page_there a s p x there))
 
-pub page_frame : (v : LedgerView) (s p : ℕ) (x : PageView) (frame : ℕ) → page_at v s p ≡ Some x → option_map (λ (y : PageView). y.entry.frame) (page_at v s p) ≡ Some frame → x.entry.frame ≡ frame
+pub page_frame : (v : LedgerView) (s p : ℕ) (x : PageView) (frame : ℕ) → page_in v s p ≡ Some x → option_map (λ (y : PageView). y.entry.frame) (page_in v s p) ≡ Some frame → x.entry.frame ≡ frame
 page_frame v s p x frame there framed = ap (λ (o : Option ℕ). option_map_or (λ (n : ℕ). n) o 0) (sym (ap (option_map (λ (y : PageView). y.entry.frame)) there) ∙ framed)
 
 -- A page that is copied: its overlay ends, and it gets a frame with its lines.
@@ -121,7 +122,7 @@ page_line : (n at i : ℕ) (lines : List (List ℕ)) → i < n → get_or (take 
 page_line n at i lines low = Rattle.std.proofs.lemmas.List.get_or-take n (drop at lines) i [] low ∙ Rattle.std.proofs.lemmas.List.get_or-drop at lines i []
 
 -- A page that has an overlay, as the state has it once that ended.
-module _ (a : MemoryView) (s p : ℕ) (e : Entry) (is : IsJoined a) (there : IsSome (page_at a.table s p)) (over : overlay_at a.table s p ≡ Some e) where
+module _ (a : MemoryView) (s p : ℕ) (e : Entry) (is : IsJoined a) (there : IsSome (page_in a.table s p)) (over : overlay_at a.table s p ≡ Some e) where
   abbrev pub own : Has a.table s p (Some e)
   own = page_with a.table s p there (Some e) over
 
@@ -142,7 +143,7 @@ module _ (a : MemoryView) (s p : ℕ) (e : Entry) (is : IsJoined a) (there : IsS
   bare_is = turn_is discarded (state_of a) s p was was_there
 
   held_before : holding_at (books (state_of a)) s p ≡ Some (held_page (state_of a).zero_frame was)
-  held_before = states.ledger_page (state_of a) s p ∙ ap (option_map (held_page (state_of a).zero_frame)) was_there
+  held_before = books_page held_page (state_of a) s p ∙ ap (option_map (held_page (state_of a).zero_frame)) was_there
 
   pub copy_room : (b : MemoryView) → IsJoined b → state_of b ≡ turned_page discarded (state_of a) s p → HasCopyRoom (state_of a) s p → 16 ≤ free_units b.store.blocks
   copy_room b b_is b_state room =
@@ -152,22 +153,21 @@ module _ (a : MemoryView) (s p : ℕ) (e : Entry) (is : IsJoined a) (there : IsS
 
   pub copy_shared : (b : MemoryView) → state_of b ≡ turned_page discarded (state_of a) s p → is_alone (ledger_of a.table) s p ≡ false → is_alone (ledger_of b.table) s p ≡ false
   copy_shared b b_state shared =
-      ap (λ (l : Ledger). is_alone l s p) (sym (state_books b) ∙ ap books (b_state ∙ bare_is) ∙ states.ledger_put (state_of a) s p (discarded was))
+      ap (λ (l : Ledger). is_alone l s p) (sym (state_books b) ∙ ap books (b_state ∙ bare_is) ∙ books_put_page held_page (state_of a) s p (discarded was))
       ∙ Rattle.ledger.specs.AloneLaws.alone_same (books (state_of a)) s p (held_page (state_of a).zero_frame was) (held_page (state_of a).zero_frame (discarded was)) held_before refl s p
       ∙ ap (λ (l : Ledger). is_alone l s p) (state_books a) ∙ shared
 
-  pub copy_settled : (b : MemoryView) → state_of b ≡ turned_page discarded (state_of a) s p → (space_at a.table s).awaiting ≡ empty → (space_at b.table s).awaiting ≡ empty
-  unfolding put_page
+  pub copy_settled : (b : MemoryView) → state_of b ≡ turned_page discarded (state_of a) s p → (space_in a.table s).awaiting ≡ empty → (space_in b.table s).awaiting ≡ empty
   copy_settled b b_state none =
-      let here = tables.there_space a.table s p own.x own.there in
+      let here = there_space a.table s p own.x own.there in
       sym (state_awaiting b s) ∙ ap (λ (st : State). (space_in st s).awaiting) (b_state ∙ bare_is)
-      ∙ (space_put_at (state_of a) s (Rattle.overlay_pages.specs.ViewLaws.state_holds a s ∙ here) s (of_pages (space_in (state_of a) s) (insert (space_in (state_of a) s).pages p (discarded was))) refl refl).1
+      ∙ (keeps_page_put (state_of a) s p (discarded was) (state_holds a s ∙ here)).awaiting s
       ∙ state_awaiting a s ∙ none
 
   dropped_page : (b : MemoryView) → state_of b ≡ turned_page discarded (state_of a) s p → page_in (state_of b) s p ≡ Some (discarded was)
-  dropped_page b b_state = ap (λ st. page_in st s p) (b_state ∙ bare_is) ∙ states.page_put_here (state_of a) s p (discarded was) s p refl refl
+  dropped_page b b_state = ap (λ st. page_in st s p) (b_state ∙ bare_is) ∙ page_put_here (state_of a) s p (discarded was) s p refl refl
 
-  pub copy_there : (b : MemoryView) → state_of b ≡ turned_page discarded (state_of a) s p → IsSome (page_at b.table s p)
+  pub copy_there : (b : MemoryView) → state_of b ≡ turned_page discarded (state_of a) s p → IsSome (page_in b.table s p)
   copy_there b b_state = sym (state_page_some b s p) ∙ ap is_some (dropped_page b b_state)
 
   pub copy_bare : (b : MemoryView) → IsJoined b → state_of b ≡ turned_page discarded (state_of a) s p → overlay_at b.table s p ≡ None
@@ -183,7 +183,7 @@ module _ (a : MemoryView) (s p : ℕ) (e : Entry) (is : IsJoined a) (there : IsS
 
       same : has_origin (books (put_page (state_of a) s p (discarded was))) (frame + 1) ≡ has_origin (books (state_of a)) (frame + 1)
       same =
-          ap (λ (l : Ledger). has_origin l (frame + 1)) (states.ledger_put (state_of a) s p (discarded was)) ∙ origin_with (books (state_of a)) s p now (frame + 1)
+          ap (λ (l : Ledger). has_origin l (frame + 1)) (books_put_page held_page (state_of a) s p (discarded was)) ∙ origin_with (books (state_of a)) s p now (frame + 1)
           ∙ sym (origin_with (books (state_of a)) s p (held_page (state_of a).zero_frame was) (frame + 1))
           ∙ ap (λ (l : Ledger). has_origin l (frame + 1)) (put_again (books (state_of a)) s p (held_page (state_of a).zero_frame was) held_before)
 
@@ -223,5 +223,5 @@ module _ (a : MemoryView) (s p : ℕ) (e : Entry) (is : IsJoined a) (there : IsS
       record {
         frame = at.frame;
         fresh = new_then at.frame at.fresh;
-        placed = at.placed ∙ put_over (state_of a) s p (discarded was) (moved_to (discarded was) (same_lines out) at.frame) ∙ ap (λ l. put_page (state_of a) s p (moved_to was l at.frame)) lines;
+        placed = at.placed ∙ page_over (state_of a) s p (discarded was) (moved_to (discarded was) (same_lines out) at.frame) ∙ ap (λ l. put_page (state_of a) s p (moved_to was l at.frame)) lines;
       })

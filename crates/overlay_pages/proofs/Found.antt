@@ -4,7 +4,8 @@ use Rattle.std.specs.Option.{option_map}
 use Rattle.sizes.specs.declared.TheConstants.{PAGE_LINES}
 use Rattle.page_table.specs.declared.entry.PageEntry.{PageEntry}
 use Rattle.ledger.specs.Ledger.{is_alone}
-use Rattle.space_ledger.specs.View.{PageView, frame_at, ledger_of, page_at, space_at}
+use Rattle.space_maps.specs.Spaces.{page_in, space_in}
+use Rattle.space_ledger.specs.View.{PageView, frame_at, ledger_of}
 use Rattle.overlay_pages.specs.declared.spots.FoundLine.{FoundLine}
 use Rattle.overlay_pages.specs.declared.spots.Spot.{Spot}
 use Rattle.overlay_pages.specs.declared.spots.Spot.TheVariants.{Frame}
@@ -20,7 +21,7 @@ abbrev found_of : ℕ → ℕ → ℕ → PageEntry → Spot → FoundLine
 found_of s p line e spot = record { space = s; page = p; line = line; perms = e.perms; spot = spot }
 
 -- a line by the entry of its page, and by where it stands
-pub found_in : (v now : MemoryView) (s p line : ℕ) (e : PageEntry) (spot : Spot) → v ≡ now → Some e ≡ option_map (λ (x : PageView). x.entry) (page_at v.table s p)
+pub found_in : (v now : MemoryView) (s p line : ℕ) (e : PageEntry) (spot : Spot) → v ≡ now → Some e ≡ option_map (λ (x : PageView). x.entry) (page_in v.table s p)
     → line < PAGE_LINES → IsSpot v.table s p line spot → IsFoundAt now s p line (found_of s p line e spot)
 found_in v now s p line e spot same is low at =
     subst (λ (m : MemoryView). IsFoundAt m s p line (found_of s p line e spot)) same (record {
@@ -46,7 +47,7 @@ found_frame v now found frame same is at =
 
 -- whether it can be written there
 pub found_writable : (v now : MemoryView) (found : FoundLine) (frame : ℕ) (marked alone : Bool) → v ≡ now → IsFound now found → found.spot ≡ Frame frame
-    → marked ≡ (space_at v.table found.space).speculating → alone ≡ is_alone (ledger_of v.table) found.space found.page
+    → marked ≡ (space_in v.table found.space).speculating → alone ≡ is_alone (ledger_of v.table) found.space found.page
     → (not marked && alone) ≡ is_writable (state_of now) found.space found.page found.line
 found_writable v now found frame marked alone same is at mark_is alone_is =
     (λ i. not (mark_is i) && alone_is i) ∙ sym (writable_outside v found.space found.page found.line frame (found_spot v now found (Frame frame) same is at))

@@ -2,7 +2,6 @@ use Rattle.std.specs.Prelude.{◌≡◌, ℕ, ◌+◌, ◌*◌, ◌^◌, ◌<◌
 use Rattle.std.proofs.Common.{sym, ap, ◌∙◌, arith}
 use Rattle.std.specs.Option.{option_and_then, option_map, option_map_or}
 use Rattle.std.specs.FinMap.{get, insert}
-use Rattle.number_maps.specs.Keys.{insert_over}
 use Rattle.unit_map.specs.Pieces.{free_units, units_in}
 use Rattle.overlay_bits.specs.Lines.{AreLines, has_line, with_line}
 use Rattle.overlay_bits.specs.Laws.{count_with}
@@ -17,16 +16,18 @@ use Rattle.segment_store.specs.Pointers.{capacity_of}
 use Rattle.segment_store.specs.Store.{Store, frame_line, frame_place, place_of, scratch_line}
 use Rattle.segment_store.specs.Changes.{KeepsFrames, KeepsScratch, KeepsSegments, Lifts}
 use Rattle.segment_store.specs.Laws.{count_fits}
-use Rattle.space_ledger.specs.View.{LedgerView, PageView, ledger_of, lines_of, overlay_at, page_at}
+use Rattle.space_maps.specs.Books.{books_page, books_put_page}
+use Rattle.space_maps.specs.Laws.{changed_there, keeps_still, page_over, page_put_here, spaces_alike}
+use Rattle.space_maps.specs.Spaces.{page_in, put_page, put_space, turned_page}
+use Rattle.space_ledger.specs.View.{LedgerView, PageView, ledger_of, lines_of, overlay_at}
 use Rattle.overlay_pages.specs.LineLaws.{lines_same, set_line}
 use Rattle.overlay_pages.specs.Lines.{page_lines}
-use Rattle.overlay_pages.specs.State.{PageState, State, books, held_page, page_in, put_page, space_in, turned_page}
-use Rattle.overlay_pages.specs.StateLaws as states
+use Rattle.overlay_pages.specs.State.{PageState, State, books, held_page}
 use Rattle.overlay_pages.specs.Changes.{Fits, discarded, limit_of, units_of}
 use Rattle.overlay_pages.specs.Steps.{joins, laid, laid_line}
 use Rattle.overlay_pages.specs.View.{IsHeld, IsJoined, MemoryView, line_seen, page_state, segment_of, state_of, view_of}
-use Rattle.overlay_pages.specs.ViewLaws.{state_alike, state_awaiting, state_books, state_frames, state_holds, state_mark, state_page, state_page_some, state_page_there, state_zero}
-use Rattle.overlay_pages.proofs.Steps.{held_kept, page_kept}
+use Rattle.overlay_pages.specs.ViewLaws.{state_books, state_frames, state_page, state_page_some, state_page_there}
+use Rattle.overlay_pages.proofs.Steps.{held_kept, page_kept, state_keeps}
 use Rattle.overlay_pages.proofs.Joining.{Has, order_low, overlay_segment, overlay_set, page_with, sets_are}
 use Rattle.overlay_pages.proofs.Sizes.{can_grow, next_place, next_size}
 
@@ -34,34 +35,23 @@ use Rattle.overlay_pages.proofs.Sizes.{can_grow, next_place, next_size}
 
 -- A page that is turned, as a page that is put.
 pub turn_is : (turn : PageState → PageState) (st : State) (s p : ℕ) (y : PageState) → page_in st s p ≡ Some y → turned_page turn st s p ≡ put_page st s p (turn y)
-turn_is turn st s p y there = states.changed_there turn st s p y there
-
-pub put_over : (st : State) (s p : ℕ) (x y : PageState) → put_page (put_page st s p x) s p y ≡ put_page st s p y
-unfolding put_page Rattle.overlay_pages.specs.State.put_space
-put_over st s p x y =
-    let one = Rattle.overlay_pages.specs.State.of_pages (space_in st s) (insert (space_in st s).pages p x) in
-    let here : space_in (put_page st s p x) s ≡ one = states.space_put st s one s refl in
-    let pages : insert (space_in (put_page st s p x) s).pages p y ≡ insert (space_in st s).pages p y = ap (λ (z : Rattle.overlay_pages.specs.State.SpaceState). insert z.pages p y) here ∙ insert_over (space_in st s).pages p x y in
-    let space : Rattle.overlay_pages.specs.State.of_pages (space_in (put_page st s p x) s) (insert (space_in (put_page st s p x) s).pages p y) ≡ Rattle.overlay_pages.specs.State.of_pages (space_in st s) (insert (space_in st s).pages p y) =
-    λ i. record { pages = pages i; awaiting = (here i).awaiting; speculating = (here i).speculating } in
-    let all = ap (insert (insert st.spaces s one) s) space ∙ insert_over st.spaces s one (Rattle.overlay_pages.specs.State.of_pages (space_in st s) (insert (space_in st s).pages p y)) in
-    λ i. record { spaces = all i; frames = st.frames; zero_frame = st.zero_frame }
+turn_is turn st s p y there = changed_there turn st s p y there
 
 pub turned_twice : (f g : PageState → PageState) (st : State) (s p : ℕ) (y : PageState) → page_in st s p ≡ Some y → turned_page f (turned_page g st s p) s p ≡ put_page st s p (f (g y))
 turned_twice f g st s p y there =
-    ap (λ t. turned_page f t s p) (turn_is g st s p y there) ∙ turn_is f (put_page st s p (g y)) s p (g y) (states.page_put_here st s p (g y) s p refl refl) ∙ put_over st s p (g y) (f (g y))
+    ap (λ t. turned_page f t s p) (turn_is g st s p y there) ∙ turn_is f (put_page st s p (g y)) s p (g y) (page_put_here st s p (g y) s p refl refl) ∙ page_over st s p (g y) (f (g y))
 
 -- What that makes of the units.
 pub turned_units : (turn : PageState → PageState) (st : State) (s p : ℕ) (y : PageState) → page_in st s p ≡ Some y → (turn y).entry.frame ≡ y.entry.frame
     → units_of (turned_page turn st s p) + class (length y.own) ≡ units_of st + class (length (turn y).own)
 turned_units turn st s p y there same =
-    ap (λ (l : Ledger). units l + class (length y.own)) (ap books (turn_is turn st s p y there) ∙ states.ledger_put st s p (turn y))
+    ap (λ (l : Ledger). units l + class (length y.own)) (ap books (turn_is turn st s p y there) ∙ books_put_page held_page st s p (turn y))
     ∙ units_own (books st) s p (held_page st.zero_frame y) (held_page st.zero_frame (turn y))
-    (states.ledger_page st s p ∙ ap (option_map (held_page st.zero_frame)) there)
+    (books_page held_page st s p ∙ ap (option_map (held_page st.zero_frame)) there)
     (ap (Rattle.space_ledger.specs.View.origin_of st.zero_frame) same)
 
 pub turned_limit : (turn : PageState → PageState) (st : State) (s p : ℕ) (y : PageState) → page_in st s p ≡ Some y → limit_of (turned_page turn st s p) ≡ limit_of st
-unfolding put_page Rattle.overlay_pages.specs.State.put_space
+unfolding put_page put_space
 turned_limit turn st s p y there = ap limit_of (turn_is turn st s p y there)
 
 -- how many units are free
@@ -69,7 +59,7 @@ pub free_is : (v : MemoryView) → IsJoined v → free_units v.store.blocks + un
 free_is v is = omega (arith, is.count, is.frames, ap units (state_books v), state_frames v)
 
 -- A page stays where segments moved.
-pub there_still : (a b : MemoryView) (s p : ℕ) → state_of b ≡ state_of a → IsSome (page_at a.table s p) → IsSome (page_at b.table s p)
+pub there_still : (a b : MemoryView) (s p : ℕ) → state_of b ≡ state_of a → IsSome (page_in a.table s p) → IsSome (page_in b.table s p)
 there_still a b s p same there = sym (state_page_some b s p) ∙ ap (λ st. is_some (page_in st s p)) same ∙ state_page_some a s p ∙ there
 
 pub own_none : (v : MemoryView) (s p : ℕ) → Has v.table s p None → (y : PageState) → page_in (state_of v) s p ≡ Some y → y.own ≡ []
@@ -77,7 +67,7 @@ unfolding page_state
 own_none v s p has y there =
     ap (λ (o : Option PageState). option_map_or (λ (z : PageState). z.own) o []) (sym there ∙ state_page_there v s p has.x has.there) ∙ ap lines_of has.is
 
-pub bare_by : (v : MemoryView) (s p : ℕ) → IsJoined v → (y : PageState) → page_in (state_of v) s p ≡ Some y → y.own ≡ [] → IsSome (page_at v.table s p) → overlay_at v.table s p ≡ None
+pub bare_by : (v : MemoryView) (s p : ℕ) → IsJoined v → (y : PageState) → page_in (state_of v) s p ≡ Some y → y.own ≡ [] → IsSome (page_in v.table s p) → overlay_at v.table s p ≡ None
 unfolding page_state
 bare_by v s p is y there none found = at (overlay_at v.table s p) refl
   where
@@ -88,7 +78,7 @@ bare_by v s p is y there none found = at (overlay_at v.table s p) refl
         let own : e.bits ≡ [] = sym (ap lines_of has.is) ∙ ap (λ (o : Option PageState). option_map_or (λ (z : PageState). z.own) o []) (sym (state_page_there v s p has.x has.there) ∙ there) ∙ none in
         absurd (omega (arith, (is.held s p has.x has.there).lined e has.is, ap length own))
 
-pub bare_still : (a b : MemoryView) (s p : ℕ) → IsJoined b → state_of b ≡ state_of a → IsSome (page_at a.table s p) → overlay_at a.table s p ≡ None → overlay_at b.table s p ≡ None
+pub bare_still : (a b : MemoryView) (s p : ℕ) → IsJoined b → state_of b ≡ state_of a → IsSome (page_in a.table s p) → overlay_at a.table s p ≡ None → overlay_at b.table s p ≡ None
 bare_still a b s p is same there bare =
     let has = page_with a.table s p there None bare in
     let y = page_state a.store has.x in
@@ -100,7 +90,7 @@ bare_still a b s p is same there bare =
 pub one_line : (line : ℕ) → with_line [] line ≡ line ∷ []
 one_line line = refl
 
-pub begins_room : (v : MemoryView) (s p line : ℕ) (bytes : List ℕ) → IsJoined v → IsSome (page_at v.table s p) → overlay_at v.table s p ≡ None
+pub begins_room : (v : MemoryView) (s p line : ℕ) (bytes : List ℕ) → IsJoined v → IsSome (page_in v.table s p) → overlay_at v.table s p ≡ None
     → Fits (turned_page (joins line bytes) (state_of v) s p) → 1 ≤ free_units v.store.blocks
 begins_room v s p line bytes is there bare fits =
     let has = page_with v.table s p there None bare in
@@ -120,7 +110,7 @@ laid_first store x line bytes bare low =
     let lines = sym (set_line (frame_line store x.entry.frame) line bytes low) ∙ ap (λ l. slice_set l line bytes) seen in
     λ i. record { entry = x.entry; own = own i; lines = lines i; base = page_lines (frame_line store x.entry.frame) }
 
-pub begun_first : (a b c : MemoryView) (s p line : ℕ) (bytes : List ℕ) → state_of b ≡ state_of a → IsSome (page_at b.table s p) → overlay_at b.table s p ≡ None → line < 64
+pub begun_first : (a b c : MemoryView) (s p line : ℕ) (bytes : List ℕ) → state_of b ≡ state_of a → IsSome (page_in b.table s p) → overlay_at b.table s p ≡ None → line < 64
     → state_of c ≡ turned_page (laid b.store [] line bytes) (state_of b) s p → state_of c ≡ turned_page (joins line bytes) (state_of a) s p
 begun_first a b c s p line bytes same there bare low is =
     let has = page_with b.table s p there None bare in
@@ -144,16 +134,12 @@ all_kept old new table is segments frames blocks same store = (
     held = λ q r x there. held_kept old new q r x (is.held q r x there) (frames x.entry.frame (is.held q r x there).frame) (λ e over. segments e.block.unit (segment_of q r e) ((is.held q r x there).segment e over));
     owned = λ unit segment there. is.owned unit segment (sym (ap (λ l. Rattle.std.specs.Prelude.slice_index_or l unit None) same) ∙ there);
   },
-  state_alike (state_of (view_of new table)) (state_of (view_of old table))
-      (state_frames (view_of new table) ∙ sym (state_frames (view_of old table)))
-      (state_zero (view_of new table) ∙ sym (state_zero (view_of old table)))
-      (λ q. state_holds (view_of new table) q ∙ sym (state_holds (view_of old table) q))
-      (λ q. state_awaiting (view_of new table) q ∙ sym (state_awaiting (view_of old table) q))
-      (λ q. state_mark (view_of new table) q ∙ sym (state_mark (view_of old table) q))
-      (λ q r. state_page (view_of new table) q r ∙ at q r (page_at table q r) refl ∙ sym (state_page (view_of old table) q r)),
+  spaces_alike (state_of (view_of old table)) (state_of (view_of new table)) (state_of (view_of old table))
+      (state_keeps (view_of old table) (view_of new table) (keeps_still table)) (keeps_still (state_of (view_of old table)))
+      (λ q r. state_page (view_of new table) q r ∙ at q r (page_in table q r) refl ∙ sym (state_page (view_of old table) q r)),
 )
   where
-    at : (q r : ℕ) (o : Option PageView) → page_at table q r ≡ o → option_map (page_state new) (page_at table q r) ≡ option_map (page_state old) (page_at table q r)
+    at : (q r : ℕ) (o : Option PageView) → page_in table q r ≡ o → option_map (page_state new) (page_in table q r) ≡ option_map (page_state old) (page_in table q r)
     at q r None e = ap (option_map (page_state new)) e ∙ sym (ap (option_map (page_state old)) e)
     at q r (Some x) e =
         ap (option_map (page_state new)) e
@@ -161,7 +147,7 @@ all_kept old new table is segments frames blocks same store = (
         ∙ sym (ap (option_map (page_state old)) e)
 
 -- The overlay that grows: it has lines of scratch, which are those that it had.
-module _ (a : MemoryView) (s p : ℕ) (e : Entry) (line : ℕ) (bytes : List ℕ) (is : IsJoined a) (there : IsSome (page_at a.table s p)) (over : overlay_at a.table s p ≡ Some e)
+module _ (a : MemoryView) (s p : ℕ) (e : Entry) (line : ℕ) (bytes : List ℕ) (is : IsJoined a) (there : IsSome (page_in a.table s p)) (over : overlay_at a.table s p ≡ Some e)
     (low : line < 64) (absent : has_line e.bits line ≡ false) (full : capacity_of e.block.order ≤ length e.bits) (fits : Fits (turned_page (joins line bytes) (state_of a) s p)) where
   has : Has a.table s p (Some e)
   has = page_with a.table s p there (Some e) over
@@ -244,9 +230,9 @@ module _ (a : MemoryView) (s p : ℕ) (e : Entry) (line : ℕ) (bytes : List ℕ
 
   -- the page once its overlay ended, wherever segments went
   dropped_there : (v : MemoryView) → state_of v ≡ turned_page discarded (state_of a) s p → page_in (state_of v) s p ≡ Some (discarded y)
-  dropped_there v v_state = ap (λ st. page_in st s p) (v_state ∙ turn_is discarded (state_of a) s p y y_there) ∙ states.page_put_here (state_of a) s p (discarded y) s p refl refl
+  dropped_there v v_state = ap (λ st. page_in st s p) (v_state ∙ turn_is discarded (state_of a) s p y y_there) ∙ page_put_here (state_of a) s p (discarded y) s p refl refl
 
-  pub dropped_some : (v : MemoryView) → state_of v ≡ turned_page discarded (state_of a) s p → IsSome (page_at v.table s p)
+  pub dropped_some : (v : MemoryView) → state_of v ≡ turned_page discarded (state_of a) s p → IsSome (page_in v.table s p)
   dropped_some v v_state = sym (state_page_some v s p) ∙ ap is_some (dropped_there v v_state)
 
   pub dropped_bare : (v : MemoryView) → IsJoined v → state_of v ≡ turned_page discarded (state_of a) s p → overlay_at v.table s p ≡ None

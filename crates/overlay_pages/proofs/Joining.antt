@@ -21,17 +21,16 @@ use Rattle.segment_store.specs.Store.{Store, IsSegment, frame_line, frame_place,
 use Rattle.segment_store.specs.Changes.{Begins, Ends, HasLinesNow, Inserts, KeepsFrame, KeepsFrames, KeepsOtherSegments, KeepsScratch, KeepsSegments, Lays, block_of}
 use Rattle.segment_store.specs.Laws.{inside_of, lines_there, order_of, refilled, stays_twice}
 use Rattle.overlay_pages.proofs.Sizes.{still_fits}
-use Rattle.space_ledger.specs.View.{LedgerView, PageView, ledger_of, lines_of, overlay_at, page_at, with_overlay, with_page_at}
+use Rattle.space_maps.specs.Laws.{changed_there, page_again}
+use Rattle.space_maps.specs.Spaces.{page_in, put_page, turned_page}
+use Rattle.space_ledger.specs.View.{LedgerView, PageView, ledger_of, lines_of, overlay_at, with_overlay}
 use Rattle.overlay_pages.specs.Lines.{page_lines}
 use Rattle.overlay_pages.specs.LineLaws.{lines_same, set_line}
-use Rattle.overlay_pages.specs.State.{put_page, turned_page}
-use Rattle.overlay_pages.specs.StateLaws as states
 use Rattle.overlay_pages.specs.ViewLaws.{state_page_there}
-use Rattle.space_ledger.specs.ViewLaws as tables
 use Rattle.overlay_pages.specs.Changes.{discarded}
 use Rattle.overlay_pages.specs.Steps.{joins, laid, laid_line}
 use Rattle.overlay_pages.specs.View.{IsHeld, IsJoined, MemoryView, line_seen, page_state, segment_of, state_of, view_of}
-use Rattle.overlay_pages.proofs.Steps.{overlay_lines, overlay_there, put_again, table_again}
+use Rattle.overlay_pages.proofs.Steps.{overlay_lines, overlay_there}
 use Rattle.overlay_pages.proofs.Overlaying.{Overlays}
 
 -- An overlay that ends, one that begins, and one that gets a line.
@@ -39,13 +38,13 @@ use Rattle.overlay_pages.proofs.Overlaying.{Overlays}
 -- the page of an overlay, and one that has none
 pub record Has (v : LedgerView) (s p : ℕ) (o : Option Entry) : Type 0 where
   pub x : PageView
-  pub there : page_at v s p ≡ Some x
+  pub there : page_in v s p ≡ Some x
   pub is : x.overlay ≡ o
 
-pub page_with : (v : LedgerView) (s p : ℕ) → IsSome (page_at v s p) → (o : Option Entry) → overlay_at v s p ≡ o → Has v s p o
-page_with v s p some o over = at (page_at v s p) refl some
+pub page_with : (v : LedgerView) (s p : ℕ) → IsSome (page_in v s p) → (o : Option Entry) → overlay_at v s p ≡ o → Has v s p o
+page_with v s p some o over = at (page_in v s p) refl some
   where
-    at : (f : Option PageView) → page_at v s p ≡ f → IsSome f → Has v s p o
+    at : (f : Option PageView) → page_in v s p ≡ f → IsSome f → Has v s p o
     at None e none = absurd (not_some none)
       where
         not_some : IsSome {T = PageView} None → ⊥
@@ -65,7 +64,7 @@ pub unit_low : (store : Store) → IsStore store → (u : ℕ) (segment : Segmen
 unit_low store is u segment there = omega (arith, inside_of store is u segment there, is.units, pow_pos segment.order)
 
 -- A page whose overlay ended.
-pub dropped : (old : MemoryView) (store : Store) (table : LedgerView) (s p : ℕ) (x : PageView) (e : Entry) → IsJoined old → page_at old.table s p ≡ Some x → x.overlay ≡ Some e
+pub dropped : (old : MemoryView) (store : Store) (table : LedgerView) (s p : ℕ) (x : PageView) (e : Entry) → IsJoined old → page_in old.table s p ≡ Some x → x.overlay ≡ Some e
     → Ends old.store store e.block → KeepsOtherSegments old.store e.block.unit store → KeepsFrames old.store store → free_units store.blocks ≡ free_units old.store.blocks + 2 ^ e.block.order
     → units_in store.blocks ≡ units_in old.store.blocks → IsStore store → table ≡ with_overlay old.table s p None → Overlays old (view_of store table) s p x None e.block.unit
 dropped old store table s p x e is there over ends kept frames free whole is_store table_is =
@@ -172,16 +171,16 @@ joined_page old new e line bytes x over low fills frame =
 -- A page that is put where it is changes nothing.
 pub bare_state : (v : MemoryView) (s p : ℕ) → Has v.table s p None → state_of v ≡ turned_page discarded (state_of v) s p
 bare_state v s p has =
-    sym (states.changed_there discarded (state_of v) s p (page_state v.store has.x) (state_page_there v s p has.x has.there)
+    sym (changed_there discarded (state_of v) s p (page_state v.store has.x) (state_page_there v s p has.x has.there)
     ∙ ap (put_page (state_of v) s p) (bare_discarded v.store has.x has.is)
-    ∙ put_again (state_of v) s p (page_state v.store has.x) (state_page_there v s p has.x has.there))
+    ∙ page_again (state_of v) s p (page_state v.store has.x) (state_page_there v s p has.x has.there))
 
 pub bare_table : (v : LedgerView) (s p : ℕ) → Has v s p None → v ≡ with_overlay v s p None
 unfolding with_overlay
 bare_table v s p has =
-    sym (tables.changed_there (λ (y : PageView). record { entry = y.entry; overlay = None }) v s p has.x has.there
-    ∙ ap (with_page_at v s p) (let same : None ≡ has.x.overlay = sym has.is in λ i. record { entry = has.x.entry; overlay = same i })
-    ∙ table_again v s p has.x has.there)
+    sym (changed_there (λ (y : PageView). record { entry = y.entry; overlay = None }) v s p has.x has.there
+    ∙ ap (put_page v s p) (let same : None ≡ has.x.overlay = sym has.is in λ i. record { entry = has.x.entry; overlay = same i })
+    ∙ page_again v s p has.x has.there)
 
 -- A line comes into an overlay.
 
@@ -191,7 +190,7 @@ sets_are store s p x e is held over = is.sets e.block.unit (segment_of s p e) (h
 pub order_low : (store : Store) (s p : ℕ) (x : PageView) (e : Entry) → IsStore store → IsHeld store s p x → x.overlay ≡ Some e → e.block.order ≤ 4
 order_low store s p x e is held over = order_of store is e.block.unit (segment_of s p e) (held.segment e over)
 
-pub inserted : (old : MemoryView) (store : Store) (table : LedgerView) (s p : ℕ) (x : PageView) (e : Entry) (line : ℕ) → IsJoined old → page_at old.table s p ≡ Some x → x.overlay ≡ Some e
+pub inserted : (old : MemoryView) (store : Store) (table : LedgerView) (s p : ℕ) (x : PageView) (e : Entry) (line : ℕ) → IsJoined old → page_in old.table s p ≡ Some x → x.overlay ≡ Some e
     → line < 64 → has_line e.bits line ≡ false → length e.bits < capacity_of e.block.order
     → HasLinesNow old.store store e.block (lines_with old.store e.block line) → KeepsOtherSegments old.store e.block.unit store → KeepsFrames old.store store → IsStore store
     → table ≡ with_overlay old.table s p (Some (record { bits = with_line e.bits line; block = e.block }))
@@ -272,7 +271,7 @@ pub record BeginsWith (old began filled new : Store) (s p : ℕ) (block : Block)
   pub new_is : IsStore new
 
 module _ (old : MemoryView) (began filled store : Store) (table : LedgerView) (s p : ℕ) (x : PageView) (block : Block) (order : ℕ) (bits : List ℕ) (line : ℕ) (bytes : List ℕ)
-    (is : IsJoined old) (there : page_at old.table s p ≡ Some x) (bare : x.overlay ≡ None) (are : AreLines bits) (low : line < 64) (absent : has_line bits line ≡ false)
+    (is : IsJoined old) (there : page_in old.table s p ≡ Some x) (bare : x.overlay ≡ None) (are : AreLines bits) (low : line < 64) (absent : has_line bits line ≡ false)
     (size : 2 ^ order ≡ class (length bits + 1)) (so : BeginsWith old.store began filled store s p block order bits line bytes) where
   abbrev entry : Entry
   entry = record { bits = with_line bits line; block = block }
@@ -343,17 +342,17 @@ pub overlay_room : (v : MemoryView) → IsJoined v → overlaid_pages (ledger_of
 overlay_room v is = omega (arith, overlaid_few (ledger_of v.table), is.count, is.frames)
 
 -- The segment of an overlay is there, with its lines.
-pub overlay_segment : (v : MemoryView) (s p : ℕ) (e : Entry) → IsJoined v → IsSome (page_at v.table s p) → overlay_at v.table s p ≡ Some e → IsSegment v.store e.block
+pub overlay_segment : (v : MemoryView) (s p : ℕ) (e : Entry) → IsJoined v → IsSome (page_in v.table s p) → overlay_at v.table s p ≡ Some e → IsSegment v.store e.block
 overlay_segment v s p e is there over =
     let found = page_with v.table s p there (Some e) over in
     overlay_there v.store s p found.x e (is.held s p found.x found.there) found.is
 
-pub overlay_set : (v : MemoryView) (s p : ℕ) (e : Entry) → IsJoined v → IsSome (page_at v.table s p) → overlay_at v.table s p ≡ Some e → lines_at v.store e.block.unit ≡ e.bits
+pub overlay_set : (v : MemoryView) (s p : ℕ) (e : Entry) → IsJoined v → IsSome (page_in v.table s p) → overlay_at v.table s p ≡ Some e → lines_at v.store e.block.unit ≡ e.bits
 overlay_set v s p e is there over =
     let found = page_with v.table s p there (Some e) over in
     overlay_lines v.store s p found.x e (is.held s p found.x found.there) found.is
 
-pub overlay_order : (v : MemoryView) (s p : ℕ) (e : Entry) → IsJoined v → IsSome (page_at v.table s p) → overlay_at v.table s p ≡ Some e → e.block.order ≤ 4
+pub overlay_order : (v : MemoryView) (s p : ℕ) (e : Entry) → IsJoined v → IsSome (page_in v.table s p) → overlay_at v.table s p ≡ Some e → e.block.order ≤ 4
 overlay_order v s p e is there over =
     let found = page_with v.table s p there (Some e) over in
     order_low v.store s p found.x e is.store (is.held s p found.x found.there) found.is

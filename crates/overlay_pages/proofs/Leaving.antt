@@ -12,13 +12,14 @@ use Rattle.ledger.specs.UnitLaws.{alone_is, frame_for, units_at}
 use Rattle.segment_store.specs.Kept.{IsStore}
 use Rattle.segment_store.specs.Store.{Store, IsFrame}
 use Rattle.segment_store.specs.Changes.{KeepsFrame, KeepsOtherFrames, KeepsSegments}
+use Rattle.space_maps.specs.Books.{books_cut_page, books_page}
+use Rattle.space_maps.specs.Laws.{page_set_beside, there_space}
+use Rattle.space_maps.specs.Spaces.{cut_page, page_in, put_space, set_page}
 use Rattle.space_ledger.specs.View as view
-use Rattle.space_ledger.specs.View.{LedgerView, PageView, has_space, holding_of, ledger_of, lines_of, page_at, without_page_at}
-use Rattle.space_ledger.specs.ViewLaws as tables
+use Rattle.space_ledger.specs.View.{LedgerView, PageView, holding_of, ledger_of, lines_of}
 use Rattle.space_ledger.specs.Calls.{given_up}
-use Rattle.overlay_pages.specs.State.{cut_page}
 use Rattle.overlay_pages.specs.View.{IsJoined, MemoryView, segment_of, state_of, view_of}
-use Rattle.overlay_pages.proofs.Steps.{Step, state_stepped, state_with, stepped, table_beside, table_with}
+use Rattle.overlay_pages.proofs.Steps.{Step, state_stepped, stepped}
 use Rattle.overlay_pages.proofs.NewFrames.{nobody_names, not_bare}
 use Rattle.overlay_pages.proofs.Lending.{true_false}
 
@@ -43,22 +44,22 @@ leaves_none store is = record {
   store = is;
 }
 
-module _ (a : MemoryView) (store : Store) (table : LedgerView) (s p : ℕ) (x : PageView) (freed : Option ℕ) (is : IsJoined a) (there : page_at a.table s p ≡ Some x) (bare : x.overlay ≡ None)
-    (table_is : table ≡ without_page_at a.table s p) (freed_is : freed ≡ given_up table (page_at a.table s p)) (leaves : LeavesStore a.store store freed) where
+module _ (a : MemoryView) (store : Store) (table : LedgerView) (s p : ℕ) (x : PageView) (freed : Option ℕ) (is : IsJoined a) (there : page_in a.table s p ≡ Some x) (bare : x.overlay ≡ None)
+    (table_is : table ≡ cut_page a.table s p) (freed_is : freed ≡ given_up table (page_in a.table s p)) (leaves : LeavesStore a.store store freed) where
   zero_same : table.zero_frame ≡ a.table.zero_frame
-  unfolding without_page_at view.with_space
+  unfolding cut_page put_space
   zero_same = ap (λ (v : LedgerView). v.zero_frame) table_is
 
   freed_at : freed ≡ cond (nat_eq x.entry.frame a.table.zero_frame || has_origin (ledger_of table) (x.entry.frame + 1)) None (Some x.entry.frame)
   freed_at = freed_is ∙ ap (given_up table) there ∙ ap (λ z. cond (nat_eq x.entry.frame z || has_origin (ledger_of table) (x.entry.frame + 1)) None (Some x.entry.frame)) zero_same
 
   -- no page that stays names a frame that was given up
-  stays_named : (q r : ℕ) (y : PageView) → (q ≡ s → r ≡ p → ⊥) → page_at a.table q r ≡ Some y → freed ≡ Some y.entry.frame → ⊥
-  unfolding table_with
+  stays_named : (q r : ℕ) (y : PageView) → (q ≡ s → r ≡ p → ⊥) → page_in a.table q r ≡ Some y → freed ≡ Some y.entry.frame → ⊥
+  unfolding set_page
   stays_named q r y d at_y gone = by (nat_eq x.entry.frame a.table.zero_frame) (has_origin (ledger_of table) (x.entry.frame + 1)) refl refl
     where
-      now : page_at table q r ≡ Some y
-      now = ap (λ (v : LedgerView). page_at v q r) table_is ∙ table_beside a.table s p None q r d ∙ at_y
+      now : page_in table q r ≡ Some y
+      now = ap (λ (v : LedgerView). page_in v q r) table_is ∙ page_set_beside a.table s p None q r d ∙ at_y
 
       by : (b c : Bool) → nat_eq x.entry.frame a.table.zero_frame ≡ b → has_origin (ledger_of table) (x.entry.frame + 1) ≡ c → ⊥
       by true c e h = nothing (sym (freed_at ∙ ap (λ t. cond (t || has_origin (ledger_of table) (x.entry.frame + 1)) None (Some x.entry.frame)) e) ∙ gone)
@@ -101,10 +102,10 @@ module _ (a : MemoryView) (store : Store) (table : LedgerView) (s p : ℕ) (x : 
       l = ledger_of a.table
 
       held : holding_at (ledger_of a.table) s p ≡ Some (holding_of a.table.zero_frame x)
-      held = tables.ledger_page a.table s p ∙ ap (option_map (holding_of a.table.zero_frame)) there
+      held = books_page holding_of a.table s p ∙ ap (option_map (holding_of a.table.zero_frame)) there
 
       gone : ledger_of table ≡ without_page (ledger_of a.table) s p
-      gone = ap ledger_of table_is ∙ tables.ledger_gone a.table s p
+      gone = ap ledger_of table_is ∙ books_cut_page holding_of a.table s p
 
       none : class (length (lines_of x.overlay)) ≡ 0
       none = ap (λ (o : Option Entry). class (length (lines_of o))) bare ∙ class_none
@@ -144,9 +145,9 @@ module _ (a : MemoryView) (store : Store) (table : LedgerView) (s p : ℕ) (x : 
           suc_isnt n = grind (arith, nat_tests)
 
   leaving_step : Step a (view_of store table) s p None
-  unfolding table_with
+  unfolding set_page
   leaving_step = record {
-    there = tables.there_space a.table s p x there;
+    there = there_space a.table s p x there;
     number = (is.held s p x there).number;
     low = (is.held s p x there).low;
     table_is = table_is;
@@ -169,11 +170,11 @@ module _ (a : MemoryView) (store : Store) (table : LedgerView) (s p : ℕ) (x : 
   left_joined = stepped a (view_of store table) s p None is leaving_step
 
   pub left_state : state_of (view_of store table) ≡ cut_page (state_of a) s p
-  unfolding state_with
+  unfolding set_page
   left_state = state_stepped a (view_of store table) s p None is leaving_step
 
 -- The frame that goes is taken.
-pub freed_there : (a : MemoryView) (table : LedgerView) (s p : ℕ) (x : PageView) (freed : Option ℕ) → IsJoined a → page_at a.table s p ≡ Some x → freed ≡ given_up table (page_at a.table s p)
+pub freed_there : (a : MemoryView) (table : LedgerView) (s p : ℕ) (x : PageView) (freed : Option ℕ) → IsJoined a → page_in a.table s p ≡ Some x → freed ≡ given_up table (page_in a.table s p)
     → (frame : ℕ) → freed ≡ Some frame → IsFrame a.store frame
 freed_there a table s p x freed is there freed_is frame gone = subst (IsFrame a.store) same (is.held s p x there).frame
   where

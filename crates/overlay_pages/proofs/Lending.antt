@@ -15,17 +15,19 @@ use Rattle.segment_store.specs.declared.segment.Segment.{Segment}
 use Rattle.segment_store.specs.Store.{Store, IsFrame, IsSegment, frame_line, frame_place, line_in, lines_at, place_of, segment_at, with_frame_line, with_segment_line}
 use Rattle.segment_store.specs.Changes.{KeepsFrame, KeepsFrames, KeepsOtherSegments, KeepsSegments}
 use Rattle.segment_store.specs.Laws.{frame_alters, frame_inside, frame_set_here, frame_set_store, frame_stays, frames_stay, inside_of, lies_at, line_alters, line_set_store, others_stay, segments_stay, set_beside, set_here}
-use Rattle.space_ledger.specs.View.{LedgerView, PageView, holding_of, ledger_of, lines_of, origin_of, page_at, space_at}
-use Rattle.space_ledger.specs.ViewLaws as tables
+use Rattle.space_maps.specs.Books.{books_page}
+use Rattle.space_maps.specs.Laws.{page_again, set_some, there_space}
+use Rattle.space_maps.specs.Spaces.{page_in, put_page, set_page, space_in}
+use Rattle.space_ledger.specs.View.{LedgerView, PageView, holding_of, ledger_of, lines_of, origin_of}
 use Rattle.overlay_pages.specs.Lines.{line_in_page, page_lines}
 use Rattle.overlay_pages.specs.LineLaws.{line_at, lines_same, set_line}
-use Rattle.overlay_pages.specs.State.{PageState, page_in, put_page}
+use Rattle.overlay_pages.specs.State.{PageState}
 use Rattle.overlay_pages.specs.Changes.{is_writable, with_written, writes_frame, written}
 use Rattle.overlay_pages.specs.Calls.{with_line_at_place}
 use Rattle.overlay_pages.specs.Spots.{IsInFrame, IsInSegment}
 use Rattle.overlay_pages.specs.View.{IsHeld, IsJoined, IsOwned, MemoryView, line_seen, page_state, place_at, place_in_page, segment_of, state_of, view_of}
 use Rattle.overlay_pages.specs.ViewLaws.{state_page_there}
-use Rattle.overlay_pages.proofs.Steps.{Step, names_apart, overlay_lines, overlay_there, some_page, state_stepped, state_with, stepped, table_again, table_with, with_some}
+use Rattle.overlay_pages.proofs.Steps.{Step, names_apart, overlay_lines, overlay_there, some_page, state_stepped, stepped}
 use Rattle.overlay_pages.proofs.Growing.{turn_is}
 use Rattle.overlay_pages.proofs.Tables.{frame_state}
 
@@ -93,8 +95,8 @@ module _ (v : MemoryView) (s p line frame : ℕ) (is : IsJoined v) (so : IsInFra
   outside_inside low = omega (arith, low, frame_low, is.frames)
 
 -- Two overlaid pages have their segments at different units.
-pub units_apart : (v : MemoryView) (s p : ℕ) (x : PageView) (e : Entry) (q r : ℕ) (y : PageView) (f : Entry) → IsJoined v → page_at v.table s p ≡ Some x → x.overlay ≡ Some e
-    → page_at v.table q r ≡ Some y → y.overlay ≡ Some f → (q ≡ s → r ≡ p → ⊥) → f.block.unit ≡ e.block.unit → ⊥
+pub units_apart : (v : MemoryView) (s p : ℕ) (x : PageView) (e : Entry) (q r : ℕ) (y : PageView) (f : Entry) → IsJoined v → page_in v.table s p ≡ Some x → x.overlay ≡ Some e
+    → page_in v.table q r ≡ Some y → y.overlay ≡ Some f → (q ≡ s → r ≡ p → ⊥) → f.block.unit ≡ e.block.unit → ⊥
 units_apart v s p x e q r y f is at_x over at_y other d same =
     let one = is.held s p x at_x in
     let two = is.held q r y at_y in
@@ -119,12 +121,12 @@ module _ (v : MemoryView) (s p line : ℕ) (block : Block) (bytes : List ℕ) (i
   others_kept : KeepsOtherSegments v.store block.unit after.store
   others_kept = others_stay v.store after.store block.unit (4 * block.unit) (4 * 2 ^ block.order) (line_alters v.store is.store block here line hasl bytes)
 
-  same_table : v.table ≡ table_with v.table s p (Some so.x)
-  same_table = sym (with_some v.table s p so.x ∙ table_again v.table s p so.x so.there)
+  same_table : v.table ≡ set_page v.table s p (Some so.x)
+  same_table = sym (set_some v.table s p so.x ∙ page_again v.table s p so.x so.there)
 
   segment_step : Step v after s p (Some so.x)
   segment_step = record {
-    there = tables.there_space v.table s p so.x so.there;
+    there = there_space v.table s p so.x so.there;
     number = (is.held s p so.x so.there).number;
     low = (is.held s p so.x so.there).low;
     table_is = same_table;
@@ -148,7 +150,7 @@ module _ (v : MemoryView) (s p line : ℕ) (block : Block) (bytes : List ℕ) (i
   segment_joined = stepped v after s p (Some so.x) is segment_step
 
   pub segment_written : line < 64 → state_of after ≡ with_written (state_of v) s p line bytes
-  unfolding with_written state_with page_state
+  unfolding with_written set_page page_state
   segment_written low =
       state_stepped v after s p (Some so.x) is segment_step ∙ ap (put_page (state_of v) s p) same
       ∙ sym (turn_is (written line bytes) (state_of v) s p (page_state v.store so.x) (state_page_there v s p so.x so.there))
@@ -201,7 +203,7 @@ writable_segment v s p line block so =
     ∙ ap (λ b. cond b true (writes_frame (state_of v) s p)) (ap (λ (o : Option Entry). has_line (lines_of o) line) so.is ∙ so.has)
 
 pub writable_outside : (v : MemoryView) (s p line frame : ℕ) → IsInFrame v.table s p line frame
-    → is_writable (state_of v) s p line ≡ (not (space_at v.table s).speculating && is_alone (ledger_of v.table) s p)
+    → is_writable (state_of v) s p line ≡ (not (space_in v.table s).speculating && is_alone (ledger_of v.table) s p)
 unfolding page_state
 writable_outside v s p line frame so =
     ap (λ (o : Option PageState). option_map_or (λ (x : PageState). cond (has_line x.own line) true (writes_frame (state_of v) s p)) o false) (state_page_there v s p so.x so.there)
@@ -221,20 +223,20 @@ origin_same z f g h = ap (origin_of z) h
 origin_zero : (z f : ℕ) → f ≡ z → origin_of z f ≡ 0
 origin_zero z f h = let same : nat_eq f z ≡ true = grind (arith, nat_tests) in ap (λ b. cond b 0 (f + 1)) same
 
-pub alone_not_zero : (v : MemoryView) (s p : ℕ) (x : PageView) → page_at v.table s p ≡ Some x → is_alone (ledger_of v.table) s p ≡ true → x.entry.frame ≡ v.table.zero_frame → ⊥
+pub alone_not_zero : (v : MemoryView) (s p : ℕ) (x : PageView) → page_in v.table s p ≡ Some x → is_alone (ledger_of v.table) s p ≡ true → x.entry.frame ≡ v.table.zero_frame → ⊥
 alone_not_zero v s p x there alone same =
     let apart = alone_apart (ledger_of v.table) s p alone in
-    let held : Some apart.holding ≡ Some (holding_of v.table.zero_frame x) = sym apart.there ∙ tables.ledger_page v.table s p ∙ ap (option_map (holding_of v.table.zero_frame)) there in
+    let held : Some apart.holding ≡ Some (holding_of v.table.zero_frame x) = sym apart.there ∙ books_page holding_of v.table s p ∙ ap (option_map (holding_of v.table.zero_frame)) there in
     let origin : apart.holding.origin ≡ 0 = ap (λ (o : Option Holding). option_map_or (λ (h : Holding). h.origin) o 0) held ∙ origin_zero v.table.zero_frame x.entry.frame same in
     let no : nat_eq apart.holding.origin 0 ≡ true = grind (arith, nat_tests) in
     true_false (sym no ∙ apart.not_zero)
 
-pub alone_frame : (v : MemoryView) (s p : ℕ) (x : PageView) (q r : ℕ) (y : PageView) → page_at v.table s p ≡ Some x → is_alone (ledger_of v.table) s p ≡ true → page_at v.table q r ≡ Some y
+pub alone_frame : (v : MemoryView) (s p : ℕ) (x : PageView) (q r : ℕ) (y : PageView) → page_in v.table s p ≡ Some x → is_alone (ledger_of v.table) s p ≡ true → page_in v.table q r ≡ Some y
     → (q ≡ s → r ≡ p → ⊥) → y.entry.frame ≡ x.entry.frame → ⊥
 alone_frame v s p x q r y there alone other d same =
     let apart = alone_apart (ledger_of v.table) s p alone in
-    let held : Some apart.holding ≡ Some (holding_of v.table.zero_frame x) = sym apart.there ∙ tables.ledger_page v.table s p ∙ ap (option_map (holding_of v.table.zero_frame)) there in
-    let theirs = tables.ledger_page v.table q r ∙ ap (option_map (holding_of v.table.zero_frame)) other in
+    let held : Some apart.holding ≡ Some (holding_of v.table.zero_frame x) = sym apart.there ∙ books_page holding_of v.table s p ∙ ap (option_map (holding_of v.table.zero_frame)) there in
+    let theirs = books_page holding_of v.table q r ∙ ap (option_map (holding_of v.table.zero_frame)) other in
     let mine_is : apart.holding.origin ≡ origin_of v.table.zero_frame x.entry.frame = ap (λ (o : Option Holding). option_map_or (λ (h : Holding). h.origin) o 0) held in
     let equal : origin_of v.table.zero_frame y.entry.frame ≡ apart.holding.origin = origin_same v.table.zero_frame y.entry.frame x.entry.frame same ∙ sym mine_is in
     let no : nat_eq (origin_of v.table.zero_frame y.entry.frame) apart.holding.origin ≡ true = grind (arith, nat_tests) in
@@ -242,12 +244,12 @@ alone_frame v s p x q r y there alone other d same =
 
 -- A line of a frame that is a page's alone.
 module _ (v : MemoryView) (s p line frame : ℕ) (bytes : List ℕ) (is : IsJoined v) (so : IsInFrame v.table s p line frame) (low : line < 64)
-    (free : (not (space_at v.table s).speculating && is_alone (ledger_of v.table) s p) ≡ true) where
+    (free : (not (space_in v.table s).speculating && is_alone (ledger_of v.table) s p) ≡ true) where
   abbrev then_view : MemoryView
   then_view = view_of (with_frame_line v.store frame line bytes) v.table
 
   alone : is_alone (ledger_of v.table) s p ≡ true
-  alone = second_true (not (space_at v.table s).speculating) (is_alone (ledger_of v.table) s p) free
+  alone = second_true (not (space_in v.table s).speculating) (is_alone (ledger_of v.table) s p) free
 
   taken : IsFrame v.store frame
   taken = frame_there v s p line frame is so
@@ -258,12 +260,12 @@ module _ (v : MemoryView) (s p line frame : ℕ) (bytes : List ℕ) (is : IsJoin
   frame_kept : (other : ℕ) → IsFrame v.store other → (other ≡ frame → ⊥) → KeepsFrame v.store then_view.store other
   frame_kept other f away = frame_stays v.store then_view.store (16 * frame) (64 * frame) 64 (frame_alters v.store is.store frame taken line low bytes) other f (λ e. away (omega (arith, e)))
 
-  table_same : v.table ≡ table_with v.table s p (Some so.x)
-  table_same = sym (with_some v.table s p so.x ∙ table_again v.table s p so.x so.there)
+  table_same : v.table ≡ set_page v.table s p (Some so.x)
+  table_same = sym (set_some v.table s p so.x ∙ page_again v.table s p so.x so.there)
 
   frame_step : Step v then_view s p (Some so.x)
   frame_step = record {
-    there = tables.there_space v.table s p so.x so.there;
+    there = there_space v.table s p so.x so.there;
     number = (is.held s p so.x so.there).number;
     low = (is.held s p so.x so.there).low;
     table_is = table_same;
@@ -286,7 +288,7 @@ module _ (v : MemoryView) (s p line frame : ℕ) (bytes : List ℕ) (is : IsJoin
   frame_joined = stepped v then_view s p (Some so.x) is frame_step
 
   pub frame_written : state_of then_view ≡ with_written (state_of v) s p line bytes
-  unfolding with_written state_with page_state
+  unfolding with_written set_page page_state
   frame_written =
       state_stepped v then_view s p (Some so.x) is frame_step ∙ ap (put_page (state_of v) s p) same
       ∙ sym (turn_is (written line bytes) (state_of v) s p (page_state v.store so.x) (state_page_there v s p so.x so.there))

@@ -16,22 +16,23 @@ use Rattle.segment_store.specs.Kept.{IsStore}
 use Rattle.segment_store.specs.Store.{Store, IsFrame, frame_line, segment_at}
 use Rattle.segment_store.specs.Changes.{KeepsFrame, KeepsFrames, KeepsSegments}
 use Rattle.segment_store.specs.Laws.{frame_inside}
+use Rattle.space_maps.specs.Books.{books_page, books_put_page}
+use Rattle.space_maps.specs.Laws.{changed_there, set_some, there_space}
+use Rattle.space_maps.specs.Spaces.{page_in, put_page, set_page}
 use Rattle.space_ledger.specs.View as view
-use Rattle.space_ledger.specs.View.{LedgerView, PageView, has_space, holding_of, ledger_of, lines_of, overlay_at, page_at, with_frame, with_page_at, without_page_at}
-use Rattle.space_ledger.specs.ViewLaws as tables
+use Rattle.space_ledger.specs.View.{LedgerView, PageView, holding_of, ledger_of, lines_of, overlay_at, with_frame}
 use Rattle.overlay_pages.specs.Lines.{page_lines}
 use Rattle.overlay_pages.specs.LineLaws.{lines_same}
-use Rattle.overlay_pages.specs.State.{page_in, put_page}
 use Rattle.overlay_pages.specs.Changes.{IsNewFrame, IsPlaced, moved_to}
 use Rattle.overlay_pages.specs.Steps.{FillsFrame}
 use Rattle.overlay_pages.specs.View.{IsHeld, IsJoined, MemoryView, page_state, segment_of, state_of, view_of}
 use Rattle.overlay_pages.specs.ViewLaws.{state_books, state_frames, state_page_there, state_zero}
-use Rattle.overlay_pages.proofs.Steps.{Step, names_apart, some_page, state_stepped, state_with, stepped, table_with, with_some}
+use Rattle.overlay_pages.proofs.Steps.{Step, names_apart, some_page, state_stepped, stepped}
 use Rattle.overlay_pages.proofs.Filling.{segments_twice}
 use Rattle.overlay_pages.proofs.Lending.{true_false}
 
 -- A page that has no overlay names no segment.
-pub not_bare : (v : MemoryView) (s p : ℕ) (x : PageView) (unit : ℕ) (segment : Segment) → IsJoined v → page_at v.table s p ≡ Some x → x.overlay ≡ None → segment_at v.store unit ≡ Some segment
+pub not_bare : (v : MemoryView) (s p : ℕ) (x : PageView) (unit : ℕ) (segment : Segment) → IsJoined v → page_in v.table s p ≡ Some x → x.overlay ≡ None → segment_at v.store unit ≡ Some segment
     → segment.owner ≡ overlay_page s p → ⊥
 not_bare v s p x unit segment is there bare at_unit named =
     let mine = is.held s p x there in
@@ -39,7 +40,7 @@ not_bare v s p x unit segment is there bare at_unit named =
     let theirs = is.held own.space own.page own.x own.there in
     names_apart s p own.space own.page mine.number mine.low theirs.number theirs.low (sym own.owner ∙ named)
     (λ qq rr.
-    let same : own.x ≡ x = some_page own.x x (sym own.there ∙ ap (λ n. page_at v.table n own.page) qq ∙ ap (page_at v.table s) rr ∙ there) in
+    let same : own.x ≡ x = some_page own.x x (sym own.there ∙ ap (λ n. page_in v.table n own.page) qq ∙ ap (page_in v.table s) rr ∙ there) in
     nothing own.overlay (sym bare ∙ ap (λ (y : PageView). y.overlay) (sym same) ∙ own.is))
   where
     nothing : (e : Entry) → None ≡ Some e → ⊥
@@ -63,27 +64,27 @@ origin_named z f g h = at (nat_eq g z) refl
         let same : nat_eq (g + 1) (f + 1) ≡ true = ap (λ n. nat_eq n (f + 1)) (sym some) ∙ h in
         grind (arith, nat_tests, same)
 
-page_back : (v : LedgerView) (q r : ℕ) (h : Holding) → holding_at (ledger_of v) q r ≡ Some h → (P : Type 0) → ((y : PageView) → page_at v q r ≡ Some y → h ≡ holding_of v.zero_frame y → P) → P
-page_back v q r h there P go = at (page_at v q r) refl
+page_back : (v : LedgerView) (q r : ℕ) (h : Holding) → holding_at (ledger_of v) q r ≡ Some h → (P : Type 0) → ((y : PageView) → page_in v q r ≡ Some y → h ≡ holding_of v.zero_frame y → P) → P
+page_back v q r h there P go = at (page_in v q r) refl
   where
-    at : (o : Option PageView) → page_at v q r ≡ o → P
-    at None e = absurd (nothing h (sym (tables.ledger_page v q r ∙ ap (option_map (holding_of v.zero_frame)) e) ∙ there))
+    at : (o : Option PageView) → page_in v q r ≡ o → P
+    at None e = absurd (nothing h (sym (books_page holding_of v q r ∙ ap (option_map (holding_of v.zero_frame)) e) ∙ there))
       where
         nothing : (k : Holding) → None ≡ Some k → ⊥
         nothing k n = cc
-    at (Some y) e = go y e (ap (λ (o : Option Holding). option_map_or (λ (k : Holding). k) o h) (sym there ∙ tables.ledger_page v q r ∙ ap (option_map (holding_of v.zero_frame)) e))
+    at (Some y) e = go y e (ap (λ (o : Option Holding). option_map_or (λ (k : Holding). k) o h) (sym there ∙ books_page holding_of v q r ∙ ap (option_map (holding_of v.zero_frame)) e))
 
-pub nobody_has : (v : LedgerView) (frame : ℕ) → ((q r : ℕ) (y : PageView) → page_at v q r ≡ Some y → y.entry.frame ≡ frame → ⊥) → has_origin (ledger_of v) (frame + 1) ≡ false
+pub nobody_has : (v : LedgerView) (frame : ℕ) → ((q r : ℕ) (y : PageView) → page_in v q r ≡ Some y → y.entry.frame ≡ frame → ⊥) → has_origin (ledger_of v) (frame + 1) ≡ false
 nobody_has v frame none = not_true (has_origin (ledger_of v) (frame + 1)) (λ had.
     let h = holder (ledger_of v) (frame + 1) had in
     page_back v h.space h.page h.holding h.there ⊥
     (λ y there same. none h.space h.page y there (origin_named v.zero_frame frame y.entry.frame (ap (λ (k : Holding). nat_eq k.origin (frame + 1)) (sym same) ∙ h.passes))))
 
-pub nobody_names : (v : LedgerView) (frame : ℕ) → has_origin (ledger_of v) (frame + 1) ≡ false → (frame ≡ v.zero_frame → ⊥) → (q r : ℕ) (y : PageView) → page_at v q r ≡ Some y → y.entry.frame ≡ frame → ⊥
+pub nobody_names : (v : LedgerView) (frame : ℕ) → has_origin (ledger_of v) (frame + 1) ≡ false → (frame ≡ v.zero_frame → ⊥) → (q r : ℕ) (y : PageView) → page_in v q r ≡ Some y → y.entry.frame ≡ frame → ⊥
 nobody_names v frame none isnt q r y there same =
     let zero_no : nat_eq y.entry.frame v.zero_frame ≡ false = grind_ne y.entry.frame v.zero_frame (λ e. isnt (sym same ∙ e)) in
     let origin : view.origin_of v.zero_frame y.entry.frame ≡ frame + 1 = ap (λ b. cond b 0 (y.entry.frame + 1)) zero_no ∙ ap (λ n. n + 1) same in
-    let has = origin_of (ledger_of v) q r (holding_of v.zero_frame y) (tables.ledger_page v q r ∙ ap (option_map (holding_of v.zero_frame)) there) in
+    let has = origin_of (ledger_of v) q r (holding_of v.zero_frame y) (books_page holding_of v q r ∙ ap (option_map (holding_of v.zero_frame)) there) in
     true_false (sym has ∙ ap (has_origin (ledger_of v)) origin ∙ none)
   where
     grind_ne : (a b : ℕ) → (a ≡ b → ⊥) → nat_eq a b ≡ false
@@ -102,7 +103,7 @@ pub record TakesFrame (old taken filled : Store) (frame : ℕ) (given : ℕ → 
   pub fills : FillsFrame taken filled frame
   pub lines : (i : ℕ) → i < 64 → frame_line filled frame i ≡ given i
 
-module _ (a : MemoryView) (taken filled : Store) (table : LedgerView) (s p : ℕ) (x : PageView) (frame : ℕ) (given : ℕ → List ℕ) (is : IsJoined a) (there : page_at a.table s p ≡ Some x) (bare : x.overlay ≡ None)
+module _ (a : MemoryView) (taken filled : Store) (table : LedgerView) (s p : ℕ) (x : PageView) (frame : ℕ) (given : ℕ → List ℕ) (is : IsJoined a) (there : page_in a.table s p ≡ Some x) (bare : x.overlay ≡ None)
     (shared : is_alone (ledger_of a.table) s p ≡ false) (takes : TakesFrame a.store taken filled frame given) (table_is : table ≡ with_frame a.table s p frame) where
   abbrev placed : PageView
   placed = record { entry = record { perms = x.entry.perms; frame = frame }; overlay = None }
@@ -113,11 +114,11 @@ module _ (a : MemoryView) (taken filled : Store) (table : LedgerView) (s p : ℕ
   changed_is : changed ≡ placed
   changed_is = λ i. record { entry = record { perms = x.entry.perms; frame = frame }; overlay = bare i }
 
-  table_now : table ≡ table_with a.table s p (Some placed)
+  table_now : table ≡ set_page a.table s p (Some placed)
   unfolding with_frame
   table_now =
-      table_is ∙ tables.changed_there (λ (y : PageView). record { entry = record { perms = y.entry.perms; frame = frame }; overlay = y.overlay }) a.table s p x there
-      ∙ ap (with_page_at a.table s p) changed_is ∙ sym (with_some a.table s p placed)
+      table_is ∙ changed_there (λ (y : PageView). record { entry = record { perms = y.entry.perms; frame = frame }; overlay = y.overlay }) a.table s p x there
+      ∙ ap (put_page a.table s p) changed_is ∙ sym (set_some a.table s p placed)
 
   pub frame_in : frame < a.table.frames
   frame_in = omega (arith, frame_inside taken takes.taken_is frame takes.there, takes.whole, is.frames)
@@ -148,8 +149,8 @@ module _ (a : MemoryView) (taken filled : Store) (table : LedgerView) (s p : ℕ
   unfolding frame_for
   units_now =
       let l = ledger_of a.table in
-      let held : holding_at l s p ≡ Some (holding_of a.table.zero_frame x) = tables.ledger_page a.table s p ∙ ap (option_map (holding_of a.table.zero_frame)) there in
-      let now : ledger_of table ≡ with_page l s p (holding_of a.table.zero_frame placed) = ap ledger_of (table_now ∙ with_some a.table s p placed) ∙ tables.ledger_put a.table s p placed in
+      let held : holding_at l s p ≡ Some (holding_of a.table.zero_frame x) = books_page holding_of a.table s p ∙ ap (option_map (holding_of a.table.zero_frame)) there in
+      let now : ledger_of table ≡ with_page l s p (holding_of a.table.zero_frame placed) = ap ledger_of (table_now ∙ set_some a.table s p placed) ∙ books_put_page holding_of a.table s p placed in
       let changes = units_changed l s p (holding_of a.table.zero_frame x) (holding_of a.table.zero_frame placed) held in
       let none : class (length (lines_of x.overlay)) ≡ 0 = ap (λ (o : Option Entry). class (length (lines_of o))) bare ∙ class_none in
       let before : frame_for (is_alone l s p) ≡ 0 = ap frame_for shared in
@@ -164,7 +165,7 @@ module _ (a : MemoryView) (taken filled : Store) (table : LedgerView) (s p : ℕ
 
   placed_step : Step a (view_of filled table) s p (Some placed)
   placed_step = record {
-    there = tables.there_space a.table s p x there;
+    there = there_space a.table s p x there;
     number = (is.held s p x there).number;
     low = (is.held s p x there).low;
     table_is = table_now;
@@ -203,7 +204,7 @@ module _ (a : MemoryView) (taken filled : Store) (table : LedgerView) (s p : ℕ
       λ i. record { entry = record { perms = x.entry.perms; frame = frame }; own = []; lines = lines i; base = lines i }
 
   placed_at : IsPlaced (state_of a) (state_of (view_of filled table)) s p (moved_to (page_state a.store x) (page_lines given))
-  unfolding state_with
+  unfolding set_page
   placed_at = record {
     frame = frame;
     fresh = frame_new;

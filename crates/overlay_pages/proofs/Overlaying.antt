@@ -12,13 +12,14 @@ use Rattle.segment_store.specs.declared.segment.Segment.{Segment}
 use Rattle.segment_store.specs.Kept.{IsStore}
 use Rattle.segment_store.specs.Store.{segment_at}
 use Rattle.segment_store.specs.Changes.{KeepsFrames, KeepsOtherSegments}
-use Rattle.space_ledger.specs.View.{PageView, holding_of, ledger_of, lines_of, page_at, with_overlay, with_page_at}
-use Rattle.space_ledger.specs.ViewLaws as tables
-use Rattle.overlay_pages.specs.State.{PageState, State, page_in, turned_page}
-use Rattle.overlay_pages.specs.StateLaws as states
+use Rattle.space_maps.specs.Books.{books_page, books_put_page}
+use Rattle.space_maps.specs.Laws.{changed_there, page_put_here, there_space}
+use Rattle.space_maps.specs.Spaces.{page_in, put_page, set_page, turned_page}
+use Rattle.space_ledger.specs.View.{PageView, holding_of, ledger_of, lines_of, with_overlay}
+use Rattle.overlay_pages.specs.State.{PageState}
 use Rattle.overlay_pages.specs.View.{IsHeld, IsJoined, IsOwned, MemoryView, page_state, segment_of, state_of}
 use Rattle.overlay_pages.specs.ViewLaws.{state_page_there}
-use Rattle.overlay_pages.proofs.Steps.{Step, names_apart, some_page, state_stepped, state_with, stepped, table_with}
+use Rattle.overlay_pages.proofs.Steps.{Step, names_apart, some_page, state_stepped, stepped}
 
 -- An overlay begins, ends, or gets other lines.
 
@@ -27,7 +28,7 @@ with_own x o = record { entry = x.entry; overlay = o }
 
 -- The overlay of a page is another one, and its segment starts at a unit where only it had one.
 pub record Overlays (old new : MemoryView) (s p : ℕ) (x : PageView) (o : Option Entry) (u : ℕ) : Type 0 where
-  pub there : page_at old.table s p ≡ Some x
+  pub there : page_in old.table s p ≡ Some x
   pub table_is : new.table ≡ with_overlay old.table s p o
   pub was_there : (e : Entry) → x.overlay ≡ Some e → e.block.unit ≡ u
   pub was_free : x.overlay ≡ None → segment_at old.store u ≡ None
@@ -47,7 +48,7 @@ module _ (old new : MemoryView) (s p : ℕ) (x : PageView) (o : Option Entry) (u
   mine = is.held s p x so.there
 
   -- no other page's segment starts there
-  not_there : (q r : ℕ) (y : PageView) (e : Entry) → (q ≡ s → r ≡ p → ⊥) → page_at old.table q r ≡ Some y → y.overlay ≡ Some e → e.block.unit ≡ u → ⊥
+  not_there : (q r : ℕ) (y : PageView) (e : Entry) → (q ≡ s → r ≡ p → ⊥) → page_in old.table q r ≡ Some y → y.overlay ≡ Some e → e.block.unit ≡ u → ⊥
   not_there q r y e d there over at_unit = at x.overlay refl
     where
       theirs : IsHeld old.store q r y
@@ -71,29 +72,29 @@ module _ (old new : MemoryView) (s p : ℕ) (x : PageView) (o : Option Entry) (u
       let own = is.owned unit segment there in
       let theirs = is.held own.space own.page own.x own.there in
       names_apart s p own.space own.page mine.number mine.low theirs.number theirs.low (sym own.owner ∙ named) (λ qq rr.
-      let same : own.x ≡ x = some_page own.x x (sym own.there ∙ ap (λ n. page_at old.table n own.page) qq ∙ ap (page_at old.table s) rr ∙ so.there) in
+      let same : own.x ≡ x = some_page own.x x (sym own.there ∙ ap (λ n. page_in old.table n own.page) qq ∙ ap (page_in old.table s) rr ∙ so.there) in
       away (sym own.unit_is ∙ so.was_there own.overlay (ap (λ (y : PageView). y.overlay) (sym same) ∙ own.is)))
 
   books_now : ledger_of new.table ≡ with_page (ledger_of old.table) s p (holding_of old.table.zero_frame (with_own x o))
   unfolding with_overlay with_own
   books_now =
-      ap ledger_of (so.table_is ∙ tables.changed_there (λ (y : PageView). record { entry = y.entry; overlay = o }) old.table s p x so.there)
-      ∙ tables.ledger_put old.table s p (with_own x o)
+      ap ledger_of (so.table_is ∙ changed_there (λ (y : PageView). record { entry = y.entry; overlay = o }) old.table s p x so.there)
+      ∙ books_put_page holding_of old.table s p (with_own x o)
 
   units_now : units (ledger_of new.table) + class (length (lines_of x.overlay)) ≡ units (ledger_of old.table) + class (length (lines_of o))
   unfolding with_own
   units_now =
       ap (λ (l : Ledger). units l + class (length (lines_of x.overlay))) books_now
       ∙ units_own (ledger_of old.table) s p (holding_of old.table.zero_frame x) (holding_of old.table.zero_frame (with_own x o))
-      (tables.ledger_page old.table s p ∙ ap (option_map (holding_of old.table.zero_frame)) so.there) refl
+      (books_page holding_of old.table s p ∙ ap (option_map (holding_of old.table.zero_frame)) so.there) refl
 
   pub overlays_step : Step old new s p (Some (record { entry = x.entry; overlay = o }))
-  unfolding with_overlay table_with
+  unfolding with_overlay set_page
   overlays_step = record {
-    there = tables.there_space old.table s p x so.there;
+    there = there_space old.table s p x so.there;
     number = mine.number;
     low = mine.low;
-    table_is = so.table_is ∙ tables.changed_there (λ (y : PageView). record { entry = y.entry; overlay = o }) old.table s p x so.there;
+    table_is = so.table_is ∙ changed_there (λ (y : PageView). record { entry = y.entry; overlay = o }) old.table s p x so.there;
     store = so.store;
     whole = so.whole;
     segments = λ q r y e d there over. so.kept e.block.unit (segment_of q r e) (not_there q r y e d there over) ((is.held q r y there).segment e over);
@@ -114,27 +115,27 @@ module _ (old new : MemoryView) (s p : ℕ) (x : PageView) (o : Option Entry) (u
         size = so.size;
       }
 
-      by_now : (unit : ℕ) (segment : Segment) → unit ≡ u → segment_at new.store unit ≡ Some segment → (f : Option Entry) → o ≡ f → IsOwned (with_page_at old.table s p (record { entry = x.entry; overlay = o })) unit segment
+      by_now : (unit : ℕ) (segment : Segment) → unit ≡ u → segment_at new.store unit ≡ Some segment → (f : Option Entry) → o ≡ f → IsOwned (put_page old.table s p (record { entry = x.entry; overlay = o })) unit segment
       by_now unit segment same there None e = absurd_none (sym (ap (segment_at new.store) same ∙ so.here ∙ ap (option_map (segment_of s p)) e) ∙ there)
         where
-          absurd_none : None ≡ Some segment → IsOwned (with_page_at old.table s p (record { entry = x.entry; overlay = o })) unit segment
+          absurd_none : None ≡ Some segment → IsOwned (put_page old.table s p (record { entry = x.entry; overlay = o })) unit segment
           absurd_none h = cc
       by_now unit segment same there (Some f) e = record {
         space = s;
         page = p;
         x = record { entry = x.entry; overlay = o };
         overlay = f;
-        there = tables.view_put old.table s p (record { entry = x.entry; overlay = o }) s p refl refl;
+        there = page_put_here old.table s p (record { entry = x.entry; overlay = o }) s p refl refl;
         is = e;
         unit_is = so.now_there f e ∙ sym same;
         owner = ap (λ (t : Option Segment). option_map_or (λ (g : Segment). g.owner) t 0) (sym there ∙ ap (segment_at new.store) same ∙ so.here ∙ ap (option_map (segment_of s p)) e);
       }
 
       owned : (unit : ℕ) (segment : Segment) → segment_at new.store unit ≡ Some segment
-          → ((segment_at old.store unit ≡ Some segment) × (segment.owner ≡ overlay_page s p → ⊥)) ⊎ IsOwned (with_page_at old.table s p (record { entry = x.entry; overlay = o })) unit segment
+          → ((segment_at old.store unit ≡ Some segment) × (segment.owner ≡ overlay_page s p → ⊥)) ⊎ IsOwned (put_page old.table s p (record { entry = x.entry; overlay = o })) unit segment
       owned unit segment there = at (cases_eq unit u)
         where
-          at : (unit ≡ u) ⊎ (unit ≡ u → ⊥) → ((segment_at old.store unit ≡ Some segment) × (segment.owner ≡ overlay_page s p → ⊥)) ⊎ IsOwned (with_page_at old.table s p (record { entry = x.entry; overlay = o })) unit segment
+          at : (unit ≡ u) ⊎ (unit ≡ u → ⊥) → ((segment_at old.store unit ≡ Some segment) × (segment.owner ≡ overlay_page s p → ⊥)) ⊎ IsOwned (put_page old.table s p (record { entry = x.entry; overlay = o })) unit segment
           at (inl same) = inr (by_now unit segment same there o refl)
           at (inr away) = let before = sym (so.elsewhere unit away) ∙ there in inl (before, not_mine unit segment away before)
 
@@ -144,8 +145,8 @@ module _ (old new : MemoryView) (s p : ℕ) (x : PageView) (o : Option Entry) (u
   -- what the page is afterwards
   pub overlays_state : (turn : PageState → PageState) → page_state new.store (record { entry = x.entry; overlay = o }) ≡ turn (page_state old.store x)
       → state_of new ≡ turned_page turn (state_of old) s p
-  unfolding state_with
+  unfolding set_page
   overlays_state turn same =
       state_stepped old new s p (Some (record { entry = x.entry; overlay = o })) is overlays_step
-      ∙ ap (λ y. Rattle.overlay_pages.specs.State.put_page (state_of old) s p y) same
-      ∙ sym (states.changed_there turn (state_of old) s p (page_state old.store x) (state_page_there old s p x so.there))
+      ∙ ap (λ y. put_page (state_of old) s p y) same
+      ∙ sym (changed_there turn (state_of old) s p (page_state old.store x) (state_page_there old s p x so.there))

@@ -8,7 +8,8 @@ use Rattle.segment_store.specs.declared.segment.Segment.{Segment}
 use Rattle.segment_store.specs.Store.{IsFrame, IsSegment, frame_place, place_of, scratch_place, segment_at}
 use Rattle.segment_store.specs.Places.{LiesIn}
 use Rattle.segment_store.specs.Laws.{frame_inside, inside_of, line_lies, places_differ, segment_range, order_of}
-use Rattle.space_ledger.specs.View.{PageView, lines_of, overlay_at, page_at}
+use Rattle.space_maps.specs.Spaces.{page_in}
+use Rattle.space_ledger.specs.View.{PageView, lines_of, overlay_at}
 use Rattle.overlay_pages.specs.View.{HasOwnPlace, IsJoined, MemoryView, ShareFrameLine, place_at, place_in_page, segment_of}
 use Rattle.overlay_pages.proofs.Steps.{names_apart}
 use Rattle.overlay_pages.proofs.Joining.{Has, page_with}
@@ -17,7 +18,7 @@ use Rattle.overlay_pages.proofs.Joining.{Has, page_with}
 
 record InOverlay (m : MemoryView) (q r i : ℕ) : Type 0 where
   pub x : PageView
-  pub there : page_at m.table q r ≡ Some x
+  pub there : page_in m.table q r ≡ Some x
   pub overlay : Entry
   pub over : x.overlay ≡ Some overlay
   pub has : has_line overlay.bits i ≡ true
@@ -25,11 +26,11 @@ record InOverlay (m : MemoryView) (q r i : ℕ) : Type 0 where
 
 record InFrame (m : MemoryView) (q r i : ℕ) : Type 0 where
   pub x : PageView
-  pub there : page_at m.table q r ≡ Some x
+  pub there : page_in m.table q r ≡ Some x
   pub lacks : has_line (lines_of x.overlay) i ≡ false
   pub place : place_at m q r i ≡ frame_place x.entry.frame i
 
-stands : (m : MemoryView) (q r i : ℕ) → IsSome (page_at m.table q r) → InOverlay m q r i ⊎ InFrame m q r i
+stands : (m : MemoryView) (q r i : ℕ) → IsSome (page_in m.table q r) → InOverlay m q r i ⊎ InFrame m q r i
 stands m q r i there = at found.x.overlay refl
   where
     found : Has m.table q r (overlay_at m.table q r)
@@ -148,7 +149,7 @@ frames_same m q r i s p j one two low below same = record {
     frame = omega (arith, one.place, two.place, same, low, below)
 
 -- a line outside the overlay stands in the frame
-outside : (m : MemoryView) (q r i : ℕ) → IsSome (page_at m.table q r) → has_line (lines_of (overlay_at m.table q r)) i ≡ false → InFrame m q r i
+outside : (m : MemoryView) (q r i : ℕ) → IsSome (page_in m.table q r) → has_line (lines_of (overlay_at m.table q r)) i ≡ false → InFrame m q r i
 outside m q r i there lacks = at (stands m q r i there)
   where
     at : InOverlay m q r i ⊎ InFrame m q r i → InFrame m q r i
@@ -158,7 +159,7 @@ outside m q r i there lacks = at (stands m q r i there)
         no : true ≡ false → ⊥
         no h = cc
 
-pub has_own_place : (m : MemoryView) → IsJoined m → (space page line : ℕ) → IsSome (page_at m.table space page) → line < 64 → HasOwnPlace m space page line
+pub has_own_place : (m : MemoryView) → IsJoined m → (space page line : ℕ) → IsSome (page_in m.table space page) → line < 64 → HasOwnPlace m space page line
 has_own_place m is space page line there low = record {
   only = λ q r i found below same. two q r i below same (stands m q r i found) (stands m space page line there);
   shared = λ q r i found so. one q r i so (outside m q r i found so.one) (outside m space page line there so.two);

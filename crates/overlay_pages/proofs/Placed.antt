@@ -4,10 +4,8 @@ use Rattle.std.proofs.lemmas.Bool.Decides.{nat_tests}
 use Rattle.std.proofs.lemmas.List.{get_or-replicate}
 use Rattle.std.specs.Option.{option_and_then, option_map}
 use Rattle.std.specs.Ordering.{nat_cmp}
-use Rattle.std.specs.FinMap.{FinMap, empty, get, get-empty, insert, remove}
+use Rattle.std.specs.FinMap.{FinMap, empty, get, get-empty}
 use Rattle.sizes.specs.declared.TheConstants.{FRAME_UNITS, PAGE_LINES}
-use Rattle.number_maps.specs.Keys.{alike, by_key, get_other, get_same, removed_other, removed_same}
-use Rattle.number_maps.specs.Views.{viewed_empty}
 use Rattle.unit_map.specs.Pieces.{free_at, free_frames, free_units, units_in}
 use Rattle.unit_map.specs.Changes.{HasRoom}
 use Rattle.line_store.specs.Lines.{line_of, zero_lines}
@@ -23,45 +21,33 @@ use Rattle.segment_store.specs.Kept.{IsStore}
 use Rattle.segment_store.specs.Store.{Store, IsFrame, frame_line, segment_at}
 use Rattle.segment_store.specs.Changes.{IsEmptyStore}
 use Rattle.segment_store.specs.Laws.{frame_inside}
+use Rattle.space_maps.specs.Books.{books_empty, books_page, books_put_page, books_spaces}
+use Rattle.space_maps.specs.Laws.{changed_there, cut_over, page_absent, page_over, page_put_here}
+use Rattle.space_maps.specs.Spaces.{cut_page, holds_space, page_in, put_page, put_pages, put_space, turned_page}
+use Rattle.space_maps.specs.Mapped.{mapped, mapped_none}
 use Rattle.space_ledger.specs.View as view
-use Rattle.space_ledger.specs.View.{LedgerView, PageView, SpaceView, has_space, holding_of, ledger_of, overlay_at, page_at, with_overlay, with_page_at, with_zero_pages}
-use Rattle.space_ledger.specs.ViewLaws as tables
+use Rattle.space_ledger.specs.View.{LedgerView, PageView, SpaceView, holding_of, ledger_of, overlay_at, with_overlay, with_zero_pages}
 use Rattle.overlay_pages.specs.Lines.{bytes_of_line, zero_line, zero_page}
-use Rattle.overlay_pages.specs.State.{PageState, SpaceState, State, books, cut_page, held_page, holds_space, of_pages, page_in, put_page, put_space, space_in, turned_page}
-use Rattle.overlay_pages.specs.StateLaws as states
+use Rattle.overlay_pages.specs.State.{PageState, State, books, held_page}
 use Rattle.overlay_pages.specs.Changes.{IsNewFrame, IsPlaced, whole_page, with_zeros}
 use Rattle.overlay_pages.specs.Calls.{IsEmptyState}
 use Rattle.overlay_pages.specs.View.{IsJoined, MemoryView, page_state, state_of, view_of}
 use Rattle.overlay_pages.specs.ViewLaws.{state_page_there}
-use Rattle.overlay_pages.proofs.Growing.{put_over, turn_is}
+use Rattle.overlay_pages.proofs.Growing.{turn_is}
 use Rattle.overlay_pages.proofs.Joining.{page_with}
 use Rattle.overlay_pages.proofs.Lending.{true_false}
 
 -- A page that was dropped and goes.
 
-pub dropped_at : (v : LedgerView) (s p : ℕ) → IsSome (page_at v s p) → (IsSome (page_at (with_overlay v s p None) s p)) × (overlay_at (with_overlay v s p None) s p ≡ None)
+pub dropped_at : (v : LedgerView) (s p : ℕ) → IsSome (page_in v s p) → (IsSome (page_in (with_overlay v s p None) s p)) × (overlay_at (with_overlay v s p None) s p ≡ None)
 unfolding with_overlay
 dropped_at v s p there =
     let found = page_with v s p there (overlay_at v s p) refl in
-    let now = tables.changed_there (λ (y : PageView). record { entry = y.entry; overlay = None }) v s p found.x found.there in
-    let at = ap (λ (w : LedgerView). page_at w s p) now ∙ tables.view_put v s p (record { entry = found.x.entry; overlay = None }) s p refl refl in
+    let now = changed_there (λ (y : PageView). record { entry = y.entry; overlay = None }) v s p found.x found.there in
+    let at = ap (λ (w : LedgerView). page_in w s p) now ∙ page_put_here v s p (record { entry = found.x.entry; overlay = None }) s p refl refl in
     (ap is_some at, ap (λ (o : Option PageView). option_and_then (λ (x : PageView). x.overlay) o) at)
 
-cut_over : (st : State) (s p : ℕ) (x : PageState) → cut_page (put_page st s p x) s p ≡ cut_page st s p
-unfolding cut_page put_page put_space
-cut_over st s p x =
-    let one = of_pages (space_in st s) (insert (space_in st s).pages p x) in
-    let here : space_in (put_page st s p x) s ≡ one = states.space_put st s one s refl in
-    let gone : remove (insert (space_in st s).pages p x) p ≡ remove (space_in st s).pages p = alike _ _ (λ q. by_key q p
-    (λ same. removed_same (insert (space_in st s).pages p x) p q same ∙ sym (removed_same (space_in st s).pages p q same))
-    (λ other. removed_other (insert (space_in st s).pages p x) p q other ∙ get_other (space_in st s).pages p q x other ∙ sym (removed_other (space_in st s).pages p q other))) in
-    let pages : remove (space_in (put_page st s p x) s).pages p ≡ remove (space_in st s).pages p = ap (λ (z : SpaceState). remove z.pages p) here ∙ gone in
-    let space : of_pages (space_in (put_page st s p x) s) (remove (space_in (put_page st s p x) s).pages p) ≡ of_pages (space_in st s) (remove (space_in st s).pages p) =
-    λ i. record { pages = pages i; awaiting = (here i).awaiting; speculating = (here i).speculating } in
-    let all = ap (insert (insert st.spaces s one) s) space ∙ Rattle.number_maps.specs.Keys.insert_over st.spaces s one (of_pages (space_in st s) (remove (space_in st s).pages p)) in
-    λ i. record { spaces = all i; frames = st.frames; zero_frame = st.zero_frame }
-
-pub cut_turned : (turn : PageState → PageState) (v : MemoryView) (s p : ℕ) → IsSome (page_at v.table s p) → cut_page (turned_page turn (state_of v) s p) s p ≡ cut_page (state_of v) s p
+pub cut_turned : (turn : PageState → PageState) (v : MemoryView) (s p : ℕ) → IsSome (page_in v.table s p) → cut_page (turned_page turn (state_of v) s p) s p ≡ cut_page (state_of v) s p
 cut_turned turn v s p there =
     let found = page_with v.table s p there (overlay_at v.table s p) refl in
     let y = page_state v.store found.x in
@@ -69,12 +55,12 @@ cut_turned turn v s p there =
 
 -- A page that was mapped and gets a frame.
 
-pub one_zero : (v : LedgerView) (s p : ℕ) (entry : PageEntry) → with_zero_pages v s p 1 entry ≡ with_page_at v s p (record { entry = entry; overlay = None })
-unfolding with_zero_pages
+pub one_zero : (v : LedgerView) (s p : ℕ) (entry : PageEntry) → with_zero_pages v s p 1 entry ≡ put_page v s p (record { entry = entry; overlay = None })
+unfolding with_zero_pages put_pages
 one_zero v s p entry = refl
 
 pub one_zero_state : (st : State) (s p : ℕ) (entry : PageEntry) → with_zeros st s p 1 entry ≡ put_page st s p (whole_page entry zero_page)
-unfolding with_zeros
+unfolding with_zeros put_pages
 one_zero_state st s p entry = refl
 
 origin_none : (z f : ℕ) → f ≡ z → view.origin_of z f ≡ 0
@@ -87,20 +73,20 @@ origin_some z f other = let no_ : nat_eq f z ≡ false = grind (arith, nat_tests
 pub zero_shared : (st : State) (s p : ℕ) (y : PageState) → page_in st s p ≡ Some y → y.entry.frame ≡ st.zero_frame → is_alone (books st) s p ≡ false
 unfolding is_unused
 zero_shared st s p y there zero_is =
-    alone_is (books st) s p (held_page st.zero_frame y) (states.ledger_page st s p ∙ ap (option_map (held_page st.zero_frame)) there)
+    alone_is (books st) s p (held_page st.zero_frame y) (books_page held_page st s p ∙ ap (option_map (held_page st.zero_frame)) there)
     ∙ ap (λ o. is_unused (without_page (books st) s p) o) (origin_none st.zero_frame y.entry.frame zero_is)
 
 module _ (st : State) (s p : ℕ) (entry : PageEntry) (there : holds_space st s ≡ true) (absent : page_in st s p ≡ None) (zero_is : entry.frame ≡ st.zero_frame) where
-  abbrev mapped : State
-  mapped = put_page st s p (whole_page entry zero_page)
+  abbrev with_zero_page : State
+  with_zero_page = put_page st s p (whole_page entry zero_page)
 
   not_held : holding_at (books st) s p ≡ None
-  not_held = states.ledger_page st s p ∙ ap (option_map (held_page st.zero_frame)) absent
+  not_held = books_page held_page st s p ∙ ap (option_map (held_page st.zero_frame)) absent
 
   without : without_page (books st) s p ≡ books st
-  without = without_absent (books st) s p (states.ledger_spaces st s ∙ there) not_held
+  without = without_absent (books st) s p (books_spaces held_page st s ∙ there) not_held
 
-  new_before : (frame : ℕ) → IsNewFrame mapped frame → IsNewFrame st frame
+  new_before : (frame : ℕ) → IsNewFrame with_zero_page frame → IsNewFrame st frame
   unfolding put_page put_space
   new_before frame fresh = record { inside = fresh.inside; other = fresh.other; unused = unused }
     where
@@ -113,7 +99,7 @@ module _ (st : State) (s p : ℕ) (entry : PageEntry) (there : holds_space st s 
           at : (b : Bool) → has_origin (books st) (frame + 1) ≡ b → has_origin (books st) (frame + 1) ≡ false
           at false h = h
           at true h =
-              let now = ap (λ (l : Ledger). has_origin l (frame + 1)) (states.ledger_put st s p (whole_page entry zero_page)) ∙ origin_with (books st) s p (held_page st.zero_frame (whole_page entry zero_page)) (frame + 1) in
+              let now = ap (λ (l : Ledger). has_origin l (frame + 1)) (books_put_page held_page st s p (whole_page entry zero_page)) ∙ origin_with (books st) s p (held_page st.zero_frame (whole_page entry zero_page)) (frame + 1) in
               let some : has_origin (without_page (books st) s p) (frame + 1) ≡ true = ap (λ (l : Ledger). has_origin l (frame + 1)) without ∙ h in
               absurd (true_false (sym (ap (λ b. nat_eq (view.origin_of st.zero_frame entry.frame) (frame + 1) || b) some ∙ or_true (nat_eq (view.origin_of st.zero_frame entry.frame) (frame + 1))) ∙ sym now ∙ parts.1))
             where
@@ -124,15 +110,15 @@ module _ (st : State) (s p : ℕ) (entry : PageEntry) (there : holds_space st s 
       unused : is_unused (books st) (frame + 1) ≡ true
       unused = unused_from (books st) (frame + 1) parts.0 none
 
-  pub placed_before : (new : State) (at : ℕ → PageState) → IsPlaced mapped new s p at → IsPlaced st new s p at
-  placed_before new at is = record { frame = is.frame; fresh = new_before is.frame is.fresh; placed = is.placed ∙ put_over st s p (whole_page entry zero_page) (at is.frame) }
+  pub placed_before : (new : State) (at : ℕ → PageState) → IsPlaced with_zero_page new s p at → IsPlaced st new s p at
+  placed_before new at is = record { frame = is.frame; fresh = new_before is.frame is.fresh; placed = is.placed ∙ page_over st s p (whole_page entry zero_page) (at is.frame) }
 
   pub placed_units : (new : State) (lines : List (List ℕ)) (perms : PageEntry) → IsPlaced st new s p (λ frame. whole_page (record { perms = perms.perms; frame = frame }) lines)
       → units (books new) ≡ units (books st) + FRAME_UNITS
   unfolding frame_for
   placed_units new lines perms is =
       let x = whole_page (record { perms = perms.perms; frame = is.frame }) lines in
-      let now = ap books is.placed ∙ states.ledger_put st s p x in
+      let now = ap books is.placed ∙ books_put_page held_page st s p x in
       let more = units_new (books st) s p (held_page st.zero_frame x) without in
       let one : frame_for (is_unused (books st) (view.origin_of st.zero_frame is.frame)) ≡ 16 = ap (λ o. frame_for (is_unused (books st) o)) (origin_some st.zero_frame is.frame is.fresh.other) ∙ ap frame_for is.fresh.unused in
       omega (arith, ap units now, more, one, class_none)
@@ -168,8 +154,8 @@ module _ (empty_store taken : Store) (table : LedgerView) (frames frame : ℕ) (
   no_space : (s : ℕ) → get table.spaces s ≡ None
   no_space s = ap (λ (m : FinMap nat_cmp SpaceView). get m s) spaces ∙ get-empty nat_cmp s
 
-  no_page : (s p : ℕ) → page_at table s p ≡ None
-  no_page s p = tables.page_of table s p ∙ ap (λ (y : SpaceView). get y.pages p) (tables.space_absent table s (no_space s)) ∙ get-empty nat_cmp p
+  no_page : (s p : ℕ) → page_in table s p ≡ None
+  no_page s p = page_absent table s p (no_space s)
 
   no_segment : (unit : ℕ) (segment : Segment) → segment_at taken unit ≡ Some segment → ⊥
   no_segment unit segment there = nothing (sym (ap (λ l. slice_index_or l unit None) (same ∙ is.segments) ∙ none (FRAME_UNITS * frames) unit) ∙ there)
@@ -186,11 +172,8 @@ module _ (empty_store taken : Store) (table : LedgerView) (frames frame : ℕ) (
       none (suc n) (suc i) = none n i
 
   units_are : units (ledger_of table) ≡ 16
-  unfolding ledger_of units
-  units_are =
-      ap (λ (m : FinMap nat_cmp SpaceView). units_of (all_holdings (Rattle.number_maps.specs.Views.viewed (λ _ (x : SpaceView). Rattle.number_maps.specs.Views.viewed (λ _ (y : PageView). holding_of table.zero_frame y) x.pages) m))) spaces
-      ∙ ap (λ (l : Ledger). units_of (all_holdings l)) (viewed_empty (λ _ (x : SpaceView). Rattle.number_maps.specs.Views.viewed (λ _ (y : PageView). holding_of table.zero_frame y) x.pages))
-      ∙ ap units_of no_holdings ∙ no_units
+  unfolding units
+  units_are = ap (λ (l : Ledger). units_of (all_holdings l)) (books_empty holding_of table spaces) ∙ ap units_of no_holdings ∙ no_units
 
   pub made_joined : IsJoined (view_of taken table)
   made_joined = record {
@@ -208,9 +191,9 @@ module _ (empty_store taken : Store) (table : LedgerView) (frames frame : ℕ) (
       nothing x h = cc
 
   pub made_state : IsEmptyState frames (state_of (view_of taken table))
-  unfolding state_of
+  unfolding state_of mapped
   made_state = record {
-    spaces = ap (Rattle.number_maps.specs.Views.viewed (λ _ (x : SpaceView). Rattle.overlay_pages.specs.View.space_state taken x)) spaces ∙ viewed_empty (λ _ (x : SpaceView). Rattle.overlay_pages.specs.View.space_state taken x);
+    spaces = mapped_none (λ _ _ x. page_state taken x) table spaces;
     count = frames_are;
     zero = omega (arith, zero_is, whole_is, frame_inside taken store frame frame_is);
   }

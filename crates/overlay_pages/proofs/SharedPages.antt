@@ -3,7 +3,6 @@ use Rattle.std.proofs.Common.{sym, ap, subst, ◌∙◌, arith, inl, inr}
 use Rattle.std.proofs.lemmas.Bool.{cases_eq}
 use Rattle.std.specs.Option.{option_and_then, option_map, option_map_or}
 use Rattle.std.specs.FinMap.{get, insert, remove}
-use Rattle.number_maps.specs.Keys.{insert_over}
 use Rattle.sizes.specs.declared.TheConstants.{PAGE_END}
 use Rattle.unit_map.specs.Pieces.{free_units, units_in}
 use Rattle.unit_map.specs.declared.block.Block.{Block}
@@ -21,60 +20,37 @@ use Rattle.segment_store.specs.declared.segment.Segment.{Segment}
 use Rattle.segment_store.specs.Kept.{IsStore}
 use Rattle.segment_store.specs.Store.{Store, IsFrame, frame_line, frame_place, line_in, place_of, segment_at}
 use Rattle.segment_store.specs.Changes.{Begins, HasLinesNow, KeepsFrames, KeepsOtherSegments, KeepsScratch, KeepsSegments, Lays, Lifts, block_of}
+use Rattle.space_maps.specs.Books.{books_page, books_put_page, books_spaces}
+use Rattle.space_maps.specs.Laws.{page_put_here, put_shared_as, set_some, there_space}
+use Rattle.space_maps.specs.Spaces.{holds_space, page_in, put_awaiting, put_page, put_shared, set_page, space_in}
 use Rattle.space_ledger.specs.View as view
-use Rattle.space_ledger.specs.View.{LedgerView, PageView, SpaceView, frame_at, frame_awaiting, has_space, holding_of, ledger_of, lines_of, overlay_at, page_at, space_at, with_awaiting, with_page_at, with_page_shared, with_shared, with_space}
-use Rattle.space_ledger.specs.ViewLaws as tables
+use Rattle.space_ledger.specs.View.{LedgerView, PageView, SpaceView, frame_at, frame_awaiting, holding_of, ledger_of, lines_of, overlay_at, with_page_shared}
 use Rattle.overlay_pages.specs.Lines.{line_in_page, page_lines}
 use Rattle.overlay_pages.specs.LineLaws.{line_at, lines_same}
-use Rattle.overlay_pages.specs.State.{PageState, State, holds_space, of_pages, page_in, put_awaiting, put_page, put_shared, put_space, space_in}
-use Rattle.overlay_pages.specs.StateLaws as states
+use Rattle.overlay_pages.specs.State.{PageState, State}
 use Rattle.overlay_pages.specs.Changes as changes
 use Rattle.overlay_pages.specs.Changes.{HasShareRoom, limit_of, shared_page, units_of}
 use Rattle.overlay_pages.specs.TableLaws.{state_awaiting_put}
 use Rattle.overlay_pages.specs.View.{IsHeld, IsJoined, IsOwned, MemoryView, line_seen, page_state, segment_of, state_of, view_of}
 use Rattle.overlay_pages.specs.ViewLaws.{state_awaiting, state_holds, state_page_there}
-use Rattle.overlay_pages.proofs.Steps.{Step, names_apart, some_page, state_stepped, state_with, stepped, table_with, with_some}
+use Rattle.overlay_pages.proofs.Steps.{Step, names_apart, some_page, state_stepped, stepped}
 use Rattle.segment_store.specs.Pointers.{capacity_of}
 use Rattle.segment_store.specs.Laws.{count_fits, refilled, stays_twice}
 use Rattle.overlay_pages.proofs.Joining.{Has, frames_twice, order_low, overlay_segment, overlay_set, page_with, segment_beside, sets_are, unit_low}
 use Rattle.overlay_pages.proofs.Growing.{free_is, there_still}
 use Rattle.overlay_pages.proofs.Tables.{awaiting_joined, entry_state, own_state}
 
--- A page that is shared is one that is put, and awaits no more.
-
-pub shared_as : (v : LedgerView) (s p : ℕ) (x : PageView) → with_shared v s p x ≡ with_awaiting (with_page_at v s p x) s (remove (space_at v s).awaiting p)
-unfolding with_shared with_awaiting with_page_at with_space
-shared_as v s p x =
-    let one = view.with_pages (space_at v s) (insert (space_at v s).pages p x) in
-    let here : space_at (with_page_at v s p x) s ≡ one = tables.space_put v s one s refl in
-    let space : record { pages = insert (space_at v s).pages p x; awaiting = remove (space_at v s).awaiting p; speculating = (space_at v s).speculating } ≡
-    record { pages = (space_at (with_page_at v s p x) s).pages; awaiting = remove (space_at v s).awaiting p; speculating = (space_at (with_page_at v s p x) s).speculating } =
-    λ i. record { pages = (sym here i).pages; awaiting = remove (space_at v s).awaiting p; speculating = (sym here i).speculating } in
-    let all = sym (insert_over v.spaces s one _) ∙ ap (insert (insert v.spaces s one) s) space in
-    λ i. record { spaces = all i; frames = v.frames; zero_frame = v.zero_frame }
-
-pub put_shared_as : (v : State) (s p : ℕ) (x : PageState) → put_shared v s p x ≡ put_awaiting (put_page v s p x) s (remove (space_in v s).awaiting p)
-unfolding put_shared put_awaiting put_page put_space
-put_shared_as v s p x =
-    let one = of_pages (space_in v s) (insert (space_in v s).pages p x) in
-    let here : space_in (put_page v s p x) s ≡ one = states.space_put v s one s refl in
-    let space : record { pages = insert (space_in v s).pages p x; awaiting = remove (space_in v s).awaiting p; speculating = (space_in v s).speculating } ≡
-    record { pages = (space_in (put_page v s p x) s).pages; awaiting = remove (space_in v s).awaiting p; speculating = (space_in (put_page v s p x) s).speculating } =
-    λ i. record { pages = (sym here i).pages; awaiting = remove (space_in v s).awaiting p; speculating = (sym here i).speculating } in
-    let all = sym (insert_over v.spaces s one _) ∙ ap (insert (insert v.spaces s one) s) space in
-    λ i. record { spaces = all i; frames = v.frames; zero_frame = v.zero_frame }
-
 -- The page that is shared, and how it awaits.
 pub record Awaits (v : LedgerView) (from to p : ℕ) (o : Option Entry) : Type 0 where
   pub x : PageView
-  pub there : page_at v from p ≡ Some x
+  pub there : page_in v from p ≡ Some x
   pub is : x.overlay ≡ o
   pub entry : PageEntry
-  pub waits : get (space_at v to).awaiting p ≡ Some entry
+  pub waits : get (space_in v to).awaiting p ≡ Some entry
   pub frame_is : entry.frame ≡ x.entry.frame
 
-pub awaits : (v : LedgerView) (from to p : ℕ) (o : Option Entry) → IsSome (page_at v from p) → overlay_at v from p ≡ o → frame_awaiting v to p ≡ frame_at v from p → Awaits v from to p o
-awaits v from to p o there over framed = at (get (space_at v to).awaiting p) refl
+pub awaits : (v : LedgerView) (from to p : ℕ) (o : Option Entry) → IsSome (page_in v from p) → overlay_at v from p ≡ o → frame_awaiting v to p ≡ frame_at v from p → Awaits v from to p o
+awaits v from to p o there over framed = at (get (space_in v to).awaiting p) refl
   where
     found : Has v from p o
     found = page_with v from p there o over
@@ -82,7 +58,7 @@ awaits v from to p o there over framed = at (get (space_at v to).awaiting p) ref
     framed_at : frame_awaiting v to p ≡ Some found.x.entry.frame
     framed_at = framed ∙ ap (option_map (λ (x : PageView). x.entry.frame)) found.there
 
-    at : (w : Option PageEntry) → get (space_at v to).awaiting p ≡ w → Awaits v from to p o
+    at : (w : Option PageEntry) → get (space_in v to).awaiting p ≡ w → Awaits v from to p o
     at None e = absurd (nothing (sym (ap (option_map (λ (f : PageEntry). f.frame)) e) ∙ framed_at))
       where
         nothing : None ≡ Some found.x.entry.frame → ⊥
@@ -98,11 +74,11 @@ awaits v from to p o there over framed = at (get (space_at v to).awaiting p) ref
 
 -- the page in the tables, once it is shared
 pub shared_table : (v : LedgerView) (from to p : ℕ) (o : Option Entry) (block : Option Block) (w : Awaits v from to p o)
-    → with_page_shared v from to p block ≡ with_awaiting (with_page_at v to p (record { entry = w.entry; overlay = option_map (λ (b : Block). record { bits = lines_of (overlay_at v from p); block = b }) block })) to (remove (space_at v to).awaiting p)
+    → with_page_shared v from to p block ≡ put_awaiting (put_page v to p (record { entry = w.entry; overlay = option_map (λ (b : Block). record { bits = lines_of (overlay_at v from p); block = b }) block })) to (remove (space_in v to).awaiting p)
 unfolding with_page_shared
 shared_table v from to p o block w =
-    ap (λ (f : Option PageEntry). option_map_or (λ (e : PageEntry). with_shared v to p (record { entry = e; overlay = option_map (λ (b : Block). record { bits = lines_of (overlay_at v from p); block = b }) block })) f v) w.waits
-    ∙ shared_as v to p (record { entry = w.entry; overlay = option_map (λ (b : Block). record { bits = lines_of (overlay_at v from p); block = b }) block })
+    ap (λ (f : Option PageEntry). option_map_or (λ (e : PageEntry). put_shared v to p (record { entry = e; overlay = option_map (λ (b : Block). record { bits = lines_of (overlay_at v from p); block = b }) block })) f v) w.waits
+    ∙ put_shared_as v to p (record { entry = w.entry; overlay = option_map (λ (b : Block). record { bits = lines_of (overlay_at v from p); block = b }) block })
 
 -- and in the state
 pub shared_state : (m : MemoryView) (from to p : ℕ) (o : Option Entry) (w : Awaits m.table from to p o)
@@ -126,7 +102,7 @@ pub record SharesStore (m : MemoryView) (new : Store) (to p : ℕ) (o : Option E
   pub others : (unit : ℕ) (segment : Segment) → segment_at new unit ≡ Some segment → (segment_at m.store unit ≡ Some segment) ⊎ ((e : Entry) × (o ≡ Some e) × (e.block.unit ≡ unit))
   pub free : free_units new.blocks + class (length (lines_of o)) ≡ free_units m.store.blocks
 
-module _ (m : MemoryView) (new : Store) (from to p : ℕ) (was now : Option Entry) (is : IsJoined m) (w : Awaits m.table from to p was) (there : has_space m.table to ≡ true) (absent : page_at m.table to p ≡ None)
+module _ (m : MemoryView) (new : Store) (from to p : ℕ) (was now : Option Entry) (is : IsJoined m) (w : Awaits m.table from to p was) (there : holds_space m.table to ≡ true) (absent : page_in m.table to p ≡ None)
     (so : SharesStore m new to p now) where
   abbrev page : PageView
   page = record { entry = w.entry; overlay = now }
@@ -139,7 +115,7 @@ module _ (m : MemoryView) (new : Store) (from to p : ℕ) (was now : Option Entr
       let own = is.owned unit segment at_unit in
       let held = is.held own.space own.page own.x own.there in
       names_apart to p own.space own.page (is.numbers to there) theirs.low held.number held.low (sym own.owner ∙ named)
-      (λ qq rr. nothing own.x (sym absent ∙ ap (λ n. page_at m.table n p) (sym qq) ∙ ap (page_at m.table own.space) (sym rr) ∙ own.there))
+      (λ qq rr. nothing own.x (sym absent ∙ ap (λ n. page_in m.table n p) (sym qq) ∙ ap (page_in m.table own.space) (sym rr) ∙ own.there))
     where
       nothing : (x : PageView) → None ≡ Some x → ⊥
       nothing x h = cc
@@ -149,27 +125,27 @@ module _ (m : MemoryView) (new : Store) (from to p : ℕ) (was now : Option Entr
   unfolding frame_for is_unused
   no_frame = by (nat_eq (view.origin_of m.table.zero_frame w.entry.frame) 0)
       (ap (λ f. has_origin (ledger_of m.table) (view.origin_of m.table.zero_frame f)) w.frame_is
-      ∙ origin_of (ledger_of m.table) from p (holding_of m.table.zero_frame w.x) (tables.ledger_page m.table from p ∙ ap (option_map (holding_of m.table.zero_frame)) w.there))
+      ∙ origin_of (ledger_of m.table) from p (holding_of m.table.zero_frame w.x) (books_page holding_of m.table from p ∙ ap (option_map (holding_of m.table.zero_frame)) w.there))
     where
       by : (b : Bool) → has_origin (ledger_of m.table) (view.origin_of m.table.zero_frame w.entry.frame) ≡ true
           → ◌≡◌ {A = ℕ} (cond (not b && not (has_origin (ledger_of m.table) (view.origin_of m.table.zero_frame w.entry.frame))) 16 0) 0
       by true had = refl
       by false had = ap (λ t. cond {A = ℕ} (not t) 16 0) had
 
-  units_now : units (ledger_of (with_page_at m.table to p (record { entry = w.entry; overlay = now }))) ≡ units (ledger_of m.table) + class (length (lines_of now))
+  units_now : units (ledger_of (put_page m.table to p (record { entry = w.entry; overlay = now }))) ≡ units (ledger_of m.table) + class (length (lines_of now))
   units_now =
-      ap units (tables.ledger_put m.table to p (record { entry = w.entry; overlay = now }))
+      ap units (books_put_page holding_of m.table to p (record { entry = w.entry; overlay = now }))
       ∙ units_new (ledger_of m.table) to p (holding_of m.table.zero_frame (record { entry = w.entry; overlay = now }))
-      (without_absent (ledger_of m.table) to p (tables.ledger_spaces m.table to ∙ there) (tables.ledger_page m.table to p ∙ ap (option_map (holding_of m.table.zero_frame)) absent))
+      (without_absent (ledger_of m.table) to p (books_spaces holding_of m.table to ∙ there) (books_page holding_of m.table to p ∙ ap (option_map (holding_of m.table.zero_frame)) absent))
       ∙ ap (λ n. units (ledger_of m.table) + (n + class (length (lines_of now)))) no_frame
       ∙ omega arith
 
-  share_step : Step m (view_of new (with_page_at m.table to p (record { entry = w.entry; overlay = now }))) to p (Some (record { entry = w.entry; overlay = now }))
+  share_step : Step m (view_of new (put_page m.table to p (record { entry = w.entry; overlay = now }))) to p (Some (record { entry = w.entry; overlay = now }))
   share_step = record {
     there = there;
     number = is.numbers to there;
     low = theirs.low;
-    table_is = sym (with_some m.table to p (record { entry = w.entry; overlay = now }));
+    table_is = sym (set_some m.table to p (record { entry = w.entry; overlay = now }));
     store = so.store;
     whole = so.whole;
     segments = λ q r y e d at_y over. so.segments e.block.unit (segment_of q r e) ((is.held q r y at_y).segment e over);
@@ -191,34 +167,34 @@ module _ (m : MemoryView) (new : Store) (from to p : ℕ) (was now : Option Entr
       }
 
       at : (unit : ℕ) (segment : Segment) → segment_at new unit ≡ Some segment → (segment_at m.store unit ≡ Some segment) ⊎ ((e : Entry) × (now ≡ Some e) × (e.block.unit ≡ unit))
-          → ((segment_at m.store unit ≡ Some segment) × (segment.owner ≡ overlay_page to p → ⊥)) ⊎ IsOwned (table_with m.table to p (Some (record { entry = w.entry; overlay = now }))) unit segment
+          → ((segment_at m.store unit ≡ Some segment) × (segment.owner ≡ overlay_page to p → ⊥)) ⊎ IsOwned (set_page m.table to p (Some (record { entry = w.entry; overlay = now }))) unit segment
       at unit segment at_unit (inl before) = inl (before, not_mine unit segment before)
-      at unit segment at_unit (inr own) = inr (subst (λ (t : LedgerView). IsOwned t unit segment) (sym (with_some m.table to p (record { entry = w.entry; overlay = now }))) (record {
+      at unit segment at_unit (inr own) = inr (subst (λ (t : LedgerView). IsOwned t unit segment) (sym (set_some m.table to p (record { entry = w.entry; overlay = now }))) (record {
         space = to;
         page = p;
         x = record { entry = w.entry; overlay = now };
         overlay = own.0;
-        there = tables.view_put m.table to p (record { entry = w.entry; overlay = now }) to p refl refl;
+        there = page_put_here m.table to p (record { entry = w.entry; overlay = now }) to p refl refl;
         is = own.1;
         unit_is = own.2;
         owner = ap (λ (t : Option Segment). option_map_or (λ (g : Segment). g.owner) t 0) (sym at_unit ∙ ap (segment_at new) (sym own.2) ∙ so.now_there own.0 own.1);
       }))
 
-  there_now : has_space (with_page_at m.table to p (record { entry = w.entry; overlay = now })) to ≡ true
-  there_now = tables.there_space (with_page_at m.table to p (record { entry = w.entry; overlay = now })) to p (record { entry = w.entry; overlay = now }) (tables.view_put m.table to p (record { entry = w.entry; overlay = now }) to p refl refl)
+  there_now : holds_space (put_page m.table to p (record { entry = w.entry; overlay = now })) to ≡ true
+  there_now = there_space (put_page m.table to p (record { entry = w.entry; overlay = now })) to p (record { entry = w.entry; overlay = now }) (page_put_here m.table to p (record { entry = w.entry; overlay = now }) to p refl refl)
 
-  pub share_joined : IsJoined (view_of new (with_awaiting (with_page_at m.table to p (record { entry = w.entry; overlay = now })) to (remove (space_at m.table to).awaiting p)))
+  pub share_joined : IsJoined (view_of new (put_awaiting (put_page m.table to p (record { entry = w.entry; overlay = now })) to (remove (space_in m.table to).awaiting p)))
   share_joined =
-      awaiting_joined new (with_page_at m.table to p (record { entry = w.entry; overlay = now })) to (remove (space_at m.table to).awaiting p)
-      (stepped m (view_of new (with_page_at m.table to p (record { entry = w.entry; overlay = now }))) to p (Some (record { entry = w.entry; overlay = now })) is share_step) there_now
+      awaiting_joined new (put_page m.table to p (record { entry = w.entry; overlay = now })) to (remove (space_in m.table to).awaiting p)
+      (stepped m (view_of new (put_page m.table to p (record { entry = w.entry; overlay = now }))) to p (Some (record { entry = w.entry; overlay = now })) is share_step) there_now
 
   pub share_state : page_state new (record { entry = w.entry; overlay = now }) ≡ shared_page w.entry (page_state m.store w.x)
-      → state_of (view_of new (with_awaiting (with_page_at m.table to p (record { entry = w.entry; overlay = now })) to (remove (space_at m.table to).awaiting p))) ≡ changes.with_shared (state_of m) from to p
-  unfolding state_with
+      → state_of (view_of new (put_awaiting (put_page m.table to p (record { entry = w.entry; overlay = now })) to (remove (space_in m.table to).awaiting p))) ≡ changes.with_shared (state_of m) from to p
+  unfolding set_page
   share_state same =
-      state_awaiting_put new (with_page_at m.table to p (record { entry = w.entry; overlay = now })) to (remove (space_at m.table to).awaiting p)
-      ∙ ap (λ s. put_awaiting s to (remove (space_at m.table to).awaiting p))
-      (state_stepped m (view_of new (with_page_at m.table to p (record { entry = w.entry; overlay = now }))) to p (Some (record { entry = w.entry; overlay = now })) is share_step ∙ ap (put_page (state_of m) to p) same)
+      state_awaiting_put new (put_page m.table to p (record { entry = w.entry; overlay = now })) to (remove (space_in m.table to).awaiting p)
+      ∙ ap (λ s. put_awaiting s to (remove (space_in m.table to).awaiting p))
+      (state_stepped m (view_of new (put_page m.table to p (record { entry = w.entry; overlay = now }))) to p (Some (record { entry = w.entry; overlay = now })) is share_step ∙ ap (put_page (state_of m) to p) same)
       ∙ ap (λ (t : Rattle.page_table.specs.Table.Pages). put_awaiting (put_page (state_of m) to p (shared_page w.entry (page_state m.store w.x))) to (remove t p)) (sym (state_awaiting m to))
       ∙ sym (shared_state m from to p was w)
 
@@ -346,7 +322,7 @@ lifted_page a m lifted began new from p to xa xm ea entry block bits over bits_i
         ∙ ap (λ f. frame_line new f i) frame_is ∙ frames i low ∙ sym (outside i has)
 
 -- The page where segments moved.
-module _ (a m : MemoryView) (from to p : ℕ) (e : Entry) (is : IsJoined a) (m_is : IsJoined m) (same : state_of m ≡ state_of a) (there : IsSome (page_at a.table from p)) (over : overlay_at a.table from p ≡ Some e)
+module _ (a m : MemoryView) (from to p : ℕ) (e : Entry) (is : IsJoined a) (m_is : IsJoined m) (same : state_of m ≡ state_of a) (there : IsSome (page_in a.table from p)) (over : overlay_at a.table from p ≡ Some e)
     (framed : frame_awaiting a.table to p ≡ frame_at a.table from p) where
   abbrev first : Has a.table from p (Some e)
   first = page_with a.table from p there (Some e) over
@@ -375,7 +351,7 @@ module _ (a m : MemoryView) (from to p : ℕ) (e : Entry) (is : IsJoined a) (m_i
   pub share_low : p < PAGE_END
   share_low = first_held.low
 
-  pub share_there : IsSome (page_at m.table from p)
+  pub share_there : IsSome (page_in m.table from p)
   share_there = there_still a m from p same there
 
   own_now : (o : Option Entry) → overlay_at m.table from p ≡ o → lines_of o ≡ e.bits
@@ -394,13 +370,13 @@ module _ (a m : MemoryView) (from to p : ℕ) (e : Entry) (is : IsJoined a) (m_i
   pub share_bits : lines_of (overlay_at m.table from p) ≡ e.bits
   share_bits = own_now (overlay_at m.table from p) refl
 
-  pub share_waits : (space_at m.table to).awaiting ≡ (space_at a.table to).awaiting
+  pub share_waits : (space_in m.table to).awaiting ≡ (space_in a.table to).awaiting
   share_waits = sym (state_awaiting m to) ∙ ap (λ (s : State). (space_in s to).awaiting) same ∙ state_awaiting a to
 
   frame_same : frame_at m.table from p ≡ frame_at a.table from p
   frame_same =
-      framed_of (page_at m.table from p) ∙ ap (option_map (λ (f : PageEntry). f.frame)) (entry_state m from p ∙ ap (λ s. option_map (λ (x : PageState). x.entry) (page_in s from p)) same ∙ sym (entry_state a from p))
-      ∙ sym (framed_of (page_at a.table from p))
+      framed_of (page_in m.table from p) ∙ ap (option_map (λ (f : PageEntry). f.frame)) (entry_state m from p ∙ ap (λ s. option_map (λ (x : PageState). x.entry) (page_in s from p)) same ∙ sym (entry_state a from p))
+      ∙ sym (framed_of (page_in a.table from p))
     where
       framed_of : (o : Option PageView) → option_map (λ (x : PageView). x.entry.frame) o ≡ option_map (λ (f : PageEntry). f.frame) (option_map (λ (x : PageView). x.entry) o)
       framed_of None = refl
@@ -409,7 +385,7 @@ module _ (a m : MemoryView) (from to p : ℕ) (e : Entry) (is : IsJoined a) (m_i
   pub share_frame : frame_awaiting m.table to p ≡ frame_at m.table from p
   share_frame = ap (λ (t : Rattle.page_table.specs.Table.Pages). option_map (λ (f : PageEntry). f.frame) (get t p)) share_waits ∙ framed ∙ sym frame_same
 
-  pub share_space : has_space a.table to ≡ true → has_space m.table to ≡ true
+  pub share_space : holds_space a.table to ≡ true → holds_space m.table to ≡ true
   share_space h = sym (state_holds m to) ∙ ap (λ s. holds_space s to) same ∙ state_holds a to ∙ h
 
   pub share_sets : AreLines e.bits
@@ -424,8 +400,8 @@ module _ (a m : MemoryView) (from to p : ℕ) (e : Entry) (is : IsJoined a) (m_i
       (sym (state_page_there m from p then_waits.x then_waits.there) ∙ ap (λ s. page_in s from p) same ∙ state_page_there a from p first.x first.there)
 
 -- The page with its overlay, once it is shared.
-module _ (a m : MemoryView) (lifted began new : Store) (from to p : ℕ) (e : Entry) (block : Block) (is : IsJoined a) (m_is : IsJoined m) (same : state_of m ≡ state_of a) (there : IsSome (page_at a.table from p)) (over : overlay_at a.table from p ≡ Some e)
-    (framed : frame_awaiting a.table to p ≡ frame_at a.table from p) (space : has_space a.table to ≡ true) (absent : page_at m.table to p ≡ None) (order_is : block.order ≡ e.block.order)
+module _ (a m : MemoryView) (lifted began new : Store) (from to p : ℕ) (e : Entry) (block : Block) (is : IsJoined a) (m_is : IsJoined m) (same : state_of m ≡ state_of a) (there : IsSome (page_in a.table from p)) (over : overlay_at a.table from p ≡ Some e)
+    (framed : frame_awaiting a.table to p ≡ frame_at a.table from p) (space : holds_space a.table to ≡ true) (absent : page_in m.table to p ≡ None) (order_is : block.order ≡ e.block.order)
     (lifts : Lifts a.store lifted e.block e.bits) (scratch : KeepsScratch lifted m.store) (so : SharesOverlay m.store began new to p block e.bits) where
   abbrev now_waits : Awaits m.table from to p (overlay_at m.table from p)
   now_waits = awaits m.table from to p (overlay_at m.table from p) (share_there a m from to p e is m_is same there over framed) refl (share_frame a m from to p e is m_is same there over framed)
@@ -437,10 +413,10 @@ module _ (a m : MemoryView) (lifted began new : Store) (from to p : ℕ) (e : En
   now_shares = shares_overlay m began new to p block e.bits m_is overlaid_size (share_some a m from to p e is m_is same there over framed) so
 
   pub overlaid_table : with_page_shared m.table from to p (Some block)
-      ≡ with_awaiting (with_page_at m.table to p (record { entry = now_waits.entry; overlay = Some (record { bits = e.bits; block = block }) })) to (remove (space_at m.table to).awaiting p)
+      ≡ put_awaiting (put_page m.table to p (record { entry = now_waits.entry; overlay = Some (record { bits = e.bits; block = block }) })) to (remove (space_in m.table to).awaiting p)
   overlaid_table =
       shared_table m.table from to p (overlay_at m.table from p) (Some block) now_waits
-      ∙ ap (λ bits. with_awaiting (with_page_at m.table to p (record { entry = now_waits.entry; overlay = Some (record { bits = bits; block = block }) })) to (remove (space_at m.table to).awaiting p))
+      ∙ ap (λ bits. put_awaiting (put_page m.table to p (record { entry = now_waits.entry; overlay = Some (record { bits = bits; block = block }) })) to (remove (space_in m.table to).awaiting p))
       (share_bits a m from to p e is m_is same there over framed)
 
   overlaid_joined : (table : LedgerView) → table ≡ with_page_shared m.table from to p (Some block) → IsJoined (view_of new table)

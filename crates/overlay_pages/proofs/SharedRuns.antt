@@ -9,13 +9,15 @@ use Rattle.page_table.specs.Table.{Pages}
 use Rattle.page_table.specs.declared.entry.PageEntry.{PageEntry}
 use Rattle.ledger.specs.Changes.{has_own}
 use Rattle.ledger.specs.Ledger.{Holding}
+use Rattle.space_maps.specs.Books.{books_page}
+use Rattle.space_maps.specs.Laws.{page_shared_beside, put_there, space_put}
+use Rattle.space_maps.specs.Spaces.{holds_space, page_in, put_shared, space_in}
 use Rattle.space_ledger.specs.Space.{IsLeast}
 use Rattle.space_ledger.specs.Calls.{AreBareBelow, AreSharedBare}
 use Rattle.space_ledger.specs.Calls.AreSharedBare.{Still, Then}
-use Rattle.space_ledger.specs.View.{LedgerView, PageView, frame_at, frame_awaiting, has_space, lines_of, overlay_at, page_at, space_at, with_page_shared}
+use Rattle.space_ledger.specs.View.{LedgerView, PageView, frame_at, frame_awaiting, lines_of, overlay_at, with_page_shared}
 use Rattle.overlay_mapping_table.specs.declared.entry.Entry.{Entry}
-use Rattle.overlay_pages.specs.State.{PageState, SpaceState, State, books, held_page, holds_space, page_in, put_shared, space_in}
-use Rattle.overlay_pages.specs.StateLaws.{ledger_page, page_shared_beside, put_there, space_put}
+use Rattle.overlay_pages.specs.State.{PageState, SpaceState, State, books, held_page}
 use Rattle.overlay_pages.specs.Changes.{shared_page, with_shared}
 use Rattle.overlay_pages.specs.Calls.{AreShared, AwaitBare, AwaitsLike}
 use Rattle.overlay_pages.specs.Calls.AreShared.{Still as unchanged, Then as one_shared}
@@ -29,7 +31,7 @@ use Rattle.overlay_pages.proofs.Tables.{frame_of_page}
 -- what a page has, by the page
 own_in : (s : State) (space q : ℕ) → has_own (books s) space q ≡ option_map_or (λ (x : PageState). nat_lt 0 (length x.own)) (page_in s space q) false
 unfolding has_own
-own_in s space q = ap (λ (o : Option Holding). option_map_or (λ holding. nat_lt 0 (length holding.own)) o false) (ledger_page s space q) ∙ by (page_in s space q)
+own_in s space q = ap (λ (o : Option Holding). option_map_or (λ holding. nat_lt 0 (length holding.own)) o false) (books_page held_page s space q) ∙ by (page_in s space q)
   where
     by : (o : Option PageState) → option_map_or (λ (holding : Holding). nat_lt 0 (length holding.own)) (option_map (held_page s.zero_frame) o) false
         ≡ option_map_or (λ (x : PageState). nat_lt 0 (length x.own)) o false
@@ -91,16 +93,16 @@ module _ (s : State) (from to page : ℕ) (differs : from ≡ to → ⊥) (waits
 module _ (m : MemoryView) (joined : IsJoined m) (from to : ℕ) where
   pub bare_at : (page : ℕ) → has_own (books (state_of m)) from page ≡ false → overlay_at m.table from page ≡ None
   unfolding page_state
-  bare_at page none = at (page_at m.table from page) refl
+  bare_at page none = at (page_in m.table from page) refl
     where
-      none_of : (x : PageView) → page_at m.table from page ≡ Some x → (o : Option Entry) → x.overlay ≡ o → nat_lt 0 (length (lines_of o)) ≡ false → o ≡ None
+      none_of : (x : PageView) → page_in m.table from page ≡ Some x → (o : Option Entry) → x.overlay ≡ o → nat_lt 0 (length (lines_of o)) ≡ false → o ≡ None
       none_of x there None is h = refl
       none_of x there (Some e) is h =
           let some = (joined.held from page x there).lined e is in
           let yes : nat_lt 0 (length e.bits) ≡ true = grind (arith, nat_tests) in
           let no = sym yes ∙ h in cc
 
-      at : (o : Option PageView) → page_at m.table from page ≡ o → overlay_at m.table from page ≡ None
+      at : (o : Option PageView) → page_in m.table from page ≡ o → overlay_at m.table from page ≡ None
       at None is = ap (option_and_then (λ (x : PageView). x.overlay)) is
       at (Some x) is =
           ap (option_and_then (λ (x : PageView). x.overlay)) is
@@ -109,8 +111,8 @@ module _ (m : MemoryView) (joined : IsJoined m) (from to : ℕ) where
           ∙ sym (own_in (state_of m) from page) ∙ none)
 
 -- One page without an overlay.
-pub bare_step : (store : Store) (v : LedgerView) (from to page : ℕ) → IsJoined (view_of store v) → IsSome (page_at v from page) → overlay_at v from page ≡ None
-    → frame_awaiting v to page ≡ frame_at v from page → has_space v to ≡ true → page_at v to page ≡ None
+pub bare_step : (store : Store) (v : LedgerView) (from to page : ℕ) → IsJoined (view_of store v) → IsSome (page_in v from page) → overlay_at v from page ≡ None
+    → frame_awaiting v to page ≡ frame_at v from page → holds_space v to ≡ true → page_in v to page ≡ None
     → IsJoined (view_of store (with_page_shared v from to page None))
     × (state_of (view_of store (with_page_shared v from to page None)) ≡ with_shared (state_of (view_of store v)) from to page)
 bare_step store v from to page joined there bare frame space absent =
@@ -125,7 +127,7 @@ bare_step store v from to page joined there bare frame space absent =
 -- The pages that the ledger has shared, one after the other.
 module _ (store : Store) (from to until : ℕ) (differs : from ≡ to → ⊥) where
   module _ (v : LedgerView) (joined : IsJoined (view_of store v)) (bare : AwaitBare (state_of (view_of store v)) from to until) where
-    waits_in : (page : ℕ) → IsSome (get (space_at v to).awaiting page) → IsSome (get (space_in (state_of (view_of store v)) to).awaiting page)
+    waits_in : (page : ℕ) → IsSome (get (space_in v to).awaiting page) → IsSome (get (space_in (state_of (view_of store v)) to).awaiting page)
     waits_in page some = ap (λ (t : Pages). is_some (get t page)) (state_awaiting (view_of store v) to) ∙ some
 
     -- each page that awaits below is bare in the ledger
@@ -136,7 +138,7 @@ module _ (store : Store) (from to until : ℕ) (differs : from ≡ to → ⊥) w
           bare_at (view_of store v) joined from to page was.1,
         )
 
-  pub shared_all : (old new : LedgerView) → AreSharedBare from to until old new → IsJoined (view_of store old) → has_space old to ≡ true
+  pub shared_all : (old new : LedgerView) → AreSharedBare from to until old new → IsJoined (view_of store old) → holds_space old to ≡ true
       → AwaitBare (state_of (view_of store old)) from to until
       → IsJoined (view_of store new) × AreShared from to until (state_of (view_of store old)) (state_of (view_of store new))
   shared_all _ _ (Still v) joined space bare = (joined, unchanged (state_of (view_of store v)))

@@ -19,14 +19,15 @@ use Rattle.segment_store.specs.declared.segment.Segment.{Segment}
 use Rattle.segment_store.specs.Kept.{IsStore}
 use Rattle.segment_store.specs.Store.{Store, IsFrame, frame_line, frame_place, line_in, place_of, segment_at}
 use Rattle.segment_store.specs.Changes.{KeepsFrames, KeepsScratch, MakesMove}
-use Rattle.space_ledger.specs.View.{LedgerView, PageView, has_space, ledger_of, lines_of, overlay_at, page_at, space_at, with_block}
-use Rattle.space_ledger.specs.ViewLaws as tables
+use Rattle.space_maps.specs.Laws.{KeepsSpaces, changed_there, keeps_page_set, keeps_still, keeps_twice, page_set_beside, page_set_here, set_some, spaces_alike, there_space}
+use Rattle.space_maps.specs.Spaces.{holds_space, page_in, set_page}
+use Rattle.space_ledger.specs.View.{LedgerView, PageView, ledger_of, lines_of, overlay_at, with_block}
 use Rattle.overlay_pages.specs.LineLaws.{lines_same}
 use Rattle.overlay_pages.specs.State.{books}
 use Rattle.overlay_pages.specs.Steps.{IsOfPage, Moved, relocated}
 use Rattle.overlay_pages.specs.View.{IsHeld, IsJoined, IsOwned, line_seen, page_state, place_in_page, segment_of, state_of, view_of}
-use Rattle.overlay_pages.specs.ViewLaws.{state_alike, state_awaiting, state_books, state_frames, state_holds, state_mark, state_page, state_zero}
-use Rattle.overlay_pages.proofs.Steps.{names_apart, overlay_lines, table_beside, table_here, table_space_at, table_with, with_frames, with_some, with_zero}
+use Rattle.overlay_pages.specs.ViewLaws.{state_books, state_page}
+use Rattle.overlay_pages.proofs.Steps.{names_apart, overlay_lines, state_keeps}
 
 -- A move: the blocks of overlays in a range are in another one.
 
@@ -43,12 +44,8 @@ pub shift_page : ℕ → ℕ → ℕ → PageView → PageView
 shift_page from to count x = record { entry = x.entry; overlay = option_map (shift_entry from to count) x.overlay }
 
 pub record Shifted (from to count : ℕ) (old new : LedgerView) : Type 0 where
-  pub pages : (q r : ℕ) → page_at new q r ≡ option_map (shift_page from to count) (page_at old q r)
-  pub spaces : (q : ℕ) → has_space new q ≡ has_space old q
-  pub awaiting : (q : ℕ) → (space_at new q).awaiting ≡ (space_at old q).awaiting
-  pub marks : (q : ℕ) → (space_at new q).speculating ≡ (space_at old q).speculating
-  pub frames : new.frames ≡ old.frames
-  pub zero_is : new.zero_frame ≡ old.zero_frame
+  pub pages : (q r : ℕ) → page_in new q r ≡ option_map (shift_page from to count) (page_in old q r)
+  pub keeps : KeepsSpaces old new
 
 lt_true : (a b : ℕ) → a < b → nat_lt a b ≡ true
 lt_true a b h = grind (arith, nat_tests)
@@ -170,12 +167,8 @@ map_none f same (Some x) = ap Some (sym (same x))
 
 pub shifted_none : (from to : ℕ) (v : LedgerView) → Shifted from to 0 v v
 shifted_none from to v = record {
-  pages = λ q r. map_none (shift_page from to 0) (shift_page_none from to) (page_at v q r);
-  spaces = λ q. refl;
-  awaiting = λ q. refl;
-  marks = λ q. refl;
-  frames = refl;
-  zero_is = refl;
+  pages = λ q r. map_none (shift_page from to 0) (shift_page_none from to) (page_in v q r);
+  keeps = keeps_still v;
 }
 
 -- A segment that starts at a unit of the range, and one page's block that is there now.
@@ -185,11 +178,11 @@ module _ (was : Store) (old : LedgerView) (is : IsJoined (view_of was old)) wher
   own_page : (unit : ℕ) (segment : Segment) → segment_at was unit ≡ Some segment → IsOwned old unit segment
   own_page unit segment there = is.owned unit segment there
 
-  held_page : (q r : ℕ) (x : PageView) → page_at old q r ≡ Some x → IsHeld was q r x
+  held_page : (q r : ℕ) (x : PageView) → page_in old q r ≡ Some x → IsHeld was q r x
   held_page q r x there = is.held q r x there
 
   -- only that page has its segment there
-  only_page : (unit : ℕ) (segment : Segment) (there : segment_at was unit ≡ Some segment) (q r : ℕ) (x : PageView) (e : Entry) → page_at old q r ≡ Some x → x.overlay ≡ Some e → e.block.unit ≡ unit
+  only_page : (unit : ℕ) (segment : Segment) (there : segment_at was unit ≡ Some segment) (q r : ℕ) (x : PageView) (e : Entry) → page_in old q r ≡ Some x → x.overlay ≡ Some e → e.block.unit ≡ unit
       → (q ≡ (own_page unit segment there).space) × (r ≡ (own_page unit segment there).page)
   only_page unit segment there q r x e at_x over at_unit =
       let own = own_page unit segment there in
@@ -201,15 +194,11 @@ module _ (was : Store) (old : LedgerView) (is : IsJoined (view_of was old)) wher
 
   shifted_absent : (now : LedgerView) (from to i : ℕ) → segment_at was (from + i) ≡ None → Shifted from to i old now → Shifted from to (i + 1) old now
   shifted_absent now from to i none so = record {
-    pages = λ q r. so.pages q r ∙ at q r (page_at old q r) refl;
-    spaces = so.spaces;
-    awaiting = so.awaiting;
-    marks = so.marks;
-    frames = so.frames;
-    zero_is = so.zero_is;
+    pages = λ q r. so.pages q r ∙ at q r (page_in old q r) refl;
+    keeps = so.keeps;
   }
     where
-      at : (q r : ℕ) (o : Option PageView) → page_at old q r ≡ o → option_map (shift_page from to i) (page_at old q r) ≡ option_map (shift_page from to (i + 1)) (page_at old q r)
+      at : (q r : ℕ) (o : Option PageView) → page_in old q r ≡ o → option_map (shift_page from to i) (page_in old q r) ≡ option_map (shift_page from to (i + 1)) (page_in old q r)
       at q r None e = ap (option_map (shift_page from to i)) e ∙ sym (ap (option_map (shift_page from to (i + 1))) e)
       at q r (Some x) e =
           ap (option_map (shift_page from to i)) e
@@ -221,13 +210,13 @@ module _ (was : Store) (old : LedgerView) (is : IsJoined (view_of was old)) wher
 
   -- the page of a segment is overlaid, before and after its block is there
   shifted_there : (now : LedgerView) (from to i unit : ℕ) (segment : Segment) (there : segment_at was unit ≡ Some segment) → Shifted from to i old now
-      → page_at now (space_of segment.owner) (page_of segment.owner) ≡ Some (shift_page from to i (own_page unit segment there).x)
+      → page_in now (space_of segment.owner) (page_of segment.owner) ≡ Some (shift_page from to i (own_page unit segment there).x)
   shifted_there now from to i unit segment there so =
       let own = own_page unit segment there in
       let theirs = held_page own.space own.page own.x own.there in
       let space : space_of segment.owner ≡ own.space = ap space_of own.owner ∙ space_back own.space own.page (omega (arith, theirs.number)) (omega (arith, theirs.low)) in
       let page : page_of segment.owner ≡ own.page = ap page_of own.owner ∙ page_back own.space own.page (omega (arith, theirs.number)) (omega (arith, theirs.low)) in
-      ap (λ n. page_at now n (page_of segment.owner)) space ∙ ap (page_at now own.space) page ∙ so.pages own.space own.page ∙ ap (option_map (shift_page from to i)) own.there
+      ap (λ n. page_in now n (page_of segment.owner)) space ∙ ap (page_in now own.space) page ∙ so.pages own.space own.page ∙ ap (option_map (shift_page from to i)) own.there
 
   shifted_overlaid : (now : LedgerView) (from to i unit : ℕ) (segment : Segment) (there : segment_at was unit ≡ Some segment) → Shifted from to i old now
       → IsSome (overlay_at now (space_of segment.owner) (page_of segment.owner))
@@ -243,11 +232,7 @@ module _ (was : Store) (old : LedgerView) (is : IsJoined (view_of was old)) wher
   unfolding with_block shift_page shift_entry entry_in
   shifted_some now from to i segment there so = record {
     pages = pages;
-    spaces = λ q. ap (λ (v : LedgerView). has_space v q) changed ∙ (space q).0 ∙ so.spaces q;
-    awaiting = λ q. ap (λ (v : LedgerView). (space_at v q).awaiting) changed ∙ (space q).1 ∙ so.awaiting q;
-    marks = λ q. ap (λ (v : LedgerView). (space_at v q).speculating) changed ∙ (space q).2 ∙ so.marks q;
-    frames = ap (λ (v : LedgerView). v.frames) changed ∙ with_frames now s p (Some y) ∙ so.frames;
-    zero_is = ap (λ (v : LedgerView). v.zero_frame) changed ∙ with_zero now s p (Some y) ∙ so.zero_is;
+    keeps = keeps_twice old now (relocated now (to + i) (Some segment)) so.keeps (subst (KeepsSpaces now) (sym changed) (keeps_page_set now s p (Some y) has_space));
   }
     where
       own : IsOwned old (from + i) segment
@@ -265,11 +250,11 @@ module _ (was : Store) (old : LedgerView) (is : IsJoined (view_of was old)) wher
       y : PageView
       y = put (shift_page from to i own.x)
 
-      here : page_at now s p ≡ Some (shift_page from to i own.x)
+      here : page_in now s p ≡ Some (shift_page from to i own.x)
       here = shifted_there now from to i (from + i) segment there so
 
-      changed : relocated now (to + i) (Some segment) ≡ table_with now s p (Some y)
-      changed = tables.changed_there put now s p (shift_page from to i own.x) here ∙ sym (with_some now s p y)
+      changed : relocated now (to + i) (Some segment) ≡ set_page now s p (Some y)
+      changed = changed_there put now s p (shift_page from to i own.x) here ∙ sym (set_some now s p y)
 
       theirs : IsHeld was own.space own.page own.x
       theirs = held_page own.space own.page own.x own.there
@@ -297,7 +282,7 @@ module _ (was : Store) (old : LedgerView) (is : IsJoined (view_of was old)) wher
               ∙ ap (entry_in own.overlay.bits) (sym block_is)
               ∙ sym (ap (option_map (shift_entry from to (i + 1))) own.is)
 
-      beside : (q r : ℕ) → (q ≡ s → r ≡ p → ⊥) → (o : Option PageView) → page_at old q r ≡ o → option_map (shift_page from to i) (page_at old q r) ≡ option_map (shift_page from to (i + 1)) (page_at old q r)
+      beside : (q r : ℕ) → (q ≡ s → r ≡ p → ⊥) → (o : Option PageView) → page_in old q r ≡ o → option_map (shift_page from to i) (page_in old q r) ≡ option_map (shift_page from to (i + 1)) (page_in old q r)
       beside q r d None e = ap (option_map (shift_page from to i)) e ∙ sym (ap (option_map (shift_page from to (i + 1))) e)
       beside q r d (Some x) e =
           ap (option_map (shift_page from to i)) e
@@ -305,20 +290,16 @@ module _ (was : Store) (old : LedgerView) (is : IsJoined (view_of was old)) wher
           let same = only_page (from + i) segment there q r x f e over at_unit in d (same.0 ∙ sym space_is) (same.1 ∙ sym page_is)))
           ∙ sym (ap (option_map (shift_page from to (i + 1))) e)
 
-      there_space : has_space now s ≡ true
-      there_space = tables.there_space now s p (shift_page from to i own.x) here
+      has_space : holds_space now s ≡ true
+      has_space = there_space now s p (shift_page from to i own.x) here
 
-      space : (q : ℕ) → (has_space (table_with now s p (Some y)) q ≡ has_space now q)
-          × ((space_at (table_with now s p (Some y)) q).awaiting ≡ (space_at now q).awaiting) × ((space_at (table_with now s p (Some y)) q).speculating ≡ (space_at now q).speculating)
-      space q = table_space_at now s p (Some y) there_space q
-
-      pages : (q r : ℕ) → page_at (relocated now (to + i) (Some segment)) q r ≡ option_map (shift_page from to (i + 1)) (page_at old q r)
+      pages : (q r : ℕ) → page_in (relocated now (to + i) (Some segment)) q r ≡ option_map (shift_page from to (i + 1)) (page_in old q r)
       pages q r = by_place s p q r
           (λ qq rr.
-          ap (λ (v : LedgerView). page_at v q r) changed ∙ table_here now s p (Some y) q r qq rr ∙ ap Some turned
-          ∙ sym (ap (option_map (shift_page from to (i + 1))) (ap (λ n. page_at old n r) (qq ∙ space_is) ∙ ap (page_at old own.space) (rr ∙ page_is) ∙ own.there)))
+          ap (λ (v : LedgerView). page_in v q r) changed ∙ page_set_here now s p (Some y) q r qq rr ∙ ap Some turned
+          ∙ sym (ap (option_map (shift_page from to (i + 1))) (ap (λ n. page_in old n r) (qq ∙ space_is) ∙ ap (page_in old own.space) (rr ∙ page_is) ∙ own.there)))
           (λ d.
-          ap (λ (v : LedgerView). page_at v q r) changed ∙ table_beside now s p (Some y) q r d ∙ so.pages q r ∙ beside q r d (page_at old q r) refl)
+          ap (λ (v : LedgerView). page_in v q r) changed ∙ page_set_beside now s p (Some y) q r d ∙ so.pages q r ∙ beside q r d (page_in old q r) refl)
 
 -- All blocks of a move are there now.
 
@@ -401,10 +382,10 @@ module _ (was new : Store) (old now : LedgerView) (m : Move) (is : IsJoined (vie
     size = λ f over. some_of x m.from m.to count f over (λ g. 2 ^ g.block.order ≡ class (length g.bits)) (λ e is. ap (λ o. 2 ^ o) (shift_order m.from m.to count e.block) ∙ held.size e is);
   }
 
-  page_before : (q r : ℕ) (x : PageView) → page_at now q r ≡ Some x → (P : PageView → Type 0) → ((y : PageView) → page_at old q r ≡ Some y → P (shift_page m.from m.to count y)) → P x
-  page_before q r x there P go = at (page_at old q r) refl
+  page_before : (q r : ℕ) (x : PageView) → page_in now q r ≡ Some x → (P : PageView → Type 0) → ((y : PageView) → page_in old q r ≡ Some y → P (shift_page m.from m.to count y)) → P x
+  page_before q r x there P go = at (page_in old q r) refl
     where
-      at : (o : Option PageView) → page_at old q r ≡ o → P x
+      at : (o : Option PageView) → page_in old q r ≡ o → P x
       at None e = absurd_none (sym (so.pages q r ∙ ap (option_map (shift_page m.from m.to count)) e) ∙ there)
         where
           absurd_none : None ≡ Some x → P x
@@ -451,15 +432,11 @@ module _ (was new : Store) (old now : LedgerView) (m : Move) (is : IsJoined (vie
       away_too u same (inr h) = inr (omega (arith, same, h))
 
   pub moved_state : state_of (view_of new now) ≡ state_of (view_of was old)
-  moved_state = state_alike (state_of (view_of new now)) (state_of (view_of was old))
-      (state_frames (view_of new now) ∙ so.frames ∙ sym (state_frames (view_of was old)))
-      (state_zero (view_of new now) ∙ so.zero_is ∙ sym (state_zero (view_of was old)))
-      (λ q. state_holds (view_of new now) q ∙ so.spaces q ∙ sym (state_holds (view_of was old) q))
-      (λ q. state_awaiting (view_of new now) q ∙ so.awaiting q ∙ sym (state_awaiting (view_of was old) q))
-      (λ q. state_mark (view_of new now) q ∙ so.marks q ∙ sym (state_mark (view_of was old) q))
-      (λ q r. state_page (view_of new now) q r ∙ ap (option_map (page_state new)) (so.pages q r) ∙ at q r (page_at old q r) refl ∙ sym (state_page (view_of was old) q r))
+  moved_state = spaces_alike (state_of (view_of was old)) (state_of (view_of new now)) (state_of (view_of was old))
+      (state_keeps (view_of was old) (view_of new now) so.keeps) (keeps_still (state_of (view_of was old)))
+      (λ q r. state_page (view_of new now) q r ∙ ap (option_map (page_state new)) (so.pages q r) ∙ at q r (page_in old q r) refl ∙ sym (state_page (view_of was old) q r))
     where
-      at : (q r : ℕ) (o : Option PageView) → page_at old q r ≡ o → option_map (page_state new) (option_map (shift_page m.from m.to count) (page_at old q r)) ≡ option_map (page_state was) (page_at old q r)
+      at : (q r : ℕ) (o : Option PageView) → page_in old q r ≡ o → option_map (page_state new) (option_map (shift_page m.from m.to count) (page_in old q r)) ≡ option_map (page_state was) (page_in old q r)
       at q r None e = ap (λ (o : Option PageView). option_map (page_state new) (option_map (shift_page m.from m.to count) o)) e ∙ sym (ap (option_map (page_state was)) e)
       at q r (Some x) e =
           ap (λ (o : Option PageView). option_map (page_state new) (option_map (shift_page m.from m.to count) o)) e ∙ ap Some (moved_page q r x (is.held q r x e))
@@ -468,11 +445,11 @@ module _ (was new : Store) (old now : LedgerView) (m : Move) (is : IsJoined (vie
   pub moved_joined : IsStore new → units_in new.blocks ≡ units_in was.blocks → free_units new.blocks ≡ free_units was.blocks → IsJoined (view_of new now)
   moved_joined store whole free = record {
     store = store;
-    frames = omega (arith, is.frames, whole, so.frames);
+    frames = omega (arith, is.frames, whole, so.keeps.frames);
     count = omega (arith, is.count, whole, free, same_units);
-    numbers = λ q there. is.numbers q (sym (so.spaces q) ∙ there);
-    zero = subst (IsFrame new) (sym so.zero_is) (frames old.zero_frame is.zero).stays;
-    zeros = λ line low. ap (λ f. frame_line new f line) so.zero_is ∙ (frames old.zero_frame is.zero).lines line low ∙ is.zeros line low;
+    numbers = λ q there. is.numbers q (sym (so.keeps.there q) ∙ there);
+    zero = subst (IsFrame new) (sym so.keeps.zero_frame) (frames old.zero_frame is.zero).stays;
+    zeros = λ line low. ap (λ f. frame_line new f line) so.keeps.zero_frame ∙ (frames old.zero_frame is.zero).lines line low ∙ is.zeros line low;
     held = λ q r x there. page_before q r x there (IsHeld new q r) (λ y was_there. moved_held q r y (is.held q r y was_there));
     owned = moved_owned;
   }

@@ -2,26 +2,28 @@ use Rattle.std.specs.Prelude.{◌≡◌, ℕ, ◌+◌, ◌*◌, ◌≤◌, ◌<�
 use Rattle.std.proofs.Common.{sym, ap, subst, ◌∙◌, arith}
 use Rattle.std.specs.Option.{option_and_then, option_map, option_map_or}
 use Rattle.std.specs.Ordering.{nat_cmp}
-use Rattle.std.specs.FinMap.{FinMap, empty, get, get-empty, insert, len, remove}
+use Rattle.std.specs.FinMap.{FinMap, empty, get, get-empty, len}
 use Rattle.sizes.specs.declared.TheConstants.{FRAME_UNITS, LAST_SPACE, PAGE_END}
-use Rattle.number_maps.specs.Keys.{alike, insert_kept}
-use Rattle.number_maps.specs.Values.{len_low, remove_absent}
-use Rattle.number_maps.specs.Views.{get_viewed, viewed, viewed_empty}
+use Rattle.number_maps.specs.Keys.{alike}
+use Rattle.number_maps.specs.Values.{len_low}
+use Rattle.number_maps.specs.Views.{get_viewed}
 use Rattle.unit_map.specs.Pieces.{free_units}
 use Rattle.page_table.specs.Table.{Pages}
 use Rattle.page_table.specs.declared.entry.PageEntry.{PageEntry}
-use Rattle.ledger.specs.Ledger.{Ledger, Space, all_holdings, is_alone}
+use Rattle.ledger.specs.Ledger.{Ledger, is_alone}
 use Rattle.ledger.specs.Units.{units}
 use Rattle.ledger.specs.ClassLaws.{class_most}
-use Rattle.ledger.specs.TallyLaws.{empty_holdings, same_units}
+use Rattle.ledger.specs.TallyLaws.{same_units}
 use Rattle.ledger.specs.Events.{Store, ledger_after}
 use Rattle.ledger.specs.StoreLaws.{store_joins, store_nothing, units_joined}
 use Rattle.ledger.specs.Changes.{with_lines}
 use Rattle.segment_store.specs.Store as store
-use Rattle.space_ledger.specs.View.{LedgerView, PageView, SpaceView, frame_at, has_space, holding_of, ledger_of, lines_of, no_pages, overlay_at, page_at, space_at, with_awaiting, with_mark, with_space, without_space}
-use Rattle.space_ledger.specs.ViewLaws as tables
+use Rattle.space_maps.specs.Books.{books_added, books_awaiting, books_lost, books_marked, books_page}
+use Rattle.space_maps.specs.Laws.{page_added, page_awaited, page_lost, page_marked, there_cut, there_put}
+use Rattle.space_maps.specs.Spaces.{bare_space, cut_space, holds_space, page_in, put_awaiting, put_mark, put_space, space_in, turned_page}
+use Rattle.space_ledger.specs.View.{LedgerView, PageView, frame_at, holding_of, ledger_of, lines_of, overlay_at}
 use Rattle.space_ledger.specs.Calls as calls
-use Rattle.overlay_pages.specs.State.{PageState, books, page_in, space_in, turned_page}
+use Rattle.overlay_pages.specs.State.{PageState, books}
 use Rattle.overlay_pages.specs.Changes.{brought, with_brought, writes_frame}
 use Rattle.overlay_pages.specs.Calls.{IsNextPage, RisesBy, entries_in}
 use Rattle.overlay_pages.specs.View.{IsJoined, MemoryView, page_state, state_of, view_of}
@@ -29,15 +31,15 @@ use Rattle.overlay_pages.specs.ViewLaws.{state_books, state_mark, state_page, st
 
 -- What calls that only read the tables answer, said of the state.
 
-pub entry_state : (v : MemoryView) (q r : ℕ) → option_map (λ (x : PageView). x.entry) (page_at v.table q r) ≡ option_map (λ (x : PageState). x.entry) (page_in (state_of v) q r)
+pub entry_state : (v : MemoryView) (q r : ℕ) → option_map (λ (x : PageView). x.entry) (page_in v.table q r) ≡ option_map (λ (x : PageState). x.entry) (page_in (state_of v) q r)
 unfolding page_state
-entry_state v q r = at (page_at v.table q r) ∙ sym (ap (option_map (λ (x : PageState). x.entry)) (state_page v q r))
+entry_state v q r = at (page_in v.table q r) ∙ sym (ap (option_map (λ (x : PageState). x.entry)) (state_page v q r))
   where
     at : (o : Option PageView) → option_map (λ (x : PageView). x.entry) o ≡ option_map (λ (x : PageState). x.entry) (option_map (page_state v.store) o)
     at None = refl
     at (Some x) = refl
 
-pub perms_state : (v : MemoryView) (q r : ℕ) (e : PageEntry) → Some e ≡ option_map (λ (x : PageView). x.entry) (page_at v.table q r)
+pub perms_state : (v : MemoryView) (q r : ℕ) (e : PageEntry) → Some e ≡ option_map (λ (x : PageView). x.entry) (page_in v.table q r)
     → option_map (λ (x : PageState). x.entry.perms) (page_in (state_of v) q r) ≡ Some e.perms
 perms_state v q r e is =
     mapped (page_in (state_of v) q r) ∙ ap (option_map (λ (k : PageEntry). k.perms)) (sym (is ∙ entry_state v q r))
@@ -46,16 +48,16 @@ perms_state v q r e is =
     mapped None = refl
     mapped (Some x) = refl
 
-pub absent_state : (v : MemoryView) (q r : ℕ) → None ≡ option_map (λ (x : PageView). x.entry) (page_at v.table q r) → page_in (state_of v) q r ≡ None
+pub absent_state : (v : MemoryView) (q r : ℕ) → None ≡ option_map (λ (x : PageView). x.entry) (page_in v.table q r) → page_in (state_of v) q r ≡ None
 absent_state v q r is = at (page_in (state_of v) q r) (is ∙ entry_state v q r)
   where
     at : (o : Option PageState) → None ≡ option_map (λ (x : PageState). x.entry) o → o ≡ None
     at None h = refl
     at (Some x) h = cc
 
-pub own_state : (v : MemoryView) (q r : ℕ) → IsSome (page_at v.table q r) → option_map (λ (x : PageState). x.own) (page_in (state_of v) q r) ≡ Some (lines_of (overlay_at v.table q r))
+pub own_state : (v : MemoryView) (q r : ℕ) → IsSome (page_in v.table q r) → option_map (λ (x : PageState). x.own) (page_in (state_of v) q r) ≡ Some (lines_of (overlay_at v.table q r))
 unfolding page_state
-own_state v q r there = ap (option_map (λ (x : PageState). x.own)) (state_page v q r) ∙ at (page_at v.table q r) there
+own_state v q r there = ap (option_map (λ (x : PageState). x.own)) (state_page v q r) ∙ at (page_in v.table q r) there
   where
     at : (o : Option PageView) → IsSome o → option_map (λ (x : PageState). x.own) (option_map (page_state v.store) o) ≡ Some (lines_of (option_and_then (λ (x : PageView). x.overlay) o))
     at None h = absurd (not_some h)
@@ -66,13 +68,13 @@ own_state v q r there = ap (option_map (λ (x : PageState). x.own)) (state_page 
 
 pub frame_of_page : (v : MemoryView) (q r : ℕ) → option_map (λ (x : PageState). x.entry.frame) (page_in (state_of v) q r) ≡ frame_at v.table q r
 unfolding page_state
-frame_of_page v q r = ap (option_map (λ (x : PageState). x.entry.frame)) (state_page v q r) ∙ at (page_at v.table q r)
+frame_of_page v q r = ap (option_map (λ (x : PageState). x.entry.frame)) (state_page v q r) ∙ at (page_in v.table q r)
   where
     at : (o : Option PageView) → option_map (λ (x : PageState). x.entry.frame) (option_map (page_state v.store) o) ≡ option_map (λ (x : PageView). x.entry.frame) o
     at None = refl
     at (Some x) = refl
 
-pub overlaid_bare : (v : MemoryView) (q r : ℕ) → IsSome (page_at v.table q r) → overlay_at v.table q r ≡ None → IfSome (page_in (state_of v) q r) (λ (x : PageState). 0 < length x.own) → ⊥
+pub overlaid_bare : (v : MemoryView) (q r : ℕ) → IsSome (page_in v.table q r) → overlay_at v.table q r ≡ None → IfSome (page_in (state_of v) q r) (λ (x : PageState). 0 < length x.own) → ⊥
 overlaid_bare v q r there bare has = at (page_in (state_of v) q r) refl
   where
     at : (o : Option PageState) → page_in (state_of v) q r ≡ o → ⊥
@@ -84,24 +86,24 @@ overlaid_bare v q r there bare has = at (page_in (state_of v) q r) refl
           ap (λ (o : Option (List ℕ)). length (option_map_or (λ (l : List ℕ). l) o [])) (sym (ap (option_map (λ (x : PageState). x.own)) e) ∙ own_state v q r there ∙ ap (λ o. Some (lines_of o)) bare),
         )
 
-pub page_some : (v : MemoryView) (q r : ℕ) → IsSome (page_in (state_of v) q r) → IsSome (page_at v.table q r)
+pub page_some : (v : MemoryView) (q r : ℕ) → IsSome (page_in (state_of v) q r) → IsSome (page_in v.table q r)
 page_some v q r there = sym (state_page_some v q r) ∙ there
 
 pub alone_state : (v : MemoryView) (q r : ℕ) → is_alone (ledger_of v.table) q r ≡ is_alone (books (state_of v)) q r
 alone_state v q r = ap (λ (l : Ledger). is_alone l q r) (sym (state_books v))
 
-none_still : (v : MemoryView) (q r : ℕ) → page_at v.table q r ≡ None → page_in (state_of v) q r ≡ None
+none_still : (v : MemoryView) (q r : ℕ) → page_in v.table q r ≡ None → page_in (state_of v) q r ≡ None
 none_still v q r none = state_page v q r ∙ ap (option_map (page_state v.store)) none
 
 pub next_state : (v : MemoryView) (q r : ℕ) (found : Option ℕ) → calls.IsNextOf v.table q r found → IsNextPage (state_of v) q r found
 next_state v q r None is = λ p low. none_still v q p (is p low)
 next_state v q r (Some p) is = (is.0, state_page_some v q p ∙ is.1, λ n low below. none_still v q n (is.2 n low below))
 
-pub pages_few : (v : MemoryView) (s : ℕ) → IsJoined v → len (space_at v.table s).pages ≤ PAGE_END
-unfolding page_at
-pages_few v s is = len_low PAGE_END (space_at v.table s).pages (λ q there. low q (get (space_at v.table s).pages q) refl there)
+pub pages_few : (v : MemoryView) (s : ℕ) → IsJoined v → len (space_in v.table s).pages ≤ PAGE_END
+unfolding page_in
+pages_few v s is = len_low PAGE_END (space_in v.table s).pages (λ q there. low q (get (space_in v.table s).pages q) refl there)
   where
-    low : (q : ℕ) (o : Option PageView) → get (space_at v.table s).pages q ≡ o → IsSome (get (space_at v.table s).pages q) → q < PAGE_END
+    low : (q : ℕ) (o : Option PageView) → get (space_in v.table s).pages q ≡ o → IsSome (get (space_in v.table s).pages q) → q < PAGE_END
     low q None e there = let no = sym there ∙ ap is_some e in cc
     low q (Some x) e there = (is.held s q x e).low
 
@@ -114,28 +116,28 @@ rises_state v s p lines rise one both = record {
       ∙ sym (λ i. units (ledger_after (Store (state_mark v s i) s ((other, more) ∷ [])) (state_books v i)) + rise);
 }
 
-pub rise_few : (v : MemoryView) (s p : ℕ) (lines : List ℕ) (rise : ℕ) → IsSome (page_at v.table s p) → calls.RisesBy v.table s p lines rise → rise ≤ 16
-rise_few v s p lines rise there one = by_frame (not (space_at v.table s).speculating && is_alone (ledger_of v.table) s p) refl
+pub rise_few : (v : MemoryView) (s p : ℕ) (lines : List ℕ) (rise : ℕ) → IsSome (page_in v.table s p) → calls.RisesBy v.table s p lines rise → rise ≤ 16
+rise_few v s p lines rise there one = by_frame (not (space_in v.table s).speculating && is_alone (ledger_of v.table) s p) refl
   where
     l : Ledger
     l = ledger_of v.table
 
-    by_page : (o : Option PageView) → page_at v.table s p ≡ o → (not (space_at v.table s).speculating && is_alone (ledger_of v.table) s p) ≡ false → rise ≤ 16
+    by_page : (o : Option PageView) → page_in v.table s p ≡ o → (not (space_in v.table s).speculating && is_alone (ledger_of v.table) s p) ≡ false → rise ≤ 16
     by_page None e frame = let no = sym there ∙ ap is_some e in cc
     by_page (Some x) e frame =
-        let held = tables.ledger_page v.table s p ∙ ap (option_map (holding_of v.table.zero_frame)) e in
+        let held = books_page holding_of v.table s p ∙ ap (option_map (holding_of v.table.zero_frame)) e in
         let more = units_joined (ledger_of v.table) s p lines (holding_of v.table.zero_frame x) held in
-        let after = ap units (store_joins (space_at v.table s).speculating (ledger_of v.table) s p lines frame) in
+        let after = ap units (store_joins (space_in v.table s).speculating (ledger_of v.table) s p lines frame) in
         omega (arith, one, after, more, class_most (length (with_lines (lines_of x.overlay) lines)))
 
-    by_frame : (b : Bool) → (not (space_at v.table s).speculating && is_alone (ledger_of v.table) s p) ≡ b → rise ≤ 16
-    by_frame true frame = let same = ap units (store_nothing (space_at v.table s).speculating (ledger_of v.table) s p lines frame) in omega (arith, one, same)
-    by_frame false frame = by_page (page_at v.table s p) refl frame
+    by_frame : (b : Bool) → (not (space_in v.table s).speculating && is_alone (ledger_of v.table) s p) ≡ b → rise ≤ 16
+    by_frame true frame = let same = ap units (store_nothing (space_in v.table s).speculating (ledger_of v.table) s p lines frame) in omega (arith, one, same)
+    by_frame false frame = by_page (page_in v.table s p) refl frame
 
 -- Tables that have the same pages.
 
-pub same_joined : (st : store.Store) (a b : LedgerView) → IsJoined (view_of st a) → b.frames ≡ a.frames → b.zero_frame ≡ a.zero_frame → ((q r : ℕ) → page_at b q r ≡ page_at a q r)
-    → ((q : ℕ) → has_space b q ≡ true → q ≤ LAST_SPACE) → units (ledger_of b) ≡ units (ledger_of a) → IsJoined (view_of st b)
+pub same_joined : (st : store.Store) (a b : LedgerView) → IsJoined (view_of st a) → b.frames ≡ a.frames → b.zero_frame ≡ a.zero_frame → ((q r : ℕ) → page_in b q r ≡ page_in a q r)
+    → ((q : ℕ) → holds_space b q ≡ true → q ≤ LAST_SPACE) → units (ledger_of b) ≡ units (ledger_of a) → IsJoined (view_of st b)
 same_joined st a b is frames zero pages numbers same = record {
   store = is.store;
   frames = ap (λ n. FRAME_UNITS * n) frames ∙ is.frames;
@@ -149,139 +151,76 @@ same_joined st a b is frames zero pages numbers same = record {
       record { space = own.space; page = own.page; x = own.x; overlay = own.overlay; there = pages own.space own.page ∙ own.there; is = own.is; unit_is = own.unit_is; owner = own.owner };
 }
 
-with_frames : (v : LedgerView) (s : ℕ) (x : SpaceView) → (with_space v s x).frames ≡ v.frames
-unfolding with_space
-with_frames v s x = refl
-
-with_zero : (v : LedgerView) (s : ℕ) (x : SpaceView) → (with_space v s x).zero_frame ≡ v.zero_frame
-unfolding with_space
-with_zero v s x = refl
-
 -- an empty space more
-no_pages_there : (v : LedgerView) (s : ℕ) → has_space v s ≡ false → get (ledger_of v) s ≡ None
-no_pages_there v s absent = at (get (ledger_of v) s) refl
-  where
-    at : (o : Option Space) → get (ledger_of v) s ≡ o → get (ledger_of v) s ≡ None
-    at None e = e
-    at (Some x) e = let no = sym absent ∙ sym (tables.ledger_spaces v s) ∙ ap is_some e in cc
-
-absent_page : (v : LedgerView) (s p : ℕ) → has_space v s ≡ false → page_at v s p ≡ None
-absent_page v s p absent = at (get v.spaces s) refl
-  where
-    at : (o : Option SpaceView) → get v.spaces s ≡ o → page_at v s p ≡ None
-    at None e = tables.page_of v s p ∙ ap (λ (y : SpaceView). get y.pages p) (tables.space_absent v s e) ∙ get-empty nat_cmp p
-    at (Some y) e = let no = sym absent ∙ ap is_some e in cc
-
-pub space_added : (st : store.Store) (v : LedgerView) (s : ℕ) → IsJoined (view_of st v) → s ≤ LAST_SPACE → has_space v s ≡ false → IsJoined (view_of st (with_space v s no_pages))
-unfolding with_space
+pub space_added : (st : store.Store) (v : LedgerView) (s : ℕ) → IsJoined (view_of st v) → s ≤ LAST_SPACE → holds_space v s ≡ false → IsJoined (view_of st (put_space v s bare_space))
+unfolding put_space
 space_added st v s is few absent =
-    same_joined st v (with_space v s no_pages) is (with_frames v s no_pages) (with_zero v s no_pages) pages numbers
-    (ap units (tables.ledger_with v s no_pages)
-    ∙ same_units (insert (ledger_of v) s nothing) (ledger_of v)
-    (empty_holdings (ledger_of v) s nothing none ∙ ap all_holdings (remove_absent (ledger_of v) s (no_pages_there v s absent))))
-  where
-    nothing : Space
-    nothing = viewed (λ _ (y : PageView). holding_of v.zero_frame y) no_pages.pages
-
-    none : nothing ≡ empty
-    none = viewed_empty (λ _ (y : PageView). holding_of v.zero_frame y)
-
-    pages : (q r : ℕ) → page_at (with_space v s no_pages) q r ≡ page_at v q r
-    pages q r = Rattle.number_maps.specs.Keys.by_key q s
-        (λ same. tables.in_space v s no_pages q r same ∙ get-empty nat_cmp r ∙ sym (ap (λ n. page_at v n r) same ∙ absent_page v s r absent))
-        (λ other. tables.beside_space v s no_pages q r other)
-
-    numbers : (q : ℕ) → has_space (with_space v s no_pages) q ≡ true → q ≤ LAST_SPACE
-    numbers q there = Rattle.number_maps.specs.Keys.by_key q s
-        (λ same. subst (λ n. n ≤ LAST_SPACE) (sym same) few)
-        (λ other. is.numbers q (sym (ap is_some (Rattle.number_maps.specs.Keys.get_other v.spaces s q no_pages other)) ∙ there))
+    same_joined st v (put_space v s bare_space) is refl refl (page_added v s absent)
+    (λ q there. there_put v s bare_space q there (λ same. subst (λ n. n ≤ LAST_SPACE) (sym same) few) (is.numbers q))
+    (same_units (ledger_of (put_space v s bare_space)) (ledger_of v) (books_added holding_of v s absent))
 
 -- What is brought: nothing where the frame is written, else lines of the overlay.
 
-pub frame_state : (v : MemoryView) (s p : ℕ) → writes_frame (state_of v) s p ≡ (not (space_at v.table s).speculating && is_alone (ledger_of v.table) s p)
+pub frame_state : (v : MemoryView) (s p : ℕ) → writes_frame (state_of v) s p ≡ (not (space_in v.table s).speculating && is_alone (ledger_of v.table) s p)
 frame_state v s p = λ i. not (state_mark v s i) && is_alone (state_books v i) s p
 
-pub brought_frame : (v : MemoryView) (s p : ℕ) (lines : List ℕ) → (not (space_at v.table s).speculating && is_alone (ledger_of v.table) s p) ≡ true → state_of v ≡ with_brought (state_of v) s p lines
+pub brought_frame : (v : MemoryView) (s p : ℕ) (lines : List ℕ) → (not (space_in v.table s).speculating && is_alone (ledger_of v.table) s p) ≡ true → state_of v ≡ with_brought (state_of v) s p lines
 unfolding with_brought
 brought_frame v s p lines frame = sym (ap (λ b. cond b (state_of v) (turned_page (brought lines) (state_of v) s p)) (frame_state v s p ∙ frame))
 
-pub brought_overlay : (v : MemoryView) (s p : ℕ) (lines : List ℕ) → (not (space_at v.table s).speculating && is_alone (ledger_of v.table) s p) ≡ false
+pub brought_overlay : (v : MemoryView) (s p : ℕ) (lines : List ℕ) → (not (space_in v.table s).speculating && is_alone (ledger_of v.table) s p) ≡ false
     → with_brought (state_of v) s p lines ≡ turned_page (brought lines) (state_of v) s p
 unfolding with_brought
 brought_overlay v s p lines frame = ap (λ b. cond b (state_of v) (turned_page (brought lines) (state_of v) s p)) (frame_state v s p ∙ frame)
 
 -- Spaces that go, marks, and tables that are copied and adopted.
 
-pub space_gone : (st : store.Store) (v : LedgerView) (s : ℕ) → IsJoined (view_of st v) → has_space v s ≡ true → (space_at v s).pages ≡ empty → IsJoined (view_of st (without_space v s))
-unfolding without_space
+pub space_gone : (st : store.Store) (v : LedgerView) (s : ℕ) → IsJoined (view_of st v) → holds_space v s ≡ true → (space_in v s).pages ≡ empty → IsJoined (view_of st (cut_space v s))
+unfolding cut_space
 space_gone st v s is there none =
-    same_joined st v (without_space v s) is refl refl pages numbers (ap units (tables.ledger_without v s) ∙ sym (same_units (ledger_of v) (remove (ledger_of v) s) all))
-  where
-    mine : Space
-    mine = viewed (λ _ (y : PageView). holding_of v.zero_frame y) (space_at v s).pages
+    same_joined st v (cut_space v s) is refl refl (page_lost v s none) (λ q here. is.numbers q (there_cut v s q here))
+    (same_units (ledger_of (cut_space v s)) (ledger_of v) (books_lost holding_of v s there none))
 
-    nothing : mine ≡ empty
-    nothing = ap (viewed (λ _ (y : PageView). holding_of v.zero_frame y)) none ∙ viewed_empty (λ _ (y : PageView). holding_of v.zero_frame y)
-
-    all : all_holdings (ledger_of v) ≡ all_holdings (remove (ledger_of v) s)
-    all = ap all_holdings (sym (tables.kept_pages v s there)) ∙ empty_holdings (ledger_of v) s mine nothing
-
-    pages : (q r : ℕ) → page_at (without_space v s) q r ≡ page_at v q r
-    pages q r = Rattle.number_maps.specs.Keys.by_key q s
-        (λ same.
-        tables.page_of (without_space v s) q r ∙ ap (λ (y : SpaceView). get y.pages r) (tables.space_absent (without_space v s) q (Rattle.number_maps.specs.Keys.removed_same v.spaces s q same)) ∙ get-empty nat_cmp r
-        ∙ sym (ap (λ n. page_at v n r) same ∙ tables.page_of v s r ∙ ap (λ (m : FinMap nat_cmp PageView). get m r) none ∙ get-empty nat_cmp r))
-        (λ other. tables.page_of (without_space v s) q r ∙ ap (λ (y : SpaceView). get y.pages r) (tables.space_left v s q other) ∙ sym (tables.page_of v q r))
-
-    numbers : (q : ℕ) → has_space (without_space v s) q ≡ true → q ≤ LAST_SPACE
-    numbers q here = Rattle.number_maps.specs.Keys.by_key q s
-        (λ same. let no = sym here ∙ ap is_some (Rattle.number_maps.specs.Keys.removed_same v.spaces s q same) in cc)
-        (λ other. is.numbers q (sym (ap is_some (Rattle.number_maps.specs.Keys.removed_other v.spaces s q other)) ∙ here))
-
-still_there : (v : LedgerView) (s : ℕ) (x : SpaceView) (q : ℕ) → has_space v s ≡ true → has_space (with_space v s x) q ≡ true → has_space v q ≡ true
-unfolding with_space
-still_there v s x q there here = Rattle.number_maps.specs.Keys.by_key q s
-    (λ same. ap (has_space v) same ∙ there)
-    (λ other. sym (ap is_some (Rattle.number_maps.specs.Keys.get_other v.spaces s q x other)) ∙ here)
-
-pub mark_joined : (st : store.Store) (v : LedgerView) (s : ℕ) (on : Bool) → IsJoined (view_of st v) → has_space v s ≡ true → IsJoined (view_of st (with_mark v s on))
-unfolding with_mark
+pub mark_joined : (st : store.Store) (v : LedgerView) (s : ℕ) (on : Bool) → IsJoined (view_of st v) → holds_space v s ≡ true → IsJoined (view_of st (put_mark v s on))
+unfolding put_mark put_space
 mark_joined st v s on is there =
-    same_joined st v (with_mark v s on) is (with_frames v s _) (with_zero v s _) (tables.view_marked v s on) (λ q here. is.numbers q (still_there v s _ q there here)) (ap units (tables.ledger_marked v s on there))
+    same_joined st v (put_mark v s on) is refl refl (page_marked v s on) (λ q here. there_put v s _ q here (λ same. subst (λ n. n ≤ LAST_SPACE) (sym same) (is.numbers s there)) (is.numbers q))
+    (ap units (books_marked holding_of v s on there))
 
-pub awaiting_joined : (st : store.Store) (v : LedgerView) (s : ℕ) (awaiting : Pages) → IsJoined (view_of st v) → has_space v s ≡ true → IsJoined (view_of st (with_awaiting v s awaiting))
-unfolding with_awaiting
+pub awaiting_joined : (st : store.Store) (v : LedgerView) (s : ℕ) (awaiting : Pages) → IsJoined (view_of st v) → holds_space v s ≡ true → IsJoined (view_of st (put_awaiting v s awaiting))
+unfolding put_awaiting put_space
 awaiting_joined st v s awaiting is there =
-    same_joined st v (with_awaiting v s awaiting) is (with_frames v s _) (with_zero v s _) (tables.view_awaiting v s awaiting) (λ q here. is.numbers q (still_there v s _ q there here)) (ap units (tables.ledger_awaiting v s awaiting there))
+    same_joined st v (put_awaiting v s awaiting) is refl refl (page_awaited v s awaiting) (λ q here. there_put v s _ q here (λ same. subst (λ n. n ≤ LAST_SPACE) (sym same) (is.numbers s there)) (is.numbers q))
+    (ap units (books_awaiting holding_of v s awaiting there))
 
 pub entries_state : (v : MemoryView) (s : ℕ) → calls.entries_of v.table s ≡ entries_in (state_of v) s
 unfolding calls.entries_of entries_in page_state
 entries_state v s =
     alike _ _ (λ q.
-    get_viewed (λ _ (x : PageView). x.entry) (space_at v.table s).pages q ∙ at (get (space_at v.table s).pages q)
-    ∙ ap (option_map (λ (x : PageState). x.entry)) (sym (get_viewed (λ _ (x : PageView). page_state v.store x) (space_at v.table s).pages q) ∙ ap (λ (m : FinMap nat_cmp PageState). get m q) (sym (state_pages v s)))
+    get_viewed (λ _ (x : PageView). x.entry) (space_in v.table s).pages q ∙ at (get (space_in v.table s).pages q)
+    ∙ ap (option_map (λ (x : PageState). x.entry)) (sym (get_viewed (λ _ (x : PageView). page_state v.store x) (space_in v.table s).pages q) ∙ ap (λ (m : FinMap nat_cmp PageState). get m q) (sym (state_pages v s)))
     ∙ sym (get_viewed (λ _ (x : PageState). x.entry) (space_in (state_of v) s).pages q))
   where
     at : (o : Option PageView) → option_map (λ (x : PageView). x.entry) o ≡ option_map (λ (x : PageState). x.entry) (option_map (page_state v.store) o)
     at None = refl
     at (Some x) = refl
 
-pub no_pages_state : (v : MemoryView) (s : ℕ) → (space_in (state_of v) s).pages ≡ empty → (space_at v.table s).pages ≡ empty
-no_pages_state v s none = alike _ _ (λ q. at q (get (space_at v.table s).pages q) refl ∙ sym (get-empty nat_cmp q))
+pub no_pages_state : (v : MemoryView) (s : ℕ) → (space_in (state_of v) s).pages ≡ empty → (space_in v.table s).pages ≡ empty
+no_pages_state v s none = alike _ _ (λ q. at q (get (space_in v.table s).pages q) refl ∙ sym (get-empty nat_cmp q))
   where
-    at : (q : ℕ) (o : Option PageView) → get (space_at v.table s).pages q ≡ o → get (space_at v.table s).pages q ≡ None
+    at : (q : ℕ) (o : Option PageView) → get (space_in v.table s).pages q ≡ o → get (space_in v.table s).pages q ≡ None
     at q None e = e
     at q (Some x) e =
-        let there = sym (get-empty nat_cmp q) ∙ ap (λ (m : FinMap nat_cmp PageState). get m q) (sym none ∙ state_pages v s) ∙ get_viewed (λ _ (y : PageView). page_state v.store y) (space_at v.table s).pages q ∙ ap (option_map (page_state v.store)) e in
+        let there = sym (get-empty nat_cmp q) ∙ ap (λ (m : FinMap nat_cmp PageState). get m q) (sym none ∙ state_pages v s) ∙ get_viewed (λ _ (y : PageView). page_state v.store y) (space_in v.table s).pages q ∙ ap (option_map (page_state v.store)) e in
         absurd (nothing (page_state v.store x) there)
       where
         nothing : (y : PageState) → None ≡ Some y → ⊥
         nothing y h = cc
 
 -- a page that the state hasn't isn't in the tables
-pub none_back : (v : MemoryView) (q r : ℕ) → page_in (state_of v) q r ≡ None → page_at v.table q r ≡ None
-none_back v q r none = at (page_at v.table q r) refl
+pub none_back : (v : MemoryView) (q r : ℕ) → page_in (state_of v) q r ≡ None → page_in v.table q r ≡ None
+none_back v q r none = at (page_in v.table q r) refl
   where
-    at : (o : Option PageView) → page_at v.table q r ≡ o → page_at v.table q r ≡ None
+    at : (o : Option PageView) → page_in v.table q r ≡ o → page_in v.table q r ≡ None
     at None e = e
     at (Some x) e = let no = sym (state_page_some v q r ∙ ap is_some e) ∙ ap is_some none in cc

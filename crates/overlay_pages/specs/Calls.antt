@@ -8,8 +8,9 @@ use Rattle.ledger.specs.Changes.{has_own}
 use Rattle.ledger.specs.Events.{Store, ledger_after}
 use Rattle.ledger.specs.Units.{units}
 use Rattle.segment_store.specs.Store.{with_line_at}
+use Rattle.space_maps.specs.Spaces.{page_in, space_in}
 use Rattle.space_ledger.specs.Space.{IsLeast}
-use Rattle.overlay_pages.specs.State.{PageState, State, books, page_in, space_in}
+use Rattle.overlay_pages.specs.State.{PageState, State, books}
 use Rattle.overlay_pages.specs.Changes.{units_of, with_shared}
 use Rattle.overlay_pages.specs.View.{MemoryView}
 

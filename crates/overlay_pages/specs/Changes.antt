@@ -1,5 +1,4 @@
 use Rattle.std.specs.Prelude.{◌≡◌, ℕ, ◌+◌, ◌*◌, ◌≤◌, ◌<◌, ◌&&◌, Bool, true, false, cond, not, List, [], Some, None, IsTrue, length, slice_set}
-use Rattle.std.specs.List.{fold, range_with_len}
 use Rattle.std.specs.Option.{option_map_or}
 use Rattle.std.specs.FinMap.{get}
 use Rattle.sizes.specs.declared.TheConstants.{FRAME_UNITS}
@@ -10,7 +9,8 @@ use Rattle.ledger.specs.Ledger.{is_alone, is_unused}
 use Rattle.ledger.specs.Changes.{with_lines}
 use Rattle.ledger.specs.Units.{class, units}
 use Rattle.overlay_pages.specs.Lines.{zero_page}
-use Rattle.overlay_pages.specs.State.{PageState, State, books, page_in, put_page, put_shared, space_in, turned_page}
+use Rattle.overlay_pages.specs.State.{PageState, State, books}
+use Rattle.space_maps.specs.Spaces.{page_in, put_page, put_pages, put_shared, space_in, turned_page}
 
 -- What is done to a page.
 
@@ -72,7 +72,7 @@ with_written state space page line bytes = turned_page (written line bytes) stat
 
 -- pages on the zero frame, one after the other
 unfoldable pub with_zeros : State → ℕ → ℕ → ℕ → PageEntry → State
-with_zeros state space from count entry = fold (λ s page. put_page s space page (whole_page entry zero_page)) state (range_with_len from count)
+with_zeros state space from count entry = put_pages state space from count (whole_page entry zero_page)
 
 -- a page of an adopted table is shared from another space
 unfoldable pub with_shared : State → ℕ → ℕ → ℕ → State

@@ -8,7 +8,6 @@ pub mod Calls
 pub mod Steps
 pub mod Spots
 pub mod SpotLaws
-pub mod StateLaws
 pub mod ViewLaws
 pub mod TableLaws
 pub mod Codes

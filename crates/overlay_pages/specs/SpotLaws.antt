@@ -4,8 +4,9 @@ use Rattle.std.specs.Option.{option_map, option_map_or}
 use Rattle.ovl_io.specs.declared.perms.Perms.{Perms}
 use Rattle.overlay_pages.specs.declared.spots.FoundLine.{FoundLine}
 use Rattle.overlay_pages.specs.Spots.{IsFoundAt}
-use Rattle.overlay_pages.specs.State.{PageState, page_in}
+use Rattle.overlay_pages.specs.State.{PageState}
 use Rattle.overlay_pages.specs.View.{MemoryView, state_of}
+use Rattle.space_maps.specs.Spaces.{page_in}
 
 -- Laws of lines that were found.
 

@@ -4,8 +4,8 @@ use Rattle.sizes.specs.declared.TheConstants.{PAGE_LINES}
 use Rattle.unit_map.specs.declared.block.Block.{Block}
 use Rattle.overlay_bits.specs.Lines.{has_line}
 use Rattle.overlay_mapping_table.specs.declared.entry.Entry.{Entry}
-use Rattle.space_ledger.specs.View.{LedgerView, PageView, lines_of, page_at}
-use Rattle.overlay_pages.specs.State.{page_in}
+use Rattle.space_maps.specs.Spaces.{page_in}
+use Rattle.space_ledger.specs.View.{LedgerView, PageView, lines_of}
 use Rattle.overlay_pages.specs.View.{MemoryView, state_of}
 use Rattle.overlay_pages.specs.declared.spots.FoundLine.{FoundLine}
 use Rattle.overlay_pages.specs.declared.spots.Spot.{Spot}
@@ -17,7 +17,7 @@ use Rattle.overlay_pages.specs.declared.spots.Spot.TheVariants.{Segment, Frame}
 pub record IsInSegment (table : LedgerView) (space page line : ℕ) (block : Block) : Type 0 where
   pub x : PageView
   pub overlay : Entry
-  pub there : page_at table space page ≡ Some x
+  pub there : page_in table space page ≡ Some x
   pub is : x.overlay ≡ Some overlay
   pub block_is : overlay.block ≡ block
   pub has : has_line overlay.bits line ≡ true
@@ -25,7 +25,7 @@ pub record IsInSegment (table : LedgerView) (space page line : ℕ) (block : Blo
 -- a page on this frame whose overlay hasn't the line
 pub record IsInFrame (table : LedgerView) (space page line frame : ℕ) : Type 0 where
   pub x : PageView
-  pub there : page_at table space page ≡ Some x
+  pub there : page_in table space page ≡ Some x
   pub frame_is : x.entry.frame ≡ frame
   pub lacks : has_line (lines_of x.overlay) line ≡ false
 

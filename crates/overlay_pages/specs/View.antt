@@ -7,13 +7,14 @@ use Rattle.overlay_bits.specs.Lines.{has_line}
 use Rattle.overlay_address.specs.Names.{overlay_page}
 use Rattle.overlay_mapping_table.specs.declared.entry.Entry.{Entry}
 use Rattle.ledger.specs.Units.{class, units}
-use Rattle.number_maps.specs.Views.{viewed}
 use Rattle.segment_store.specs.declared.segment.Segment.{Segment}
 use Rattle.segment_store.specs.Kept.{IsStore}
 use Rattle.segment_store.specs.Store.{Store, IsFrame, frame_line, frame_place, place_of, scratch_place, segment_at}
-use Rattle.space_ledger.specs.View.{LedgerView, PageView, SpaceView, frame_at, has_space, ledger_of, lines_of, overlay_at, page_at}
+use Rattle.space_maps.specs.Spaces.{holds_space, page_in}
+use Rattle.space_maps.specs.Mapped.{mapped}
+use Rattle.space_ledger.specs.View.{LedgerView, PageView, frame_at, ledger_of, lines_of, overlay_at}
 use Rattle.overlay_pages.specs.Lines.{page_lines, zero_line}
-use Rattle.overlay_pages.specs.State.{PageState, SpaceState, State}
+use Rattle.overlay_pages.specs.State.{PageState, State}
 
 -- What a memory of pages with overlays is seen as.
 
@@ -35,7 +36,7 @@ place_in_page store x line = by_overlay x.overlay
     by_overlay (Some overlay) = cond (has_line overlay.bits line) (place_of store overlay.block line) (frame_place x.entry.frame line)
 
 abbrev pub place_at : MemoryView → ℕ → ℕ → ℕ → ℕ
-place_at view space page line = option_map_or (λ x. place_in_page view.store x line) (page_at view.table space page) 0
+place_at view space page line = option_map_or (λ x. place_in_page view.store x line) (page_in view.table space page) 0
 
 -- two lines outside the overlays, on one frame and with one number
 pub record ShareFrameLine (view : MemoryView) (q r i s p j : ℕ) : Type 0 where
@@ -46,9 +47,9 @@ pub record ShareFrameLine (view : MemoryView) (q r i s p j : ℕ) : Type 0 where
 
 -- The place of a line is that of no other line but those, and lies before scratch.
 pub record HasOwnPlace (view : MemoryView) (space page line : ℕ) : Type 0 where
-  pub only : (q r i : ℕ) → IsSome (page_at view.table q r) → i < PAGE_LINES → place_at view q r i ≡ place_at view space page line
+  pub only : (q r i : ℕ) → IsSome (page_in view.table q r) → i < PAGE_LINES → place_at view q r i ≡ place_at view space page line
       → ((q ≡ space) × (r ≡ page) × (i ≡ line)) ⊎ ShareFrameLine view q r i space page line
-  pub shared : (q r i : ℕ) → IsSome (page_at view.table q r) → ShareFrameLine view q r i space page line → place_at view q r i ≡ place_at view space page line
+  pub shared : (q r i : ℕ) → IsSome (page_in view.table q r) → ShareFrameLine view q r i space page line → place_at view q r i ≡ place_at view space page line
   pub before_scratch : place_at view space page line < scratch_place view.store
 
 -- what it is
@@ -64,15 +65,8 @@ page_state store x = record {
   base = page_lines (frame_line store x.entry.frame);
 }
 
-abbrev pub space_state : Store → SpaceView → SpaceState
-space_state store x = record { pages = viewed (λ _ y. page_state store y) x.pages; awaiting = x.awaiting; speculating = x.speculating }
-
 unfoldable pub state_of : MemoryView → State
-state_of view = record {
-  spaces = viewed (λ _ x. space_state view.store x) view.table.spaces;
-  frames = view.table.frames;
-  zero_frame = view.table.zero_frame;
-}
+state_of view = mapped (λ _ _ x. page_state view.store x) view.table
 
 -- What is true of every memory.
 
@@ -86,7 +80,7 @@ pub record IsOwned (table : LedgerView) (unit : ℕ) (segment : Segment) : Type 
   pub page : ℕ
   pub x : PageView
   pub overlay : Entry
-  pub there : page_at table space page ≡ Some x
+  pub there : page_in table space page ≡ Some x
   pub is : x.overlay ≡ Some overlay
   pub unit_is : overlay.block.unit ≡ unit
   pub owner : segment.owner ≡ overlay_page space page
@@ -106,8 +100,8 @@ pub record IsJoined (view : MemoryView) : Type 0 where
   pub store : IsStore view.store
   pub frames : FRAME_UNITS * view.table.frames ≡ units_in view.store.blocks
   pub count : free_units view.store.blocks + units (ledger_of view.table) ≡ units_in view.store.blocks
-  pub numbers : (space : ℕ) → has_space view.table space ≡ true → space ≤ LAST_SPACE
+  pub numbers : (space : ℕ) → holds_space view.table space ≡ true → space ≤ LAST_SPACE
   pub zero : IsFrame view.store view.table.zero_frame
   pub zeros : (line : ℕ) → line < PAGE_LINES → frame_line view.store view.table.zero_frame line ≡ zero_line
-  pub held : (space page : ℕ) (x : PageView) → page_at view.table space page ≡ Some x → IsHeld view.store space page x
+  pub held : (space page : ℕ) (x : PageView) → page_in view.table space page ≡ Some x → IsHeld view.store space page x
   pub owned : (unit : ℕ) (segment : Segment) → segment_at view.store unit ≡ Some segment → IsOwned view.table unit segment

@@ -7,8 +7,8 @@ ghost use Rattle.overlay_bits.specs.Lines.{has_line};
 ghost use Rattle.ledger.specs.Units.{class};
 ghost use Rattle.segment_store.specs.Pointers.{capacity_of};
 ghost use Rattle.segment_store.specs.Changes.{KeepsFrames, KeepsScratch};
-ghost use Rattle.space_ledger.specs.View.{lines_of, overlay_at, page_at, with_overlay};
-ghost use Rattle.overlay_pages.specs.State.{page_in, turned_page};
+ghost use Rattle.space_maps.specs.Spaces.{page_in, turned_page};
+ghost use Rattle.space_ledger.specs.View.{lines_of, overlay_at, with_overlay};
 ghost use Rattle.overlay_pages.specs.Changes.{Fits, brought, discarded};
 ghost use Rattle.overlay_pages.specs.View.{IsJoined, state_of, view_of};
 ghost use Rattle.overlay_pages.specs.Steps.{Moved, joins, laid};
@@ -43,7 +43,7 @@ pub(crate) fn drop_overlay(
     page: u64,
 )
     requires joined { IsJoined (view_of store.old ledger.old) }
-    requires there { IsSome (page_at ledger.old space page) }
+    requires there { IsSome (page_in ledger.old space page) }
     ensures joined { IsJoined (view_of store.new ledger.new) }
     ensures state { state_of (view_of store.new ledger.new)
         ≡ turned_page discarded (state_of (view_of store.old ledger.old)) space page }
@@ -69,7 +69,7 @@ fn begin_overlay(
     bytes: &[u8; 64],
 )
     requires joined { IsJoined (view_of store.old ledger.old) }
-    requires there { IsSome (page_at ledger.old space page) }
+    requires there { IsSome (page_in ledger.old space page) }
     requires bare { overlay_at ledger.old space page ≡ None }
     requires order { order ≤ 4 }
     requires room { HasRoom store.old.blocks order }
@@ -100,7 +100,7 @@ fn insert_line(
     bytes: &[u8; 64],
 )
     requires joined { IsJoined (view_of store.old ledger.old) }
-    requires there { IsSome (page_at ledger.old space page) }
+    requires there { IsSome (page_in ledger.old space page) }
     requires overlaid { overlay_at ledger.old space page ≡ Some entry }
     requires line { line < PAGE_LINES }
     requires absent { has_line entry.bits line ≡ false }
@@ -126,7 +126,7 @@ fn grow(
     bytes: &[u8; 64],
 )
     requires joined { IsJoined (view_of store.old ledger.old) }
-    requires there { IsSome (page_at ledger.old space page) }
+    requires there { IsSome (page_in ledger.old space page) }
     requires overlaid { overlay_at ledger.old space page ≡ Some entry }
     requires line { line < PAGE_LINES }
     requires absent { has_line entry.bits line ≡ false }
@@ -154,7 +154,7 @@ fn begin_with(
     bytes: &[u8; 64],
 )
     requires joined { IsJoined (view_of store.old ledger.old) }
-    requires there { IsSome (page_at ledger.old space page) }
+    requires there { IsSome (page_in ledger.old space page) }
     requires bare { overlay_at ledger.old space page ≡ None }
     requires line { line < PAGE_LINES }
     requires fits { Fits (turned_page (joins line bytes.now)
@@ -178,7 +178,7 @@ fn join(
     bytes: &[u8; 64],
 )
     requires joined { IsJoined (view_of store.old ledger.old) }
-    requires there { IsSome (page_at ledger.old space page) }
+    requires there { IsSome (page_in ledger.old space page) }
     requires overlaid { overlay_at ledger.old space page ≡ Some entry }
     requires line { line < PAGE_LINES }
     requires absent { has_line entry.bits line ≡ false }
@@ -205,7 +205,7 @@ fn overlay_line(
     bytes: &[u8; 64],
 )
     requires joined { IsJoined (view_of store.old ledger.old) }
-    requires there { IsSome (page_at ledger.old space page) }
+    requires there { IsSome (page_in ledger.old space page) }
     requires line { line < PAGE_LINES }
     requires absent { has_line (lines_of (overlay_at ledger.old space page)) line ≡ false }
     requires fits { Fits (turned_page (joins line bytes.now)
@@ -222,7 +222,7 @@ fn overlay_line(
 
 /// Whether a line of a page that is there is in its overlay.
 fn has_own(ledger: &SpaceLedger, space: u16, page: u64, line: u8) -> bool
-    requires there { IsSome (page_at ledger.now space page) }
+    requires there { IsSome (page_in ledger.now space page) }
     requires line { line < PAGE_LINES }
     ensures { result ≡ has_line (lines_of (overlay_at ledger.now space page)) line }
 {
@@ -235,7 +235,7 @@ fn has_own(ledger: &SpaceLedger, space: u16, page: u64, line: u8) -> bool
 /// A line of a page that is to be written in its overlay is there: as the frame has it, where it wasn't there.
 fn bring_line(store: &mut SegmentStore, ledger: &mut SpaceLedger, space: u16, page: u64, line: u8)
     requires joined { IsJoined (view_of store.old ledger.old) }
-    requires there { IsSome (page_at ledger.old space page) }
+    requires there { IsSome (page_in ledger.old space page) }
     requires line { line < PAGE_LINES }
     requires fits { Fits (turned_page (brought (line ∷ []))
         (state_of (view_of store.old ledger.old)) space page) }
@@ -264,7 +264,7 @@ pub(crate) fn bring_lines(
     lines: Bits,
 )
     requires joined { IsJoined (view_of store.old ledger.old) }
-    requires there { IsSome (page_at ledger.old space page) }
+    requires there { IsSome (page_in ledger.old space page) }
     requires fits { Fits (turned_page (brought lines)
         (state_of (view_of store.old ledger.old)) space page) }
     ensures joined { IsJoined (view_of store.new ledger.new) }

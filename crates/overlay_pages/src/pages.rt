@@ -10,11 +10,12 @@ ghost use Rattle.page_table.specs.Table.{Pages};
 ghost use Rattle.ledger.specs.Ledger.{is_alone};
 ghost use Rattle.ledger.specs.Units.{own_lines, units};
 ghost use Rattle.ledger.specs.Ledger as book;
-ghost use Rattle.space_ledger.specs.View.{ledger_of, page_at, space_at};
+ghost use Rattle.space_maps.specs.Spaces.{bare_space, cut_page, cut_space, holds_space, page_in, put_awaiting, put_mark, put_space, space_in, turned_page};
+ghost use Rattle.space_ledger.specs.View.{ledger_of};
 ghost use Rattle.space_ledger.specs.Space.{IsLeast};
 ghost use Rattle.space_ledger.specs.Calls.{IsNextOwn, NamesOnce};
 ghost use Rattle.overlay_pages.specs.Lines.{line_in_page, lines_of_bytes};
-ghost use Rattle.overlay_pages.specs.State.{bare_space, base_of, books, cut_page, cut_space, holds_space, memory_of, page_in, put_awaiting, put_mark, put_space, space_in, turned_page};
+ghost use Rattle.overlay_pages.specs.State.{base_of, books, memory_of};
 ghost use Rattle.overlay_pages.specs.Changes.{AreAbsent, Fits, HasCopyRoom, HasShareRoom, IsPlaced, brought, committed, copied, discarded, is_writable, limit_of, units_of, whole_page, with_brought, with_shared, with_written, with_zeros};
 ghost use Rattle.overlay_pages.specs.View.{HasOwnPlace, IsJoined, place_at, state_of};
 ghost use Rattle.overlay_pages.specs.Spots.{FindsLine, IsFound};
@@ -511,8 +512,8 @@ impl OverlayPages {
 
 /// Whether stores to a page that is there go into its frame.
 fn writes_frame(ledger: &SpaceLedger, space: u16, page: u64) -> bool
-    requires { IsSome (page_at ledger.now space page) }
-    ensures { result ≡ (not (space_at ledger.now space).speculating
+    requires { IsSome (page_in ledger.now space page) }
+    ensures { result ≡ (not (space_in ledger.now space).speculating
         && book.is_alone (ledger_of ledger.now) space page) }
 {
     !ledger.is_speculating(space) && ledger.is_alone(space, page)

@@ -5,9 +5,9 @@ ghost use Rattle.std.specs.FinMap as map;
 ghost use Rattle.sizes.specs.declared.TheConstants.{FRAME_UNITS, PAGE_BYTES};
 ghost use Rattle.unit_map.specs.Changes.{HasRoom};
 ghost use Rattle.ledger.specs.Ledger.{is_alone};
-ghost use Rattle.space_ledger.specs.View.{ledger_of, overlay_at, page_at, space_at};
+ghost use Rattle.space_maps.specs.Spaces.{cut_page, page_in, space_in};
+ghost use Rattle.space_ledger.specs.View.{ledger_of, overlay_at};
 ghost use Rattle.overlay_pages.specs.Lines.{lines_of_bytes, same_lines};
-ghost use Rattle.overlay_pages.specs.State.{cut_page, page_in};
 ghost use Rattle.overlay_pages.specs.Changes.{IsPlaced, moved_to};
 ghost use Rattle.overlay_pages.specs.View.{IsJoined, state_of, view_of};
 
@@ -19,7 +19,7 @@ use space_ledger::SpaceLedger;
 /// A page that has no overlay goes, and its frame, where no page names it any more.
 pub(crate) fn take_out(store: &mut SegmentStore, ledger: &mut SpaceLedger, space: u16, page: u64)
     requires joined { IsJoined (view_of store.old ledger.old) }
-    requires there { IsSome (page_at ledger.old space page) }
+    requires there { IsSome (page_in ledger.old space page) }
     requires bare { overlay_at ledger.old space page ≡ None }
     ensures joined { IsJoined (view_of store.new ledger.new) }
     ensures state { state_of (view_of store.new ledger.new)
@@ -40,10 +40,10 @@ pub(crate) fn place_bytes(
     bytes: &[u8; PAGE_BYTES],
 )
     requires joined { IsJoined (view_of store.old ledger.old) }
-    requires there { IsSome (page_at ledger.old space page) }
+    requires there { IsSome (page_in ledger.old space page) }
     requires bare { overlay_at ledger.old space page ≡ None }
     requires shared { is_alone (ledger_of ledger.old) space page ≡ false }
-    requires settled { (space_at ledger.old space).awaiting ≡ map.empty }
+    requires settled { (space_in ledger.old space).awaiting ≡ map.empty }
     requires room { HasRoom store.old.blocks 4 }
     ensures joined { IsJoined (view_of store.new ledger.new) }
     ensures placed { IfSome (page_in (state_of (view_of store.old ledger.old)) space page)
@@ -64,10 +64,10 @@ pub(crate) fn place_lines(
     lines: &[[u8; 64]; 64],
 )
     requires joined { IsJoined (view_of store.old ledger.old) }
-    requires there { IsSome (page_at ledger.old space page) }
+    requires there { IsSome (page_in ledger.old space page) }
     requires bare { overlay_at ledger.old space page ≡ None }
     requires shared { is_alone (ledger_of ledger.old) space page ≡ false }
-    requires settled { (space_at ledger.old space).awaiting ≡ map.empty }
+    requires settled { (space_in ledger.old space).awaiting ≡ map.empty }
     requires room { HasRoom store.old.blocks 4 }
     ensures joined { IsJoined (view_of store.new ledger.new) }
     ensures placed { IfSome (page_in (state_of (view_of store.old ledger.old)) space page)

@@ -4,8 +4,8 @@ ghost use Rattle.std.specs.Prelude.{◌≡◌, ℕ, IfSome, IsSome, Some, None, 
 ghost use Rattle.std.specs.FinMap as map;
 ghost use Rattle.std.specs.Option.{option_map};
 ghost use Rattle.ledger.specs.Ledger.{is_alone};
-ghost use Rattle.space_ledger.specs.View.{ledger_of, overlay_at, page_at, space_at};
-ghost use Rattle.overlay_pages.specs.State.{page_in, turned_page};
+ghost use Rattle.space_maps.specs.Spaces.{page_in, space_in, turned_page};
+ghost use Rattle.space_ledger.specs.View.{ledger_of, overlay_at};
 ghost use Rattle.overlay_pages.specs.Changes.{HasCopyRoom, IsPlaced, committed, copied};
 ghost use Rattle.overlay_pages.specs.View.{IsJoined, state_of, view_of};
 
@@ -19,8 +19,8 @@ use space_ledger::SpaceLedger;
 
 /// The frame of a page that is there.
 pub(crate) fn frame_of(ledger: &SpaceLedger, space: u16, page: u64) -> u32
-    requires { IsSome (page_at ledger.now space page) }
-    ensures { option_map (λ x. x.entry.frame) (page_at ledger.now space page) ≡ Some result }
+    requires { IsSome (page_in ledger.now space page) }
+    ensures { option_map (λ x. x.entry.frame) (page_in ledger.now space page) ≡ Some result }
 {
     match ledger.entry(space, page) {
         Some(entry) => entry.frame,
@@ -31,7 +31,7 @@ pub(crate) fn frame_of(ledger: &SpaceLedger, space: u16, page: u64) -> u32
 /// The own lines of a page that is there and alone go into its frame.
 pub(crate) fn commit(store: &mut SegmentStore, ledger: &mut SpaceLedger, space: u16, page: u64)
     requires joined { IsJoined (view_of store.old ledger.old) }
-    requires there { IsSome (page_at ledger.old space page) }
+    requires there { IsSome (page_in ledger.old space page) }
     requires alone { is_alone (ledger_of ledger.old) space page ≡ true }
     ensures joined { IsJoined (view_of store.new ledger.new) }
     ensures state { state_of (view_of store.new ledger.new)
@@ -53,10 +53,10 @@ pub(crate) fn copy_commit(
     overlay: Entry,
 )
     requires joined { IsJoined (view_of store.old ledger.old) }
-    requires there { IsSome (page_at ledger.old space page) }
+    requires there { IsSome (page_in ledger.old space page) }
     requires overlaid { overlay_at ledger.old space page ≡ Some overlay }
     requires shared { is_alone (ledger_of ledger.old) space page ≡ false }
-    requires settled { (space_at ledger.old space).awaiting ≡ map.empty }
+    requires settled { (space_in ledger.old space).awaiting ≡ map.empty }
     requires room { HasCopyRoom (state_of (view_of store.old ledger.old)) space page }
     ensures joined { IsJoined (view_of store.new ledger.new) }
     ensures placed { IfSome (page_in (state_of (view_of store.old ledger.old)) space page)

@@ -2,8 +2,9 @@
 
 ghost use Rattle.std.specs.Prelude.{◌≡◌, ◌≢◌, IsSome, Some, None, true};
 ghost use Rattle.page_table.specs.Table.{Pages};
+ghost use Rattle.space_maps.specs.Spaces.{holds_space, page_in, space_in};
 ghost use Rattle.space_ledger.specs.Space.{IsLeast};
-ghost use Rattle.space_ledger.specs.View.{frame_at, frame_awaiting, has_space, overlay_at, page_at, space_at};
+ghost use Rattle.space_ledger.specs.View.{frame_at, frame_awaiting, overlay_at};
 ghost use Rattle.overlay_pages.specs.Calls.{AreShared, AwaitBare, NoneAwaitsBelow};
 ghost use Rattle.overlay_pages.specs.Changes.{HasShareRoom, with_shared};
 ghost use Rattle.overlay_pages.specs.View.{IsJoined, state_of, view_of};
@@ -17,9 +18,9 @@ use space_ledger::SpaceLedger;
 /// A page that awaits in a space, and has no overlay where it is shared from, is shared.
 fn share_bare(store: &SegmentStore, ledger: &mut SpaceLedger, from: u16, to: u16, page: u64)
     requires joined { IsJoined (view_of store.now ledger.old) }
-    requires there { IsSome (page_at ledger.old from page) }
-    requires space { has_space ledger.old to ≡ true }
-    requires least { IsLeast (space_at ledger.old to).awaiting page }
+    requires there { IsSome (page_in ledger.old from page) }
+    requires space { holds_space ledger.old to ≡ true }
+    requires least { IsLeast (space_in ledger.old to).awaiting page }
     requires frame { frame_awaiting ledger.old to page ≡ frame_at ledger.old from page }
     requires bare { overlay_at ledger.old from page ≡ None }
     ensures joined { IsJoined (view_of store.now ledger.new) }
@@ -39,9 +40,9 @@ fn share_overlaid(
     overlay: Entry,
 )
     requires joined { IsJoined (view_of store.old ledger.old) }
-    requires there { IsSome (page_at ledger.old from page) }
-    requires space { has_space ledger.old to ≡ true }
-    requires least { IsLeast (space_at ledger.old to).awaiting page }
+    requires there { IsSome (page_in ledger.old from page) }
+    requires space { holds_space ledger.old to ≡ true }
+    requires least { IsLeast (space_in ledger.old to).awaiting page }
     requires frame { frame_awaiting ledger.old to page ≡ frame_at ledger.old from page }
     requires overlaid { overlay_at ledger.old from page ≡ Some overlay }
     requires room { HasShareRoom (state_of (view_of store.old ledger.old)) from page }
@@ -65,9 +66,9 @@ pub(crate) fn share(
     page: u64,
 )
     requires joined { IsJoined (view_of store.old ledger.old) }
-    requires there { IsSome (page_at ledger.old from page) }
-    requires space { has_space ledger.old to ≡ true }
-    requires least { IsLeast (space_at ledger.old to).awaiting page }
+    requires there { IsSome (page_in ledger.old from page) }
+    requires space { holds_space ledger.old to ≡ true }
+    requires least { IsLeast (space_in ledger.old to).awaiting page }
     requires frame { frame_awaiting ledger.old to page ≡ frame_at ledger.old from page }
     requires room { HasShareRoom (state_of (view_of store.old ledger.old)) from page }
     ensures joined { IsJoined (view_of store.new ledger.new) }
@@ -91,7 +92,7 @@ pub(crate) fn share_below(
 )
     requires joined { IsJoined (view_of store.now ledger.old) }
     requires differ { from ≢ to }
-    requires space { has_space ledger.old to ≡ true }
+    requires space { holds_space ledger.old to ≡ true }
     requires bare { AwaitBare (state_of (view_of store.now ledger.old)) from to until }
     ensures joined { IsJoined (view_of store.now ledger.new) }
     ensures shared { AreShared from to until (state_of (view_of store.now ledger.old))

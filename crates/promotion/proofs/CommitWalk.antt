@@ -5,11 +5,13 @@ use Rattle.sizes.specs.declared.TheConstants.{PAGE_END}
 use Rattle.ledger.specs.Ledger.{Holding, holding_at, is_alone}
 use Rattle.ledger.specs.Changes.{has_own}
 use Rattle.ledger.specs.Events.{Commit, ledger_after}
+use Rattle.space_maps.specs.Laws.{changed_there}
+use Rattle.space_maps.specs.Spaces.{page_in, put_page, turned_page}
 use Rattle.space_ledger.specs.Calls.{IsNextOwn}
-use Rattle.overlay_pages.specs.State.{PageState, State, books, held_page, page_in, put_page, seen_page, turned_page}
-use Rattle.overlay_pages.specs.StateLaws.{changed_there}
+use Rattle.overlay_pages.specs.State.{PageState, State, books, held_page, seen_page}
 use Rattle.overlay_pages.specs.Changes.{committed}
-use Rattle.promotion.specs.Settled.{ArePagesApart, HasCommittedAlone, alone_in, with_committed}
+use Rattle.promotion.specs.Settled.{HasCommittedAlone, alone_in, with_committed}
+use Rattle.overlay_memory.specs.ApartLaws.{ArePagesApart}
 use Rattle.overlay_memory.specs.Joined.{IsBare}
 use Rattle.overlay_memory.specs.PageLaws.{held_there, own_is, own_there}
 use Rattle.promotion.specs.FateFolds.{after_commit, none_own, same_turned, widened}

@@ -11,17 +11,19 @@ use Rattle.ledger.specs.Ledger.{Ledger, is_alone, is_unused, without_page}
 use Rattle.ledger.specs.Changes.{has_own}
 use Rattle.ledger.specs.Events.{Settle, ledger_after}
 use Rattle.ledger.specs.AloneLaws.{unused_without}
+use Rattle.space_maps.specs.Spaces.{page_in, put_page}
 use Rattle.space_ledger.specs.Calls.{IsNextOwn}
-use Rattle.overlay_pages.specs.State.{PageState, State, books, held_page, page_in, put_page, seen_page}
+use Rattle.overlay_pages.specs.State.{PageState, State, books, held_page, seen_page}
 use Rattle.overlay_pages.specs.Changes.{HasCopyRoom, IsNewFrame, IsPlaced, copied}
+use Rattle.overlay_memory.specs.ApartLaws.{ArePagesApart, origins_apart}
 use Rattle.overlay_memory.specs.Joined.{IsBare}
 use Rattle.overlay_memory.specs.PageLaws.{held_there, own_is, own_there}
 use Rattle.overlay_memory.specs.Room.{FitsAfter}
-use Rattle.promotion.specs.Settled.{ArePagesApart, CanCopy, HasCommittedAlone, HasSettled, IsCopiedWhere, NoneAlone, alone_in, every_page}
+use Rattle.promotion.specs.Settled.{CanCopy, HasCommittedAlone, HasSettled, IsCopiedWhere, NoneAlone, alone_in, every_page}
 use Rattle.promotion.specs.FateLaws.{alike_turned}
 use Rattle.promotion.specs.FateFolds.{after_settle, both_tests, commits_first, none_alone, none_own, or_page, retold}
 use Rattle.promotion.specs.FateUnits.{room_on_the_way}
-use Rattle.promotion.specs.Turns.{HasTurned, WasThere, alone_now, are_settled, new_origin_of, none_yet, one_more, origins_apart, own_now, said_again, still, was_there}
+use Rattle.promotion.specs.Turns.{HasTurned, WasThere, alone_now, are_settled, new_origin_of, none_yet, one_more, own_now, said_again, still, was_there}
 use Rattle.promotion.specs.Walks.{at_first, come_past, come_to, next_done, not_yet, so_far}
 
 -- Pages with own lines, of which none is alone, are copied, one after the other.

@@ -10,20 +10,20 @@ use Rattle.ledger.specs.Units.{class, units}
 use Rattle.ledger.specs.AlikeUnits.{units_alike}
 use Rattle.ledger.specs.ClassLaws.{class_none}
 use Rattle.ledger.specs.UnitLaws.{units_at}
+use Rattle.space_maps.specs.Spaces.{page_in}
 use Rattle.space_ledger.specs.Calls.{IsNextOwn}
-use Rattle.overlay_pages.specs.State.{PageState, State, books, held_page, page_in}
+use Rattle.overlay_pages.specs.State.{PageState, State, books, held_page}
 use Rattle.overlay_pages.specs.Changes.{limit_of}
+use Rattle.overlay_memory.specs.ApartLaws.{ArePagesApart, origins_apart}
 use Rattle.overlay_memory.specs.CountLaws.{class_is, class_there, has_own_is}
 use Rattle.overlay_memory.specs.PageLaws.{HasPage, has_page, held_there, own_there}
 use Rattle.overlay_memory.specs.Room.{class_at, units_after}
 use Rattle.overlay_memory.specs.Walked.{one_further}
 use Rattle.promotion.specs.Counted.{new_frame_at}
-use Rattle.promotion.specs.Settled.{ArePagesApart}
 use Rattle.promotion.specs.Fates.{AreTurned, none_turned}
 use Rattle.promotion.specs.FateLaws.{alike_turned, alone_stays, here}
 use Rattle.promotion.specs.FateFolds.{after_settle, both_tests, retold, settle_acts, settle_idle, stepped}
 use Rattle.promotion.specs.FateUnits.{settled_units}
-use Rattle.promotion.specs.Turns.{origins_apart}
 use Rattle.promotion.specs.Walks.{at_first, not_yet, passed, passed_all}
 
 -- The units after pages are settled, page by page.

@@ -11,8 +11,7 @@ use Rattle.ledger.specs.Alike.{AreAlike}
 use Rattle.ledger.specs.AlikeLaws.{alike_itself}
 use Rattle.ledger.specs.UnitLaws.{units_at}
 use Rattle.ledger.specs.ClassLaws.{class_none}
-use Rattle.overlay_pages.specs.State.{PageState, State, books, held_page, page_in, put_page, seen_page, turned_page}
-use Rattle.overlay_pages.specs.StateLaws.{changed_there}
+use Rattle.overlay_pages.specs.State.{PageState, State, books, held_page, seen_page}
 use Rattle.overlay_pages.specs.Changes.{HasCopyRoom, IsPlaced, committed, copied, limit_of}
 use Rattle.overlay_pages.specs.View.{MemoryView, state_of}
 use Rattle.overlay_memory.specs.CountLaws.{HasLines, class_there, has_lines, has_own_is}
@@ -20,6 +19,8 @@ use Rattle.overlay_memory.specs.Joined.{IsBare, all_bare}
 use Rattle.overlay_memory.specs.PageLaws.{held_there, own_is, some_is}
 use Rattle.overlay_memory.specs.Room.{FitsAfter, IsFullAt, IsShort, class_at, units_after}
 use Rattle.overlay_memory.specs.declared.error.Shortage.{Shortage}
+use Rattle.space_maps.specs.Laws.{changed_there}
+use Rattle.space_maps.specs.Spaces.{page_in, put_page, turned_page}
 use Rattle.promotion.specs.Counted.{new_frame_at}
 use Rattle.promotion.specs.Settled.{AreSettled, IsAfter, alone_in, mark_of}
 use Rattle.promotion.specs.Promoted.{HasPromoted, one_page}

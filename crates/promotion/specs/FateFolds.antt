@@ -16,9 +16,10 @@ use Rattle.ledger.specs.PlaceLaws.{page_is, same_ledger}
 use Rattle.ledger.specs.AloneLaws.{unused_without}
 use Rattle.ledger.specs.OriginLaws.{new_is_unused}
 use Rattle.ledger.specs.RowLaws.{changed_absent, changed_there}
+use Rattle.overlay_memory.specs.ApartLaws.{AreOriginsApart}
 use Rattle.overlay_memory.specs.PageLaws.{own_absent, own_is}
 use Rattle.promotion.specs.Fates.{AreTurned, HasFate, IsFate, bare_is, fate_same, none_turned, one_turned}
-use Rattle.promotion.specs.FateLaws.{AreOriginsApart, alike_turned, alone_stays}
+use Rattle.promotion.specs.FateLaws.{alike_turned, alone_stays}
 
 -- The ledger after an event that settles pages, and its units on the way.
 

@@ -7,15 +7,11 @@ use Rattle.ledger.specs.Ledger.{Holding, Ledger, is_alone, holding_at}
 use Rattle.ledger.specs.Alike.{AreAlike, have_one_origin, is_zero_at, own_at}
 use Rattle.ledger.specs.PlaceLaws.{by_place}
 use Rattle.ledger.specs.AloneLaws.{IsAlone, alone_apart, apart_alone, are, arent, not_true, same_test}
+use Rattle.overlay_memory.specs.ApartLaws.{AreOriginsApart}
 use Rattle.overlay_memory.specs.PageLaws.{some_is}
 use Rattle.promotion.specs.Fates.{AreTurned, HasFate, IsFate}
 
 -- What is alone in a ledger in which pages were settled, and when two such are alike.
-
--- no two pages of a space have one origin, but for 0
-abbrev pub AreOriginsApart : Ledger → ℕ → Type 0
-AreOriginsApart ledger space = (p q : ℕ) (x y : Holding) → holding_at ledger space p ≡ Some x → holding_at ledger space q ≡ Some y
-    → x.origin ≡ y.origin → nat_eq x.origin 0 ≡ false → p ≡ q
 
 eq_turned : (a b : ℕ) → nat_eq a b ≡ nat_eq b a
 eq_turned a b = grind (arith, nat_tests)

@@ -11,8 +11,9 @@ use Rattle.ledger.specs.PlaceLaws.{put_again}
 use Rattle.ledger.specs.AlikeUnits.{units_alike}
 use Rattle.ledger.specs.ClassLaws.{class_most, class_none}
 use Rattle.ledger.specs.UnitLaws.{alone_is, frame_for, units_changed}
+use Rattle.overlay_memory.specs.ApartLaws.{AreOriginsApart}
 use Rattle.promotion.specs.Fates.{AreTurned, IsFate, bare_is}
-use Rattle.promotion.specs.FateLaws.{AreOriginsApart, alike_turned, alone_stays}
+use Rattle.promotion.specs.FateLaws.{alike_turned, alone_stays}
 use Rattle.promotion.specs.FateFolds.{IsActed, after_settle, all_folded_from, both_tests, or_page, own_found, settle_acts, settle_idle, stepped}
 
 -- The units while pages are settled.

@@ -1,9 +1,10 @@
 use Rattle.std.specs.Prelude.{◌≡◌, ℕ, ◌*◌, ◌==◌, Bool, true, false, Result, Ok, Err, None, IsSome}
 use Rattle.sizes.specs.declared.TheConstants.{PAGE_BYTES}
 use Rattle.ledger.specs.Events.{Settle, SettlePage}
-use Rattle.overlay_pages.specs.State.{State, page_in, space_in}
+use Rattle.overlay_pages.specs.State.{State}
 use Rattle.overlay_pages.specs.View.{MemoryView, state_of}
 use Rattle.overlay_memory.specs.Room.{FitsAfter, IsFullAt, units_after}
+use Rattle.space_maps.specs.Spaces.{page_in, space_in}
 use Rattle.promotion.specs.Settled.{AreSettled, HasSettled, IsAfter, mark_of}
 use Rattle.promotion.specs.declared.error.PromoteError.{PromoteError}
 use Rattle.overlay_memory.specs.declared.error.Shortage.{Shortage}

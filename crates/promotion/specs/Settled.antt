@@ -1,22 +1,17 @@
 use Rattle.std.specs.Prelude.{◌≡◌, ℕ, ◌&&◌, Bool, true, false, if◌then◌else◌, Result, Ok, Err, IfSome}
 use Rattle.std.specs.FinMap.{get}
-use Rattle.space_ledger.specs.Calls.{NamesOnce}
 use Rattle.ledger.specs.Alike.{AreAlike}
 use Rattle.ledger.specs.Changes.{has_own}
 use Rattle.ledger.specs.Events.{Event, Commit, Settle, ledger_after}
 use Rattle.ledger.specs.Ledger.{is_alone}
-use Rattle.overlay_pages.specs.State.{State, base_of, books, holds_space, memory_of, page_in, space_in, turned_page}
+use Rattle.overlay_pages.specs.State.{State, base_of, books, memory_of}
 use Rattle.overlay_pages.specs.Changes.{HasCopyRoom, IsPlaced, committed, copied}
-use Rattle.overlay_pages.specs.Calls.{entries_in}
 use Rattle.overlay_pages.specs.View.{MemoryView, state_of}
 use Rattle.overlay_memory.specs.Room.{FitsAfter, IsFullAt, units_after}
 use Rattle.overlay_memory.specs.declared.error.Shortage.{Shortage}
+use Rattle.space_maps.specs.Spaces.{holds_space, page_in, space_in, turned_page}
 
 -- What settling does.
-
--- no two pages of a space have one frame, but for the zero frame
-abbrev pub ArePagesApart : State → ℕ → Type 0
-ArePagesApart state space = NamesOnce state.zero_frame (entries_in state space)
 
 -- The pages of a space that `which` names were settled: what processes see is as before, with its permissions; it is the base of
 -- these pages, which have no own lines; every other page has its base of before. The space is marked as said, and nothing else

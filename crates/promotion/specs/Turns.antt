@@ -1,5 +1,5 @@
 use Rattle.std.specs.Prelude.{◌≡◌, ℕ, ◌+◌, Bool, true, false, cond, nat_eq, nat_lt, ◌||◌, List, [], length, Option, Some, None, is_some, refl}
-use Rattle.std.proofs.Common.{sym, ap, subst, ◌∙◌, arith}
+use Rattle.std.proofs.Common.{sym, ap, subst, ◌∙◌}
 use Rattle.std.specs.Option.{option_map}
 use Rattle.std.specs.FinMap.{get, insert}
 use Rattle.number_maps.specs.Keys.{alike, by_key, get_other, get_same}
@@ -7,16 +7,18 @@ use Rattle.number_maps.specs.Views.{get_viewed, viewed}
 use Rattle.ovl_io.specs.Memory.{Memory, Page}
 use Rattle.ledger.specs.Ledger.{Holding, Ledger, is_alone, is_unused, without_page}
 use Rattle.ledger.specs.Changes.{has_own}
+use Rattle.space_maps.specs.Books.{books_marked, books_page, books_put_page}
+use Rattle.space_maps.specs.Laws.{page_of, page_put_beside, page_put_here, space_beside, space_put, there_space}
+use Rattle.space_maps.specs.Spaces.{holds_space, of_pages, page_in, put_mark, put_page, put_space, space_in}
 use Rattle.space_ledger.specs.View.{origin_of}
 use Rattle.overlay_pages.specs.Lines.{bytes_in_lines}
-use Rattle.overlay_pages.specs.State.{PageState, SpaceState, State, base_of, base_page, books, held_page, holds_space, memory_of, of_pages, page_in, put_mark, put_page, put_space, seen_page, space_in}
-use Rattle.overlay_pages.specs.StateLaws.{ledger_marked, ledger_page, ledger_put, page_of, page_put_beside, page_put_here, space_beside, space_put, there_space}
-use Rattle.overlay_pages.specs.Calls.{entries_in}
+use Rattle.overlay_pages.specs.State.{PageState, SpaceState, State, base_of, base_page, books, held_page, memory_of, seen_page}
+use Rattle.overlay_memory.specs.ApartLaws.{ArePagesApart, origins_apart}
 use Rattle.overlay_memory.specs.Joined.{IsBare}
 use Rattle.overlay_memory.specs.PageLaws.{held_there, own_absent, own_is, some_is, there_of}
-use Rattle.promotion.specs.Settled.{ArePagesApart, AreSettled, mark_of}
+use Rattle.promotion.specs.Settled.{AreSettled, mark_of}
 use Rattle.promotion.specs.Fates.{AreTurned, IsFate, none_turned, one_turned}
-use Rattle.promotion.specs.FateLaws.{AreOriginsApart, alone_stays}
+use Rattle.promotion.specs.FateLaws.{alone_stays}
 use Rattle.promotion.specs.FateFolds.{arent_same, are_same, or_page, retold}
 
 -- States in which pages of a space lost their own lines, one after the other.
@@ -110,7 +112,7 @@ module _ (to : PageState → Page) (t a : ℕ → Bool) (before now : State) (sp
 
   turned_ledger : AreTurned (or_page t page) a (books before) (books (put_page now space page z)) space
   turned_ledger =
-      subst (λ (l : Ledger). AreTurned (or_page t page) a (books before) l space) (sym (ledger_put now space page z))
+      subst (λ (l : Ledger). AreTurned (or_page t page) a (books before) l space) (sym (books_put_page held_page now space page z))
       (one_turned t (or_page t page) a (books before) (books now) space page (held_page before.zero_frame x) (held_page now.zero_frame x) (held_page now.zero_frame z)
       h.ledger (held_there before space page x was) (held_there now space page x at_page)
       (ap (λ b. t page || b) (are_same page page refl) ∙ or_true (t page))
@@ -213,7 +215,7 @@ module _ (t a which : ℕ → Bool) (old new : State) (space : ℕ) (h : HasTurn
   none_owned r named = by_page (page_in old space r) refl
     where
       by_page : (o : Option PageState) → page_in old space r ≡ o → has_own (books new) space r ≡ false
-      by_page None had = own_absent (books new) space r (h.ledger.absent r (ledger_page old space r ∙ ap (option_map (held_page old.zero_frame)) had))
+      by_page None had = own_absent (books new) space r (h.ledger.absent r (books_page held_page old space r ∙ ap (option_map (held_page old.zero_frame)) had))
       by_page (Some x) had =
           let f = h.ledger.pages r (held_page old.zero_frame x) (held_there old space r x had) in
           own_is (books new) space r f.is f.there ∙ ap (λ (l : List ℕ). nat_lt 0 (length l)) (by_turn (t r) (a r) refl f.is f.fate)
@@ -235,31 +237,6 @@ module _ (t a which : ℕ → Bool) (old new : State) (space : ℕ) (h : HasTurn
     frames = h.frames;
     zero_frame = h.zero_frame;
   }
-
--- pages that have frames of their own have origins of their own
-pub origins_apart : (v : State) (space : ℕ) → ArePagesApart v space → AreOriginsApart (books v) space
-unfolding entries_in
-origins_apart v space apart p q x y at_p at_q same some =
-    let a = there_of v space p x at_p in
-    let b = there_of v space q y at_q in
-    let origins : origin_of v.zero_frame a.page.entry.frame ≡ origin_of v.zero_frame b.page.entry.frame =
-    sym (ap (λ (h : Holding). h.origin) a.held) ∙ same ∙ ap (λ (h : Holding). h.origin) b.held in
-    let frames = by_zero a.page.entry.frame b.page.entry.frame (nat_eq a.page.entry.frame v.zero_frame) refl (nat_eq b.page.entry.frame v.zero_frame) refl origins
-    (sym (ap (λ (h : Holding). nat_eq h.origin 0) a.held) ∙ some) in
-    apart p q a.page.entry b.page.entry (entry_at p a.page a.there) (entry_at q b.page b.there) frames.0 frames.1
-  where
-    entry_at : (r : ℕ) (z : PageState) → page_in v space r ≡ Some z → get (viewed (λ _ (x : PageState). x.entry) (space_in v space).pages) r ≡ Some z.entry
-    entry_at r z there =
-        get_viewed (λ _ (x : PageState). x.entry) (space_in v space).pages r ∙ ap (option_map (λ (x : PageState). x.entry)) (sym (page_of v space r) ∙ there)
-
-    by_zero : (f g : ℕ) (b : Bool) → nat_eq f v.zero_frame ≡ b → (c : Bool) → nat_eq g v.zero_frame ≡ c → origin_of v.zero_frame f ≡ origin_of v.zero_frame g
-        → nat_eq (origin_of v.zero_frame f) 0 ≡ false → (f ≡ g) × (f ≡ v.zero_frame → ⊥)
-    by_zero f g true e c k same some = let no = sym (ap (λ d. nat_eq (cond d 0 (f + 1)) 0) e) ∙ some in cc
-    by_zero f g false e true k same some =
-        let no : f + 1 ≡ 0 = sym (ap (λ d. cond d 0 (f + 1)) e) ∙ same ∙ ap (λ d. cond d 0 (g + 1)) k in absurd (omega (arith, no))
-    by_zero f g false e false k same some =
-        let is : f + 1 ≡ g + 1 = sym (ap (λ d. cond d 0 (f + 1)) e) ∙ same ∙ ap (λ d. cond d 0 (g + 1)) k in
-        (omega (arith, is), λ z. let no = sym (are_same f v.zero_frame z) ∙ e in cc)
 
 -- a frame that no page names
 pub new_origin_of : (first frame : ℕ) → (frame ≡ first → ⊥) → origin_of first frame ≡ frame + 1
@@ -330,7 +307,7 @@ pub is_marked : (v w : State) (s : ℕ) (on : Bool) → holds_space v s ≡ true
 is_marked v w s on there is = subst (λ (u : State). IsMarked v u s on) (sym is) (record {
   memory = marked_memory v s on;
   base = marked_base v s on;
-  ledger = ledger_marked v s on there;
+  ledger = books_marked held_page v s on there;
   awaiting = ap (λ (x : SpaceState). x.awaiting) (marked_space v s on);
   marked = ap (λ (x : SpaceState). x.speculating) (marked_space v s on);
   others = marked_beside v s on;

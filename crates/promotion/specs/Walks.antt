@@ -4,8 +4,9 @@ use Rattle.std.proofs.lemmas.Bool.Decides.{nat_tests}
 use Rattle.number_maps.specs.Keys.{by_key}
 use Rattle.ovl_io.specs.Memory.{Page}
 use Rattle.ledger.specs.Changes.{has_own}
+use Rattle.space_maps.specs.Spaces.{page_in}
 use Rattle.space_ledger.specs.Calls.{IsNextOwn}
-use Rattle.overlay_pages.specs.State.{PageState, State, books, page_in}
+use Rattle.overlay_pages.specs.State.{PageState, State, books}
 use Rattle.overlay_memory.specs.Walked.{one_further}
 use Rattle.promotion.specs.FateFolds.{arent_same, or_page}
 use Rattle.promotion.specs.Turns.{HasTurned, own_now, said_again, still}

@@ -1,7 +1,7 @@
 ghost use Rattle.std.specs.Prelude.{◌≡◌, ◌<◌, ◌^◌, true, IsSome, is_some};
 ghost use Rattle.std.specs.FinMap as map;
-ghost use Rattle.overlay_pages.specs.State.{holds_space, page_in, space_in};
 ghost use Rattle.overlay_pages.specs.View.{state_of};
+ghost use Rattle.space_maps.specs.Spaces.{holds_space, page_in, space_in};
 ghost use Rattle.promotion.specs.Promoted.{Promotes, PromotesAll, SettlesPage};
 
 use crate::error::PromoteError;

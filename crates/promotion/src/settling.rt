@@ -4,9 +4,9 @@ ghost use Rattle.std.specs.Prelude.{◌≡◌, ◌<◌, true, IsSome};
 ghost use Rattle.std.specs.FinMap as map;
 ghost use Rattle.sizes.specs.declared.TheConstants.{PAGE_END};
 ghost use Rattle.ledger.specs.Events.{Settle};
-ghost use Rattle.overlay_pages.specs.State.{holds_space, page_in, space_in};
 ghost use Rattle.overlay_pages.specs.View.{state_of};
 ghost use Rattle.overlay_memory.specs.Room.{FitsAfter};
+ghost use Rattle.space_maps.specs.Spaces.{holds_space, page_in, space_in};
 ghost use Rattle.promotion.specs.Settled.{CanCopyOwn, HasCommittedAlone, HasSettled, IsCopied, NoneAlone, Settles, with_committed};
 
 use crate::units::{see_apart, units_settled};

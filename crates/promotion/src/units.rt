@@ -3,11 +3,11 @@
 ghost use Rattle.std.specs.Prelude.{◌≡◌, ◌+◌, ◌*◌, ◌<◌, ◌≤◌, true, IsSome};
 ghost use Rattle.sizes.specs.declared.TheConstants.{FRAME_UNITS, PAGE_END};
 ghost use Rattle.ledger.specs.Events.{Settle};
-ghost use Rattle.overlay_pages.specs.State.{holds_space, page_in};
 ghost use Rattle.overlay_pages.specs.Changes.{limit_of};
 ghost use Rattle.overlay_pages.specs.View.{state_of};
+ghost use Rattle.overlay_memory.specs.ApartLaws.{ArePagesApart};
 ghost use Rattle.overlay_memory.specs.Room.{class_at, units_after};
-ghost use Rattle.promotion.specs.Settled.{ArePagesApart};
+ghost use Rattle.space_maps.specs.Spaces.{holds_space, page_in};
 ghost use Rattle.promotion.specs.Counted.{AreUnitsWith};
 
 use overlay_memory::{OverlayMemory, class_of};

@@ -1,7 +1,7 @@
 use Rattle.std.specs.Prelude.{◌≡◌, ℕ, ◌+◌, ◌≤◌, ◌<◌, ◌⊎◌, Bool, true, false, nat_eq, List, length, Option, Some, None, is_some, refl}
 use Rattle.std.proofs.Common.{sym, ap, subst, ◌∙◌, arith, inl, inr}
 use Rattle.std.proofs.lemmas.Bool.Decides.{nat_tests}
-use Rattle.std.specs.Option.{option_map, option_map_or}
+use Rattle.std.specs.Option.{option_map_or}
 use Rattle.std.specs.FinMap.{empty, get, get-empty, insert, remove}
 use Rattle.std.specs.Ordering.{nat_cmp}
 use Rattle.number_maps.specs.Keys.{by_key, get_other, get_same, removed_other, removed_same}
@@ -10,19 +10,21 @@ use Rattle.number_maps.specs.Views.{viewed, viewed_empty}
 use Rattle.sizes.specs.declared.TheConstants.{MOST_FRAMES}
 use Rattle.page_table.specs.Table.{Pages}
 use Rattle.page_table.specs.declared.entry.PageEntry.{PageEntry}
-use Rattle.ledger.specs.Ledger.{Ledger, all_holdings, holding_at, with_page, without_page}
+use Rattle.ledger.specs.Ledger.{Ledger, all_holdings, with_page, without_page}
 use Rattle.ledger.specs.PlaceLaws.{by_place}
 use Rattle.ledger.specs.Units.{own_lines, units}
 use Rattle.ledger.specs.TallyLaws.{empty_holdings, same_lines, same_sharers, same_units}
-use Rattle.space_ledger.specs.View.{LedgerView, PageView, SpaceView, has_space, holding_of, ledger_of, no_pages, page_at, space_at, with_awaiting, with_mark, with_page_at, with_pages, with_shared, with_space, without_page_at, without_space}
-use Rattle.space_ledger.specs.ViewLaws.{beside_space, in_space, kept_pages, ledger_awaiting, ledger_gone, ledger_marked, ledger_page, ledger_put, ledger_shared, ledger_spaces, ledger_with, ledger_without, page_of, space_absent, space_beside, space_left, space_put, view_awaiting, view_beside, view_gone, view_left, view_marked, view_put, view_shared, view_unshared}
+use Rattle.space_maps.specs.Books.{books_awaiting, books_cut, books_cut_page, books_kept, books_marked, books_put, books_put_page, books_put_shared, books_spaces}
+use Rattle.space_maps.specs.Laws.{beside_space, in_space, page_awaited, page_cut_beside, page_cut_here, page_marked, page_of, page_put_beside, page_put_here, page_shared_beside, page_shared_here, space_absent, space_beside, space_left, space_put}
+use Rattle.space_maps.specs.Spaces.{bare_space, cut_page, cut_space, holds_space, of_pages, page_in, put_awaiting, put_mark, put_page, put_shared, put_space, space_in}
+use Rattle.space_ledger.specs.View.{LedgerView, PageView, SpaceView, holding_of, ledger_of}
 use Rattle.space_ledger.specs.Calls.{AreSharersCounted, IsApart, IsBooked, NamesOnce}
 
 -- How what is kept beside the tables is kept.
 
 -- Frames that are named once in a space.
 
-pub nothing_apart : (z : ℕ) → IsApart z no_pages
+pub nothing_apart : (z : ℕ) → IsApart z bare_space
 nothing_apart z = record {
   pages = λ p q a b at_p at_q same isnt. let no = ap is_some (sym at_p ∙ get-empty nat_cmp p) in cc;
   waits = λ p q e f at_p at_q same isnt. let no = ap is_some (sym at_p ∙ get-empty nat_cmp p) in cc;
@@ -38,7 +40,7 @@ FitsIn z x p y =
     (y.entry.frame ≡ z)
     ⊎ (((q : ℕ) (b : PageView) → get x.pages q ≡ Some b → b.entry.frame ≡ y.entry.frame → q ≡ p) × ((q : ℕ) (b : PageEntry) → get x.awaiting q ≡ Some b → b.frame ≡ y.entry.frame → ⊥))
 
-apart_put : (z : ℕ) (x : SpaceView) (p : ℕ) (y : PageView) → IsApart z x → FitsIn z x p y → IsApart z (with_pages x (insert x.pages p y))
+apart_put : (z : ℕ) (x : SpaceView) (p : ℕ) (y : PageView) → IsApart z x → FitsIn z x p y → IsApart z (of_pages x (insert x.pages p y))
 apart_put z x p y apart fits = record {
   pages = λ q r a b at_q at_r same isnt. by_key q p
       (λ qq. by_key r p
@@ -77,7 +79,7 @@ fits_same z x p a y apart at same = by_zero (nat_eq a.entry.frame z) refl
           (λ q b at_q is. apart.both p q a b at at_q (sym same ∙ sym is) isnt),
         )
 
-apart_gone : (z : ℕ) (x : SpaceView) (p : ℕ) → IsApart z x → IsApart z (with_pages x (remove x.pages p))
+apart_gone : (z : ℕ) (x : SpaceView) (p : ℕ) → IsApart z x → IsApart z (of_pages x (remove x.pages p))
 apart_gone z x p apart = record {
   pages = λ q r a b at_q at_r same isnt. apart.pages q r a b (was q a at_q) (was r b at_r) same isnt;
   waits = apart.waits;
@@ -124,7 +126,7 @@ apart_adopted z x table none once = record {
 }
 
 -- of all spaces, where one is put in
-apart_all : (v : LedgerView) (s : ℕ) (x : SpaceView) → ((q : ℕ) → IsApart v.zero_frame (space_at v q)) → IsApart v.zero_frame x → (q : ℕ) → IsApart v.zero_frame (space_at (with_space v s x) q)
+apart_all : (v : LedgerView) (s : ℕ) (x : SpaceView) → ((q : ℕ) → IsApart v.zero_frame (space_in v q)) → IsApart v.zero_frame x → (q : ℕ) → IsApart v.zero_frame (space_in (put_space v s x) q)
 apart_all v s x apart here q = by_key q s
     (λ same. subst (IsApart v.zero_frame) (sym (space_put v s x q same)) here)
     (λ d. subst (IsApart v.zero_frame) (sym (space_beside v s x q d)) (apart q))
@@ -135,7 +137,7 @@ same_counts : (a b : Ledger) (z frames : ℕ) (counts : List ℕ) → all_holdin
 same_counts a b z frames counts same counted f low isnt = counted f low isnt ∙ sym (same_sharers b a (f + 1) same)
 
 pub booked_as : (v w : LedgerView) (counts : List ℕ) (u n : ℕ) → IsBooked v counts u n → w.frames ≡ v.frames → w.zero_frame ≡ v.zero_frame
-    → ((s p : ℕ) (x : PageView) → page_at w s p ≡ Some x → x.entry.frame < v.frames) → ((s : ℕ) → IsApart v.zero_frame (space_at w s))
+    → ((s p : ℕ) (x : PageView) → page_in w s p ≡ Some x → x.entry.frame < v.frames) → ((s : ℕ) → IsApart v.zero_frame (space_in w s))
     → all_holdings (ledger_of w) ≡ all_holdings (ledger_of v) → IsBooked w counts u n
 booked_as v w counts u n kept frames zero_same inside apart same = record {
   some = subst (λ k. 0 < k) (sym frames) kept.some;
@@ -143,7 +145,7 @@ booked_as v w counts u n kept frames zero_same inside apart same = record {
   zero_in = subst (λ k. k < w.frames) (sym zero_same) (subst (λ k. v.zero_frame < k) (sym frames) kept.zero_in);
   room = kept.room ∙ sym frames;
   inside = λ s p x at. subst (λ k. x.entry.frame < k) (sym frames) (inside s p x at);
-  apart = λ s. subst (λ k. IsApart k (space_at w s)) (sym zero_same) (apart s);
+  apart = λ s. subst (λ k. IsApart k (space_in w s)) (sym zero_same) (apart s);
   counted = subst (λ k. AreSharersCounted (ledger_of w) k w.frames counts) (sym zero_same)
       (subst (λ k. AreSharersCounted (ledger_of w) v.zero_frame k counts) (sym frames) (same_counts (ledger_of v) (ledger_of w) v.zero_frame v.frames counts same kept.counted));
   units_is = kept.units_is ∙ sym (same_units (ledger_of w) (ledger_of v) same);
@@ -155,107 +157,104 @@ no_value None h = refl
 no_value (Some x) h = cc
 
 -- a space made, and one taken away
-pub booked_space : (v : LedgerView) (counts : List ℕ) (u n s : ℕ) → IsBooked v counts u n → has_space v s ≡ false → IsBooked (with_space v s no_pages) counts u n
-unfolding with_space
-booked_space v counts u n s kept absent = booked_as v (with_space v s no_pages) counts u n kept refl refl
+pub booked_space : (v : LedgerView) (counts : List ℕ) (u n s : ℕ) → IsBooked v counts u n → holds_space v s ≡ false → IsBooked (put_space v s bare_space) counts u n
+unfolding put_space
+booked_space v counts u n s kept absent = booked_as v (put_space v s bare_space) counts u n kept refl refl
     (λ q p x at. by_key q s
-    (λ same. let no = ap is_some (sym at ∙ in_space v s no_pages q p same ∙ get-empty nat_cmp p) in cc)
-    (λ d. kept.inside q p x (sym (beside_space v s no_pages q p d) ∙ at)))
-    (apart_all v s no_pages kept.apart (nothing_apart v.zero_frame))
-    (ap all_holdings (ledger_with v s no_pages) ∙ empty_holdings (ledger_of v) s _ (viewed_empty _)
-    ∙ ap all_holdings (remove_absent (ledger_of v) s (no_value (get (ledger_of v) s) (ledger_spaces v s ∙ absent))))
+    (λ same. let no = ap is_some (sym at ∙ in_space v s bare_space q p same ∙ get-empty nat_cmp p) in cc)
+    (λ d. kept.inside q p x (sym (beside_space v s bare_space q p d) ∙ at)))
+    (apart_all v s bare_space kept.apart (nothing_apart v.zero_frame))
+    (ap all_holdings (books_put holding_of v s bare_space) ∙ empty_holdings (ledger_of v) s _ (viewed_empty _)
+    ∙ ap all_holdings (remove_absent (ledger_of v) s (no_value (get (ledger_of v) s) (books_spaces holding_of v s ∙ absent))))
 
-pub booked_lost : (v : LedgerView) (counts : List ℕ) (u n s : ℕ) → IsBooked v counts u n → has_space v s ≡ true → (space_at v s).pages ≡ empty → IsBooked (without_space v s) counts u n
-unfolding without_space
-booked_lost v counts u n s kept there none = booked_as v (without_space v s) counts u n kept refl refl
+pub booked_lost : (v : LedgerView) (counts : List ℕ) (u n s : ℕ) → IsBooked v counts u n → holds_space v s ≡ true → (space_in v s).pages ≡ empty → IsBooked (cut_space v s) counts u n
+unfolding cut_space
+booked_lost v counts u n s kept there none = booked_as v (cut_space v s) counts u n kept refl refl
     (λ q p x at. by_key q s
-    (λ same. let no = ap is_some (sym at ∙ page_of (without_space v s) q p ∙ ap (λ (y : SpaceView). get y.pages p) (lost q same) ∙ get-empty nat_cmp p) in cc)
-    (λ d. kept.inside q p x (page_of v q p ∙ ap (λ (y : SpaceView). get y.pages p) (sym (space_left v s q d)) ∙ sym (page_of (without_space v s) q p) ∙ at)))
+    (λ same. let no = ap is_some (sym at ∙ page_of (cut_space v s) q p ∙ ap (λ (y : SpaceView). get y.pages p) (lost q same) ∙ get-empty nat_cmp p) in cc)
+    (λ d. kept.inside q p x (page_of v q p ∙ ap (λ (y : SpaceView). get y.pages p) (sym (space_left v s q d)) ∙ sym (page_of (cut_space v s) q p) ∙ at)))
     (λ q. by_key q s
     (λ same. subst (IsApart v.zero_frame) (sym (lost q same)) (nothing_apart v.zero_frame))
     (λ d. subst (IsApart v.zero_frame) (sym (space_left v s q d)) (kept.apart q)))
-    (ap all_holdings (ledger_without v s)
-    ∙ sym (ap all_holdings (sym (kept_pages v s there))
+    (ap all_holdings (books_cut holding_of v s)
+    ∙ sym (ap all_holdings (sym (books_kept holding_of v s there))
     ∙ empty_holdings (ledger_of v) s _ (ap (viewed (λ page y. holding_of v.zero_frame y)) none ∙ viewed_empty _)))
   where
-    lost : (q : ℕ) → q ≡ s → space_at (without_space v s) q ≡ no_pages
-    lost q same = space_absent (without_space v s) q (removed_same v.spaces s q same)
+    lost : (q : ℕ) → q ≡ s → space_in (cut_space v s) q ≡ bare_space
+    lost q same = space_absent (cut_space v s) q (removed_same v.spaces s q same)
 
-pub booked_mark : (v : LedgerView) (counts : List ℕ) (u n s : ℕ) (on : Bool) → IsBooked v counts u n → has_space v s ≡ true → IsBooked (with_mark v s on) counts u n
-unfolding with_mark with_space
-booked_mark v counts u n s on kept there = booked_as v (with_mark v s on) counts u n kept refl refl
-    (λ q p x at. kept.inside q p x (sym (view_marked v s on q p) ∙ at))
+pub booked_mark : (v : LedgerView) (counts : List ℕ) (u n s : ℕ) (on : Bool) → IsBooked v counts u n → holds_space v s ≡ true → IsBooked (put_mark v s on) counts u n
+unfolding put_mark put_space
+booked_mark v counts u n s on kept there = booked_as v (put_mark v s on) counts u n kept refl refl
+    (λ q p x at. kept.inside q p x (sym (page_marked v s on q p) ∙ at))
     (apart_all v s _ kept.apart (let h = kept.apart s in record { pages = h.pages; waits = h.waits; both = h.both }))
-    (ap all_holdings (ledger_marked v s on there))
+    (ap all_holdings (books_marked holding_of v s on there))
 
-pub booked_adopted : (v : LedgerView) (counts : List ℕ) (u n s : ℕ) (table : Pages) → IsBooked v counts u n → has_space v s ≡ true → (space_at v s).pages ≡ empty → NamesOnce v.zero_frame table
-    → IsBooked (with_awaiting v s table) counts u n
-unfolding with_awaiting with_space
-booked_adopted v counts u n s table kept there none once = booked_as v (with_awaiting v s table) counts u n kept refl refl
-    (λ q p x at. kept.inside q p x (sym (view_awaiting v s table q p) ∙ at))
-    (apart_all v s _ kept.apart (apart_adopted v.zero_frame (space_at v s) table none once))
-    (ap all_holdings (ledger_awaiting v s table there))
+pub booked_adopted : (v : LedgerView) (counts : List ℕ) (u n s : ℕ) (table : Pages) → IsBooked v counts u n → holds_space v s ≡ true → (space_in v s).pages ≡ empty → NamesOnce v.zero_frame table
+    → IsBooked (put_awaiting v s table) counts u n
+unfolding put_awaiting put_space
+booked_adopted v counts u n s table kept there none once = booked_as v (put_awaiting v s table) counts u n kept refl refl
+    (λ q p x at. kept.inside q p x (sym (page_awaited v s table q p) ∙ at))
+    (apart_all v s _ kept.apart (apart_adopted v.zero_frame (space_in v s) table none once))
+    (ap all_holdings (books_awaiting holding_of v s table there))
 
 -- The books of a view with a page put, taken away or shared.
 
-pub page_in : (v : LedgerView) (s p : ℕ) (x : PageView) → page_at v s p ≡ Some x → holding_at (ledger_of v) s p ≡ Some (holding_of v.zero_frame x)
-page_in v s p x there = ledger_page v s p ∙ ap (option_map (holding_of v.zero_frame)) there
-
-pub in_pages : (v : LedgerView) (s p : ℕ) (x : PageView) → page_at v s p ≡ Some x → get (space_at v s).pages p ≡ Some x
+pub in_pages : (v : LedgerView) (s p : ℕ) (x : PageView) → page_in v s p ≡ Some x → get (space_in v s).pages p ≡ Some x
 in_pages v s p x there = sym (page_of v s p) ∙ there
 
 module _ (v : LedgerView) (counts : List ℕ) (u n : ℕ) (kept : IsBooked v counts u n) (s p : ℕ) where
-  pub booked_put : (y : PageView) (new : List ℕ) (u' n' : ℕ) → y.entry.frame < v.frames → FitsIn v.zero_frame (space_at v s) p y → length new ≡ v.frames
+  pub booked_put : (y : PageView) (new : List ℕ) (u' n' : ℕ) → y.entry.frame < v.frames → FitsIn v.zero_frame (space_in v s) p y → length new ≡ v.frames
       → AreSharersCounted (with_page (ledger_of v) s p (holding_of v.zero_frame y)) v.zero_frame v.frames new
       → u' ≡ units (with_page (ledger_of v) s p (holding_of v.zero_frame y)) → n' ≡ own_lines (with_page (ledger_of v) s p (holding_of v.zero_frame y))
-      → IsBooked (with_page_at v s p y) new u' n'
-  unfolding with_page_at with_space
+      → IsBooked (put_page v s p y) new u' n'
+  unfolding put_page put_space
   booked_put y new u' n' low fits room counted units_is lines_is = record {
     some = kept.some;
     frames = kept.frames;
     zero_in = kept.zero_in;
     room = room;
     inside = λ q r x at. by_place s p q r
-        (λ ss pp. subst (λ k. k < v.frames) (ap (λ (w : PageView). w.entry.frame) (same_value y x (sym (view_put v s p y q r ss pp) ∙ at))) low)
-        (λ d. kept.inside q r x (sym (view_beside v s p y q r d) ∙ at));
-    apart = apart_all v s _ kept.apart (apart_put v.zero_frame (space_at v s) p y (kept.apart s) fits);
-    counted = subst (λ l. AreSharersCounted l v.zero_frame v.frames new) (sym (ledger_put v s p y)) counted;
-    units_is = units_is ∙ ap units (sym (ledger_put v s p y));
-    lines_is = lines_is ∙ ap own_lines (sym (ledger_put v s p y));
+        (λ ss pp. subst (λ k. k < v.frames) (ap (λ (w : PageView). w.entry.frame) (same_value y x (sym (page_put_here v s p y q r ss pp) ∙ at))) low)
+        (λ d. kept.inside q r x (sym (page_put_beside v s p y q r d) ∙ at));
+    apart = apart_all v s _ kept.apart (apart_put v.zero_frame (space_in v s) p y (kept.apart s) fits);
+    counted = subst (λ l. AreSharersCounted l v.zero_frame v.frames new) (sym (books_put_page holding_of v s p y)) counted;
+    units_is = units_is ∙ ap units (sym (books_put_page holding_of v s p y));
+    lines_is = lines_is ∙ ap own_lines (sym (books_put_page holding_of v s p y));
   }
 
   pub booked_gone : (new : List ℕ) (u' : ℕ) → length new ≡ v.frames → AreSharersCounted (without_page (ledger_of v) s p) v.zero_frame v.frames new
-      → u' ≡ units (without_page (ledger_of v) s p) → n ≡ own_lines (without_page (ledger_of v) s p) → IsBooked (without_page_at v s p) new u' n
-  unfolding without_page_at with_space
+      → u' ≡ units (without_page (ledger_of v) s p) → n ≡ own_lines (without_page (ledger_of v) s p) → IsBooked (cut_page v s p) new u' n
+  unfolding cut_page put_space
   booked_gone new u' room counted units_is lines_is = record {
     some = kept.some;
     frames = kept.frames;
     zero_in = kept.zero_in;
     room = room;
     inside = λ q r x at. by_place s p q r
-        (λ ss pp. let no = ap is_some (sym at ∙ view_gone v s p q r ss pp) in cc)
-        (λ d. kept.inside q r x (sym (view_left v s p q r d) ∙ at));
-    apart = apart_all v s _ kept.apart (apart_gone v.zero_frame (space_at v s) p (kept.apart s));
-    counted = subst (λ l. AreSharersCounted l v.zero_frame v.frames new) (sym (ledger_gone v s p)) counted;
-    units_is = units_is ∙ ap units (sym (ledger_gone v s p));
-    lines_is = lines_is ∙ ap own_lines (sym (ledger_gone v s p));
+        (λ ss pp. let no = ap is_some (sym at ∙ page_cut_here v s p q r ss pp) in cc)
+        (λ d. kept.inside q r x (sym (page_cut_beside v s p q r d) ∙ at));
+    apart = apart_all v s _ kept.apart (apart_gone v.zero_frame (space_in v s) p (kept.apart s));
+    counted = subst (λ l. AreSharersCounted l v.zero_frame v.frames new) (sym (books_cut_page holding_of v s p)) counted;
+    units_is = units_is ∙ ap units (sym (books_cut_page holding_of v s p));
+    lines_is = lines_is ∙ ap own_lines (sym (books_cut_page holding_of v s p));
   }
 
-  pub booked_shared : (y : PageView) (e : PageEntry) (new : List ℕ) (u' n' : ℕ) → y.entry.frame < v.frames → get (space_at v s).awaiting p ≡ Some e → y.entry.frame ≡ e.frame → length new ≡ v.frames
+  pub booked_shared : (y : PageView) (e : PageEntry) (new : List ℕ) (u' n' : ℕ) → y.entry.frame < v.frames → get (space_in v s).awaiting p ≡ Some e → y.entry.frame ≡ e.frame → length new ≡ v.frames
       → AreSharersCounted (with_page (ledger_of v) s p (holding_of v.zero_frame y)) v.zero_frame v.frames new
       → u' ≡ units (with_page (ledger_of v) s p (holding_of v.zero_frame y)) → n' ≡ own_lines (with_page (ledger_of v) s p (holding_of v.zero_frame y))
-      → IsBooked (with_shared v s p y) new u' n'
-  unfolding with_shared with_space
+      → IsBooked (put_shared v s p y) new u' n'
+  unfolding put_shared put_space
   booked_shared y e new u' n' low waiting same room counted units_is lines_is = record {
     some = kept.some;
     frames = kept.frames;
     zero_in = kept.zero_in;
     room = room;
     inside = λ q r x at. by_place s p q r
-        (λ ss pp. subst (λ k. k < v.frames) (ap (λ (w : PageView). w.entry.frame) (same_value y x (sym (view_shared v s p y q r ss pp) ∙ at))) low)
-        (λ d. kept.inside q r x (sym (view_unshared v s p y q r d) ∙ at));
-    apart = apart_all v s _ kept.apart (apart_shared v.zero_frame (space_at v s) p y e (kept.apart s) waiting same);
-    counted = subst (λ l. AreSharersCounted l v.zero_frame v.frames new) (sym (ledger_shared v s p y)) counted;
-    units_is = units_is ∙ ap units (sym (ledger_shared v s p y));
-    lines_is = lines_is ∙ ap own_lines (sym (ledger_shared v s p y));
+        (λ ss pp. subst (λ k. k < v.frames) (ap (λ (w : PageView). w.entry.frame) (same_value y x (sym (page_shared_here v s p y q r ss pp) ∙ at))) low)
+        (λ d. kept.inside q r x (sym (page_shared_beside v s p y q r d) ∙ at));
+    apart = apart_all v s _ kept.apart (apart_shared v.zero_frame (space_in v s) p y e (kept.apart s) waiting same);
+    counted = subst (λ l. AreSharersCounted l v.zero_frame v.frames new) (sym (books_put_shared holding_of v s p y)) counted;
+    units_is = units_is ∙ ap units (sym (books_put_shared holding_of v s p y));
+    lines_is = lines_is ∙ ap own_lines (sym (books_put_shared holding_of v s p y));
   }

@@ -8,23 +8,25 @@ use Rattle.page_table.specs.Table.{Pages}
 use Rattle.page_table.specs.declared.entry.PageEntry.{PageEntry}
 use Rattle.overlay_mapping_table.specs.declared.entry.Entry.{Entry}
 use Rattle.unit_map.specs.declared.block.Block.{Block}
-use Rattle.space_ledger.proofs.Keeping.{some_is}
+use Rattle.space_maps.specs.Laws.{changed_there, page_shared_here}
+use Rattle.space_maps.specs.Spaces.{cut_page, holds_space, page_in, put_page, put_shared, put_space, space_in}
+use Rattle.space_ledger.proofs.Seen.{some_is}
 use Rattle.frame_pool.specs.Counts.{sharers_of}
 use Rattle.ledger.specs.Ledger.{holding_at, is_alone, is_unused}
 use Rattle.ledger.specs.Units.{class}
 use Rattle.ledger.specs.ClassLaws.{class_most}
-use Rattle.space_ledger.specs.View.{LedgerView, PageView, frame_at, frame_awaiting, has_space, holding_of, ledger_of, lines_of, origin_of, overlay_at, page_at, space_at, with_block, with_entry_at, with_frame, with_overlay, with_page_at, with_page_shared, with_shared, with_space, without_page_at}
-use Rattle.space_ledger.specs.ViewLaws.{changed_there, ledger_page, view_shared}
+use Rattle.space_maps.specs.Books.{books_page, books_there}
+use Rattle.space_ledger.specs.View.{LedgerView, PageView, frame_at, frame_awaiting, holding_of, ledger_of, lines_of, origin_of, overlay_at, with_block, with_entry_at, with_frame, with_overlay, with_page_shared}
 use Rattle.space_ledger.specs.Calls.{IsBooked, IsFreeFor, IsSound, NamesOnce, entries_of, given_up}
 use Rattle.space_ledger.specs.Frames.{frame_units, held_by, released_by}
 use Rattle.space_ledger.proofs.Booking.{alone_frame, units_by_count}
-use Rattle.space_ledger.proofs.Booked.{page_in}
+use Rattle.space_ledger.proofs.Booked.{}
 use Rattle.space_ledger.proofs.Numbers.{added_is, class_fits, entry_page, frame_low, frame_most, framed_answer, framed_books, framed_fits, freed_fits, freed_is, held_few, held_low, lines_fit, lines_less, over_books, own_is, removed_answer, removed_books, shared_books, shared_few, some_left, units_fit}
 
 -- What the calls leave, in the words of the calls below them.
 
 pub before_release : (v : LedgerView) (counts : List ℕ) (u n : ℕ) → IsBooked v counts u n → (s p z : ℕ) (e : PageEntry) → z ≡ v.zero_frame
-    → Some e ≡ option_map (λ (x : PageView). x.entry) (page_at v s p) → (e.frame < length counts) × ((e.frame ≡ z) ⊎ (0 < sharers_of counts e.frame))
+    → Some e ≡ option_map (λ (x : PageView). x.entry) (page_in v s p) → (e.frame < length counts) × ((e.frame ≡ z) ⊎ (0 < sharers_of counts e.frame))
 before_release v counts u n kept s p z e zero_is is =
     let found = entry_page v s p e is in (
       subst (λ (k : PageEntry). k.frame < length counts) (sym found.2) (frame_low v counts u n kept s p found.0 found.1),
@@ -33,15 +35,15 @@ before_release v counts u n kept s p z e zero_is is =
     )
 
 -- a page that names a frame
-on_frame : (v : LedgerView) (s p f : ℕ) → frame_at v s p ≡ Some f → (x : PageView) × (page_at v s p ≡ Some x) × (f ≡ x.entry.frame)
-on_frame v s p f is = at (page_at v s p) refl is
+on_frame : (v : LedgerView) (s p f : ℕ) → frame_at v s p ≡ Some f → (x : PageView) × (page_in v s p ≡ Some x) × (f ≡ x.entry.frame)
+on_frame v s p f is = at (page_in v s p) refl is
   where
-    at : (o : Option PageView) → page_at v s p ≡ o → option_map (λ (x : PageView). x.entry.frame) o ≡ Some f → (x : PageView) × (page_at v s p ≡ Some x) × (f ≡ x.entry.frame)
+    at : (o : Option PageView) → page_in v s p ≡ o → option_map (λ (x : PageView). x.entry.frame) o ≡ Some f → (x : PageView) × (page_in v s p ≡ Some x) × (f ≡ x.entry.frame)
     at None there h = let no = ap is_some h in cc
     at (Some x) there h = (x, there, ap (λ (o : Option ℕ). option_map_or (λ (n : ℕ). n) o f) (sym h))
 
 pub entry_inside : (v : LedgerView) (counts : List ℕ) (u n : ℕ) → IsBooked v counts u n → (s p : ℕ) (e : PageEntry)
-    → Some e ≡ option_map (λ (x : PageView). x.entry) (page_at v s p) → e.frame < v.frames
+    → Some e ≡ option_map (λ (x : PageView). x.entry) (page_in v s p) → e.frame < v.frames
 entry_inside v counts u n kept s p e is =
     let found = entry_page v s p e is in subst (λ (k : PageEntry). k.frame < v.frames) (sym found.2) (kept.inside s p found.0 found.1)
 
@@ -51,16 +53,16 @@ alone_call v counts u n kept s p z f zero_is is =
     let found = on_frame v s p f is in
     ap (λ k. not (f == k) && (sharers_of counts f == 1)) zero_is
     ∙ ap (λ k. not (k == v.zero_frame) && (sharers_of counts k == 1)) found.2
-    ∙ alone_frame (ledger_of v) v.zero_frame v.frames s p found.0.entry.frame (holding_of v.zero_frame found.0) counts kept.counted (page_in v s p found.0 found.1) refl (kept.inside s p found.0 found.1)
+    ∙ alone_frame (ledger_of v) v.zero_frame v.frames s p found.0.entry.frame (holding_of v.zero_frame found.0) counts kept.counted (books_there holding_of v s p found.0 found.1) refl (kept.inside s p found.0 found.1)
 
 pub record Released (v : LedgerView) (less : List ℕ) (u n s p freed frame : ℕ) : Type 0 where
   pub fits : freed ≤ u
-  pub books : IsBooked (without_page_at v s p) less (u - freed) n
-  pub answer : cond (nat_lt 0 freed) (Some frame) None ≡ given_up (without_page_at v s p) (page_at v s p)
+  pub books : IsBooked (cut_page v s p) less (u - freed) n
+  pub answer : cond (nat_lt 0 freed) (Some frame) None ≡ given_up (cut_page v s p) (page_in v s p)
 
 pub removed_call : (v : LedgerView) (counts less : List ℕ) (u n : ℕ) → IsBooked v counts u n → (s p z freed : ℕ) (e : PageEntry) → z ≡ v.zero_frame
-    → Some e ≡ option_map (λ (x : PageView). x.entry) (page_at v s p) → less ≡ released_by z counts e.frame → freed ≡ frame_units z less e.frame
-    → option_and_then (λ (x : PageView). x.overlay) (page_at v s p) ≡ None → Released v less u n s p freed e.frame
+    → Some e ≡ option_map (λ (x : PageView). x.entry) (page_in v s p) → less ≡ released_by z counts e.frame → freed ≡ frame_units z less e.frame
+    → option_and_then (λ (x : PageView). x.overlay) (page_in v s p) ≡ None → Released v less u n s p freed e.frame
 removed_call v counts less u n kept s p z freed e zero_is is less_is freed_is bare =
     let found = entry_page v s p e is in
     let x = found.0 in
@@ -69,8 +71,8 @@ removed_call v counts less u n kept s p z freed e zero_is is less_is freed_is ba
     freed_is ∙ ap (λ k. frame_units k less e.frame) zero_is ∙ ap (λ (k : PageEntry). frame_units v.zero_frame less k.frame) found.2 ∙ ap (λ (c : List ℕ). frame_units v.zero_frame c x.entry.frame) less_x in
     let over : x.overlay ≡ None = sym (ap (option_and_then (λ (y : PageView). y.overlay)) found.1) ∙ bare in record {
       fits = subst (λ k. k ≤ u) (sym freed_x) (freed_fits v counts u n kept s p x found.1);
-      books = subst (λ (c : List ℕ). IsBooked (without_page_at v s p) c (u - freed) n) (sym less_x)
-          (subst (λ k. IsBooked (without_page_at v s p) (released_by v.zero_frame counts x.entry.frame) (u - k) n) (sym freed_x) (removed_books v counts u n kept s p x found.1 over));
+      books = subst (λ (c : List ℕ). IsBooked (cut_page v s p) c (u - freed) n) (sym less_x)
+          (subst (λ k. IsBooked (cut_page v s p) (released_by v.zero_frame counts x.entry.frame) (u - k) n) (sym freed_x) (removed_books v counts u n kept s p x found.1 over));
       answer = ap (λ k. cond (nat_lt 0 k) (Some e.frame) None) freed_x
           ∙ ap (λ (k : PageEntry). cond (nat_lt 0 (frame_units v.zero_frame (released_by v.zero_frame counts x.entry.frame) x.entry.frame)) (Some k.frame) None) found.2
           ∙ removed_answer v counts u n kept s p x found.1;
@@ -81,7 +83,7 @@ pub record BeforeHold (v : LedgerView) (less : List ℕ) (f z : ℕ) : Type 0 wh
   pub few : (f ≡ z) ⊎ (sharers_of less f < 2 ^ 32 - 1)
 
 pub before_hold : (v : LedgerView) (counts less : List ℕ) (u n : ℕ) → IsBooked v counts u n → IsSound v → (s p z f : ℕ) (e : PageEntry) → z ≡ v.zero_frame
-    → Some e ≡ option_map (λ (x : PageView). x.entry) (page_at v s p) → less ≡ released_by z counts e.frame → f < v.frames → BeforeHold v less f z
+    → Some e ≡ option_map (λ (x : PageView). x.entry) (page_in v s p) → less ≡ released_by z counts e.frame → f < v.frames → BeforeHold v less f z
 before_hold v counts less u n kept sound s p z f e zero_is is less_is low =
     let found = entry_page v s p e is in
     let x = found.0 in
@@ -95,11 +97,11 @@ pub record Framed (v : LedgerView) (more : List ℕ) (u n s p f freed added fram
   pub fits : freed ≤ u
   pub small : u - freed + added < 2 ^ 32
   pub books : IsBooked (with_frame v s p f) more (u - freed + added) n
-  pub answer : option_and_then (λ (k : ℕ). cond (f == k) None (Some k)) (cond (nat_lt 0 freed) (Some frame) None) ≡ given_up (with_frame v s p f) (page_at v s p)
+  pub answer : option_and_then (λ (k : ℕ). cond (f == k) None (Some k)) (cond (nat_lt 0 freed) (Some frame) None) ≡ given_up (with_frame v s p f) (page_in v s p)
 
 pub framed_call : (v : LedgerView) (counts less more : List ℕ) (u n : ℕ) → IsBooked v counts u n → IsSound v → (s p z f freed added : ℕ) (e : PageEntry) → z ≡ v.zero_frame
-    → Some e ≡ option_map (λ (x : PageView). x.entry) (page_at v s p) → less ≡ released_by z counts e.frame → freed ≡ frame_units z less e.frame
-    → more ≡ held_by z less f → added ≡ frame_units z less f → f < v.frames → (space_at v s).awaiting ≡ empty → IsFreeFor v s p f → Framed v more u n s p f freed added e.frame
+    → Some e ≡ option_map (λ (x : PageView). x.entry) (page_in v s p) → less ≡ released_by z counts e.frame → freed ≡ frame_units z less e.frame
+    → more ≡ held_by z less f → added ≡ frame_units z less f → f < v.frames → (space_in v s).awaiting ≡ empty → IsFreeFor v s p f → Framed v more u n s p f freed added e.frame
 framed_call v counts less more u n kept sound s p z f freed added e zero_is is less_is freed_is more_is added_is low settled free =
     let found = entry_page v s p e is in
     let x = found.0 in
@@ -128,13 +130,13 @@ framed_call v counts less more u n kept sound s p z f freed added e zero_is is l
     joined false g c e = refl
 
 -- an entry with another frame
-pub entry_is_frame : (v : LedgerView) (s p f : ℕ) (e : PageEntry) → Some e ≡ option_map (λ (x : PageView). x.entry) (page_at v s p)
+pub entry_is_frame : (v : LedgerView) (s p f : ℕ) (e : PageEntry) → Some e ≡ option_map (λ (x : PageView). x.entry) (page_in v s p)
     → with_entry_at v s p (record { perms = e.perms; frame = f }) ≡ with_frame v s p f
 unfolding with_entry_at with_frame
 entry_is_frame v s p f e is =
     let found = entry_page v s p e is in
     changed_there _ v s p found.0 found.1
-    ∙ ap (λ (k : PageEntry). with_page_at v s p (record { entry = record { perms = k.perms; frame = f }; overlay = found.0.overlay })) found.2
+    ∙ ap (λ (k : PageEntry). put_page v s p (record { entry = record { perms = k.perms; frame = f }; overlay = found.0.overlay })) found.2
     ∙ sym (changed_there _ v s p found.0 found.1)
 
 pub record Overlaid (v : LedgerView) (counts : List ℕ) (u n s p before after : ℕ) (o : Option Entry) : Type 0 where
@@ -144,10 +146,10 @@ pub record Overlaid (v : LedgerView) (counts : List ℕ) (u n s p before after :
   pub lines_small : n - before + after < 2 ^ 32
   pub books : IsBooked (with_overlay v s p o) counts (u - class before + class after) (n - before + after)
 
-pub overlaid_call : (v : LedgerView) (counts : List ℕ) (u n : ℕ) → IsBooked v counts u n → IsSound v → (s p before after : ℕ) (had o : Option Entry) → IsSome (page_at v s p)
+pub overlaid_call : (v : LedgerView) (counts : List ℕ) (u n : ℕ) → IsBooked v counts u n → IsSound v → (s p before after : ℕ) (had o : Option Entry) → IsSome (page_in v s p)
     → had ≡ overlay_at v s p → before ≡ length (lines_of had) → after ≡ length (lines_of o) → after ≤ PAGE_LINES → Overlaid v counts u n s p before after o
 overlaid_call v counts u n kept sound s p before after had o there had_is before_is after_is few =
-    let x = some_is (page_at v s p) there in
+    let x = some_is (page_in v s p) there in
     let had_x : had ≡ x.0.overlay = had_is ∙ ap (option_and_then (λ (y : PageView). y.overlay)) x.1 in
     let before_x : before ≡ length (lines_of x.0.overlay) = before_is ∙ ap (λ k. length (lines_of k)) had_x in
     let fit = units_fit v counts u n kept sound in
@@ -170,7 +172,7 @@ pub record Moved (v : LedgerView) (counts : List ℕ) (u n s p : ℕ) (e : Entry
 pub moved_call : (v : LedgerView) (counts : List ℕ) (u n : ℕ) → IsBooked v counts u n → IsSound v → (s p : ℕ) (e : Entry) (to : Block) → Some e ≡ overlay_at v s p → Moved v counts u n s p e to
 unfolding with_block with_overlay
 moved_call v counts u n kept sound s p e to is =
-    let x = overlay_page_at (page_at v s p) refl is in
+    let x = overlay_page_at (page_in v s p) refl is in
     let lines : length (lines_of x.0.overlay) ≡ length e.bits = ap (λ o. length (lines_of o)) x.2 in
     let fit = class_fits v counts u n kept s p x.0 x.1 in
     let few = lines_less v counts u n kept s p x.0 x.1 in
@@ -179,23 +181,23 @@ moved_call v counts u n kept sound s p e to is =
           (subst (λ k. IsBooked (with_overlay v s p (Some (record { bits = e.bits; block = to }))) counts (u - class (length (lines_of x.0.overlay)) + class (length e.bits)) k)
           (same_number n (length (lines_of x.0.overlay)) (length e.bits) few lines) books);
       is = changed_there _ v s p x.0 x.1
-          ∙ ap (λ o. with_page_at v s p (record { entry = x.0.entry; overlay = option_map (λ (k : Entry). record { bits = k.bits; block = to }) o })) (sym x.2)
+          ∙ ap (λ o. put_page v s p (record { entry = x.0.entry; overlay = option_map (λ (k : Entry). record { bits = k.bits; block = to }) o })) (sym x.2)
           ∙ sym (changed_there _ v s p x.0 x.1);
     }
   where
     same_number : (a b c : ℕ) → b ≤ a → b ≡ c → a - b + c ≡ a
     same_number a b c le same = omega (arith, le, same)
 
-    overlay_page_at : (o : Option PageView) → page_at v s p ≡ o → Some e ≡ option_and_then (λ (y : PageView). y.overlay) (page_at v s p) → (x : PageView) × (page_at v s p ≡ Some x) × (x.overlay ≡ Some e)
+    overlay_page_at : (o : Option PageView) → page_in v s p ≡ o → Some e ≡ option_and_then (λ (y : PageView). y.overlay) (page_in v s p) → (x : PageView) × (page_in v s p ≡ Some x) × (x.overlay ≡ Some e)
     overlay_page_at None at h = let no = ap is_some (h ∙ ap (option_and_then (λ (y : PageView). y.overlay)) at) in cc
     overlay_page_at (Some x) at h = (x, at, sym (h ∙ ap (option_and_then (λ (y : PageView). y.overlay)) at))
 
 -- A page shared.
 
-pub shared_frame : (v : LedgerView) (counts : List ℕ) (u n : ℕ) → IsBooked v counts u n → (from to p : ℕ) (entry : PageEntry) → IsSome (page_at v from p) → get (space_at v to).awaiting p ≡ Some entry
-    → frame_awaiting v to p ≡ frame_at v from p → (x : PageView) × (page_at v from p ≡ Some x) × (entry.frame ≡ x.entry.frame) × (entry.frame < v.frames)
+pub shared_frame : (v : LedgerView) (counts : List ℕ) (u n : ℕ) → IsBooked v counts u n → (from to p : ℕ) (entry : PageEntry) → IsSome (page_in v from p) → get (space_in v to).awaiting p ≡ Some entry
+    → frame_awaiting v to p ≡ frame_at v from p → (x : PageView) × (page_in v from p ≡ Some x) × (entry.frame ≡ x.entry.frame) × (entry.frame < v.frames)
 shared_frame v counts u n kept from to p entry there waiting same =
-    let x = some_is (page_at v from p) there in
+    let x = some_is (page_in v from p) there in
     let frames : entry.frame ≡ x.0.entry.frame = some_frame (sym (ap (option_map (λ (e : PageEntry). e.frame)) waiting) ∙ same ∙ ap (option_map (λ (y : PageView). y.entry.frame)) x.1) in
     (x.0, x.1, frames, subst (λ k. k < v.frames) (sym frames) (kept.inside from p x.0 x.1))
   where
@@ -205,17 +207,17 @@ shared_frame v counts u n kept from to p entry there waiting same =
 pub record Shared (v : LedgerView) (counts more : List ℕ) (u n s p z added lines : ℕ) (entry : PageEntry) (o : Option Entry) : Type 0 where
   pub small : u + added + class lines < 2 ^ 32
   pub lines_small : n + lines < 2 ^ 32
-  pub books : IsBooked (with_shared v s p (record { entry = entry; overlay = o })) more (u + added + class lines) (n + lines)
+  pub books : IsBooked (put_shared v s p (record { entry = entry; overlay = o })) more (u + added + class lines) (n + lines)
 
-pub before_share : (v : LedgerView) (counts : List ℕ) (u n : ℕ) → IsBooked v counts u n → IsSound v → (s p z : ℕ) (entry : PageEntry) (o : Option Entry) → has_space v s ≡ true → page_at v s p ≡ None
-    → get (space_at v s).awaiting p ≡ Some entry → entry.frame < v.frames → z ≡ v.zero_frame → (entry.frame < length counts) × ((entry.frame ≡ z) ⊎ (sharers_of counts entry.frame < 2 ^ 32 - 1))
+pub before_share : (v : LedgerView) (counts : List ℕ) (u n : ℕ) → IsBooked v counts u n → IsSound v → (s p z : ℕ) (entry : PageEntry) (o : Option Entry) → holds_space v s ≡ true → page_in v s p ≡ None
+    → get (space_in v s).awaiting p ≡ Some entry → entry.frame < v.frames → z ≡ v.zero_frame → (entry.frame < length counts) × ((entry.frame ≡ z) ⊎ (sharers_of counts entry.frame < 2 ^ 32 - 1))
 before_share v counts u n kept sound s p z entry o has absent waiting low zero_is = (
   subst (λ k. entry.frame < k) (sym kept.room) low,
   subst (λ k. (entry.frame ≡ k) ⊎ (sharers_of counts entry.frame < 2 ^ 32 - 1)) (sym zero_is) (shared_few v counts u n kept sound s p entry o has absent waiting low),
 )
 
-pub shared_call : (v : LedgerView) (counts more : List ℕ) (u n : ℕ) → IsBooked v counts u n → IsSound v → (s p z added lines : ℕ) (entry : PageEntry) (o : Option Entry) → has_space v s ≡ true
-    → page_at v s p ≡ None → get (space_at v s).awaiting p ≡ Some entry → entry.frame < v.frames → z ≡ v.zero_frame → more ≡ held_by z counts entry.frame → added ≡ frame_units z counts entry.frame
+pub shared_call : (v : LedgerView) (counts more : List ℕ) (u n : ℕ) → IsBooked v counts u n → IsSound v → (s p z added lines : ℕ) (entry : PageEntry) (o : Option Entry) → holds_space v s ≡ true
+    → page_in v s p ≡ None → get (space_in v s).awaiting p ≡ Some entry → entry.frame < v.frames → z ≡ v.zero_frame → more ≡ held_by z counts entry.frame → added ≡ frame_units z counts entry.frame
     → lines ≡ length (lines_of o) → lines ≤ PAGE_LINES → Shared v counts more u n s p z added lines entry o
 shared_call v counts more u n kept sound s p z added lines entry o has absent waiting low zero_is more_is added_is lines_is few =
     let books = shared_books v counts u n kept sound s p entry o has absent waiting low in
@@ -228,31 +230,31 @@ shared_call v counts more u n kept sound s p z added lines entry o has absent wa
     let frame_few = frame_most (is_unused (ledger_of v) (origin_of v.zero_frame entry.frame)) in record {
       small = omega (arith, fit, most, frame, frame_few);
       lines_small = omega (arith, fit_lines, few);
-      books = subst (λ (c : List ℕ). IsBooked (with_shared v s p (record { entry = entry; overlay = o })) c (u + added + class lines) (n + lines)) (sym more_x)
-          (subst (λ k. IsBooked (with_shared v s p (record { entry = entry; overlay = o })) (held_by v.zero_frame counts entry.frame) (u + k + class lines) (n + lines)) (sym added_x)
-          (subst (λ k. IsBooked (with_shared v s p (record { entry = entry; overlay = o })) (held_by v.zero_frame counts entry.frame) (u + frame_units v.zero_frame counts entry.frame + class k) (n + k)) (sym lines_is) books));
+      books = subst (λ (c : List ℕ). IsBooked (put_shared v s p (record { entry = entry; overlay = o })) c (u + added + class lines) (n + lines)) (sym more_x)
+          (subst (λ k. IsBooked (put_shared v s p (record { entry = entry; overlay = o })) (held_by v.zero_frame counts entry.frame) (u + k + class lines) (n + lines)) (sym added_x)
+          (subst (λ k. IsBooked (put_shared v s p (record { entry = entry; overlay = o })) (held_by v.zero_frame counts entry.frame) (u + frame_units v.zero_frame counts entry.frame + class k) (n + k)) (sym lines_is) books));
     }
 
 -- the view of a page shared, and that it has the origin and the own lines of the other
-pub shared_view : (v : LedgerView) (from to p : ℕ) (entry : PageEntry) (own o : Option Entry) (block : Option Block) → get (space_at v to).awaiting p ≡ Some entry → own ≡ overlay_at v from p
+pub shared_view : (v : LedgerView) (from to p : ℕ) (entry : PageEntry) (own o : Option Entry) (block : Option Block) → get (space_in v to).awaiting p ≡ Some entry → own ≡ overlay_at v from p
     → o ≡ option_map (λ (b : Block). record { bits = lines_of own; block = b }) block
-    → with_shared v to p (record { entry = entry; overlay = o }) ≡ with_page_shared v from to p block
+    → put_shared v to p (record { entry = entry; overlay = o }) ≡ with_page_shared v from to p block
 unfolding with_page_shared
 shared_view v from to p entry own o block waiting own_is o_is =
-    ap (λ k. with_shared v to p (record { entry = entry; overlay = k })) o_is
-    ∙ ap (λ k. with_shared v to p (record { entry = entry; overlay = option_map (λ (b : Block). record { bits = lines_of k; block = b }) block })) own_is
-    ∙ sym (ap (λ (w : Option PageEntry). option_map_or (λ (e : PageEntry). with_shared v to p (record { entry = e; overlay = option_map (λ (b : Block). record { bits = lines_of (overlay_at v from p); block = b }) block })) w v) waiting)
+    ap (λ k. put_shared v to p (record { entry = entry; overlay = k })) o_is
+    ∙ ap (λ k. put_shared v to p (record { entry = entry; overlay = option_map (λ (b : Block). record { bits = lines_of k; block = b }) block })) own_is
+    ∙ sym (ap (λ (w : Option PageEntry). option_map_or (λ (e : PageEntry). put_shared v to p (record { entry = e; overlay = option_map (λ (b : Block). record { bits = lines_of (overlay_at v from p); block = b }) block })) w v) waiting)
 
-pub shared_holding : (v : LedgerView) (from to p : ℕ) (entry : PageEntry) (x : PageView) (own o : Option Entry) (block : Option Block) → page_at v from p ≡ Some x → entry.frame ≡ x.entry.frame
+pub shared_holding : (v : LedgerView) (from to p : ℕ) (entry : PageEntry) (x : PageView) (own o : Option Entry) (block : Option Block) → page_in v from p ≡ Some x → entry.frame ≡ x.entry.frame
     → own ≡ overlay_at v from p → o ≡ option_map (λ (b : Block). record { bits = lines_of own; block = b }) block → is_some block ≡ is_some (overlay_at v from p)
-    → holding_at (ledger_of (with_shared v to p (record { entry = entry; overlay = o }))) to p ≡ holding_at (ledger_of v) from p
-unfolding with_shared with_space
+    → holding_at (ledger_of (put_shared v to p (record { entry = entry; overlay = o }))) to p ≡ holding_at (ledger_of v) from p
+unfolding put_shared put_space
 shared_holding v from to p entry x own o block there frame own_is o_is given =
-    ledger_page (with_shared v to p (record { entry = entry; overlay = o })) to p
-    ∙ ap (option_map (holding_of v.zero_frame)) (view_shared v to p (record { entry = entry; overlay = o }) to p refl refl)
+    books_page holding_of (put_shared v to p (record { entry = entry; overlay = o })) to p
+    ∙ ap (option_map (holding_of v.zero_frame)) (page_shared_here v to p (record { entry = entry; overlay = o }) to p refl refl)
     ∙ ap (λ k. Some (record { origin = origin_of v.zero_frame k; own = lines_of o })) frame
     ∙ ap (λ (k : List ℕ). Some (record { origin = origin_of v.zero_frame x.entry.frame; own = k })) (ap lines_of o_is ∙ same own block (given ∙ ap is_some (sym own_is)) ∙ ap lines_of (own_is ∙ ap (option_and_then (λ (y : PageView). y.overlay)) there))
-    ∙ sym (page_in v from p x there)
+    ∙ sym (books_there holding_of v from p x there)
   where
     same : (own : Option Entry) (block : Option Block) → is_some block ≡ is_some own → lines_of (option_map (λ (b : Block). record { bits = lines_of own; block = b }) block) ≡ lines_of own
     same None None h = refl
@@ -268,8 +270,8 @@ copied_once v w counts u n kept s (Err e) same h = h
 copied_once v w counts u n kept s (Ok table) same is =
     subst (λ (k : LedgerView). NamesOnce k.zero_frame table) same
     (λ p q a b at_p at_q frames isnt.
-    let x = entry_of (get (space_at v s).pages p) (sym (ap (λ (m : Pages). get m p) is ∙ get_viewed (λ page (y : PageView). y.entry) (space_at v s).pages p) ∙ at_p) in
-    let y = entry_of (get (space_at v s).pages q) (sym (ap (λ (m : Pages). get m q) is ∙ get_viewed (λ page (y : PageView). y.entry) (space_at v s).pages q) ∙ at_q) in
+    let x = entry_of (get (space_in v s).pages p) (sym (ap (λ (m : Pages). get m p) is ∙ get_viewed (λ page (y : PageView). y.entry) (space_in v s).pages p) ∙ at_p) in
+    let y = entry_of (get (space_in v s).pages q) (sym (ap (λ (m : Pages). get m q) is ∙ get_viewed (λ page (y : PageView). y.entry) (space_in v s).pages q) ∙ at_q) in
     (kept.apart s).pages p q x.0 y.0 x.1 y.1
     (ap (λ (e : PageEntry). e.frame) x.2 ∙ frames ∙ sym (ap (λ (e : PageEntry). e.frame) y.2))
     (λ zero_x. isnt (sym (ap (λ (e : PageEntry). e.frame) x.2) ∙ zero_x)))

@@ -2,13 +2,11 @@ pub mod Parts
 pub mod RunParts
 pub mod Seen
 pub mod Keeping
-pub mod TableLaws
-pub mod TableOps
 pub mod Mapping
 pub mod Overlaying
 pub mod Overlaid
 pub mod RunViews
-pub mod TableCalls
+pub mod TableOps
 pub mod Booking
 pub mod Booked
 pub mod Numbers

@@ -2,11 +2,9 @@ use Rattle.std.specs.Prelude.{◌≡◌, ℕ, zero, suc, ◌+◌, ◌-◌, ◌*�
 use Rattle.std.proofs.Common.{sym, ap, subst, ◌∙◌, arith, inl, inr}
 use Rattle.std.proofs.lemmas.Bool.Decides.{nat_tests}
 use Rattle.std.proofs.lemmas.List.{length-set}
-use Rattle.std.specs.List.{fold, range_with_len}
 use Rattle.std.specs.Option.{option_and_then, option_map, option_map_or}
 use Rattle.std.specs.FinMap.{empty, get, get-empty, len}
 use Rattle.std.specs.Ordering.{nat_cmp}
-use Rattle.number_maps.specs.Views.{len_viewed, viewed, viewed_empty}
 use Rattle.sizes.specs.declared.TheConstants.{FRAME_UNITS, LAST_SPACE, MOST_FRAMES, PAGE_LINES}
 use Rattle.page_table.specs.Table.{is_within}
 use Rattle.page_table.specs.declared.entry.PageEntry.{PageEntry}
@@ -20,13 +18,14 @@ use Rattle.ledger.specs.ClassLaws.{class_none}
 use Rattle.ledger.specs.UnitLaws.{alone_is, no_units, frame_for, lines_at, lines_put, units_at, units_put}
 use Rattle.ledger.specs.AloneLaws.{origin_with, without_absent}
 use Rattle.ledger.specs.TallyLaws.{no_holdings, tally_none, lines_tally, sharers_at, sharers_few, sharers_put, units_few}
-use Rattle.space_ledger.specs.View.{LedgerView, PageView, SpaceView, has_space, holding_of, ledger_of, lines_of, no_pages, origin_of, overlay_at, page_at, space_at, with_frame, with_overlay, with_page_at, with_shared, with_space, with_zero_pages, without_page_at}
-use Rattle.space_ledger.specs.ViewLaws.{changed_there, space_absent, ledger_gone, ledger_page, ledger_put, ledger_spaces, page_of, view_beside}
+use Rattle.space_maps.specs.Laws.{changed_there, keeps_page_put, page_of, page_put_beside, space_absent}
+use Rattle.space_maps.specs.Spaces.{bare_space, cut_page, holds_space, page_in, put_page, put_pages, put_shared, put_space, space_in}
+use Rattle.space_maps.specs.Books.{books_cut_page, books_empty, books_len, books_page, books_put_page, books_spaces, books_there}
+use Rattle.space_ledger.specs.View.{LedgerView, PageView, SpaceView, holding_of, ledger_of, lines_of, origin_of, overlay_at, with_frame, with_overlay, with_zero_pages}
 use Rattle.space_ledger.specs.Calls.{AreSharersCounted, AreFree, IsApart, IsBooked, IsFreeFor, IsSound, given_up}
 use Rattle.space_ledger.specs.Frames.{frame_units, held_by, released_by}
-use Rattle.space_ledger.proofs.Mapping.{there_still}
 use Rattle.space_ledger.proofs.Booking.{counts_held, counts_released, eq_false, eq_true, has_frame, some_sharer, units_by_count}
-use Rattle.space_ledger.proofs.Booked.{FitsIn, nothing_apart, booked_gone, booked_put, booked_shared, fits_same, in_pages, page_in}
+use Rattle.space_ledger.proofs.Booked.{FitsIn, nothing_apart, booked_gone, booked_put, booked_shared, fits_same, in_pages}
 
 -- The numbers that each call leaves.
 
@@ -59,19 +58,15 @@ frame_most true = omega arith
 frame_most false = omega arith
 
 -- what a holding in the ledger is of
-held_page : (v : LedgerView) (s p : ℕ) (h : Holding) → holding_at (ledger_of v) s p ≡ Some h → (x : PageView) × (page_at v s p ≡ Some x) × (h ≡ holding_of v.zero_frame x)
-held_page v s p h there = at (page_at v s p) refl (sym (ledger_page v s p) ∙ there)
+held_page : (v : LedgerView) (s p : ℕ) (h : Holding) → holding_at (ledger_of v) s p ≡ Some h → (x : PageView) × (page_in v s p ≡ Some x) × (h ≡ holding_of v.zero_frame x)
+held_page v s p h there = at (page_in v s p) refl (sym (books_page holding_of v s p) ∙ there)
   where
-    at : (o : Option PageView) → page_at v s p ≡ o → option_map (holding_of v.zero_frame) (page_at v s p) ≡ Some h → (x : PageView) × (page_at v s p ≡ Some x) × (h ≡ holding_of v.zero_frame x)
+    at : (o : Option PageView) → page_in v s p ≡ o → option_map (holding_of v.zero_frame) (page_in v s p) ≡ Some h → (x : PageView) × (page_in v s p ≡ Some x) × (h ≡ holding_of v.zero_frame x)
     at None is e = let no = ap is_some (sym e ∙ ap (option_map (holding_of v.zero_frame)) is) in cc
     at (Some x) is e = (x, is, same_holding (sym e ∙ ap (option_map (holding_of v.zero_frame)) is))
       where
         same_holding : Some h ≡ Some (holding_of v.zero_frame x) → h ≡ holding_of v.zero_frame x
         same_holding q = ap (λ (o : Option Holding). option_map_or (λ (y : Holding). y) o h) q
-
-ledger_len : (v : LedgerView) → len (ledger_of v) ≡ len v.spaces
-unfolding ledger_of
-ledger_len v = len_viewed (λ space (x : SpaceView). viewed (λ page y. holding_of v.zero_frame y) x.pages) v.spaces
 
 module _ (v : LedgerView) (counts : List ℕ) (u n : ℕ) (kept : IsBooked v counts u n) (sound : IsSound v) where
   -- bounds
@@ -97,7 +92,7 @@ module _ (v : LedgerView) (counts : List ℕ) (u n : ℕ) (kept : IsBooked v cou
       let frames = kept.frames in
       omega (arith, few, most, is, frames)
     where
-      by_overlay : (s p : ℕ) (x : PageView) → page_at v s p ≡ Some x → (o : Option Entry) → x.overlay ≡ o → length (lines_of o) ≤ PAGE_LINES
+      by_overlay : (s p : ℕ) (x : PageView) → page_in v s p ≡ Some x → (o : Option Entry) → x.overlay ≡ o → length (lines_of o) ≤ PAGE_LINES
       by_overlay s p x at None is = omega arith
       by_overlay s p x at (Some e) is = (sound.lines s p x e at is).1
 
@@ -122,7 +117,7 @@ module _ (v : LedgerView) (counts : List ℕ) (u n : ℕ) (kept : IsBooked v cou
           at false e h = omega (arith, h)
 
       spaces_len : len (ledger_of v) ≡ len v.spaces
-      spaces_len = ledger_len v
+      spaces_len = books_len holding_of v
 
 -- The answer of a call that gives a frame back: by whether the frame of before is named by the page itself now.
 answer : (z g : ℕ) (rest new : Ledger) (itself : Bool) → ((g ≡ z → ⊥) → has_origin new (g + 1) ≡ (itself || has_origin rest (g + 1)))
@@ -149,7 +144,7 @@ answer z g rest new itself named = at (nat_eq g z) refl
 
 -- A page that is there, with its frame given back.
 
-module _ (v : LedgerView) (counts : List ℕ) (u n : ℕ) (kept : IsBooked v counts u n) (s p : ℕ) (x : PageView) (there : page_at v s p ≡ Some x) where
+module _ (v : LedgerView) (counts : List ℕ) (u n : ℕ) (kept : IsBooked v counts u n) (s p : ℕ) (x : PageView) (there : page_in v s p ≡ Some x) where
   z : ℕ
   z = v.zero_frame
 
@@ -172,10 +167,10 @@ module _ (v : LedgerView) (counts : List ℕ) (u n : ℕ) (kept : IsBooked v cou
   frame_low = subst (λ k. x.entry.frame < k) (sym kept.room) (kept.inside s p x there)
 
   pub some_left : (x.entry.frame ≡ v.zero_frame) ⊎ (0 < sharers_of counts x.entry.frame)
-  some_left = some_sharer (ledger_of v) v.zero_frame v.frames s p x.entry.frame (holding_of v.zero_frame x) counts kept.counted (page_in v s p x there) refl (kept.inside s p x there)
+  some_left = some_sharer (ledger_of v) v.zero_frame v.frames s p x.entry.frame (holding_of v.zero_frame x) counts kept.counted (books_there holding_of v s p x there) refl (kept.inside s p x there)
 
   less_counted : AreSharersCounted (without_page (ledger_of v) s p) v.zero_frame v.frames (released_by v.zero_frame counts x.entry.frame)
-  less_counted = counts_released (ledger_of v) v.zero_frame v.frames s p x.entry.frame (holding_of v.zero_frame x) counts kept.counted kept.room (page_in v s p x there) refl (kept.inside s p x there)
+  less_counted = counts_released (ledger_of v) v.zero_frame v.frames s p x.entry.frame (holding_of v.zero_frame x) counts kept.counted kept.room (books_there holding_of v s p x there) refl (kept.inside s p x there)
 
   pub freed_is : frame_units v.zero_frame (released_by v.zero_frame counts x.entry.frame) x.entry.frame ≡ frame_for (is_unused (without_page (ledger_of v) s p) (origin_of v.zero_frame x.entry.frame))
   freed_is = units_by_count (without_page (ledger_of v) s p) v.zero_frame v.frames x.entry.frame (released_by v.zero_frame counts x.entry.frame) less_counted (kept.inside s p x there)
@@ -183,11 +178,11 @@ module _ (v : LedgerView) (counts : List ℕ) (u n : ℕ) (kept : IsBooked v cou
   units_here : u ≡ units (without_page (ledger_of v) s p)
       + (frame_for (is_unused (without_page (ledger_of v) s p) (origin_of v.zero_frame x.entry.frame)) + class (length (lines_of x.overlay)))
   units_here =
-      kept.units_is ∙ units_at (ledger_of v) s p (holding_of v.zero_frame x) (page_in v s p x there)
-      ∙ ap (λ (b : Bool). units (without_page (ledger_of v) s p) + (frame_for b + class (length (lines_of x.overlay)))) (alone_is (ledger_of v) s p (holding_of v.zero_frame x) (page_in v s p x there))
+      kept.units_is ∙ units_at (ledger_of v) s p (holding_of v.zero_frame x) (books_there holding_of v s p x there)
+      ∙ ap (λ (b : Bool). units (without_page (ledger_of v) s p) + (frame_for b + class (length (lines_of x.overlay)))) (alone_is (ledger_of v) s p (holding_of v.zero_frame x) (books_there holding_of v s p x there))
 
   lines_here : n ≡ own_lines (without_page (ledger_of v) s p) + length (lines_of x.overlay)
-  lines_here = kept.lines_is ∙ lines_at (ledger_of v) s p (holding_of v.zero_frame x) (page_in v s p x there)
+  lines_here = kept.lines_is ∙ lines_at (ledger_of v) s p (holding_of v.zero_frame x) (books_there holding_of v s p x there)
 
   pub freed_fits : frame_units v.zero_frame (released_by v.zero_frame counts x.entry.frame) x.entry.frame ≤ u
   freed_fits = let is = units_here in let freed = freed_is in omega (arith, is, freed)
@@ -199,7 +194,7 @@ module _ (v : LedgerView) (counts : List ℕ) (u n : ℕ) (kept : IsBooked v cou
   lines_less = let is = lines_here in omega (arith, is)
 
   -- the page is taken away
-  pub removed_books : x.overlay ≡ None → IsBooked (without_page_at v s p) (released_by v.zero_frame counts x.entry.frame) (u - frame_units v.zero_frame (released_by v.zero_frame counts x.entry.frame) x.entry.frame) n
+  pub removed_books : x.overlay ≡ None → IsBooked (cut_page v s p) (released_by v.zero_frame counts x.entry.frame) (u - frame_units v.zero_frame (released_by v.zero_frame counts x.entry.frame) x.entry.frame) n
   removed_books bare =
       let is = units_here in
       let freed = freed_is in
@@ -214,7 +209,7 @@ module _ (v : LedgerView) (counts : List ℕ) (u n : ℕ) (kept : IsBooked v cou
     y : PageView
     y = record { entry = record { perms = x.entry.perms; frame = f }; overlay = x.overlay }
 
-    framed_is : with_frame v s p f ≡ with_page_at v s p (record { entry = record { perms = x.entry.perms; frame = f }; overlay = x.overlay })
+    framed_is : with_frame v s p f ≡ put_page v s p (record { entry = record { perms = x.entry.perms; frame = f }; overlay = x.overlay })
     unfolding with_frame
     framed_is = changed_there _ v s p x there
 
@@ -229,7 +224,7 @@ module _ (v : LedgerView) (counts : List ℕ) (u n : ℕ) (kept : IsBooked v cou
         at false e =
             let isnt = eq_false f v.zero_frame e in
             let bound = sharers_bound v counts u n kept sound f low isnt in
-            let all = sharers_at (ledger_of v) s p (holding_of v.zero_frame x) (f + 1) (page_in v s p x there) in
+            let all = sharers_at (ledger_of v) s p (holding_of v.zero_frame x) (f + 1) (books_there holding_of v s p x there) in
             let count = less_counted f low isnt in
             inr (omega (arith, bound, all, count))
 
@@ -243,7 +238,7 @@ module _ (v : LedgerView) (counts : List ℕ) (u n : ℕ) (kept : IsBooked v cou
         let added = added_is in
         omega (arith, fit, most, added)
 
-    pub framed_books : (space_at v s).awaiting ≡ empty → IsFreeFor v s p f
+    pub framed_books : (space_in v s).awaiting ≡ empty → IsFreeFor v s p f
         → IsBooked (with_frame v s p f) (held_by v.zero_frame (released_by v.zero_frame counts x.entry.frame) f)
         (u - frame_units v.zero_frame (released_by v.zero_frame counts x.entry.frame) x.entry.frame + frame_units v.zero_frame (released_by v.zero_frame counts x.entry.frame) f) n
     unfolding y
@@ -261,7 +256,7 @@ module _ (v : LedgerView) (counts : List ℕ) (u n : ℕ) (kept : IsBooked v cou
         (counts_held (ledger_of v) v.zero_frame v.frames s p f (holding_of v.zero_frame y) (released_by v.zero_frame counts x.entry.frame) less_counted (length_released v.zero_frame counts x.entry.frame ∙ kept.room) refl low)
         (omega (arith, is, freed, added, put)) (omega (arith, lines, lines_new)))
       where
-        fits : IsFreeFor v s p f → FitsIn v.zero_frame (space_at v s) p y
+        fits : IsFreeFor v s p f → FitsIn v.zero_frame (space_in v s) p y
         fits (inl zero_f) = inl zero_f
         fits (inr alone) = inr (
           (λ q b at is. alone q b (page_of v s q ∙ at) is),
@@ -270,24 +265,24 @@ module _ (v : LedgerView) (counts : List ℕ) (u n : ℕ) (kept : IsBooked v cou
 
     -- the frame that was given up
     pub framed_answer : cond (nat_lt 0 (frame_units v.zero_frame (released_by v.zero_frame counts x.entry.frame) x.entry.frame) && not (f == x.entry.frame)) (Some x.entry.frame) None
-        ≡ given_up (with_frame v s p f) (page_at v s p)
-    unfolding y with_page_at with_space
+        ≡ given_up (with_frame v s p f) (page_in v s p)
+    unfolding y put_page put_space
     framed_answer =
         ap (λ k. cond (nat_lt 0 k && not (f == x.entry.frame)) (Some x.entry.frame) None) freed_is
-        ∙ answer v.zero_frame x.entry.frame (without_page (ledger_of v) s p) (ledger_of (with_page_at v s p y)) (nat_eq f x.entry.frame)
-        (λ isnt. ap (λ (m : Ledger). has_origin m (x.entry.frame + 1)) (ledger_put v s p y) ∙ origin_with (ledger_of v) s p (holding_of v.zero_frame y) (x.entry.frame + 1)
+        ∙ answer v.zero_frame x.entry.frame (without_page (ledger_of v) s p) (ledger_of (put_page v s p y)) (nat_eq f x.entry.frame)
+        (λ isnt. ap (λ (m : Ledger). has_origin m (x.entry.frame + 1)) (books_put_page holding_of v s p y) ∙ origin_with (ledger_of v) s p (holding_of v.zero_frame y) (x.entry.frame + 1)
         ∙ ap (λ (b : Bool). b || has_origin (without_page (ledger_of v) s p) (x.entry.frame + 1)) (has_frame v.zero_frame x.entry.frame f isnt))
         ∙ ap (λ (w : LedgerView). given_up w (Some x)) (sym framed_is)
         ∙ ap (given_up (with_frame v s p f)) (sym there)
 
-  pub removed_answer : cond (nat_lt 0 (frame_units v.zero_frame (released_by v.zero_frame counts x.entry.frame) x.entry.frame)) (Some x.entry.frame) None ≡ given_up (without_page_at v s p) (page_at v s p)
-  unfolding without_page_at with_space
+  pub removed_answer : cond (nat_lt 0 (frame_units v.zero_frame (released_by v.zero_frame counts x.entry.frame) x.entry.frame)) (Some x.entry.frame) None ≡ given_up (cut_page v s p) (page_in v s p)
+  unfolding cut_page put_space
   removed_answer =
       ap (λ k. cond (nat_lt 0 k) (Some x.entry.frame) None) freed_is
       ∙ always (nat_lt 0 (frame_for (is_unused (without_page (ledger_of v) s p) (origin_of v.zero_frame x.entry.frame))))
-      ∙ answer v.zero_frame x.entry.frame (without_page (ledger_of v) s p) (ledger_of (without_page_at v s p)) false
-      (λ isnt. ap (λ (m : Ledger). has_origin m (x.entry.frame + 1)) (ledger_gone v s p))
-      ∙ ap (given_up (without_page_at v s p)) (sym there)
+      ∙ answer v.zero_frame x.entry.frame (without_page (ledger_of v) s p) (ledger_of (cut_page v s p)) false
+      (λ isnt. ap (λ (m : Ledger). has_origin m (x.entry.frame + 1)) (books_cut_page holding_of v s p))
+      ∙ ap (given_up (cut_page v s p)) (sym there)
     where
       always : (b : Bool) → ◌≡◌ {A = Option ℕ} (cond b (Some x.entry.frame) None) (cond (b && not false) (Some x.entry.frame) None)
       always true = refl
@@ -295,17 +290,17 @@ module _ (v : LedgerView) (counts : List ℕ) (u n : ℕ) (kept : IsBooked v cou
 
 -- A page with another overlay, or none.
 
-module _ (v : LedgerView) (counts : List ℕ) (u n : ℕ) (kept : IsBooked v counts u n) (sound : IsSound v) (s p : ℕ) (x : PageView) (there : page_at v s p ≡ Some x) (o : Option Entry) where
+module _ (v : LedgerView) (counts : List ℕ) (u n : ℕ) (kept : IsBooked v counts u n) (sound : IsSound v) (s p : ℕ) (x : PageView) (there : page_in v s p ≡ Some x) (o : Option Entry) where
   over : PageView
   over = record { entry = x.entry; overlay = o }
 
-  over_is : with_overlay v s p o ≡ with_page_at v s p (record { entry = x.entry; overlay = o })
+  over_is : with_overlay v s p o ≡ put_page v s p (record { entry = x.entry; overlay = o })
   unfolding with_overlay
   over_is = changed_there _ v s p x there
 
   same_sharers_of : AreSharersCounted (with_page (ledger_of v) s p (holding_of v.zero_frame (record { entry = x.entry; overlay = o }))) v.zero_frame v.frames counts
   same_sharers_of f low isnt =
-      let was = sharers_at (ledger_of v) s p (holding_of v.zero_frame x) (f + 1) (page_in v s p x there) in
+      let was = sharers_at (ledger_of v) s p (holding_of v.zero_frame x) (f + 1) (books_there holding_of v s p x there) in
       let is = sharers_put (ledger_of v) s p (holding_of v.zero_frame (record { entry = x.entry; overlay = o })) (f + 1) in
       kept.counted f low isnt ∙ was ∙ sym is
 
@@ -317,15 +312,15 @@ module _ (v : LedgerView) (counts : List ℕ) (u n : ℕ) (kept : IsBooked v cou
       let lines_new = lines_put (ledger_of v) s p (holding_of v.zero_frame (record { entry = x.entry; overlay = o })) in
       subst (λ w. IsBooked w counts (u - class (length (lines_of x.overlay)) + class (length (lines_of o))) (n - length (lines_of x.overlay) + length (lines_of o))) (sym over_is)
       (booked_put v counts u n kept s p (record { entry = x.entry; overlay = o }) counts _ _ (kept.inside s p x there)
-      (fits_same v.zero_frame (space_at v s) p x (record { entry = x.entry; overlay = o }) (kept.apart s) (in_pages v s p x there) refl) kept.room same_sharers_of
+      (fits_same v.zero_frame (space_in v s) p x (record { entry = x.entry; overlay = o }) (kept.apart s) (in_pages v s p x there) refl) kept.room same_sharers_of
       (omega (arith, is, put)) (omega (arith, lines, lines_new)))
 
 -- A page shared, where none was.
 
-module _ (v : LedgerView) (counts : List ℕ) (u n : ℕ) (kept : IsBooked v counts u n) (sound : IsSound v) (s p : ℕ) (entry : PageEntry) (o : Option Entry) (has : has_space v s ≡ true)
-    (absent : page_at v s p ≡ None) (waiting : get (space_at v s).awaiting p ≡ Some entry) (low : entry.frame < v.frames) where
+module _ (v : LedgerView) (counts : List ℕ) (u n : ℕ) (kept : IsBooked v counts u n) (sound : IsSound v) (s p : ℕ) (entry : PageEntry) (o : Option Entry) (has : holds_space v s ≡ true)
+    (absent : page_in v s p ≡ None) (waiting : get (space_in v s).awaiting p ≡ Some entry) (low : entry.frame < v.frames) where
   alone_now : without_page (ledger_of v) s p ≡ ledger_of v
-  alone_now = without_absent (ledger_of v) s p (ledger_spaces v s ∙ has) (ledger_page v s p ∙ ap (option_map (holding_of v.zero_frame)) absent)
+  alone_now = without_absent (ledger_of v) s p (books_spaces holding_of v s ∙ has) (books_page holding_of v s p ∙ ap (option_map (holding_of v.zero_frame)) absent)
 
   pub shared_few : (entry.frame ≡ v.zero_frame) ⊎ (sharers_of counts entry.frame < 2 ^ 32 - 1)
   shared_few = at (nat_eq entry.frame v.zero_frame) refl
@@ -338,7 +333,7 @@ module _ (v : LedgerView) (counts : List ℕ) (u n : ℕ) (kept : IsBooked v cou
           let count = kept.counted entry.frame low isnt in
           inr (omega (arith, bound, count))
 
-  pub shared_books : IsBooked (with_shared v s p (record { entry = entry; overlay = o })) (held_by v.zero_frame counts entry.frame)
+  pub shared_books : IsBooked (put_shared v s p (record { entry = entry; overlay = o })) (held_by v.zero_frame counts entry.frame)
       (u + frame_units v.zero_frame counts entry.frame + class (length (lines_of o))) (n + length (lines_of o))
   shared_books =
       let added = units_by_count (ledger_of v) v.zero_frame v.frames entry.frame counts kept.counted low in
@@ -359,10 +354,10 @@ zero_unused : (l : Ledger) → frame_for (is_unused l 0) ≡ 0
 unfolding frame_for is_unused
 zero_unused book = refl
 
-zero_books : (v : LedgerView) (counts : List ℕ) (u n : ℕ) → IsBooked v counts u n → (s p : ℕ) (y : PageView) → has_space v s ≡ true → page_at v s p ≡ None → y.entry.frame ≡ v.zero_frame → y.overlay ≡ None
-    → IsBooked (with_page_at v s p y) counts u n
+zero_books : (v : LedgerView) (counts : List ℕ) (u n : ℕ) → IsBooked v counts u n → (s p : ℕ) (y : PageView) → holds_space v s ≡ true → page_in v s p ≡ None → y.entry.frame ≡ v.zero_frame → y.overlay ≡ None
+    → IsBooked (put_page v s p y) counts u n
 zero_books v counts u n kept s p y has absent zero_y bare =
-    let alone = without_absent (ledger_of v) s p (ledger_spaces v s ∙ has) (ledger_page v s p ∙ ap (option_map (holding_of v.zero_frame)) absent) in
+    let alone = without_absent (ledger_of v) s p (books_spaces holding_of v s ∙ has) (books_page holding_of v s p ∙ ap (option_map (holding_of v.zero_frame)) absent) in
     let origin : origin_of v.zero_frame y.entry.frame ≡ 0 = zero_origin in
     let put = units_put (ledger_of v) s p (holding_of v.zero_frame y) ∙ ap (λ (m : Ledger). units m + (frame_for (is_unused m (origin_of v.zero_frame y.entry.frame)) + class (length (lines_of y.overlay)))) alone in
     let lines = lines_put (ledger_of v) s p (holding_of v.zero_frame y) ∙ ap (λ (m : Ledger). own_lines m + length (lines_of y.overlay)) alone in
@@ -386,16 +381,16 @@ zero_books v counts u n kept s p y has absent zero_y bare =
         let same = ap (λ (m : Ledger). sharers m (f + 1)) alone in
         omega (arith, put, same)
 
-pub mapped_books : (k from : ℕ) (v : LedgerView) (counts : List ℕ) (u n s : ℕ) (y : PageView) → IsBooked v counts u n → has_space v s ≡ true → AreFree v s from k → y.entry.frame ≡ v.zero_frame → y.overlay ≡ None
-    → IsBooked (fold (λ w p. with_page_at w s p y) v (range_with_len from k)) counts u n
-unfolding with_page_at with_space
+mapped_books : (k from : ℕ) (v : LedgerView) (counts : List ℕ) (u n s : ℕ) (y : PageView) → IsBooked v counts u n → holds_space v s ≡ true → AreFree v s from k → y.entry.frame ≡ v.zero_frame → y.overlay ≡ None
+    → IsBooked (put_pages v s from k y) counts u n
+unfolding put_pages put_page put_space
 mapped_books zero from v counts u n s y kept has free zero_y bare = kept
 mapped_books (suc k) from v counts u n s y kept has free zero_y bare =
     let here : is_within from (suc k) from ≡ true = grind (arith, nat_tests) in
-    mapped_books k (from + 1) (with_page_at v s from y) counts u n s y
+    mapped_books k (from + 1) (put_page v s from y) counts u n s y
     (zero_books v counts u n kept s from y has (free from here) zero_y bare)
-    (there_still v s from y)
-    (λ q within. view_beside v s from y s q (λ ss pp. differs q within pp) ∙ free q (wider q within)) zero_y bare
+    ((keeps_page_put v s from y has).there s ∙ has)
+    (λ q within. page_put_beside v s from y s q (λ ss pp. differs q within pp) ∙ free q (wider q within)) zero_y bare
   where
     differs : (q : ℕ) → is_within (from + 1) k q ≡ true → q ≡ from → ⊥
     differs q within same = let no : is_within (from + 1) k q ≡ false = grind (arith, nat_tests) in let e = sym within ∙ no in cc
@@ -410,14 +405,10 @@ on_either (Ok x) old new made counts u n kept then ok err = subst (λ v. IsBooke
 on_either (Err e) old new made counts u n kept then ok err = subst (λ v. IsBooked v counts u n) (sym err) kept
 
 -- pages mapped on the zero frame
-pub mapped_view : (v : LedgerView) (counts : List ℕ) (u n s from k : ℕ) (e : PageEntry) → IsBooked v counts u n → has_space v s ≡ true → AreFree v s from k → e.frame ≡ v.zero_frame
+pub mapped_view : (v : LedgerView) (counts : List ℕ) (u n s from k : ℕ) (e : PageEntry) → IsBooked v counts u n → holds_space v s ≡ true → AreFree v s from k → e.frame ≡ v.zero_frame
     → IsBooked (with_zero_pages v s from k e) counts u n
 unfolding with_zero_pages
 mapped_view v counts u n s from k e kept has free zero_e = mapped_books k from v counts u n s (record { entry = e; overlay = None }) kept has free zero_e refl
-
-no_pages_held : (v : LedgerView) → v.spaces ≡ empty → all_holdings (ledger_of v) ≡ []
-unfolding ledger_of
-no_pages_held v none = ap all_holdings (ap (viewed (λ space (x : SpaceView). viewed (λ page y. holding_of v.zero_frame y) x.pages)) none ∙ viewed_empty _) ∙ no_holdings
 
 none_held : (v : LedgerView) (o : ℕ) → all_holdings (ledger_of v) ≡ [] → sharers (ledger_of v) o ≡ 0
 unfolding sharers
@@ -446,14 +437,14 @@ new_books v counts frames z none frames_is zero_is counts_is room some few insid
   lines_is = sym no_lines;
 }
   where
-    no_space : (s : ℕ) → space_at v s ≡ no_pages
+    no_space : (s : ℕ) → space_in v s ≡ bare_space
     no_space s = space_absent v s (ap (λ m. get m s) none ∙ get-empty {X = SpaceView} nat_cmp s)
 
-    nowhere : (s p : ℕ) → page_at v s p ≡ None
+    nowhere : (s p : ℕ) → page_in v s p ≡ None
     nowhere s p = page_of v s p ∙ ap (λ (x : SpaceView). get x.pages p) (no_space s) ∙ get-empty nat_cmp p
 
     nothing : all_holdings (ledger_of v) ≡ []
-    nothing = no_pages_held v none
+    nothing = ap all_holdings (books_empty holding_of v none) ∙ no_holdings
 
     no_sharers : (o : ℕ) → sharers (ledger_of v) o ≡ 0
     no_sharers o = none_held v o nothing
@@ -469,14 +460,14 @@ new_books v counts frames z none frames_is zero_is counts_is room some few insid
 -- whether it has own lines
 pub own_is : (v : LedgerView) → IsSound v → (s p : ℕ) → is_some (overlay_at v s p) ≡ has_own (ledger_of v) s p
 unfolding has_own
-own_is v sound s p = at (page_at v s p) refl ∙ sym (ap (λ (o : Option Holding). option_map_or (λ holding. nat_lt 0 (length holding.own)) o false) (ledger_page v s p))
+own_is v sound s p = at (page_in v s p) refl ∙ sym (ap (λ (o : Option Holding). option_map_or (λ holding. nat_lt 0 (length holding.own)) o false) (books_page holding_of v s p))
   where
     lines : (o : Option Entry) → ((e : Entry) → o ≡ Some e → 0 < length e.bits) → is_some o ≡ nat_lt 0 (length (lines_of o))
     lines None h = let no : nat_lt 0 (length {A = ℕ} []) ≡ false = grind (arith, nat_tests) in sym no
     lines (Some e) h = let some = h e refl in let yes : nat_lt 0 (length e.bits) ≡ true = grind (arith, nat_tests) in sym yes
 
-    at : (o : Option PageView) → page_at v s p ≡ o
-        → is_some (option_and_then (λ (x : PageView). x.overlay) (page_at v s p)) ≡ option_map_or (λ (holding : Holding). nat_lt 0 (length holding.own)) (option_map (holding_of v.zero_frame) (page_at v s p)) false
+    at : (o : Option PageView) → page_in v s p ≡ o
+        → is_some (option_and_then (λ (x : PageView). x.overlay) (page_in v s p)) ≡ option_map_or (λ (holding : Holding). nat_lt 0 (length holding.own)) (option_map (holding_of v.zero_frame) (page_in v s p)) false
     at None is =
         ap (λ o. is_some (option_and_then (λ (x : PageView). x.overlay) o)) is
         ∙ sym (ap (λ o. option_map_or (λ (holding : Holding). nat_lt 0 (length holding.own)) (option_map (holding_of v.zero_frame) o) false) is)
@@ -485,15 +476,15 @@ own_is v sound s p = at (page_at v s p) refl ∙ sym (ap (λ (o : Option Holding
         ∙ sym (ap (λ o. option_map_or (λ (holding : Holding). nat_lt 0 (length holding.own)) (option_map (holding_of v.zero_frame) o) false) is)
 
 -- a page by its entry
-pub entry_page : (v : LedgerView) (s p : ℕ) (e : PageEntry) → Some e ≡ option_map (λ (x : PageView). x.entry) (page_at v s p) → (x : PageView) × (page_at v s p ≡ Some x) × (e ≡ x.entry)
-entry_page v s p e is = at (page_at v s p) refl is
+pub entry_page : (v : LedgerView) (s p : ℕ) (e : PageEntry) → Some e ≡ option_map (λ (x : PageView). x.entry) (page_in v s p) → (x : PageView) × (page_in v s p ≡ Some x) × (e ≡ x.entry)
+entry_page v s p e is = at (page_in v s p) refl is
   where
-    at : (o : Option PageView) → page_at v s p ≡ o → Some e ≡ option_map (λ (x : PageView). x.entry) o → (x : PageView) × (page_at v s p ≡ Some x) × (e ≡ x.entry)
+    at : (o : Option PageView) → page_in v s p ≡ o → Some e ≡ option_map (λ (x : PageView). x.entry) o → (x : PageView) × (page_in v s p ≡ Some x) × (e ≡ x.entry)
     at None there h = let no = ap is_some h in cc
     at (Some x) there h = (x, there, ap (λ (o : Option PageEntry). option_map_or (λ (y : PageEntry). y) o e) h)
 
-pub no_entry : (v : LedgerView) (s p : ℕ) → None ≡ option_map (λ (x : PageView). x.entry) (page_at v s p) → IsSome (page_at v s p) → ⊥
-no_entry v s p is there = at (page_at v s p) is there
+pub no_entry : (v : LedgerView) (s p : ℕ) → None ≡ option_map (λ (x : PageView). x.entry) (page_in v s p) → IsSome (page_in v s p) → ⊥
+no_entry v s p is there = at (page_in v s p) is there
   where
     at : (o : Option PageView) → None ≡ option_map (λ (x : PageView). x.entry) o → IsSome o → ⊥
     at None h some = cc

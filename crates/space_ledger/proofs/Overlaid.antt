@@ -1,4 +1,4 @@
-use Rattle.std.specs.Prelude.{◌≡◌, ℕ, ◌^◌, ◌==◌, ◌&&◌, ◌≤◌, ◌<◌, ◌⊎◌, Bool, true, false, cond, nat_eq, nat_lt, length, Option, Some, None, IsSome, is_some, refl}
+use Rattle.std.specs.Prelude.{◌≡◌, ℕ, ◌^◌, ◌==◌, ◌&&◌, ◌≤◌, ◌<◌, ◌⊎◌, Bool, true, false, cond, nat_eq, nat_lt, Option, Some, None, IsSome, is_some, refl}
 use Rattle.std.proofs.Common.{sym, ap, subst, ◌∙◌, arith, inl, inr}
 use Rattle.std.proofs.lemmas.Bool.Decides.{nat_tests}
 use Rattle.std.specs.Option.{option_and_then}
@@ -8,11 +8,12 @@ use Rattle.sizes.specs.declared.TheConstants.{LAST_SPACE, PAGE_END}
 use Rattle.overlay_address.specs.Names.{IsName, overlay_page, page_of, space_of}
 use Rattle.overlay_mapping_table.specs.declared.entry.Entry.{Entry}
 use Rattle.ledger.specs.Changes.{has_own}
-use Rattle.space_ledger.specs.View.{LedgerView, PageView, ledger_of, overlay_at, page_at}
-use Rattle.space_ledger.specs.Kept.{IsKept, Overlays, Slots, seen}
+use Rattle.space_maps.specs.Spaces.{page_in}
+use Rattle.space_ledger.specs.View.{LedgerView, PageView, ledger_of, overlay_at}
+use Rattle.space_ledger.specs.declared.tables.Tables.TheInside.{Inside}
 use Rattle.space_ledger.specs.Calls.{IsNextOverlaid, IsNextOwn, IsSound}
 use Rattle.space_ledger.proofs.Numbers.{own_is}
-use Rattle.space_ledger.proofs.TableLaws.{overlay_is}
+use Rattle.space_ledger.proofs.Seen.{Shows, overlay_is}
 
 -- The next overlaid page, from the next name.
 
@@ -38,49 +39,46 @@ space_above s t p q r low end le other = by_order (nat_lt s t) (nat_lt t s) refl
         by_page (inl apart) = let yes : nat_eq t s ≡ true = grind (arith, nat_tests) in let no = sym yes ∙ apart in cc
         by_page (inr past) = omega (arith, same, past, end)
 
-module _ (slots : Slots) (overlays : Overlays) (frames zero_frame room : ℕ) (kept : IsKept (length slots) (seen slots overlays frames zero_frame) overlays room) where
-  abbrev v : LedgerView
-  v = seen slots overlays frames zero_frame
-
-  none_named : (s q : ℕ) → (q < PAGE_END → get overlays (overlay_page s q) ≡ None) → overlay_at (seen slots overlays frames zero_frame) s q ≡ None
-  none_named s q none = at (page_at v s q) refl
+module _ {t : Inside} {v : LedgerView} (show : Shows t v) where
+  none_named : (s q : ℕ) → (q < PAGE_END → get t.overlays.entries (overlay_page s q) ≡ None) → overlay_at v s q ≡ None
+  none_named s q none = at (page_in v s q) refl
     where
-      at : (o : Option PageView) → page_at v s q ≡ o → overlay_at v s q ≡ None
+      at : (o : Option PageView) → page_in v s q ≡ o → overlay_at v s q ≡ None
       at None is = ap (option_and_then (λ (x : PageView). x.overlay)) is
       at (Some x) is =
-          let there : IsSome (page_at v s q) = ap is_some is in
-          sym (overlay_is slots overlays frames zero_frame s q there) ∙ none (kept.low s q there)
+          let there : IsSome (page_in v s q) = ap is_some is in
+          sym (overlay_is show s q there) ∙ none (show.kept.low s q there)
 
-  some_named : (s q : ℕ) (e : Entry) → s ≤ LAST_SPACE → q < PAGE_END → get overlays (overlay_page s q) ≡ Some e → IsSome (overlay_at (seen slots overlays frames zero_frame) s q)
-  some_named s q e last low is = at (page_at v s q) refl
+  some_named : (s q : ℕ) (e : Entry) → s ≤ LAST_SPACE → q < PAGE_END → get t.overlays.entries (overlay_page s q) ≡ Some e → IsSome (overlay_at v s q)
+  some_named s q e last low is = at (page_in v s q) refl
     where
-      at : (o : Option PageView) → page_at v s q ≡ o → IsSome (overlay_at v s q)
-      at None none = let no = ap is_some (sym is ∙ kept.placed s q last low none) in cc
-      at (Some x) there = ap is_some (sym (overlay_is slots overlays frames zero_frame s q (ap is_some there)) ∙ is)
+      at : (o : Option PageView) → page_in v s q ≡ o → IsSome (overlay_at v s q)
+      at None none = let no = ap is_some (sym is ∙ show.kept.placed s q last low none) in cc
+      at (Some x) there = ap is_some (sym (overlay_is show s q (ap is_some there)) ∙ is)
 
-  pub next_beyond : (s p : ℕ) → PAGE_END ≤ p → IsNextOverlaid (seen slots overlays frames zero_frame) s p None
+  pub next_beyond : (s p : ℕ) → PAGE_END ≤ p → IsNextOverlaid v s p None
   next_beyond s p end q le = none_named s q (λ low. absurd (omega (arith, end, le, low)))
 
-  pub next_absent : (s p : ℕ) → IsNextOne overlays (overlay_page s p) None → IsNextOverlaid (seen slots overlays frames zero_frame) s p None
+  pub next_absent : (s p : ℕ) → IsNextOne t.overlays.entries (overlay_page s p) None → IsNextOverlaid v s p None
   next_absent s p none q le = none_named s q (λ low. none (overlay_page s q) (omega (arith, le)))
 
   -- the next name is one of the space, or it isn't
-  pub next_here : (s p : ℕ) (n : ℕ) (e : Entry) → s ≤ LAST_SPACE → page_of n < PAGE_END → n ≡ overlay_page s (page_of n) → IsNextOne overlays (overlay_page s p) (Some (n, e))
-      → IsNextOverlaid (seen slots overlays frames zero_frame) s p (Some (page_of n))
+  pub next_here : (s p : ℕ) (n : ℕ) (e : Entry) → s ≤ LAST_SPACE → page_of n < PAGE_END → n ≡ overlay_page s (page_of n) → IsNextOne t.overlays.entries (overlay_page s p) (Some (n, e))
+      → IsNextOverlaid v s p (Some (page_of n))
   next_here s p n e last low is next = (
     page_from s p (page_of n) (subst (λ k. overlay_page s p ≤ k) is next.0),
-    some_named s (page_of n) e last low (ap (get overlays) (sym is) ∙ next.1),
+    some_named s (page_of n) e last low (ap (get t.overlays.entries) (sym is) ∙ next.1),
     λ q le lt. none_named s q (λ under. next.2 (overlay_page s q) (omega (arith, le)) (subst (λ k. overlay_page s q < k) (sym is) (page_below s q (page_of n) lt))),
   )
 
-  pub next_elsewhere : (s p : ℕ) (n : ℕ) (e : Entry) → IsName n → page_of n < 2 ^ 36 → (nat_eq (space_of n) s ≡ false) ⊎ (PAGE_END ≤ page_of n) → IsNextOne overlays (overlay_page s p) (Some (n, e))
-      → IsNextOverlaid (seen slots overlays frames zero_frame) s p None
+  pub next_elsewhere : (s p : ℕ) (n : ℕ) (e : Entry) → IsName n → page_of n < 2 ^ 36 → (nat_eq (space_of n) s ≡ false) ⊎ (PAGE_END ≤ page_of n) → IsNextOne t.overlays.entries (overlay_page s p) (Some (n, e))
+      → IsNextOverlaid v s p None
   next_elsewhere s p n e name low other next q le =
       none_named s q (λ under. next.2 (overlay_page s q) (omega (arith, le))
       (subst (λ k. overlay_page s q < k) (sym name) (space_above s (space_of n) p (page_of n) q low under (subst (λ k. overlay_page s p ≤ k) name next.0) other)))
 
-  pub next_named : (s p : ℕ) (n : ℕ) (e : Entry) (r : Option ℕ) → s ≤ LAST_SPACE → IsName n → IsNextOne overlays (overlay_page s p) (Some (n, e))
-      → r ≡ cond (space_of n == s && nat_lt (page_of n) PAGE_END) (Some (page_of n)) None → IsNextOverlaid (seen slots overlays frames zero_frame) s p r
+  pub next_named : (s p : ℕ) (n : ℕ) (e : Entry) (r : Option ℕ) → s ≤ LAST_SPACE → IsName n → IsNextOne t.overlays.entries (overlay_page s p) (Some (n, e))
+      → r ≡ cond (space_of n == s && nat_lt (page_of n) PAGE_END) (Some (page_of n)) None → IsNextOverlaid v s p r
   next_named s p n e r last name next is = subst (λ o. IsNextOverlaid v s p o) (sym is) (by_tests (nat_eq (space_of n) s) (nat_lt (page_of n) PAGE_END) refl refl)
     where
       by_tests : (b c : Bool) → nat_eq (space_of n) s ≡ b → nat_lt (page_of n) PAGE_END ≡ c → IsNextOverlaid v s p (cond (b && c) (Some (page_of n)) None)

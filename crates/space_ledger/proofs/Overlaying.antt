@@ -1,6 +1,6 @@
-use Rattle.std.specs.Prelude.{◌≡◌, ℕ, zero, suc, ◌+◌, ◌-◌, ◌*◌, ◌≤◌, ◌<◌, ◌⊎◌, Bool, true, false, cond, length, Option, Some, None, is_some, IsSome, IfSome, refl}
+use Rattle.std.specs.Prelude.{◌≡◌, ℕ, zero, suc, ◌+◌, ◌-◌, ◌*◌, ◌≤◌, ◌<◌, ◌⊎◌, Bool, true, false, cond, length, Option, Some, None, is_some, IsSome, refl}
 use Rattle.std.proofs.Common.{sym, ap, subst, ◌∙◌, arith, inl, inr}
-use Rattle.std.specs.Option.{option_and_then, option_map}
+use Rattle.std.specs.Option.{option_and_then}
 use Rattle.std.specs.Ordering.{nat_cmp}
 use Rattle.std.specs.Cmp.{nat_cmp_total}
 use Rattle.std.specs.FinMap.{empty_of_len, get, get-empty, insert, len, len-insert, len-remove, remove}
@@ -10,62 +10,17 @@ use Rattle.page_table.specs.declared.entry.PageEntry.{PageEntry}
 use Rattle.overlay_address.specs.Names.{overlay_page}
 use Rattle.overlay_mapping_table.specs.declared.entry.Entry.{Entry}
 use Rattle.overlay_mapping_table.specs.Table.{Table, HasRoomFor}
-use Rattle.ledger.specs.Units.{overlaid_pages}
-use Rattle.ledger.specs.PlaceLaws.{by_place}
+use Rattle.space_maps.specs.Spaces.{of_pages, page_in, put_page, put_shared, put_space, space_in}
+use Rattle.space_maps.specs.Laws.{changed_there, page_shared_here, shared_over, space_put}
+use Rattle.space_ledger.specs.declared.tables.Tables.TheInside.{Inside}
 use Rattle.space_ledger.specs.Space.{SpaceTable, awaited}
-use Rattle.space_ledger.specs.View.{LedgerView, PageView, SpaceView, has_space, page_at, space_at, with_overlay, with_page_at, with_pages, with_shared, with_space}
-use Rattle.space_ledger.specs.ViewLaws.{changed_there, ledger_put, ledger_shared, space_put, there_space, view_beside, view_put, view_shared, view_unshared}
-use Rattle.space_ledger.specs.Kept.{IsChanged, IsKept, Overlays, Slots, seen, seen_page, slot_at, table_of}
-use Rattle.space_ledger.specs.Calls.{HasOverlayRoom}
-use Rattle.space_ledger.proofs.Seen.{AreOthers, overlay_put, seen_page_at, seen_put, shared_entry, table_from}
-use Rattle.space_ledger.proofs.Keeping.{kept_as, kept_new, kept_overlay, one_if, some_is}
-use Rattle.space_ledger.proofs.TableLaws.{entry_some, number_low, overlay_is}
+use Rattle.space_ledger.specs.View.{LedgerView, PageView, SpaceView, with_overlay}
+use Rattle.space_ledger.specs.Kept.{IsKept, Overlays}
+use Rattle.space_ledger.specs.Calls.{HasOverlayRoom, HasSpare, IsLined}
+use Rattle.space_ledger.proofs.Seen.{AreOthers, Shows, overlay_is, seen_over, seen_shared, some_is, there_is, with_overlays, with_spaces}
+use Rattle.space_ledger.proofs.Keeping.{kept_overlay, kept_shared, one_if}
 
 -- What a change of one overlay makes of the view.
-
-pub record MadeOver (slots : Slots) (new : Overlays) (frames zero_frame room : ℕ) (view : LedgerView) : Type 0 where
-  pub view_is : seen slots new frames zero_frame ≡ view
-  pub kept : IsKept (length slots) (seen slots new frames zero_frame) new room
-
-module _ (slots : Slots) (old new : Overlays) (frames zero_frame room s p : ℕ) (kept : IsKept (length slots) (seen slots old frames zero_frame) old room) where
-  v : LedgerView
-  v = seen slots old frames zero_frame
-
-  low_pages : (q r : ℕ) (t : SpaceTable) (e : PageEntry) → table_of (slot_at slots q) ≡ Some t → get t.pages r ≡ Some e → r < PAGE_END
-  low_pages q r t e is there = kept.low q r (ap is_some (seen_page_at slots old frames zero_frame q r t is ∙ ap (option_map (seen_page old q r)) there))
-
-  pub made_over : (o : Option Entry) → IsSome (page_at (seen slots old frames zero_frame) s p) → AreOthers old new (overlay_page s p) → get new (overlay_page s p) ≡ o
-      → IfSome o (λ e. (0 < length e.bits) × (length e.bits ≤ PAGE_LINES))
-      → len new + one_if (get old (overlay_page s p)) ≡ len old + one_if o → len new ≤ FRAME_UNITS * frames
-      → MadeOver slots new frames zero_frame room (with_overlay (seen slots old frames zero_frame) s p o)
-  unfolding v with_overlay seen
-  made_over o there others now lined counted most =
-      let x = some_is (page_at v s p) there in
-      let found = table_from slots old frames zero_frame s (there_space v s p x.0 x.1) in
-      let e = entry_at found.0 found.1 in
-      let y : PageView = record { entry = e.0; overlay = o } in
-      let raw : seen slots new frames zero_frame ≡ with_page_at v s p y =
-      overlay_put slots old new frames zero_frame s p found.0 found.1 (λ q t is. number_low slots old frames zero_frame q t kept.few is) low_pages (kept.low s p there) others e.0 o e.1 now in
-      let entry_same : e.0 ≡ x.0.entry = same_entry e.0 x.0 (sym (seen_page_at slots old frames zero_frame s p found.0 found.1 ∙ ap (option_map (seen_page old s p)) e.1) ∙ x.1) in
-      let named : with_page_at v s p y ≡ with_overlay v s p o =
-      ap (λ n. with_page_at v s p (record { entry = n; overlay = o })) entry_same ∙ sym (changed_there (λ (z : PageView). record { entry = z.entry; overlay = o }) v s p x.0 x.1) in
-      let before : get old (overlay_page s p) ≡ x.0.overlay = overlay_is slots old frames zero_frame s p there ∙ ap (option_and_then (λ (z : PageView). z.overlay)) x.1 in
-      let counts : len new + one_if x.0.overlay ≡ len old + one_if o = ap (λ z. len new + one_if z) (sym before) ∙ counted in
-      record {
-        view_is = raw ∙ named;
-        kept = subst (λ w. IsKept (length slots) w new room) (sym raw)
-            (kept_overlay kept s p x.0 y new x.1 (number_low slots old frames zero_frame s found.0 kept.few found.1) others (λ e is. lined_at o lined e is) counts most);
-      }
-    where
-      same_entry : (e : PageEntry) (z : PageView) → Some (seen_page old s p e) ≡ Some z → e ≡ z.entry
-      same_entry e z is = ap (λ (o : Option PageView). elim o [ None ↦ e | Some w ↦ w.entry ]) is
-
-      entry_at : (t : SpaceTable) → table_of (slot_at slots s) ≡ Some t → (e : PageEntry) × (get t.pages p ≡ Some e)
-      entry_at t is = some_is (get t.pages p) (subst (λ o. IsSome (option_and_then (λ (t : SpaceTable). get t.pages p) o)) is (entry_some slots old frames zero_frame s p there))
-
-      lined_at : (o : Option Entry) → IfSome o (λ e. (0 < length e.bits) × (length e.bits ≤ PAGE_LINES)) → (e : Entry) → o ≡ Some e → (0 < length e.bits) × (length e.bits ≤ PAGE_LINES)
-      lined_at None h e is = let no = ap is_some is in cc
-      lined_at (Some f) h e is = subst (λ z. IfSome z (λ e. (0 < length e.bits) × (length e.bits ≤ PAGE_LINES))) is h
 
 -- what an insertion and a removal do to one name, to the others and to the number of overlays
 pub inserted_others : (old new : Overlays) (n : ℕ) (e : Entry) → new ≡ insert old n e → AreOthers old new n
@@ -116,65 +71,79 @@ removed_most old new n most is le = at (is_some (get old n)) (ap len is ∙ len-
     at true h = omega (arith, h, le)
     at false h = omega (arith, h, le)
 
--- room for one more overlay, as the mapping table asks for it
-pub room_for : (slots : Slots) (table : Table) (frames zero_frame s p : ℕ) (e : Entry) → IsKept (length slots) (seen slots table.entries frames zero_frame) table.entries table.room
-    → IsSome (page_at (seen slots table.entries frames zero_frame) s p) → HasOverlayRoom (seen slots table.entries frames zero_frame) s p (Some e)
-    → HasRoomFor table (overlay_page s p)
-unfolding seen
-room_for slots table frames zero_frame s p e kept there (inl some) = inl (ap is_some (overlay_is slots table.entries frames zero_frame s p there) ∙ some)
-room_for slots table frames zero_frame s p e kept there (inr less) =
-    let count = kept.count in let roomy = kept.roomy in inr (omega (arith, less, count, roomy))
+-- there is room for an overlay, as the mapping table asks
+pub room_for : {t : Inside} {v : LedgerView} → Shows t v → (s p n : ℕ) → n ≡ overlay_page s p → IsSome (page_in v s p) → (e : Entry) → HasOverlayRoom v s p (Some e) → HasRoomFor t.overlays n
+room_for {t = t} show s p n name there e (inl some) = inl (ap (λ k. is_some (get t.overlays.entries k)) name ∙ ap is_some (overlay_is show s p there) ∙ some)
+room_for show s p n name there e (inr less) = let count = show.kept.count in let roomy = show.kept.roomy in inr (omega (arith, less, count, roomy))
 
--- A page shared.
+module _ {t : Inside} {v : LedgerView} (show : Shows t v) (new : Table) (s p n : ℕ) (name : n ≡ overlay_page s p) (there : IsSome (page_in v s p)) (room : new.room ≡ t.overlays.room) where
+  found : (x : PageView) × (page_in v s p ≡ Some x)
+  found = some_is (page_in v s p) there
 
-pub kept_shared : {slots : ℕ} {v : LedgerView} {overlays : Overlays} {room : ℕ} → IsKept slots v overlays room → (s p : ℕ) (y : PageView) → has_space v s ≡ true → page_at v s p ≡ None
-    → y.overlay ≡ None → p < PAGE_END → IsKept slots (with_shared v s p y) overlays room
-unfolding with_shared with_space with_page_at
-kept_shared {slots = slots} {v = v} kept s p y there absent bare low =
-    kept_as (kept_new kept s p y there absent bare low) slots (with_shared v s p y) kept.few
-    (λ q r. by_place s p q r
-    (λ ss pp. view_shared v s p y q r ss pp ∙ sym (view_put v s p y q r ss pp))
-    (λ d. view_unshared v s p y q r d ∙ sym (view_beside v s p y q r d)))
-    (ap overlaid_pages (ledger_shared v s p y ∙ sym (ledger_put v s p y))) refl
+  over_by : (o : Option Entry) → AreOthers t.overlays.entries new.entries (overlay_page s p) → get new.entries (overlay_page s p) ≡ o
+      → ((e : Entry) → o ≡ Some e → (0 < length e.bits) × (length e.bits ≤ PAGE_LINES))
+      → len new.entries + one_if (get t.overlays.entries (overlay_page s p)) ≡ len t.overlays.entries + one_if o → len new.entries ≤ FRAME_UNITS * v.frames
+      → Shows (with_overlays t new) (with_overlay v s p o)
+  unfolding with_overlay
+  over_by o others now lined counted most =
+      let x = found in
+      let named : with_overlay v s p o ≡ put_page v s p (record { entry = x.0.entry; overlay = o }) = changed_there (λ (z : PageView). record { entry = z.entry; overlay = o }) v s p x.0 x.1 in
+      let before : get t.overlays.entries (overlay_page s p) ≡ x.0.overlay = overlay_is show s p there ∙ ap (option_and_then (λ (z : PageView). z.overlay)) x.1 in
+      record {
+        is = seen_over show new s p x.0 x.1 others o now ∙ sym named;
+        kept = subst (λ w. IsKept w new) (sym named)
+            (kept_overlay show.kept s p x.0 (record { entry = x.0.entry; overlay = o }) new x.1 others lined (ap (λ z. len new.entries + one_if z) (sym before) ∙ counted) most room);
+      }
 
-module _ (old new : Slots) (overlays : Overlays) (frames zero_frame room s p : ℕ) (entry : PageEntry) (kept : IsKept (length old) (seen old overlays frames zero_frame) overlays room)
-    (there : has_space (seen old overlays frames zero_frame) s ≡ true) (absent : page_at (seen old overlays frames zero_frame) s p ≡ None) (low : p < PAGE_END)
-    (changed : IsChanged (λ t. awaited t p entry) old new s) (same : length new ≡ length old) where
-  w : LedgerView
-  w = seen old overlays frames zero_frame
+  pub set_over : (e : Entry) → IsLined e → HasRoomFor t.overlays n → new.entries ≡ insert t.overlays.entries n e → Shows (with_overlays t new) (with_overlay v s p (Some e))
+  set_over e lined has entries =
+      let is = entries ∙ ap (λ k. insert t.overlays.entries k e) name in
+      let roomy = show.kept.roomy in
+      over_by (Some e)
+      (inserted_others t.overlays.entries new.entries (overlay_page s p) e is) (inserted_here t.overlays.entries new.entries (overlay_page s p) e is)
+      (λ f same. subst IsLined (ap (λ (o : Option Entry). elim o [ None ↦ e | Some z ↦ z ]) same) lined)
+      (inserted_count t.overlays.entries new.entries (overlay_page s p) e is)
+      (subst (λ k. len new.entries ≤ k) roomy (inserted_most t.overlays.entries new.entries n t.overlays.room e entries (subst (λ k. len t.overlays.entries ≤ k) (sym roomy) show.kept.most) has))
 
-  y : PageView
-  y = record { entry = entry; overlay = None }
+  pub clear_over : new.entries ≡ remove t.overlays.entries n → Shows (with_overlays t new) (with_overlay v s p None)
+  clear_over entries =
+      let is = entries ∙ ap (λ k. remove t.overlays.entries k) name in
+      over_by None
+      (removed_others t.overlays.entries new.entries (overlay_page s p) is) (removed_here t.overlays.entries new.entries (overlay_page s p) is)
+      (λ e same. let no = ap is_some same in cc)
+      (removed_count t.overlays.entries new.entries (overlay_page s p) is) (removed_most t.overlays.entries new.entries (overlay_page s p) (FRAME_UNITS * v.frames) is show.kept.most)
 
-  pub shared_is : seen new overlays frames zero_frame ≡ with_shared (seen old overlays frames zero_frame) s p (record { entry = entry; overlay = None })
-  unfolding w
-  shared_is =
-      let found = table_from old overlays frames zero_frame s there in
-      seen_put old new overlays frames zero_frame s changed.others (awaited found.0 p entry) (changed.here ∙ ap (option_map (λ t. awaited t p entry)) found.1)
-      ∙ shared_entry old overlays frames zero_frame s found.0 found.1 p entry
-      ∙ ap (λ o. with_shared w s p (record { entry = entry; overlay = o })) (kept.placed s p (number_low old overlays frames zero_frame s found.0 kept.few found.1) low absent)
+-- fewer overlays than there is room for
+pub room_left : {t : Inside} {v : LedgerView} → Shows t v → HasSpare v → len t.overlays.entries < t.overlays.room
+room_left show less = let count = show.kept.count in let roomy = show.kept.roomy in omega (arith, count, roomy, less)
 
-  pub shared_kept : IsKept (length new) (seen new overlays frames zero_frame) overlays room
-  unfolding w y
-  shared_kept =
-      subst (λ z. IsKept (length new) z overlays room) (sym shared_is)
-      (subst (λ n. IsKept n (with_shared w s p y) overlays room) (sym same) (kept_shared kept s p y there absent refl low))
+-- A page shared: without an overlay, and with one put to it.
 
-shared_put : (v : LedgerView) (s p : ℕ) (x y : PageView) → with_page_at (with_shared v s p x) s p y ≡ with_shared v s p y
-unfolding with_page_at with_shared with_space
-shared_put v s p x y =
-    let z : SpaceView = record { pages = insert (space_at v s).pages p x; awaiting = remove (space_at v s).awaiting p; speculating = (space_at v s).speculating } in
-    let is : space_at (with_space v s z) s ≡ z = space_put v s z s refl in
-    ap (λ (u : SpaceView). record { spaces = insert (insert v.spaces s z) s (with_pages u (insert u.pages p y)); frames = v.frames; zero_frame = v.zero_frame }) is
-    ∙ ap (λ m. record { spaces = m; frames = v.frames; zero_frame = v.zero_frame }) (insert_over v.spaces s z _)
-    ∙ ap (λ m. record { spaces = insert v.spaces s (record { pages = m; awaiting = remove (space_at v s).awaiting p; speculating = (space_at v s).speculating }); frames = v.frames; zero_frame = v.zero_frame })
-    (insert_over (space_at v s).pages p x y)
-
--- a page that was shared, with an overlay put to it
-pub shared_over : (v : LedgerView) (s p : ℕ) (entry : PageEntry) (o : Option Entry)
-    → with_overlay (with_shared v s p (record { entry = entry; overlay = None })) s p o ≡ with_shared v s p (record { entry = entry; overlay = o })
+shared_overlaid : (v : LedgerView) (s p : ℕ) (entry : PageEntry) (o : Option Entry)
+    → with_overlay (put_shared v s p (record { entry = entry; overlay = None })) s p o ≡ put_shared v s p (record { entry = entry; overlay = o })
 unfolding with_overlay
-shared_over v s p entry o =
-    changed_there (λ (z : PageView). record { entry = z.entry; overlay = o }) (with_shared v s p (record { entry = entry; overlay = None })) s p (record { entry = entry; overlay = None })
-    (view_shared v s p (record { entry = entry; overlay = None }) s p refl refl)
-    ∙ shared_put v s p (record { entry = entry; overlay = None }) (record { entry = entry; overlay = o })
+shared_overlaid v s p entry o =
+    changed_there (λ (z : PageView). record { entry = z.entry; overlay = o }) (put_shared v s p (record { entry = entry; overlay = None })) s p (record { entry = entry; overlay = None })
+    (page_shared_here v s p (record { entry = entry; overlay = None }) s p refl refl)
+    ∙ shared_over v s p (record { entry = entry; overlay = None }) (record { entry = entry; overlay = o })
+
+module _ {t : Inside} {v : LedgerView} (show : Shows t v) (s p : ℕ) (x : SpaceTable) (at : get t.spaces s ≡ Some x) (entry : PageEntry) (absent : page_in v s p ≡ None) (low : p < PAGE_END) where
+  bare : PageView
+  bare = record { entry = entry; overlay = None }
+
+  pub shown_shared : Shows (with_spaces t (insert t.spaces s (awaited x p entry))) (put_shared v s p (record { entry = entry; overlay = None }))
+  unfolding bare
+  shown_shared =
+      let there = there_is show s x at in
+      record {
+        is = seen_shared show s x at p entry ∙ ap (λ o. put_shared v s p (record { entry = entry; overlay = o })) (show.kept.placed s p (show.kept.numbers s there) low absent);
+        kept = kept_shared show.kept s p bare there absent refl low;
+      }
+
+  pub shown_shared_over : (new : Table) (n : ℕ) (e : Entry) → n ≡ overlay_page s p → IsLined e → HasSpare v → new.room ≡ t.overlays.room → new.entries ≡ insert t.overlays.entries n e
+      → Shows (with_overlays (with_spaces t (insert t.spaces s (awaited x p entry))) new) (put_shared v s p (record { entry = entry; overlay = Some e }))
+  unfolding bare
+  shown_shared_over new n e name lined spare room entries =
+      let there_now : IsSome (page_in (put_shared v s p bare) s p) = ap is_some (page_shared_here v s p bare s p refl refl) in
+      subst (Shows (with_overlays (with_spaces t (insert t.spaces s (awaited x p entry))) new)) (shared_overlaid v s p entry (Some e))
+      (set_over shown_shared new s p n name there_now room e lined (inr (room_left show spare)) entries)

@@ -6,12 +6,14 @@ use Rattle.overlay_bits.specs.Lines.{AreLines, Rise, has_line}
 use Rattle.ledger.specs.Ledger.{is_alone}
 use Rattle.ledger.specs.Units.{class, units}
 use Rattle.ledger.specs.Changes.{with_lines}
+use Rattle.space_maps.specs.Spaces.{page_in}
 use Rattle.space_ledger.specs.Joined.{joined_same}
 use Rattle.ledger.specs.Events.{Store, ledger_after}
 use Rattle.ledger.specs.StoreLaws.{class_rises, store_joins, store_nothing, two_rises, units_joined}
-use Rattle.space_ledger.specs.View.{LedgerView, PageView, holding_of, ledger_of, lines_of, overlay_at, page_at}
-use Rattle.space_ledger.proofs.Keeping.{some_is}
-use Rattle.space_ledger.proofs.Booked.{page_in}
+use Rattle.space_maps.specs.Books.{books_there}
+use Rattle.space_ledger.specs.View.{LedgerView, PageView, holding_of, ledger_of, lines_of, overlay_at}
+use Rattle.space_ledger.proofs.Seen.{some_is}
+use Rattle.space_ledger.proofs.Booked.{}
 
 -- By how much a store rises.
 
@@ -26,7 +28,7 @@ pub record Rises (v : LedgerView) (s p : ℕ) (lines : List ℕ) (mark : Bool) (
   pub both : (other : ℕ) (more : List ℕ) → (other ≡ p → ⊥)
       → units (ledger_after (Store mark s ((p, lines) ∷ ((other, more) ∷ []))) (ledger_of v)) ≡ units (ledger_after (Store mark s ((other, more) ∷ [])) (ledger_of v)) + rise
 
-pub rises : (v : LedgerView) (s p : ℕ) (lines own : List ℕ) (mark alone : Bool) (rise : ℕ) → IsSome (page_at v s p) → own ≡ lines_of (overlay_at v s p) → alone ≡ is_alone (ledger_of v) s p
+pub rises : (v : LedgerView) (s p : ℕ) (lines own : List ℕ) (mark alone : Bool) (rise : ℕ) → IsSome (page_in v s p) → own ≡ lines_of (overlay_at v s p) → alone ≡ is_alone (ledger_of v) s p
     → AreLines own → AreLines lines → rise ≡ cond (not mark && alone) 0 (class (length (bits.with_lines own lines)) - class (length own)) → Rises v s p lines mark rise
 rises v s p lines own mark alone rise there own_is alone_is are_own are_lines rise_is =
     record {
@@ -34,8 +36,8 @@ rises v s p lines own mark alone rise there own_is alone_is are_own are_lines ri
       both = λ other more differs. let two = two_rises mark (ledger_of v) s p other lines more differs in let first = one in omega (arith, two, first);
     }
   where
-    x : (x : PageView) × (page_at v s p ≡ Some x)
-    x = some_is (page_at v s p) there
+    x : (x : PageView) × (page_in v s p ≡ Some x)
+    x = some_is (page_in v s p) there
 
     own_x : own ≡ (holding_of v.zero_frame x.0).own
     own_x = own_is ∙ ap (λ o. lines_of (option_and_then (λ (y : PageView). y.overlay) o)) x.1
@@ -45,7 +47,7 @@ rises v s p lines own mark alone rise there own_is alone_is are_own are_lines ri
     at true e is = let same = ap units (store_nothing mark (ledger_of v) s p lines e) in omega (arith, same, is)
     at false e is =
         let joins = ap units (store_joins mark (ledger_of v) s p lines e) in
-        let risen = units_joined (ledger_of v) s p lines (holding_of v.zero_frame x.0) (page_in v s p x.0 x.1) in
+        let risen = units_joined (ledger_of v) s p lines (holding_of v.zero_frame x.0) (books_there holding_of v s p x.0 x.1) in
         let grows = class_rises own lines in
         let was = ap (λ (l : List ℕ). class (length l)) own_x in
         let now = ap (λ (l : List ℕ). class (length (with_lines l lines))) own_x in

@@ -11,8 +11,9 @@ use Rattle.ledger.specs.PlaceLaws.{by_place}
 use Rattle.page_table.specs.Run.{IsRunFrom, entry_at}
 use Rattle.page_table.specs.declared.entry.PageEntry.{PageEntry}
 use Rattle.page_table.specs.declared.run.PageRun.{PageRun}
-use Rattle.space_ledger.specs.View.{LedgerView, PageView, SpaceView, has_space, page_at, space_at, with_run_shared, with_shared, with_space}
-use Rattle.space_ledger.specs.ViewLaws.{view_shared, view_unshared}
+use Rattle.space_maps.specs.Laws.{page_shared_beside, page_shared_here}
+use Rattle.space_maps.specs.Spaces.{holds_space, page_in, put_shared, put_space, space_in}
+use Rattle.space_ledger.specs.View.{LedgerView, PageView, SpaceView, with_run_shared}
 use Rattle.space_ledger.specs.Calls.{AreBareBelow, IsBooked, IsSound}
 use Rattle.space_ledger.specs.Frames.{frame_units, held_by, held_run, run_units}
 use Rattle.space_ledger.proofs.Keeping.{overlaid_shared}
@@ -23,33 +24,33 @@ use Rattle.space_ledger.proofs.LedgerCalls.{before_share, shared_call, shared_fr
 -- What is kept beside the tables while the pages of a run are shared, one after the other.
 
 -- what is true of every view, of one with a page shared without an overlay
-sound_shared : (v : LedgerView) (s p : ℕ) (y : PageView) → IsSound v → has_space v s ≡ true → page_at v s p ≡ None → y.overlay ≡ None → p < PAGE_END → IsSound (with_shared v s p y)
-unfolding with_shared with_space
+sound_shared : (v : LedgerView) (s p : ℕ) (y : PageView) → IsSound v → holds_space v s ≡ true → page_in v s p ≡ None → y.overlay ≡ None → p < PAGE_END → IsSound (put_shared v s p y)
+unfolding put_shared put_space
 sound_shared v s p y sound there absent bare low = record {
   few =
       let few = sound.few in
-      let x : SpaceView = record { pages = insert (space_at v s).pages p y; awaiting = remove (space_at v s).awaiting p; speculating = (space_at v s).speculating } in
+      let x : SpaceView = record { pages = insert (space_in v s).pages p y; awaiting = remove (space_in v s).awaiting p; speculating = (space_in v s).speculating } in
       let same = len-insert nat_cmp_total v.spaces s x ∙ ap (λ (b : Bool). cond b (len v.spaces) (len v.spaces + 1)) there in
       omega (arith, few, same);
   most = subst (λ n. n ≤ FRAME_UNITS * v.frames) (sym (overlaid_shared v s p y there absent bare)) sound.most;
   low = λ q r some. by_place s p q r
       (λ ss pp. subst (λ n. n < PAGE_END) (sym pp) low)
-      (λ d. sound.low q r (ap is_some (sym (view_unshared v s p y q r d)) ∙ some));
+      (λ d. sound.low q r (ap is_some (sym (page_shared_beside v s p y q r d)) ∙ some));
   lines = λ q r z o at is. by_place s p q r
-      (λ ss pp. let no = ap is_some (sym is ∙ over (sym (view_shared v s p y q r ss pp) ∙ at) ∙ bare) in cc)
-      (λ d. sound.lines q r z o (sym (view_unshared v s p y q r d) ∙ at) is);
+      (λ ss pp. let no = ap is_some (sym is ∙ over (sym (page_shared_here v s p y q r ss pp) ∙ at) ∙ bare) in cc)
+      (λ d. sound.lines q r z o (sym (page_shared_beside v s p y q r d) ∙ at) is);
 }
   where
     over : {z : PageView} → Some y ≡ Some z → z.overlay ≡ y.overlay
     over {z = z} e = ap (λ (k : Option PageView). elim k [ None ↦ y.overlay | Some x ↦ x.overlay ]) (sym e)
 
-module _ (v : LedgerView) (counts : List ℕ) (u n : ℕ) (kept : IsBooked v counts u n) (sound : IsSound v) (from to : ℕ) (run : PageRun) (has : has_space v to ≡ true)
-    (first : IsRunFrom (space_at v to).awaiting 0 run) (bare : AreBareBelow v from to (run.page + run.n)) where
+module _ (v : LedgerView) (counts : List ℕ) (u n : ℕ) (kept : IsBooked v counts u n) (sound : IsSound v) (from to : ℕ) (run : PageRun) (has : holds_space v to ≡ true)
+    (first : IsRunFrom (space_in v to).awaiting 0 run) (bare : AreBareBelow v from to (run.page + run.n)) where
   -- each page of the run is there in the other space, on its frame
-  there_from : (i : ℕ) → i < run.n → IsSome (page_at v from (run.page + i))
+  there_from : (i : ℕ) → i < run.n → IsSome (page_in v from (run.page + i))
   there_from i low =
       let was = bare (run.page + i) (omega (arith, low)) (ap is_some (first.has i low)) in
-      some_of (page_at v from (run.page + i)) (ap is_some (sym was.0 ∙ ap (option_map (λ (e : PageEntry). e.frame)) (first.has i low)))
+      some_of (page_in v from (run.page + i)) (ap is_some (sym was.0 ∙ ap (option_map (λ (e : PageEntry). e.frame)) (first.has i low)))
     where
       some_of : (o : Option PageView) → is_some (option_map (λ (x : PageView). x.entry.frame) o) ≡ true → IsSome o
       some_of None h = cc
@@ -70,7 +71,7 @@ module _ (v : LedgerView) (counts : List ℕ) (u n : ℕ) (kept : IsBooked v cou
   frame_low i low = subst (λ k. (entry_at run i).frame < k) (sym kept.room) (frame_in i low)
 
   -- The same once so many pages of it are shared.
-  module _ (absent : (i : ℕ) → i < run.n → page_at v to (run.page + i) ≡ None) where
+  module _ (absent : (i : ℕ) → i < run.n → page_in v to (run.page + i) ≡ None) where
     at : (k : ℕ) → HasReached v to run k
     at k = reached v to run has (λ q before. first.none q (omega arith) before) k
 
@@ -78,10 +79,10 @@ module _ (v : LedgerView) (counts : List ℕ) (u n : ℕ) (kept : IsBooked v cou
       pub booked : IsBooked (with_run_shared v to run k) (held_run v.zero_frame counts run k) (u + run_units v.zero_frame counts run k) n
       pub holds : IsSound (with_run_shared v to run k)
 
-    absent_at : (k : ℕ) → k < run.n → page_at (with_run_shared v to run k) to (run.page + k) ≡ None
+    absent_at : (k : ℕ) → k < run.n → page_in (with_run_shared v to run k) to (run.page + k) ≡ None
     absent_at k low = (at k).still (run.page + k) (omega arith) ∙ absent k low
 
-    waiting_at : (k : ℕ) → k < run.n → get (space_at (with_run_shared v to run k) to).awaiting (run.page + k) ≡ Some (entry_at run k)
+    waiting_at : (k : ℕ) → k < run.n → get (space_in (with_run_shared v to run k) to).awaiting (run.page + k) ≡ Some (entry_at run k)
     waiting_at k low = (at k).ahead (run.page + k) (omega arith) ∙ first.has k low
 
     frame_at_step : (k : ℕ) → k < run.n → (entry_at run k).frame < (with_run_shared v to run k).frames
@@ -98,9 +99,9 @@ module _ (v : LedgerView) (counts : List ℕ) (u n : ℕ) (kept : IsBooked v cou
         let most = pages_low in
         let units : u + run_units z counts run k + frame_units z (held_run z counts run k) frame + class 0 ≡ u + (run_units z counts run k + frame_units z (held_run z counts run k) frame) = omega (arith, class_none) in
         let lines : n + 0 ≡ n = omega arith in record {
-          booked = subst (λ m. IsBooked (with_shared w to (run.page + k) (record { entry = entry_at run k; overlay = None })) (held_by z (held_run z counts run k) frame)
+          booked = subst (λ m. IsBooked (put_shared w to (run.page + k) (record { entry = entry_at run k; overlay = None })) (held_by z (held_run z counts run k) frame)
               (u + (run_units z counts run k + frame_units z (held_run z counts run k) frame)) m) lines
-              (subst (λ m. IsBooked (with_shared w to (run.page + k) (record { entry = entry_at run k; overlay = None })) (held_by z (held_run z counts run k) frame) m (n + 0)) units made.books);
+              (subst (λ m. IsBooked (put_shared w to (run.page + k) (record { entry = entry_at run k; overlay = None })) (held_by z (held_run z counts run k) frame) m (n + 0)) units made.books);
           holds = sound_shared w to (run.page + k) (record { entry = entry_at run k; overlay = None }) here.holds (at k).there (absent_at k low) refl (omega (arith, low, most));
         }
 

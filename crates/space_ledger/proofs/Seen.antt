@@ -1,142 +1,183 @@
-use Rattle.std.specs.Prelude.{◌≡◌, ℕ, ◌≤◌, ◌<◌, Bool, true, Option, Some, None, is_some, refl}
-use Rattle.std.proofs.Common.{sym, ap, ◌∙◌, arith}
-use Rattle.std.specs.Option.{option_map}
+use Rattle.std.specs.Prelude.{◌≡◌, ℕ, ◌≤◌, ◌<◌, Bool, true, false, Option, Some, None, is_some, IsSome, refl}
+use Rattle.std.proofs.Common.{sym, ap, subst, ◌∙◌, arith}
+use Rattle.std.specs.Option.{option_and_then, option_map}
 use Rattle.std.specs.Ordering.{nat_cmp}
 use Rattle.std.specs.FinMap.{FinMap, empty, get, insert, remove}
-use Rattle.number_maps.specs.Keys.{alike, by_key, get_other, get_same, removed_other, removed_same}
-use Rattle.number_maps.specs.Slots.{get_slotted}
-use Rattle.number_maps.specs.Views.{get_viewed, viewed, viewed_gone, viewed_put, viewed_same}
 use Rattle.sizes.specs.declared.TheConstants.{LAST_SPACE, PAGE_END}
 use Rattle.page_table.specs.Table.{Pages}
 use Rattle.page_table.specs.declared.entry.PageEntry.{PageEntry}
 use Rattle.overlay_address.specs.Names.{overlay_page}
 use Rattle.overlay_address.specs.Laws.{same_page, same_space}
 use Rattle.overlay_mapping_table.specs.declared.entry.Entry.{Entry}
+use Rattle.overlay_mapping_table.specs.Table.{Table}
+use Rattle.ledger.specs.PlaceLaws.{by_place}
+use Rattle.space_maps.specs.Spaces.{bare_space, cut_page, cut_space, holds_space, of_pages, page_in, put_awaiting, put_mark, put_page, put_shared, put_space, space_in}
+use Rattle.space_maps.specs.Laws.{KeepsSpaces, keeps_page_put, page_absent, page_of, page_put_beside, page_put_here, space_absent, space_there, spaces_alike, there_space}
+use Rattle.space_maps.specs.Mapped.{mapped, mapped_awaiting, mapped_bare, mapped_cut, mapped_cut_page, mapped_holds, mapped_keeps, mapped_mark, mapped_page, mapped_put, mapped_put_awaiting, mapped_put_mark, mapped_put_page, mapped_put_shared, mapped_space}
+use Rattle.space_ledger.specs.declared.tables.Tables.TheInside.{Inside}
 use Rattle.space_ledger.specs.Space.{SpaceTable, adopted, awaited, marked, with_entry, without_page}
-use Rattle.space_ledger.specs.View.{LedgerView, PageView, SpaceView, has_space, page_at, space_at, with_awaiting, with_mark, with_page_at, with_pages, with_shared, with_space, without_page_at, without_space}
-use Rattle.space_ledger.specs.ViewLaws.{page_of, space_there}
-use Rattle.space_ledger.specs.Kept.{Overlays, Slots, seen, seen_page, seen_slot, seen_space, slot_at, table_of}
+use Rattle.space_ledger.specs.View.{LedgerView, PageView, SpaceView}
+use Rattle.space_ledger.specs.Kept.{IsKept, Overlays, plain, seen, seen_page}
 
--- What the slots and the overlays show, space by space.
+-- What the spaces and the overlays show, and what is shown where one of them changed.
 
-module _ (slots : Slots) (overlays : Overlays) (frames zero_frame : ℕ) where
-  pub seen_at : (q : ℕ) → get (seen slots overlays frames zero_frame).spaces q ≡ seen_slot overlays q (slot_at slots q)
+-- what is seen of the tables, and what is true of it
+pub record Shows (t : Inside) (v : LedgerView) : Type 0 where
+  pub is : seen t ≡ v
+  pub kept : IsKept v t.overlays
+
+pub shows : {t : Inside} {v : LedgerView} → seen t ≡ v → IsKept (seen t) t.overlays → Shows t v
+shows {t = t} is kept = record { is = is; kept = subst (λ w. IsKept w t.overlays) is kept }
+
+pub kept_of : {t : Inside} {v : LedgerView} → Shows t v → IsKept (seen t) t.overlays
+kept_of {t = t} s = subst (λ w. IsKept w t.overlays) (sym s.is) s.kept
+
+-- the tables with other spaces, and with other overlays
+abbrev pub with_spaces : Inside → FinMap nat_cmp SpaceTable → Inside
+with_spaces t spaces = record t { spaces = spaces }
+
+abbrev pub with_overlays : Inside → Table → Inside
+with_overlays t overlays = record t { overlays = overlays }
+
+pub some_is : {X : Type 0} (o : Option X) → IsSome o → (x : X) × (o ≡ Some x)
+some_is None h = cc
+some_is (Some x) h = (x, refl)
+
+module _ {t : Inside} {v : LedgerView} (show : Shows t v) where
+  -- what is asked of spaces and pages
+  pub has_is : (q : ℕ) → is_some (get t.spaces q) ≡ holds_space v q
   unfolding seen
-  seen_at q = get_slotted (seen_slot overlays) None (λ k. refl) slots q
+  has_is q = sym (mapped_holds (seen_page t.overlays.entries) (plain t) q) ∙ ap (λ (w : LedgerView). holds_space w q) show.is
 
-  pub seen_table : (q : ℕ) (table : SpaceTable) → table_of (slot_at slots q) ≡ Some table → get (seen slots overlays frames zero_frame).spaces q ≡ Some (seen_space overlays q table)
-  seen_table q table is = seen_at q ∙ ap (option_map (seen_space overlays q)) is
+  pub page_is : (q p : ℕ) → page_in v q p ≡ option_map (seen_page t.overlays.entries q p) (page_in (plain t) q p)
+  unfolding seen
+  page_is q p = ap (λ (w : LedgerView). page_in w q p) (sym show.is) ∙ mapped_page (seen_page t.overlays.entries) (plain t) q p
 
-  pub seen_none : (q : ℕ) → table_of (slot_at slots q) ≡ None → get (seen slots overlays frames zero_frame).spaces q ≡ None
-  seen_none q is = seen_at q ∙ ap (option_map (seen_space overlays q)) is
+  pub frames_is : v.frames ≡ t.frames
+  unfolding seen mapped
+  frames_is = ap (λ (w : LedgerView). w.frames) (sym show.is)
 
-  pub seen_has : (q : ℕ) → is_some (table_of (slot_at slots q)) ≡ has_space (seen slots overlays frames zero_frame) q
-  seen_has q = mapped (table_of (slot_at slots q)) ∙ ap is_some (sym (seen_at q))
+  -- an overlay stands under the name of its page
+  pub overlay_is : (q p : ℕ) → IsSome (page_in v q p) → get t.overlays.entries (overlay_page q p) ≡ option_and_then (λ (x : PageView). x.overlay) (page_in v q p)
+  overlay_is q p there = at (page_in (plain t) q p) (sym (ap is_some (page_is q p)) ∙ there) ∙ sym (ap (option_and_then (λ (x : PageView). x.overlay)) (page_is q p))
     where
-      mapped : (o : Option SpaceTable) → is_some o ≡ is_some (option_map (seen_space overlays q) o)
-      mapped None = refl
-      mapped (Some t) = refl
+      at : (o : Option PageEntry) → IsSome (option_map (seen_page t.overlays.entries q p) o)
+          → get t.overlays.entries (overlay_page q p) ≡ option_and_then (λ (x : PageView). x.overlay) (option_map (seen_page t.overlays.entries q p) o)
+      at None h = cc
+      at (Some e) h = refl
 
-  pub seen_space_at : (q : ℕ) (table : SpaceTable) → table_of (slot_at slots q) ≡ Some table → space_at (seen slots overlays frames zero_frame) q ≡ seen_space overlays q table
-  seen_space_at q table is = space_there (seen slots overlays frames zero_frame) q (seen_space overlays q table) (seen_table q table is)
+  -- a page that is there is of a space with a number in range
+  pub number_is : (q p : ℕ) → IsSome (page_in v q p) → q ≤ LAST_SPACE
+  number_is q p there = let x = some_is (page_in v q p) there in show.kept.numbers q (there_space v q p x.0 x.1)
 
-  pub seen_page_at : (q p : ℕ) (table : SpaceTable) → table_of (slot_at slots q) ≡ Some table
-      → page_at (seen slots overlays frames zero_frame) q p ≡ option_map (seen_page overlays q p) (get table.pages p)
-  seen_page_at q p table is =
-      page_of (seen slots overlays frames zero_frame) q p ∙ ap (λ (x : SpaceView). get x.pages p) (seen_space_at q table is)
-      ∙ get_viewed (seen_page overlays q) table.pages p
-
-  -- a space that is seen is one that a slot has
-  pub table_from : (q : ℕ) → has_space (seen slots overlays frames zero_frame) q ≡ true → (table : SpaceTable) × (table_of (slot_at slots q) ≡ Some table)
-  table_from q there = at (table_of (slot_at slots q)) refl
+  -- what isn't there
+  pub space_none : (q : ℕ) → None ≡ get t.spaces q → space_in v q ≡ bare_space
+  space_none q none = space_absent v q (at (get v.spaces q) (sym (has_is q) ∙ ap is_some (sym none)))
     where
-      at : (o : Option SpaceTable) → table_of (slot_at slots q) ≡ o → (table : SpaceTable) × (table_of (slot_at slots q) ≡ Some table)
-      at (Some table) is = (table, is)
-      at None is = let no = sym there ∙ ap is_some (seen_none q is) in cc
+      at : (o : Option SpaceView) → is_some o ≡ false → o ≡ None
+      at None h = refl
+      at (Some x) h = cc
 
--- views are equal part by part
-pub same_view : {a b : FinMap nat_cmp SpaceView} (frames zero_frame : ℕ) → a ≡ b
-    → ◌≡◌ {A = LedgerView} (record { spaces = a; frames = frames; zero_frame = zero_frame }) (record { spaces = b; frames = frames; zero_frame = zero_frame })
-same_view frames zero_frame p i = record { spaces = p i; frames = frames; zero_frame = zero_frame }
+  pub no_page_there : (q p : ℕ) → get t.spaces q ≡ None → IsSome (page_in v q p) → ⊥
+  no_page_there q p none there = let no = sym there ∙ ap is_some (page_is q p ∙ ap (option_map (seen_page t.overlays.entries q p)) (page_absent (plain t) q p none)) in cc
 
--- A change of one slot.
-module _ (old new : Slots) (overlays : Overlays) (frames zero_frame s : ℕ) (others : (q : ℕ) → (q ≡ s → ⊥) → slot_at new q ≡ slot_at old q) where
-  -- it has a space now
-  pub seen_put : (table : SpaceTable) → table_of (slot_at new s) ≡ Some table
-      → seen new overlays frames zero_frame ≡ with_space (seen old overlays frames zero_frame) s (seen_space overlays s table)
-  unfolding seen with_space
-  seen_put table is = same_view frames zero_frame (alike _ _ (λ q. by_key q s
-      (λ same. ap (get (seen new overlays frames zero_frame).spaces) same ∙ seen_table new overlays frames zero_frame s table is
-      ∙ sym (get_same (seen old overlays frames zero_frame).spaces s q (seen_space overlays s table) same))
-      (λ d. seen_at new overlays frames zero_frame q ∙ ap (seen_slot overlays q) (others q d) ∙ sym (seen_at old overlays frames zero_frame q)
-      ∙ sym (get_other (seen old overlays frames zero_frame).spaces s q (seen_space overlays s table) d))))
+  pub no_space_is : (q : ℕ) → get t.spaces q ≡ None → holds_space v q ≡ true → ⊥
+  no_space_is q none there = let no = sym there ∙ sym (has_is q) ∙ ap is_some none in cc
 
-  -- it has none now
-  pub seen_lost : table_of (slot_at new s) ≡ None → seen new overlays frames zero_frame ≡ without_space (seen old overlays frames zero_frame) s
-  unfolding seen without_space
-  seen_lost is = same_view frames zero_frame (alike _ _ (λ q. by_key q s
-      (λ same. ap (get (seen new overlays frames zero_frame).spaces) same ∙ seen_none new overlays frames zero_frame s is
-      ∙ sym (removed_same (seen old overlays frames zero_frame).spaces s q same))
-      (λ d. seen_at new overlays frames zero_frame q ∙ ap (seen_slot overlays q) (others q d) ∙ sym (seen_at old overlays frames zero_frame q)
-      ∙ sym (removed_other (seen old overlays frames zero_frame).spaces s q d))))
+  pub no_page_is : (q p : ℕ) → get t.spaces q ≡ None → page_in v q p ≡ None
+  no_page_is q p none = page_is q p ∙ ap (option_map (seen_page t.overlays.entries q p)) (page_absent (plain t) q p none)
 
--- slots that show the same
-pub seen_same : (old new : Slots) (overlays : Overlays) (frames zero_frame : ℕ) → ((q : ℕ) → slot_at new q ≡ slot_at old q)
-    → seen new overlays frames zero_frame ≡ seen old overlays frames zero_frame
-unfolding seen
-seen_same old new overlays frames zero_frame same = same_view frames zero_frame (alike _ _ (λ q.
-    seen_at new overlays frames zero_frame q ∙ ap (seen_slot overlays q) (same q) ∙ sym (seen_at old overlays frames zero_frame q)))
+-- One space of the tables.
+module _ {t : Inside} {v : LedgerView} (show : Shows t v) (s : ℕ) (x : SpaceTable) (at : get t.spaces s ≡ Some x) where
+  seen_by : ℕ → ℕ → PageEntry → PageView
+  seen_by = seen_page t.overlays.entries
 
--- What the calls do to one space, as it is seen.
+  here : space_in (plain t) s ≡ x
+  here = space_there (plain t) s x at
 
-module _ (slots : Slots) (overlays : Overlays) (frames zero_frame s : ℕ) (table : SpaceTable) (is : table_of (slot_at slots s) ≡ Some table) where
-  v : LedgerView
-  v = seen slots overlays frames zero_frame
+  pub there_is : holds_space v s ≡ true
+  there_is = sym (has_is show s) ∙ ap is_some at
 
-  same_space_view : {a b : FinMap nat_cmp PageView} {c d : Pages} {m n : Bool} → a ≡ b → c ≡ d → m ≡ n
-      → ◌≡◌ {A = SpaceView} (record { pages = a; awaiting = c; speculating = m }) (record { pages = b; awaiting = d; speculating = n })
-  same_space_view p q r i = record { pages = p i; awaiting = q i; speculating = r i }
+  pub awaiting_is : (space_in v s).awaiting ≡ x.awaiting
+  unfolding seen
+  awaiting_is = ap (λ (w : LedgerView). (space_in w s).awaiting) (sym show.is) ∙ mapped_awaiting (seen_page t.overlays.entries) (plain t) s ∙ ap (λ (y : SpaceTable). y.awaiting) here
 
-  here : space_at v s ≡ seen_space overlays s table
-  unfolding v
-  here = seen_space_at slots overlays frames zero_frame s table is
+  pub mark_is : (space_in v s).speculating ≡ x.speculating
+  unfolding seen
+  mark_is = ap (λ (w : LedgerView). (space_in w s).speculating) (sym show.is) ∙ mapped_mark (seen_page t.overlays.entries) (plain t) s ∙ ap (λ (y : SpaceTable). y.speculating) here
 
-  pub put_entry : (p : ℕ) (entry : PageEntry)
-      → with_space (seen slots overlays frames zero_frame) s (seen_space overlays s (with_entry table p entry)) ≡ with_page_at (seen slots overlays frames zero_frame) s p (seen_page overlays s p entry)
-  unfolding with_page_at v
-  put_entry p entry =
-      ap (with_space v s)
-      (same_space_view (viewed_put (seen_page overlays s) table.pages p entry) refl refl
-      ∙ ap (λ (x : SpaceView). with_pages x (insert x.pages p (seen_page overlays s p entry))) (sym here))
+  pub page_at : (p : ℕ) → page_in v s p ≡ option_map (seen_page t.overlays.entries s p) (get x.pages p)
+  page_at p = page_is show s p ∙ ap (option_map (seen_page t.overlays.entries s p)) (page_of (plain t) s p ∙ ap (λ (y : SpaceTable). get y.pages p) here)
 
-  pub gone_entry : (p : ℕ) → with_space (seen slots overlays frames zero_frame) s (seen_space overlays s (without_page table p)) ≡ without_page_at (seen slots overlays frames zero_frame) s p
-  unfolding without_page_at v
-  gone_entry p =
-      ap (with_space v s)
-      (same_space_view (viewed_gone (seen_page overlays s) table.pages p) refl refl ∙ ap (λ (x : SpaceView). with_pages x (remove x.pages p)) (sym here))
+  pub entry_at : (p : ℕ) → get x.pages p ≡ option_map (λ (y : PageView). y.entry) (page_in v s p)
+  entry_at p = back (get x.pages p) ∙ sym (ap (option_map (λ (y : PageView). y.entry)) (page_at p))
+    where
+      back : (o : Option PageEntry) → o ≡ option_map (λ (y : PageView). y.entry) (option_map (seen_page t.overlays.entries s p) o)
+      back None = refl
+      back (Some e) = refl
 
-  pub shared_entry : (p : ℕ) (entry : PageEntry)
-      → with_space (seen slots overlays frames zero_frame) s (seen_space overlays s (awaited table p entry)) ≡ with_shared (seen slots overlays frames zero_frame) s p (seen_page overlays s p entry)
-  unfolding with_shared v
-  shared_entry p entry =
-      ap (with_space v s)
-      (same_space_view (viewed_put (seen_page overlays s) table.pages p entry) refl refl
-      ∙ ap (λ (x : SpaceView). record { pages = insert x.pages p (seen_page overlays s p entry); awaiting = remove x.awaiting p; speculating = x.speculating }) (sym here))
+  pub entry_there : (p : ℕ) → IsSome (page_in v s p) → IsSome (get x.pages p)
+  entry_there p there = ap is_some (entry_at p) ∙ mapped_is (page_in v s p) there
+    where
+      mapped_is : (o : Option PageView) → IsSome o → IsSome (option_map (λ (y : PageView). y.entry) o)
+      mapped_is None h = h
+      mapped_is (Some y) h = refl
 
-  pub marked_space : (on : Bool) → with_space (seen slots overlays frames zero_frame) s (seen_space overlays s (marked table on)) ≡ with_mark (seen slots overlays frames zero_frame) s on
-  unfolding with_mark v
-  marked_space on = ap (λ (x : SpaceView). with_space v s (record { pages = x.pages; awaiting = x.awaiting; speculating = on })) (sym here)
+  -- The space is changed: what is seen then. Each change is one of the spaces with their entries.
 
-  pub adopted_space : (given : Pages) → table.pages ≡ empty → with_space (seen slots overlays frames zero_frame) s (seen_space overlays s (adopted table given)) ≡ with_awaiting (seen slots overlays frames zero_frame) s given
-  unfolding with_awaiting v
-  adopted_space given none =
-      ap (with_space v s)
-      (same_space_view (ap (viewed (seen_page overlays s)) (sym none)) refl refl
-      ∙ ap (λ (x : SpaceView). record { pages = x.pages; awaiting = given; speculating = x.speculating }) (sym here))
+  seen_put : (y : SpaceTable) → seen (with_spaces t (insert t.spaces s y)) ≡ mapped (seen_page t.overlays.entries) (put_space (plain t) s y)
+  unfolding seen put_space
+  seen_put y = refl
 
--- A change of the overlay under one name.
+  pub seen_entry : (p : ℕ) (e : PageEntry) → seen (with_spaces t (insert t.spaces s (with_entry x p e))) ≡ put_page v s p (seen_page t.overlays.entries s p e)
+  unfolding seen put_page
+  seen_entry p e =
+      seen_put (with_entry x p e) ∙ ap (λ (y : SpaceTable). mapped (seen_page t.overlays.entries) (put_space (plain t) s (of_pages y (insert y.pages p e)))) (sym here)
+      ∙ mapped_put_page (seen_page t.overlays.entries) (plain t) s p e ∙ ap (λ (w : LedgerView). put_page w s p (seen_page t.overlays.entries s p e)) show.is
 
--- every other name is as it was
+  pub seen_gone : (p : ℕ) → seen (with_spaces t (insert t.spaces s (without_page x p))) ≡ cut_page v s p
+  unfolding seen cut_page
+  seen_gone p =
+      seen_put (without_page x p) ∙ ap (λ (y : SpaceTable). mapped (seen_page t.overlays.entries) (put_space (plain t) s (of_pages y (remove y.pages p)))) (sym here)
+      ∙ mapped_cut_page (seen_page t.overlays.entries) (plain t) s p ∙ ap (λ (w : LedgerView). cut_page w s p) show.is
+
+  pub seen_shared : (p : ℕ) (e : PageEntry) → seen (with_spaces t (insert t.spaces s (awaited x p e))) ≡ put_shared v s p (seen_page t.overlays.entries s p e)
+  unfolding seen put_shared
+  seen_shared p e =
+      seen_put (awaited x p e)
+      ∙ ap (λ (y : SpaceTable). mapped (seen_page t.overlays.entries) (put_space (plain t) s (record { pages = insert y.pages p e; awaiting = remove y.awaiting p; speculating = y.speculating }))) (sym here)
+      ∙ mapped_put_shared (seen_page t.overlays.entries) (plain t) s p e ∙ ap (λ (w : LedgerView). put_shared w s p (seen_page t.overlays.entries s p e)) show.is
+
+  pub seen_marked : (on : Bool) → seen (with_spaces t (insert t.spaces s (marked x on))) ≡ put_mark v s on
+  unfolding seen put_mark
+  seen_marked on =
+      seen_put (marked x on)
+      ∙ ap (λ (y : SpaceTable). mapped (seen_page t.overlays.entries) (put_space (plain t) s (record { pages = y.pages; awaiting = y.awaiting; speculating = on }))) (sym here)
+      ∙ mapped_put_mark (seen_page t.overlays.entries) (plain t) s on ∙ ap (λ (w : LedgerView). put_mark w s on) show.is
+
+  pub seen_adopted : (given : Pages) → x.pages ≡ empty → seen (with_spaces t (insert t.spaces s (adopted x given))) ≡ put_awaiting v s given
+  unfolding seen put_awaiting
+  seen_adopted given none =
+      seen_put (adopted x given)
+      ∙ ap (λ (m : Pages). mapped (seen_page t.overlays.entries) (put_space (plain t) s (record { pages = m; awaiting = given; speculating = x.speculating }))) (sym none)
+      ∙ ap (λ (y : SpaceTable). mapped (seen_page t.overlays.entries) (put_space (plain t) s (record { pages = y.pages; awaiting = given; speculating = y.speculating }))) (sym here)
+      ∙ mapped_put_awaiting (seen_page t.overlays.entries) (plain t) s given ∙ ap (λ (w : LedgerView). put_awaiting w s given) show.is
+
+-- A space put in, and one taken away.
+module _ {t : Inside} {v : LedgerView} (show : Shows t v) (s : ℕ) where
+  pub seen_space : (y : SpaceTable) → seen (with_spaces t (insert t.spaces s y)) ≡ put_space v s (mapped_space (seen_page t.overlays.entries s) y)
+  unfolding seen put_space
+  seen_space y = mapped_put (seen_page t.overlays.entries) (plain t) s y ∙ ap (λ (w : LedgerView). put_space w s (mapped_space (seen_page t.overlays.entries s) y)) show.is
+
+  pub seen_added : seen (with_spaces t (insert t.spaces s bare_space)) ≡ put_space v s bare_space
+  seen_added = seen_space bare_space ∙ ap (put_space v s) (mapped_bare (seen_page t.overlays.entries) (seen_page t.overlays.entries s))
+
+  pub seen_lost : seen (with_spaces t (remove t.spaces s)) ≡ cut_space v s
+  unfolding seen cut_space
+  seen_lost = mapped_cut (seen_page t.overlays.entries) (plain t) s ∙ ap (λ (w : LedgerView). cut_space w s) show.is
+
+-- A change of the overlay under one name: every other name is as it was.
+
 abbrev pub AreOthers : Overlays → Overlays → ℕ → Type 0
 AreOthers old new name = (n : ℕ) → (n ≡ name → ⊥) → get new n ≡ get old n
 
@@ -145,61 +186,39 @@ apart s p q r ls lp lq lr differs same =
     differs (same_space q r s p (omega (arith, lq)) (omega (arith, lr)) (omega (arith, ls)) (omega (arith, lp)) same)
     (same_page q r s p (omega (arith, lq)) (omega (arith, lr)) (omega (arith, ls)) (omega (arith, lp)) same)
 
-module _ (slots : Slots) (old new : Overlays) (frames zero_frame s p : ℕ) (table : SpaceTable) (is : table_of (slot_at slots s) ≡ Some table)
-    (few : (q : ℕ) (t : SpaceTable) → table_of (slot_at slots q) ≡ Some t → q ≤ LAST_SPACE)
-    (low : (q r : ℕ) (t : SpaceTable) (e : PageEntry) → table_of (slot_at slots q) ≡ Some t → get t.pages r ≡ Some e → r < PAGE_END) (inside : p < PAGE_END)
-    (others : AreOthers old new (overlay_page s p)) where
-  other_space : (q : ℕ) (t : SpaceTable) → table_of (slot_at slots q) ≡ Some t → (q ≡ s → ⊥) → seen_space new q t ≡ seen_space old q t
-  other_space q t at d = ap (λ m. record { pages = m; awaiting = t.awaiting; speculating = t.speculating })
-      (viewed_same (seen_page new q) (seen_page old q) t.pages (λ r e there.
-      ap (λ o. record { entry = e; overlay = o }) (others (overlay_page q r) (apart s p q r (few s table is) inside (few q t at) (low q r t e at there) (λ ss rr. d ss)))))
-
-  other_slot : (q : ℕ) → (q ≡ s → ⊥) → (o : Option SpaceTable) → table_of (slot_at slots q) ≡ o → option_map (seen_space new q) o ≡ option_map (seen_space old q) o
-  other_slot q d None at = refl
-  other_slot q d (Some t) at = ap Some (other_space q t at d)
-
-  -- at a page that is there
-  pub overlay_put : (entry : PageEntry) (overlay : Option Entry) → get table.pages p ≡ Some entry → get new (overlay_page s p) ≡ overlay
-      → seen slots new frames zero_frame ≡ with_page_at (seen slots old frames zero_frame) s p (record { entry = entry; overlay = overlay })
-  unfolding seen with_space with_page_at
-  overlay_put entry overlay there now = same_view frames zero_frame (alike _ _ (λ q. by_key q s
-      (λ same. ap (get (seen slots new frames zero_frame).spaces) same ∙ seen_table slots new frames zero_frame s table is ∙ ap Some inner ∙ sym (get_same (seen slots old frames zero_frame).spaces s q _ same))
-      (λ d. seen_at slots new frames zero_frame q ∙ other_slot q d (table_of (slot_at slots q)) refl ∙ sym (seen_at slots old frames zero_frame q)
-      ∙ sym (get_other (seen slots old frames zero_frame).spaces s q _ d))))
-    where
-      x : PageView
-      x = record { entry = entry; overlay = overlay }
-
-      pages : viewed (seen_page new s) table.pages ≡ insert (viewed (seen_page old s) table.pages) p x
-      pages = alike _ _ (λ r. by_key r p
-          (λ rr. get_viewed (seen_page new s) table.pages r ∙ ap (option_map (seen_page new s r)) (ap (get table.pages) rr ∙ there)
-          ∙ ap (λ o. Some (record { entry = entry; overlay = o })) (ap (λ n. get new (overlay_page s n)) rr ∙ now)
-          ∙ sym (get_same (viewed (seen_page old s) table.pages) p r x rr))
-          (λ d. get_viewed (seen_page new s) table.pages r ∙ at r d (get table.pages r) refl ∙ sym (get_viewed (seen_page old s) table.pages r)
-          ∙ sym (get_other (viewed (seen_page old s) table.pages) p r x d)))
-        where
-          at : (r : ℕ) → (r ≡ p → ⊥) → (o : Option PageEntry) → get table.pages r ≡ o → option_map (seen_page new s r) (get table.pages r) ≡ option_map (seen_page old s r) (get table.pages r)
-          at r d None gone = ap (option_map (seen_page new s r)) gone ∙ sym (ap (option_map (seen_page old s r)) gone)
-          at r d (Some e) found =
-              ap (option_map (seen_page new s r)) found
-              ∙ ap (λ o. Some (record { entry = e; overlay = o })) (others (overlay_page s r) (apart s p s r (few s table is) inside (few s table is) (low s r table e is found) (λ ss rr. d rr)))
-              ∙ sym (ap (option_map (seen_page old s r)) found)
-
-      inner : seen_space new s table ≡ with_pages (space_at (seen slots old frames zero_frame) s) (insert (space_at (seen slots old frames zero_frame) s).pages p x)
-      inner =
-          ap (λ m. record { pages = m; awaiting = table.awaiting; speculating = table.speculating }) pages
-          ∙ ap (λ (y : SpaceView). with_pages y (insert y.pages p x)) (sym (seen_space_at slots old frames zero_frame s table is))
-
-  -- at a page that isn't
-  pub overlay_unseen : get table.pages p ≡ None → seen slots new frames zero_frame ≡ seen slots old frames zero_frame
+module _ {t : Inside} {v : LedgerView} (show : Shows t v) (new : Table) (s p : ℕ) (x : PageView) (there : page_in v s p ≡ Some x)
+    (others : AreOthers t.overlays.entries new.entries (overlay_page s p)) where
+  beside : (q r : ℕ) → (q ≡ s → r ≡ p → ⊥) → page_in (seen (with_overlays t new)) q r ≡ page_in v q r
   unfolding seen
-  overlay_unseen absent = same_view frames zero_frame (alike _ _ (λ q. by_key q s
-      (λ same. ap (get (seen slots new frames zero_frame).spaces) same ∙ seen_table slots new frames zero_frame s table is ∙ ap Some inner
-      ∙ sym (ap (get (seen slots old frames zero_frame).spaces) same ∙ seen_table slots old frames zero_frame s table is))
-      (λ d. seen_at slots new frames zero_frame q ∙ other_slot q d (table_of (slot_at slots q)) refl ∙ sym (seen_at slots old frames zero_frame q))))
+  beside q r d = mapped_page (seen_page new.entries) (plain t) q r ∙ at (page_in (plain t) q r) refl ∙ sym (page_is show q r)
     where
-      inner : seen_space new s table ≡ seen_space old s table
-      inner = ap (λ m. record { pages = m; awaiting = table.awaiting; speculating = table.speculating })
-          (viewed_same (seen_page new s) (seen_page old s) table.pages (λ r e there.
-          ap (λ o. record { entry = e; overlay = o }) (others (overlay_page s r) (apart s p s r (few s table is) inside (few s table is) (low s r table e is there)
-          (λ ss rr. let no = ap is_some (sym there ∙ ap (get table.pages) rr ∙ absent) in cc)))))
+      at : (o : Option PageEntry) → page_in (plain t) q r ≡ o
+          → option_map (seen_page new.entries q r) (page_in (plain t) q r) ≡ option_map (seen_page t.overlays.entries q r) (page_in (plain t) q r)
+      at None is = ap (option_map (seen_page new.entries q r)) is ∙ sym (ap (option_map (seen_page t.overlays.entries q r)) is)
+      at (Some e) is =
+          let some : IsSome (page_in v q r) = ap is_some (page_is show q r ∙ ap (option_map (seen_page t.overlays.entries q r)) is) in
+          let mine : IsSome (page_in v s p) = ap is_some there in
+          ap (option_map (seen_page new.entries q r)) is
+          ∙ ap (λ o. Some (record { entry = e; overlay = o }))
+          (others (overlay_page q r) (apart s p q r (number_is show s p mine) (show.kept.low s p mine) (number_is show q r some) (show.kept.low q r some) d))
+          ∙ sym (ap (option_map (seen_page t.overlays.entries q r)) is)
+
+  -- what is seen then is the page with another overlay
+  pub seen_over : (o : Option Entry) → get new.entries (overlay_page s p) ≡ o → seen (with_overlays t new) ≡ put_page v s p (record { entry = x.entry; overlay = o })
+  unfolding seen
+  seen_over o now = spaces_alike v (seen (with_overlays t new)) (put_page v s p y)
+      (subst (λ (w : LedgerView). KeepsSpaces w (seen (with_overlays t new))) show.is (mapped_keeps (seen_page t.overlays.entries) (seen_page new.entries) (plain t)))
+      (keeps_page_put v s p y (there_space v s p x there))
+      (λ q r. by_place s p q r
+      (λ qq rr. ap (λ n. page_in (seen (with_overlays t new)) n r) qq ∙ ap (page_in (seen (with_overlays t new)) s) rr ∙ mapped_page (seen_page new.entries) (plain t) s p
+      ∙ at (page_in (plain t) s p) (sym (page_is show s p) ∙ there) ∙ sym (page_put_here v s p y q r qq rr))
+      (λ d. beside q r d ∙ sym (page_put_beside v s p y q r d)))
+    where
+      y : PageView
+      y = record { entry = x.entry; overlay = o }
+
+      at : (w : Option PageEntry) → option_map (seen_page t.overlays.entries s p) w ≡ Some x → option_map (seen_page new.entries s p) w ≡ Some y
+      at None h = cc
+      at (Some e) h =
+          let same : e ≡ x.entry = ap (λ (m : Option PageView). elim m [ None ↦ e | Some z ↦ z.entry ]) h in
+          ap (λ m. Some (record { entry = e; overlay = m })) now ∙ ap (λ n. Some (record { entry = n; overlay = o })) same

@@ -5,8 +5,9 @@ use Rattle.std.specs.FinMap.{get, len}
 use Rattle.page_table.specs.Run.{IsRunFrom, entry_at}
 use Rattle.page_table.specs.declared.entry.PageEntry.{PageEntry}
 use Rattle.page_table.specs.declared.run.PageRun.{PageRun}
+use Rattle.space_maps.specs.Spaces.{holds_space, page_in, put_shared, space_in}
 use Rattle.space_ledger.specs.Space.{IsLeast}
-use Rattle.space_ledger.specs.View.{LedgerView, PageView, has_space, overlay_at, page_at, space_at, with_page_shared, with_run_shared, with_shared}
+use Rattle.space_ledger.specs.View.{LedgerView, PageView, overlay_at, with_page_shared, with_run_shared}
 use Rattle.space_ledger.specs.Calls.{AreBareBelow, AreSharedBare}
 use Rattle.space_ledger.specs.Calls.AreSharedBare.{Still, Then}
 use Rattle.space_ledger.proofs.Parts.{by_end, count_gone, some_count}
@@ -22,13 +23,13 @@ both a b c (Then _ _ page low least absent more) rest = Then a c page low least 
 
 -- What holds while pages are shared.
 pub record IsSharing (old now : LedgerView) (from to until : ℕ) : Type 0 where
-  pub space : has_space now to ≡ true
+  pub space : holds_space now to ≡ true
   pub bare : AreBareBelow now from to until
   pub run : AreSharedBare from to until old now
 
 -- One more run.
 module _ (old v : LedgerView) (from to until : ℕ) (run : PageRun) (differs : from ≡ to → ⊥) (so_far : IsSharing old v from to until)
-    (first : IsRunFrom (space_at v to).awaiting 0 run) (under : run.page + run.n ≤ until) where
+    (first : IsRunFrom (space_in v to).awaiting 0 run) (under : run.page + run.n ≤ until) where
   -- its pages are bare too
   pub bare_run : AreBareBelow v from to (run.page + run.n)
   bare_run page low some = so_far.bare page (omega (arith, low, under)) some
@@ -36,10 +37,10 @@ module _ (old v : LedgerView) (from to until : ℕ) (run : PageRun) (differs : f
   at : (k : ℕ) → HasReached v to run k
   at k = reached v to run so_far.space (λ q before. first.none q (omega arith) before) k
 
-  waits_at : (k : ℕ) → k < run.n → get (space_at (with_run_shared v to run k) to).awaiting (run.page + k) ≡ Some (entry_at run k)
+  waits_at : (k : ℕ) → k < run.n → get (space_in (with_run_shared v to run k) to).awaiting (run.page + k) ≡ Some (entry_at run k)
   waits_at k low = (at k).ahead (run.page + k) (omega arith) ∙ first.has k low
 
-  least_at : (k : ℕ) → k < run.n → IsLeast (space_at (with_run_shared v to run k) to).awaiting (run.page + k)
+  least_at : (k : ℕ) → k < run.n → IsLeast (space_in (with_run_shared v to run k) to).awaiting (run.page + k)
   least_at k low = record {
     there = ap is_some (waits_at k low);
     least = λ q some. by_end q (run.page + k)
@@ -48,34 +49,34 @@ module _ (old v : LedgerView) (from to until : ℕ) (run : PageRun) (differs : f
   }
 
   shared_at : (k : ℕ) → k < run.n
-      → with_page_shared (with_run_shared v to run k) from to (run.page + k) None ≡ with_shared (with_run_shared v to run k) to (run.page + k) (record { entry = entry_at run k; overlay = None })
+      → with_page_shared (with_run_shared v to run k) from to (run.page + k) None ≡ put_shared (with_run_shared v to run k) to (run.page + k) (record { entry = entry_at run k; overlay = None })
   shared_at k low =
       sym (shared_view (with_run_shared v to run k) from to (run.page + k) (entry_at run k) (overlay_at (with_run_shared v to run k) from (run.page + k)) None None (waits_at k low) refl refl)
 
   -- as many pages fewer await
-  fewer_at : (k : ℕ) → k ≤ run.n → len (space_at (with_run_shared v to run k) to).awaiting + k ≤ len (space_at v to).awaiting
+  fewer_at : (k : ℕ) → k ≤ run.n → len (space_in (with_run_shared v to run k) to).awaiting + k ≤ len (space_in v to).awaiting
   unfolding with_run_shared
   fewer_at zero few = omega arith
   fewer_at (suc k) few =
       let low : k < run.n = omega (arith, few) in
-      let m = (space_at (with_run_shared v to run k) to).awaiting in
+      let m = (space_in (with_run_shared v to run k) to).awaiting in
       let there : IsSome (get m (run.page + k)) = ap is_some (waits_at k low) in
       let less = ap len (awaiting_is (with_run_shared v to run k) to (run.page + k) (record { entry = entry_at run k; overlay = None })) ∙ count_gone m (run.page + k) there in
       let some = some_count m (run.page + k) there in
       let before = fewer_at k (omega (arith, few)) in
       omega (arith, less, some, before)
 
-  pub fewer : len (space_at (with_run_shared v to run run.n) to).awaiting < len (space_at v to).awaiting
+  pub fewer : len (space_in (with_run_shared v to run run.n) to).awaiting < len (space_in v to).awaiting
   fewer = let less = fewer_at run.n (omega arith) in let some = first.some in omega (arith, less, some)
 
-  module _ (absent : (i : ℕ) → i < run.n → page_at v to (run.page + i) ≡ None) where
+  module _ (absent : (i : ℕ) → i < run.n → page_in v to (run.page + i) ≡ None) where
     chain : (k : ℕ) → k ≤ run.n → AreSharedBare from to until v (with_run_shared v to run k)
     unfolding with_run_shared
     chain zero few = Still v
     chain (suc k) few =
         let low : k < run.n = omega (arith, few) in
         let w = with_run_shared v to run k in
-        let new = with_shared w to (run.page + k) (record { entry = entry_at run k; overlay = None }) in
+        let new = put_shared w to (run.page + k) (record { entry = entry_at run k; overlay = None }) in
         both v w new (chain k (omega (arith, few)))
         (Then w new (run.page + k) (omega (arith, low, under)) (least_at k low) ((at k).still (run.page + k) (omega arith) ∙ absent k low)
         (subst (λ (t : LedgerView). AreSharedBare from to until t new) (sym (shared_at k low)) (Still new)))

@@ -1,152 +1,201 @@
-use Rattle.std.specs.Prelude.{◌≡◌, ℕ, ◌+◌, ◌≤◌, Bool, true, false, cond, nat_lt, length, Option, Some, None, is_some, IsSome, refl}
-use Rattle.std.proofs.Common.{sym, ap, subst, ◌∙◌}
-use Rattle.std.specs.Option.{option_and_then, option_map}
+use Rattle.std.specs.Prelude.{◌≡◌, ℕ, ◌+◌, ◌*◌, ◌≤◌, ◌<◌, Bool, true, false, cond, nat_lt, [], length, Option, Some, None, is_some, IsSome, Result, Ok, Err, OnOk, OnErr, refl}
+use Rattle.std.proofs.Common.{sym, ap, subst, ◌∙◌, arith}
+use Rattle.std.specs.Option.{option_map, option_and_then}
 use Rattle.std.specs.Ordering.{nat_cmp}
-use Rattle.std.specs.FinMap.{empty, get, get-empty, insert}
-use Rattle.number_maps.specs.Keys.{by_key, removed_same}
-use Rattle.number_maps.specs.Values.{remove_absent}
-use Rattle.number_maps.specs.Views.{viewed, viewed_empty}
-use Rattle.sizes.specs.declared.TheConstants.{LAST_SPACE}
+use Rattle.std.specs.FinMap.{FinMap, empty, get, get-empty, insert, len, len-empty, remove}
+use Rattle.number_maps.specs.Keys.{alike, insert_kept}
+use Rattle.number_maps.specs.Values.{len_low}
+use Rattle.number_maps.specs.Views.{get_viewed, len_viewed}
+use Rattle.sizes.specs.declared.TheConstants.{FRAME_UNITS, LAST_SPACE, PAGE_END}
 use Rattle.page_table.specs.Table.{Pages}
+use Rattle.page_table.specs.Run.{IsRunFrom}
 use Rattle.page_table.specs.declared.entry.PageEntry.{PageEntry}
-use Rattle.ledger.specs.Ledger.{Holding, Ledger}
-use Rattle.ledger.specs.Units.{overlaid_pages, tally}
-use Rattle.ledger.specs.TallyLaws.{tally_empty}
-use Rattle.space_ledger.specs.Space.{adopted, marked, with_entry, without_page}
-use Rattle.space_ledger.specs.View.{LedgerView, PageView, SpaceView, has_space, holding_of, ledger_of, no_pages, page_at, space_at, with_awaiting, with_entry_at, with_mark, with_page_at, with_space, without_page_at, without_space}
-use Rattle.space_ledger.specs.ViewLaws.{beside_space, changed_there, in_space, kept_pages, ledger_awaiting, ledger_marked, ledger_spaces, ledger_with, ledger_without, page_of, space_absent, space_left, there_space, view_awaiting, view_marked}
-use Rattle.space_ledger.specs.Kept.{IsChanged, IsKept, IsSet, OnTable, Overlays, Slots, seen, seen_page, slot_at, table_of}
-use Rattle.space_ledger.proofs.Seen.{adopted_space, gone_entry, marked_space, put_entry, seen_lost, seen_put, table_from}
-use Rattle.space_ledger.proofs.Keeping.{kept_as, kept_entry, kept_gone, some_is}
-use Rattle.space_ledger.proofs.TableLaws.{overlay_is}
+use Rattle.page_table.specs.declared.run.PageRun.{PageRun}
+use Rattle.overlay_address.specs.Names.{overlay_page}
+use Rattle.overlay_mapping_table.specs.declared.entry.Entry.{Entry}
+use Rattle.overlay_mapping_table.specs.Table.{Table}
+use Rattle.ledger.specs.Ledger.{Holding, Ledger, all_holdings}
+use Rattle.ledger.specs.Units.{overlaid_pages}
+use Rattle.ledger.specs.TallyLaws.{no_holdings, tally_none}
+use Rattle.space_maps.specs.Spaces.{bare_space, cut_page, cut_space, holds_space, page_in, put_awaiting, put_mark, put_page, put_shared, put_space, space_in}
+use Rattle.space_maps.specs.Laws.{changed_there, page_absent, page_of}
+use Rattle.space_maps.specs.Mapped.{mapped, mapped_none}
+use Rattle.space_maps.specs.Books.{books_empty}
+use Rattle.space_ledger.specs.declared.tables.Tables.TheInside.{Inside}
+use Rattle.space_ledger.specs.Space.{SpaceTable, AreMapped, IsNextPage, adopted, awaited, marked, run_awaited, with_entry, without_page}
+use Rattle.space_ledger.specs.View.{LedgerView, PageView, SpaceView, holding_of, ledger_of, with_entry_at, with_run_shared, with_zero_pages}
+use Rattle.space_ledger.specs.Calls.{AreFree, HasSpare, IsLined, IsNextOf, IsSound, entries_of}
+use Rattle.space_ledger.specs.Kept.{IsKept, plain, seen, seen_page}
+use Rattle.space_ledger.proofs.Seen.{Shows, awaiting_is, entry_at, overlay_is, page_at, seen_added, seen_adopted, seen_entry, seen_gone, seen_lost, seen_marked, some_is, there_is, with_overlays, with_spaces}
+use Rattle.space_ledger.proofs.Keeping.{kept_added, kept_awaiting, kept_entry, kept_gone, kept_lost, kept_mark}
+use Rattle.space_ledger.proofs.Overlaying.{shown_shared, shown_shared_over}
+use Rattle.space_ledger.proofs.RunViews.{shown_run}
+use Rattle.space_ledger.proofs.Mapping.{shown_mapped}
 
--- What each change of slots and overlays makes of the view, and that what is true of them is kept.
+-- What each call on one space makes of the view, and that what is true of it is kept.
 
--- the same view afterwards, and all that is kept
-pub record Made (old : Slots) (new : Slots) (overlays : Overlays) (frames zero_frame room : ℕ) (view : LedgerView) : Type 0 where
-  pub view_is : seen new overlays frames zero_frame ≡ view
-  pub kept : IsKept (length new) (seen new overlays frames zero_frame) overlays room
+module _ {t : Inside} {v : LedgerView} (show : Shows t v) (s : ℕ) (x y : SpaceTable) (at : Some x ≡ get t.spaces s) where
+  made : (change : SpaceTable) (w : LedgerView) → y ≡ change → Shows (with_spaces t (insert t.spaces s change)) w → Shows (with_spaces t (insert t.spaces s y)) w
+  made change w is shown = subst (λ k. Shows (with_spaces t (insert t.spaces s k)) w) (sym is) shown
 
-module _ (old new : Slots) (overlays : Overlays) (frames zero_frame room s : ℕ) (kept : IsKept (length old) (seen old overlays frames zero_frame) overlays room) where
-  v : LedgerView
-  v = seen old overlays frames zero_frame
+  has : holds_space v s ≡ true
+  has = there_is show s x (sym at)
 
-  made : (view : LedgerView) → length new ≡ length old → seen new overlays frames zero_frame ≡ view → IsKept (length old) view overlays room → Made old new overlays frames zero_frame room view
-  made view same is ok = record {
-    view_is = is;
-    kept = subst (λ n. IsKept n (seen new overlays frames zero_frame) overlays room) (sym same) (subst (λ w. IsKept (length old) w overlays room) (sym is) ok);
-  }
-
-  -- a page's entry
-  pub made_entry : (p : ℕ) (entry : PageEntry) → IsSome (page_at (seen old overlays frames zero_frame) s p) → IsChanged (λ t. with_entry t p entry) old new s → length new ≡ length old
-      → Made old new overlays frames zero_frame room (with_entry_at (seen old overlays frames zero_frame) s p entry)
-  unfolding v with_entry_at
-  made_entry p entry there changed same =
-      let x = some_is (page_at v s p) there in
-      let found = table_from old overlays frames zero_frame s (there_space v s p x.0 x.1) in
-      let y : PageView = seen_page overlays s p entry in
-      let over : y.overlay ≡ x.0.overlay = overlay_is old overlays frames zero_frame s p there ∙ ap (option_and_then (λ (z : PageView). z.overlay)) x.1 in
-      let raw : seen new overlays frames zero_frame ≡ with_page_at v s p y =
-      seen_put old new overlays frames zero_frame s changed.others (with_entry found.0 p entry) (changed.here ∙ ap (option_map (λ t. with_entry t p entry)) found.1)
-      ∙ put_entry old overlays frames zero_frame s found.0 found.1 p entry in
-      let named : with_page_at v s p y ≡ with_entry_at v s p entry =
-      ap (λ o. with_page_at v s p (record { entry = entry; overlay = o })) over
-      ∙ sym (changed_there (λ (z : PageView). record { entry = entry; overlay = z.overlay }) v s p x.0 x.1) in
-      made (with_entry_at v s p entry) same (raw ∙ named) (subst (λ w. IsKept (length old) w overlays room) named (kept_entry kept s p x.0 y x.1 over))
+  -- a page with another entry
+  pub shown_entry : (p : ℕ) (e : PageEntry) → y ≡ with_entry x p e → IsSome (page_in v s p) → Shows (with_spaces t (insert t.spaces s y)) (with_entry_at v s p e)
+  unfolding with_entry_at
+  shown_entry p e is there =
+      let z = some_is (page_in v s p) there in
+      let new : PageView = seen_page t.overlays.entries s p e in
+      let over : new.overlay ≡ z.0.overlay = overlay_is show s p there ∙ ap (option_and_then (λ (k : PageView). k.overlay)) z.1 in
+      let named : put_page v s p new ≡ with_entry_at v s p e =
+      ap (λ o. put_page v s p (record { entry = e; overlay = o })) over ∙ sym (changed_there (λ (k : PageView). record { entry = e; overlay = k.overlay }) v s p z.0 z.1) in
+      made (with_entry x p e) (with_entry_at v s p e) is (record {
+        is = seen_entry show s x (sym at) p e ∙ named;
+        kept = subst (λ w. IsKept w t.overlays) named (kept_entry show.kept s p z.0 new z.1 over);
+      })
 
   -- a page taken away
-  pub made_gone : (p : ℕ) → IsSome (page_at (seen old overlays frames zero_frame) s p) → option_and_then (λ (x : PageView). x.overlay) (page_at (seen old overlays frames zero_frame) s p) ≡ None
-      → IsChanged (λ t. without_page t p) old new s → length new ≡ length old
-      → Made old new overlays frames zero_frame room (without_page_at (seen old overlays frames zero_frame) s p)
-  unfolding v
-  made_gone p there bare changed same =
-      let x = some_is (page_at v s p) there in
-      let found = table_from old overlays frames zero_frame s (there_space v s p x.0 x.1) in
-      let over : x.0.overlay ≡ None = sym (ap (option_and_then (λ (z : PageView). z.overlay)) x.1) ∙ bare in
-      let raw : seen new overlays frames zero_frame ≡ without_page_at v s p =
-      seen_put old new overlays frames zero_frame s changed.others (without_page found.0 p) (changed.here ∙ ap (option_map (λ t. without_page t p)) found.1)
-      ∙ gone_entry old overlays frames zero_frame s found.0 found.1 p in
-      made (without_page_at v s p) same raw (kept_gone kept s p x.0 x.1 over (overlay_is old overlays frames zero_frame s p there ∙ bare))
+  pub shown_gone : (p : ℕ) → y ≡ without_page x p → IsSome (page_in v s p) → option_and_then (λ (k : PageView). k.overlay) (page_in v s p) ≡ None
+      → Shows (with_spaces t (insert t.spaces s y)) (cut_page v s p)
+  shown_gone p is there bare =
+      let z = some_is (page_in v s p) there in
+      made (without_page x p) (cut_page v s p) is (record {
+        is = seen_gone show s x (sym at) p;
+        kept = kept_gone show.kept s p z.0 z.1 (sym (ap (option_and_then (λ (k : PageView). k.overlay)) z.1) ∙ bare) (overlay_is show s p there ∙ bare);
+      })
 
-  -- a mark
-  pub made_mark : (on : Bool) → has_space (seen old overlays frames zero_frame) s ≡ true → IsChanged (λ t. marked t on) old new s → length new ≡ length old
-      → Made old new overlays frames zero_frame room (with_mark (seen old overlays frames zero_frame) s on)
-  unfolding v with_mark with_space
-  made_mark on there changed same =
-      let found = table_from old overlays frames zero_frame s there in
-      made (with_mark v s on) same
-      (seen_put old new overlays frames zero_frame s changed.others (marked found.0 on) (changed.here ∙ ap (option_map (λ t. marked t on)) found.1) ∙ marked_space old overlays frames zero_frame s found.0 found.1 on)
-      (kept_as kept (length old) (with_mark v s on) kept.few (view_marked v s on) (ap overlaid_pages (ledger_marked v s on there)) refl)
+  pub shown_marked : (on : Bool) → y ≡ marked x on → Shows (with_spaces t (insert t.spaces s y)) (put_mark v s on)
+  shown_marked on is = made (marked x on) (put_mark v s on) is (record { is = seen_marked show s x (sym at) on; kept = kept_mark show.kept s on has })
+
+  -- no page of a space, asked of its table
+  pub empty_in : (space_in v s).pages ≡ empty → x.pages ≡ empty
+  empty_in none = alike _ _ (λ p. nothing p (get x.pages p) refl ∙ sym (get-empty nat_cmp p))
+    where
+      nothing : (p : ℕ) (o : Option PageEntry) → get x.pages p ≡ o → get x.pages p ≡ None
+      nothing p None is = is
+      nothing p (Some e) is =
+          let no = ap is_some (sym (ap (option_map (seen_page t.overlays.entries s p)) is) ∙ sym (page_at show s x (sym at) p) ∙ page_of v s p ∙ ap (λ m. get m p) none ∙ get-empty {X = PageView} nat_cmp p) in cc
 
   -- a table whose pages await
-  pub made_adopted : (given : Pages) → has_space (seen old overlays frames zero_frame) s ≡ true → OnTable (table_of (slot_at old s)) (λ t. t.pages ≡ empty)
-      → IsChanged (λ t. adopted t given) old new s → length new ≡ length old
-      → Made old new overlays frames zero_frame room (with_awaiting (seen old overlays frames zero_frame) s given)
-  unfolding v with_awaiting with_space
-  made_adopted given there none changed same =
-      let found = table_from old overlays frames zero_frame s there in
-      made (with_awaiting v s given) same
-      (seen_put old new overlays frames zero_frame s changed.others (adopted found.0 given) (changed.here ∙ ap (option_map (λ t. adopted t given)) found.1)
-      ∙ adopted_space old overlays frames zero_frame s found.0 found.1 given (subst (λ o. OnTable o (λ t. t.pages ≡ empty)) found.1 none))
-      (kept_as kept (length old) (with_awaiting v s given) kept.few (view_awaiting v s given) (ap overlaid_pages (ledger_awaiting v s given there)) refl)
+  pub shown_adopted : (given : Pages) → y ≡ adopted x given → (space_in v s).pages ≡ empty → Shows (with_spaces t (insert t.spaces s y)) (put_awaiting v s given)
+  shown_adopted given is none = made (adopted x given) (put_awaiting v s given) is (record { is = seen_adopted show s x (sym at) given (empty_in none); kept = kept_awaiting show.kept s given has })
 
--- A space put in or taken away.
+  -- what no page awaits, asked of its table
+  pub settled_in : (space_in v s).awaiting ≡ empty → x.awaiting ≡ empty
+  settled_in none = sym (awaiting_is show s x (sym at)) ∙ none
 
-overlaid_tally : (l : Ledger) → overlaid_pages l ≡ tally (λ (x : Holding). cond (nat_lt 0 (length x.own)) 1 0) l
+  -- the next page, and the entries
+  pub next_is : (p : ℕ) (found : Option ℕ) → IsNextPage x.pages p found → IsNextOf v s p found
+  next_is p found next = by found next
+    where
+      none_at : (q : ℕ) → get x.pages q ≡ None → page_in v s q ≡ None
+      none_at q none = page_at show s x (sym at) q ∙ ap (option_map (seen_page t.overlays.entries s q)) none
+
+      some_at : (q : ℕ) (o : Option PageEntry) → IsSome o → IsSome (option_map (seen_page t.overlays.entries s q) o)
+      some_at q None h = h
+      some_at q (Some e) h = refl
+
+      by : (found : Option ℕ) → IsNextPage x.pages p found → IsNextOf v s p found
+      by None n = λ q from. none_at q (n q from)
+      by (Some k) n = (n.0, ap is_some (page_at show s x (sym at) k) ∙ some_at k (get x.pages k) n.1, λ q from before. none_at q (n.2 q from before))
+
+  pub entries_is : x.pages ≡ entries_of v s
+  unfolding entries_of
+  entries_is = alike _ _ (λ q.
+      entry_at show s x (sym at) q ∙ ap (option_map (λ (k : PageView). k.entry)) (page_of v s q)
+      ∙ sym (get_viewed (λ page (k : PageView). k.entry) (space_in v s).pages q))
+
+  -- what isn't there, and what awaits
+  pub absent_is : (p : ℕ) → get x.pages p ≡ None → page_in v s p ≡ None
+  absent_is p none = page_at show s x (sym at) p ∙ ap (option_map (seen_page t.overlays.entries s p)) none
+
+  pub waits_is : (p : ℕ) (e : PageEntry) → get x.awaiting p ≡ Some e → get (space_in v s).awaiting p ≡ Some e
+  waits_is p e there = ap (λ (m : Pages). get m p) (awaiting_is show s x (sym at)) ∙ there
+
+  -- a page shared, without an overlay and with one
+  pub shown_awaited : (p : ℕ) (e : PageEntry) → y ≡ awaited x p e → get x.pages p ≡ None → p < PAGE_END
+      → Shows (with_spaces t (insert t.spaces s y)) (put_shared v s p (record { entry = e; overlay = None }))
+  shown_awaited p e is absent low =
+      made (awaited x p e) (put_shared v s p (record { entry = e; overlay = None })) is (shown_shared show s p x (sym at) e (absent_is p absent) low)
+
+  pub shown_awaited_over : (p : ℕ) (e : PageEntry) (o : Entry) (new : Table) (n : ℕ) → y ≡ awaited x p e → get x.pages p ≡ None → p < PAGE_END → n ≡ overlay_page s p → IsLined o → HasSpare v
+      → new.room ≡ t.overlays.room → new.entries ≡ insert t.overlays.entries n o
+      → Shows (with_overlays (with_spaces t (insert t.spaces s y)) new) (put_shared v s p (record { entry = e; overlay = Some o }))
+  shown_awaited_over p e o new n is absent low name lined spare room entries =
+      subst (λ k. Shows (with_overlays (with_spaces t (insert t.spaces s k)) new) (put_shared v s p (record { entry = e; overlay = Some o }))) (sym is)
+      (shown_shared_over show s p x (sym at) e (absent_is p absent) low new n o name lined spare room entries)
+
+  -- the pages of a run shared
+  pub shown_awaited_run : (run : PageRun) → y ≡ run_awaited x run run.n → IsRunFrom (space_in v s).awaiting 0 run → ((i : ℕ) → i < run.n → get x.pages (run.page + i) ≡ None) → run.page + run.n ≤ PAGE_END
+      → Shows (with_spaces t (insert t.spaces s y)) (with_run_shared v s run run.n)
+  shown_awaited_run run is first absent low =
+      made (run_awaited x run run.n) (with_run_shared v s run run.n) is (shown_run show s x (sym at) run first (λ i few. absent_is (run.page + i) (absent i few)) low)
+
+  -- how many pages there are
+  pub len_is : len x.pages ≡ len (space_in v s).pages
+  unfolding entries_of
+  len_is = ap len entries_is ∙ len_viewed (λ page (k : PageView). k.entry) (space_in v s).pages
+
+  -- pages mapped; and a space that is as it was
+  pub shown_zeros : (from n : ℕ) (e : PageEntry) → AreFree v s from n → from + n ≤ PAGE_END → AreMapped x from n e y → Shows (with_spaces t (insert t.spaces s y)) (with_zero_pages v s from n e)
+  shown_zeros from n e free low mapped = shown_mapped show s x (sym at) from n e y free low mapped
+
+  pub shown_still : y ≡ x → Shows (with_spaces t (insert t.spaces s y)) v
+  shown_still is = subst (λ (m : FinMap nat_cmp SpaceTable). Shows (with_spaces t m) v) (sym (insert_kept t.spaces s y (sym at ∙ ap Some (sym is)))) show
+
+-- A space made, and one taken away.
+
+module _ {t : Inside} {v : LedgerView} (show : Shows t v) (s : ℕ) where
+  pub shown_added : holds_space v s ≡ false → s ≤ LAST_SPACE → Shows (with_spaces t (insert t.spaces s bare_space)) (put_space v s bare_space)
+  shown_added absent low = record { is = seen_added show s; kept = kept_added show.kept s absent low }
+
+  pub shown_lost : holds_space v s ≡ true → (space_in v s).pages ≡ empty → Shows (with_spaces t (remove t.spaces s)) (cut_space v s)
+  shown_lost there none = record { is = seen_lost show s; kept = kept_lost show.kept s there none }
+
+-- A call that may want memory: it is done, or nothing is.
+
+pub either : {E A B C : Type 0} (r : Result (Unit {0}) E) → OnOk r A → OnErr r B → (A → C) → (B → C) → C
+either (Ok u) ok err f g = f ok
+either (Err e) ok err f g = g err
+
+pub on_ok : {E A C : Type 0} (r : Result (Unit {0}) E) → OnOk r A → (A → C) → OnOk r C
+on_ok (Ok u) ok f = f ok
+on_ok (Err e) ok f = ok
+
+pub on_err : {E B C : Type 0} (r : Result (Unit {0}) E) → OnErr r B → (B → C) → OnErr r C
+on_err (Ok u) err f = err
+on_err (Err e) err f = f err
+
+-- What is true of every view.
+pub is_sound : {t : Inside} {v : LedgerView} → Shows t v → IsSound v
+is_sound {t = t} {v = v} show = record {
+  few = let few = len_low (LAST_SPACE + 1) v.spaces (λ q there. let low = show.kept.numbers q there in omega (arith, low)) in few;
+  most = subst (λ n. n ≤ FRAME_UNITS * v.frames) show.kept.count show.kept.most;
+  low = show.kept.low;
+  lines = show.kept.lines;
+}
+
+-- No space at all.
+pub seen_none : (t : Inside) → t.spaces ≡ empty → (seen t).spaces ≡ empty
+unfolding seen
+seen_none t none = mapped_none (seen_page t.overlays.entries) (plain t) none
+
+none_overlaid : (l : Ledger) → all_holdings l ≡ [] → overlaid_pages l ≡ 0
 unfolding overlaid_pages
-overlaid_tally l = refl
+none_overlaid l nothing = tally_none (λ (x : Holding). cond (nat_lt 0 (length x.own)) 1 0) l nothing
 
-absent_page : (v : LedgerView) (s p : ℕ) → has_space v s ≡ false → page_at v s p ≡ None
-absent_page v s p absent = page_of v s p ∙ ap (λ (x : SpaceView). get x.pages p) (space_absent v s (no_space (get v.spaces s) absent)) ∙ get-empty nat_cmp p
-  where
-    no_space : (o : Option SpaceView) → is_some o ≡ false → o ≡ None
-    no_space None h = refl
-    no_space (Some x) h = cc
-
-module _ (old new : Slots) (overlays : Overlays) (frames zero_frame room s : ℕ) (kept : IsKept (length old) (seen old overlays frames zero_frame) overlays room) where
-  w : LedgerView
-  w = seen old overlays frames zero_frame
-
-  pub made_space : has_space (seen old overlays frames zero_frame) s ≡ false → IsSet old new s (Some (record { pages = empty; awaiting = empty; speculating = false })) → length new ≤ LAST_SPACE + 1
-      → Made old new overlays frames zero_frame room (with_space (seen old overlays frames zero_frame) s no_pages)
-  unfolding w with_space
-  made_space absent set few =
-      let raw : seen new overlays frames zero_frame ≡ with_space w s no_pages =
-      seen_put old new overlays frames zero_frame s set.others _ set.here
-      ∙ ap (λ m. with_space w s (record { pages = m; awaiting = empty; speculating = false })) (viewed_empty (seen_page overlays s)) in record {
-        view_is = raw;
-        kept = subst (λ z. IsKept (length new) z overlays room) (sym raw) (kept_as kept (length new) (with_space w s no_pages) few
-            (λ q r. by_key q s
-            (λ same. in_space w s no_pages q r same ∙ get-empty nat_cmp r ∙ sym (ap (λ n. page_at w n r) same ∙ absent_page w s r absent))
-            (λ d. beside_space w s no_pages q r d))
-            (ap overlaid_pages (ledger_with w s no_pages ∙ ap (insert (ledger_of w) s) (viewed_empty (λ page y. holding_of w.zero_frame y)))
-            ∙ overlaid_tally _ ∙ tally_empty _ (ledger_of w) s empty refl
-            ∙ ap (tally (λ (x : Holding). cond (nat_lt 0 (length x.own)) 1 0)) (remove_absent (ledger_of w) s (no_ledger (get (ledger_of w) s) (ledger_spaces w s ∙ absent)))
-            ∙ sym (overlaid_tally (ledger_of w)))
-            refl);
-      }
-    where
-      no_ledger : {X : Type 0} (o : Option X) → is_some o ≡ false → o ≡ None
-      no_ledger None h = refl
-      no_ledger (Some x) h = cc
-
-  pub made_lost : has_space (seen old overlays frames zero_frame) s ≡ true → (space_at (seen old overlays frames zero_frame) s).pages ≡ empty → IsSet old new s None → length new ≡ length old
-      → Made old new overlays frames zero_frame room (without_space (seen old overlays frames zero_frame) s)
-  unfolding w without_space
-  made_lost there none set same =
-      let raw : seen new overlays frames zero_frame ≡ without_space w s = seen_lost old new overlays frames zero_frame s set.others set.here in record {
-        view_is = raw;
-        kept = subst (λ z. IsKept (length new) z overlays room) (sym raw) (kept_as kept (length new) (without_space w s) (subst (λ n. n ≤ LAST_SPACE + 1) (sym same) kept.few)
-            (λ q r. by_key q s
-            (λ e. page_of (without_space w s) q r ∙ ap (λ (x : SpaceView). get x.pages r) (space_absent (without_space w s) q (removed_same w.spaces s q e)) ∙ get-empty nat_cmp r
-            ∙ sym (page_of w q r ∙ ap (λ n. get (space_at w n).pages r) e ∙ ap (λ m. get m r) none ∙ get-empty nat_cmp r))
-            (λ d. page_of (without_space w s) q r ∙ ap (λ (x : SpaceView). get x.pages r) (kept_space q d) ∙ sym (page_of w q r)))
-            (ap overlaid_pages (ledger_without w s) ∙ overlaid_tally _
-            ∙ sym (tally_empty _ (ledger_of w) s (viewed (λ page y. holding_of w.zero_frame y) (space_at w s).pages) (ap (viewed (λ page y. holding_of w.zero_frame y)) none ∙ viewed_empty _))
-            ∙ ap (tally (λ (x : Holding). cond (nat_lt 0 (length x.own)) 1 0)) (kept_pages w s there)
-            ∙ sym (overlaid_tally (ledger_of w)))
-            refl);
-      }
-    where
-      kept_space : (q : ℕ) → (q ≡ s → ⊥) → space_at (without_space w s) q ≡ space_at w q
-      kept_space q d = space_left w s q d
+pub shown_none : (t : Inside) → t.spaces ≡ empty → t.overlays.entries ≡ empty → t.overlays.room ≡ FRAME_UNITS * t.frames → IsKept (seen t) t.overlays
+unfolding seen mapped
+shown_none t none entries roomy =
+    let spaces : (seen t).spaces ≡ empty = seen_none t none in
+    let nowhere : (q p : ℕ) → page_in (seen t) q p ≡ None = λ q p. page_absent (seen t) q p (ap (λ m. get m q) spaces ∙ get-empty {X = SpaceView} nat_cmp q) in
+    let count : len t.overlays.entries ≡ 0 = ap len entries ∙ len-empty nat_cmp Entry in record {
+      numbers = λ q there. let no = sym there ∙ ap (λ m. is_some (get m q)) spaces ∙ ap is_some (get-empty {X = SpaceView} nat_cmp q) in cc;
+      low = λ q p some. let no = sym some ∙ ap is_some (nowhere q p) in cc;
+      placed = λ q p ls lp absent. ap (λ m. get m (overlay_page q p)) entries ∙ get-empty {X = Entry} nat_cmp (overlay_page q p);
+      lines = λ q p x o at is. let no = ap is_some (sym at ∙ nowhere q p) in cc;
+      count = count ∙ sym (none_overlaid (ledger_of (seen t)) (ap all_holdings (books_empty holding_of (seen t) spaces) ∙ no_holdings));
+      roomy = roomy;
+      most = omega (arith, count);
+    }

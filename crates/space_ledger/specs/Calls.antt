@@ -11,8 +11,9 @@ use Rattle.page_table.specs.declared.entry.PageEntry.{PageEntry}
 use Rattle.overlay_mapping_table.specs.declared.entry.Entry.{Entry}
 use Rattle.number_maps.specs.Views.{viewed}
 use Rattle.page_table.specs.Table.{Pages, is_within}
+use Rattle.space_maps.specs.Spaces.{page_in, space_in}
 use Rattle.space_ledger.specs.Space.{IsLeast}
-use Rattle.space_ledger.specs.View.{LedgerView, PageView, SpaceView, frame_at, frame_awaiting, ledger_of, overlay_at, page_at, space_at, with_page_shared}
+use Rattle.space_ledger.specs.View.{LedgerView, PageView, SpaceView, frame_at, frame_awaiting, ledger_of, overlay_at, with_page_shared}
 
 -- What the calls ask and answer.
 
@@ -22,13 +23,13 @@ AreSharersCounted ledger zero_frame frames counts = (f : ℕ) → f < frames →
 
 -- none of the n pages from `from` on is there
 abbrev pub AreFree : LedgerView → ℕ → ℕ → ℕ → Type 0
-AreFree view space from n = (page : ℕ) → IsTrue (is_within from n page) → page_at view space page ≡ None
+AreFree view space from n = (page : ℕ) → IsTrue (is_within from n page) → page_in view space page ≡ None
 
 -- the least page of a space not below one, or that there is none
 abbrev pub IsNextOf : LedgerView → ℕ → ℕ → Option ℕ → Type 0
-IsNextOf view space page None = (q : ℕ) → page ≤ q → page_at view space q ≡ None
+IsNextOf view space page None = (q : ℕ) → page ≤ q → page_in view space q ≡ None
 IsNextOf view space page (Some found) =
-    (page ≤ found) × IsSome (page_at view space found) × ((q : ℕ) → page ≤ q → q < found → page_at view space q ≡ None)
+    (page ≤ found) × IsSome (page_in view space found) × ((q : ℕ) → page ≤ q → q < found → page_in view space q ≡ None)
 
 -- the least page of a space not below one that has an overlay, or that there is none
 abbrev pub IsNextOverlaid : LedgerView → ℕ → ℕ → Option ℕ → Type 0
@@ -44,13 +45,13 @@ IsNextOwn ledger space page (Some found) =
 
 -- the entries of a space's pages
 unfoldable pub entries_of : LedgerView → ℕ → Pages
-entries_of view space = viewed (λ page (x : PageView). x.entry) (space_at view space).pages
+entries_of view space = viewed (λ page (x : PageView). x.entry) (space_in view space).pages
 
 -- there is room for a page's overlay: it has one already, or fewer than 16 pages a frame have one; none needs no room
 abbrev pub HasOverlayRoom : LedgerView → ℕ → ℕ → Option Entry → Type 0
 HasOverlayRoom view space page None = Unit {0}
 HasOverlayRoom view space page (Some entry) =
-    IsSome (option_and_then (λ x. x.overlay) (page_at view space page)) ⊎ (overlaid_pages (ledger_of view) < FRAME_UNITS * view.frames)
+    IsSome (option_and_then (λ x. x.overlay) (page_in view space page)) ⊎ (overlaid_pages (ledger_of view) < FRAME_UNITS * view.frames)
 
 -- fewer than 16 pages a frame have an overlay
 abbrev pub HasSpare : LedgerView → Type 0
@@ -68,8 +69,8 @@ held_at view space page = holding_at (ledger_of view) space page
 pub record IsSound (view : LedgerView) : Type 0 where
   pub few : len view.spaces ≤ LAST_SPACE + 1
   pub most : overlaid_pages (ledger_of view) ≤ FRAME_UNITS * view.frames
-  pub low : (space page : ℕ) → IsSome (page_at view space page) → page < PAGE_END
-  pub lines : (space page : ℕ) (x : PageView) (overlay : Entry) → page_at view space page ≡ Some x → x.overlay ≡ Some overlay
+  pub low : (space page : ℕ) → IsSome (page_in view space page) → page < PAGE_END
+  pub lines : (space page : ℕ) (x : PageView) (overlay : Entry) → page_in view space page ≡ Some x → x.overlay ≡ Some overlay
       → (0 < length overlay.bits) × (length overlay.bits ≤ PAGE_LINES)
 
 -- no frame but the zero frame is named twice in a table
@@ -86,7 +87,7 @@ pub record IsApart (zero_frame : ℕ) (x : SpaceView) : Type 0 where
 -- a frame is the zero frame, or no other page of the space names it
 abbrev pub IsFreeFor : LedgerView → ℕ → ℕ → ℕ → Type 0
 IsFreeFor view space page frame =
-    (frame ≡ view.zero_frame) ⊎ ((q : ℕ) (y : PageView) → page_at view space q ≡ Some y → y.entry.frame ≡ frame → q ≡ page)
+    (frame ≡ view.zero_frame) ⊎ ((q : ℕ) (y : PageView) → page_in view space q ≡ Some y → y.entry.frame ≡ frame → q ≡ page)
 
 -- the frame that a page named, where it isn't the zero frame and no page names it now
 abbrev pub given_up : LedgerView → Option PageView → Option ℕ
@@ -99,31 +100,31 @@ pub record IsBooked (view : LedgerView) (counts : List ℕ) (units_kept lines_ke
   pub frames : view.frames ≤ MOST_FRAMES
   pub zero_in : view.zero_frame < view.frames
   pub room : length counts ≡ view.frames
-  pub inside : (space page : ℕ) (x : PageView) → page_at view space page ≡ Some x → x.entry.frame < view.frames
-  pub apart : (space : ℕ) → IsApart view.zero_frame (space_at view space)
+  pub inside : (space page : ℕ) (x : PageView) → page_in view space page ≡ Some x → x.entry.frame < view.frames
+  pub apart : (space : ℕ) → IsApart view.zero_frame (space_in view space)
   pub counted : AreSharersCounted (ledger_of view) view.zero_frame view.frames counts
   pub units_is : units_kept ≡ units (ledger_of view)
   pub lines_is : lines_kept ≡ own_lines (ledger_of view)
 
 -- each page below one that awaits in a space does so with the frame that it has in another one, and has no overlay there
 abbrev pub AreBareBelow : LedgerView → ℕ → ℕ → ℕ → Type 0
-AreBareBelow view from to until = (page : ℕ) → page < until → IsSome (get (space_at view to).awaiting page)
+AreBareBelow view from to until = (page : ℕ) → page < until → IsSome (get (space_in view to).awaiting page)
     → (frame_awaiting view to page ≡ frame_at view from page) × (overlay_at view from page ≡ None)
 
 -- pages below one, each of which awaits as the least and isn't there, are shared from another space one after the other, without
 -- overlays
 pub data AreSharedBare (from to until : ℕ) : LedgerView → LedgerView → Type 0 where
   Still : (view : LedgerView) → AreSharedBare from to until view view
-  Then : (old new : LedgerView) (page : ℕ) → page < until → IsLeast (space_at old to).awaiting page → page_at old to page ≡ None
+  Then : (old new : LedgerView) (page : ℕ) → page < until → IsLeast (space_in old to).awaiting page → page_in old to page ≡ None
       → AreSharedBare from to until (with_page_shared old from to page None) new → AreSharedBare from to until old new
 
 -- by how much the units rise by a store that touches lines of a page
 abbrev pub RisesBy : LedgerView → ℕ → ℕ → List ℕ → ℕ → Type 0
 RisesBy view space page lines rise =
-    units (ledger_after (Store (space_at view space).speculating space ((page, lines) ∷ [])) (ledger_of view)) ≡ units (ledger_of view) + rise
+    units (ledger_after (Store (space_in view space).speculating space ((page, lines) ∷ [])) (ledger_of view)) ≡ units (ledger_of view) + rise
 
 -- whatever lines of whatever other page of the space a store touches too, it rises by as much more
 abbrev pub RisesBeside : LedgerView → ℕ → ℕ → List ℕ → ℕ → Type 0
 RisesBeside view space page lines rise = (other : ℕ) (more : List ℕ) → (other ≡ page → ⊥)
-    → (units (ledger_after (Store (space_at view space).speculating space ((page, lines) ∷ ((other, more) ∷ []))) (ledger_of view))
-    ≡ units (ledger_after (Store (space_at view space).speculating space ((other, more) ∷ [])) (ledger_of view)) + rise)
+    → (units (ledger_after (Store (space_in view space).speculating space ((page, lines) ∷ ((other, more) ∷ []))) (ledger_of view))
+    ≡ units (ledger_after (Store (space_in view space).speculating space ((other, more) ∷ [])) (ledger_of view)) + rise)

@@ -4,14 +4,13 @@ use Rattle.page_table.specs.Table.{Pages, IsMapped}
 use Rattle.page_table.specs.Run.{IsRunFrom, entry_at}
 use Rattle.page_table.specs.declared.entry.PageEntry.{PageEntry}
 use Rattle.page_table.specs.declared.run.PageRun.{PageRun}
+use Rattle.space_maps.specs.Spaces.{SpaceOf}
 
 -- The pages of one space.
 
--- its pages with their entries, those that await being shared, and whether it is speculating
-pub record SpaceTable : Type 0 where
-  pub pages : Pages
-  pub awaiting : Pages
-  pub speculating : Bool
+-- its pages with their entries
+abbrev pub SpaceTable : Type 0
+SpaceTable = SpaceOf PageEntry
 
 -- the pages of a table below one, and those from it on
 unfoldable pub pages_below : Pages → ℕ → Pages

@@ -8,13 +8,11 @@
 //!
 //! - `spaces`: the ledger of all spaces
 //! - `frames`: the sharers of a frame
-//! - `slots`: spaces by number
 //! - `tables`: the tables and overlays of all spaces
 //! - `space`: the pages of one space
 #![tactic(auto)]
 
 mod frames;
-mod slots;
 mod space;
 mod spaces;
 mod tables;

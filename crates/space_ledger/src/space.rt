@@ -26,11 +26,11 @@ pub(crate) struct Space {
 
 impl Model for Space {
     ghost use Rattle.space_ledger.specs.Space.{SpaceTable};
-    ghost use Rattle.space_ledger.specs.Codes.{space_code};
+    ghost use Rattle.space_ledger.specs.Codes.{table_code};
 
     ghost Value = { SpaceTable };
 
-    ghost coded = { space_code };
+    ghost coded = { table_code };
 
     ghost use Rattle.space_ledger.specs.Space.{IsCounted, pages_below, pages_from};
 

@@ -12,8 +12,9 @@ ghost use Rattle.ledger.specs.Changes.{has_own};
 ghost use Rattle.ledger.specs.Events.{Store, ledger_after};
 ghost use Rattle.overlay_address.specs.Names.{page_of, space_of};
 ghost use Rattle.page_table.specs.Run.{IsRunFrom};
+ghost use Rattle.space_maps.specs.Spaces.{bare_space, cut_page, cut_space, holds_space, page_in, put_awaiting, put_mark, put_space, space_in};
 ghost use Rattle.space_ledger.specs.Space.{AwaitsFirst, IsLeast};
-ghost use Rattle.space_ledger.specs.View.{has_space, ledger_of, no_pages, page_at, space_at, frame_at, frame_awaiting, lines_of, overlay_at, with_awaiting, with_block, with_frame, with_mark, with_overlay, with_page_shared, with_run_shared, with_space, with_zero_pages, without_page_at, without_space};
+ghost use Rattle.space_ledger.specs.View.{frame_at, frame_awaiting, ledger_of, lines_of, overlay_at, with_block, with_frame, with_overlay, with_page_shared, with_run_shared, with_zero_pages};
 ghost use Rattle.space_ledger.specs.Calls.{AreBareBelow, AreFree, AreSharedBare, HasOverlayRoom, HasSpare, IsFreeFor, IsNextOf, IsNextOwn, NamesOnce, RisesBeside, RisesBy, entries_of, given_up, held_at};
 
 use crate::frames::{class_of, hold, hold_run, is_only, release};
@@ -82,7 +83,7 @@ impl SpaceLedger {
 
     /// Whether a space is there. Costs a step.
     pub fn has_space(&self, space: u16) -> bool
-        ensures { result ≡ has_space self.now space }
+        ensures { result ≡ holds_space self.now space }
     {
         self.tables.has(space)
     }
@@ -91,8 +92,8 @@ impl SpaceLedger {
     /// ledger is as before.
     pub fn add_space(&mut self, space: u16) -> Result<(), AllocError>
         requires number { (0 < space) × (space ≤ LAST_SPACE) }
-        requires absent { has_space self.old space ≡ false }
-        ensures added { OnOk result (self.new ≡ with_space self.old space no_pages) }
+        requires absent { holds_space self.old space ≡ false }
+        ensures added { OnOk result (self.new ≡ put_space self.old space bare_space) }
         ensures kept { OnErr result (self.new ≡ self.old) }
     {
         self.tables.add(space)
@@ -100,10 +101,10 @@ impl SpaceLedger {
 
     /// Takes away a space that is there, has no page, and of which no page awaits. Takes no memory.
     pub fn end_space(&mut self, space: u16)
-        requires there { has_space self.old space ≡ true }
-        requires empty { (space_at self.old space).pages ≡ map.empty }
-        requires settled { (space_at self.old space).awaiting ≡ map.empty }
-        ensures { self.new ≡ without_space self.old space }
+        requires there { holds_space self.old space ≡ true }
+        requires empty { (space_in self.old space).pages ≡ map.empty }
+        requires settled { (space_in self.old space).awaiting ≡ map.empty }
+        ensures { self.new ≡ cut_space self.old space }
     {
         self.tables.end(space);
     }
@@ -118,11 +119,11 @@ impl SpaceLedger {
         n: u32,
         perms: Perms,
     ) -> Result<(), AllocError>
-        requires there { has_space self.old space ≡ true }
-        requires settled { (space_at self.old space).awaiting ≡ map.empty }
+        requires there { holds_space self.old space ≡ true }
+        requires settled { (space_in self.old space).awaiting ≡ map.empty }
         requires free { AreFree self.old space page n }
         requires low { page + n ≤ PAGE_END }
-        requires few { map.len (space_at self.old space).pages + n ≤ MOST_SPACE_PAGES }
+        requires few { map.len (space_in self.old space).pages + n ≤ MOST_SPACE_PAGES }
         ensures mapped { OnOk result (self.new ≡ with_zero_pages self.old space page n
             (record { perms = perms; frame = self.old.zero_frame })) }
         ensures kept { OnErr result (self.new ≡ self.old) }
@@ -134,7 +135,7 @@ impl SpaceLedger {
     /// The permissions and the frame of a page. None exactly where the page isn't there. Costs a look-up.
     #[inline]
     pub fn entry(&self, space: u16, page: u64) -> Option<PageEntry>
-        ensures { result ≡ option_map (λ x. x.entry) (page_at self.now space page) }
+        ensures { result ≡ option_map (λ x. x.entry) (page_in self.now space page) }
     {
         self.tables.entry(space, page)
     }
@@ -142,11 +143,10 @@ impl SpaceLedger {
     /// The lines and the block of the overlay of a page that is there. None exactly where it has no own lines. Costs a look-up.
     #[inline]
     pub fn overlay(&self, space: u16, page: u64) -> Option<Entry>
-        requires { IsSome (page_at self.now space page) }
+        requires { IsSome (page_in self.now space page) }
         ensures overlay { result ≡ overlay_at self.now space page }
         ensures own { is_some result ≡ has_own (ledger_of self.now) space page }
     {
-        let _zero = self.tables.zero();
         self.tables.overlay(space, page)
     }
 
@@ -159,19 +159,17 @@ impl SpaceLedger {
 
     /// The least page of a space not below one that has own lines. None exactly where none has. Costs a look-up.
     pub fn next_overlaid(&self, space: u16, page: u64) -> Option<u64>
-        requires { has_space self.now space ≡ true }
+        requires { holds_space self.now space ≡ true }
         ensures { IsNextOwn (ledger_of self.now) space page result }
     {
-        let _zero = self.tables.zero();
         self.tables.next_overlaid(space, page)
     }
 
     /// How many pages a space has.
     pub fn pages(&self, space: u16) -> u32
-        ensures count { result ≡ map.len (space_at self.now space).pages }
+        ensures count { result ≡ map.len (space_in self.now space).pages }
         ensures once { NamesOnce self.now.zero_frame (entries_of self.now space) }
     {
-        let _zero = self.tables.zero();
         self.tables.len(space)
     }
 
@@ -179,7 +177,7 @@ impl SpaceLedger {
     /// look-up.
     #[inline]
     pub fn is_alone(&self, space: u16, page: u64) -> bool
-        requires { IsSome (page_at self.now space page) }
+        requires { IsSome (page_in self.now space page) }
         ensures { result ≡ book.is_alone (ledger_of self.now) space page }
     {
         match self.tables.entry(space, page) {
@@ -201,7 +199,7 @@ impl SpaceLedger {
 
     /// The least page of a space that awaits `share_page`, with its entry. None exactly where none does. Costs a look-up.
     pub fn first_awaiting(&self, space: u16) -> Option<(u64, PageEntry)>
-        ensures { AwaitsFirst (space_at self.now space).awaiting result }
+        ensures { AwaitsFirst (space_in self.now space).awaiting result }
     {
         self.tables.first_awaiting(space)
     }
@@ -215,8 +213,8 @@ impl SpaceLedger {
 
     /// Sets or takes away the mark of a space. Takes no memory.
     pub fn set_speculating(&mut self, space: u16, on: bool)
-        requires { has_space self.old space ≡ true }
-        ensures { self.new ≡ with_mark self.old space on }
+        requires { holds_space self.old space ≡ true }
+        ensures { self.new ≡ put_mark self.old space on }
     {
         self.tables.set_speculating(space, on);
     }
@@ -224,30 +222,29 @@ impl SpaceLedger {
     /// Whether a space is marked as speculating.
     #[inline]
     pub fn is_speculating(&self, space: u16) -> bool
-        ensures { result ≡ (space_at self.now space).speculating }
+        ensures { result ≡ (space_in self.now space).speculating }
     {
         self.tables.is_speculating(space)
     }
 
     /// A table with the entries of a space's pages, of which none awaits, or want of memory. Costs a step for each page.
     pub fn copy_table(&self, space: u16) -> Result<PageTable, AllocError>
-        requires there { has_space self.now space ≡ true }
-        requires settled { (space_at self.now space).awaiting ≡ map.empty }
+        requires there { holds_space self.now space ≡ true }
+        requires settled { (space_in self.now space).awaiting ≡ map.empty }
         ensures table { IfOk result (λ table. table ≡ entries_of self.now space) }
         ensures once { IfOk result (λ table. NamesOnce self.now.zero_frame table) }
     {
-        let _zero = self.tables.zero();
         self.tables.copy(space)
     }
 
     /// Gives a space that has no page, and of which none awaits, a table that names no frame but the zero frame twice. Its
     /// pages await `share_page`, and are in no ledger until then. Takes no memory.
     pub fn adopt_table(&mut self, to: u16, table: PageTable)
-        requires there { has_space self.old to ≡ true }
-        requires empty { (space_at self.old to).pages ≡ map.empty }
-        requires settled { (space_at self.old to).awaiting ≡ map.empty }
+        requires there { holds_space self.old to ≡ true }
+        requires empty { (space_in self.old to).pages ≡ map.empty }
+        requires settled { (space_in self.old to).awaiting ≡ map.empty }
         requires once { NamesOnce self.old.zero_frame table }
-        ensures { self.new ≡ with_awaiting self.old to table }
+        ensures { self.new ≡ put_awaiting self.old to table }
     {
         self.tables.adopt(to, table);
     }
@@ -273,12 +270,12 @@ impl SpaceLedger {
     /// No page of the space awaits. Answers the frame that the page named before, exactly where it isn't the zero frame and no
     /// page names it now. Takes no memory, and costs a look-up.
     pub fn set_frame(&mut self, space: u16, page: u64, frame: u32) -> Option<u32>
-        requires there { IsSome (page_at self.old space page) }
-        requires settled { (space_at self.old space).awaiting ≡ map.empty }
+        requires there { IsSome (page_in self.old space page) }
+        requires settled { (space_in self.old space).awaiting ≡ map.empty }
         requires inside { frame < self.old.frames }
         requires free { IsFreeFor self.old space page frame }
         ensures framed { self.new ≡ with_frame self.old space page frame }
-        ensures freed { result ≡ given_up self.new (page_at self.old space page) }
+        ensures freed { result ≡ given_up self.new (page_in self.old space page) }
     {
         let zero = self.tables.zero();
         match self.tables.entry(space, page) {
@@ -298,12 +295,11 @@ impl SpaceLedger {
     /// A page that is there has the lines and the block of an entry, which has a line, or no own lines any more. It is overlaid,
     /// or fewer than 16 pages for each frame are. Takes no memory, and costs a look-up.
     pub fn set_overlay(&mut self, space: u16, page: u64, entry: Option<Entry>)
-        requires there { IsSome (page_at self.old space page) }
+        requires there { IsSome (page_in self.old space page) }
         requires lined { IfSome entry (λ e. 0 < length e.bits) }
         requires room { HasOverlayRoom self.old space page entry }
         ensures { self.new ≡ with_overlay self.old space page entry }
     {
-        let _zero = self.tables.zero();
         let before = lines_in(&self.tables.overlay(space, page));
         let after = lines_in(&entry);
         self.tables.set_overlay(space, page, entry);
@@ -318,7 +314,6 @@ impl SpaceLedger {
     {
         let space = owner.space();
         let page = owner.page();
-        let _zero = self.tables.zero();
         match self.tables.overlay(space, page) {
             Some(entry) => {
                 let bits = entry.bits;
@@ -332,10 +327,10 @@ impl SpaceLedger {
     /// Takes away a page that is there and has no own lines. Answers its frame, exactly where it isn't the zero frame and no
     /// page names it now. Takes no memory, and costs a look-up.
     pub fn remove_page(&mut self, space: u16, page: u64) -> Option<u32>
-        requires there { IsSome (page_at self.old space page) }
+        requires there { IsSome (page_in self.old space page) }
         requires bare { overlay_at self.old space page ≡ None }
-        ensures gone { self.new ≡ without_page_at self.old space page }
-        ensures freed { result ≡ given_up self.new (page_at self.old space page) }
+        ensures gone { self.new ≡ cut_page self.old space page }
+        ensures freed { result ≡ given_up self.new (page_in self.old space page) }
     {
         let zero = self.tables.zero();
         match self.tables.entry(space, page) {
@@ -353,15 +348,15 @@ impl SpaceLedger {
     /// gets its origin and its own lines there, and keeps the permissions of the table that was adopted. A block is given exactly
     /// where it has own lines, and fewer than 16 pages for each frame are overlaid then. Takes no memory, and costs a look-up.
     pub fn share_page(&mut self, from: u16, to: u16, page: u64, block: Option<Block>)
-        requires there { IsSome (page_at self.old from page) }
-        requires space { has_space self.old to ≡ true }
-        requires least { IsLeast (space_at self.old to).awaiting page }
+        requires there { IsSome (page_in self.old from page) }
+        requires space { holds_space self.old to ≡ true }
+        requires least { IsLeast (space_in self.old to).awaiting page }
         requires frame { frame_awaiting self.old to page ≡ frame_at self.old from page }
         requires block { is_some block ≡ is_some (overlay_at self.old from page) }
         requires room { IfSome block (λ b. HasSpare self.old) }
         ensures shared { self.new ≡ with_page_shared self.old from to page block }
         ensures same { held_at self.new to page ≡ held_at self.old from page }
-        ensures absent { page_at self.old to page ≡ None }
+        ensures absent { page_in self.old to page ≡ None }
     {
         let zero = self.tables.zero();
         let overlay = in_block(&self.tables, from, page, block);
@@ -377,11 +372,11 @@ impl SpaceLedger {
     /// a run that isn't on the zero frame.
     pub fn share_bare(&mut self, from: u16, to: u16, until: u64)
         requires differ { from ≢ to }
-        requires space { has_space self.old to ≡ true }
+        requires space { holds_space self.old to ≡ true }
         requires bare { AreBareBelow self.old from to until }
         ensures shared { AreSharedBare from to until self.old self.new }
         ensures none { (page : ℕ) → page < until
-            → map.get (space_at self.new to).awaiting page ≡ None }
+            → map.get (space_in self.new to).awaiting page ≡ None }
     {
         'sharing: while let Some(found) = self.tables.next_run_awaiting(to, until) {
             self.share_run(from, to, &found);
@@ -391,10 +386,10 @@ impl SpaceLedger {
     // The pages of a run, the first that await, become the space's.
     fn share_run(&mut self, from: u16, to: u16, run: &PageRun)
         requires differ { from ≢ to }
-        requires space { has_space self.old to ≡ true }
-        requires first { IsRunFrom (space_at self.old to).awaiting 0 run.now }
+        requires space { holds_space self.old to ≡ true }
+        requires first { IsRunFrom (space_in self.old to).awaiting 0 run.now }
         requires bare { AreBareBelow self.old from to (run.now.page + run.now.n) }
-        ensures apart { (i : ℕ) → i < run.now.n → page_at self.old to (run.now.page + i) ≡ None }
+        ensures apart { (i : ℕ) → i < run.now.n → page_in self.old to (run.now.page + i) ≡ None }
         ensures shared { self.new ≡ with_run_shared self.old to run.now run.now.n }
     {
         let zero = self.tables.zero();
@@ -405,7 +400,7 @@ impl SpaceLedger {
     /// By how many units a store rises that touches these lines of a page that is there. A store over two pages of a space
     /// rises by the sum of both answers. Costs a few look-ups.
     pub fn store_units(&self, space: u16, page: u64, lines: Bits) -> u32
-        requires { IsSome (page_at self.now space page) }
+        requires { IsSome (page_in self.now space page) }
         ensures rise { RisesBy self.now space page lines result }
         ensures both { RisesBeside self.now space page lines result }
     {
@@ -419,7 +414,7 @@ impl SpaceLedger {
 /// The lines of a page's overlay with another block, where one is given.
 #[inline(always)]
 fn in_block(tables: &Tables, space: u16, page: u64, block: Option<Block>) -> Option<Entry>
-    requires there { IsSome (page_at tables.now space page) }
+    requires there { IsSome (page_in tables.now space page) }
     requires block { is_some block ≡ is_some (overlay_at tables.now space page) }
     ensures { result
         ≡ option_map (λ b. record { bits = lines_of (overlay_at tables.now space page); block = b }) block }

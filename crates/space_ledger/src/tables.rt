@@ -7,15 +7,14 @@ ghost use Rattle.sizes.specs.declared.TheConstants.{FRAME_UNITS, LAST_SPACE, MOS
 ghost use Rattle.ledger.specs.Units.{overlaid_pages};
 ghost use Rattle.overlay_bits.specs.Lines.{AreLines};
 ghost use Rattle.page_table.specs.Run.{IsRunFrom};
+ghost use Rattle.space_maps.specs.Spaces.{bare_space, cut_page, cut_space, holds_space, page_in, put_awaiting, put_mark, put_shared, put_space, space_in, turned_page};
 ghost use Rattle.space_ledger.specs.Space.{AwaitsFirst, AwaitsRun, IsLeast};
-ghost use Rattle.space_ledger.specs.View.{changed_at, has_space, ledger_of, no_pages, page_at, space_at, with_awaiting, with_entry_at, with_mark, with_overlay, with_run_shared, with_shared, with_space, with_zero_pages, without_page_at, without_space};
+ghost use Rattle.space_ledger.specs.View.{ledger_of, with_entry_at, with_overlay, with_run_shared, with_zero_pages};
 ghost use Rattle.overlay_address.specs.Names.{IsName, page_of, space_of};
 ghost use Rattle.space_ledger.specs.Calls.{AreFree, HasOverlayRoom, HasSpare, IsLined, IsNextOf, IsNextOverlaid, IsSound, entries_of};
 
-use crate::slots::{
-    Slots, add_in, adopt_in, clear_in, copy_in, first_awaiting_in, get_in, has_in, len_in, map_in,
-    mark_in, marked_in, next_in, next_run_awaiting_in, remove_in, set_in, share_in, share_run_in,
-};
+use crate::space::Space;
+use by_number::ByNumber;
 use overlay_address::OverlayPage;
 use overlay_mapping_table::{Entry, MappingTable};
 use ovl_io::Perms;
@@ -28,14 +27,13 @@ use std::marker::Model;
 #[derive(Drop)]
 pub(crate) struct Tables {
     alloc: Global,
-    slots: Slots,
+    spaces: ByNumber<Space>,
     overlays: MappingTable,
     frames: u32,
     zero: u32,
 }
 
 impl Model for Tables {
-    ghost use Rattle.std.specs.Prelude.{length};
     ghost use Rattle.space_ledger.specs.View.{LedgerView};
     ghost use Rattle.space_ledger.specs.Codes.{view_code};
 
@@ -45,10 +43,9 @@ impl Model for Tables {
 
     ghost use Rattle.space_ledger.specs.Kept.{IsKept, seen};
 
-    ghost view = { λ t. seen t.slots.items t.overlays.entries t.frames t.zero };
+    ghost view = { seen };
 
-    ghost invariant = { λ t. IsKept (length t.slots.items) (seen t.slots.items t.overlays.entries t.frames t.zero)
-        t.overlays.entries t.overlays.room };
+    ghost invariant = { λ t. IsKept (seen t) t.overlays };
 }
 
 impl Tables {
@@ -63,7 +60,7 @@ impl Tables {
         match MappingTable::new(alloc, frames) {
             Ok(overlays) => Ok(Tables {
                 alloc,
-                slots: Vec::new(alloc),
+                spaces: ByNumber::new(alloc),
                 overlays,
                 frames,
                 zero,
@@ -83,54 +80,68 @@ impl Tables {
 
     #[inline]
     pub(crate) fn has(&self, space: u16) -> bool
-        ensures { result ≡ has_space self.now space }
+        ensures { result ≡ holds_space self.now space }
     {
-        has_in(&self.slots, space)
+        self.spaces.has(space)
     }
 
     /// The entry of a page. None exactly where it isn't there.
     #[inline]
     pub(crate) fn entry(&self, space: u16, page: u64) -> Option<PageEntry>
-        ensures { result ≡ option_map (λ x. x.entry) (page_at self.now space page) }
+        ensures { result ≡ option_map (λ x. x.entry) (page_in self.now space page) }
     {
-        get_in(&self.slots, space, page)
+        match self.spaces.get(space) {
+            Some(space) => space.get(page),
+            None => None,
+        }
     }
 
     /// The overlay of a page that is there. None exactly where it has none.
     #[inline]
     pub(crate) fn overlay(&self, space: u16, page: u64) -> Option<Entry>
-        requires { IsSome (page_at self.now space page) }
-        ensures { result ≡ option_and_then (λ x. x.overlay) (page_at self.now space page) }
+        requires { IsSome (page_in self.now space page) }
+        ensures overlay { result ≡ option_and_then (λ x. x.overlay) (page_in self.now space page) }
+        ensures sound { IsSound self.now }
     {
         self.overlays.get(OverlayPage::of(space, page))
     }
 
     #[inline]
     pub(crate) fn is_speculating(&self, space: u16) -> bool
-        ensures { result ≡ (space_at self.now space).speculating }
+        ensures { result ≡ (space_in self.now space).speculating }
     {
-        marked_in(&self.slots, space)
+        match self.spaces.get(space) {
+            Some(space) => space.is_speculating(),
+            None => false,
+        }
     }
 
     /// Gives a page that is there another entry.
     pub(crate) fn set_entry(&mut self, space: u16, page: u64, entry: PageEntry)
-        requires { IsSome (page_at self.old space page) }
+        requires { IsSome (page_in self.old space page) }
         ensures { self.new ≡ with_entry_at self.old space page entry }
     {
-        set_in(&mut self.slots, space, page, entry);
+        match self.spaces.get_mut(space) {
+            Some(space) => space.set(page, entry),
+            None => unreachable!(),
+        }
     }
 
     /// The least page of a space not below one. None exactly where none is.
     pub(crate) fn next(&self, space: u16, page: u64) -> Option<u64>
         ensures { IsNextOf self.now space page result }
     {
-        next_in(&self.slots, space, page)
+        match self.spaces.get(space) {
+            Some(space) => space.next(page),
+            None => None,
+        }
     }
 
     /// The least page of a space not below one that has an overlay. None exactly where none has.
     pub(crate) fn next_overlaid(&self, space: u16, page: u64) -> Option<u64>
-        requires { has_space self.now space ≡ true }
-        ensures { IsNextOverlaid self.now space page result }
+        requires { holds_space self.now space ≡ true }
+        ensures next { IsNextOverlaid self.now space page result }
+        ensures sound { IsSound self.now }
     {
         let overlays = &self.overlays;
         if page >= PAGE_END {
@@ -144,16 +155,22 @@ impl Tables {
 
     /// The least page of a space that awaits, with its entry. None exactly where none does.
     pub(crate) fn first_awaiting(&self, space: u16) -> Option<(u64, PageEntry)>
-        ensures { AwaitsFirst (space_at self.now space).awaiting result }
+        ensures { AwaitsFirst (space_in self.now space).awaiting result }
     {
-        first_awaiting_in(&self.slots, space)
+        match self.spaces.get(space) {
+            Some(space) => space.first_awaiting(),
+            None => None,
+        }
     }
 
     /// The first pages of a space that await: as many as lie in one run and below `until`. None exactly where none below it awaits.
     pub(crate) fn next_run_awaiting(&self, space: u16, until: u64) -> Option<PageRun>
-        ensures { AwaitsRun (space_at self.now space).awaiting until result }
+        ensures { AwaitsRun (space_in self.now space).awaiting until result }
     {
-        next_run_awaiting_in(&self.slots, space, until)
+        match self.spaces.get(space) {
+            Some(space) => space.next_run_awaiting(until),
+            None => None,
+        }
     }
 
     /// How many frames there are.
@@ -165,41 +182,48 @@ impl Tables {
 
     /// How many pages a space has.
     pub(crate) fn len(&self, space: u16) -> u32
-        ensures { result ≡ map.len (space_at self.now space).pages }
+        ensures count { result ≡ map.len (space_in self.now space).pages }
+        ensures sound { IsSound self.now }
     {
-        len_in(&self.slots, space)
+        match self.spaces.get(space) {
+            Some(space) => space.len(),
+            None => 0,
+        }
     }
 
     /// Makes a space without a page. After want of memory there is none.
     pub(crate) fn add(&mut self, space: u16) -> Result<(), AllocError>
         requires low { space ≤ LAST_SPACE }
-        requires absent { has_space self.old space ≡ false }
-        ensures added { OnOk result (self.new ≡ with_space self.old space no_pages) }
+        requires absent { holds_space self.old space ≡ false }
+        ensures added { OnOk result (self.new ≡ put_space self.old space bare_space) }
         ensures kept { OnErr result (self.new ≡ self.old) }
     {
-        add_in(self.alloc, &mut self.slots, space)
+        self.spaces.insert(space, Space::new(self.alloc))
     }
 
     /// Takes away a space that has no page.
     pub(crate) fn end(&mut self, space: u16)
-        requires there { has_space self.old space ≡ true }
-        requires empty { (space_at self.old space).pages ≡ map.empty }
-        ensures { self.new ≡ without_space self.old space }
+        requires there { holds_space self.old space ≡ true }
+        requires empty { (space_in self.old space).pages ≡ map.empty }
+        ensures { self.new ≡ cut_space self.old space }
     {
-        clear_in(&mut self.slots, space);
+        self.spaces.remove(space);
     }
 
     /// Sets or takes away the mark of a space.
     pub(crate) fn set_speculating(&mut self, space: u16, on: bool)
-        requires { has_space self.old space ≡ true }
-        ensures { self.new ≡ with_mark self.old space on }
+        requires { holds_space self.old space ≡ true }
+        ensures { self.new ≡ put_mark self.old space on }
     {
-        mark_in(&mut self.slots, space, on);
+        match self.spaces.get_mut(space) {
+            Some(space) => space.set_speculating(on),
+            None => unreachable!(),
+        }
     }
 
     /// Gives a page that is there another overlay, or none.
     pub(crate) fn set_overlay(&mut self, space: u16, page: u64, overlay: Option<Entry>)
-        requires there { IsSome (page_at self.old space page) }
+        requires there { IsSome (page_in self.old space page) }
         requires lined { IfSome overlay IsLined }
         requires room { HasOverlayRoom self.old space page overlay }
         ensures { self.new ≡ with_overlay self.old space page overlay }
@@ -221,59 +245,75 @@ impl Tables {
         perms: Perms,
         frame: u32,
     ) -> Result<(), AllocError>
-        requires there { has_space self.old space ≡ true }
-        requires settled { (space_at self.old space).awaiting ≡ map.empty }
+        requires there { holds_space self.old space ≡ true }
+        requires settled { (space_in self.old space).awaiting ≡ map.empty }
         requires free { AreFree self.old space from n }
         requires low { from + n ≤ PAGE_END }
-        requires few { map.len (space_at self.old space).pages + n < 2 ^ 32 }
+        requires few { map.len (space_in self.old space).pages + n < 2 ^ 32 }
         ensures mapped { OnOk result (self.new ≡ with_zero_pages self.old space from n
             (record { perms = perms; frame = frame })) }
         ensures kept { OnErr result (self.new ≡ self.old) }
     {
-        map_in(&mut self.slots, space, from, n, perms, frame)
+        match self.spaces.get_mut(space) {
+            Some(space) => space.map(from, n, perms, frame),
+            None => unreachable!(),
+        }
     }
 
     /// Takes away a page that has no overlay.
     pub(crate) fn remove(&mut self, space: u16, page: u64)
-        requires there { IsSome (page_at self.old space page) }
-        requires bare { option_and_then (λ x. x.overlay) (page_at self.old space page) ≡ None }
-        ensures { self.new ≡ without_page_at self.old space page }
+        requires there { IsSome (page_in self.old space page) }
+        requires bare { option_and_then (λ x. x.overlay) (page_in self.old space page) ≡ None }
+        ensures { self.new ≡ cut_page self.old space page }
     {
-        remove_in(&mut self.slots, space, page);
+        match self.spaces.get_mut(space) {
+            Some(space) => space.remove(page),
+            None => unreachable!(),
+        }
     }
 
     /// The table of a space of which no page awaits, or want of memory.
     pub(crate) fn copy(&self, space: u16) -> Result<PageTable, AllocError>
-        requires there { has_space self.now space ≡ true }
-        requires settled { (space_at self.now space).awaiting ≡ map.empty }
-        ensures { IfOk result (λ table. table ≡ entries_of self.now space) }
+        requires there { holds_space self.now space ≡ true }
+        requires settled { (space_in self.now space).awaiting ≡ map.empty }
+        ensures table { IfOk result (λ table. table ≡ entries_of self.now space) }
+        ensures sound { IsSound self.now }
     {
-        copy_in(&self.slots, space)
+        match self.spaces.get(space) {
+            Some(space) => space.copy(),
+            None => unreachable!(),
+        }
     }
 
     /// Gives a space that has no page a table: its pages await.
     pub(crate) fn adopt(&mut self, space: u16, table: PageTable)
-        requires there { has_space self.old space ≡ true }
-        requires empty { (space_at self.old space).pages ≡ map.empty }
-        requires settled { (space_at self.old space).awaiting ≡ map.empty }
-        ensures { self.new ≡ with_awaiting self.old space table }
+        requires there { holds_space self.old space ≡ true }
+        requires empty { (space_in self.old space).pages ≡ map.empty }
+        requires settled { (space_in self.old space).awaiting ≡ map.empty }
+        ensures { self.new ≡ put_awaiting self.old space table }
     {
-        adopt_in(&mut self.slots, space, table);
+        match self.spaces.get_mut(space) {
+            Some(space) => space.adopt(table),
+            None => unreachable!(),
+        }
     }
 
     /// The least page that awaits becomes one of the space's, with an overlay or none. Answers its entry.
     pub(crate) fn share(&mut self, space: u16, page: u64, overlay: Option<Entry>) -> PageEntry
-        requires there { has_space self.old space ≡ true }
-        requires least { IsLeast (space_at self.old space).awaiting page }
+        requires there { holds_space self.old space ≡ true }
+        requires least { IsLeast (space_in self.old space).awaiting page }
         requires low { page < PAGE_END }
         requires lined { IfSome overlay IsLined }
         requires room { IfSome overlay (λ e. HasSpare self.old) }
-        ensures entry { map.get (space_at self.old space).awaiting page ≡ Some result }
-        ensures apart { page_at self.old space page ≡ None }
-        ensures shared { self.new ≡ with_shared self.old space page
+        ensures entry { map.get (space_in self.old space).awaiting page ≡ Some result }
+        ensures apart { page_in self.old space page ≡ None }
+        ensures shared { self.new ≡ put_shared self.old space page
             (record { entry = result; overlay = overlay }) }
     {
-        let entry = share_in(&mut self.slots, space, page);
+        let entry = match self.spaces.get_mut(space) {
+            Some(space) => space.share(page),
+            None => unreachable!(),
+        };
         match overlay {
             Some(e) => self.overlays.insert(OverlayPage::of(space, page), e),
             None => (),
@@ -283,13 +323,16 @@ impl Tables {
 
     /// The pages of a run, the first that await, become the space's, without overlays.
     pub(crate) fn share_run(&mut self, space: u16, run: &PageRun)
-        requires there { has_space self.old space ≡ true }
-        requires first { IsRunFrom (space_at self.old space).awaiting 0 run.now }
+        requires there { holds_space self.old space ≡ true }
+        requires first { IsRunFrom (space_in self.old space).awaiting 0 run.now }
         requires low { run.now.page + run.now.n ≤ PAGE_END }
-        ensures apart { (i : ℕ) → i < run.now.n → page_at self.old space (run.now.page + i) ≡ None }
+        ensures apart { (i : ℕ) → i < run.now.n → page_in self.old space (run.now.page + i) ≡ None }
         ensures shared { self.new ≡ with_run_shared self.old space run.now run.now.n }
     {
-        share_run_in(&mut self.slots, space, run);
+        match self.spaces.get_mut(space) {
+            Some(space) => space.share_run(run),
+            None => unreachable!(),
+        }
     }
 }
 

@@ -7,9 +7,11 @@ use Rattle.number_maps.specs.Keys.{alike}
 use Rattle.ledger.specs.Ledger.{Holding, holding_at}
 use Rattle.ledger.specs.Changes.{has_own}
 use Rattle.ledger.specs.Events.{Discard, ledger_after}
+use Rattle.space_maps.specs.Books.{books_page}
+use Rattle.space_maps.specs.Laws.{changed_there}
+use Rattle.space_maps.specs.Spaces.{page_in, put_page, turned_page}
 use Rattle.space_ledger.specs.Calls.{IsNextOwn}
-use Rattle.overlay_pages.specs.State.{PageState, State, base_page, books, held_page, page_in, put_page, seen_page, turned_page}
-use Rattle.overlay_pages.specs.StateLaws.{changed_there, ledger_page}
+use Rattle.overlay_pages.specs.State.{PageState, State, base_page, books, held_page, seen_page}
 use Rattle.overlay_pages.specs.Changes.{discarded}
 use Rattle.overlay_pages.specs.Lines.{bytes_in_lines}
 use Rattle.promotion.specs.Settled.{mark_of}
@@ -106,7 +108,7 @@ module _ (old now : State) (space from : ℕ) (plain : IsBare old space) (h : Is
   none_owned r = by_page (page_in old space r) refl
     where
       by_page : (o : Option PageState) → page_in old space r ≡ o → has_own (books now) space r ≡ false
-      by_page None had = own_absent (books now) space r (whole.ledger.absent r (ledger_page old space r ∙ ap (option_map (held_page old.zero_frame)) had))
+      by_page None had = own_absent (books now) space r (whole.ledger.absent r (books_page held_page old space r ∙ ap (option_map (held_page old.zero_frame)) had))
       by_page (Some x) had =
           let f = whole.ledger.pages r (held_page old.zero_frame x) (held_there old space r x had) in
           own_is (books now) space r f.is f.there ∙ ap (λ (l : List ℕ). nat_lt 0 (length l)) (by_turn (tests r) refl f.is f.fate)

@@ -7,7 +7,8 @@ use Rattle.ledger.specs.Alike.{AreAlike}
 use Rattle.ledger.specs.Changes.{has_own}
 use Rattle.ledger.specs.Events.{Settle, ledger_after}
 use Rattle.ledger.specs.Ledger.{Ledger}
-use Rattle.overlay_pages.specs.State.{State, books, holds_space, put_mark}
+use Rattle.overlay_pages.specs.State.{State, books}
+use Rattle.space_maps.specs.Spaces.{holds_space, put_mark}
 use Rattle.promotion.specs.Settled as settled
 use Rattle.promotion.specs.Settled.{HasSettled, alone_in, every_page, mark_of}
 use Rattle.promotion.specs.Turns.{is_marked, settled_marked}

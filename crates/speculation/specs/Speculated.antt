@@ -2,9 +2,10 @@ use Rattle.std.specs.Prelude.{◌≡◌, ℕ, Bool, true, false, if◌then◌els
 use Rattle.ledger.specs.Changes.{has_own}
 use Rattle.ledger.specs.Events.{Commit, Discard, Settle, ledger_after}
 use Rattle.overlay_pages.specs.Changes.{discarded}
-use Rattle.overlay_pages.specs.State.{State, base_of, books, holds_space, memory_of, space_in, turned_page}
+use Rattle.overlay_pages.specs.State.{State, base_of, books, memory_of}
 use Rattle.overlay_pages.specs.View.{MemoryView, state_of}
 use Rattle.overlay_memory.specs.Room.{FitsAfter, IsFullAt, units_after}
+use Rattle.space_maps.specs.Spaces.{holds_space, space_in, turned_page}
 use Rattle.promotion.specs.Settled.{AreSettled, IsAfter, alone_in, every_page, mark_of}
 use Rattle.speculation.specs.declared.error.SpeculationError.{SpeculationError}
 use Rattle.speculation.specs.declared.error.SpeculationError.TheVariants.{Speculating, NotSpeculating, Full}

@@ -2,8 +2,8 @@
 
 ghost use Rattle.std.specs.Prelude.{◌≡◌, ◌<◌, true, IsSome};
 ghost use Rattle.sizes.specs.declared.TheConstants.{PAGE_END};
-ghost use Rattle.overlay_pages.specs.State.{holds_space, page_in};
 ghost use Rattle.overlay_pages.specs.View.{state_of};
+ghost use Rattle.space_maps.specs.Spaces.{holds_space, page_in};
 ghost use Rattle.speculation.specs.Speculated.{DiscardsAll, with_discarded};
 
 use overlay_memory::OverlayMemory;

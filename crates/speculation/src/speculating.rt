@@ -2,8 +2,8 @@
 
 ghost use Rattle.std.specs.Prelude.{◌≡◌, true};
 ghost use Rattle.std.specs.FinMap as map;
-ghost use Rattle.overlay_pages.specs.State.{holds_space, space_in};
 ghost use Rattle.overlay_pages.specs.View.{state_of};
+ghost use Rattle.space_maps.specs.Spaces.{holds_space, space_in};
 ghost use Rattle.speculation.specs.Speculated.{Commits, Discards, Starts};
 
 use crate::discarding::discard_all;

@@ -2,11 +2,11 @@
 
 ghost use Rattle.std.specs.Prelude.{◌≡◌, ◌+◌, ◌<◌, ◌≤◌, IsTrue, IsSome, None, true};
 ghost use Rattle.sizes.specs.declared.TheConstants.{PAGE_END, PAGE_LINES};
-ghost use Rattle.overlay_pages.specs.State.{page_in};
 ghost use Rattle.overlay_pages.specs.Changes.{AreAbsent, is_writable};
 ghost use Rattle.overlay_pages.specs.View.{state_of};
+ghost use Rattle.space_maps.specs.Spaces.{page_in, space_in};
 
-use fork_checkpoint::fork_space;
+use fork_checkpoint::{fork_space, restore_space};
 use overlay_memory::{MemoryError, OverlayMemory, SpaceError};
 use ovl_io::Perms;
 use page_table::PageTable;
@@ -24,7 +24,6 @@ pub(super) struct Spaces {
 impl Model for Spaces {
     ghost use Rattle.std.specs.Prelude.{◌≡◌, ℕ};
     ghost use Rattle.std.specs.FinMap as map;
-    ghost use Rattle.overlay_pages.specs.State.{space_in};
     ghost use Rattle.overlay_pages.specs.View.{MemoryView, state_of};
     ghost use Rattle.overlay_pages.specs.Codes.{memory_code};
 
@@ -176,5 +175,18 @@ impl Spaces {
         assert!(rt; self.memory.has_space(from) && !self.memory.is_speculating(from));
         assert!(rt; 0 < to && to < 32_768 && !self.memory.has_space(to));
         fork_space(&mut self.memory, from, to)
+    }
+
+    // Gives a space the pages of another one in the place of its own. Neither is speculating.
+    pub(super) fn restore(
+        &mut self,
+        rt: &impl Abort,
+        saved: u16,
+        into: u16,
+    ) -> Result<(), SpaceError> {
+        assert!(rt; saved != into);
+        assert!(rt; self.memory.has_space(saved) && !self.memory.is_speculating(saved));
+        assert!(rt; self.memory.has_space(into) && !self.memory.is_speculating(into));
+        restore_space(&mut self.memory, saved, into)
     }
 }

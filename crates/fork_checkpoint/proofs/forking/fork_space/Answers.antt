@@ -1,17 +1,21 @@
-use Rattle.std.proofs.Common.{◌∙◌, ap, refl}
-use Rattle.overlay_pages.specs.State.{State, bare_space, cut_space}
+use Rattle.std.proofs.Common.{◌≤◌, sym, subst, ◌∙◌, ap, refl}
+use Rattle.overlay_pages.specs.State.{State}
+use Rattle.overlay_pages.specs.Changes.{limit_of}
 use Rattle.overlay_pages.specs.View.{state_of}
-use Rattle.fork_checkpoint.specs.Forked.{with_copy}
+use Rattle.space_maps.specs.Spaces.{bare_space, cut_space}
+use Rattle.fork_checkpoint.specs.Copied.{with_copy}
 use Rattle.fork_checkpoint.proofs.Shares.{HasAdded, cut_put, fits_before, has_added, has_forked, needed_is, two_spaces}
 use Rattle.fork_checkpoint.proofs.forking.fork_space.Goals as goal
+
+pub units_copied-needed-requires-clause-few : goal.units_copied-needed-requires-clause-few
+units_copied-needed-requires-clause-few c = subst (λ n. n ≤ limit_of (state_of c.args.mem.now)) (sym c.units-units.ensures.sum) c.units-units.ensures.fits
 
 pub returns-in-Some : goal.returns-in-Some
 returns-in-Some c = record {
   needed_is =
       c.in-Some.ensures.needed_is
-      ∙ needed_is (state_of c.args.mem.now) c.args.from c.args.to c.units_copied-needed.result
-      (two_spaces (state_of c.args.mem.now) c.args.from c.args.to c.requires.there c.requires.absent)
-      c.requires.absent c.units_copied-needed.ensures.sum;
+      ∙ needed_is (state_of c.args.mem.now) c.args.from c.args.to c.units_copied-needed.result c.units-units.result c.requires.there c.requires.absent
+      c.units-units.ensures.sum c.units_copied-needed.ensures.sum;
   limit_is = c.in-Some.ensures.limit_is;
   over = c.in-Some.ensures.over;
   kept = refl;
@@ -43,30 +47,29 @@ fill_space-requires-clause-low c = (added c).beside.low c.units_copied-needed.en
 pub fill_space-requires-clause-fits : goal.fill_space-requires-clause-fits
 fill_space-requires-clause-fits c =
     (added c).beside.fits
-    (fits_before (state_of c.args.mem.now) c.args.from c.args.to c.units_copied-needed.result (two_spaces (state_of c.args.mem.now) c.args.from c.args.to c.requires.there c.requires.absent)
-    c.requires.absent c.units_copied-needed.ensures.sum c.in_default.ensures)
+    (fits_before (state_of c.args.mem.now) c.args.from c.args.to c.units_copied-needed.result c.units-units.result c.requires.there c.requires.absent
+    c.units-units.ensures.sum c.units_copied-needed.ensures.sum c.in_default.ensures)
 
 pub returns-in-Ok-fill_space : goal.returns-in-Ok-fill_space
-returns-in-Ok-fill_space c =
-    let differs = two_spaces (state_of c.args.mem.now) c.args.from c.args.to c.requires.there c.requires.absent in (
-      fits_before (state_of c.args.mem.now) c.args.from c.args.to c.units_copied-needed.result differs c.requires.absent
-          c.units_copied-needed.ensures.sum c.in_default.ensures,
-      has_forked (state_of c.args.mem.now) (state_of c.fill_space.new.mem) c.args.from c.args.to differs
-          (c.in-Ok-fill_space.ensures ∙ ap (λ (v : State). with_copy v c.args.from c.args.to) c.in-Ok.ensures.added),
-    )
+returns-in-Ok-fill_space c = (
+  fits_before (state_of c.args.mem.now) c.args.from c.args.to c.units_copied-needed.result c.units-units.result c.requires.there c.requires.absent
+      c.units-units.ensures.sum c.units_copied-needed.ensures.sum c.in_default.ensures,
+  has_forked (state_of c.args.mem.now) (state_of c.fill_space.new.mem) c.args.from c.args.to
+      (two_spaces (state_of c.args.mem.now) c.args.from c.args.to c.requires.there c.requires.absent)
+      (c.in-Ok-fill_space.ensures ∙ ap (λ (v : State). with_copy v c.args.from c.args.to) c.in-Ok.ensures.added),
+)
 
 pub returns-in-Err-fill_space : goal.returns-in-Err-fill_space
 returns-in-Err-fill_space c = (
-  fits_before (state_of c.args.mem.now) c.args.from c.args.to c.units_copied-needed.result
-      (two_spaces (state_of c.args.mem.now) c.args.from c.args.to c.requires.there c.requires.absent) c.requires.absent c.units_copied-needed.ensures.sum
-      c.in_default.ensures,
-  c.in-Err-fill_space.ensures ∙ ap (λ (v : State). cut_space v c.args.to) c.in-Ok.ensures.added ∙ cut_put (state_of c.args.mem.now) c.args.to bare_space c.requires.absent,
+  fits_before (state_of c.args.mem.now) c.args.from c.args.to c.units_copied-needed.result c.units-units.result c.requires.there c.requires.absent
+      c.units-units.ensures.sum c.units_copied-needed.ensures.sum c.in_default.ensures,
+  c.in-Err-fill_space.ensures ∙ ap (λ (v : State). cut_space v c.args.to) c.in-Ok.ensures.added
+      ∙ cut_put (state_of c.args.mem.now) c.args.to bare_space c.requires.absent,
 )
 
 pub returns-in-Err : goal.returns-in-Err
 returns-in-Err c = (
-  fits_before (state_of c.args.mem.now) c.args.from c.args.to c.units_copied-needed.result
-      (two_spaces (state_of c.args.mem.now) c.args.from c.args.to c.requires.there c.requires.absent) c.requires.absent c.units_copied-needed.ensures.sum
-      c.in_default.ensures,
+  fits_before (state_of c.args.mem.now) c.args.from c.args.to c.units_copied-needed.result c.units-units.result c.requires.there c.requires.absent
+      c.units-units.ensures.sum c.units_copied-needed.ensures.sum c.in_default.ensures,
   ap state_of c.in-Err.ensures.kept,
 )

@@ -1,34 +1,15 @@
-use Rattle.std.proofs.Common.{◌∙◌}
+use Rattle.std.proofs.Common.{ap, ◌∙◌}
+use Rattle.overlay_pages.specs.State.{State}
 use Rattle.overlay_pages.specs.View.{state_of}
-use Rattle.fork_checkpoint.proofs.Shares.{HasAdopted, has_adopted}
+use Rattle.fork_checkpoint.specs.Copied.{with_copy}
+use Rattle.fork_checkpoint.proofs.Shares.{ready_made}
 use Rattle.fork_checkpoint.proofs.sharing.fill_space.Goals as goal
 
-abbrev adopted : (c : goal.After-share_all-arg-1) → HasAdopted (state_of c.args.mem.now) (state_of c.adopt_table.new.self) c.args.from c.args.to
-adopted c =
-    has_adopted (state_of c.args.mem.now) (state_of c.copy_table.new.self) (state_of c.adopt_table.new.self) c.args.from c.args.to c.in-Ok.table
-    c.requires.differ c.copy_table.ensures.same c.requires.bare
-    c.in-Ok.ensures.table c.adopt_table.ensures
-
-pub share_all-requires-clause-there : goal.share_all-requires-clause-there
-share_all-requires-clause-there c = (adopted c).beside.there c.requires.there
-
-pub share_all-requires-clause-space : goal.share_all-requires-clause-space
-share_all-requires-clause-space c = (adopted c).beside.space
-
-pub share_all-requires-clause-empty : goal.share_all-requires-clause-empty
-share_all-requires-clause-empty c = (adopted c).empty_is
-
-pub share_all-requires-clause-awaits : goal.share_all-requires-clause-awaits
-share_all-requires-clause-awaits c = (adopted c).awaits
-
-pub share_all-requires-clause-low : goal.share_all-requires-clause-low
-share_all-requires-clause-low c = (adopted c).beside.low c.requires.low
-
-pub share_all-requires-clause-fits : goal.share_all-requires-clause-fits
-share_all-requires-clause-fits c = (adopted c).beside.fits c.requires.fits
+pub share_table-requires : goal.share_table-requires
+share_table-requires c = record {
+  ready = ready_made (state_of c.args.mem.now) (state_of c.copy_table.new.self) c.args.from c.args.to c.in-Ok.table c.requires.differ c.requires.there c.requires.space
+      c.requires.bare c.requires.low c.requires.fits c.copy_table.ensures.same c.in-Ok.ensures.table c.in-Ok.ensures.once;
+}
 
 pub returns-in-Ok : goal.returns-in-Ok
-returns-in-Ok c =
-    c.share_all.ensures
-    ∙ (has_adopted (state_of c.args.mem.now) (state_of c.copy_table.new.self) (state_of c.adopt_table.new.self) c.args.from c.args.to c.in-Ok.table c.requires.differ c.copy_table.ensures.same c.requires.bare
-    c.in-Ok.ensures.table c.adopt_table.ensures).copy
+returns-in-Ok c = c.share_table.ensures ∙ ap (λ (v : State). with_copy v c.args.from c.args.to) c.copy_table.ensures.same

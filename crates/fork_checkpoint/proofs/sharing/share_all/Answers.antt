@@ -1,7 +1,8 @@
 use Rattle.std.proofs.Common.{◌<◌, ap, ◌∙◌, arith}
 use Rattle.sizes.specs.declared.TheConstants.{PAGE_END}
-use Rattle.overlay_pages.specs.State.{State, holds_space}
+use Rattle.overlay_pages.specs.State.{State}
 use Rattle.overlay_pages.specs.View.{state_of}
+use Rattle.space_maps.specs.Spaces.{holds_space}
 use Rattle.fork_checkpoint.proofs.Shares.{partly_none, to_there}
 use Rattle.fork_checkpoint.proofs.Runs.{HasReached, bare_until, from_there, reached, reached_all}
 use Rattle.fork_checkpoint.proofs.sharing.share_all.Goals as goal

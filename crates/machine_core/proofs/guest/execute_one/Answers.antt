@@ -1,6 +1,6 @@
 use Rattle.std.proofs.Common.{sym, ap, ◌∙◌, refl}
 use Rattle.rv_execute.specs.declared.outcome.Outcome.TheVariants.{Fault}
-use Rattle.machine_core.specs.Slots.{guest_lent}
+use Rattle.machine_core.specs.Kept.{guest_lent}
 use Rattle.machine_core.proofs.Accessing.{lent, performed, state_kept}
 use Rattle.machine_core.proofs.guest.execute_one.Goals as goal
 

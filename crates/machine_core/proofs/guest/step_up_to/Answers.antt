@@ -1,7 +1,7 @@
 use Rattle.std.proofs.Common.{rules, ◌∙◌, arith}
 use Rattle.rv_execute.specs.declared.outcome.Outcome.TheVariants.{Asked, Full}
 use Rattle.machine_core.specs.Executions.{executions}
-use Rattle.machine_core.specs.Slots.{guest_lent}
+use Rattle.machine_core.specs.Kept.{guest_lent}
 use Rattle.machine_core.proofs.Stepping.{last_in, step_in, still_runs}
 use Rattle.machine_core.proofs.guest.step_up_to.Goals as goal
 

@@ -1,9 +1,9 @@
 use Rattle.std.proofs.Common.{◌≡◌, ◌-◌, ◌≤◌, true}
 use Rattle.ovl_io.specs.declared.process_state.ProcessState.TheVariants.{Running}
-use Rattle.overlay_pages.specs.State.{holds_space}
+use Rattle.space_maps.specs.Spaces.{holds_space}
 use Rattle.machine_core.specs.Access.{IsInHand, spaces_lent}
 use Rattle.machine_core.specs.Executions.{executions}
-use Rattle.machine_core.specs.Slots.{IsBeside, guest_lent}
+use Rattle.machine_core.specs.Kept.{IsBeside, guest_lent}
 use Rattle.machine_core.proofs.Stepping.{behind}
 use Rattle.machine_core.proofs.guest.step_up_to.Given as goal
 

@@ -1,7 +1,7 @@
 use Rattle.overlay_pages.specs.View.{state_of}
 use Rattle.machine_core.proofs.Adding.{open_chain}
 use Rattle.machine_core.proofs.Images.{image_few, stack_absent}
-use Rattle.machine_core.proofs.Results.{on_ok}
+use Rattle.std.proofs.lemmas.Result.{on_ok_weaker}
 use Rattle.machine_core.proofs.load.add_pages.Goals as goal
 
 pub add_stack-requires-clause-few : goal.add_stack-requires-clause-few
@@ -14,7 +14,7 @@ add_stack-requires-clause-absent c =
 
 pub returns-clause-added : goal.returns-clause-added
 returns-clause-added c =
-    on_ok c.add_stack.result (λ stack. record { between = state_of c.add_image.new.memory; image = c.in_ok-add_image.ensures.added; stack = stack }) c.add_stack.ensures.added
+    on_ok_weaker c.add_stack.result (λ stack. record { between = state_of c.add_image.new.memory; image = c.in_ok-add_image.ensures.added; stack = stack }) c.add_stack.ensures.added
 
 pub returns-clause-open : goal.returns-clause-open
 returns-clause-open c =

@@ -1,11 +1,11 @@
 use Rattle.std.proofs.Common.{◌+◌, length, sym, ap, ◌∙◌}
 use Rattle.ledger.specs.Units.{class}
-use Rattle.overlay_pages.specs.State.{turned_page}
 use Rattle.overlay_pages.specs.Steps.{laid}
 use Rattle.overlay_pages.specs.View.{state_of, view_of}
 use Rattle.overlay_pages.proofs.Growing.{bare_still, begins_room, begun_first, there_still}
 use Rattle.overlay_pages.proofs.Sizes.{first_size}
 use Rattle.overlay_pages.proofs.overlays.begin_with.Goals as goal
+use Rattle.space_maps.specs.Spaces.{turned_page}
 
 pub make_room-requires-clause-enough : goal.make_room-requires-clause-enough
 make_room-requires-clause-enough c = begins_room (view_of c.args.store.now c.args.ledger.now) c.args.space c.args.page c.args.line c.args.bytes.now c.requires.joined c.requires.there c.requires.bare c.requires.fits

@@ -1,10 +1,10 @@
 use Rattle.std.proofs.Common.{ap, ◌∙◌, arith}
 use Rattle.overlay_pages.specs.Changes.{discarded}
-use Rattle.overlay_pages.specs.State.{turned_page}
 use Rattle.overlay_pages.specs.View.{state_of, view_of}
 use Rattle.overlay_pages.proofs.Growing.{all_kept, dropped_bare, dropped_some, grown_state, grows_fits, grows_low, grows_room, grows_size}
 use Rattle.overlay_pages.proofs.Joining.{frames_twice, overlay_segment, overlay_set}
 use Rattle.overlay_pages.proofs.overlays.grow.Goals as goal
+use Rattle.space_maps.specs.Spaces.{turned_page}
 
 pub lift-requires-clause-there : goal.lift-requires-clause-there
 lift-requires-clause-there c = overlay_segment (view_of c.args.store.now c.args.ledger.now) c.args.space c.args.page c.args.entry c.requires.joined c.requires.there c.requires.overlaid

@@ -1,12 +1,12 @@
 use Rattle.std.proofs.Common.{Some, ap, ◌∙◌, arith}
 use Rattle.segment_store.specs.Laws.{frame_inside}
-use Rattle.overlay_pages.specs.State.{turned_page}
 use Rattle.overlay_pages.specs.Changes.{discarded}
 use Rattle.overlay_pages.specs.View.{view_of}
 use Rattle.overlay_pages.proofs.Joining.{frames_twice, overlay_segment, overlay_set, page_with}
 use Rattle.overlay_pages.proofs.Growing.{all_kept}
 use Rattle.overlay_pages.proofs.Committing.{composed_lines_are, copied_at, copy_bare, copy_room, copy_settled, copy_shared, copy_there, page_frame}
 use Rattle.overlay_pages.proofs.settling.copy_commit.Goals as goal
+use Rattle.space_maps.specs.Spaces.{turned_page}
 
 pub lift-requires-clause-there : goal.lift-requires-clause-there
 lift-requires-clause-there c = overlay_segment (view_of c.args.store.now c.args.ledger.now) c.args.space c.args.page c.args.overlay c.requires.joined c.requires.there c.requires.overlaid

@@ -1,7 +1,7 @@
 use Rattle.std.proofs.Common.{List, ap, subst, sym, ◌∙◌, Some}
 use Rattle.std.specs.FinMap.{len}
-use Rattle.overlay_pages.specs.State.{space_in}
 use Rattle.overlay_pages.specs.View.{MemoryView, state_of}
+use Rattle.space_maps.specs.Spaces.{space_in}
 use Rattle.machine_core.specs.Machine.{spaces_of}
 use Rattle.command_core.specs.State.{Checkpoint}
 use Rattle.command_core.specs.Sessions.{InSession}

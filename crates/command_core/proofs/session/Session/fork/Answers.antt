@@ -4,7 +4,7 @@ use Rattle.command_core.specs.State.{registry_of}
 use Rattle.command_core.specs.Sessions.{InSession}
 use Rattle.command_core.specs.Kept.{shown_state, spaces_kept}
 use Rattle.command_core.specs.Giving.{GivesChange}
-use Rattle.command_core.specs.Forks.{fork_row}
+use Rattle.command_core.specs.Copies.{fork_row}
 use Rattle.command_core.specs.Changes.{on_process}
 use Rattle.report_text.specs.declared.answer.Answer.TheVariants.{Forked, Refused}
 use Rattle.command_core.proofs.Copies.{copy_keeps}

@@ -1,7 +1,7 @@
 use Rattle.std.proofs.Common.{ap, subst, ◌∙◌, Ok}
-use Rattle.overlay_pages.specs.State.{space_in}
 use Rattle.overlay_pages.specs.View.{MemoryView, state_of}
 use Rattle.std.specs.FinMap.{len}
+use Rattle.space_maps.specs.Spaces.{space_in}
 use Rattle.machine_core.specs.Machine.{Processes}
 use Rattle.command_core.specs.Sessions.{InSession}
 use Rattle.command_core.proofs.Standing.{for_each}

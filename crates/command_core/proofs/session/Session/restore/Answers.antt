@@ -7,7 +7,7 @@ use Rattle.command_core.specs.State.{registry_of}
 use Rattle.command_core.specs.Sessions.{InSession, IsFree}
 use Rattle.command_core.specs.Kept.{kept_named, shown_state, spaces_kept}
 use Rattle.command_core.specs.Giving.{GivesChange}
-use Rattle.command_core.specs.Forks.{CopiesProcess}
+use Rattle.command_core.specs.Copies.{CopiesProcess}
 use Rattle.command_core.specs.Checkpoints.{restore_row}
 use Rattle.command_core.specs.Changes.{answer_of, on_process}
 use Rattle.command_core.proofs.Copies.{copy_keeps}

@@ -1,11 +1,12 @@
 use Rattle.std.proofs.Common.{sym, ◌∙◌}
 use Rattle.machine_core.specs.Machine.{is_running}
-use Rattle.machine_core.specs.Laws.{answers, like_running}
-use Rattle.machine_core.proofs.Machines.{has_running}
+use Rattle.machine_core.specs.Laws.{answers, like_running, runs_shown}
+use Rattle.machine_core.specs.Kept.{machine_of}
 use Rattle.machine_core.proofs.machine.Machine.is_running.Goals as goal
 
 pub returns-clause-running : goal.returns-clause-running
-returns-clause-running c = c.runs_in.ensures ∙ sym (has_running c.args.self.now c.self.inside.memory c.self.inside.slots.items c.self.view_is c.args.p)
+returns-clause-running c =
+    rw (← c.self.view_is) (c.runs_in.ensures ∙ sym (runs_shown (machine_of c.self.inside.memory c.self.inside.processes) c.args.p))
 
 pub returns-clause-stands : goal.returns-clause-stands
 returns-clause-stands c =

@@ -1,5 +1,5 @@
-use Rattle.machine_core.proofs.Machines.{none_seen}
+use Rattle.machine_core.proofs.Listed.{none_listed}
 use Rattle.machine_core.proofs.machine.Machine.new.Goals as goal
 
-pub returns-clause-processes : goal.returns-clause-processes
-returns-clause-processes c = none_seen c.new-2.result.items c.new-2.ensures.items
+pub invariant_of-result : goal.invariant_of-result
+invariant_of-result c = none_listed c.new-2.result c.new-3.result c.new-2.ensures c.new-3.ensures.items

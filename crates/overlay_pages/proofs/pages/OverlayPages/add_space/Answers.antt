@@ -1,19 +1,18 @@
 use Rattle.std.proofs.Common.{◌≡◌, sym, ap, subst, ◌∙◌}
 use Rattle.overlay_pages.specs.View.{IsJoined, MemoryView, state_of, view_of}
-use Rattle.overlay_pages.specs.State.{holds_space, put_space, bare_space}
 use Rattle.overlay_pages.specs.ViewLaws.{state_holds}
-use Rattle.overlay_pages.specs.TableLaws.{bare_is, state_put_space}
+use Rattle.overlay_pages.specs.TableLaws.{state_added}
 use Rattle.overlay_pages.proofs.Tables.{space_added}
-use Rattle.space_ledger.specs.View.{no_pages, with_space}
 use Rattle.overlay_pages.proofs.Results.{either, on_ok}
 use Rattle.overlay_pages.proofs.pages.OverlayPages.add_space.Goals as goal
+use Rattle.space_maps.specs.Spaces.{bare_space, holds_space, put_space}
 
 pub add_space-requires-clause-absent : goal.add_space-requires-clause-absent
 add_space-requires-clause-absent c = sym (state_holds (view_of c.self.inside.store c.self.inside.ledger) c.args.space) ∙ ap (λ (m : MemoryView). holds_space (state_of m) c.args.space) c.self.view_is ∙ c.requires.absent
 
 pub invariant_of-self : goal.invariant_of-self
 invariant_of-self c =
-    either (IsJoined (view_of c.self.inside.store c.add_space.new.self)) (c.add_space.new.self ≡ with_space c.self.inside.ledger c.args.space no_pages) (c.add_space.new.self ≡ c.self.inside.ledger) c.add_space.result c.add_space.ensures.added c.add_space.ensures.kept
+    either (IsJoined (view_of c.self.inside.store c.add_space.new.self)) (c.add_space.new.self ≡ put_space c.self.inside.ledger c.args.space bare_space) (c.add_space.new.self ≡ c.self.inside.ledger) c.add_space.result c.add_space.ensures.added c.add_space.ensures.kept
     (λ added.
     subst (λ t. IsJoined (view_of c.self.inside.store t)) (sym added)
     (space_added c.self.inside.store c.self.inside.ledger c.args.space c.self.invariant c.requires.last (sym (state_holds (view_of c.self.inside.store c.self.inside.ledger) c.args.space) ∙ ap (λ (m : MemoryView). holds_space (state_of m) c.args.space) c.self.view_is ∙ c.requires.absent)))
@@ -22,5 +21,4 @@ invariant_of-self c =
 pub returns-clause-added : goal.returns-clause-added
 returns-clause-added c = on_ok c.add_space.result c.add_space.ensures.added
     (λ added.
-    ap (λ t. state_of (view_of c.self.inside.store t)) added ∙ state_put_space c.self.inside.store c.self.inside.ledger c.args.space no_pages
-    ∙ ap (put_space (state_of (view_of c.self.inside.store c.self.inside.ledger)) c.args.space) (bare_is c.self.inside.store) ∙ ap (λ (m : MemoryView). put_space (state_of m) c.args.space bare_space) c.self.view_is)
+    ap (λ t. state_of (view_of c.self.inside.store t)) added ∙ state_added c.self.inside.store c.self.inside.ledger c.args.space ∙ ap (λ (m : MemoryView). put_space (state_of m) c.args.space bare_space) c.self.view_is)

@@ -1,6 +1,6 @@
 use Rattle.std.proofs.Common.{sym, ap, ◌∙◌}
+use Rattle.space_maps.specs.Spaces.{page_in}
 use Rattle.space_ledger.specs.ViewLaws.{entry_frame}
-use Rattle.overlay_pages.specs.State.{page_in}
 use Rattle.overlay_pages.specs.View.{MemoryView, state_of, view_of}
 use Rattle.overlay_pages.proofs.Found.{found_in}
 use Rattle.overlay_pages.proofs.Tables.{absent_state}

@@ -2,8 +2,9 @@ use Rattle.std.proofs.Common.{sym, ap, subst, ◌∙◌}
 use Rattle.overlay_pages.specs.View.{MemoryView, state_of, view_of}
 use Rattle.std.specs.Option.{IsSome, option_map}
 use Rattle.std.proofs.Common.{Some}
+use Rattle.space_maps.specs.Spaces.{page_in}
 use Rattle.space_ledger.specs.View.{lines_of}
-use Rattle.overlay_pages.specs.State.{PageState, page_in}
+use Rattle.overlay_pages.specs.State.{PageState}
 use Rattle.overlay_pages.proofs.Tables.{own_state, page_some}
 use Rattle.overlay_pages.proofs.pages.OverlayPages.lines_of.Goals as goal
 

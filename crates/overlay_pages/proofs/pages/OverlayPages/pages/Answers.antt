@@ -1,11 +1,10 @@
 use Rattle.std.proofs.Common.{sym, ap, subst, ◌∙◌, arith}
 use Rattle.overlay_pages.specs.View.{MemoryView, state_of, view_of}
 use Rattle.std.specs.FinMap.{len}
-use Rattle.overlay_pages.specs.State.{space_in}
-use Rattle.overlay_pages.specs.TableLaws.{state_count}
+use Rattle.space_maps.specs.Spaces.{space_in}
 use Rattle.space_ledger.specs.Calls.{NamesOnce}
 use Rattle.overlay_pages.specs.Calls.{entries_in}
-use Rattle.overlay_pages.specs.ViewLaws.{state_zero}
+use Rattle.overlay_pages.specs.ViewLaws.{state_count, state_zero}
 use Rattle.overlay_pages.proofs.Tables.{entries_state, pages_few}
 use Rattle.overlay_pages.proofs.pages.OverlayPages.pages.Goals as goal
 

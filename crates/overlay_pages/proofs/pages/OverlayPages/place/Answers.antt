@@ -1,7 +1,7 @@
 use Rattle.std.proofs.Common.{sym, ap, subst, ◌∙◌, arith}
 use Rattle.std.specs.Option.{IsSome, is_some}
+use Rattle.space_maps.specs.Spaces.{page_in}
 use Rattle.space_ledger.specs.ViewLaws.{entry_frame}
-use Rattle.overlay_pages.specs.State.{page_in}
 use Rattle.overlay_pages.specs.View.{HasOwnPlace, MemoryView, state_of, view_of}
 use Rattle.overlay_pages.specs.ViewLaws.{state_frames}
 use Rattle.overlay_pages.proofs.OwnPlaces.{has_own_place}

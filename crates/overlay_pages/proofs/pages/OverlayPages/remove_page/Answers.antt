@@ -1,7 +1,7 @@
 use Rattle.std.proofs.Common.{sym, ap, subst, ◌∙◌}
 use Rattle.std.specs.Option.{IsSome}
-use Rattle.space_ledger.specs.View.{LedgerView, overlay_at, page_at}
-use Rattle.overlay_pages.specs.State.{cut_page, page_in}
+use Rattle.space_maps.specs.Spaces.{cut_page, page_in}
+use Rattle.space_ledger.specs.View.{LedgerView, overlay_at}
 use Rattle.overlay_pages.specs.Changes.{discarded}
 use Rattle.overlay_pages.specs.View.{MemoryView, state_of, view_of}
 use Rattle.overlay_pages.proofs.Tables.{page_some}
@@ -13,7 +13,7 @@ drop_overlay-requires-clause-there c = page_some (view_of c.self.inside.store c.
 
 pub take_out-requires-clause-there : goal.take_out-requires-clause-there
 take_out-requires-clause-there c =
-    subst (λ (t : LedgerView). IsSome (page_at t c.args.space c.args.page)) (sym c.drop_overlay.ensures.table)
+    subst (λ (t : LedgerView). IsSome (page_in t c.args.space c.args.page)) (sym c.drop_overlay.ensures.table)
     (dropped_at c.self.inside.ledger c.args.space c.args.page (page_some (view_of c.self.inside.store c.self.inside.ledger) c.args.space c.args.page (subst (λ (m : MemoryView). IsSome (page_in (state_of m) c.args.space c.args.page)) (sym c.self.view_is) c.requires.there))).0
 
 pub take_out-requires-clause-bare : goal.take_out-requires-clause-bare

@@ -3,8 +3,8 @@ use Rattle.std.specs.Option.{IsSome, option_map}
 use Rattle.std.specs.FinMap.{get}
 use Rattle.page_table.specs.Table.{Pages}
 use Rattle.page_table.specs.declared.entry.PageEntry.{PageEntry}
+use Rattle.space_maps.specs.Spaces.{holds_space, page_in, space_in}
 use Rattle.space_ledger.specs.Space.{IsLeast}
-use Rattle.overlay_pages.specs.State.{holds_space, page_in, space_in}
 use Rattle.overlay_pages.specs.Changes.{HasShareRoom, with_shared}
 use Rattle.overlay_pages.specs.Calls.{AwaitsLike}
 use Rattle.overlay_pages.specs.View.{MemoryView, state_of, view_of}

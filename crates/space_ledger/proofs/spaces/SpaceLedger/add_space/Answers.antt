@@ -1,12 +1,12 @@
 use Rattle.std.proofs.Common.{ap, ◌∙◌}
-use Rattle.space_ledger.specs.View.{LedgerView, has_space}
-use Rattle.space_ledger.specs.View.{no_pages, with_space}
+use Rattle.space_maps.specs.Spaces.{bare_space, holds_space, put_space}
+use Rattle.space_ledger.specs.View.{LedgerView}
 use Rattle.space_ledger.proofs.Booked.{booked_space}
 use Rattle.space_ledger.proofs.Numbers.{on_either}
 use Rattle.space_ledger.proofs.spaces.SpaceLedger.add_space.Goals as goal
 
 pub invariant_of-self : goal.invariant_of-self
 invariant_of-self c =
-    on_either c.add.result c.self.inside.tables c.add.new.self (with_space c.self.inside.tables c.args.space no_pages) c.self.inside.pool c.self.inside.units c.self.inside.lines c.self.invariant
-    (booked_space c.self.inside.tables c.self.inside.pool c.self.inside.units c.self.inside.lines c.args.space c.self.invariant (ap (λ (v : LedgerView). has_space v c.args.space) c.self.view_is ∙ c.requires.absent))
+    on_either c.add.result c.self.inside.tables c.add.new.self (put_space c.self.inside.tables c.args.space bare_space) c.self.inside.pool c.self.inside.units c.self.inside.lines c.self.invariant
+    (booked_space c.self.inside.tables c.self.inside.pool c.self.inside.units c.self.inside.lines c.args.space c.self.invariant (ap (λ (v : LedgerView). holds_space v c.args.space) c.self.view_is ∙ c.requires.absent))
     c.add.ensures.added c.add.ensures.kept

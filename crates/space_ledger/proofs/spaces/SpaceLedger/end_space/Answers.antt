@@ -1,5 +1,6 @@
 use Rattle.std.proofs.Common.{sym, ap, subst, ◌∙◌}
-use Rattle.space_ledger.specs.View.{LedgerView, has_space, space_at}
+use Rattle.space_maps.specs.Spaces.{holds_space, space_in}
+use Rattle.space_ledger.specs.View.{LedgerView}
 use Rattle.space_ledger.specs.Calls.{IsBooked}
 use Rattle.space_ledger.proofs.Booked.{booked_lost}
 use Rattle.space_ledger.proofs.spaces.SpaceLedger.end_space.Goals as goal
@@ -7,5 +8,5 @@ use Rattle.space_ledger.proofs.spaces.SpaceLedger.end_space.Goals as goal
 pub invariant_of-self : goal.invariant_of-self
 invariant_of-self c =
     subst (λ v. IsBooked v c.self.inside.pool c.self.inside.units c.self.inside.lines) (sym c.end.ensures)
-    (booked_lost c.self.inside.tables c.self.inside.pool c.self.inside.units c.self.inside.lines c.args.space c.self.invariant (ap (λ (v : LedgerView). has_space v c.args.space) c.self.view_is ∙ c.requires.there)
-    (ap (λ (v : LedgerView). (space_at v c.args.space).pages) c.self.view_is ∙ c.requires.empty))
+    (booked_lost c.self.inside.tables c.self.inside.pool c.self.inside.units c.self.inside.lines c.args.space c.self.invariant (ap (λ (v : LedgerView). holds_space v c.args.space) c.self.view_is ∙ c.requires.there)
+    (ap (λ (v : LedgerView). (space_in v c.args.space).pages) c.self.view_is ∙ c.requires.empty))

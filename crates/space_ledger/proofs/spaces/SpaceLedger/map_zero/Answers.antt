@@ -1,5 +1,6 @@
 use Rattle.std.proofs.Common.{sym, ap, subst, ◌∙◌}
-use Rattle.space_ledger.specs.View.{LedgerView, has_space}
+use Rattle.space_maps.specs.Spaces.{holds_space}
+use Rattle.space_ledger.specs.View.{LedgerView}
 use Rattle.space_ledger.specs.View.{with_zero_pages}
 use Rattle.space_ledger.specs.Calls.{AreFree}
 use Rattle.space_ledger.proofs.Numbers.{mapped_view, on_either}
@@ -10,6 +11,6 @@ invariant_of-self c =
     on_either c.map.result c.self.inside.tables c.map.new.self
     (with_zero_pages c.self.inside.tables c.args.space c.args.page c.args.n (record { perms = c.args.perms; frame = c.zero-zero.result })) c.self.inside.pool c.self.inside.units c.self.inside.lines c.self.invariant
     (mapped_view c.self.inside.tables c.self.inside.pool c.self.inside.units c.self.inside.lines c.args.space c.args.page c.args.n (record { perms = c.args.perms; frame = c.zero-zero.result }) c.self.invariant
-    (ap (λ (v : LedgerView). has_space v c.args.space) c.self.view_is ∙ c.requires.there)
+    (ap (λ (v : LedgerView). holds_space v c.args.space) c.self.view_is ∙ c.requires.there)
     (subst (λ (v : LedgerView). AreFree v c.args.space c.args.page c.args.n) (sym c.self.view_is) c.requires.free) c.zero-zero.ensures.zero)
     c.map.ensures.mapped c.map.ensures.kept

@@ -7,5 +7,5 @@ use Rattle.space_ledger.proofs.spaces.SpaceLedger.overlay.Goals as goal
 
 pub returns-clause-own : goal.returns-clause-own
 returns-clause-own c =
-    ap is_some c.overlay.ensures ∙ own_is c.self.inside.tables c.zero-zero.ensures.sound c.args.space c.args.page
+    ap is_some c.overlay.ensures.overlay ∙ own_is c.self.inside.tables c.overlay.ensures.sound c.args.space c.args.page
     ∙ ap (λ (v : LedgerView). has_own (ledger_of v) c.args.space c.args.page) c.self.view_is

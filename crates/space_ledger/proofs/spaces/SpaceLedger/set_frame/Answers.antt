@@ -1,5 +1,6 @@
 use Rattle.std.proofs.Common.{sym, ap, subst, ◌∙◌, arith}
-use Rattle.space_ledger.specs.View.{LedgerView, page_at, space_at}
+use Rattle.space_maps.specs.Spaces.{page_in, space_in}
+use Rattle.space_ledger.specs.View.{LedgerView}
 use Rattle.std.specs.Prelude.{ℕ, ◌<◌, ◌-◌, ◌+◌, ◌==◌, cond, Some, None}
 use Rattle.std.specs.Option.{option_and_then}
 use Rattle.space_ledger.specs.View.{with_frame}
@@ -24,7 +25,7 @@ hold-added-requires-clause-few c = (before_hold c.self.inside.tables c.self.insi
 pub overflow_sub-self : goal.overflow_sub-self
 overflow_sub-self c = (framed_call c.self.inside.tables c.self.inside.pool c.release-freed.new.pool c.hold-added.new.pool c.self.inside.units c.self.inside.lines c.self.invariant c.zero-zero.ensures.sound c.args.space c.args.page c.zero-zero.result c.args.frame c.release-freed.result c.hold-added.result c.in-Some.old
     c.zero-zero.ensures.zero c.in-Some.ensures c.release-freed.ensures.released c.release-freed.ensures.units c.hold-added.ensures.held c.hold-added.ensures.units
-    (subst (λ (v : LedgerView). c.args.frame < v.frames) (sym c.self.view_is) c.requires.inside) (ap (λ (v : LedgerView). (space_at v c.args.space).awaiting) c.self.view_is ∙ c.requires.settled)
+    (subst (λ (v : LedgerView). c.args.frame < v.frames) (sym c.self.view_is) c.requires.inside) (ap (λ (v : LedgerView). (space_in v c.args.space).awaiting) c.self.view_is ∙ c.requires.settled)
     (subst (λ (v : LedgerView). IsFreeFor v c.args.space c.args.page c.args.frame) (sym c.self.view_is) c.requires.free)).fits
 
 pub overflow_add-self : goal.overflow_add-self
@@ -32,7 +33,7 @@ overflow_add-self c = omega (
   arith,
   (framed_call c.self.inside.tables c.self.inside.pool c.release-freed.new.pool c.hold-added.new.pool c.self.inside.units c.self.inside.lines c.self.invariant c.zero-zero.ensures.sound c.args.space c.args.page c.zero-zero.result c.args.frame c.release-freed.result c.hold-added.result c.in-Some.old
       c.zero-zero.ensures.zero c.in-Some.ensures c.release-freed.ensures.released c.release-freed.ensures.units c.hold-added.ensures.held c.hold-added.ensures.units
-      (subst (λ (v : LedgerView). c.args.frame < v.frames) (sym c.self.view_is) c.requires.inside) (ap (λ (v : LedgerView). (space_at v c.args.space).awaiting) c.self.view_is ∙ c.requires.settled)
+      (subst (λ (v : LedgerView). c.args.frame < v.frames) (sym c.self.view_is) c.requires.inside) (ap (λ (v : LedgerView). (space_in v c.args.space).awaiting) c.self.view_is ∙ c.requires.settled)
       (subst (λ (v : LedgerView). IsFreeFor v c.args.space c.args.page c.args.frame) (sym c.self.view_is) c.requires.free)).small,
 )
 
@@ -42,7 +43,7 @@ invariant_of-self c =
     (sym (c.set_entry.ensures ∙ entry_is_frame c.self.inside.tables c.args.space c.args.page c.args.frame c.in-Some.old c.in-Some.ensures))
     (framed_call c.self.inside.tables c.self.inside.pool c.release-freed.new.pool c.hold-added.new.pool c.self.inside.units c.self.inside.lines c.self.invariant c.zero-zero.ensures.sound c.args.space c.args.page c.zero-zero.result c.args.frame c.release-freed.result c.hold-added.result c.in-Some.old
     c.zero-zero.ensures.zero c.in-Some.ensures c.release-freed.ensures.released c.release-freed.ensures.units c.hold-added.ensures.held c.hold-added.ensures.units
-    (subst (λ (v : LedgerView). c.args.frame < v.frames) (sym c.self.view_is) c.requires.inside) (ap (λ (v : LedgerView). (space_at v c.args.space).awaiting) c.self.view_is ∙ c.requires.settled)
+    (subst (λ (v : LedgerView). c.args.frame < v.frames) (sym c.self.view_is) c.requires.inside) (ap (λ (v : LedgerView). (space_in v c.args.space).awaiting) c.self.view_is ∙ c.requires.settled)
     (subst (λ (v : LedgerView). IsFreeFor v c.args.space c.args.page c.args.frame) (sym c.self.view_is) c.requires.free)).books
 
 pub returns-clause-framed : goal.returns-clause-framed
@@ -55,7 +56,7 @@ returns-clause-freed c =
     let framed = c.set_entry.ensures ∙ entry_is_frame c.self.inside.tables c.args.space c.args.page c.args.frame c.in-Some.old c.in-Some.ensures in
     c.other_frame.ensures ∙ ap (option_and_then (λ (k : ℕ). cond (c.args.frame == k) None (Some k))) c.freed_frame.ensures ∙ (framed_call c.self.inside.tables c.self.inside.pool c.release-freed.new.pool c.hold-added.new.pool c.self.inside.units c.self.inside.lines c.self.invariant c.zero-zero.ensures.sound c.args.space c.args.page c.zero-zero.result c.args.frame c.release-freed.result c.hold-added.result c.in-Some.old
     c.zero-zero.ensures.zero c.in-Some.ensures c.release-freed.ensures.released c.release-freed.ensures.units c.hold-added.ensures.held c.hold-added.ensures.units
-    (subst (λ (v : LedgerView). c.args.frame < v.frames) (sym c.self.view_is) c.requires.inside) (ap (λ (v : LedgerView). (space_at v c.args.space).awaiting) c.self.view_is ∙ c.requires.settled)
+    (subst (λ (v : LedgerView). c.args.frame < v.frames) (sym c.self.view_is) c.requires.inside) (ap (λ (v : LedgerView). (space_in v c.args.space).awaiting) c.self.view_is ∙ c.requires.settled)
     (subst (λ (v : LedgerView). IsFreeFor v c.args.space c.args.page c.args.frame) (sym c.self.view_is) c.requires.free)).answer
-    ∙ ap (λ v. given_up v (page_at c.self.inside.tables c.args.space c.args.page)) (sym framed)
-    ∙ ap (λ (v : LedgerView). given_up c.set_entry.new.self (page_at v c.args.space c.args.page)) c.self.view_is
+    ∙ ap (λ v. given_up v (page_in c.self.inside.tables c.args.space c.args.page)) (sym framed)
+    ∙ ap (λ (v : LedgerView). given_up c.set_entry.new.self (page_in v c.args.space c.args.page)) c.self.view_is

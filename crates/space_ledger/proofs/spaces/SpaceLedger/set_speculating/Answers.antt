@@ -1,5 +1,6 @@
 use Rattle.std.proofs.Common.{sym, ap, subst, ◌∙◌}
-use Rattle.space_ledger.specs.View.{LedgerView, has_space}
+use Rattle.space_maps.specs.Spaces.{holds_space}
+use Rattle.space_ledger.specs.View.{LedgerView}
 use Rattle.space_ledger.specs.Calls.{IsBooked}
 use Rattle.space_ledger.proofs.Booked.{booked_mark}
 use Rattle.space_ledger.proofs.spaces.SpaceLedger.set_speculating.Goals as goal
@@ -7,4 +8,4 @@ use Rattle.space_ledger.proofs.spaces.SpaceLedger.set_speculating.Goals as goal
 pub invariant_of-self : goal.invariant_of-self
 invariant_of-self c =
     subst (λ v. IsBooked v c.self.inside.pool c.self.inside.units c.self.inside.lines) (sym c.set_speculating.ensures)
-    (booked_mark c.self.inside.tables c.self.inside.pool c.self.inside.units c.self.inside.lines c.args.space c.args.on c.self.invariant (ap (λ (v : LedgerView). has_space v c.args.space) c.self.view_is ∙ c.requires))
+    (booked_mark c.self.inside.tables c.self.inside.pool c.self.inside.units c.self.inside.lines c.args.space c.args.on c.self.invariant (ap (λ (v : LedgerView). holds_space v c.args.space) c.self.view_is ∙ c.requires))

@@ -1,7 +1,8 @@
 use Rattle.std.proofs.Common.{◌<◌, sym, subst}
 use Rattle.std.specs.FinMap.{len}
 use Rattle.page_table.specs.Run.{IsRunFrom}
-use Rattle.space_ledger.specs.View.{LedgerView, space_at}
+use Rattle.space_maps.specs.Spaces.{space_in}
+use Rattle.space_ledger.specs.View.{LedgerView}
 use Rattle.space_ledger.specs.Calls.AreSharedBare.{Still}
 use Rattle.space_ledger.proofs.Sharing.{IsSharing, bare_run, fewer, one_more}
 use Rattle.space_ledger.proofs.spaces.SpaceLedger.share_bare.Goals as goal
@@ -12,17 +13,17 @@ sharing-init c = record { space = c.requires.space; bare = c.requires.bare; run 
 pub share_run-requires-clause-bare : goal.share_run-requires-clause-bare
 share_run-requires-clause-bare c =
     bare_run c.args.self.now c.sharing.self c.args.from c.args.to c.args.until c.in-Some.found c.requires.differ c.sharing.invariant
-    (subst (λ (v : LedgerView). IsRunFrom (space_at v c.args.to).awaiting 0 c.in-Some.found) c.self.view_is c.in-Some.ensures.0) c.in-Some.ensures.1
+    (subst (λ (v : LedgerView). IsRunFrom (space_in v c.args.to).awaiting 0 c.in-Some.found) c.self.view_is c.in-Some.ensures.0) c.in-Some.ensures.1
 
 pub sharing-smaller : goal.sharing-smaller
 sharing-smaller c =
-    subst (λ (v : LedgerView). len (space_at v c.args.to).awaiting < len (space_at c.sharing.self c.args.to).awaiting) (sym c.share_run.ensures.shared)
+    subst (λ (v : LedgerView). len (space_in v c.args.to).awaiting < len (space_in c.sharing.self c.args.to).awaiting) (sym c.share_run.ensures.shared)
     (fewer c.args.self.now c.sharing.self c.args.from c.args.to c.args.until c.in-Some.found c.requires.differ c.sharing.invariant
-    (subst (λ (v : LedgerView). IsRunFrom (space_at v c.args.to).awaiting 0 c.in-Some.found) c.self.view_is c.in-Some.ensures.0) c.in-Some.ensures.1)
+    (subst (λ (v : LedgerView). IsRunFrom (space_in v c.args.to).awaiting 0 c.in-Some.found) c.self.view_is c.in-Some.ensures.0) c.in-Some.ensures.1)
 
 pub sharing-preserved : goal.sharing-preserved
 sharing-preserved c =
     subst (λ (v : LedgerView). IsSharing c.args.self.now v c.args.from c.args.to c.args.until) (sym c.share_run.ensures.shared)
     (one_more c.args.self.now c.sharing.self c.args.from c.args.to c.args.until c.in-Some.found c.requires.differ c.sharing.invariant
-    (subst (λ (v : LedgerView). IsRunFrom (space_at v c.args.to).awaiting 0 c.in-Some.found) c.self.view_is c.in-Some.ensures.0) c.in-Some.ensures.1
+    (subst (λ (v : LedgerView). IsRunFrom (space_in v c.args.to).awaiting 0 c.in-Some.found) c.self.view_is c.in-Some.ensures.0) c.in-Some.ensures.1
     c.share_run.ensures.apart)

@@ -1,5 +1,5 @@
 use Rattle.std.specs.FinMap.{len}
-use Rattle.space_ledger.specs.View.{space_at}
+use Rattle.space_maps.specs.Spaces.{space_in}
 use Rattle.space_ledger.proofs.Sharing.{IsSharing}
 use Rattle.space_ledger.proofs.spaces.SpaceLedger.share_bare.Given as goal
 
@@ -7,4 +7,4 @@ abbrev pub invariant-sharing : goal.invariant-sharing
 invariant-sharing l = IsSharing l.fn.self l.self l.from l.to l.until
 
 abbrev pub decreases-sharing : goal.decreases-sharing
-decreases-sharing l = len (space_at l.self l.to).awaiting
+decreases-sharing l = len (space_in l.self l.to).awaiting

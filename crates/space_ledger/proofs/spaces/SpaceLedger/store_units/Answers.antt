@@ -4,31 +4,32 @@ use Rattle.overlay_bits.specs.Lines.{with_lines}
 use Rattle.ledger.specs.Ledger.{is_alone}
 use Rattle.ledger.specs.Units.{class, units}
 use Rattle.ledger.specs.Events.{Store, ledger_after}
-use Rattle.space_ledger.specs.View.{LedgerView, ledger_of, lines_of, page_at, space_at}
+use Rattle.space_maps.specs.Spaces.{page_in, space_in}
+use Rattle.space_ledger.specs.View.{LedgerView, ledger_of, lines_of}
 use Rattle.space_ledger.specs.Calls.{RisesBeside}
 use Rattle.space_ledger.proofs.Rises.{rises}
 use Rattle.space_ledger.proofs.spaces.SpaceLedger.store_units.Goals as goal
 
 pub returns-clause-rise : goal.returns-clause-rise
 returns-clause-rise c =
-    subst (λ (v : LedgerView). units (ledger_after (Store (space_at v c.args.space).speculating c.args.space ((c.args.page, c.args.lines) ∷ [])) (ledger_of v)) ≡ units (ledger_of v) + c.rise_of.result) c.self.view_is
-    (rises c.self.inside.tables c.args.space c.args.page c.args.lines c.bits_of-own.result (space_at c.self.inside.tables c.args.space).speculating c.is_alone-is_alone.result c.rise_of.result
-    (ap (λ (v : LedgerView). is_some (page_at v c.args.space c.args.page)) c.self.view_is ∙ c.requires)
-    (c.bits_of-own.ensures ∙ ap lines_of c.overlay.ensures)
+    subst (λ (v : LedgerView). units (ledger_after (Store (space_in v c.args.space).speculating c.args.space ((c.args.page, c.args.lines) ∷ [])) (ledger_of v)) ≡ units (ledger_of v) + c.rise_of.result) c.self.view_is
+    (rises c.self.inside.tables c.args.space c.args.page c.args.lines c.bits_of-own.result (space_in c.self.inside.tables c.args.space).speculating c.is_alone-is_alone.result c.rise_of.result
+    (ap (λ (v : LedgerView). is_some (page_in v c.args.space c.args.page)) c.self.view_is ∙ c.requires)
+    (c.bits_of-own.ensures ∙ ap lines_of c.overlay.ensures.overlay)
     (c.is_alone-is_alone.ensures ∙ ap (λ (v : LedgerView). is_alone (ledger_of v) c.args.space c.args.page) (sym c.self.view_is))
     c.rise_of.ensures.are.0 c.rise_of.ensures.are.1
     (c.rise_of.ensures.rise
     ∙ ap (λ b. cond (not b && c.is_alone-is_alone.result) 0 (class (length (with_lines c.bits_of-own.result c.args.lines)) - class (length c.bits_of-own.result)))
-    (c.is_speculating-is_speculating.ensures ∙ ap (λ (v : LedgerView). (space_at v c.args.space).speculating) (sym c.self.view_is)))).one
+    (c.is_speculating-is_speculating.ensures ∙ ap (λ (v : LedgerView). (space_in v c.args.space).speculating) (sym c.self.view_is)))).one
 
 pub returns-clause-both : goal.returns-clause-both
 returns-clause-both c =
     subst (λ (v : LedgerView). RisesBeside v c.args.space c.args.page c.args.lines c.rise_of.result) c.self.view_is
-    (rises c.self.inside.tables c.args.space c.args.page c.args.lines c.bits_of-own.result (space_at c.self.inside.tables c.args.space).speculating c.is_alone-is_alone.result c.rise_of.result
-    (ap (λ (v : LedgerView). is_some (page_at v c.args.space c.args.page)) c.self.view_is ∙ c.requires)
-    (c.bits_of-own.ensures ∙ ap lines_of c.overlay.ensures)
+    (rises c.self.inside.tables c.args.space c.args.page c.args.lines c.bits_of-own.result (space_in c.self.inside.tables c.args.space).speculating c.is_alone-is_alone.result c.rise_of.result
+    (ap (λ (v : LedgerView). is_some (page_in v c.args.space c.args.page)) c.self.view_is ∙ c.requires)
+    (c.bits_of-own.ensures ∙ ap lines_of c.overlay.ensures.overlay)
     (c.is_alone-is_alone.ensures ∙ ap (λ (v : LedgerView). is_alone (ledger_of v) c.args.space c.args.page) (sym c.self.view_is))
     c.rise_of.ensures.are.0 c.rise_of.ensures.are.1
     (c.rise_of.ensures.rise
     ∙ ap (λ b. cond (not b && c.is_alone-is_alone.result) 0 (class (length (with_lines c.bits_of-own.result c.args.lines)) - class (length c.bits_of-own.result)))
-    (c.is_speculating-is_speculating.ensures ∙ ap (λ (v : LedgerView). (space_at v c.args.space).speculating) (sym c.self.view_is)))).both
+    (c.is_speculating-is_speculating.ensures ∙ ap (λ (v : LedgerView). (space_in v c.args.space).speculating) (sym c.self.view_is)))).both

@@ -1,32 +1,25 @@
-use Rattle.std.proofs.Common.{ap, ◌∙◌}
-use Rattle.space_ledger.specs.View.{LedgerView, has_space}
-use Rattle.std.specs.Prelude.{Result, Ok, Err, OnOk, OnErr}
-use Rattle.space_ledger.specs.View.{no_pages, with_space}
-use Rattle.space_ledger.proofs.TableCalls.{absent_slot, added_is, added_kept, not_added}
+use Rattle.std.specs.Prelude.{◌≡◌, false}
+use Rattle.std.proofs.Common.{sym, ap, subst, ◌∙◌}
+use Rattle.std.specs.FinMap.{empty, insert}
+use Rattle.space_ledger.specs.Kept.{seen}
+use Rattle.space_maps.specs.Spaces.{bare_space, put_space}
+use Rattle.space_ledger.specs.Space.{SpaceTable}
+use Rattle.space_ledger.proofs.Seen.{Shows, kept_of, shows, with_spaces}
+use Rattle.space_ledger.proofs.TableOps.{shown_added, either, on_ok, on_err}
 use Rattle.space_ledger.proofs.tables.Tables.add.Goals as goal
 
-pub add_in-requires : goal.add_in-requires
-add_in-requires c = absent_slot c.self.inside.slots.items c.self.inside.overlays.entries c.self.inside.frames c.self.inside.zero c.args.space (ap (λ (v : LedgerView). has_space v c.args.space) c.self.view_is ∙ c.requires.absent)
+bare : {x : SpaceTable} → x.pages ≡ empty → x.awaiting ≡ empty → x.speculating ≡ false → x ≡ bare_space
+bare p a m i = record { pages = p i; awaiting = a i; speculating = m i }
 
 pub invariant_of-self : goal.invariant_of-self
-invariant_of-self c =
-    added_kept c.add_in.result c.self.inside.slots.items c.add_in.new.slots.items c.self.inside.overlays.entries c.self.inside.frames c.self.inside.zero c.self.inside.overlays.room c.args.space
-    c.self.invariant (ap (λ (v : LedgerView). has_space v c.args.space) c.self.view_is ∙ c.requires.absent) c.requires.low c.add_in.ensures.bound c.add_in.ensures.added c.add_in.ensures.kept
-
-on_ok : {E P Q : Type 0} (r : Result (Unit {0}) E) → (P → Q) → OnOk r P → OnOk r Q
-on_ok (Ok u) f h = f h
-on_ok (Err e) f h = h
-
-on_err : {E P Q : Type 0} (r : Result (Unit {0}) E) → (P → Q) → OnErr r P → OnErr r Q
-on_err (Ok u) f h = h
-on_err (Err e) f h = f h
+invariant_of-self c = either c.insert.result c.insert.ensures.inserted c.insert.ensures.kept
+    (λ added. kept_of (subst (λ m. Shows (with_spaces c.self.inside m) (put_space c.args.self.now c.args.space bare_space)) (sym (added ∙ ap (insert c.self.inside.spaces c.args.space) (bare c.new.ensures.pages c.new.ensures.awaiting c.new.ensures.mark))) (shown_added (shows c.self.view_is c.self.invariant) c.args.space c.requires.absent c.requires.low)))
+    (λ kept. kept_of (subst (λ m. Shows (with_spaces c.self.inside m) c.args.self.now) (sym kept) (shows c.self.view_is c.self.invariant)))
 
 pub returns-clause-added : goal.returns-clause-added
-returns-clause-added c =
-    on_ok c.add_in.result (λ is. is ∙ ap (λ (v : LedgerView). with_space v c.args.space no_pages) c.self.view_is)
-    (added_is c.add_in.result c.self.inside.slots.items c.add_in.new.slots.items c.self.inside.overlays.entries c.self.inside.frames c.self.inside.zero c.self.inside.overlays.room c.args.space c.self.invariant (ap (λ (v : LedgerView). has_space v c.args.space) c.self.view_is ∙ c.requires.absent) c.requires.low c.add_in.ensures.bound c.add_in.ensures.added)
+returns-clause-added c = on_ok c.insert.result c.insert.ensures.inserted
+    (λ added. ap (λ m. seen (with_spaces c.self.inside m)) (added ∙ ap (insert c.self.inside.spaces c.args.space) (bare c.new.ensures.pages c.new.ensures.awaiting c.new.ensures.mark))
+    ∙ (shown_added (shows c.self.view_is c.self.invariant) c.args.space c.requires.absent c.requires.low).is)
 
 pub returns-clause-kept : goal.returns-clause-kept
-returns-clause-kept c =
-    on_err c.add_in.result (λ is. is ∙ c.self.view_is)
-    (not_added c.add_in.result c.self.inside.slots.items c.add_in.new.slots.items c.self.inside.overlays.entries c.self.inside.frames c.self.inside.zero c.self.inside.overlays.room c.args.space c.self.invariant (ap (λ (v : LedgerView). has_space v c.args.space) c.self.view_is ∙ c.requires.absent) c.requires.low c.add_in.ensures.bound c.add_in.ensures.kept)
+returns-clause-kept c = on_err c.insert.result c.insert.ensures.kept (λ kept. ap (λ m. seen (with_spaces c.self.inside m)) kept ∙ c.self.view_is)

@@ -1,12 +1,21 @@
-use Rattle.std.proofs.Common.{ap, ◌∙◌}
-use Rattle.space_ledger.specs.View.{LedgerView, has_space, space_at}
-use Rattle.space_ledger.proofs.TableLaws.{copied_is, settled_in}
+use Rattle.std.specs.Prelude.{◌≡◌, Result, Ok, Err, IfOk}
+use Rattle.std.proofs.Common.{sym, ◌∙◌}
+use Rattle.space_ledger.proofs.Seen.{no_space_is, shows}
+use Rattle.space_ledger.proofs.TableOps.{settled_in, entries_is, is_sound}
 use Rattle.space_ledger.proofs.tables.Tables.copy.Goals as goal
 
-pub copy_in-requires : goal.copy_in-requires
-copy_in-requires c = (settled_in c.self.inside.slots.items c.self.inside.overlays.entries c.self.inside.frames c.self.inside.zero c.args.space (ap (λ (v : LedgerView). has_space v c.args.space) c.self.view_is ∙ c.requires.there) (ap (λ (v : LedgerView). (space_at v c.args.space).awaiting) c.self.view_is ∙ c.requires.settled))
+if_ok : {E X : Type 0} {x y : X} (r : Result X E) → IfOk r (λ copy. copy ≡ x) → x ≡ y → IfOk r (λ copy. copy ≡ y)
+if_ok (Ok copy) h same = h ∙ same
+if_ok (Err e) h same = h
 
-pub returns : goal.returns
-returns c =
-    copied_is c.self.inside.slots.items c.self.inside.overlays.entries c.self.inside.frames c.self.inside.zero c.args.space c.args.self.now c.copy_in.result c.self.view_is
-    (ap (λ (v : LedgerView). has_space v c.args.space) c.self.view_is ∙ c.requires.there) c.copy_in.ensures
+pub copy-requires : goal.copy-requires
+copy-requires c = settled_in (shows c.self.view_is c.self.invariant) c.args.space c.in-Some.space.now c.in-Some.space.now c.in-Some.ensures c.requires.settled
+
+pub unreachable-requires : goal.unreachable-requires
+unreachable-requires c = no_space_is (shows c.self.view_is c.self.invariant) c.args.space (sym c.in-None.ensures) c.requires.there
+
+pub returns-clause-table : goal.returns-clause-table
+returns-clause-table c = if_ok c.copy.result c.copy.ensures (entries_is (shows c.self.view_is c.self.invariant) c.args.space c.in-Some.space.now c.in-Some.space.now c.in-Some.ensures)
+
+pub returns-clause-sound : goal.returns-clause-sound
+returns-clause-sound c = is_sound (shows c.self.view_is c.self.invariant)

@@ -1,10 +1,11 @@
-use Rattle.std.proofs.Common.{ap, ◌∙◌}
-use Rattle.space_ledger.specs.View.{LedgerView, PageView, page_at}
+use Rattle.std.proofs.Common.{sym, ap, ◌∙◌}
 use Rattle.std.specs.Option.{option_map}
-use Rattle.space_ledger.proofs.TableLaws.{entry_is}
+use Rattle.space_ledger.specs.View.{PageView}
+use Rattle.space_ledger.proofs.Seen.{entry_at, no_page_is, shows}
 use Rattle.space_ledger.proofs.tables.Tables.entry.Goals as goal
 
-pub returns : goal.returns
-returns c =
-    c.get_in.ensures ∙ entry_is c.self.inside.slots.items c.self.inside.overlays.entries c.self.inside.frames c.self.inside.zero c.args.space c.args.page
-    ∙ ap (λ (v : LedgerView). option_map (λ (x : PageView). x.entry) (page_at v c.args.space c.args.page)) c.self.view_is
+pub returns-in-Some : goal.returns-in-Some
+returns-in-Some c = c.get-in-Some.ensures ∙ entry_at (shows c.self.view_is c.self.invariant) c.args.space c.in-Some.space.now (sym c.in-Some.ensures) c.args.page
+
+pub returns-in-None : goal.returns-in-None
+returns-in-None c = sym (ap (option_map (λ (x : PageView). x.entry)) (no_page_is (shows c.self.view_is c.self.invariant) c.args.space c.args.page (sym c.in-None.ensures)))

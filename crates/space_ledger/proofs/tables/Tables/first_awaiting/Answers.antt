@@ -1,10 +1,11 @@
-use Rattle.std.proofs.Common.{subst}
+use Rattle.std.proofs.Common.{sym, ap, subst}
+use Rattle.space_ledger.specs.View.{SpaceView}
 use Rattle.space_ledger.specs.Space.{AwaitsFirst}
-use Rattle.space_ledger.specs.View.{LedgerView, space_at}
-use Rattle.space_ledger.proofs.TableLaws.{first_is}
+use Rattle.space_ledger.proofs.Seen.{awaiting_is, shows, space_none}
 use Rattle.space_ledger.proofs.tables.Tables.first_awaiting.Goals as goal
 
-pub returns : goal.returns
-returns c =
-    subst (λ (v : LedgerView). AwaitsFirst (space_at v c.args.space).awaiting c.first_awaiting_in.result) c.self.view_is
-    (first_is c.self.inside.slots.items c.self.inside.overlays.entries c.self.inside.frames c.self.inside.zero c.args.space c.first_awaiting_in.result c.first_awaiting_in.ensures)
+pub returns-in-Some : goal.returns-in-Some
+returns-in-Some c = subst (λ m. AwaitsFirst m c.first_awaiting.result) (sym (awaiting_is (shows c.self.view_is c.self.invariant) c.args.space c.in-Some.space.now (sym c.in-Some.ensures))) c.first_awaiting.ensures
+
+pub returns-in-None : goal.returns-in-None
+returns-in-None c = ap (λ (x : SpaceView). x.awaiting) (space_none (shows c.self.view_is c.self.invariant) c.args.space c.in-None.ensures)

@@ -1,7 +1,10 @@
-use Rattle.std.proofs.Common.{ap, ◌∙◌}
-use Rattle.space_ledger.specs.View.{LedgerView, space_at}
-use Rattle.space_ledger.proofs.TableLaws.{mark_is}
+use Rattle.std.proofs.Common.{sym, ap, ◌∙◌}
+use Rattle.space_ledger.specs.View.{SpaceView}
+use Rattle.space_ledger.proofs.Seen.{mark_is, shows, space_none}
 use Rattle.space_ledger.proofs.tables.Tables.is_speculating.Goals as goal
 
-pub returns : goal.returns
-returns c = c.marked_in.ensures ∙ mark_is c.self.inside.slots.items c.self.inside.overlays.entries c.self.inside.frames c.self.inside.zero c.args.space ∙ ap (λ (v : LedgerView). (space_at v c.args.space).speculating) c.self.view_is
+pub returns-in-Some : goal.returns-in-Some
+returns-in-Some c = c.is_speculating.ensures ∙ sym (mark_is (shows c.self.view_is c.self.invariant) c.args.space c.in-Some.space.now (sym c.in-Some.ensures))
+
+pub returns-in-None : goal.returns-in-None
+returns-in-None c = sym (ap (λ (x : SpaceView). x.speculating) (space_none (shows c.self.view_is c.self.invariant) c.args.space c.in-None.ensures))

@@ -1,8 +1,19 @@
-use Rattle.std.proofs.Common.{ap, ◌∙◌}
-use Rattle.space_ledger.specs.View.{LedgerView, space_at}
-use Rattle.std.specs.FinMap.{len}
-use Rattle.space_ledger.proofs.TableLaws.{len_is}
+use Rattle.std.proofs.Common.{sym, ap, ◌∙◌}
+use Rattle.std.specs.Ordering.{nat_cmp}
+use Rattle.std.specs.FinMap.{len, len-empty}
+use Rattle.space_ledger.specs.View.{PageView, SpaceView}
+use Rattle.space_ledger.proofs.Seen.{shows, space_none}
+use Rattle.space_ledger.proofs.TableOps.{len_is, is_sound}
 use Rattle.space_ledger.proofs.tables.Tables.len.Goals as goal
 
-pub returns : goal.returns
-returns c = c.len_in.ensures ∙ len_is c.self.inside.slots.items c.self.inside.overlays.entries c.self.inside.frames c.self.inside.zero c.args.space ∙ ap (λ (v : LedgerView). len (space_at v c.args.space).pages) c.self.view_is
+pub returns-in-Some-clause-count : goal.returns-in-Some-clause-count
+returns-in-Some-clause-count c = c.len.ensures ∙ len_is (shows c.self.view_is c.self.invariant) c.args.space c.in-Some.space.now c.in-Some.space.now c.in-Some.ensures
+
+pub returns-in-Some-clause-sound : goal.returns-in-Some-clause-sound
+returns-in-Some-clause-sound c = is_sound (shows c.self.view_is c.self.invariant)
+
+pub returns-in-None-clause-count : goal.returns-in-None-clause-count
+returns-in-None-clause-count c = sym (ap (λ (x : SpaceView). len x.pages) (space_none (shows c.self.view_is c.self.invariant) c.args.space c.in-None.ensures) ∙ len-empty nat_cmp PageView)
+
+pub returns-in-None-clause-sound : goal.returns-in-None-clause-sound
+returns-in-None-clause-sound c = is_sound (shows c.self.view_is c.self.invariant)

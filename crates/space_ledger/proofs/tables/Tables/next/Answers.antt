@@ -1,8 +1,10 @@
-use Rattle.std.proofs.Common.{subst}
-use Rattle.space_ledger.specs.View.{LedgerView}
-use Rattle.space_ledger.specs.Calls.{IsNextOf}
-use Rattle.space_ledger.proofs.TableLaws.{next_is}
+use Rattle.std.proofs.Common.{sym}
+use Rattle.space_ledger.proofs.Seen.{no_page_is, shows}
+use Rattle.space_ledger.proofs.TableOps.{next_is}
 use Rattle.space_ledger.proofs.tables.Tables.next.Goals as goal
 
-pub returns : goal.returns
-returns c = subst (λ (v : LedgerView). IsNextOf v c.args.space c.args.page c.next_in.result) c.self.view_is (next_is c.self.inside.slots.items c.self.inside.overlays.entries c.self.inside.frames c.self.inside.zero c.args.space c.args.page c.next_in.result c.next_in.ensures)
+pub returns-in-Some : goal.returns-in-Some
+returns-in-Some c = next_is (shows c.self.view_is c.self.invariant) c.args.space c.in-Some.space.now c.in-Some.space.now c.in-Some.ensures c.args.page c.next.result c.next.ensures
+
+pub returns-in-None : goal.returns-in-None
+returns-in-None c = λ q from. no_page_is (shows c.self.view_is c.self.invariant) c.args.space q (sym c.in-None.ensures)

@@ -1,11 +1,13 @@
-use Rattle.std.proofs.Common.{subst}
+use Rattle.std.proofs.Common.{sym, ap, subst, ◌∙◌}
+use Rattle.std.specs.Ordering.{nat_cmp}
+use Rattle.std.specs.FinMap.{get, get-empty}
+use Rattle.space_ledger.specs.View.{SpaceView}
 use Rattle.space_ledger.specs.Space.{AwaitsRun}
-use Rattle.space_ledger.specs.View.{LedgerView, space_at}
-use Rattle.space_ledger.proofs.TableLaws.{run_first}
+use Rattle.space_ledger.proofs.Seen.{awaiting_is, shows, space_none}
 use Rattle.space_ledger.proofs.tables.Tables.next_run_awaiting.Goals as goal
 
-pub returns : goal.returns
-returns c =
-    subst (λ (v : LedgerView). AwaitsRun (space_at v c.args.space).awaiting c.args.until c.next_run_awaiting_in.result) c.self.view_is
-    (run_first c.self.inside.slots.items c.self.inside.overlays.entries c.self.inside.frames c.self.inside.zero c.args.space c.args.until c.next_run_awaiting_in.result
-    c.next_run_awaiting_in.ensures)
+pub returns-in-Some : goal.returns-in-Some
+returns-in-Some c = subst (λ m. AwaitsRun m c.args.until c.next_run_awaiting.result) (sym (awaiting_is (shows c.self.view_is c.self.invariant) c.args.space c.in-Some.space.now (sym c.in-Some.ensures))) c.next_run_awaiting.ensures
+
+pub returns-in-None : goal.returns-in-None
+returns-in-None c = λ page low. ap (λ (x : SpaceView). get x.awaiting page) (space_none (shows c.self.view_is c.self.invariant) c.args.space c.in-None.ensures) ∙ get-empty nat_cmp page

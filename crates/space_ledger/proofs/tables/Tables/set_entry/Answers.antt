@@ -1,21 +1,16 @@
-use Rattle.std.proofs.Common.{ap, ◌∙◌}
-use Rattle.space_ledger.specs.View.{LedgerView, page_at}
-use Rattle.std.specs.Option.{is_some}
-use Rattle.space_ledger.specs.View.{with_entry_at}
-use Rattle.space_ledger.proofs.TableLaws.{entry_some}
-use Rattle.space_ledger.proofs.TableOps.{made_entry}
+use Rattle.std.proofs.Common.{sym}
+use Rattle.space_ledger.proofs.Seen.{entry_there, kept_of, no_page_there, shows}
+use Rattle.space_ledger.proofs.TableOps.{shown_entry}
 use Rattle.space_ledger.proofs.tables.Tables.set_entry.Goals as goal
 
-pub set_in-requires : goal.set_in-requires
-set_in-requires c = entry_some c.self.inside.slots.items c.self.inside.overlays.entries c.self.inside.frames c.self.inside.zero c.args.space c.args.page (ap (λ (v : LedgerView). is_some (page_at v c.args.space c.args.page)) c.self.view_is ∙ c.requires)
+pub set-requires : goal.set-requires
+set-requires c = entry_there (shows c.self.view_is c.self.invariant) c.args.space c.in-Some.space.now (sym c.in-Some.ensures.value) c.args.page c.requires
+
+pub unreachable-requires : goal.unreachable-requires
+unreachable-requires c = no_page_there (shows c.self.view_is c.self.invariant) c.args.space c.args.page (sym c.in-None.ensures.value) c.requires
 
 pub invariant_of-self : goal.invariant_of-self
-invariant_of-self c =
-    (made_entry c.self.inside.slots.items c.set_in.new.slots.items c.self.inside.overlays.entries c.self.inside.frames c.self.inside.zero c.self.inside.overlays.room c.args.space c.self.invariant c.args.page c.args.entry
-    (ap (λ (v : LedgerView). is_some (page_at v c.args.space c.args.page)) c.self.view_is ∙ c.requires) c.set_in.ensures.changed c.set_in.ensures.length).kept
+invariant_of-self c = kept_of (shown_entry (shows c.self.view_is c.self.invariant) c.args.space c.in-Some.space.now c.set.new.self c.in-Some.ensures.value c.args.page c.args.entry c.set.ensures c.requires)
 
 pub returns : goal.returns
-returns c =
-    (made_entry c.self.inside.slots.items c.set_in.new.slots.items c.self.inside.overlays.entries c.self.inside.frames c.self.inside.zero c.self.inside.overlays.room c.args.space c.self.invariant c.args.page c.args.entry
-    (ap (λ (v : LedgerView). is_some (page_at v c.args.space c.args.page)) c.self.view_is ∙ c.requires) c.set_in.ensures.changed c.set_in.ensures.length).view_is
-    ∙ ap (λ (v : LedgerView). with_entry_at v c.args.space c.args.page c.args.entry) c.self.view_is
+returns c = (shown_entry (shows c.self.view_is c.self.invariant) c.args.space c.in-Some.space.now c.set.new.self c.in-Some.ensures.value c.args.page c.args.entry c.set.ensures c.requires).is

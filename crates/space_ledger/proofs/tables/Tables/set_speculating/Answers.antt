@@ -1,16 +1,13 @@
-use Rattle.std.proofs.Common.{ap, ◌∙◌}
-use Rattle.space_ledger.specs.View.{LedgerView, has_space}
-use Rattle.space_ledger.specs.View.{with_mark}
-use Rattle.space_ledger.proofs.TableOps.{made_mark}
+use Rattle.std.proofs.Common.{sym}
+use Rattle.space_ledger.proofs.Seen.{kept_of, no_space_is, shows}
+use Rattle.space_ledger.proofs.TableOps.{shown_marked}
 use Rattle.space_ledger.proofs.tables.Tables.set_speculating.Goals as goal
 
+pub unreachable-requires : goal.unreachable-requires
+unreachable-requires c = no_space_is (shows c.self.view_is c.self.invariant) c.args.space (sym c.in-None.ensures.value) c.requires
+
 pub invariant_of-self : goal.invariant_of-self
-invariant_of-self c =
-    (made_mark c.self.inside.slots.items c.mark_in.new.slots.items c.self.inside.overlays.entries c.self.inside.frames c.self.inside.zero c.self.inside.overlays.room c.args.space c.self.invariant c.args.on
-    (ap (λ (v : LedgerView). has_space v c.args.space) c.self.view_is ∙ c.requires) c.mark_in.ensures.changed c.mark_in.ensures.length).kept
+invariant_of-self c = kept_of (shown_marked (shows c.self.view_is c.self.invariant) c.args.space c.in-Some.space.now c.set_speculating.new.self c.in-Some.ensures.value c.args.on c.set_speculating.ensures)
 
 pub returns : goal.returns
-returns c =
-    (made_mark c.self.inside.slots.items c.mark_in.new.slots.items c.self.inside.overlays.entries c.self.inside.frames c.self.inside.zero c.self.inside.overlays.room c.args.space c.self.invariant c.args.on
-    (ap (λ (v : LedgerView). has_space v c.args.space) c.self.view_is ∙ c.requires) c.mark_in.ensures.changed c.mark_in.ensures.length).view_is
-    ∙ ap (λ (v : LedgerView). with_mark v c.args.space c.args.on) c.self.view_is
+returns c = (shown_marked (shows c.self.view_is c.self.invariant) c.args.space c.in-Some.space.now c.set_speculating.new.self c.in-Some.ensures.value c.args.on c.set_speculating.ensures).is

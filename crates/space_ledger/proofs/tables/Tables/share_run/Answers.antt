@@ -1,41 +1,26 @@
-use Rattle.std.proofs.Common.{◌+◌, sym, ap, subst, ◌∙◌, arith}
+use Rattle.std.specs.Prelude.{◌+◌}
+use Rattle.std.proofs.Common.{sym, subst, arith}
+use Rattle.page_table.specs.Table.{Pages}
 use Rattle.page_table.specs.Run.{IsRunFrom}
-use Rattle.space_ledger.specs.View.{LedgerView, has_space, page_at, space_at, with_run_shared}
-use Rattle.space_ledger.proofs.RunViews.{run_kept, run_seen}
-use Rattle.space_ledger.proofs.TableLaws.{run_in}
-use Rattle.space_ledger.proofs.TableCalls.{page_absent, room_in}
+use Rattle.space_ledger.proofs.Seen.{awaiting_is, kept_of, no_space_is, shows}
+use Rattle.space_ledger.proofs.Mapping.{room_in}
+use Rattle.space_ledger.proofs.TableOps.{absent_is, shown_awaited_run}
 use Rattle.space_ledger.proofs.tables.Tables.share_run.Goals as goal
 
-pub share_run_in-requires-clause-first : goal.share_run_in-requires-clause-first
-share_run_in-requires-clause-first c =
-    run_in c.self.inside.slots.items c.self.inside.overlays.entries c.self.inside.frames c.self.inside.zero c.args.space
-    (ap (λ (v : LedgerView). has_space v c.args.space) c.self.view_is ∙ c.requires.there) c.args.run.now
-    (subst (λ (v : LedgerView). IsRunFrom (space_at v c.args.space).awaiting 0 c.args.run.now) (sym c.self.view_is) c.requires.first)
+pub share_run-requires-clause-first : goal.share_run-requires-clause-first
+share_run-requires-clause-first c = subst (λ (m : Pages). IsRunFrom m 0 c.args.run.now) (awaiting_is (shows c.self.view_is c.self.invariant) c.args.space c.in-Some.space.now (sym c.in-Some.ensures.value)) c.requires.first
 
-pub share_run_in-requires-clause-few : goal.share_run_in-requires-clause-few
-share_run_in-requires-clause-few c =
-    let low = c.requires.low in
-    room_in c.self.inside.slots.items c.self.inside.overlays.entries c.self.inside.frames c.self.inside.zero c.self.inside.overlays.room c.args.space c.self.invariant
-    (ap (λ (v : LedgerView). has_space v c.args.space) c.self.view_is ∙ c.requires.there) c.args.run.now.n (omega (arith, low))
+pub share_run-requires-clause-few : goal.share_run-requires-clause-few
+share_run-requires-clause-few c = let low = c.requires.low in room_in (shows c.self.view_is c.self.invariant) c.args.space c.in-Some.space.now (sym c.in-Some.ensures.value) c.args.run.now.n (omega (arith, low))
+
+pub unreachable-requires : goal.unreachable-requires
+unreachable-requires c = no_space_is (shows c.self.view_is c.self.invariant) c.args.space (sym c.in-None.ensures.value) c.requires.there
 
 pub invariant_of-self : goal.invariant_of-self
-invariant_of-self c =
-    run_kept c.self.inside.slots.items c.share_run_in.new.slots.items c.self.inside.overlays.entries c.self.inside.frames c.self.inside.zero c.self.inside.overlays.room c.args.space c.args.run.now
-    c.self.invariant (ap (λ (v : LedgerView). has_space v c.args.space) c.self.view_is ∙ c.requires.there)
-    (subst (λ (v : LedgerView). IsRunFrom (space_at v c.args.space).awaiting 0 c.args.run.now) (sym c.self.view_is) c.requires.first)
-    (λ i low. page_absent c.self.inside.slots.items c.self.inside.overlays.entries c.self.inside.frames c.self.inside.zero c.args.space (c.args.run.now.page + i) (c.share_run_in.ensures.apart i low))
-    c.requires.low c.share_run_in.ensures.shared c.share_run_in.ensures.length
+invariant_of-self c = kept_of (shown_awaited_run (shows c.self.view_is c.self.invariant) c.args.space c.in-Some.space.now c.share_run.new.self c.in-Some.ensures.value c.args.run.now c.share_run.ensures.shared c.requires.first c.share_run.ensures.apart c.requires.low)
 
 pub returns-clause-apart : goal.returns-clause-apart
-returns-clause-apart c i low =
-    ap (λ (v : LedgerView). page_at v c.args.space (c.args.run.now.page + i)) (sym c.self.view_is)
-    ∙ page_absent c.self.inside.slots.items c.self.inside.overlays.entries c.self.inside.frames c.self.inside.zero c.args.space (c.args.run.now.page + i) (c.share_run_in.ensures.apart i low)
+returns-clause-apart c i low = absent_is (shows c.self.view_is c.self.invariant) c.args.space c.in-Some.space.now c.share_run.new.self c.in-Some.ensures.value (c.args.run.now.page + i) (c.share_run.ensures.apart i low)
 
 pub returns-clause-shared : goal.returns-clause-shared
-returns-clause-shared c =
-    run_seen c.self.inside.slots.items c.share_run_in.new.slots.items c.self.inside.overlays.entries c.self.inside.frames c.self.inside.zero c.self.inside.overlays.room c.args.space c.args.run.now
-    c.self.invariant (ap (λ (v : LedgerView). has_space v c.args.space) c.self.view_is ∙ c.requires.there)
-    (subst (λ (v : LedgerView). IsRunFrom (space_at v c.args.space).awaiting 0 c.args.run.now) (sym c.self.view_is) c.requires.first)
-    (λ i low. page_absent c.self.inside.slots.items c.self.inside.overlays.entries c.self.inside.frames c.self.inside.zero c.args.space (c.args.run.now.page + i) (c.share_run_in.ensures.apart i low))
-    c.requires.low c.share_run_in.ensures.shared c.share_run_in.ensures.length
-    ∙ ap (λ (v : LedgerView). with_run_shared v c.args.space c.args.run.now c.args.run.now.n) c.self.view_is
+returns-clause-shared c = (shown_awaited_run (shows c.self.view_is c.self.invariant) c.args.space c.in-Some.space.now c.share_run.new.self c.in-Some.ensures.value c.args.run.now c.share_run.ensures.shared c.requires.first c.share_run.ensures.apart c.requires.low).is

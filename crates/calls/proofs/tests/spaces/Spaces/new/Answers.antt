@@ -1,5 +1,5 @@
 use Rattle.overlay_pages.specs.View.{state_of}
-use Rattle.overlay_memory.specs.AwaitingLaws.{none_awaits_new}
+use Rattle.calls.proofs.Awaiting.{none_awaits_new}
 use Rattle.calls.proofs.tests.spaces.Spaces.new.Goals as goal
 
 pub invariant_of-result : goal.invariant_of-result

@@ -1,4 +1,4 @@
-use Rattle.overlay_memory.specs.AwaitingLaws.{none_awaits_places}
+use Rattle.calls.proofs.Awaiting.{none_awaits_places}
 use Rattle.calls.proofs.tests.spaces.Spaces.place_page.Goals as goal
 
 pub invariant_of-self : goal.invariant_of-self

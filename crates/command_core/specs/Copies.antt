@@ -1,0 +1,74 @@
+use Rattle.std.specs.Prelude.{◌≡◌, ℕ, ◌+◌, Bool, true, false, List, [], ◌∷◌, Option, Some, Result, Ok, Err}
+use Rattle.std.specs.FinMap.{empty, get, insert}
+use Rattle.ovl_io.specs.declared.process_state.ProcessState.{ProcessState}
+use Rattle.ledger.specs.Events.{Copy}
+use Rattle.overlay_memory.specs.declared.error.SpaceError.{SpaceError}
+use Rattle.overlay_memory.specs.declared.error.SpaceError.TheVariants.{Full, Memory}
+use Rattle.space_maps.specs.Spaces.{space_in}
+use Rattle.machine_core.specs.Process.{Process, is_speculating}
+use Rattle.machine_core.specs.declared.process.Process as declared
+use Rattle.machine_core.specs.Machine.{IsDropped, Machine, StaysBut, Wholes, has_space, limit_of, spaces_of, whole_in, wholes, with_process_at}
+use Rattle.machine_core.specs.Load.{IsAsBefore}
+use Rattle.report_text.specs.declared.answer.Answer.TheVariants.{Forked}
+use Rattle.report_text.specs.declared.answer.Code.{Code}
+use Rattle.command_core.specs.State.{Registry}
+use Rattle.command_core.specs.Rows.{Row, TakesLast, event_needs, is_event_full, ledger_by}
+use Rattle.command_core.specs.Refusals.{by_ended, by_numbers_used, by_speculating}
+
+-- What a fork makes of a process that is there.
+
+-- a further process, under the next number
+abbrev pub draws : Process → Registry → Registry
+draws process registry = record {
+  processes = insert registry.processes (registry.drawn + 1) process;
+  checkpoints = registry.checkpoints;
+  drawn = registry.drawn + 1;
+}
+
+abbrev pub fork_refusals : ProcessState → Bool → ℕ → List (Option Code)
+fork_refusals state speculating drawn = by_ended state ∷ by_speculating speculating ∷ by_numbers_used drawn ∷ []
+
+-- `fork`: the same process under the next number too, with a copy of its pages in the ledger
+abbrev pub fork_row : ℕ → Process → Registry → Row
+fork_row p process registry = record {
+  refusals = fork_refusals process.state (is_speculating process) registry.drawn;
+  memory = TakesLast;
+  event = Copy p (registry.drawn + 1);
+  may_need_units = true;
+  answer = Forked p (registry.drawn + 1);
+  after = draws process registry;
+}
+
+-- How a copy of a space comes out: full exactly where the units of the ledger after it exceed the limit, and then nothing changes. Want
+-- of memory comes only where they don't, and then there are the spaces and processes that there were.
+abbrev pub CopyFails : ℕ → ℕ → Machine → Machine → SpaceError → Type 0
+CopyFails from to old new (Full needed limit) =
+    (needed ≡ event_needs (Copy from to) (wholes old)) × (limit ≡ limit_of (wholes old).frames) × (is_event_full (Copy from to) (wholes old) ≡ true) × (new ≡ old)
+CopyFails from to old new Memory = (is_event_full (Copy from to) (wholes old) ≡ false) × IsAsBefore old new
+
+abbrev pub CopyEnds : {T : Type 0} → ℕ → ℕ → Machine → Machine → Type 0 → Result T SpaceError → Type 0
+CopyEnds from to old new Done (Ok done) = (is_event_full (Copy from to) (wholes old) ≡ false) × Done
+CopyEnds from to old new Done (Err error) = CopyFails from to old new error
+
+-- the copying machine with a process under a number, and a copy of the pages of another one
+abbrev pub with_copied : ℕ → ℕ → Process → Wholes → Wholes
+with_copied from to process state =
+    record { processes = insert state.processes to process; ledger = ledger_by (Copy from to) state.ledger; frames = state.frames }
+
+-- a machine with that process, its space, and nothing else changed
+pub record IsCopied (from to : ℕ) (process : declared.Process) (old new : Machine) : Type 0 where
+  pub after : wholes new ≡ with_copied from to (whole_in (spaces_of old) from process) (wholes old)
+  pub adopted : get new.processes to ≡ Some process
+  pub there : has_space new to ≡ true
+  pub settled : (space_in (spaces_of new) to).awaiting ≡ empty
+  pub others : StaysBut to old new
+
+-- a process with a copy of a space, under a number that had none or in the place of the process that it had
+abbrev pub CopiesProcess : ℕ → ℕ → declared.Process → Machine → Machine → Result (Unit {0}) SpaceError → Type 0
+CopiesProcess from to process old new result = CopyEnds from to old new (IsCopied from to process old new) result
+
+-- how a space that was just made is given a process: after want of memory the space is gone
+abbrev pub Adopts : ℕ → declared.Process → Machine → Machine → Result (Unit {0}) SpaceError → Type 0
+Adopts q process old new (Ok done) = new ≡ with_process_at old q process
+Adopts q process old new (Err (Full needed limit)) = ⊥
+Adopts q process old new (Err Memory) = IsDropped q old new

@@ -1,0 +1,35 @@
+use Rattle.std.proofs.Common.{sym, ap, ◌∙◌}
+use Rattle.rv_execute.specs.Step.{request}
+use Rattle.overlay_pages.specs.State.{memory_of}
+use Rattle.overlay_pages.specs.View.{state_of}
+use Rattle.machine_core.specs.declared.process.Process as declared
+use Rattle.machine_core.specs.Turns.{answered_by, asked_found, guest_answered}
+use Rattle.machine_core.specs.Kept.{guest_in, machine_of}
+use Rattle.machine_core.proofs.Listed.{runs_put}
+use Rattle.machine_core.proofs.Machines.{changed, guest_is, none_runs, same_beside, state_is}
+use Rattle.machine_core.proofs.keeping.answer_in.Goals as goal
+
+pub unreachable-requires : goal.unreachable-requires
+unreachable-requires c = none_runs (machine_of c.args.memory.now c.args.processes.now) c.args.p (sym c.in-None.ensures.value) c.requires.runs
+
+pub answer_request-turn-requires-clause-runs : goal.answer_request-turn-requires-clause-runs
+answer_request-turn-requires-clause-runs c =
+    state_is (machine_of c.args.memory.now c.args.processes.now) c.args.p c.in-Some.process.now (sym c.in-Some.ensures.value) c.requires.runs
+
+pub returns-clause-turn : goal.returns-clause-turn
+returns-clause-turn c =
+    let is = guest_is (machine_of c.args.memory.now c.args.processes.now) c.args.p c.in-Some.process.now (sym c.in-Some.ensures.value) in
+    c.answer_request-turn.ensures.turn ∙ sym (ap (asked_found c.args.p) is)
+
+pub returns-clause-changed : goal.returns-clause-changed
+returns-clause-changed c =
+    let process = c.in-Some.process.now in
+    let spaces = state_of c.args.memory.now in
+    let done = c.answer_request-turn.ensures in
+    changed (guest_answered c.args.p) c.args.p (machine_of c.args.memory.now c.args.processes.now) c.answer_request-turn.new.memory
+    process c.answer_request-turn.new.process (sym c.in-Some.ensures.value)
+    (ap (guest_in c.args.p (state_of c.answer_request-turn.new.memory)) done.after ∙ ap (λ s. guest_in c.args.p s (answered_by process.saved (request c.args.p process.regs (memory_of spaces c.args.p)))) done.same)
+    (ap (λ (x : declared.Process). x.saved) done.after) (same_beside c.args.p spaces (state_of c.answer_request-turn.new.memory) done.same)
+
+pub returns-clause-runs : goal.returns-clause-runs
+returns-clause-runs c = c.is_running.ensures ∙ sym (runs_put c.args.processes.now c.args.p c.answer_request-turn.new.process)

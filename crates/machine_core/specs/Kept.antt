@@ -1,0 +1,79 @@
+use Rattle.std.specs.Prelude.{◌≡◌, ◌==◌, ◌<◌, Result, Ok, Err, ℕ, ◌≤◌, Bool, true, false, List, length, get_or}
+use Rattle.std.specs.Option.{option_map_or, is_some}
+use Rattle.std.specs.Global.{Vec}
+use Rattle.std.specs.Ordering.{nat_cmp}
+use Rattle.std.specs.FinMap.{FinMap, get}
+use Rattle.std.specs.List.{list_any}
+use Rattle.std.specs.List.Sorted.{IsStrictlyIncreasing}
+use Rattle.std.specs.Vec.{vec_capacity}
+use Rattle.overlay_pages.specs.State.{State, books}
+use Rattle.overlay_pages.specs.View.{MemoryView}
+use Rattle.space_maps.specs.Spaces.{holds_space, space_in}
+use Rattle.machine_core.specs.Process.{runs}
+use Rattle.machine_core.specs.Machine.{KeepsPlaces, Machine, StaysBut, Wholes, whole_in, wholes}
+use Rattle.machine_core.specs.Turns.{Guest}
+use Rattle.machine_core.specs.Access.{spaces_lent}
+use Rattle.machine_core.specs.declared.view.View.{View}
+use Rattle.machine_core.specs.declared.process.Process as declared
+
+-- What a machine keeps: the memories of spaces, processes by number, and the numbers of those that run.
+
+-- processes by number
+abbrev pub Kept : Type 0
+Kept = FinMap nat_cmp declared.Process
+
+-- the machine that they are with a memory
+abbrev pub machine_of : MemoryView → Kept → Machine
+machine_of memory processes = record { memory = memory; processes = processes }
+
+-- whether there is a process of that number, and it runs
+abbrev pub runs_at : Kept → ℕ → Bool
+runs_at processes p = option_map_or (λ (process : declared.Process). runs process.state) (get processes p) false
+
+-- a process that is kept, in its place
+abbrev pub guest_in : ℕ → State → declared.Process → Guest
+guest_in p spaces process = record { process = whole_in spaces p process; ledger = books spaces; frames = spaces.frames }
+
+-- the same in the space that is lent
+abbrev pub guest_lent : View → declared.Process → Guest
+guest_lent view process = guest_in view.space (spaces_lent view) process
+
+-- each other space is as it was, and the same ones are there
+pub record IsBeside (p : ℕ) (old new : State) : Type 0 where
+  pub spaces : (q : ℕ) → (q ≡ p → ⊥) → space_in new q ≡ space_in old q
+  pub there : (q : ℕ) → holds_space new q ≡ holds_space old q
+  pub awaiting : (space_in new p).awaiting ≡ (space_in old p).awaiting
+  pub mark : (space_in new p).speculating ≡ (space_in old p).speculating
+
+-- A process was changed with its space: the whole processes with the ledger are these now, each other space and process is as it was,
+-- and the same ones are there.
+pub record IsChanged (p : ℕ) (old new : Machine) (state : Wholes) : Type 0 where
+  pub after : wholes new ≡ state
+  pub others : StaysBut p old new
+  pub places : KeepsPlaces old new
+
+abbrev pub is_in : List ℕ → ℕ → Bool
+is_in numbers q = list_any (λ n. n == q) numbers
+
+-- a number is in a list now or isn't, and each other one is where it was
+pub record IsListed (p : ℕ) (listed : Bool) (old new : List ℕ) : Type 0 where
+  pub here : is_in new p ≡ listed
+  pub others : (q : ℕ) → (q ≡ p → ⊥) → is_in new q ≡ is_in old q
+
+-- where a number stands among ascending ones, or where it would
+abbrev pub IsPlaceOf : List ℕ → ℕ → Result ℕ ℕ → Type 0
+IsPlaceOf numbers p (Ok i) = (i < length numbers) × (get_or numbers i 0 ≡ p)
+IsPlaceOf numbers p (Err i) =
+    (i ≤ length numbers) × ((k : ℕ) → k < i → get_or numbers k 0 < p) × ((k : ℕ) → i ≤ k → k < length numbers → p < get_or numbers k 0)
+
+-- The list of running numbers: ascending, those of the processes that run, and with room for each process that there is.
+pub record IsRunningList (processes : Kept) (running : Vec ℕ) : Type 0 where
+  pub ascending : IsStrictlyIncreasing running.items
+  pub listed : (q : ℕ) → is_in running.items q ≡ runs_at processes q
+  pub room : (q : ℕ) → is_some (get processes q) ≡ true → q < vec_capacity running
+
+-- the same, but that it may be wrong of one number
+pub record IsListBut (p : ℕ) (processes : Kept) (running : Vec ℕ) : Type 0 where
+  pub ascending : IsStrictlyIncreasing running.items
+  pub listed : (q : ℕ) → (q ≡ p → ⊥) → is_in running.items q ≡ runs_at processes q
+  pub room : (q : ℕ) → is_some (get processes q) ≡ true → q < vec_capacity running
