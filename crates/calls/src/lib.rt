@@ -10,6 +10,7 @@
 //! - `turns`: calls of `round_robin`
 //! - `levels`, `blocks`, `names`: calls of `mark_levels`, `unit_map` and `overlay_mapping_table`
 //! - `lines`, `addresses`, `frames`: calls of `overlay_bits`, `overlay_address` and `frame_pool`
+//! - `numbers`: calls of `by_number`
 //! - `pages`: calls of `page_table`
 //! - `segments`: calls of `segment_store`
 //! - `ledgers`: calls of `space_ledger`

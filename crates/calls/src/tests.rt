@@ -7,6 +7,7 @@ mod levels;
 mod lines;
 mod memory;
 mod names;
+mod numbers;
 mod pages;
 mod reports;
 mod scripts;
