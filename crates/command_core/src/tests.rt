@@ -1,3 +1,4 @@
+ghost use Rattle.script_text.specs.Given.{IsGiven};
 ghost use Rattle.command_core.specs.Changes.{CanBeTold};
 
 use crate::{Running, Session};
@@ -101,7 +102,9 @@ fn do_command(
     file: &[u8],
     command: &Command,
     report: &mut Vec<u8>,
-) -> Result<(), AllocError> {
+) -> Result<(), AllocError>
+    requires { IsGiven command.now }
+{
     match command {
         Command::Load(_) => tell(rt, &session.load(file), report),
         Command::Run(turns) => {
@@ -121,6 +124,9 @@ fn do_command(
         | Command::Discard(_)
         | Command::Promote(_, _)
         | Command::PromoteAll(_)
+        | Command::Checkpoint(_, _)
+        | Command::Restore(_, _)
+        | Command::Forget(_)
         | Command::Drop(_) => tell(rt, &session.change(command), report),
         _ => panic!(rt; "no row has another command"),
     }
@@ -130,7 +136,7 @@ fn do_command(
 type Row = (u32, u32, &'static [u32], &'static [u8], &'static [u8]);
 
 // What no script reaches over 1,024 frames, with a quantum of 100.
-const ROWS: [Row; 10] = [
+const ROWS: [Row; 12] = [
     (
         1024,
         1,
@@ -200,6 +206,20 @@ const ROWS: [Row; 10] = [
         STORES,
         b"load f\nstep 1 8\npromote 1 all\nfork 1\nspeculate 1\nstep 1 8\ncommit 1\nload f\npromote 1 all\nload f\ndrop 2\nload f",
         b"loaded 1 pages 17 entry 0x10078\nran 8 limit\nok\nforked 1 2\nok\nran 8 limit\nok\nfull 68 64\nok\nfull 80 64\nok\nloaded 3 pages 17 entry 0x10078\n",
+    ),
+    (
+        4,
+        1000,
+        STORES,
+        b"load f\nload f\nstep 1 16\ncheckpoint 1 a\nforget a\nstep 2 1\ncheckpoint 1 a\ndrop 2\ncheckpoint 1 a\nrestore 1 a",
+        b"loaded 1 pages 17 entry 0x10078\nloaded 2 pages 17 entry 0x10078\nran 16 limit\nsaved 1 a 3\nok\nran 1 limit\nfull 65 64\nok\nsaved 1 a 4\nok\n",
+    ),
+    (
+        4,
+        1000,
+        STORES,
+        b"load f\nfork 1\nstep 1 16\ncheckpoint 1 a\nstep 2 1\ncheckpoint 1 b\ncheckpoint 2 c\nrestore 2 a\nforget c\nrestore 2 a\nforget b\nrestore 2 a",
+        b"loaded 1 pages 17 entry 0x10078\nforked 1 2\nran 16 limit\nsaved 1 a 3\nran 1 limit\nsaved 1 b 4\nsaved 2 c 5\nfull 65 64\nok\nok\nok\nok\n",
     ),
 ];
 

@@ -4,7 +4,7 @@ ghost use Rattle.std.specs.Prelude.{◌≡◌, ◌+◌, ◌<◌, ◌≤◌, IsTr
 ghost use Rattle.sizes.specs.declared.TheConstants.{PAGE_END, PAGE_LINES};
 ghost use Rattle.overlay_pages.specs.Changes.{AreAbsent, is_writable};
 ghost use Rattle.overlay_pages.specs.View.{state_of};
-ghost use Rattle.space_maps.specs.Spaces.{page_in, space_in};
+ghost use Rattle.space_maps.specs.Spaces.{page_in};
 
 use fork_checkpoint::{fork_space, restore_space};
 use overlay_memory::{MemoryError, OverlayMemory, SpaceError};
@@ -24,6 +24,7 @@ pub(super) struct Spaces {
 impl Model for Spaces {
     ghost use Rattle.std.specs.Prelude.{◌≡◌, ℕ};
     ghost use Rattle.std.specs.FinMap as map;
+    ghost use Rattle.space_maps.specs.Spaces.{space_in};
     ghost use Rattle.overlay_pages.specs.View.{MemoryView, state_of};
     ghost use Rattle.overlay_pages.specs.Codes.{memory_code};
 
