@@ -1,4 +1,4 @@
-use Rattle.std.specs.Prelude.{◌≡◌, ℕ, ◌+◌, ◌-◌, ◌*◌, ◌/◌, ◌<◌, true, false, List, length, Some, None, Result, Ok, Err}
+use Rattle.std.specs.Prelude.{◌≡◌, ℕ, ◌+◌, ◌-◌, ◌*◌, ◌/◌, ◌<◌, true, false, List, length, Some, None, Result, Ok, Err, IsSome}
 use Rattle.std.specs.FinMap as map
 use Rattle.sizes.specs.declared.TheConstants.{LINE_BYTES, PAGE_BYTES}
 use Rattle.ovl_io.specs.Memory.{with_bytes}
@@ -12,7 +12,7 @@ use Rattle.overlay_pages.specs.declared.spots.FoundLine.{FoundLine}
 use Rattle.overlay_memory.specs.Access.{IsFoundIn, IsUntouched}
 use Rattle.overlay_memory.specs.declared.error.MemoryError.{MemoryError}
 use Rattle.overlay_memory.specs.declared.error.MemoryError.TheVariants.{Unmapped, Forbidden, Full}
-use Rattle.space_maps.specs.Spaces.{cut_pages, cut_space, holds_space, of_pages, page_in, put_space, space_in}
+use Rattle.space_maps.specs.Spaces.{cut_space, holds_space, of_pages, page_in, put_space, space_in}
 
 -- What reads and stores come to, piece by piece.
 
@@ -76,11 +76,9 @@ pub record IsFilled (old new : State) (space address : ℕ) (bytes : List ℕ) :
 unfoldable pub emptied_space : State → ℕ → State
 emptied_space state space = put_space state space (of_pages (space_in state space) map.empty)
 
--- a space lost one or more pages from one on
-pub record LosesSome (old new : State) (space page : ℕ) : Type 0 where
-  pub count : ℕ
-  pub some : 0 < count
-  pub is : new ≡ cut_pages old space page count
+-- the n pages from `from` on are there
+abbrev pub AreMapped : State → ℕ → ℕ → ℕ → Type 0
+AreMapped state space from n = (i : ℕ) → i < n → IsSome (page_in state space (from + i))
 
 -- a space lost its pages, and is still there; without it, all is as it would have been before
 pub record IsEmptied (old new : State) (space : ℕ) : Type 0 where

@@ -158,7 +158,8 @@ impl OverlayPages {
     pub fn remove_page(&mut self, space: u16, page: u64)
         requires there { IsSome (page_in (state_of self.old) space page) }
         requires settled { (space_in (state_of self.old) space).awaiting ≡ map.empty }
-        ensures { state_of self.new ≡ cut_page (state_of self.old) space page }
+        ensures gone { state_of self.new ≡ cut_page (state_of self.old) space page }
+        ensures low { page < PAGE_END }
     {
         drop_overlay(&mut self.store, &mut self.ledger, space, page);
         take_out(&mut self.store, &mut self.ledger, space, page);
