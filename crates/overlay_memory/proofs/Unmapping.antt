@@ -1,9 +1,10 @@
-use Rattle.std.proofs.Common.{◌≡◌, ℕ, ◌+◌, ◌-◌, ◌<◌, ◌≤◌, true, Option, Some, None, sym, ap, subst, ◌∙◌, refl, arith}
+use Rattle.std.proofs.Common.{◌≡◌, ℕ, ◌+◌, ◌-◌, ◌<◌, ◌≤◌, Bool, true, false, nat_lt, Option, Some, None, sym, ap, subst, ◌∙◌, refl, arith}
 use Rattle.std.specs.Prelude.{IsSome, is_some}
+use Rattle.std.proofs.lemmas.Bool.Decides.{nat_tests}
 use Rattle.std.specs.FinMap.{empty}
 use Rattle.overlay_pages.specs.State.{PageState, State}
-use Rattle.overlay_memory.specs.Pieces.{AreMapped}
-use Rattle.space_maps.specs.Laws.{are_cut, cut_twice, there_space}
+use Rattle.overlay_pages.specs.Calls.{AreMapped}
+use Rattle.space_maps.specs.Laws.{after_cut, are_cut, cut_twice, there_space}
 use Rattle.space_maps.specs.Spaces.{cut_pages, holds_space, page_in, space_in}
 
 -- Pages that go one after the other, from one on, until so many are left.
@@ -45,7 +46,7 @@ module _ (old : State) (s from n : ℕ) (mapped : AreMapped old s from n) where
         let few = so_far.few in
         subst (λ q. IsSome (page_in now s q)) (sym (so_far.next some))
         (ap (λ w. is_some (page_in w s (from + (n - left)))) so_far.gone
-        ∙ ap is_some (Rattle.space_maps.specs.Laws.after_cut (n - left) from old s here) ∙ mapped (n - left) (omega (arith, few, some)))
+        ∙ ap is_some (after_cut (n - left) from old s here) ∙ mapped (n - left) (omega (arith, few, some)))
 
     pub unmapping_more : (next : State) (k : ℕ) → next ≡ cut_pages now s at k → k ≤ left → IsUnmapping old next s from n (at + k) (left - k)
     unmapping_more next k is fits =
@@ -59,3 +60,26 @@ module _ (old : State) (s from n : ℕ) (mapped : AreMapped old s from n) where
 
 pub unmapped : (old now : State) (s from n at : ℕ) → IsUnmapping old now s from n at 0 → now ≡ cut_pages old s from n
 unmapped old now s from n at so_far = let all : n - 0 ≡ n = omega arith in so_far.gone ∙ ap (cut_pages old s from) all
+
+-- The pages from one on as far as they are there.
+
+pub record IsGoing (v : State) (space from at : ℕ) : Type 0 where
+  pub low : from ≤ at
+  pub there : (q : ℕ) → from ≤ q → q < at → IsSome (page_in v space q)
+
+pub going_none : (v : State) (s from : ℕ) → IsGoing v s from from
+going_none v s from = record { low = omega arith; there = λ q above below. absurd (omega (arith, above, below)) }
+
+pub going_on : (v : State) (s from at k : ℕ) → IsGoing v s from at → AreMapped v s at k → IsGoing v s from (at + k)
+going_on v s from at k so_far mapped =
+    let low = so_far.low in record {
+      low = omega (arith, low);
+      there = λ q above below. by_at q (nat_lt q at) refl above below;
+    }
+  where
+    by_at : (q : ℕ) (b : Bool) → nat_lt q at ≡ b → from ≤ q → q < at + k → IsSome (page_in v s q)
+    by_at q true e above below = let before : q < at = grind (arith, nat_tests) in so_far.there q above before
+    by_at q false e above below =
+        let after : at ≤ q = grind (arith, nat_tests) in
+        let here : at + (q - at) ≡ q = omega (arith, after) in
+        subst (λ r. IsSome (page_in v s r)) here (mapped (q - at) (omega (arith, after, below)))

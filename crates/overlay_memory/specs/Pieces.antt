@@ -1,4 +1,4 @@
-use Rattle.std.specs.Prelude.{◌≡◌, ℕ, ◌+◌, ◌-◌, ◌*◌, ◌/◌, ◌<◌, true, false, List, length, Some, None, Result, Ok, Err, IsSome}
+use Rattle.std.specs.Prelude.{◌≡◌, ℕ, ◌+◌, ◌-◌, ◌*◌, ◌/◌, ◌<◌, true, false, List, length, Some, None, Result, Ok, Err}
 use Rattle.std.specs.FinMap as map
 use Rattle.sizes.specs.declared.TheConstants.{LINE_BYTES, PAGE_BYTES}
 use Rattle.ovl_io.specs.Memory.{with_bytes}
@@ -75,10 +75,6 @@ pub record IsFilled (old new : State) (space address : ℕ) (bytes : List ℕ) :
 -- a space without its pages; its mark stays
 unfoldable pub emptied_space : State → ℕ → State
 emptied_space state space = put_space state space (of_pages (space_in state space) map.empty)
-
--- the n pages from `from` on are there
-abbrev pub AreMapped : State → ℕ → ℕ → ℕ → Type 0
-AreMapped state space from n = (i : ℕ) → i < n → IsSome (page_in state space (from + i))
 
 -- a space lost its pages, and is still there; without it, all is as it would have been before
 pub record IsEmptied (old new : State) (space : ℕ) : Type 0 where

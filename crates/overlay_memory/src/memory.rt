@@ -15,9 +15,9 @@ ghost use Rattle.overlay_pages.specs.Lines.{line_in_page};
 ghost use Rattle.overlay_pages.specs.State.{books, memory_of};
 ghost use Rattle.overlay_pages.specs.Changes.{AreAbsent, Fits, HasCopyRoom, HasShareRoom, IsPlaced, committed, copied, discarded, is_writable, limit_of, units_of, with_shared, with_written, with_zeros};
 ghost use Rattle.overlay_pages.specs.View.{HasOwnPlace, IsJoined, place_at, state_of};
-ghost use Rattle.overlay_pages.specs.Calls.{AreShared, AreZeros, AwaitBare, AwaitsLike, IsEmptyState, IsNextPage, NoneAwaitsBelow, entries_in, with_line_at_place};
-ghost use Rattle.overlay_memory.specs.Access.{FindsIn, IsFoundIn, KeepsFound, Places, Reads, Stores};
-ghost use Rattle.overlay_memory.specs.Pieces.{AreMapped, IsEmptied, emptied_space};
+ghost use Rattle.overlay_pages.specs.Calls.{AreMapped, AreShared, AreZeros, AwaitBare, AwaitsLike, IsEmptyState, IsNextPage, NoneAwaitsBelow, entries_in, with_line_at_place};
+ghost use Rattle.overlay_memory.specs.Access.{FindsIn, IsFirstAbsent, IsFoundIn, KeepsFound, Places, Reads, Stores};
+ghost use Rattle.overlay_memory.specs.Pieces.{IsEmptied, emptied_space};
 ghost use Rattle.overlay_memory.specs.Room.{FallsShort};
 ghost use Rattle.overlay_memory.specs.contracts.memory.OverlayMemory.{the_row};
 
@@ -370,6 +370,25 @@ impl OverlayMemory {
         ensures { IsNextPage (state_of self.now) space page result }
     {
         self.pages.next_page(space, page)
+    }
+
+    /// The least of the `n` pages from one on that isn't there. None exactly where all are. Pages end at 2^26, and no page of the space
+    /// awaits. Costs a look-up for each run of pages.
+    pub fn first_absent(&self, space: u16, page: u64, n: u32) -> Option<u64>
+        requires settled { (space_in (state_of self.now) space).awaiting ≡ map.empty }
+        requires low { page + n ≤ PAGE_END }
+        ensures { IsFirstAbsent (state_of self.now) space page n result }
+    {
+        let end = page + u64::from(n);
+        let mut at = page;
+        'going: while at < end {
+            let there = self.pages.pages_from(space, at);
+            if there == 0 {
+                return Some(at);
+            }
+            at += u64::from(there);
+        }
+        None
     }
 
     /// How many pages from one on are there, on the zero frame and without own lines: at least those that lie in one run with it. No

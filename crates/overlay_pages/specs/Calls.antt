@@ -29,6 +29,10 @@ IsNextPage state space page None = (q : ℕ) → page ≤ q → page_in state sp
 IsNextPage state space page (Some found) =
     (page ≤ found) × IsSome (page_in state space found) × ((q : ℕ) → page ≤ q → q < found → page_in state space q ≡ None)
 
+-- the n pages from `from` on are there
+abbrev pub AreMapped : State → ℕ → ℕ → ℕ → Type 0
+AreMapped state space from n = (i : ℕ) → i < n → IsSome (page_in state space (from + i))
+
 -- what the ledger has of a page on the zero frame without own lines
 abbrev pub zero_holding : Holding
 zero_holding = record { origin = 0; own = [] }

@@ -19,7 +19,7 @@ ghost use Rattle.overlay_pages.specs.State.{base_of, books, memory_of};
 ghost use Rattle.overlay_pages.specs.Changes.{AreAbsent, Fits, HasCopyRoom, HasShareRoom, IsPlaced, brought, committed, copied, discarded, is_writable, limit_of, units_of, whole_page, with_brought, with_shared, with_written, with_zeros};
 ghost use Rattle.overlay_pages.specs.View.{HasOwnPlace, IsJoined, place_at, state_of};
 ghost use Rattle.overlay_pages.specs.Spots.{FindsLine, IsFound};
-ghost use Rattle.overlay_pages.specs.Calls.{AreShared, AreZeros, AwaitBare, AwaitsLike, IsEmptyState, IsNextPage, NoneAwaitsBelow, RisesBy, entries_in, with_line_at_place};
+ghost use Rattle.overlay_pages.specs.Calls.{AreMapped, AreShared, AreZeros, AwaitBare, AwaitsLike, IsEmptyState, IsNextPage, NoneAwaitsBelow, RisesBy, entries_in, with_line_at_place};
 ghost use Rattle.overlay_pages.specs.contracts.pages.OverlayPages.{the_row};
 
 use crate::moving::make_room;
@@ -163,6 +163,17 @@ impl OverlayPages {
     {
         drop_overlay(&mut self.store, &mut self.ledger, space, page);
         take_out(&mut self.store, &mut self.ledger, space, page);
+    }
+
+    /// How many pages from one on are there: none exactly where it isn't, and at least those that lie in one run with it. No page of the
+    /// space awaits. Costs a look-up.
+    pub fn pages_from(&self, space: u16, page: u64) -> u32
+        requires { (space_in (state_of self.now) space).awaiting ≡ map.empty }
+        ensures there { AreMapped (state_of self.now) space page result }
+        ensures none { result ≡ 0 → page_in (state_of self.now) space page ≡ None }
+        ensures low { 0 < result → page + result ≤ PAGE_END }
+    {
+        self.ledger.pages_from(space, page)
     }
 
     /// How many pages from one on are there, on the zero frame and without own lines: at least those that lie in one run with it. No
