@@ -1,6 +1,5 @@
-use Rattle.std.proofs.Common.{◌≡◌, ℕ, Bool, true, false, cond, List, [], ◌∷◌, ◌++◌, map, sym, ap, subst, ◌∙◌, refl, Option, Some, None}
-use Rattle.std.specs.Prelude.{IfSome, nat_eq, slice_get, zero, suc}
-use Rattle.std.specs.Option.{option_map}
+use Rattle.std.proofs.Common.{◌≡◌, ℕ, Bool, true, false, cond, List, [], ◌∷◌, ◌++◌, ap, subst, ◌∙◌, refl, Some}
+use Rattle.std.specs.Prelude.{nat_eq, slice_get, zero, suc}
 use Rattle.std.specs.Map.{lookup, remove_entry, values_of}
 use lib.Pointwise.{pointwise}
 use Rattle.report_text.specs.Answers.{IsCheckpointName}

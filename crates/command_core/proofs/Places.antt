@@ -6,7 +6,6 @@ use Rattle.std.specs.Prelude.{IfSome}
 use Rattle.std.proofs.lemmas.Bool.Decides.{nat_tests}
 use Rattle.std.specs.FinMap.{FinMap, empty, get, get-empty, insert, remove}
 use Rattle.number_maps.specs.Keys.{alike, by_key, get_other, get_same, removed_other, removed_same}
-use Rattle.number_maps.specs.Views.{viewed, viewed_empty}
 use Rattle.sizes.specs.declared.TheConstants.{LAST_SPACE}
 use Rattle.overlay_pages.specs.Calls.{IsEmptyState}
 use Rattle.overlay_pages.specs.State.{SpaceState, State, base_of, books, held_page}
@@ -16,7 +15,7 @@ use Rattle.space_maps.specs.Laws.{space_absent, space_left}
 use Rattle.space_maps.specs.Spaces.{cut_space, holds_space, space_in}
 use Rattle.machine_core.specs.Process.{Process, is_speculating, runs}
 use Rattle.machine_core.specs.declared.process.Process as declared
-use Rattle.machine_core.specs.Machine.{IsDropped, KeepsPlaces, Machine, Processes, StaysBut, has_saved, has_space, is_marked, is_running, kept_whole, none_saved, processes_of, shown_process, spaces_of, whole_in, wholes, with_memory, with_process_at, Wholes}
+use Rattle.machine_core.specs.Machine.{KeepsPlaces, Machine, Processes, StaysBut, has_saved, has_space, is_marked, is_running, kept_whole, none_saved, processes_of, shown_process, spaces_of, whole_in, wholes, with_memory, with_process_at, Wholes}
 use Rattle.machine_core.specs.Laws.{processes_at, runs_shown, whole_by}
 use Rattle.machine_core.specs.Load.{IsAsBefore, IsLoaded, loaded_process}
 use Rattle.round_robin.specs.MemberLaws.{next_has}

@@ -1,10 +1,9 @@
 use Rattle.std.proofs.Common.{◌≡◌, ℕ, ◌+◌, ◌≤◌, Bool, true, false, cond, List, [], ◌∷◌, ◌++◌, sym, ap, subst, ◌∙◌, refl, arith, Option, Some, None}
-use Rattle.std.specs.Prelude.{Result, Ok, Err}
+use Rattle.std.specs.Prelude.{Ok}
 use Rattle.std.specs.Option.{is_some, option_map, option_map_or}
 use Rattle.std.specs.FinMap.{get}
 use Rattle.number_maps.specs.Keys.{by_key, get_same}
 use Rattle.sizes.specs.declared.TheConstants.{LAST_SPACE}
-use Rattle.ledger.specs.Events.{Copy}
 use Rattle.overlay_pages.specs.State.{SpaceState, base_of, memory_of}
 use Rattle.overlay_pages.specs.View.{MemoryView, state_of as spaces_in}
 use Rattle.overlay_memory.specs.declared.error.SpaceError.{SpaceError}

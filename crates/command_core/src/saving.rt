@@ -116,6 +116,6 @@ pub(crate) fn restore_process(
             machine.set_process(p, process);
             Ok(())
         }
-        Err(error) => Err(error),
+        Err(unmade) => Err(unmade),
     }
 }

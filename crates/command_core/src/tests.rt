@@ -1,3 +1,5 @@
+ghost use Rattle.std.specs.List.{All};
+ghost use Rattle.script_text.specs.Given.{IsGiven};
 ghost use Rattle.command_core.specs.Changes.{CanBeTold};
 
 use crate::{Running, Session};
@@ -101,7 +103,9 @@ fn do_command(
     file: &[u8],
     command: &Command,
     report: &mut Vec<u8>,
-) -> Result<(), AllocError> {
+) -> Result<(), AllocError>
+    requires { IsGiven command.now }
+{
     match command {
         Command::Load(_) => tell(rt, &session.load(file), report),
         Command::Run(turns) => {
@@ -121,16 +125,35 @@ fn do_command(
         | Command::Discard(_)
         | Command::Promote(_, _)
         | Command::PromoteAll(_)
+        | Command::Checkpoint(_, _)
+        | Command::Restore(_, _)
+        | Command::Forget(_)
         | Command::Drop(_) => tell(rt, &session.change(command), report),
         _ => panic!(rt; "no row has another command"),
     }
+}
+
+// Does the commands of a script.
+fn do_commands(
+    rt: &impl Abort,
+    session: &mut Session,
+    file: &[u8],
+    commands: &[Command],
+    report: &mut Vec<u8>,
+) -> Result<(), AllocError>
+    requires { All IsGiven commands.now }
+{
+    for command in commands {
+        do_command(rt, session, file, command, report)?;
+    }
+    Ok(())
 }
 
 // How many frames there are, the quantum, the words of the file that a script loads, the script, and its report.
 type Row = (u32, u32, &'static [u32], &'static [u8], &'static [u8]);
 
 // What no script reaches over 1,024 frames, with a quantum of 100.
-const ROWS: [Row; 10] = [
+const ROWS: [Row; 12] = [
     (
         1024,
         1,
@@ -201,6 +224,20 @@ const ROWS: [Row; 10] = [
         b"load f\nstep 1 8\npromote 1 all\nfork 1\nspeculate 1\nstep 1 8\ncommit 1\nload f\npromote 1 all\nload f\ndrop 2\nload f",
         b"loaded 1 pages 17 entry 0x10078\nran 8 limit\nok\nforked 1 2\nok\nran 8 limit\nok\nfull 68 64\nok\nfull 80 64\nok\nloaded 3 pages 17 entry 0x10078\n",
     ),
+    (
+        4,
+        1000,
+        STORES,
+        b"load f\nload f\nstep 1 16\ncheckpoint 1 a\nforget a\nstep 2 1\ncheckpoint 1 a\ndrop 2\ncheckpoint 1 a\nrestore 1 a",
+        b"loaded 1 pages 17 entry 0x10078\nloaded 2 pages 17 entry 0x10078\nran 16 limit\nsaved 1 a 3\nok\nran 1 limit\nfull 65 64\nok\nsaved 1 a 4\nok\n",
+    ),
+    (
+        4,
+        1000,
+        STORES,
+        b"load f\nfork 1\nstep 1 16\ncheckpoint 1 a\nstep 2 1\ncheckpoint 1 b\ncheckpoint 2 c\nrestore 2 a\nforget c\nrestore 2 a\nforget b\nrestore 2 a",
+        b"loaded 1 pages 17 entry 0x10078\nforked 1 2\nran 16 limit\nsaved 1 a 3\nran 1 limit\nsaved 1 b 4\nsaved 2 c 5\nfull 65 64\nok\nok\nok\nok\n",
+    ),
 ];
 
 #[test]
@@ -208,12 +245,19 @@ fn few_frames_and_another_quantum(rt: HostRuntime) -> Result<(), Fail> {
     for (frames, quantum, words, script, want) in ROWS {
         assert!(rt; frames >= 1 && frames <= 65_536 && quantum >= 1 && script.len() <= 1000);
         let file = file_of(rt.alloc(), words)?;
-        let commands = parse(rt.alloc(), script).map_err(|_| "no script")?;
+        let commands = match parse(rt.alloc(), script) {
+            Ok(commands) => commands,
+            Err(_) => panic!(rt; "no script"),
+        };
         let mut session = Session::new(rt.alloc(), frames, quantum)?;
         let mut report = Vec::new(rt.alloc());
-        for command in commands.as_slice() {
-            do_command(&rt, &mut session, file.as_slice(), command, &mut report)?;
-        }
+        do_commands(
+            &rt,
+            &mut session,
+            file.as_slice(),
+            commands.as_slice(),
+            &mut report,
+        )?;
         assert!(rt;
             report.as_slice() == want,
             "another report of {script:?}: {report:?}"

@@ -1,19 +1,20 @@
-use Rattle.std.specs.Prelude.{◌≡◌, ℕ, ◌+◌, ◌-◌, ◌<◌, ◌≤◌, if◌then◌else◌, Bool, true, false, cond, nat_eq, nat_lt, List, length, Option, Some, None, is_some, refl}
-use Rattle.std.proofs.Common.{sym, ap, ◌∙◌, arith}
+use Rattle.std.specs.Prelude.{◌≡◌, ℕ, zero, suc, ◌+◌, ◌-◌, ◌<◌, ◌≤◌, if◌then◌else◌, Bool, true, false, cond, nat_eq, nat_lt, List, length, Option, Some, None, IsSome, is_some, refl}
+use Rattle.std.proofs.Common.{sym, ap, subst, ◌∙◌, arith}
 use Rattle.std.proofs.lemmas.Bool.Decides.{nat_tests}
 use Rattle.std.specs.Option.{option_map}
 use Rattle.std.specs.FinMap.{get, insert, remove}
 use Rattle.sizes.specs.declared.TheConstants.{FRAME_UNITS, PAGE_END}
 use Rattle.number_maps.specs.Keys.{by_key, insert_kept, insert_over}
-use Rattle.ledger.specs.Ledger.{Holding, Ledger, Space, holding_at, is_alone, pages_of, without_page}
+use Rattle.ledger.specs.Ledger.{Holding, Ledger, Space, holding_at, is_alone, is_unused, pages_of, without_page}
 use Rattle.ledger.specs.Events.{Drop}
 use Rattle.ledger.specs.Units.{class, units}
 use Rattle.ledger.specs.PlaceLaws.{page_is, pages_beside, pages_put, pages_there}
-use Rattle.ledger.specs.UnitLaws.{frame_for, units_at}
+use Rattle.ledger.specs.ClassLaws.{class_none}
+use Rattle.ledger.specs.UnitLaws.{alone_is, frame_for, units_at}
 use Rattle.ledger.specs.AloneLaws.{alone_apart, apart_alone, not_true, same_test}
 use Rattle.ledger.specs.TallyLaws.{empty_holdings, same_units}
 use Rattle.overlay_pages.specs.State.{PageState, State, books, held_page}
-use Rattle.overlay_pages.specs.Calls.{IsNextPage}
+use Rattle.overlay_pages.specs.Calls.{AreZeros, IsNextPage, zero_holding}
 use Rattle.overlay_pages.specs.Changes.{limit_of, units_of}
 use Rattle.overlay_memory.specs.ApartLaws.{AreOriginsApart, ArePagesApart, origins_apart}
 use Rattle.overlay_memory.specs.CountLaws.{class_is, class_there}
@@ -171,6 +172,41 @@ module _ (v : State) (space n from page : ℕ) (apart : ArePagesApart v space) (
         low = omega (arith, below);
         few = omega (arith, most, is);
       }
+
+-- A page on the zero frame without own lines takes no units with it.
+zero_units : (v : State) (space page : ℕ) → holding_at (books v) space page ≡ Some zero_holding → page_units v space page ≡ 0
+unfolding is_unused
+zero_units v space page held =
+    let frame : is_alone (books v) space page ≡ false = alone_is (books v) space page zero_holding held ∙ nothing_zero (without_page (books v) space page) in
+    let segment = class_there v space page zero_holding held in
+    ap (λ (b : Bool). (if b then FRAME_UNITS else 0) + class_at v space page) frame ∙ omega (arith, segment, class_none)
+  where
+    nothing_zero : (l : Ledger) → is_unused l 0 ≡ false
+    nothing_zero l = refl
+
+module _ (v : State) (space n from page : ℕ) (apart : ArePagesApart v space) (h : IsLeaving v space n from) (next : IsNextPage v space from (Some page)) where
+  is_there : (k : ℕ) → holding_at (books v) space (page + k) ≡ Some zero_holding → IsNextPage v space (page + k) (Some (page + k))
+  is_there k held = (omega arith, there (page_in v space (page + k)) (sym (books_page held_page v space (page + k)) ∙ held), λ q above below. absurd (omega (arith, above, below)))
+    where
+      there : (o : Option PageState) → option_map (held_page v.zero_frame) o ≡ Some zero_holding → IsSome o
+      there None is = let no = ap is_some is in cc
+      there (Some x) is = refl
+
+  -- pages that do leave the units as they are
+  pub leaving_zeros : (k : ℕ) → AreZeros v space page k → page + k ≤ PAGE_END → IsLeaving v space n (page + k)
+  leaving_zeros zero zeros low =
+      let sum = h.sum in
+      let past = reached v space n from page apart h next in
+      let start : page ≡ page + 0 = omega arith in record {
+        sum = sum ∙ past ∙ ap (λ p. units (left_from (books v) space p)) start;
+        low = low;
+        few = h.few;
+      }
+  leaving_zeros (suc k) zeros low =
+      let before = leaving_zeros k (λ i less. zeros i (omega (arith, less))) (omega (arith, low)) in
+      let none = zero_units v space (page + k) (zeros k (omega arith)) in
+      let one = leaving_more v space n (page + k) (page + k) apart before (is_there k (zeros k (omega arith))) n (omega (arith, none)) (omega (arith, low)) in
+      subst (IsLeaving v space n) (omega arith) one
 
 pub leaving_all : (v : State) (space n from : ℕ) → IsLeaving v space n from → IsNextPage v space from None → n ≡ units_after (Drop space) v
 leaving_all v space n from h none = h.sum ∙ left_all (books v) space from (λ q some. walked_all v space from none q (in_state v space q some))

@@ -1,13 +1,14 @@
 //! The units after a copy, before anything is changed.
 
 ghost use Rattle.std.specs.Prelude.{◌≡◌, ◌≢◌, ◌+◌, ◌*◌, ◌<◌, ◌≤◌, true, IsSome};
+ghost use Rattle.std.specs.FinMap as map;
 ghost use Rattle.sizes.specs.declared.TheConstants.{FRAME_UNITS, PAGE_END};
 ghost use Rattle.ledger.specs.Events.{Copy, Drop};
 ghost use Rattle.overlay_pages.specs.Changes.{limit_of};
 ghost use Rattle.overlay_pages.specs.View.{state_of};
 ghost use Rattle.overlay_memory.specs.ApartLaws.{ArePagesApart};
 ghost use Rattle.overlay_memory.specs.Room.{class_at, units_after};
-ghost use Rattle.space_maps.specs.Spaces.{holds_space, page_in};
+ghost use Rattle.space_maps.specs.Spaces.{holds_space, page_in, space_in};
 ghost use Rattle.fork_checkpoint.specs.Copied.{ArePagesLow, page_units, with_copies};
 
 use overlay_memory::{OverlayMemory, class_of};
@@ -61,9 +62,11 @@ fn without_page(mem: &OverlayMemory, space: u16, page: u64, units: u32) -> u32
     left
 }
 
-// The units without the pages of a space. Costs a few look-ups for each of them.
+// The units without the pages of a space, of which none awaits. Costs a few look-ups for each run of pages on the zero frame without
+// own lines, which have none, and for each other page.
 fn units_without(mem: &OverlayMemory, space: u16) -> u32
     requires there { holds_space (state_of mem.now) space ≡ true }
+    requires settled { (space_in (state_of mem.now) space).awaiting ≡ map.empty }
     ensures sum { result ≡ units_after (Drop space) (state_of mem.now) }
     ensures few { result ≤ limit_of (state_of mem.now) }
 {
@@ -71,18 +74,24 @@ fn units_without(mem: &OverlayMemory, space: u16) -> u32
     let mut units = mem.units();
     let mut from = 0;
     'leaving: while let Some(page) = mem.next_page(space, from) {
-        units = without_page(mem, space, page, units);
-        from = page + 1;
+        let zeros = mem.zeros_from(space, page);
+        if zeros == 0 {
+            units = without_page(mem, space, page, units);
+            from = page + 1;
+        } else {
+            from = page + u64::from(zeros);
+        }
     }
     units
 }
 
-/// The units after a space has the pages of another one in the place of its own. Costs a few look-ups for each of its pages, and
-/// for each page with own lines of the other one.
+/// The units after a space has the pages of another one in the place of its own; none of its own awaits. Costs a few look-ups for each
+/// run of its pages on the zero frame without own lines, for each other page of it, and for each page with own lines of the other one.
 pub(crate) fn units_restored(mem: &OverlayMemory, saved: u16, into: u16) -> u32
     requires differ { saved ≢ into }
     requires saved_there { holds_space (state_of mem.now) saved ≡ true }
     requires there { holds_space (state_of mem.now) into ≡ true }
+    requires settled { (space_in (state_of mem.now) into).awaiting ≡ map.empty }
     ensures sum { result ≡ units_after (Copy saved into) (state_of mem.now) }
     ensures low { ArePagesLow (state_of mem.now) saved }
 {

@@ -13,6 +13,7 @@ pub mod Lending
 pub mod Found
 pub mod NewFrames
 pub mod Leaving
+pub mod Removing
 pub mod Placed
 pub mod Adding
 pub mod Committing

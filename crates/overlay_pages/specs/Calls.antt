@@ -6,6 +6,7 @@ use Rattle.page_table.specs.declared.entry.PageEntry.{PageEntry}
 use Rattle.page_table.specs.Table.{Pages}
 use Rattle.ledger.specs.Changes.{has_own}
 use Rattle.ledger.specs.Events.{Store, ledger_after}
+use Rattle.ledger.specs.Ledger.{Holding, holding_at}
 use Rattle.ledger.specs.Units.{units}
 use Rattle.segment_store.specs.Store.{with_line_at}
 use Rattle.space_maps.specs.Spaces.{page_in, space_in}
@@ -27,6 +28,18 @@ abbrev pub IsNextPage : State → ℕ → ℕ → Option ℕ → Type 0
 IsNextPage state space page None = (q : ℕ) → page ≤ q → page_in state space q ≡ None
 IsNextPage state space page (Some found) =
     (page ≤ found) × IsSome (page_in state space found) × ((q : ℕ) → page ≤ q → q < found → page_in state space q ≡ None)
+
+-- the n pages from `from` on are there
+abbrev pub AreMapped : State → ℕ → ℕ → ℕ → Type 0
+AreMapped state space from n = (i : ℕ) → i < n → IsSome (page_in state space (from + i))
+
+-- what the ledger has of a page on the zero frame without own lines
+abbrev pub zero_holding : Holding
+zero_holding = record { origin = 0; own = [] }
+
+-- the n pages from `from` on are such
+abbrev pub AreZeros : State → ℕ → ℕ → ℕ → Type 0
+AreZeros state space from n = (i : ℕ) → i < n → holding_at (books state) space (from + i) ≡ Some zero_holding
 
 -- the entries of a space's pages
 unfoldable pub entries_in : State → ℕ → Pages

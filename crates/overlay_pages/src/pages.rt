@@ -10,7 +10,7 @@ ghost use Rattle.page_table.specs.Table.{Pages};
 ghost use Rattle.ledger.specs.Ledger.{is_alone};
 ghost use Rattle.ledger.specs.Units.{own_lines, units};
 ghost use Rattle.ledger.specs.Ledger as book;
-ghost use Rattle.space_maps.specs.Spaces.{bare_space, cut_page, cut_space, holds_space, page_in, put_awaiting, put_mark, put_space, space_in, turned_page};
+ghost use Rattle.space_maps.specs.Spaces.{bare_space, cut_page, cut_pages, cut_space, holds_space, page_in, put_awaiting, put_mark, put_space, space_in, turned_page};
 ghost use Rattle.space_ledger.specs.View.{ledger_of};
 ghost use Rattle.space_ledger.specs.Space.{IsLeast};
 ghost use Rattle.space_ledger.specs.Calls.{IsNextOwn, NamesOnce};
@@ -19,7 +19,7 @@ ghost use Rattle.overlay_pages.specs.State.{base_of, books, memory_of};
 ghost use Rattle.overlay_pages.specs.Changes.{AreAbsent, Fits, HasCopyRoom, HasShareRoom, IsPlaced, brought, committed, copied, discarded, is_writable, limit_of, units_of, whole_page, with_brought, with_shared, with_written, with_zeros};
 ghost use Rattle.overlay_pages.specs.View.{HasOwnPlace, IsJoined, place_at, state_of};
 ghost use Rattle.overlay_pages.specs.Spots.{FindsLine, IsFound};
-ghost use Rattle.overlay_pages.specs.Calls.{AreShared, AwaitBare, AwaitsLike, IsEmptyState, IsNextPage, NoneAwaitsBelow, RisesBy, entries_in, with_line_at_place};
+ghost use Rattle.overlay_pages.specs.Calls.{AreMapped, AreShared, AreZeros, AwaitBare, AwaitsLike, IsEmptyState, IsNextPage, NoneAwaitsBelow, RisesBy, entries_in, with_line_at_place};
 ghost use Rattle.overlay_pages.specs.contracts.pages.OverlayPages.{the_row};
 
 use crate::moving::make_room;
@@ -158,10 +158,44 @@ impl OverlayPages {
     pub fn remove_page(&mut self, space: u16, page: u64)
         requires there { IsSome (page_in (state_of self.old) space page) }
         requires settled { (space_in (state_of self.old) space).awaiting ≡ map.empty }
-        ensures { state_of self.new ≡ cut_page (state_of self.old) space page }
+        ensures gone { state_of self.new ≡ cut_page (state_of self.old) space page }
+        ensures low { page < PAGE_END }
     {
         drop_overlay(&mut self.store, &mut self.ledger, space, page);
         take_out(&mut self.store, &mut self.ledger, space, page);
+    }
+
+    /// How many pages from one on are there: none exactly where it isn't, and at least those that lie in one run with it. No page of the
+    /// space awaits. Costs a look-up.
+    pub fn pages_from(&self, space: u16, page: u64) -> u32
+        requires { (space_in (state_of self.now) space).awaiting ≡ map.empty }
+        ensures there { AreMapped (state_of self.now) space page result }
+        ensures none { result ≡ 0 → page_in (state_of self.now) space page ≡ None }
+        ensures low { 0 < result → page + result ≤ PAGE_END }
+    {
+        self.ledger.pages_from(space, page)
+    }
+
+    /// How many pages from one on are there, on the zero frame and without own lines: at least those that lie in one run with it. No
+    /// page of the space awaits. Costs two look-ups.
+    pub fn zeros_from(&self, space: u16, page: u64) -> u32
+        requires there { holds_space (state_of self.now) space ≡ true }
+        requires settled { (space_in (state_of self.now) space).awaiting ≡ map.empty }
+        ensures zeros { AreZeros (state_of self.now) space page result }
+        ensures low { 0 < result → page + result ≤ PAGE_END }
+    {
+        self.ledger.zeros_from(space, page)
+    }
+
+    /// Takes away the `n` pages from `from` on, which are there, on the zero frame and without own lines. No page of the space awaits.
+    /// Takes no memory. Costs a look-up for each of their runs.
+    pub fn remove_zeros(&mut self, space: u16, from: u64, n: u32)
+        requires there { holds_space (state_of self.old) space ≡ true }
+        requires settled { (space_in (state_of self.old) space).awaiting ≡ map.empty }
+        requires zeros { AreZeros (state_of self.old) space from n }
+        ensures { state_of self.new ≡ cut_pages (state_of self.old) space from n }
+    {
+        self.ledger.remove_zeros(space, from, n);
     }
 
     /// The permissions and the frame of a page. None exactly where the page isn't there. Costs a look-up.

@@ -20,10 +20,11 @@ ended_text old running new after found stop taken line sent ends is_found is_sto
     ends.2 ∙ ap (stop_text after.run.taken) same ∙ ap (λ n. stop_text n stop) (sym is_taken) ∙ sym (is_sent ∙ is_line)
 
 pub ended_after : (start old new : State) (first running after : InRun) → AreLike (left_of start.wholes first).after (left_of old.wholes running).after
-    → EndsRun old.wholes running new.wholes after → new.drawn ≡ old.drawn → old.drawn ≡ start.drawn → AreLikeStates new (takes_left first start).after
-ended_after start old new first running after so_far ends same drawn =
+    → EndsRun old.wholes running new.wholes after → new.checkpoints ≡ start.checkpoints → new.drawn ≡ start.drawn → AreLikeStates new (takes_left first start).after
+ended_after start old new first running after so_far ends checkpoints drawn =
     let begun = (left_of start.wholes first).after in
     record {
       wholes = like_back begun new.wholes (like_chain begun (left_of old.wholes running).after new.wholes so_far ends.3);
-      drawn = same ∙ drawn;
+      checkpoints = checkpoints;
+      drawn = drawn;
     }

@@ -3,7 +3,7 @@ ghost use Rattle.std.specs.FinMap.{entries};
 ghost use Rattle.script_text.specs.Given.{IsGiven};
 ghost use Rattle.report_text.specs.Answers.{HasAnswerLine, answer_text};
 ghost use Rattle.command_core.specs.Changes.{CanBeTold};
-ghost use Rattle.command_core.specs.Commands.{RunsLoaded, asks, change_told, exec_done, exec_turns, list_done, list_text, load_told, performed_in, processes_text, run_done, step_done, takes_left, tells_exec};
+ghost use Rattle.command_core.specs.Commands.{RunsLoaded, asks, change_told, checkpoints_text, exec_done, exec_turns, list_done, list_text, load_told, performed_in, processes_text, run_done, step_done, takes_left, tells_exec};
 ghost use Rattle.overlay_top.specs.Sending.{SendsText};
 ghost use Rattle.overlay_top.specs.Running.{DoesCommand, TakesOn, TellsAnswer};
 
@@ -11,7 +11,7 @@ use crate::running::Halt;
 use crate::sending::Report;
 use command_core::{Running, Session};
 use ovl_io::{Failed, Sink};
-use report_text::{Answer, answer_line, list_line, process_line, stop_line};
+use report_text::{Answer, answer_line, checkpoint_line, list_line, process_line, stop_line};
 use script_text::Command;
 
 /// Sends the line of an answer.
@@ -174,7 +174,8 @@ fn change<K: Sink>(
     command: &Command,
     report: &mut Report<K>,
 ) -> Result<(), Halt>
-    requires { asks command.now ≡ None }
+    requires asks { asks command.now ≡ None }
+    requires given { IsGiven command.now }
     ensures does { DoesCommand K.Sink report.old.sink.now report.new.sink.now
         (change_told [] command.now session.old.state) session.old session.new result }
     ensures same { report.new.sink.ghost_name ≡ report.old.sink.ghost_name }
@@ -220,15 +221,46 @@ fn list_processes<K: Sink>(session: &Session, report: &mut Report<K>) -> Result<
     Ok(())
 }
 
-/// Lists the processes.
+/// How many checkpoints there are.
+fn count_checkpoints(session: &Session) -> u32
+    ensures { result ≡ length session.now.state.checkpoints }
+{
+    let mut count = 0u32;
+    'counting: while let Some(_) = session.checkpoint_at(count as usize) {
+        count += 1;
+    }
+    count
+}
+
+/// Sends the lines of all checkpoints, in the order of making.
+fn list_checkpoints<K: Sink>(session: &Session, report: &mut Report<K>) -> Result<(), Failed>
+    ensures sends { SendsText K.Sink report.old.sink.now
+        (checkpoints_text session.now.state) report.new.sink.now result }
+    ensures same { report.new.sink.ghost_name ≡ report.old.sink.ghost_name }
+{
+    let mut index = 0usize;
+    'listing: while let Some(view) = session.checkpoint_at(index) {
+        checkpoint_line(view.name, view.space, view.pages, &mut report.line);
+        report.send()?;
+        index += 1;
+    }
+    Ok(())
+}
+
+/// Lists the processes and the checkpoints.
 fn list<K: Sink>(session: &Session, report: &mut Report<K>) -> Result<(), Failed>
     ensures sends { SendsText K.Sink report.old.sink.now (list_text session.now.state)
         report.new.sink.now result }
     ensures same { report.new.sink.ghost_name ≡ report.old.sink.ghost_name }
 {
-    list_line(count_processes(session), 0, &mut report.line);
+    list_line(
+        count_processes(session),
+        count_checkpoints(session),
+        &mut report.line,
+    );
     report.send()?;
-    list_processes(session, report)
+    list_processes(session, report)?;
+    list_checkpoints(session, report)
 }
 
 /// Does one command, with the file that it asks for.

@@ -13,5 +13,6 @@ pub mod Numbers
 pub mod RunCounts
 pub mod Rises
 pub mod LedgerCalls
+pub mod Removing
 pub mod RunBooks
 pub mod Sharing

@@ -4,17 +4,17 @@ use Rattle.std.specs.Option.{option_and_then}
 use Rattle.std.specs.Ordering.{nat_cmp}
 use Rattle.std.specs.Cmp.{nat_cmp_total}
 use Rattle.std.specs.FinMap.{empty_of_len, get, get-empty, insert, len, len-insert, len-remove, remove}
-use Rattle.number_maps.specs.Keys.{get_other, get_same, insert_over, removed_other, removed_same}
+use Rattle.number_maps.specs.Keys.{get_other, get_same, removed_other, removed_same}
 use Rattle.sizes.specs.declared.TheConstants.{FRAME_UNITS, PAGE_END, PAGE_LINES}
 use Rattle.page_table.specs.declared.entry.PageEntry.{PageEntry}
 use Rattle.overlay_address.specs.Names.{overlay_page}
 use Rattle.overlay_mapping_table.specs.declared.entry.Entry.{Entry}
 use Rattle.overlay_mapping_table.specs.Table.{Table, HasRoomFor}
-use Rattle.space_maps.specs.Spaces.{of_pages, page_in, put_page, put_shared, put_space, space_in}
-use Rattle.space_maps.specs.Laws.{changed_there, page_shared_here, shared_over, space_put}
+use Rattle.space_maps.specs.Spaces.{page_in, put_page, put_shared}
+use Rattle.space_maps.specs.Laws.{changed_there, page_shared_here, shared_over}
 use Rattle.space_ledger.specs.declared.tables.Tables.TheInside.{Inside}
 use Rattle.space_ledger.specs.Space.{SpaceTable, awaited}
-use Rattle.space_ledger.specs.View.{LedgerView, PageView, SpaceView, with_overlay}
+use Rattle.space_ledger.specs.View.{LedgerView, PageView, with_overlay}
 use Rattle.space_ledger.specs.Kept.{IsKept, Overlays}
 use Rattle.space_ledger.specs.Calls.{HasOverlayRoom, HasSpare, IsLined}
 use Rattle.space_ledger.proofs.Seen.{AreOthers, Shows, overlay_is, seen_over, seen_shared, some_is, there_is, with_overlays, with_spaces}

@@ -36,6 +36,11 @@ with_entry space page entry = record { pages = insert space.pages page entry; aw
 abbrev pub without_page : SpaceTable → ℕ → SpaceTable
 without_page space page = record { pages = remove space.pages page; awaiting = space.awaiting; speculating = space.speculating }
 
+-- pages taken away, one after the other
+unfoldable pub without_pages : SpaceTable → ℕ → ℕ → SpaceTable
+without_pages space from zero = space
+without_pages space from (suc k) = without_page (without_pages space from k) (from + k)
+
 -- the n pages from `from` on have the entry, and nothing else changed
 pub record AreMapped (old : SpaceTable) (from n : ℕ) (entry : PageEntry) (new : SpaceTable) : Type 0 where
   pub pages : IsMapped old.pages from n entry new.pages

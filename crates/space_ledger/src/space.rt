@@ -2,9 +2,9 @@
 
 ghost use Rattle.std.specs.Prelude.{◌≡◌, ℕ, ◌+◌, ◌^◌, ◌<◌, ◌≤◌, IfOk, IsSome, OnOk, OnErr, None, Some, false};
 ghost use Rattle.std.specs.FinMap as map;
-ghost use Rattle.page_table.specs.Run.{IsRunFrom};
-ghost use Rattle.page_table.specs.Table.{IsFree};
-ghost use Rattle.space_ledger.specs.Space.{AreMapped, IsLeast, IsNextPage, AwaitsFirst, AwaitsRun, IsCut, adopted, awaited, marked, run_awaited, with_entry, without_page};
+ghost use Rattle.page_table.specs.Run.{IsNextRun, IsRunFrom};
+ghost use Rattle.page_table.specs.Table.{AreThere, IsFree};
+ghost use Rattle.space_ledger.specs.Space.{AreMapped, IsLeast, IsNextPage, AwaitsFirst, AwaitsRun, IsCut, adopted, awaited, marked, run_awaited, with_entry, without_page, without_pages};
 
 use ovl_io::Perms;
 use page_table::{PageEntry, PageRun, PageTable};
@@ -76,6 +76,15 @@ impl Space {
         }
     }
 
+    /// The first pages not below one, where none awaits: one or more that lie in one run, which may go on behind them. None exactly
+    /// where none is.
+    pub(crate) fn next_run(&self, page: u64) -> Option<PageRun>
+        requires { self.now.awaiting ≡ map.empty }
+        ensures { IsNextRun self.now.pages page result }
+    {
+        self.table.next_run(page)
+    }
+
     /// How many pages there are.
     pub(crate) fn len(&self) -> u32
         ensures { result ≡ map.len self.now.pages }
@@ -124,6 +133,16 @@ impl Space {
     {
         self.table.unmap(page, 1);
         self.count -= 1;
+    }
+
+    /// Takes away the `n` pages from `from` on, which are there, where none awaits.
+    pub(crate) fn remove_pages(&mut self, from: u64, n: u32)
+        requires settled { self.old.awaiting ≡ map.empty }
+        requires there { AreThere self.old.pages from n }
+        ensures { self.new ≡ without_pages self.old from n }
+    {
+        self.table.unmap(from, n);
+        self.count -= n;
     }
 
     /// The least page that awaits, with its entry. None exactly where none does.

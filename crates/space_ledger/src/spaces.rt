@@ -11,11 +11,11 @@ ghost use Rattle.overlay_bits.specs.Lines.{AreLines, with_lines};
 ghost use Rattle.ledger.specs.Changes.{has_own};
 ghost use Rattle.ledger.specs.Events.{Store, ledger_after};
 ghost use Rattle.overlay_address.specs.Names.{page_of, space_of};
-ghost use Rattle.page_table.specs.Run.{IsRunFrom};
-ghost use Rattle.space_maps.specs.Spaces.{bare_space, cut_page, cut_space, holds_space, page_in, put_awaiting, put_mark, put_space, space_in};
+ghost use Rattle.page_table.specs.Run.{IsRunFrom, entry_at};
+ghost use Rattle.space_maps.specs.Spaces.{bare_space, cut_page, cut_pages, cut_space, holds_space, page_in, put_awaiting, put_mark, put_space, space_in};
 ghost use Rattle.space_ledger.specs.Space.{AwaitsFirst, IsLeast};
 ghost use Rattle.space_ledger.specs.View.{frame_at, frame_awaiting, ledger_of, lines_of, overlay_at, with_block, with_frame, with_overlay, with_page_shared, with_run_shared, with_zero_pages};
-ghost use Rattle.space_ledger.specs.Calls.{AreBareBelow, AreFree, AreSharedBare, HasOverlayRoom, HasSpare, IsFreeFor, IsNextOf, IsNextOwn, NamesOnce, RisesBeside, RisesBy, entries_of, given_up, held_at};
+ghost use Rattle.space_ledger.specs.Calls.{AreBareBelow, AreFree, AreSharedBare, AreThere, AreZeros, HasOverlayRoom, HasSpare, IsFreeFor, IsNextOf, IsNextOwn, NamesOnce, RisesBeside, RisesBy, entries_of, given_up, held_at};
 
 use crate::frames::{class_of, hold, hold_run, is_only, release};
 use crate::tables::Tables;
@@ -344,6 +344,61 @@ impl SpaceLedger {
         }
     }
 
+    /// How many pages from one on are there: none exactly where it isn't, and at least those that lie in one run with it. No page of the
+    /// space awaits. Costs a look-up.
+    pub fn pages_from(&self, space: u16, page: u64) -> u32
+        requires { (space_in self.now space).awaiting ≡ map.empty }
+        ensures there { AreThere self.now space page result }
+        ensures none { result ≡ 0 → page_in self.now space page ≡ None }
+    {
+        match self.tables.next_run(space, page) {
+            Some(run) => { if run.page == page { run.n } else { 0 } }
+            None => 0,
+        }
+    }
+
+    /// How many pages from one on are there, on the zero frame and without own lines: at least those that lie in one run with it. No
+    /// page of the space awaits. Costs two look-ups.
+    pub fn zeros_from(&self, space: u16, page: u64) -> u32
+        requires there { holds_space self.now space ≡ true }
+        requires settled { (space_in self.now space).awaiting ≡ map.empty }
+        ensures { AreZeros self.now space page result }
+    {
+        match self.tables.next_run(space, page) {
+            Some(run) => self.bare_from(space, page, zeros_in(&run, page, self.tables.zero())),
+            None => 0,
+        }
+    }
+
+    // How many of the `n` pages from one on come before one with own lines.
+    fn bare_from(&self, space: u16, page: u64, n: u32) -> u32
+        requires there { holds_space self.now space ≡ true }
+        ensures few { result ≤ n }
+        ensures bare { (i : ℕ) → i < result → overlay_at self.now space (page + i) ≡ None }
+    {
+        if n == 0 {
+            return 0;
+        }
+        match self.tables.next_overlaid(space, page) {
+            Some(overlaid) => {
+                let left = overlaid - page;
+                if left < u64::from(n) { left as u32 } else { n }
+            }
+            None => n,
+        }
+    }
+
+    /// Takes away the `n` pages from `from` on, which are there, on the zero frame and without own lines. No page of the space awaits.
+    /// Takes no memory. Costs a look-up for each of their runs.
+    pub fn remove_zeros(&mut self, space: u16, from: u64, n: u32)
+        requires there { holds_space self.old space ≡ true }
+        requires settled { (space_in self.old space).awaiting ≡ map.empty }
+        requires zeros { AreZeros self.old space from n }
+        ensures { self.new ≡ cut_pages self.old space from n }
+    {
+        self.tables.remove_pages(space, from, n);
+    }
+
     /// Shares the page of a space with another one, where it awaits as the least and has the frame that it has in the first: it
     /// gets its origin and its own lines there, and keeps the permissions of the table that was adopted. A block is given exactly
     /// where it has own lines, and fewer than 16 pages for each frame are overlaid then. Takes no memory, and costs a look-up.
@@ -408,6 +463,19 @@ impl SpaceLedger {
         let is_speculating = self.is_speculating(space);
         let own = bits_of(&self.tables.overlay(space, page));
         rise_of(is_speculating, is_alone, own, lines)
+    }
+}
+
+/// How many pages of a run, from one on, are on the zero frame: all, where it begins with that page, or none.
+fn zeros_in(run: &PageRun, page: u64, zero: u32) -> u32
+    ensures start { 0 < result → run.now.page ≡ page }
+    ensures few { result ≤ run.now.n }
+    ensures zeros { (i : ℕ) → i < result → (entry_at run.now i).frame ≡ zero }
+{
+    if run.page == page && !run.rising && run.entry.frame == zero {
+        run.n
+    } else {
+        0
     }
 }
 

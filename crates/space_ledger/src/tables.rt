@@ -6,12 +6,12 @@ ghost use Rattle.std.specs.Option.{is_some, option_and_then, option_map};
 ghost use Rattle.sizes.specs.declared.TheConstants.{FRAME_UNITS, LAST_SPACE, MOST_FRAMES, PAGE_END, PAGE_LINES};
 ghost use Rattle.ledger.specs.Units.{overlaid_pages};
 ghost use Rattle.overlay_bits.specs.Lines.{AreLines};
-ghost use Rattle.page_table.specs.Run.{IsRunFrom};
-ghost use Rattle.space_maps.specs.Spaces.{bare_space, cut_page, cut_space, holds_space, page_in, put_awaiting, put_mark, put_shared, put_space, space_in, turned_page};
+ghost use Rattle.page_table.specs.Run.{IsNextRun, IsRunFrom};
+ghost use Rattle.space_maps.specs.Spaces.{bare_space, cut_page, cut_pages, cut_space, holds_space, page_in, put_awaiting, put_mark, put_shared, put_space, space_in, turned_page};
 ghost use Rattle.space_ledger.specs.Space.{AwaitsFirst, AwaitsRun, IsLeast};
 ghost use Rattle.space_ledger.specs.View.{ledger_of, with_entry_at, with_overlay, with_run_shared, with_zero_pages};
 ghost use Rattle.overlay_address.specs.Names.{IsName, page_of, space_of};
-ghost use Rattle.space_ledger.specs.Calls.{AreFree, HasOverlayRoom, HasSpare, IsLined, IsNextOf, IsNextOverlaid, IsSound, entries_of};
+ghost use Rattle.space_ledger.specs.Calls.{AreBare, AreFree, HasOverlayRoom, HasSpare, IsLined, IsNextOf, IsNextOverlaid, IsSound, entries_of};
 
 use crate::space::Space;
 use by_number::ByNumber;
@@ -133,6 +133,18 @@ impl Tables {
     {
         match self.spaces.get(space) {
             Some(space) => space.next(page),
+            None => None,
+        }
+    }
+
+    /// The first pages of a space not below one, where none awaits: one or more that lie in one run, which may go on behind them. None
+    /// exactly where none is.
+    pub(crate) fn next_run(&self, space: u16, page: u64) -> Option<PageRun>
+        requires { (space_in self.now space).awaiting ≡ map.empty }
+        ensures { IsNextRun (entries_of self.now space) page result }
+    {
+        match self.spaces.get(space) {
+            Some(space) => space.next_run(page),
             None => None,
         }
     }
@@ -268,6 +280,19 @@ impl Tables {
     {
         match self.spaces.get_mut(space) {
             Some(space) => space.remove(page),
+            None => unreachable!(),
+        }
+    }
+
+    /// Takes away pages that lie one after the other and have no overlays, from a space of which no page awaits.
+    pub(crate) fn remove_pages(&mut self, space: u16, from: u64, n: u32)
+        requires there { holds_space self.old space ≡ true }
+        requires settled { (space_in self.old space).awaiting ≡ map.empty }
+        requires bare { AreBare self.old space from n }
+        ensures { self.new ≡ cut_pages self.old space from n }
+    {
+        match self.spaces.get_mut(space) {
+            Some(space) => space.remove_pages(from, n),
             None => unreachable!(),
         }
     }

@@ -6,7 +6,7 @@ use Rattle.std.specs.Ordering.{nat_cmp}
 use Rattle.std.specs.FinMap.{empty, get, get-empty, insert, remove}
 use Rattle.number_maps.specs.Keys.{alike, by_key, get_other, get_same, insert_kept, insert_over, removed_other, removed_same}
 use Rattle.page_table.specs.Table.{Pages, is_within}
-use Rattle.space_maps.specs.Spaces.{SpaceOf, Spaces, bare_space, cut_page, cut_space, holds_space, of_pages, page_in, put_awaiting, put_mark, put_page, put_pages, put_shared, put_space, set_page, space_in, turned_page}
+use Rattle.space_maps.specs.Spaces.{SpaceOf, Spaces, bare_space, cut_page, cut_pages, cut_space, holds_space, of_pages, page_in, put_awaiting, put_mark, put_page, put_pages, put_shared, put_space, set_page, space_in, turned_page}
 
 -- What is at a place after each change.
 
@@ -308,3 +308,57 @@ are_put (suc n) from v s x there =
 
     first : (r : ℕ) → r ≡ from → is_within from (suc n) r ≡ true
     first r same = grind (arith, nat_tests)
+
+-- Pages taken away one after the other: none of them is there, and all else is as it was.
+pub record AreCut {P : Type 0} (v w : Spaces P) (s from n : ℕ) : Type 0 where
+  pub keeps : KeepsSpaces v w
+  pub here : (r : ℕ) → is_within from n r ≡ true → page_in w s r ≡ None
+  pub beside : (q r : ℕ) → (q ≡ s → is_within from n r ≡ true → ⊥) → page_in w q r ≡ page_in v q r
+
+pub are_cut : {P : Type 0} (n from : ℕ) (v : Spaces P) (s : ℕ) → holds_space v s ≡ true → AreCut v (cut_pages v s from n) s from n
+unfolding cut_pages
+are_cut zero from v s there = record {
+  keeps = keeps_still v;
+  here = λ r within. let none : is_within from 0 r ≡ false = grind (arith, nat_tests) in let no = sym within ∙ none in cc;
+  beside = λ q r other. refl;
+}
+are_cut (suc n) from v s there =
+    let before : Spaces _ = cut_pages v s from n in
+    let rest = are_cut n from v s there in
+    let keeps : KeepsSpaces before (cut_page before s (from + n)) = keeps_page_cut before s (from + n) (rest.keeps.there s ∙ there) in record {
+      keeps = keeps_twice v before (cut_page before s (from + n)) rest.keeps keeps;
+      here = λ r within. by_key r (from + n)
+          (λ same. page_cut_here before s (from + n) s r refl same)
+          (λ other. page_cut_beside before s (from + n) s r (λ _ same. other same) ∙ rest.here r (earlier r other within));
+      beside = λ q r other. page_cut_beside before s (from + n) q r (λ qq same. other qq (last r same))
+          ∙ rest.beside q r (λ qq within. other qq (wider r within));
+    }
+  where
+    earlier : (r : ℕ) → (r ≡ from + n → ⊥) → is_within from (suc n) r ≡ true → is_within from n r ≡ true
+    earlier r other within = grind (arith, nat_tests)
+
+    wider : (r : ℕ) → is_within from n r ≡ true → is_within from (suc n) r ≡ true
+    wider r within = grind (arith, nat_tests)
+
+    last : (r : ℕ) → r ≡ from + n → is_within from (suc n) r ≡ true
+    last r same = grind (arith, nat_tests)
+
+-- a page that comes after those that were taken away is as it was
+pub after_cut : {P : Type 0} (k from : ℕ) (v : Spaces P) (s : ℕ) → holds_space v s ≡ true → page_in (cut_pages v s from k) s (from + k) ≡ page_in v s (from + k)
+after_cut k from v s there =
+    (are_cut k from v s there).beside s (from + k)
+    (λ _ within. let no : is_within from k (from + k) ≡ false = grind (arith, nat_tests) in let e = sym within ∙ no in cc)
+
+-- pages taken away in two parts are taken away
+pub cut_twice : {P : Type 0} (k n from : ℕ) (v : Spaces P) (s : ℕ) → cut_pages (cut_pages v s from n) s (from + n) k ≡ cut_pages v s from (n + k)
+unfolding cut_pages
+cut_twice zero n from v s = let same : n ≡ n + 0 = omega arith in ap (cut_pages v s from) same
+cut_twice (suc k) n from v s =
+    let at : from + n + k ≡ from + (n + k) = omega arith in
+    let last : suc (n + k) ≡ n + suc k = omega arith in
+    ap (λ w. cut_page w s (from + n + k)) (cut_twice k n from v s) ∙ ap (cut_page (cut_pages v s from (n + k)) s) at ∙ ap (cut_pages v s from) last
+
+-- one page taken away
+pub cut_one : {P : Type 0} (v : Spaces P) (s p : ℕ) → cut_page v s p ≡ cut_pages v s p 1
+unfolding cut_pages
+cut_one v s p = let start : p ≡ p + 0 = omega arith in ap (cut_page v s) start

@@ -5,7 +5,7 @@ use Rattle.std.specs.Ordering.{nat_cmp}
 use Rattle.std.specs.FinMap.{FinMap, empty, get, insert, len, remove}
 use Rattle.number_maps.specs.Views.{get_viewed, len_viewed, viewed, viewed_empty, viewed_gone, viewed_put, viewed_same}
 use Rattle.page_table.specs.Table.{Pages}
-use Rattle.space_maps.specs.Spaces.{SpaceOf, Spaces, bare_space, cut_page, cut_space, holds_space, of_pages, page_in, put_awaiting, put_mark, put_page, put_pages, put_shared, put_space, set_page, space_in}
+use Rattle.space_maps.specs.Spaces.{SpaceOf, Spaces, bare_space, cut_page, cut_pages, cut_space, holds_space, of_pages, page_in, put_awaiting, put_mark, put_page, put_pages, put_shared, put_space, set_page, space_in}
 use Rattle.space_maps.specs.Laws.{KeepsSpaces, page_of, space_there}
 
 -- The same spaces with their pages seen in another way, each by its space and its number.
@@ -120,6 +120,12 @@ module _ {P Q : Type 0} (f : ℕ → ℕ → P → Q) where
       mapped_put v s _
       ∙ ap (λ m. put_space (mapped f v) s (record { pages = m; awaiting = remove (space_in v s).awaiting p; speculating = (space_in v s).speculating })) (viewed_put (f s) (space_in v s).pages p x)
       ∙ ap (λ (y : SpaceOf Q). put_space (mapped f v) s (record { pages = insert y.pages p (f s p x); awaiting = remove y.awaiting p; speculating = y.speculating })) (sym (mapped_in v s))
+
+-- Pages taken away one after the other.
+pub mapped_cut_pages : {P Q : Type 0} (f : ℕ → ℕ → P → Q) (k from : ℕ) (v : Spaces P) (s : ℕ) → mapped f (cut_pages v s from k) ≡ cut_pages (mapped f v) s from k
+unfolding cut_pages
+mapped_cut_pages f zero from v s = refl
+mapped_cut_pages f (suc k) from v s = mapped_cut_page f (cut_pages v s from k) s (from + k) ∙ ap (λ w. cut_page w s (from + k)) (mapped_cut_pages f k from v s)
 
 -- Pages put one after the other, where a page is seen alike wherever it stands.
 pub mapped_put_pages : {P Q : Type 0} (f : P → Q) (n from : ℕ) (v : Spaces P) (s : ℕ) (x : P)

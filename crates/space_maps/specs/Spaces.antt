@@ -1,4 +1,4 @@
-use Rattle.std.specs.Prelude.{ℕ, Bool, false, Option, Some, None, is_some}
+use Rattle.std.specs.Prelude.{ℕ, zero, suc, ◌+◌, Bool, false, Option, Some, None, is_some}
 use Rattle.std.specs.List.{fold, range_with_len}
 use Rattle.std.specs.Option.{option_map_or, unwrap_or}
 use Rattle.std.specs.Ordering.{nat_cmp}
@@ -60,6 +60,11 @@ set_page v space page (Some x) = put_page v space page x
 -- as many pages put from one on, each the same
 unfoldable pub put_pages : {P : Type 0} → Spaces P → ℕ → ℕ → ℕ → P → Spaces P
 put_pages v space from count x = fold (λ w page. put_page w space page x) v (range_with_len from count)
+
+-- as many pages taken away from one on, one after the other
+unfoldable pub cut_pages : {P : Type 0} → Spaces P → ℕ → ℕ → ℕ → Spaces P
+cut_pages v space from zero = v
+cut_pages v space from (suc k) = cut_page (cut_pages v space from k) space (from + k)
 
 -- a page that is there, changed
 unfoldable pub turned_page : {P : Type 0} → (P → P) → Spaces P → ℕ → ℕ → Spaces P

@@ -1,10 +1,12 @@
 ghost use Rattle.std.specs.Prelude.{◌≤◌, length};
 ghost use Rattle.sizes.specs.declared.TheConstants.{MOST_SCRIPT_BYTES};
 
+mod checkpoint_rows;
 mod long_rows;
 mod overlay_rows;
 mod rows;
 
+use checkpoint_rows::CHECKPOINT_ROWS;
 use long_rows::LONG_ROWS;
 use overlay_rows::OVERLAY_ROWS;
 use rows::ROWS;
@@ -28,6 +30,18 @@ fn show(alloc: Global, command: &Command, out: &mut Vec<u8>) -> Result<(), Alloc
         Command::Fork(p) => format!(in alloc; "fork {p}")?,
         Command::Run(turns) => format!(in alloc; "run {turns}")?,
         Command::Step(p, turns) => format!(in alloc; "step {p} {turns}")?,
+        Command::Checkpoint(p, name) => {
+            out.extend_from_slice(format!(in alloc; "checkpoint {p} ")?.as_bytes())?;
+            return out.extend_from_slice(name.as_slice());
+        }
+        Command::Restore(p, name) => {
+            out.extend_from_slice(format!(in alloc; "restore {p} ")?.as_bytes())?;
+            return out.extend_from_slice(name.as_slice());
+        }
+        Command::Forget(name) => {
+            out.extend_from_slice(b"forget ")?;
+            return out.extend_from_slice(name.as_slice());
+        }
         Command::Speculate(p) => format!(in alloc; "speculate {p}")?,
         Command::Commit(p) => format!(in alloc; "commit {p}")?,
         Command::Discard(p) => format!(in alloc; "discard {p}")?,
@@ -91,7 +105,7 @@ fn bytes_of(alloc: Global, text: &str) -> Result<Vec<u8>, AllocError> {
 #[test]
 fn scripts_say_what_the_grammar_says(rt: HostRuntime) -> Result<(), Fail> {
     let mut rows: usize = 0;
-    for table in [ROWS, OVERLAY_ROWS, LONG_ROWS] {
+    for table in [ROWS, CHECKPOINT_ROWS, OVERLAY_ROWS, LONG_ROWS] {
         for row in table.split('\n') {
             let (script, want) = row.split_once(" => ").expect(&rt, "a row has two parts");
             let script = bytes_of(rt.alloc(), script)?;
@@ -102,7 +116,7 @@ fn scripts_say_what_the_grammar_says(rt: HostRuntime) -> Result<(), Fail> {
             rows = rows.saturating_add(1);
         }
     }
-    assert_eq!(rt; rows, 1102);
+    assert_eq!(rt; rows, 1205);
     Ok(())
 }
 

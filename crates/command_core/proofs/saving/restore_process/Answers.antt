@@ -13,5 +13,5 @@ returns-in-Ok c =
 
 pub returns-in-Err : goal.returns-in-Err
 returns-in-Err c =
-    copies_not c.args.q c.args.p c.args.machine.now c.restore_space.new.mem c.in-Err.error
-    (subst (λ (m : MemoryView). Copies m c.restore_space.new.mem c.args.q c.args.p (Err c.in-Err.error)) c.memory_mut.ensures.value c.in-Err.ensures)
+    copies_not c.args.q c.args.p c.args.machine.now c.restore_space.new.mem c.in-Err.unmade
+    (subst (λ (m : MemoryView). Copies m c.restore_space.new.mem c.args.q c.args.p (Err c.in-Err.unmade)) c.memory_mut.ensures.value c.in-Err.ensures)

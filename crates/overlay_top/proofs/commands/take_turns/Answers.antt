@@ -15,6 +15,7 @@ pub turns-init : goal.turns-init
 turns-init g c = record {
   same = refl;
   sound = refl;
+  checkpoints = refl;
   drawn = refl;
   quantum = refl;
   after = like_itself (left_of c.args.session.now.state.wholes c.args.running.now).after;
@@ -27,8 +28,9 @@ turns-preserved g c =
     record {
       same = c.in_ok-send.ensures.same ∙ c.turns.invariant.same;
       sound = c.in_ok-send.ensures.sends.0 ∙ c.turns.invariant.sound;
-      drawn = c.turn_line.ensures.others.0 ∙ c.turns.invariant.drawn;
-      quantum = c.turn_line.ensures.others.1 ∙ c.turns.invariant.quantum;
+      checkpoints = c.turn_line.ensures.others.checkpoints ∙ c.turns.invariant.checkpoints;
+      drawn = c.turn_line.ensures.others.drawn ∙ c.turns.invariant.drawn;
+      quantum = c.turn_line.ensures.others.quantum ∙ c.turns.invariant.quantum;
       after =
           like_chain (left_of c.args.session.now.state.wholes c.args.running.now).after (left_of c.turns.session.state.wholes c.turns.running).after
           (left_of c.turn_line.new.self.state.wholes c.turn_line.new.running).after c.turns.invariant.after says.1;
@@ -48,7 +50,7 @@ returns-in_err-send-clause-takes g c =
           _ c.turn_line.new.line.items rest _ c.in_err-send.field-0.0 c.from_residual.result c.in_err-send.field-0.0 is_err
           (c.turns-test.ensures.says refl).0 c.turns.invariant.text c.in_err-send.ensures.sends;
       after = subst (λ r. LeavesOn {T = Unit {0}} (takes_left c.args.running.now c.args.session.now.state) c.turn_line.new.self r) (sym is_err) tt;
-      quantum = c.turn_line.ensures.others.1 ∙ c.turns.invariant.quantum;
+      quantum = c.turn_line.ensures.others.quantum ∙ c.turns.invariant.quantum;
     }
 
 pub returns-clause-takes : goal.returns-clause-takes
@@ -60,6 +62,6 @@ returns-clause-takes g c = record {
       c.turns.invariant.text c.send-2.ensures.sends;
   after = at_ok c.send-2.result
       (ended_after c.args.session.now.state c.turns.session.state c.turn_line.new.self.state c.args.running.now c.turns.running c.turn_line.new.running
-      c.turns.invariant.after (c.turns-test.ensures.ends refl) c.turn_line.ensures.others.0 c.turns.invariant.drawn);
-  quantum = c.turn_line.ensures.others.1 ∙ c.turns.invariant.quantum;
+      c.turns.invariant.after (c.turns-test.ensures.ends refl) (c.turn_line.ensures.others.checkpoints ∙ c.turns.invariant.checkpoints) (c.turn_line.ensures.others.drawn ∙ c.turns.invariant.drawn));
+  quantum = c.turn_line.ensures.others.quantum ∙ c.turns.invariant.quantum;
 }

@@ -9,6 +9,7 @@ abbrev pub invariant-turns : goal.invariant-turns
 invariant-turns g l = record {
   same : l.report.sink.ghost_name ≡ l.fn.report.sink.ghost_name;
   sound : g.K.Sink.faults l.report.sink.now ≡ g.K.Sink.faults l.fn.report.sink.now;
+  checkpoints : l.session.state.checkpoints ≡ l.fn.session.state.checkpoints;
   drawn : l.session.state.drawn ≡ l.fn.session.state.drawn;
   quantum : l.session.quantum ≡ l.fn.session.quantum;
   after : AreLike (left_of l.fn.session.state.wholes l.fn.running).after (left_of l.session.state.wholes l.running).after;

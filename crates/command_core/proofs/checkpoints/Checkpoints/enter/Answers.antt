@@ -1,4 +1,4 @@
-use Rattle.std.proofs.Common.{◌≡◌, List, [], ◌∷◌, ◌++◌, sym, ap, subst, ◌∙◌, None}
+use Rattle.std.proofs.Common.{List, [], ◌∷◌, ◌++◌, sym, ap, subst, ◌∙◌}
 use Rattle.std.specs.Map.{values_of}
 use Rattle.indexmap.proofs.CallerLemmas.{insert_entry-new}
 use Rattle.report_text.specs.Answers.{IsCheckpointName}

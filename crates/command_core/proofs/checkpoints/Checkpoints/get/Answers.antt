@@ -1,5 +1,4 @@
-use Rattle.std.proofs.Common.{subst, ap, ◌∙◌}
-use Rattle.std.specs.Map.{values_of}
+use Rattle.std.proofs.Common.{ap, ◌∙◌}
 use Rattle.command_core.proofs.Entries.{found_under}
 use Rattle.command_core.specs.Kept.{kept_named}
 use Rattle.command_core.proofs.checkpoints.Checkpoints.get.Goals as goal

@@ -1,12 +1,11 @@
-use Rattle.std.proofs.Common.{◌≡◌, ◌+◌, ◌≤◌, rules, List, [], ◌∷◌, ◌++◌, ap, subst, sym, ◌∙◌, refl, Some, None}
-use Rattle.std.specs.Prelude.{Ok, Err}
-use Rattle.std.specs.Option.{is_some}
+use Rattle.std.proofs.Common.{◌+◌, ◌≤◌, rules, List, subst, sym, refl}
+use Rattle.std.specs.Prelude.{Ok}
 use Rattle.sizes.specs.declared.TheConstants.{LAST_SPACE}
 use Rattle.report_text.specs.declared.answer.Answer.TheVariants.{Refused, Saved}
 use Rattle.command_core.specs.declared.checkpoints.Kept.{Kept}
 use Rattle.command_core.specs.State.{registry_of}
 use Rattle.command_core.specs.Sessions.{InSession, IsSession}
-use Rattle.command_core.specs.Kept.{kept_named, shown_state, spaces_kept}
+use Rattle.command_core.specs.Kept.{shown_state, spaces_kept}
 use Rattle.command_core.specs.Giving.{GivesChange}
 use Rattle.command_core.specs.Checkpoints.{SavesSpace, checkpoint_row}
 use Rattle.command_core.specs.Changes.{answer_of, on_process}

@@ -1,6 +1,6 @@
-use Rattle.std.proofs.Common.{◌≡◌, List, sym, ap, subst, ◌∙◌, Some, None}
+use Rattle.std.proofs.Common.{◌≡◌, List, sym, ap, subst, ◌∙◌, None}
 use Rattle.std.specs.Option.{option_map}
-use Rattle.machine_core.specs.Machine.{IsDropped, spaces_of}
+use Rattle.machine_core.specs.Machine.{spaces_of}
 use Rattle.report_text.specs.declared.answer.Answer.TheVariants.{Done, Refused}
 use Rattle.report_text.specs.declared.answer.Code.TheVariants.{NoCheckpoint}
 use Rattle.command_core.specs.declared.checkpoints.Kept.{Kept}
@@ -9,7 +9,7 @@ use Rattle.command_core.specs.Sessions.{InSession, IsSession}
 use Rattle.command_core.specs.Kept.{checkpoint_in, kept_but, kept_named, shown_state, spaces_kept}
 use Rattle.command_core.specs.Giving.{GivesChange}
 use Rattle.command_core.specs.Checkpoints.{forget_row, on_checkpoint}
-use Rattle.command_core.proofs.Dropping.{gives_forgot, is_free, session_forgot}
+use Rattle.command_core.proofs.Dropping.{gives_forgot, session_forgot}
 use Rattle.command_core.proofs.Keeping.{found_has, named_shown, none_but}
 use Rattle.command_core.proofs.Rows.{gives_unnamed}
 use Rattle.command_core.proofs.session.Session.forget.Goals as goal

@@ -1,6 +1,5 @@
 use Rattle.std.proofs.Common.{ap, subst, sym, ◌∙◌, []}
 use Rattle.machine_core.specs.Machine.{Wholes}
-use Rattle.command_core.specs.declared.checkpoints.Kept.{Kept}
 use Rattle.command_core.specs.State.{State, fresh}
 use Rattle.command_core.specs.Sessions.{InSession, IsSession}
 use Rattle.command_core.specs.Kept.{shown_session, shown_state, spaces_kept}

@@ -1,4 +1,4 @@
-use Rattle.std.proofs.Common.{◌≡◌, ap, subst, sym, ◌∙◌, Some, None, Ok, Err}
+use Rattle.std.proofs.Common.{ap, subst, sym, ◌∙◌, Ok}
 use Rattle.std.specs.Option.{is_some}
 use Rattle.machine_core.specs.declared.process.Process as declared
 use Rattle.report_text.specs.declared.answer.Answer.TheVariants.{Done, Refused}
@@ -9,7 +9,7 @@ use Rattle.command_core.specs.Kept.{kept_named, shown_state, spaces_kept}
 use Rattle.command_core.specs.Giving.{GivesChange}
 use Rattle.command_core.specs.Copies.{CopiesProcess}
 use Rattle.command_core.specs.Checkpoints.{restore_row}
-use Rattle.command_core.specs.Changes.{answer_of, on_process}
+use Rattle.command_core.specs.Changes.{on_process}
 use Rattle.command_core.proofs.Copies.{copy_keeps}
 use Rattle.command_core.proofs.Keeping.{found_has}
 use Rattle.command_core.proofs.Places.{not_free}

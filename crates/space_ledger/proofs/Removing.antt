@@ -1,0 +1,218 @@
+use Rattle.std.specs.Prelude.{◌≡◌, ℕ, zero, suc, ◌+◌, ◌-◌, ◌≤◌, ◌<◌, ◌||◌, Bool, true, false, not, cond, nat_eq, nat_le, nat_lt, List, Option, Some, None, is_some, IsSome, refl}
+use Rattle.std.proofs.Common.{sym, ap, subst, ◌∙◌, arith}
+use Rattle.std.proofs.lemmas.Bool.Decides.{nat_tests}
+use Rattle.std.specs.Option.{option_and_then, option_map, option_map_or}
+use Rattle.std.specs.Ordering.{nat_cmp}
+use Rattle.std.specs.FinMap.{FinMap, empty, get, get-empty, insert, len}
+use Rattle.number_maps.specs.Keys.{alike, by_key, get_same, insert_over, removed_other, removed_same}
+use Rattle.number_maps.specs.Views.{get_viewed}
+use Rattle.sizes.specs.declared.TheConstants.{FRAME_UNITS}
+use Rattle.frame_pool.specs.Counts.{released, sharers_of}
+use Rattle.page_table.specs.Run.{IsNextRun, IsRunFrom, entry_at}
+use Rattle.page_table.specs.Table.{Pages, AreThere, IsUnmapped, is_within}
+use Rattle.page_table.specs.declared.entry.PageEntry.{PageEntry}
+use Rattle.page_table.specs.declared.run.PageRun.{PageRun}
+use Rattle.space_maps.specs.Spaces.{cut_page, cut_pages, holds_space, page_in, space_in}
+use Rattle.space_maps.specs.Laws.{after_cut, are_cut, page_of}
+use Rattle.space_ledger.specs.declared.tables.Tables.TheInside.{Inside}
+use Rattle.space_ledger.specs.Space.{SpaceTable, IsCounted, pages_below, pages_from, without_page, without_pages}
+use Rattle.space_ledger.specs.Frames.{frame_units, released_by}
+use Rattle.space_ledger.specs.View.{LedgerView, PageView, frame_at, overlay_at}
+use Rattle.space_ledger.specs.Calls.{AreBare, AreThere as ArePagesThere, AreZeros, IsBooked, IsNextOverlaid, entries_of}
+use Rattle.space_ledger.proofs.Parts.{all_inside, from_at, in_table, same_space}
+use Rattle.space_ledger.proofs.Seen.{Shows, entry_there, there_is, with_spaces}
+use Rattle.space_ledger.proofs.TableOps.{shown_gone, shown_still}
+use Rattle.space_ledger.proofs.Numbers.{removed_books}
+
+-- Pages that are taken away, one after the other.
+
+-- what is at a page of a space then, and what is as it was
+pub without_at : (k from : ℕ) (x : SpaceTable) (r : ℕ) → get (without_pages x from k).pages r ≡ cond (is_within from k r) None (get x.pages r)
+unfolding without_pages
+without_at zero from x r = let none : is_within from 0 r ≡ false = grind (arith, nat_tests) in sym (ap (λ b. cond b None (get x.pages r)) none)
+without_at (suc k) from x r = by_key r (from + k)
+    (λ same.
+    let yes : is_within from (suc k) r ≡ true = grind (arith, nat_tests) in
+    removed_same (without_pages x from k).pages (from + k) r same ∙ sym (ap (λ b. cond b None (get x.pages r)) yes))
+    (λ other. removed_other (without_pages x from k).pages (from + k) r other ∙ without_at k from x r ∙ ap (λ b. cond b None (get x.pages r)) (as_before other))
+  where
+    as_before : (r ≡ from + k → ⊥) → is_within from k r ≡ is_within from (suc k) r
+    as_before other = grind (arith, nat_tests)
+
+pub without_awaiting : (k from : ℕ) (x : SpaceTable) → (without_pages x from k).awaiting ≡ x.awaiting
+unfolding without_pages
+without_awaiting zero from x = refl
+without_awaiting (suc k) from x = without_awaiting k from x
+
+pub without_mark : (k from : ℕ) (x : SpaceTable) → (without_pages x from k).speculating ≡ x.speculating
+unfolding without_pages
+without_mark zero from x = refl
+without_mark (suc k) from x = without_mark k from x
+
+-- A table of which no page awaits, without a run.
+module _ (old new : Pages) (end from n : ℕ) (settled : pages_from old end ≡ empty) (gone : IsUnmapped old from n new) where
+  none_waits : pages_from new end ≡ empty
+  none_waits = alike _ _ (λ q.
+      from_at new end q ∙ ap (λ (o : Option PageEntry). cond (nat_le end q) o None) (gone q)
+      ∙ at (nat_le end q) (is_within from n q) (get old q) (sym (from_at old end q) ∙ ap (λ (m : Pages). get m q) settled ∙ get-empty nat_cmp q) ∙ sym (get-empty nat_cmp q))
+    where
+      at : (b c : Bool) (o : Option PageEntry) → cond b o None ≡ None → cond b (cond c None o) None ≡ None
+      at true true o h = refl
+      at true false o h = h
+      at false c o h = refl
+
+  pub unmapped_entry : (mark : Bool)
+      → ◌≡◌ {A = SpaceTable} (record { pages = pages_below new end; awaiting = pages_from new end; speculating = mark })
+      (without_pages (record { pages = pages_below old end; awaiting = pages_from old end; speculating = mark }) from n)
+  unmapped_entry mark =
+      let was : SpaceTable = record { pages = pages_below old end; awaiting = pages_from old end; speculating = mark } in
+      same_space
+      (all_inside new end none_waits
+      ∙ alike _ _ (λ r. gone r ∙ ap (λ (m : Pages). cond (is_within from n r) None (get m r)) (sym (all_inside old end settled)) ∙ sym (without_at n from was r)))
+      (none_waits ∙ sym settled ∙ sym (without_awaiting n from was)) (sym (without_mark n from was))
+
+  pub unmapped_counted : (count : ℕ) → len new + n ≡ len old → IsCounted old end count → IsCounted new end (count - n)
+  unmapped_counted count fewer kept =
+      let was = ap len (all_inside old end settled) in
+      let is = ap len (all_inside new end none_waits) in
+      let counted = kept.pages in record { reach = kept.reach; pages = omega (arith, fewer, was, is, counted) }
+
+-- pages of a space are pages of its table
+pub all_in_table : (t : Pages) (end from n : ℕ) → AreThere (pages_below t end) from n → AreThere t from n
+all_in_table t end from n there page within = in_table t end page (there page within)
+
+-- Pages without overlays taken from a space: what is seen then.
+pub shown_pages_gone : (k from : ℕ) {t : Inside} {v : LedgerView} → Shows t v → (s : ℕ) (x : SpaceTable) → Some x ≡ get t.spaces s → AreBare v s from k
+    → Shows (with_spaces t (insert t.spaces s (without_pages x from k))) (cut_pages v s from k)
+unfolding without_pages cut_pages
+shown_pages_gone zero from show s x at bare = shown_still show s x x at refl
+shown_pages_gone (suc k) from {t = t} {v = v} show s x at bare =
+    let there = there_is show s x (sym at) in
+    let before = shown_pages_gone k from show s x at (λ i less. bare i (omega (arith, less))) in
+    let last = bare k (omega arith) in
+    let same = after_cut k from v s there in
+    let mid = without_pages x from k in
+    let next = without_page mid (from + k) in
+    subst (λ (m : FinMap nat_cmp SpaceTable). Shows (with_spaces t m) (cut_page (cut_pages v s from k) s (from + k)))
+    (insert_over t.spaces s mid next)
+    (shown_gone before s mid next (sym (get_same t.spaces s s mid refl)) (from + k) refl (ap is_some same ∙ last.0)
+    (ap (option_and_then (λ (p : PageView). p.overlay)) same ∙ last.1))
+
+pub shown_removed : {t : Inside} {v : LedgerView} → Shows t v → (s : ℕ) (x y : SpaceTable) → Some x ≡ get t.spaces s → (from n : ℕ) → y ≡ without_pages x from n → AreBare v s from n
+    → Shows (with_spaces t (insert t.spaces s y)) (cut_pages v s from n)
+shown_removed {t = t} {v = v} show s x y at from n is bare =
+    subst (λ (k : SpaceTable). Shows (with_spaces t (insert t.spaces s k)) (cut_pages v s from n)) (sym is) (shown_pages_gone n from show s x at bare)
+
+-- what is asked of the table then
+pub bare_in_table : {t : Inside} {v : LedgerView} → Shows t v → (s : ℕ) (x : SpaceTable) → Some x ≡ get t.spaces s → (from n : ℕ) → AreBare v s from n → AreThere x.pages from n
+bare_in_table {v = v} show s x at from n bare page within =
+    let low : from ≤ page = grind (arith, nat_tests) in
+    let high : page < from + n = grind (arith, nat_tests) in
+    let here : from + (page - from) ≡ page = omega (arith, low) in
+    entry_there show s x (sym at) page
+    (subst (λ q. IsSome (page_in v s q)) here (bare (page - from) (omega (arith, low, high))).0)
+
+-- a space that isn't there has no pages in a run
+pub none_next : (v : LedgerView) (s page : ℕ) → ((q : ℕ) → page_in v s q ≡ None) → IsNextRun (entries_of v s) page None
+unfolding entries_of
+none_next v s page none q from =
+    get_viewed (λ _ (x : PageView). x.entry) (space_in v s).pages q ∙ ap (option_map (λ (x : PageView). x.entry)) (sym (page_of v s q) ∙ none q)
+
+-- The books: a page on the zero frame counts nothing.
+
+zero_released : (z f : ℕ) (counts : List ℕ) → f ≡ z → released_by z counts f ≡ counts
+unfolding released_by
+zero_released z f counts same = let yes : nat_eq f z ≡ true = grind (arith, nat_tests) in ap (λ b. cond b counts (released counts f)) yes
+
+zero_free : (z f : ℕ) (counts : List ℕ) → f ≡ z → frame_units z counts f ≡ 0
+unfolding frame_units
+zero_free z f counts same =
+    let yes : nat_eq f z ≡ true = grind (arith, nat_tests) in
+    ap (λ b. cond (b || not (nat_eq (sharers_of counts f) 0)) 0 FRAME_UNITS) yes
+
+page_on : (v : LedgerView) (s p f : ℕ) → frame_at v s p ≡ Some f → (x : PageView) × (page_in v s p ≡ Some x) × (x.entry.frame ≡ f)
+page_on v s p f is = at (page_in v s p) refl is
+  where
+    at : (o : Option PageView) → page_in v s p ≡ o → option_map (λ (x : PageView). x.entry.frame) o ≡ Some f → (x : PageView) × (page_in v s p ≡ Some x) × (x.entry.frame ≡ f)
+    at None there h = let no = ap is_some h in cc
+    at (Some x) there h = (x, there, ap (λ (o : Option ℕ). option_map_or (λ (n : ℕ). n) o f) h)
+
+zero_gone : (v : LedgerView) (counts : List ℕ) (u n : ℕ) → IsBooked v counts u n → (s p : ℕ) → frame_at v s p ≡ Some v.zero_frame → overlay_at v s p ≡ None → IsBooked (cut_page v s p) counts u n
+zero_gone v counts u n kept s p zero_is bare =
+    let found = page_on v s p v.zero_frame zero_is in
+    let x = found.0 in
+    let over : x.overlay ≡ None = sym (ap (option_and_then (λ (y : PageView). y.overlay)) found.1) ∙ bare in
+    let same = zero_released v.zero_frame x.entry.frame counts found.2 in
+    let nothing = zero_free v.zero_frame x.entry.frame (released_by v.zero_frame counts x.entry.frame) found.2 in
+    subst (λ (c : List ℕ). IsBooked (cut_page v s p) c u n) same
+    (subst (λ k. IsBooked (cut_page v s p) (released_by v.zero_frame counts x.entry.frame) k n) (omega (arith, nothing)) (removed_books v counts u n kept s p x found.1 over))
+
+pub zeros_gone : (k from : ℕ) (v : LedgerView) (counts : List ℕ) (u n s : ℕ) → IsBooked v counts u n → holds_space v s ≡ true → AreZeros v s from k → IsBooked (cut_pages v s from k) counts u n
+unfolding cut_pages
+zeros_gone zero from v counts u n s kept there zeros = kept
+zeros_gone (suc k) from v counts u n s kept there zeros =
+    let before = zeros_gone k from v counts u n s kept there (λ i less. zeros i (omega (arith, less))) in
+    let last = zeros k (omega arith) in
+    let same = after_cut k from v s there in
+    let frame = (are_cut k from v s there).keeps.zero_frame in
+    zero_gone (cut_pages v s from k) counts u n before s (from + k)
+    (ap (option_map (λ (x : PageView). x.entry.frame)) same ∙ last.0 ∙ ap Some (sym frame))
+    (ap (option_and_then (λ (x : PageView). x.overlay)) same ∙ last.1)
+
+-- How many pages are zeros.
+
+pub zeros_bare : (v : LedgerView) (s from n : ℕ) → AreZeros v s from n → AreBare v s from n
+zeros_bare v s from n zeros i less = (some (page_in v s (from + i)) (zeros i less).0, (zeros i less).1)
+  where
+    some : (o : Option PageView) → option_map (λ (x : PageView). x.entry.frame) o ≡ Some v.zero_frame → IsSome o
+    some None h = let no = ap is_some h in cc
+    some (Some x) h = refl
+
+-- the pages before one with own lines
+pub before_overlaid : (v : LedgerView) (s page n : ℕ) (found : ℕ) → IsNextOverlaid v s page (Some found) → (i : ℕ) → i < found - page → overlay_at v s (page + i) ≡ None
+before_overlaid v s page n found next i less =
+    let low = next.0 in next.2 (page + i) (omega arith) (omega (arith, less, low))
+
+-- the first pages of a run on the zero frame
+pub zeros_of_run : (v : LedgerView) (s page : ℕ) (run : PageRun) (few many : ℕ) → IsRunFrom (entries_of v s) page run → few ≤ many → many ≤ run.n → (0 < many → run.page ≡ page)
+    → ((i : ℕ) → i < many → (entry_at run i).frame ≡ v.zero_frame) → ((i : ℕ) → i < few → overlay_at v s (page + i) ≡ None) → AreZeros v s page few
+unfolding entries_of
+zeros_of_run v s page run few many first fits inside start on_zero bare i less =
+    let same = start (omega (arith, less, fits)) in
+    let entry : get (entries_of v s) (page + i) ≡ Some (entry_at run i) = ap (λ p. get (entries_of v s) (p + i)) (sym same) ∙ first.has i (omega (arith, less, fits, inside)) in
+    let entry_is = sym (get_viewed (λ _ (x : PageView). x.entry) (space_in v s).pages (page + i) ∙ ap (option_map (λ (x : PageView). x.entry)) (sym (page_of v s (page + i)))) ∙ entry in
+    (framed (page_in v s (page + i)) (entry_at run i) entry_is ∙ ap Some (on_zero i (omega (arith, less, fits))), bare i less)
+  where
+    framed : (o : Option PageView) (e : PageEntry) → option_map (λ (x : PageView). x.entry) o ≡ Some e → option_map (λ (x : PageView). x.entry.frame) o ≡ Some e.frame
+    framed None e h = let no = ap is_some h in cc
+    framed (Some x) e h = ap (λ (o : Option PageEntry). option_map (λ (k : PageEntry). k.frame) o) h
+
+-- Which pages are there, by a run of their entries.
+
+entry_some : (v : LedgerView) (s p : ℕ) → is_some (get (entries_of v s) p) ≡ is_some (page_in v s p)
+unfolding entries_of
+entry_some v s p =
+    ap is_some (get_viewed (λ _ (x : PageView). x.entry) (space_in v s).pages p ∙ ap (option_map (λ (x : PageView). x.entry)) (sym (page_of v s p))) ∙ same (page_in v s p)
+  where
+    same : (o : Option PageView) → is_some (option_map (λ (x : PageView). x.entry) o) ≡ is_some o
+    same None = refl
+    same (Some x) = refl
+
+none_by : {X : Type 0} (o : Option X) → is_some o ≡ false → o ≡ None
+none_by None h = refl
+none_by (Some x) h = cc
+
+pub run_there : (v : LedgerView) (s page : ℕ) (run : PageRun) → IsRunFrom (entries_of v s) page run → run.page ≡ page → ArePagesThere v s page run.n
+run_there v s page run first same i less =
+    subst (λ p. IsSome (page_in v s (p + i))) same (sym (entry_some v s (run.page + i)) ∙ ap is_some (first.has i less))
+
+pub run_past : (v : LedgerView) (s page : ℕ) (run : PageRun) → IsRunFrom (entries_of v s) page run → (run.page ≡ page → ⊥) → page_in v s page ≡ None
+run_past v s page run first other =
+    let le = first.from in none_by (page_in v s page) (sym (entry_some v s page) ∙ ap is_some (first.none page (omega arith) (below (nat_lt page run.page) refl)))
+  where
+    below : (b : Bool) → nat_lt page run.page ≡ b → page < run.page
+    below true e = grind (arith, nat_tests)
+    below false e = let le = first.from in absurd (other (grind (arith, nat_tests)))
+
+pub no_run_there : (v : LedgerView) (s page : ℕ) → IsNextRun (entries_of v s) page None → page_in v s page ≡ None
+no_run_there v s page none = none_by (page_in v s page) (sym (entry_some v s page) ∙ ap is_some (none page (omega arith)))
