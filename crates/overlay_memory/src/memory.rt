@@ -15,7 +15,7 @@ ghost use Rattle.overlay_pages.specs.Lines.{line_in_page};
 ghost use Rattle.overlay_pages.specs.State.{books, memory_of};
 ghost use Rattle.overlay_pages.specs.Changes.{AreAbsent, Fits, HasCopyRoom, HasShareRoom, IsPlaced, committed, copied, discarded, is_writable, limit_of, units_of, with_shared, with_written, with_zeros};
 ghost use Rattle.overlay_pages.specs.View.{HasOwnPlace, IsJoined, place_at, state_of};
-ghost use Rattle.overlay_pages.specs.Calls.{AreMapped, AreShared, AreZeros, AwaitBare, AwaitsLike, IsEmptyState, IsNextPage, NoneAwaitsBelow, entries_in, with_line_at_place};
+ghost use Rattle.overlay_pages.specs.Calls.{AreMapped, AreShared, AreZeros, AwaitBare, AwaitsLike, HasSettledBlocks, IsEmptyState, IsNextPage, KeepsWholeBlocks, NoneAwaitsBelow, entries_in, with_line_at_place};
 ghost use Rattle.overlay_memory.specs.Access.{FindsIn, IsFirstAbsent, IsFoundIn, KeepsFound, Places, Reads, Stores};
 ghost use Rattle.overlay_memory.specs.Pieces.{IsEmptied, emptied_space};
 ghost use Rattle.overlay_memory.specs.Room.{FallsShort};
@@ -330,6 +330,17 @@ impl OverlayMemory {
         ensures none { NoneAwaitsBelow (state_of self.new) to until }
     {
         self.pages.share_bare(from, to, until);
+    }
+
+    /// Makes moves until no two free blocks below a frame are equal in size. No view and no units change; frames and segments of
+    /// 4 KiB stay where they are. Takes no memory. Costs a copy of each line of what moves, in at most as many moves as there are
+    /// free blocks.
+    pub fn compact(&mut self)
+        ensures state { state_of self.new ≡ state_of self.old }
+        ensures settled { HasSettledBlocks self.new }
+        ensures whole { KeepsWholeBlocks self.old self.new }
+    {
+        self.pages.compact();
     }
 
     /// A table with the entries of a space's pages, of which none awaits, or want of memory. Costs a step for each page.

@@ -8,7 +8,9 @@ use Rattle.ledger.specs.Changes.{has_own}
 use Rattle.ledger.specs.Events.{Store, ledger_after}
 use Rattle.ledger.specs.Ledger.{Holding, holding_at}
 use Rattle.ledger.specs.Units.{units}
+use Rattle.unit_map.specs.Pieces.{AreSettled}
 use Rattle.segment_store.specs.Store.{with_line_at}
+use Rattle.segment_store.specs.Changes.{KeepsFrames, WholeSegmentsStay}
 use Rattle.space_maps.specs.Spaces.{page_in, space_in}
 use Rattle.space_ledger.specs.Space.{IsLeast}
 use Rattle.overlay_pages.specs.State.{PageState, State, books}
@@ -22,6 +24,15 @@ pub record IsEmptyState (frames : ℕ) (state : State) : Type 0 where
   pub spaces : state.spaces ≡ empty
   pub count : state.frames ≡ frames
   pub zero : state.zero_frame < frames
+
+-- no two free blocks below a frame are equal in size
+abbrev pub HasSettledBlocks : MemoryView → Type 0
+HasSettledBlocks v = AreSettled v.store.blocks
+
+-- frames that are taken and segments of 16 units stay where they are, with their lines
+pub record KeepsWholeBlocks (old new : MemoryView) : Type 0 where
+  pub frames : KeepsFrames old.store new.store
+  pub segments : WholeSegmentsStay old.store new.store
 
 -- the least page of a space not below one, or that there is none
 abbrev pub IsNextPage : State → ℕ → ℕ → Option ℕ → Type 0

@@ -19,10 +19,10 @@ ghost use Rattle.overlay_pages.specs.State.{base_of, books, memory_of};
 ghost use Rattle.overlay_pages.specs.Changes.{AreAbsent, Fits, HasCopyRoom, HasShareRoom, IsPlaced, brought, committed, copied, discarded, is_writable, limit_of, units_of, whole_page, with_brought, with_shared, with_written, with_zeros};
 ghost use Rattle.overlay_pages.specs.View.{HasOwnPlace, IsJoined, place_at, state_of};
 ghost use Rattle.overlay_pages.specs.Spots.{FindsLine, IsFound};
-ghost use Rattle.overlay_pages.specs.Calls.{AreMapped, AreShared, AreZeros, AwaitBare, AwaitsLike, IsEmptyState, IsNextPage, NoneAwaitsBelow, RisesBy, entries_in, with_line_at_place};
+ghost use Rattle.overlay_pages.specs.Calls.{AreMapped, AreShared, AreZeros, AwaitBare, AwaitsLike, HasSettledBlocks, IsEmptyState, IsNextPage, KeepsWholeBlocks, NoneAwaitsBelow, RisesBy, entries_in, with_line_at_place};
 ghost use Rattle.overlay_pages.specs.contracts.pages.OverlayPages.{the_row};
 
-use crate::moving::make_room;
+use crate::moving::{compact, make_room};
 use crate::overlays::{bring_lines, drop_overlay};
 use crate::placing::{place_bytes, take_out};
 use crate::settling::{commit, copy_commit};
@@ -494,6 +494,17 @@ impl OverlayPages {
         ensures { state_of self.new ≡ turned_page discarded (state_of self.old) space page }
     {
         drop_overlay(&mut self.store, &mut self.ledger, space, page);
+    }
+
+    /// Makes moves until no two free blocks below a frame are equal in size. No page changes, and so no units do; frames and
+    /// segments of 16 units stay where they are. Takes no memory. Costs a copy of each line of what moves, in at most as
+    /// many moves as there are free blocks.
+    pub fn compact(&mut self)
+        ensures state { state_of self.new ≡ state_of self.old }
+        ensures settled { HasSettledBlocks self.new }
+        ensures whole { KeepsWholeBlocks self.old self.new }
+    {
+        compact(&mut self.store, &mut self.ledger);
     }
 
     /// A table with the entries of a space's pages, of which none awaits, or want of memory. Costs a step for each page.
