@@ -8,7 +8,8 @@
 //! - `saving`: checkpoints of processes, made and put back
 //! - `checkpoints`: what is kept of them, by name
 //! - `overlays`: speculation and promotion
-//! - `turns`: the turns of `run` and `step`
+//! - `turns`: a run in progress
+//! - `taking`: its turns, taken
 #![tactic(auto)]
 
 mod checkpoints;
@@ -16,6 +17,7 @@ mod forking;
 mod overlays;
 mod saving;
 mod session;
+mod taking;
 mod turns;
 
 pub use session::{CheckpointView, ProcessView, Session};

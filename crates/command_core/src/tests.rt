@@ -1,3 +1,4 @@
+ghost use Rattle.std.specs.List.{All};
 ghost use Rattle.script_text.specs.Given.{IsGiven};
 ghost use Rattle.command_core.specs.Changes.{CanBeTold};
 
@@ -132,6 +133,22 @@ fn do_command(
     }
 }
 
+// Does the commands of a script.
+fn do_commands(
+    rt: &impl Abort,
+    session: &mut Session,
+    file: &[u8],
+    commands: &[Command],
+    report: &mut Vec<u8>,
+) -> Result<(), AllocError>
+    requires { All IsGiven commands.now }
+{
+    for command in commands {
+        do_command(rt, session, file, command, report)?;
+    }
+    Ok(())
+}
+
 // How many frames there are, the quantum, the words of the file that a script loads, the script, and its report.
 type Row = (u32, u32, &'static [u32], &'static [u8], &'static [u8]);
 
@@ -228,12 +245,19 @@ fn few_frames_and_another_quantum(rt: HostRuntime) -> Result<(), Fail> {
     for (frames, quantum, words, script, want) in ROWS {
         assert!(rt; frames >= 1 && frames <= 65_536 && quantum >= 1 && script.len() <= 1000);
         let file = file_of(rt.alloc(), words)?;
-        let commands = parse(rt.alloc(), script).map_err(|_| "no script")?;
+        let commands = match parse(rt.alloc(), script) {
+            Ok(commands) => commands,
+            Err(_) => panic!(rt; "no script"),
+        };
         let mut session = Session::new(rt.alloc(), frames, quantum)?;
         let mut report = Vec::new(rt.alloc());
-        for command in commands.as_slice() {
-            do_command(&rt, &mut session, file.as_slice(), command, &mut report)?;
-        }
+        do_commands(
+            &rt,
+            &mut session,
+            file.as_slice(),
+            commands.as_slice(),
+            &mut report,
+        )?;
         assert!(rt;
             report.as_slice() == want,
             "another report of {script:?}: {report:?}"

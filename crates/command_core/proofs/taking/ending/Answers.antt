@@ -1,7 +1,7 @@
 use Rattle.std.proofs.Common.{◌∙◌, sym, Some}
 use Rattle.machine_core.specs.Machine.{wholes}
 use Rattle.command_core.proofs.Rans.{limit_is, next_is}
-use Rattle.command_core.proofs.session.ending.Goals as goal
+use Rattle.command_core.proofs.taking.ending.Goals as goal
 
 pub returns-else-has_left : goal.returns-else-has_left
 returns-else-has_left c =

@@ -1,5 +1,5 @@
 use Rattle.command_core.proofs.Places.{free_stays, process_there}
-use Rattle.command_core.proofs.session.answer_request.Goals as goal
+use Rattle.command_core.proofs.taking.answer_request.Goals as goal
 
 pub returns-clause-free : goal.returns-clause-free
 returns-clause-free c =

@@ -1,6 +1,6 @@
 use Rattle.machine_core.specs.Machine.{wholes}
 use Rattle.command_core.proofs.Places.{next_runs}
-use Rattle.command_core.proofs.session.next.Goals as goal
+use Rattle.command_core.proofs.taking.next.Goals as goal
 
 pub returns-in-ByTurns-clause-runs : goal.returns-in-ByTurns-clause-runs
 returns-in-ByTurns-clause-runs c =

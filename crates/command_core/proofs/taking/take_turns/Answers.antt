@@ -8,7 +8,7 @@ use Rattle.report_text.specs.declared.answer.Stop.TheVariants as stop
 use Rattle.command_core.proofs.Rans.{asked_counted, fewer_left, is_counted, speaks_last, speaks_on}
 use Rattle.command_core.proofs.Places.{free_stays, free_then, process_there}
 use Rattle.command_core.proofs.Stretching.{all_taken, goes_on, last_turn, one_more, says_full, says_last}
-use Rattle.command_core.proofs.session.take_turns.Goals as goal
+use Rattle.command_core.proofs.taking.take_turns.Goals as goal
 
 -- as many steps as there were turns
 

@@ -2,7 +2,7 @@ use Rattle.std.proofs.Common.{◌≡◌, ◌≤◌, None}
 use Rattle.machine_core.specs.Machine.{KeepsPlaces, wholes}
 use Rattle.command_core.specs.Sessions.{KeepsFree, OwnSpaces}
 use Rattle.command_core.specs.Turns.{lines_left, ran_from, ran_text}
-use Rattle.command_core.proofs.session.quiet_turns.Given as goal
+use Rattle.command_core.proofs.taking.quiet_turns.Given as goal
 
 -- the turns so far had no line: what is left comes to what all come to
 abbrev pub invariant-quiet : goal.invariant-quiet

@@ -1,5 +1,5 @@
 use Rattle.command_core.proofs.Places.{free_stays, process_there, space_there}
-use Rattle.command_core.proofs.session.next_turn.Goals as goal
+use Rattle.command_core.proofs.taking.next_turn.Goals as goal
 
 pub event-turn-requires-clause-there : goal.event-turn-requires-clause-there
 event-turn-requires-clause-there c = space_there c.args.machine.now c.in-Some-next.p c.requires c.in-Some-next.ensures.runs

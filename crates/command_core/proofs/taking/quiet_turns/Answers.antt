@@ -3,8 +3,8 @@ use Rattle.command_core.specs.Turns.{EndsRun, next_of}
 use Rattle.machine_core.specs.Machine.{wholes}
 use Rattle.command_core.proofs.Places.{free_then, own_kept, same_then, space_there}
 use Rattle.command_core.proofs.Rans.{next_is, run_ended}
-use Rattle.command_core.proofs.session.quiet_turns.Goals as goal
-use Rattle.command_core.proofs.session.quiet_turns.Goals.{else-quiet-test, then-quiet-test+in-None}
+use Rattle.command_core.proofs.taking.quiet_turns.Goals as goal
+use Rattle.command_core.proofs.taking.quiet_turns.Goals.{else-quiet-test, then-quiet-test+in-None}
 
 pub take_turns-requires-clause-next : goal.take_turns-requires-clause-next
 take_turns-requires-clause-next c =

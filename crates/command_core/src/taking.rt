@@ -1,0 +1,227 @@
+//! Turns of a machine: one at a time, and up to the next that has a line.
+
+ghost use Rattle.std.specs.Prelude.{◌≡◌, ◌+◌, ◌≤◌, ◌<◌, [], Some, None, true, false, IfSome};
+ghost use Rattle.report_text.specs.Answers.{turn_text};
+ghost use Rattle.machine_core.specs.Machine.{KeepsPlaces, has_space, is_running, wholes};
+ghost use Rattle.machine_core.specs.Turns.{after_asked, turn_asked};
+ghost use Rattle.command_core.specs.Sessions.{KeepsFree, OwnSpaces};
+ghost use Rattle.command_core.specs.Turns.{EndsRun, GoesOn, Speaks, TakesTurn, ending, lines_left, next_of, rest_of, run_turned};
+
+use crate::turns::{Order, Running};
+use machine_core::Machine;
+use ovl_io::{FaultKind, Turn};
+use report_text::{Line, Stop, turn_line};
+use rv_execute::Outcome;
+
+/// Does what a process asked for. Where that has a line, sets it and answers true.
+#[inline(never)]
+fn answer_request(machine: &mut Machine, p: u16, line: &mut Line) -> bool
+    requires runs { is_running (wholes machine.old) p ≡ true }
+    requires there { has_space machine.old p ≡ true }
+    ensures says { result ≡ true → line.new.items ≡ turn_text p (turn_asked (wholes machine.old) p) }
+    ensures quiet { result ≡ false → turn_text p (turn_asked (wholes machine.old) p) ≡ [] }
+    ensures after { wholes machine.new ≡ after_asked (wholes machine.old) p }
+    ensures kept { KeepsPlaces machine.old machine.new }
+    ensures free { KeepsFree machine.old machine.new }
+{
+    turn_line(p, &machine.answer(p), line)
+}
+
+/// Sets the line of a fault.
+#[inline(never)]
+fn fault_line(p: u16, kind: FaultKind, address: u64, line: &mut Line)
+    ensures { line.new.items ≡ turn_text p (Turn.Faulted kind address) }
+{
+    turn_line(p, &Turn::Faulted(kind, address), line);
+}
+
+/// Sets the line of a turn for which there aren't units enough.
+#[inline(never)]
+fn full_line(p: u16, units: u32, limit: u32, line: &mut Line)
+    ensures { line.new.items ≡ turn_text p (Turn.Full units limit) }
+{
+    turn_line(p, &Turn::Full(units, limit), line);
+}
+
+/// Takes turns of a running process, whose turn is next: until one has a line, which it sets, and answers true; or as
+/// many as there are until another's turn may be next. One for which there aren't units enough isn't counted, and ends the
+/// run.
+#[inline]
+fn take_turns(machine: &mut Machine, running: &mut Running, p: u16, line: &mut Line) -> bool
+    requires runs { is_running (wholes machine.old) p ≡ true }
+    requires there { has_space machine.old p ≡ true }
+    requires next { next_of (wholes machine.old) running.old.run.order ≡ Some p }
+    requires left { running.old.run.taken < running.old.run.turns }
+    requires goes { running.old.stop ≡ None }
+    ensures says { result ≡ true →
+        Speaks (wholes machine.old) running.old line.new.items (wholes machine.new) running.new }
+    ensures quiet { result ≡ false →
+        GoesOn (wholes machine.old) running.old.run (wholes machine.new) running.new.run }
+    ensures goes { result ≡ false → running.new.stop ≡ None }
+    ensures fewer { lines_left running.new < lines_left running.old }
+    ensures asked { running.new.run.turns ≡ running.old.run.turns }
+    ensures within { running.new.run.taken ≤ running.new.run.turns }
+    ensures kept { KeepsPlaces machine.old machine.new }
+    ensures free { KeepsFree machine.old machine.new }
+{
+    let (steps, outcome) = machine.execute_up_to(p, running.stretch(p));
+    match outcome {
+        Outcome::Stepped => {
+            running.took_turns(p, steps);
+            false
+        }
+        Outcome::Asked => {
+            running.took_turns(p, steps + 1);
+            answer_request(machine, p, line)
+        }
+        Outcome::Fault(kind, address) => {
+            running.took_turns(p, steps + 1);
+            fault_line(p, kind, address, line);
+            true
+        }
+        Outcome::Full(units, limit) => {
+            running.took_turns(p, steps);
+            running.set_stop(Some(Stop::Full));
+            full_line(p, units, limit, line);
+            true
+        }
+    }
+}
+
+/// The process whose turn is next.
+#[inline]
+fn next(machine: &Machine, order: &Order) -> Option<u16>
+    ensures number { result ≡ next_of (wholes machine.now) order.now }
+    ensures runs { IfSome result (λ p. is_running (wholes machine.now) p ≡ true) }
+{
+    match order {
+        Order::ByTurns(turns) => turns.next(machine.running()),
+        Order::Alone(p) => {
+            if machine.is_running(*p) {
+                Some(*p)
+            } else {
+                None
+            }
+        }
+    }
+}
+
+/// Why turns end where no process has the next one.
+fn rest(order: &Order) -> Stop
+    ensures { result ≡ rest_of order.now }
+{
+    match order {
+        Order::ByTurns(_) => Stop::Idle,
+        Order::Alone(_) => Stop::Ended,
+    }
+}
+
+/// The ending that holds, if one does.
+pub(crate) fn ending(machine: &Machine, running: &Running) -> Option<Stop>
+    ensures { result ≡ ending (wholes machine.now) running.now.run }
+{
+    match next(machine, running.order()) {
+        None => Some(rest(running.order())),
+        Some(_) => {
+            if running.has_left() {
+                None
+            } else {
+                Some(Stop::Limit)
+            }
+        }
+    }
+}
+
+/// Counts a turn of a process, and finds the ending that holds then. One for which there weren't units enough isn't counted, and
+/// ends the run.
+fn end_turn(machine: &Machine, running: &mut Running, p: u16, turn: &Turn)
+    requires { running.old.run.taken < running.old.run.turns }
+    ensures { running.new ≡ run_turned turn.now p (wholes machine.now) running.old.run }
+{
+    match turn {
+        Turn::Full(_, _) => running.set_stop(Some(Stop::Full)),
+        Turn::Stepped | Turn::Wrote(_) | Turn::Exited(_) | Turn::Faulted(_, _) => {
+            running.took(p);
+            let stop = ending(machine, running);
+            running.set_stop(stop);
+        }
+    }
+}
+
+/// Takes the next turn. None exactly where an ending was found before, or one holds; then no turn is taken.
+pub(crate) fn next_turn(machine: &mut Machine, running: &mut Running) -> Option<(u16, Turn)>
+    requires { OwnSpaces machine.old }
+    ensures turn { TakesTurn (wholes machine.old) running.old result (wholes machine.new) running.new }
+    ensures kept { KeepsPlaces machine.old machine.new }
+    ensures free { KeepsFree machine.old machine.new }
+{
+    match running.stop() {
+        Some(_) => return None,
+        None => {}
+    }
+    match ending(machine, running) {
+        Some(stop) => {
+            running.set_stop(Some(stop));
+            return None;
+        }
+        None => {}
+    }
+    match next(machine, running.order()) {
+        None => None,
+        Some(p) => {
+            let turn = machine.event(p);
+            end_turn(machine, running, p, &turn);
+            Some((p, turn))
+        }
+    }
+}
+
+/// Takes turns of a run of which no ending was found, until one has a line, which it sets, and answers true; or until the run
+/// has ended.
+fn quiet_turns(machine: &mut Machine, running: &mut Running, line: &mut Line) -> bool
+    requires spaces { OwnSpaces machine.old }
+    requires goes { running.old.stop ≡ None }
+    ensures says { result ≡ true →
+        Speaks (wholes machine.old) running.old line.new.items (wholes machine.new) running.new }
+    ensures ends { result ≡ false →
+        EndsRun (wholes machine.old) running.old (wholes machine.new) running.new }
+    ensures fewer { result ≡ true → lines_left running.new < lines_left running.old }
+    ensures asked { running.new.run.turns ≡ running.old.run.turns }
+    ensures within { running.new.run.taken ≤ running.new.run.turns }
+    ensures kept { KeepsPlaces machine.old machine.new }
+    ensures free { KeepsFree machine.old machine.new }
+{
+    'quiet: while running.has_left() {
+        match next(machine, running.order()) {
+            None => break,
+            Some(p) => {
+                if take_turns(machine, running, p, line) {
+                    return true;
+                }
+            }
+        }
+    }
+    let stop = ending(machine, running);
+    running.set_stop(stop);
+    false
+}
+
+/// Takes turns until one has a line, which it sets, and answers true; or until the run has ended. Where an ending was found
+/// before, nothing changes.
+pub(crate) fn turns_to_line(machine: &mut Machine, running: &mut Running, line: &mut Line) -> bool
+    requires { OwnSpaces machine.old }
+    ensures says { result ≡ true →
+        Speaks (wholes machine.old) running.old line.new.items (wholes machine.new) running.new }
+    ensures ends { result ≡ false →
+        EndsRun (wholes machine.old) running.old (wholes machine.new) running.new }
+    ensures fewer { result ≡ true → lines_left running.new < lines_left running.old }
+    ensures asked { running.new.run.turns ≡ running.old.run.turns }
+    ensures within { running.new.run.taken ≤ running.new.run.turns }
+    ensures kept { KeepsPlaces machine.old machine.new }
+    ensures free { KeepsFree machine.old machine.new }
+{
+    if running.has_ended() {
+        return false;
+    }
+    quiet_turns(machine, running, line)
+}
