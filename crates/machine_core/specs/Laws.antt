@@ -121,14 +121,6 @@ answers f machine result same is state stands = is ∙ same (wholes machine) sta
 pub leads : (f : Wholes → Wholes) (old new : Machine) → ((a b : Wholes) → AreLike a b → AreLike (f a) (f b)) → wholes new ≡ f (wholes old) → LeadsTo f old new
 leads f old new like is state stands = subst (λ (a : Wholes). AreLike a (f state)) (sym is) (like (wholes old) state stands)
 
--- the same where the new state is but like it
-pub leads_to : (f : Wholes → Wholes) (old new : Machine) → ((a b : Wholes) → AreLike a b → AreLike (f a) (f b)) → AreLike (wholes new) (f (wholes old)) → LeadsTo f old new
-leads_to f old new like is state stands = like_chain (wholes new) (f (wholes old)) (f state) is (like (wholes old) state stands)
-
--- what is read off the processes alone
-pub of_processes : {Answer : Type 0} (f : Processes → Answer) (a b : Wholes) → AreLike a b → f a.processes ≡ f b.processes
-of_processes f a b like = ap f like.processes
-
 pub like_without : (p : ℕ) (a b : Wholes) → AreLike a b → AreLike (without_process p a) (without_process p b)
 like_without p a b like = record { processes = ap (λ (ps : Processes). remove ps p) like.processes; ledger = like.ledger; frames = like.frames }
 

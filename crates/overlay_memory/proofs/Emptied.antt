@@ -6,7 +6,7 @@ use Rattle.std.specs.FinMap.{FinMap, empty, get, get-empty, insert, len, len-ins
 use Rattle.number_maps.specs.Cuts.{insert_removed}
 use Rattle.number_maps.specs.Keys.{alike, by_key, get_other, insert_kept, removed_other, removed_same}
 use Rattle.overlay_pages.specs.State.{PageState, SpaceState, State}
-use Rattle.overlay_memory.specs.Pieces.{IsEmptied, LosesSome, emptied_space}
+use Rattle.overlay_memory.specs.Pieces.{IsEmptied, emptied_space}
 use Rattle.space_maps.specs.Laws.{page_of, put_there, space_over, space_put, space_there}
 use Rattle.space_maps.specs.Spaces.{cut_page, cut_pages, cut_space, holds_space, of_pages, page_in, put_space, space_in}
 
@@ -71,8 +71,8 @@ unfolding cut_pages
 emptying_pages zero from old now s so_far = so_far
 emptying_pages (suc k) from old now s so_far = emptying_page old (cut_pages now s from k) s (from + k) (emptying_pages k from old now s so_far)
 
-pub emptying_more : (old now next : State) (s p : ℕ) → IsEmptying old now s → LosesSome now next s p → IsEmptying old next s
-emptying_more old now next s p so_far loses = subst (λ w. IsEmptying old w s) (sym loses.is) (emptying_pages loses.count p old now s so_far)
+pub emptying_more : (old now next : State) (s p n : ℕ) → IsEmptying old now s → next ≡ cut_pages now s p n → IsEmptying old next s
+emptying_more old now next s p n so_far gone = subst (λ w. IsEmptying old w s) (sym gone) (emptying_pages n p old now s so_far)
 
 -- there are fewer pages
 no_more : (v : State) (s p : ℕ) → len (space_in (cut_page v s p) s).pages ≤ len (space_in v s).pages
@@ -105,20 +105,9 @@ fewer_pages zero v s p there =
     subst (λ q. len (space_in (cut_page v s q) s).pages < len (space_in v s).pages) (sym start) (one_less v s p there)
 fewer_pages (suc k) v s p there = let before = fewer_pages k v s p there in let last = no_more (cut_pages v s p (suc k)) s (p + suc k) in omega (arith, before, last)
 
-pub fewer : (now next : State) (s p : ℕ) → LosesSome now next s p → IsSome (page_in now s p) → len (space_in next s).pages < len (space_in now s).pages
-fewer now next s p loses there = by_count loses.count loses.some loses.is
-  where
-    by_count : (n : ℕ) → 0 < n → next ≡ cut_pages now s p n → len (space_in next s).pages < len (space_in now s).pages
-    by_count zero some is = absurd (omega (arith, some))
-    by_count (suc k) some is = subst (λ w. len (space_in w s).pages < len (space_in now s).pages) (sym is) (fewer_pages k now s p there)
-
--- what goes in one step
-one_page : (v : State) (s p : ℕ) → cut_page v s p ≡ cut_pages v s p 1
-unfolding cut_pages
-one_page v s p = let start : p ≡ p + 0 = omega arith in ap (cut_page v s) start
-
-pub loses_one : (v next : State) (s p : ℕ) → next ≡ cut_page v s p → LosesSome v next s p
-loses_one v next s p is = record { count = 1; some = omega arith; is = is ∙ one_page v s p }
+pub fewer : (now next : State) (s p n : ℕ) → next ≡ cut_pages now s p n → 0 < n → IsSome (page_in now s p) → len (space_in next s).pages < len (space_in now s).pages
+fewer now next s p zero is some there = absurd (omega (arith, some))
+fewer now next s p (suc k) is some there = subst (λ w. len (space_in w s).pages < len (space_in now s).pages) (sym is) (fewer_pages k now s p there)
 
 none_left : (v : State) (s : ℕ) → ((q : ℕ) → 0 ≤ q → page_in v s q ≡ None) → (space_in v s).pages ≡ empty
 none_left v s none = alike _ _ (λ q. sym (page_of v s q) ∙ none q (omega arith) ∙ sym (get-empty {X = PageState} nat_cmp q))

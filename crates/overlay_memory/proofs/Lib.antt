@@ -9,5 +9,6 @@ pub mod Bringing
 pub mod Joining
 pub mod Stored
 pub mod Emptied
+pub mod Unmapping
 pub mod InOne
 pub mod InTwo

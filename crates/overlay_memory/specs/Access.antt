@@ -11,7 +11,7 @@ use Rattle.page_table.specs.declared.entry.PageEntry.{PageEntry}
 use Rattle.overlay_pages.specs.Lines.{lines_of_bytes}
 use Rattle.overlay_pages.specs.State.{State, base_of, books, memory_of}
 use Rattle.overlay_pages.specs.Changes.{IsPlaced, limit_of, units_of, whole_page}
-use Rattle.overlay_pages.specs.Calls.{entries_in}
+use Rattle.overlay_pages.specs.Calls.{AreMapped, entries_in}
 use Rattle.overlay_pages.specs.View.{MemoryView, state_of}
 use Rattle.overlay_pages.specs.Spots.{FindsLine, IsFound, IsFoundAt}
 use Rattle.overlay_pages.specs.declared.spots.FoundLine.{FoundLine}
@@ -20,7 +20,7 @@ use Rattle.overlay_memory.specs.declared.error.MemoryError.{MemoryError}
 use Rattle.overlay_memory.specs.declared.error.MemoryError.TheVariants.{Unmapped, Forbidden, Full}
 use Rattle.overlay_memory.specs.declared.error.SpaceError.{SpaceError}
 use Rattle.overlay_memory.specs.declared.error.SpaceError.TheVariants as refused
-use Rattle.space_maps.specs.Spaces.{holds_space, space_in}
+use Rattle.space_maps.specs.Spaces.{holds_space, page_in, space_in}
 
 -- How reads and stores come out.
 
@@ -95,3 +95,9 @@ Places old new space page entry bytes (Ok done) =
 Places old new space page entry bytes (Err (refused.Full needed limit)) = IsFullAt old new (units_of (state_of old) + FRAME_UNITS) needed limit
 Places old new space page entry bytes (Err refused.Memory) =
     (units_of (state_of old) + FRAME_UNITS ≤ limit_of (state_of old)) × (state_of new ≡ state_of old)
+
+-- the least of the n pages from `from` on that isn't there, or that all are
+abbrev pub IsFirstAbsent : State → ℕ → ℕ → ℕ → Option ℕ → Type 0
+IsFirstAbsent state space from n None = AreMapped state space from n
+IsFirstAbsent state space from n (Some found) =
+    (from ≤ found) × (found < from + n) × (page_in state space found ≡ None) × ((q : ℕ) → from ≤ q → q < found → IsSome (page_in state space q))

@@ -12,7 +12,7 @@ use Rattle.overlay_pages.specs.declared.spots.FoundLine.{FoundLine}
 use Rattle.overlay_memory.specs.Access.{IsFoundIn, IsUntouched}
 use Rattle.overlay_memory.specs.declared.error.MemoryError.{MemoryError}
 use Rattle.overlay_memory.specs.declared.error.MemoryError.TheVariants.{Unmapped, Forbidden, Full}
-use Rattle.space_maps.specs.Spaces.{cut_pages, cut_space, holds_space, of_pages, page_in, put_space, space_in}
+use Rattle.space_maps.specs.Spaces.{cut_space, holds_space, of_pages, page_in, put_space, space_in}
 
 -- What reads and stores come to, piece by piece.
 
@@ -75,12 +75,6 @@ pub record IsFilled (old new : State) (space address : ℕ) (bytes : List ℕ) :
 -- a space without its pages; its mark stays
 unfoldable pub emptied_space : State → ℕ → State
 emptied_space state space = put_space state space (of_pages (space_in state space) map.empty)
-
--- a space lost one or more pages from one on
-pub record LosesSome (old new : State) (space page : ℕ) : Type 0 where
-  pub count : ℕ
-  pub some : 0 < count
-  pub is : new ≡ cut_pages old space page count
 
 -- a space lost its pages, and is still there; without it, all is as it would have been before
 pub record IsEmptied (old new : State) (space : ℕ) : Type 0 where

@@ -8,16 +8,16 @@ ghost use Rattle.sizes.specs.declared.TheConstants.{LAST_SPACE, LINE_BYTES, MOST
 ghost use Rattle.ovl_io.specs.Memory.{bytes_at};
 ghost use Rattle.ledger.specs.Ledger.{is_alone};
 ghost use Rattle.ledger.specs.Units.{own_lines};
-ghost use Rattle.space_maps.specs.Spaces.{bare_space, cut_space, holds_space, page_in, put_awaiting, put_mark, put_space, space_in, turned_page};
+ghost use Rattle.space_maps.specs.Spaces.{bare_space, cut_pages, cut_space, holds_space, page_in, put_awaiting, put_mark, put_space, space_in, turned_page};
 ghost use Rattle.space_ledger.specs.Space.{IsLeast};
 ghost use Rattle.space_ledger.specs.Calls.{IsNextOwn, NamesOnce};
 ghost use Rattle.overlay_pages.specs.Lines.{line_in_page};
 ghost use Rattle.overlay_pages.specs.State.{books, memory_of};
 ghost use Rattle.overlay_pages.specs.Changes.{AreAbsent, Fits, HasCopyRoom, HasShareRoom, IsPlaced, committed, copied, discarded, is_writable, limit_of, units_of, with_shared, with_written, with_zeros};
 ghost use Rattle.overlay_pages.specs.View.{HasOwnPlace, IsJoined, place_at, state_of};
-ghost use Rattle.overlay_pages.specs.Calls.{AreShared, AreZeros, AwaitBare, AwaitsLike, IsEmptyState, IsNextPage, NoneAwaitsBelow, entries_in, with_line_at_place};
-ghost use Rattle.overlay_memory.specs.Access.{FindsIn, IsFoundIn, KeepsFound, Places, Reads, Stores};
-ghost use Rattle.overlay_memory.specs.Pieces.{IsEmptied, LosesSome, emptied_space};
+ghost use Rattle.overlay_pages.specs.Calls.{AreMapped, AreShared, AreZeros, AwaitBare, AwaitsLike, HasSettledBlocks, IsEmptyState, IsNextPage, KeepsWholeBlocks, NoneAwaitsBelow, entries_in, with_line_at_place};
+ghost use Rattle.overlay_memory.specs.Access.{FindsIn, IsFirstAbsent, IsFoundIn, KeepsFound, Places, Reads, Stores};
+ghost use Rattle.overlay_memory.specs.Pieces.{IsEmptied, emptied_space};
 ghost use Rattle.overlay_memory.specs.Room.{FallsShort};
 ghost use Rattle.overlay_memory.specs.contracts.memory.OverlayMemory.{the_row};
 
@@ -104,6 +104,22 @@ impl OverlayMemory {
         ensures { state_of self.new ≡ emptied_space (state_of self.old) space }
     {
         remove_pages(&mut self.pages, space);
+    }
+
+    /// Takes away the `n` pages from `page` on, which are all there, with their overlays. No page of the space awaits. Takes no memory.
+    /// Costs a few look-ups for each run of pages on the zero frame without own lines, and for each other page.
+    pub fn unmap(&mut self, space: u16, page: u64, n: u32)
+        requires there { AreMapped (state_of self.old) space page n }
+        requires settled { (space_in (state_of self.old) space).awaiting ≡ map.empty }
+        ensures { state_of self.new ≡ cut_pages (state_of self.old) space page n }
+    {
+        let mut at = page;
+        let mut left = n;
+        'unmapping: while left > 0 {
+            let gone = remove_some(&mut self.pages, space, at, left);
+            at += u64::from(gone);
+            left -= gone;
+        }
     }
 
     /// Maps `n` pages from `page` on, which aren't there, on the zero frame and without own lines. After want of memory
@@ -316,6 +332,17 @@ impl OverlayMemory {
         self.pages.share_bare(from, to, until);
     }
 
+    /// Makes moves until no two free blocks below a frame are equal in size. No view and no units change; frames and segments of
+    /// 4 KiB stay where they are. Takes no memory. Costs a copy of each line of what moves, in at most as many moves as there are
+    /// free blocks.
+    pub fn compact(&mut self)
+        ensures state { state_of self.new ≡ state_of self.old }
+        ensures settled { HasSettledBlocks self.new }
+        ensures whole { KeepsWholeBlocks self.old self.new }
+    {
+        self.pages.compact();
+    }
+
     /// A table with the entries of a space's pages, of which none awaits, or want of memory. Costs a step for each page.
     pub fn copy_table(&mut self, from: u16, to: u16) -> Result<PageTable, AllocError>
         requires there { holds_space (state_of self.old) from ≡ true }
@@ -354,6 +381,25 @@ impl OverlayMemory {
         ensures { IsNextPage (state_of self.now) space page result }
     {
         self.pages.next_page(space, page)
+    }
+
+    /// The least of the `n` pages from one on that isn't there. None exactly where all are. Pages end at 2^26, and no page of the space
+    /// awaits. Costs a look-up for each run of pages.
+    pub fn first_absent(&self, space: u16, page: u64, n: u32) -> Option<u64>
+        requires settled { (space_in (state_of self.now) space).awaiting ≡ map.empty }
+        requires low { page + n ≤ PAGE_END }
+        ensures { IsFirstAbsent (state_of self.now) space page n result }
+    {
+        let end = page + u64::from(n);
+        let mut at = page;
+        'going: while at < end {
+            let there = self.pages.pages_from(space, at);
+            if there == 0 {
+                return Some(at);
+            }
+            at += u64::from(there);
+        }
+        None
     }
 
     /// How many pages from one on are there, on the zero frame and without own lines: at least those that lie in one run with it. No
@@ -465,22 +511,27 @@ fn remove_pages(pages: &mut OverlayPages, space: u16)
     ensures { IsEmptied (state_of pages.old) (state_of pages.new) space }
 {
     'removing: while let Some(page) = pages.next_page(space, 0) {
-        remove_from(pages, space, page);
+        remove_some(pages, space, page, u32::MAX);
     }
 }
 
-/// Takes away a page that is there. Where it is on the zero frame and has no own lines, those like it that lie in one run with it go in
-/// the same step.
-fn remove_from(pages: &mut OverlayPages, space: u16, page: u64)
+/// Takes away a page that is there, and maybe pages behind it that are there, `most` at most in all: where it is on the zero frame and has
+/// no own lines, those like it that lie in one run with it go in the same step. Answers how many went.
+fn remove_some(pages: &mut OverlayPages, space: u16, page: u64, most: u32) -> u32
     requires space { holds_space (state_of pages.old) space ≡ true }
     requires settled { (space_in (state_of pages.old) space).awaiting ≡ map.empty }
     requires there { IsSome (page_in (state_of pages.old) space page) }
-    ensures { LosesSome (state_of pages.old) (state_of pages.new) space page }
+    requires room { 0 < most }
+    ensures gone { state_of pages.new ≡ cut_pages (state_of pages.old) space page result }
+    ensures some { 0 < result }
+    ensures few { result ≤ most }
+    ensures low { page + result ≤ PAGE_END }
 {
-    let zeros = pages.zeros_from(space, page);
+    let zeros = pages.zeros_from(space, page).min(most);
     if zeros == 0 {
         pages.remove_page(space, page);
-    } else {
-        pages.remove_zeros(space, page, zeros);
+        return 1;
     }
+    pages.remove_zeros(space, page, zeros);
+    zeros
 }

@@ -1,4 +1,4 @@
-use Rattle.std.specs.Prelude.{◌≡◌, ℕ, zero, suc, ◌+◌, ◌<◌, ◌≤◌, ◌||◌, Bool, true, false, cond, nat_eq, [], length, Option, Some, None, is_some, refl}
+use Rattle.std.specs.Prelude.{◌≡◌, ℕ, zero, suc, ◌+◌, ◌<◌, ◌≤◌, ◌||◌, Bool, true, false, cond, nat_eq, [], length, Option, Some, None, IsSome, is_some, refl}
 use Rattle.std.proofs.Common.{sym, ap, ◌∙◌, arith}
 use Rattle.std.proofs.lemmas.Bool.Decides.{nat_tests}
 use Rattle.std.specs.Option.{option_and_then, option_map, option_map_or}
@@ -11,10 +11,10 @@ use Rattle.space_maps.specs.Laws.{after_cut, are_cut}
 use Rattle.space_maps.specs.Spaces.{cut_page, cut_pages, holds_space, page_in, put_space}
 use Rattle.space_ledger.specs.View.{LedgerView, PageView, frame_at, holding_of, ledger_of, lines_of, origin_of, overlay_at}
 use Rattle.space_ledger.specs.Calls as calls
-use Rattle.overlay_pages.specs.Calls.{AreZeros, zero_holding}
+use Rattle.overlay_pages.specs.Calls.{AreMapped, AreZeros, zero_holding}
 use Rattle.overlay_pages.specs.State.{State}
-use Rattle.overlay_pages.specs.View.{IsJoined, MemoryView, state_of, view_of}
-use Rattle.overlay_pages.specs.ViewLaws.{state_books}
+use Rattle.overlay_pages.specs.View.{IsJoined, MemoryView, page_state, state_of, view_of}
+use Rattle.overlay_pages.specs.ViewLaws.{state_books, state_page, state_page_some}
 use Rattle.overlay_pages.proofs.Leaving.{leaves_none, left_joined, left_state}
 
 -- Pages on the zero frame, without own lines, that go.
@@ -64,13 +64,27 @@ pub zeros_table : (view : MemoryView) (s from n : ℕ) → IsJoined view → Are
 zeros_table view s from n is zeros i less = zero_held view s (from + i) is (ap (λ (l : Ledger). holding_at l s (from + i)) (sym (state_books view)) ∙ zeros i less)
 
 -- pages go no further than pages may
-pub zeros_low : (view : MemoryView) (s from n : ℕ) → IsJoined view → calls.AreZeros view.table s from n → 0 < n → from + n ≤ PAGE_END
-zeros_low view s from zero is zeros some = absurd (omega (arith, some))
-zeros_low view s from (suc k) is zeros some = at (page_in view.table s (from + k)) refl (zeros k (omega arith)).0
+pub mapped_low : (view : MemoryView) (s from n : ℕ) → IsJoined view → calls.AreThere view.table s from n → 0 < n → from + n ≤ PAGE_END
+mapped_low view s from zero is there some = absurd (omega (arith, some))
+mapped_low view s from (suc k) is there some = at (page_in view.table s (from + k)) refl (there k (omega arith))
   where
-    at : (o : Option PageView) → page_in view.table s (from + k) ≡ o → option_map (λ (x : PageView). x.entry.frame) o ≡ Some view.table.zero_frame → from + suc k ≤ PAGE_END
-    at None there h = let no = ap is_some h in cc
-    at (Some x) there h = let low = (is.held s (from + k) x there).low in omega (arith, low)
+    at : (o : Option PageView) → page_in view.table s (from + k) ≡ o → IsSome (page_in view.table s (from + k)) → from + suc k ≤ PAGE_END
+    at None absent h = let no = sym h ∙ ap is_some absent in cc
+    at (Some x) found h = let low = (is.held s (from + k) x found).low in omega (arith, low)
+
+pub zeros_low : (view : MemoryView) (s from n : ℕ) → IsJoined view → calls.AreZeros view.table s from n → 0 < n → from + n ≤ PAGE_END
+zeros_low view s from n is zeros = mapped_low view s from n is (λ i less. some (page_in view.table s (from + i)) (zeros i less).0)
+  where
+    some : (o : Option PageView) → option_map (λ (x : PageView). x.entry.frame) o ≡ Some view.table.zero_frame → IsSome o
+    some None h = let no = ap is_some h in cc
+    some (Some x) h = refl
+
+-- pages of the tables are pages of the state
+pub mapped_state : (view : MemoryView) (s from n : ℕ) → calls.AreThere view.table s from n → AreMapped (state_of view) s from n
+mapped_state view s from n there i less = state_page_some view s (from + i) ∙ there i less
+
+pub none_state : (view : MemoryView) (s p : ℕ) → page_in view.table s p ≡ None → page_in (state_of view) s p ≡ None
+none_state view s p none = state_page view s p ∙ ap (option_map (page_state view.store)) none
 
 cut_zero : (v : LedgerView) (s p : ℕ) → (cut_page v s p).zero_frame ≡ v.zero_frame
 unfolding cut_page put_space

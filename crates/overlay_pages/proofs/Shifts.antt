@@ -5,7 +5,6 @@ use Rattle.std.proofs.lemmas.Bool.Decides.{nat_tests}
 use Rattle.std.specs.Option.{option_and_then, option_map, option_map_or}
 use Rattle.unit_map.specs.Pieces.{free_at, free_units, units_in}
 use Rattle.unit_map.specs.Laws.{by_order, within as inside_piece}
-use Rattle.store_compaction.specs.Next.{IsRoomMove}
 use Rattle.unit_map.specs.declared.block.Block.{Block}
 use Rattle.store_compaction.specs.declared.moves.Move.{Move}
 use Rattle.overlay_bits.specs.Lines.{has_line}
@@ -18,13 +17,13 @@ use Rattle.ledger.specs.Units.{class, units}
 use Rattle.segment_store.specs.declared.segment.Segment.{Segment}
 use Rattle.segment_store.specs.Kept.{IsStore}
 use Rattle.segment_store.specs.Store.{Store, IsFrame, frame_line, frame_place, line_in, place_of, segment_at}
-use Rattle.segment_store.specs.Changes.{KeepsFrames, KeepsScratch, MakesMove}
+use Rattle.segment_store.specs.Changes.{KeepsFrames, MakesMove}
 use Rattle.space_maps.specs.Laws.{KeepsSpaces, changed_there, keeps_page_set, keeps_still, keeps_twice, page_set_beside, page_set_here, set_some, spaces_alike, there_space}
 use Rattle.space_maps.specs.Spaces.{holds_space, page_in, set_page}
 use Rattle.space_ledger.specs.View.{LedgerView, PageView, ledger_of, lines_of, overlay_at, with_block}
 use Rattle.overlay_pages.specs.LineLaws.{lines_same}
 use Rattle.overlay_pages.specs.State.{books}
-use Rattle.overlay_pages.specs.Steps.{IsOfPage, Moved, relocated}
+use Rattle.overlay_pages.specs.Steps.{HasMoved, IsOfPage, Moved, relocated}
 use Rattle.overlay_pages.specs.View.{IsHeld, IsJoined, IsOwned, line_seen, page_state, place_in_page, segment_of, state_of, view_of}
 use Rattle.overlay_pages.specs.ViewLaws.{state_books, state_page}
 use Rattle.overlay_pages.proofs.Steps.{names_apart, overlay_lines, state_keeps}
@@ -458,8 +457,8 @@ module _ (was new : Store) (old now : LedgerView) (m : Move) (is : IsJoined (vie
       same_units = ap units (sym (state_books (view_of new now)) ∙ ap books moved_state ∙ state_books (view_of was old))
 
 -- The block to which a move goes lies inside.
-pub target_inside : (was : Store) (m : Move) (order : ℕ) → IsStore was → IsRoomMove was.blocks order m → m.to + 2 ^ m.order ≤ units_in was.blocks
-target_inside was m order is can = inside_piece was.blocks is.pieces (free_at m.to m.order) can.2.there
+pub target_inside : (was new : Store) (table : LedgerView) (m : Move) → HasMoved was new table m → m.to + 2 ^ m.order ≤ units_in was.blocks
+target_inside was new table m made = inside_piece was.blocks made.joined.store.pieces (free_at m.to m.order) made.can.there
 
 -- before a unit is gone through, the segment there is that of an overlaid page
 pub before_relocate : (was new : Store) (old now : LedgerView) (m : Move) (i : ℕ) → IsJoined (view_of was old) → MakesMove was new m → Shifted m.from m.to i old now → i < 2 ^ m.order
@@ -483,14 +482,15 @@ pub shifted_count : (order : ℕ) → order < 4 → 1 * 2 ^ order % 4294967296 �
 shifted_count order h = by_order (λ k. 1 * 2 ^ k % 4294967296 ≡ 2 ^ k) refl refl refl refl refl order (omega (arith, h))
 
 -- the move was made, and all blocks are there
-pub all_relocated : (was new : Store) (old now : LedgerView) (m : Move) (i : ℕ) → IsJoined (view_of was old) → MakesMove was new m → KeepsFrames was new → KeepsScratch was new
-    → free_units new.blocks ≡ free_units was.blocks → units_in new.blocks ≡ units_in was.blocks → IsStore new → Shifted m.from m.to i old now → i ≡ 2 ^ m.order → Moved (view_of was old) (view_of new now)
-all_relocated was new old now m i is moves frames scratch free whole store so all =
+pub all_relocated : (was new : Store) (old now : LedgerView) (m : Move) (i : ℕ) → HasMoved was new old m → Shifted m.from m.to i old now → i ≡ 2 ^ m.order
+    → Moved (view_of was old) (view_of new now)
+all_relocated was new old now m i made so all =
     let done : Shifted m.from m.to (2 ^ m.order) old now = subst (λ n. Shifted m.from m.to n old now) all so in
     record {
-      joined = moved_joined was new old now m is moves frames done store whole free;
-      state = moved_state was new old now m is moves frames done;
-      free = free;
-      scratch = scratch;
-      frames = frames;
+      joined = moved_joined was new old now m made.joined made.moves made.frames done made.store made.units made.free;
+      state = moved_state was new old now m made.joined made.moves made.frames done;
+      free = made.free;
+      scratch = made.scratch;
+      frames = made.frames;
+      whole = made.whole;
     }

@@ -8,7 +8,9 @@ use Rattle.ledger.specs.Changes.{has_own}
 use Rattle.ledger.specs.Events.{Store, ledger_after}
 use Rattle.ledger.specs.Ledger.{Holding, holding_at}
 use Rattle.ledger.specs.Units.{units}
+use Rattle.unit_map.specs.Pieces.{AreSettled}
 use Rattle.segment_store.specs.Store.{with_line_at}
+use Rattle.segment_store.specs.Changes.{KeepsFrames, WholeSegmentsStay}
 use Rattle.space_maps.specs.Spaces.{page_in, space_in}
 use Rattle.space_ledger.specs.Space.{IsLeast}
 use Rattle.overlay_pages.specs.State.{PageState, State, books}
@@ -23,11 +25,24 @@ pub record IsEmptyState (frames : ℕ) (state : State) : Type 0 where
   pub count : state.frames ≡ frames
   pub zero : state.zero_frame < frames
 
+-- no two free blocks below a frame are equal in size
+abbrev pub HasSettledBlocks : MemoryView → Type 0
+HasSettledBlocks v = AreSettled v.store.blocks
+
+-- frames that are taken and segments of 16 units stay where they are, with their lines
+pub record KeepsWholeBlocks (old new : MemoryView) : Type 0 where
+  pub frames : KeepsFrames old.store new.store
+  pub segments : WholeSegmentsStay old.store new.store
+
 -- the least page of a space not below one, or that there is none
 abbrev pub IsNextPage : State → ℕ → ℕ → Option ℕ → Type 0
 IsNextPage state space page None = (q : ℕ) → page ≤ q → page_in state space q ≡ None
 IsNextPage state space page (Some found) =
     (page ≤ found) × IsSome (page_in state space found) × ((q : ℕ) → page ≤ q → q < found → page_in state space q ≡ None)
+
+-- the n pages from `from` on are there
+abbrev pub AreMapped : State → ℕ → ℕ → ℕ → Type 0
+AreMapped state space from n = (i : ℕ) → i < n → IsSome (page_in state space (from + i))
 
 -- what the ledger has of a page on the zero frame without own lines
 abbrev pub zero_holding : Holding

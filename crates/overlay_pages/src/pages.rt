@@ -19,10 +19,10 @@ ghost use Rattle.overlay_pages.specs.State.{base_of, books, memory_of};
 ghost use Rattle.overlay_pages.specs.Changes.{AreAbsent, Fits, HasCopyRoom, HasShareRoom, IsPlaced, brought, committed, copied, discarded, is_writable, limit_of, units_of, whole_page, with_brought, with_shared, with_written, with_zeros};
 ghost use Rattle.overlay_pages.specs.View.{HasOwnPlace, IsJoined, place_at, state_of};
 ghost use Rattle.overlay_pages.specs.Spots.{FindsLine, IsFound};
-ghost use Rattle.overlay_pages.specs.Calls.{AreShared, AreZeros, AwaitBare, AwaitsLike, IsEmptyState, IsNextPage, NoneAwaitsBelow, RisesBy, entries_in, with_line_at_place};
+ghost use Rattle.overlay_pages.specs.Calls.{AreMapped, AreShared, AreZeros, AwaitBare, AwaitsLike, HasSettledBlocks, IsEmptyState, IsNextPage, KeepsWholeBlocks, NoneAwaitsBelow, RisesBy, entries_in, with_line_at_place};
 ghost use Rattle.overlay_pages.specs.contracts.pages.OverlayPages.{the_row};
 
-use crate::moving::make_room;
+use crate::moving::{compact, make_room};
 use crate::overlays::{bring_lines, drop_overlay};
 use crate::placing::{place_bytes, take_out};
 use crate::settling::{commit, copy_commit};
@@ -158,10 +158,22 @@ impl OverlayPages {
     pub fn remove_page(&mut self, space: u16, page: u64)
         requires there { IsSome (page_in (state_of self.old) space page) }
         requires settled { (space_in (state_of self.old) space).awaiting ≡ map.empty }
-        ensures { state_of self.new ≡ cut_page (state_of self.old) space page }
+        ensures gone { state_of self.new ≡ cut_page (state_of self.old) space page }
+        ensures low { page < PAGE_END }
     {
         drop_overlay(&mut self.store, &mut self.ledger, space, page);
         take_out(&mut self.store, &mut self.ledger, space, page);
+    }
+
+    /// How many pages from one on are there: none exactly where it isn't, and at least those that lie in one run with it. No page of the
+    /// space awaits. Costs a look-up.
+    pub fn pages_from(&self, space: u16, page: u64) -> u32
+        requires { (space_in (state_of self.now) space).awaiting ≡ map.empty }
+        ensures there { AreMapped (state_of self.now) space page result }
+        ensures none { result ≡ 0 → page_in (state_of self.now) space page ≡ None }
+        ensures low { 0 < result → page + result ≤ PAGE_END }
+    {
+        self.ledger.pages_from(space, page)
     }
 
     /// How many pages from one on are there, on the zero frame and without own lines: at least those that lie in one run with it. No
@@ -482,6 +494,17 @@ impl OverlayPages {
         ensures { state_of self.new ≡ turned_page discarded (state_of self.old) space page }
     {
         drop_overlay(&mut self.store, &mut self.ledger, space, page);
+    }
+
+    /// Makes moves until no two free blocks below a frame are equal in size. No page changes, and so no units do; frames and
+    /// segments of 16 units stay where they are. Takes no memory. Costs a copy of each line of what moves, in at most as
+    /// many moves as there are free blocks.
+    pub fn compact(&mut self)
+        ensures state { state_of self.new ≡ state_of self.old }
+        ensures settled { HasSettledBlocks self.new }
+        ensures whole { KeepsWholeBlocks self.old self.new }
+    {
+        compact(&mut self.store, &mut self.ledger);
     }
 
     /// A table with the entries of a space's pages, of which none awaits, or want of memory. Costs a step for each page.

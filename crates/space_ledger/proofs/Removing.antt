@@ -1,4 +1,4 @@
-use Rattle.std.specs.Prelude.{◌≡◌, ℕ, zero, suc, ◌+◌, ◌-◌, ◌≤◌, ◌<◌, ◌||◌, Bool, true, false, not, cond, nat_eq, nat_le, List, Option, Some, None, is_some, IsSome, refl}
+use Rattle.std.specs.Prelude.{◌≡◌, ℕ, zero, suc, ◌+◌, ◌-◌, ◌≤◌, ◌<◌, ◌||◌, Bool, true, false, not, cond, nat_eq, nat_le, nat_lt, List, Option, Some, None, is_some, IsSome, refl}
 use Rattle.std.proofs.Common.{sym, ap, subst, ◌∙◌, arith}
 use Rattle.std.proofs.lemmas.Bool.Decides.{nat_tests}
 use Rattle.std.specs.Option.{option_and_then, option_map, option_map_or}
@@ -18,7 +18,7 @@ use Rattle.space_ledger.specs.declared.tables.Tables.TheInside.{Inside}
 use Rattle.space_ledger.specs.Space.{SpaceTable, IsCounted, pages_below, pages_from, without_page, without_pages}
 use Rattle.space_ledger.specs.Frames.{frame_units, released_by}
 use Rattle.space_ledger.specs.View.{LedgerView, PageView, frame_at, overlay_at}
-use Rattle.space_ledger.specs.Calls.{AreBare, AreZeros, IsBooked, IsNextOverlaid, entries_of}
+use Rattle.space_ledger.specs.Calls.{AreBare, AreThere as ArePagesThere, AreZeros, IsBooked, IsNextOverlaid, entries_of}
 use Rattle.space_ledger.proofs.Parts.{all_inside, from_at, in_table, same_space}
 use Rattle.space_ledger.proofs.Seen.{Shows, entry_there, there_is, with_spaces}
 use Rattle.space_ledger.proofs.TableOps.{shown_gone, shown_still}
@@ -186,3 +186,33 @@ zeros_of_run v s page run few many first fits inside start on_zero bare i less =
     framed : (o : Option PageView) (e : PageEntry) → option_map (λ (x : PageView). x.entry) o ≡ Some e → option_map (λ (x : PageView). x.entry.frame) o ≡ Some e.frame
     framed None e h = let no = ap is_some h in cc
     framed (Some x) e h = ap (λ (o : Option PageEntry). option_map (λ (k : PageEntry). k.frame) o) h
+
+-- Which pages are there, by a run of their entries.
+
+entry_some : (v : LedgerView) (s p : ℕ) → is_some (get (entries_of v s) p) ≡ is_some (page_in v s p)
+unfolding entries_of
+entry_some v s p =
+    ap is_some (get_viewed (λ _ (x : PageView). x.entry) (space_in v s).pages p ∙ ap (option_map (λ (x : PageView). x.entry)) (sym (page_of v s p))) ∙ same (page_in v s p)
+  where
+    same : (o : Option PageView) → is_some (option_map (λ (x : PageView). x.entry) o) ≡ is_some o
+    same None = refl
+    same (Some x) = refl
+
+none_by : {X : Type 0} (o : Option X) → is_some o ≡ false → o ≡ None
+none_by None h = refl
+none_by (Some x) h = cc
+
+pub run_there : (v : LedgerView) (s page : ℕ) (run : PageRun) → IsRunFrom (entries_of v s) page run → run.page ≡ page → ArePagesThere v s page run.n
+run_there v s page run first same i less =
+    subst (λ p. IsSome (page_in v s (p + i))) same (sym (entry_some v s (run.page + i)) ∙ ap is_some (first.has i less))
+
+pub run_past : (v : LedgerView) (s page : ℕ) (run : PageRun) → IsRunFrom (entries_of v s) page run → (run.page ≡ page → ⊥) → page_in v s page ≡ None
+run_past v s page run first other =
+    let le = first.from in none_by (page_in v s page) (sym (entry_some v s page) ∙ ap is_some (first.none page (omega arith) (below (nat_lt page run.page) refl)))
+  where
+    below : (b : Bool) → nat_lt page run.page ≡ b → page < run.page
+    below true e = grind (arith, nat_tests)
+    below false e = let le = first.from in absurd (other (grind (arith, nat_tests)))
+
+pub no_run_there : (v : LedgerView) (s page : ℕ) → IsNextRun (entries_of v s) page None → page_in v s page ≡ None
+no_run_there v s page none = none_by (page_in v s page) (sym (entry_some v s page) ∙ ap is_some (none page (omega arith)))

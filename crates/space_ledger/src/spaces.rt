@@ -15,7 +15,7 @@ ghost use Rattle.page_table.specs.Run.{IsRunFrom, entry_at};
 ghost use Rattle.space_maps.specs.Spaces.{bare_space, cut_page, cut_pages, cut_space, holds_space, page_in, put_awaiting, put_mark, put_space, space_in};
 ghost use Rattle.space_ledger.specs.Space.{AwaitsFirst, IsLeast};
 ghost use Rattle.space_ledger.specs.View.{frame_at, frame_awaiting, ledger_of, lines_of, overlay_at, with_block, with_frame, with_overlay, with_page_shared, with_run_shared, with_zero_pages};
-ghost use Rattle.space_ledger.specs.Calls.{AreBareBelow, AreFree, AreSharedBare, AreZeros, HasOverlayRoom, HasSpare, IsFreeFor, IsNextOf, IsNextOwn, NamesOnce, RisesBeside, RisesBy, entries_of, given_up, held_at};
+ghost use Rattle.space_ledger.specs.Calls.{AreBareBelow, AreFree, AreSharedBare, AreThere, AreZeros, HasOverlayRoom, HasSpare, IsFreeFor, IsNextOf, IsNextOwn, NamesOnce, RisesBeside, RisesBy, entries_of, given_up, held_at};
 
 use crate::frames::{class_of, hold, hold_run, is_only, release};
 use crate::tables::Tables;
@@ -341,6 +341,19 @@ impl SpaceLedger {
                 freed_frame(freed, old.frame)
             }
             None => unreachable!(),
+        }
+    }
+
+    /// How many pages from one on are there: none exactly where it isn't, and at least those that lie in one run with it. No page of the
+    /// space awaits. Costs a look-up.
+    pub fn pages_from(&self, space: u16, page: u64) -> u32
+        requires { (space_in self.now space).awaiting ≡ map.empty }
+        ensures there { AreThere self.now space page result }
+        ensures none { result ≡ 0 → page_in self.now space page ≡ None }
+    {
+        match self.tables.next_run(space, page) {
+            Some(run) => { if run.page == page { run.n } else { 0 } }
+            None => 0,
         }
     }
 

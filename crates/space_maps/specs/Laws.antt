@@ -348,3 +348,17 @@ pub after_cut : {P : Type 0} (k from : ℕ) (v : Spaces P) (s : ℕ) → holds_s
 after_cut k from v s there =
     (are_cut k from v s there).beside s (from + k)
     (λ _ within. let no : is_within from k (from + k) ≡ false = grind (arith, nat_tests) in let e = sym within ∙ no in cc)
+
+-- pages taken away in two parts are taken away
+pub cut_twice : {P : Type 0} (k n from : ℕ) (v : Spaces P) (s : ℕ) → cut_pages (cut_pages v s from n) s (from + n) k ≡ cut_pages v s from (n + k)
+unfolding cut_pages
+cut_twice zero n from v s = let same : n ≡ n + 0 = omega arith in ap (cut_pages v s from) same
+cut_twice (suc k) n from v s =
+    let at : from + n + k ≡ from + (n + k) = omega arith in
+    let last : suc (n + k) ≡ n + suc k = omega arith in
+    ap (λ w. cut_page w s (from + n + k)) (cut_twice k n from v s) ∙ ap (cut_page (cut_pages v s from (n + k)) s) at ∙ ap (cut_pages v s from) last
+
+-- one page taken away
+pub cut_one : {P : Type 0} (v : Spaces P) (s p : ℕ) → cut_page v s p ≡ cut_pages v s p 1
+unfolding cut_pages
+cut_one v s p = let start : p ≡ p + 0 = omega arith in ap (cut_page v s) start

@@ -3,12 +3,13 @@ use Rattle.overlay_memory.proofs.Emptied.{emptied, emptying_more, fewer}
 use Rattle.overlay_memory.proofs.memory.remove_pages.Goals as goal
 
 pub removing-smaller : goal.removing-smaller
-removing-smaller c = fewer (state_of c.removing.pages) (state_of c.remove_from.new.pages) c.args.space c.in-Some.page c.remove_from.ensures c.in-Some.ensures.1
+removing-smaller c =
+    fewer (state_of c.removing.pages) (state_of c.remove_some.new.pages) c.args.space c.in-Some.page c.remove_some.result c.remove_some.ensures.gone c.remove_some.ensures.some c.in-Some.ensures.1
 
 pub removing-preserved : goal.removing-preserved
 removing-preserved c =
     emptying_more (state_of c.args.pages.now) (state_of c.removing.pages)
-    (state_of c.remove_from.new.pages) c.args.space c.in-Some.page c.removing.invariant c.remove_from.ensures
+    (state_of c.remove_some.new.pages) c.args.space c.in-Some.page c.remove_some.result c.removing.invariant c.remove_some.ensures.gone
 
 pub returns : goal.returns
 returns c = emptied (state_of c.args.pages.now) (state_of c.removing.pages) c.args.space c.removing.invariant c.in_default.ensures

@@ -1,27 +1,14 @@
-use Rattle.std.proofs.Common.{arith}
-use Rattle.overlay_pages.proofs.Shifts.{after_relocate, all_relocated, before_relocate, shifted_count, shifted_none, target_inside}
+use Rattle.overlay_pages.specs.Steps.{HasMoved}
 use Rattle.overlay_pages.proofs.moving.make_step.Goals as goal
+use Rattle.overlay_pages.proofs.moving.make_step.Goals.{In-Some}
 
-pub following-init : goal.following-init
-following-init c = shifted_none c.in-Some.m.from c.in-Some.m.to c.args.ledger.now
-
-pub overflow_add-m : goal.overflow_add-m
-overflow_add-m c =
-    let inside = target_inside c.args.store.now c.in-Some.m c.args.order c.requires.joined.store c.in-Some.ensures.some in
-    record { fits = omega (arith, inside, c.requires.joined.store.pieces.few, c.following-test.true, shifted_count c.in-Some.m.order c.in-Some.ensures.some.2.low) }
-
-pub relocate_at-requires : goal.relocate_at-requires
-relocate_at-requires c =
-    before_relocate c.args.store.now c.room_step.new.self c.args.ledger.now c.following.ledger c.in-Some.m c.following.i c.requires.joined c.in-Some.ensures.moves c.following.invariant
-    (omega (arith, c.following-test.true, shifted_count c.in-Some.m.order c.in-Some.ensures.some.2.low))
-
-pub following-preserved : goal.following-preserved
-following-preserved c =
-    after_relocate c.args.store.now c.room_step.new.self c.args.ledger.now c.following.ledger c.relocate_at.new.ledger c.in-Some.m c.following.i c.requires.joined c.in-Some.ensures.moves c.following.invariant
-    (omega (arith, c.following-test.true, shifted_count c.in-Some.m.order c.in-Some.ensures.some.2.low)) c.relocate_at.ensures
-
-pub returns-after-following-clause-moved : goal.returns-after-following-clause-moved
-returns-after-following-clause-moved c =
+made : (c : In-Some) → HasMoved c.args.store.now c.room_step.new.self c.args.ledger.now c.in-Some.m
+made c =
     let e = c.in-Some.ensures in
-    all_relocated c.args.store.now c.room_step.new.self c.args.ledger.now c.following.ledger c.in-Some.m c.following.i c.requires.joined e.moves e.frames e.scratch e.free e.units e.store c.following.invariant
-    (omega (arith, c.following.auto.i-end, c.following-test.false, shifted_count c.in-Some.m.order e.some.2.low))
+    record { joined = c.requires.joined; can = e.some.2; moves = e.moves; whole = e.whole; frames = e.frames; scratch = e.scratch; free = e.free; units = e.units; store = e.store }
+
+pub follow-requires : goal.follow-requires
+follow-requires c = record { was = c.args.store.now; moved = made (goal.at.follow-requires c).In-Some }
+
+pub returns-in-Some-clause-moved : goal.returns-in-Some-clause-moved
+returns-in-Some-clause-moved c = c.follow.ensures c.args.store.now (made (goal.at.returns-in-Some-clause-moved c).In-Some)

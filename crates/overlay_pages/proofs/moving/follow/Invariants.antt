@@ -1,5 +1,5 @@
 use Rattle.overlay_pages.proofs.Shifts.{Shifted}
-use Rattle.overlay_pages.proofs.moving.make_step.Given as goal
+use Rattle.overlay_pages.proofs.moving.follow.Given as goal
 
 abbrev pub invariant-following : goal.invariant-following
 invariant-following l = Shifted l.m.from l.m.to l.i l.fn.ledger l.ledger

@@ -1,0 +1,27 @@
+use Rattle.std.proofs.Common.{◌+◌, ◌-◌, sym, subst}
+use Rattle.overlay_pages.specs.View.{MemoryView, state_of}
+use Rattle.overlay_memory.proofs.Unmapping.{IsUnmapping, next_there, still_settled, still_there, unmapping_more, unmapping_none}
+use Rattle.overlay_memory.proofs.memory.OverlayMemory.unmap.Goals as goal
+
+pub unmapping-init : goal.unmapping-init
+unmapping-init c =
+    subst (λ (m : MemoryView). IsUnmapping (state_of c.args.self.now) (state_of m) c.args.space c.args.page c.args.n c.args.page c.args.n) (sym c.self.view_is)
+    (unmapping_none (state_of c.args.self.now) c.args.space c.args.page c.args.n c.requires.there)
+
+pub remove_some-gone-requires-clause-space : goal.remove_some-gone-requires-clause-space
+remove_some-gone-requires-clause-space c =
+    still_there (state_of c.args.self.now) c.args.space c.args.page c.args.n c.requires.there (state_of c.unmapping.self-inside.pages) c.unmapping.at c.unmapping.left c.unmapping.invariant c.unmapping-test.true
+
+pub remove_some-gone-requires-clause-settled : goal.remove_some-gone-requires-clause-settled
+remove_some-gone-requires-clause-settled c =
+    still_settled (state_of c.args.self.now) c.args.space c.args.page c.args.n c.requires.there (state_of c.unmapping.self-inside.pages) c.unmapping.at c.unmapping.left c.unmapping.invariant c.unmapping-test.true c.requires.settled
+
+pub remove_some-gone-requires-clause-there : goal.remove_some-gone-requires-clause-there
+remove_some-gone-requires-clause-there c =
+    next_there (state_of c.args.self.now) c.args.space c.args.page c.args.n c.requires.there (state_of c.unmapping.self-inside.pages) c.unmapping.at c.unmapping.left c.unmapping.invariant c.unmapping-test.true
+
+pub unmapping-preserved : goal.unmapping-preserved
+unmapping-preserved c =
+    subst (λ k. IsUnmapping (state_of c.args.self.now) (state_of c.remove_some-gone.new.pages) c.args.space c.args.page c.args.n (c.unmapping.at + k) (c.unmapping.left - c.remove_some-gone.result)) (sym c.from-at.ensures)
+    (unmapping_more (state_of c.args.self.now) c.args.space c.args.page c.args.n c.requires.there (state_of c.unmapping.self-inside.pages) c.unmapping.at c.unmapping.left c.unmapping.invariant c.unmapping-test.true
+    (state_of c.remove_some-gone.new.pages) c.remove_some-gone.result c.remove_some-gone.ensures.gone c.remove_some-gone.ensures.few)
