@@ -13,3 +13,5 @@ pub mod Copies
 pub mod Forkings
 pub mod Savings
 pub mod Speculating
+pub mod Pages
+pub mod Stills

@@ -11,8 +11,10 @@ use Rattle.overlay_pages.specs.View.{MemoryView}
 use Rattle.overlay_memory.specs.Room.{FitsAfter, IsFullAt, units_after}
 use Rattle.machine_core.specs.Machine.{AreLike, Machine, limit_of, spaces_of, whole_in, wholes, with_memory}
 use Rattle.machine_core.specs.Laws.{processes_at}
+use Rattle.machine_core.specs.Load.{IsAsBefore}
+use Rattle.machine_core.specs.LoadLaws.{same_wholes}
 use Rattle.report_text.specs.declared.answer.Answer.{Answer}
-use Rattle.report_text.specs.declared.answer.Answer.TheVariants.{Done, Full, Refused}
+use Rattle.report_text.specs.declared.answer.Answer.TheVariants.{Done, Full, Memory, Refused}
 use Rattle.report_text.specs.declared.answer.Code.{Code}
 use Rattle.report_text.specs.declared.answer.Code.TheVariants.{NoCheckpoint, NoProcess}
 use Rattle.command_core.specs.State.{AreLikeStates, Checkpoint, Registry, State, registry_of}
@@ -106,6 +108,14 @@ still_like s = states_itself s
 pub gives_still : (s : State) → GivesChange (still_row (registry_of s)) s Done s
 gives_still s = row_accepted (still_row (registry_of s)) s s refl refl (still_like s)
 
+-- and neither does compaction, whose moves nothing shows
+pub gives_moved : (old new : Machine) (xs : List Kept) (drawn : ℕ) → IsAsBefore old new
+    → GivesChange (still_row (registry_of (shown_state old xs drawn))) (shown_state old xs drawn) Done (shown_state new xs drawn)
+gives_moved old new xs drawn same =
+    let all = same_wholes old new same in
+    let is : shown_state new xs drawn ≡ shown_state old xs drawn = λ i. record { wholes = all i; checkpoints = checkpoints_in (same.0 i) xs; drawn = drawn } in
+    subst (λ (s : State). GivesChange (still_row (registry_of (shown_state old xs drawn))) (shown_state old xs drawn) Done s) (sym is) (gives_still (shown_state old xs drawn))
+
 -- The row of a process, by whether it is there.
 module _ (old : Machine) (kept : List Checkpoint) (drawn p : ℕ) (row : Process → Registry → Row) where
   abbrev before : State
@@ -162,6 +172,17 @@ module _ (row : Registry → Row) (old new : Machine) where
         let r = registry_of before in
         row_full (row r) before (state_of new kept drawn) needed limit (none r) (may r) (ap (λ e. is_event_full e before.wholes) (by r) ∙ full)
         (needed_is ∙ sym (ap (λ e. event_needs e before.wholes) (by r))) limit_is (same_likes same kept drawn);
+    keeps = keeps_same old new same;
+  }
+
+  pub machine_wants : ((r : Registry) → first_refusal (row r).refusals ≡ None) → ((r : Registry) → (row r).memory ≡ TakesLast)
+      → ((kept : List Checkpoint) (drawn : ℕ) → is_full (row (registry_of (state_of old kept drawn))) (state_of old kept drawn) ≡ false) → new ≡ old
+      → MachineGives row old Memory new
+  machine_wants none last enough same = record {
+    gives = λ kept drawn.
+        let before = state_of old kept drawn in
+        let r = registry_of before in
+        (row_wants (row r) before (state_of new kept drawn) (last r) (none r) (enough kept drawn), ap (λ (m : Machine). state_of m kept drawn) same);
     keeps = keeps_same old new same;
   }
 

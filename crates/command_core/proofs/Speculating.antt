@@ -55,7 +55,7 @@ module _ (p : ℕ) (process : declared.Process) (old : Machine) (memory : Memory
   mid = with_memory old memory
 
   -- whether registers and state are kept
-  saved_here : has_saved old p ≡ is_some process.saved
+  pub saved_here : has_saved old p ≡ is_some process.saved
   saved_here = ap saved_of there
 
   -- what is there of a process that was put, after an event
@@ -67,12 +67,12 @@ module _ (p : ℕ) (process : declared.Process) (old : Machine) (memory : Memory
     processes_are : processes_of new ≡ insert (processes_of old) p left
     processes_are = processes_put old memory p others put left is
 
-    wholes_are : AreAlike (books (state_of memory)) (ledger_after e (books (spaces_of old))) → (state_of memory).frames ≡ (spaces_of old).frames
+    pub wholes_are : AreAlike (books (state_of memory)) (ledger_after e (books (spaces_of old))) → (state_of memory).frames ≡ (spaces_of old).frames
         → AreLike (wholes new) (record { processes = insert (processes_of old) p left; ledger = ledger_by e (books (spaces_of old)); frames = (spaces_of old).frames })
     unfolding ledger_by
     wholes_are ledger frames = record { processes = processes_are; ledger = ledger; frames = frames }
 
-    stays : ((q : ℕ) → holds_space (state_of memory) q ≡ holds_space (spaces_of old) q)
+    pub stays : ((q : ℕ) → holds_space (state_of memory) q ≡ holds_space (spaces_of old) q)
         → (space_in (state_of memory) p).awaiting ≡ (space_in (spaces_of old) p).awaiting
         → (is_marked old p ≡ has_saved old p → (space_in (state_of memory) p).speculating ≡ is_some put.saved) → KeepsSession old new
     stays spaces awaiting kept =
@@ -98,23 +98,23 @@ module _ (p : ℕ) (process : declared.Process) (old : Machine) (memory : Memory
         }
 
   -- the process in its place again
-  put_again : with_process_at mid p process ≡ mid
+  pub put_again : with_process_at mid p process ≡ mid
   put_again = ap (λ (ps : FinMap nat_cmp declared.Process). record { memory = memory; processes = ps }) (insert_kept old.processes p process there)
 
   left_again : insert (processes_of old) p before ≡ processes_of old
   left_again = insert_kept (processes_of old) p before (processes_at old p ∙ ap (option_map (whole_in (spaces_of old) p)) there)
 
   -- what is kept of the process, by the mark of its space
-  kept_by : (saved : Option SavedRegs) (mark : Bool) (base : Memory) → (space_in (state_of memory) p).speculating ≡ mark → base_of (state_of memory) p ≡ base
+  pub kept_by : (saved : Option SavedRegs) (mark : Bool) (base : Memory) → (space_in (state_of memory) p).speculating ≡ mark → base_of (state_of memory) p ≡ base
       → kept_in (state_of memory) p saved ≡ cond mark (Some (kept_whole base (unwrap_or saved none_saved))) None
   kept_by saved mark base is same =
       ap (λ b. cond b (Some (kept_whole (base_of (state_of memory) p) (unwrap_or saved none_saved))) None) is
       ∙ ap (λ m. cond mark (Some (kept_whole m (unwrap_or saved none_saved))) None) same
 
-  kept_before : (mark : Bool) → is_marked old p ≡ mark → before.kept ≡ cond mark (Some (kept_whole (base_of (spaces_of old) p) (unwrap_or process.saved none_saved))) None
+  pub kept_before : (mark : Bool) → is_marked old p ≡ mark → before.kept ≡ cond mark (Some (kept_whole (base_of (spaces_of old) p) (unwrap_or process.saved none_saved))) None
   kept_before mark is = ap (λ b. cond b (Some (kept_whole (base_of (spaces_of old) p) (unwrap_or process.saved none_saved))) None) is
 
-  speculates : (mark : Bool) → is_marked old p ≡ mark → is_speculating before ≡ mark
+  pub speculates : (mark : Bool) → is_marked old p ≡ mark → is_speculating before ≡ mark
   speculates mark is = marked_is (spaces_of old) p process mark is
 
   -- A speculation begins.

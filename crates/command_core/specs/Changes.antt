@@ -14,7 +14,7 @@ use Rattle.report_text.specs.declared.answer.Code.TheVariants.{NoProcess, Elf}
 use Rattle.report_text.specs.Answers.{HasAnswerLine}
 use Rattle.script_text.specs.declared.command.Command.{Command}
 use Rattle.script_text.specs.declared.command.Command.TheVariants as command
-use Rattle.command_core.specs.declared.overlays.OverlayChange.TheVariants.{Speculate, Commit, Discard, Promote, PromoteAll}
+use Rattle.command_core.specs.declared.overlays.OverlayChange.TheVariants.{Speculate, Commit, Discard, Promote, PromoteAll, Map, Unmap}
 use Rattle.command_core.specs.State.{Registry}
 use Rattle.command_core.specs.Rows.{Row, TakesFirst, plain_row, refused_row, still_row}
 use Rattle.command_core.specs.Refusals.{by_numbers_used}
@@ -45,7 +45,7 @@ drop_row p process registry =
     plain_row false [] (event.Drop p)
     (record { processes = remove registry.processes p; checkpoints = registry.checkpoints; drawn = registry.drawn })
 
--- The changes, a row each, with the file that a command asks for. A command that isn't there changes nothing.
+-- The changes, a row each, with the file that a command asks for. Compaction moves segments, which no state shows. A command that isn't there changes nothing.
 abbrev pub change_row : List ℕ → Command → Registry → Row
 change_row file (command.Load name) = load_row file
 change_row file (command.Fork p) = on_process p (fork_row p)
@@ -57,6 +57,9 @@ change_row file (command.Commit p) = on_process p (overlay_row p Commit)
 change_row file (command.Discard p) = on_process p (overlay_row p Discard)
 change_row file (command.Promote p address) = on_process p (overlay_row p (Promote address))
 change_row file (command.PromoteAll p) = on_process p (overlay_row p PromoteAll)
+change_row file command.Compact = still_row
+change_row file (command.Map p address n perms) = on_process p (overlay_row p (Map address n perms))
+change_row file (command.Unmap p address n) = on_process p (overlay_row p (Unmap address n))
 change_row file (command.Drop p) = on_process p (drop_row p)
 change_row file other = still_row
 

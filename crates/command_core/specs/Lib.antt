@@ -9,6 +9,7 @@ pub mod Giving
 pub mod Refusals
 pub mod Copies
 pub mod Overlays
+pub mod Mapping
 pub mod Checkpoints
 pub mod Changes
 pub mod Turns

@@ -1,8 +1,11 @@
 use Rattle.std.specs.Prelude.{ℕ, ◌/◌, true, false, [], ◌∷◌, Some, None}
 use Rattle.std.specs.Option.{option_map_or}
-use Rattle.std.specs.FinMap.{insert}
+use Rattle.std.specs.List.{fold, range_with_len}
+use Rattle.std.specs.FinMap.{insert, remove}
 use Rattle.sizes.specs.declared.TheConstants.{PAGE_BYTES}
 use Rattle.ledger.specs.Events as event
+use Rattle.ovl_io.specs.Memory.{Memory}
+use Rattle.machine_core.specs.Loading.{zero_content}
 use Rattle.machine_core.specs.Process.{Process, Whole, is_speculating}
 use Rattle.machine_core.specs.declared.process.Process as declared
 use Rattle.machine_core.specs.Machine.{Machine, spaces_of, whole_in}
@@ -11,16 +14,16 @@ use Rattle.promotion.specs.declared.error.PromoteError.TheVariants as promote
 use Rattle.speculation.specs.declared.error.SpeculationError.{SpeculationError}
 use Rattle.speculation.specs.declared.error.SpeculationError.TheVariants as speculation
 use Rattle.report_text.specs.declared.answer.Answer.{Answer}
-use Rattle.report_text.specs.declared.answer.Answer.TheVariants.{Refused, Full}
+use Rattle.report_text.specs.declared.answer.Answer.TheVariants.{Done, Refused, Full}
 use Rattle.report_text.specs.declared.answer.Code.TheVariants.{Speculating, NotSpeculating, Unmapped}
 use Rattle.command_core.specs.declared.overlays.OverlayChange.{OverlayChange}
-use Rattle.command_core.specs.declared.overlays.OverlayChange.TheVariants.{Speculate, Commit, Discard, Promote, PromoteAll}
+use Rattle.command_core.specs.declared.overlays.OverlayChange.TheVariants.{Speculate, Commit, Discard, Promote, PromoteAll, Map, Unmap}
 use Rattle.command_core.specs.State.{Registry, process_of, whole_of}
-use Rattle.command_core.specs.Rows.{Row, plain_row, refused_row}
+use Rattle.command_core.specs.Rows.{Row, TakesLast, plain_row, refused_row}
 use Rattle.command_core.specs.Giving.{MachineGives}
-use Rattle.command_core.specs.Refusals.{by_ended, by_not_speculating, by_speculating, by_unmapped}
+use Rattle.command_core.specs.Refusals.{map_refusals, unmap_refusals, by_ended, by_not_speculating, by_speculating, by_unmapped}
 
--- What speculation and promotion make of a process that is there.
+-- What speculation, promotion, and pages that are mapped or given up make of a process that is there.
 
 -- A speculation begins: the whole is kept.
 abbrev pub after_speculate : Process → Process
@@ -39,12 +42,23 @@ after_commit process = record { registers = process.registers; state = process.s
 abbrev pub after_discard : Whole → Process
 after_discard whole = process_of whole
 
+-- zero pages are there from one on; and pages go
+abbrev pub pages_mapped : ℕ → ℕ → ℕ → Memory → Memory
+pages_mapped perms from n memory = fold (λ m page. insert m page (zero_content perms)) memory (range_with_len from n)
+
+abbrev pub pages_gone : ℕ → ℕ → Memory → Memory
+pages_gone from n memory = fold (λ m page. remove m page) memory (range_with_len from n)
+
+-- the process with this memory
+abbrev pub with_pages : Memory → Process → Process
+with_pages memory process = record { registers = process.registers; state = process.state; memory = memory; kept = process.kept }
+
 -- the process in its place
 abbrev pub leaves : ℕ → Process → Registry → Registry
 leaves p process registry =
     record { processes = insert registry.processes p process; checkpoints = registry.checkpoints; drawn = registry.drawn }
 
--- The five changes, a row each: whether it may need units, its refusals, what happens to the ledger, and what it leaves.
+-- The changes, a row each: whether it may need units, its refusals, what happens to the ledger, and what it leaves.
 abbrev pub overlay_row : ℕ → OverlayChange → Process → Registry → Row
 overlay_row p Speculate process registry =
     plain_row true (by_ended process.state ∷ by_speculating (is_speculating process) ∷ []) (event.Settle p) (leaves p (after_speculate process) registry)
@@ -55,6 +69,17 @@ overlay_row p Discard process registry =
 overlay_row p (Promote address) process registry =
     plain_row true (by_speculating (is_speculating process) ∷ by_unmapped address process.memory ∷ []) (event.SettlePage p (address / PAGE_BYTES)) registry
 overlay_row p PromoteAll process registry = plain_row true (by_speculating (is_speculating process) ∷ []) (event.Settle p) registry
+overlay_row p (Map address n perms) process registry = record {
+  refusals = map_refusals address n (is_speculating process) process.memory;
+  memory = TakesLast;
+  event = event.Map p (address / PAGE_BYTES) n;
+  may_need_units = false;
+  answer = Done;
+  after = leaves p (with_pages (pages_mapped perms.0 (address / PAGE_BYTES) n process.memory) process) registry;
+}
+overlay_row p (Unmap address n) process registry =
+    plain_row false (unmap_refusals address n (is_speculating process) process.memory) (event.Unmap p (address / PAGE_BYTES) n)
+    (leaves p (with_pages (pages_gone (address / PAGE_BYTES) n process.memory) process) registry)
 
 -- what a machine answers of one of them, at a process that stood in its place
 abbrev pub ChangesOverlays : ℕ → OverlayChange → declared.Process → Machine → Answer → Machine → Type 0

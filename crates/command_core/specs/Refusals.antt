@@ -1,12 +1,12 @@
-use Rattle.std.specs.Prelude.{ℕ, ◌/◌, ◌==◌, not, Bool, Option}
-use Rattle.std.specs.Option.{is_some}
-use Rattle.std.specs.FinMap.{get}
-use Rattle.sizes.specs.declared.TheConstants.{LAST_SPACE, PAGE_BYTES}
+use Rattle.std.specs.Prelude.{ℕ, zero, suc, ◌+◌, ◌*◌, ◌/◌, ◌%◌, ◌==◌, ◌||◌, nat_lt, not, Bool, if◌then◌else◌, List, [], ◌∷◌, Option, Some, None}
+use Rattle.std.specs.Option.{is_some, option_map}
+use Rattle.std.specs.FinMap.{get, len}
+use Rattle.sizes.specs.declared.TheConstants.{ADDRESS_END, LAST_SPACE, MOST_SPACE_PAGES, PAGE_BYTES}
 use Rattle.ovl_io.specs.Memory.{Memory}
 use Rattle.ovl_io.specs.declared.process_state.ProcessState.{ProcessState}
 use Rattle.machine_core.specs.Process.{runs}
 use Rattle.report_text.specs.declared.answer.Code.{Code}
-use Rattle.report_text.specs.declared.answer.Code.TheVariants.{Ended, Speculating, NotSpeculating, NoCheckpoint, NameTaken, Unmapped, NumbersUsed}
+use Rattle.report_text.specs.declared.answer.Code.TheVariants.{Ended, Speculating, NotSpeculating, NoCheckpoint, NameTaken, Unmapped, Mapped, NumbersUsed, Outside}
 use Rattle.command_core.specs.Rows.{refused_if}
 
 -- Why changes are refused, a line each.
@@ -32,6 +32,45 @@ by_name_taken found = refused_if found NameTaken
 -- the page of an address isn't there
 abbrev pub by_unmapped : ℕ → Memory → Option Code
 by_unmapped address memory = refused_if (not (is_some (get memory (address / PAGE_BYTES)))) (Unmapped address)
+
+-- pages from an address on aren't whole pages of user addresses, or are more than a space may have
+abbrev pub lie_outside : ℕ → ℕ → Bool
+lie_outside address n = not (address % PAGE_BYTES == 0) || nat_lt ADDRESS_END (address + PAGE_BYTES * n)
+
+abbrev pub are_too_many : Memory → ℕ → Bool
+are_too_many memory n = nat_lt MOST_SPACE_PAGES (len memory + n)
+
+abbrev pub by_outside : Bool → Option Code
+by_outside outside = refused_if outside Outside
+
+-- the lowest of the n pages from one on of which something holds
+abbrev pub lowest : (ℕ → Bool) → ℕ → ℕ → Option ℕ
+lowest holds from zero = None
+lowest holds from (suc n) = if holds from then Some from else lowest holds (from + 1) n
+
+abbrev pub has_page : Memory → ℕ → Bool
+has_page memory page = is_some (get memory page)
+
+abbrev pub lacks_page : Memory → ℕ → Bool
+lacks_page memory page = not (has_page memory page)
+
+-- one of the n pages from an address on is there already, or isn't there: the address of the lowest
+abbrev pub by_mapped : ℕ → ℕ → Memory → Option Code
+by_mapped address n memory = option_map (λ page. Mapped (PAGE_BYTES * page)) (lowest (has_page memory) (address / PAGE_BYTES) n)
+
+abbrev pub by_missing : ℕ → ℕ → Memory → Option Code
+by_missing address n memory = option_map (λ page. Unmapped (PAGE_BYTES * page)) (lowest (lacks_page memory) (address / PAGE_BYTES) n)
+
+-- why pages aren't mapped, and why they aren't given up
+abbrev pub place_refusals : Bool → Bool → Option Code → List (Option Code)
+place_refusals speculating outside page = by_speculating speculating ∷ by_outside outside ∷ page ∷ []
+
+abbrev pub map_refusals : ℕ → ℕ → Bool → Memory → List (Option Code)
+map_refusals address n speculating memory =
+    place_refusals speculating (lie_outside address n || are_too_many memory n) (by_mapped address n memory)
+
+abbrev pub unmap_refusals : ℕ → ℕ → Bool → Memory → List (Option Code)
+unmap_refusals address n speculating memory = place_refusals speculating (lie_outside address n) (by_missing address n memory)
 
 -- all numbers were drawn
 abbrev pub by_numbers_used : ℕ → Option Code

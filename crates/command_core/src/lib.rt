@@ -7,13 +7,15 @@
 //! - `forking`: a process under a second number
 //! - `saving`: checkpoints of processes, made and put back
 //! - `checkpoints`: what is kept of them, by name
-//! - `overlays`: speculation and promotion
+//! - `overlays`: what is done with the pages of a process: speculation and promotion
+//! - `mapping`: pages that are mapped, and that are given up
 //! - `turns`: a run in progress
 //! - `taking`: its turns, taken
 #![tactic(auto)]
 
 mod checkpoints;
 mod forking;
+mod mapping;
 mod overlays;
 mod saving;
 mod session;

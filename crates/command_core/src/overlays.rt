@@ -1,4 +1,4 @@
-//! What the commands of speculation and promotion do to a process that is there.
+//! What commands do to the pages of a process that is there: speculation, promotion, and pages that are mapped or given up.
 
 ghost use Rattle.std.specs.Prelude.{◌≡◌, Some, true};
 ghost use Rattle.std.specs.FinMap.{empty, get};
@@ -7,14 +7,15 @@ ghost use Rattle.machine_core.specs.Machine.{has_saved, has_space, is_marked, sp
 ghost use Rattle.command_core.specs.Changes.{CanBeTold};
 ghost use Rattle.command_core.specs.Overlays.{ChangesOverlays, promotion_answer, speculation_answer};
 
+use crate::mapping::{map_pages, unmap_pages};
 use machine_core::{Machine, Process, SavedRegs};
-use ovl_io::ProcessState;
+use ovl_io::{Perms, ProcessState};
 use promotion::{PromoteError, promote, promote_all};
 use report_text::{Answer, Code};
 use sizes::PAGE_BYTES;
 use speculation::{SpeculationError, commit, discard, start};
 
-/// What is done with the overlays of a process.
+/// What is done with the overlays and the pages of a process.
 #[derive(Clone, Copy, Debug)]
 pub(crate) enum OverlayChange {
     /// A speculation begins.
@@ -27,6 +28,10 @@ pub(crate) enum OverlayChange {
     Promote(u64),
     /// Each page is promoted.
     PromoteAll,
+    /// So many zero pages are mapped from an address on, with these permissions.
+    Map(u64, u32, Perms),
+    /// So many pages are given up from an address on.
+    Unmap(u64, u32),
 }
 
 /// What is answered where a speculation doesn't begin or end.
@@ -184,7 +189,7 @@ fn promote_pages(machine: &mut Machine, p: u16, process: Process) -> Answer
 }
 
 /// Does a change to process `p`, which is there with its space, of which no page awaits, and of which registers and state are kept
-/// exactly where it is speculating. Takes no memory.
+/// exactly where it is speculating. Takes memory for pages that are mapped, and else none.
 pub(crate) fn change_overlays(
     machine: &mut Machine,
     p: u16,
@@ -204,5 +209,7 @@ pub(crate) fn change_overlays(
         OverlayChange::Discard => discard_process(machine, p, process),
         OverlayChange::Promote(address) => promote_page(machine, p, process, address),
         OverlayChange::PromoteAll => promote_pages(machine, p, process),
+        OverlayChange::Map(address, n, perms) => map_pages(machine, p, process, address, n, perms),
+        OverlayChange::Unmap(address, n) => unmap_pages(machine, p, process, address, n),
     }
 }

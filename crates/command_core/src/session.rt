@@ -5,6 +5,7 @@ ghost use Rattle.sizes.specs.declared.TheConstants.{LAST_SPACE, MOST_FRAMES};
 ghost use Rattle.command_core.specs.State.{fresh, registry_of};
 ghost use Rattle.command_core.specs.Sessions.{KeepsRest};
 ghost use Rattle.command_core.specs.Giving.{GivesChange};
+ghost use Rattle.command_core.specs.Rows.{still_row};
 ghost use Rattle.command_core.specs.Copies.{fork_row};
 ghost use Rattle.command_core.specs.Overlays.{overlay_row};
 ghost use Rattle.command_core.specs.Checkpoints.{checkpoint_row, forget_row, on_checkpoint, restore_row};
@@ -263,7 +264,7 @@ impl Session {
         }
     }
 
-    /// Does a change to the overlays of a process: a speculation begins or ends, or pages are promoted. Answers what came of it, or why
+    /// Does a change to the pages of a process: a speculation begins or ends, or pages are promoted, mapped or given up. Answers what came of it, or why
     /// it wasn't done. `Full` exactly where it isn't refused and the units after it would exceed the limit.
     fn change_overlays(&mut self, p: u16, change: OverlayChange) -> Answer
         ensures gives { GivesChange (on_process p (overlay_row p change) (registry_of self.old.state))
@@ -278,6 +279,17 @@ impl Session {
                 change_overlays(&mut self.machine, p, process, change)
             }
         }
+    }
+
+    /// Moves segments until free units lie together, which nothing shows.
+    fn compact(&mut self) -> Answer
+        ensures gives { GivesChange (still_row (registry_of self.old.state)) self.old.state
+            result self.new.state }
+        ensures told { CanBeTold result }
+        ensures quantum { self.new.quantum ≡ self.old.quantum }
+    {
+        self.machine.memory_mut().compact();
+        Answer::Done
     }
 
     /// Gives up a process.
@@ -297,7 +309,6 @@ impl Session {
     }
 
     /// Does a command that asks for no file, by its row.
-    #[tactic(auto, using(crate::proofs::Rows::gives_still))]
     fn do_row(&mut self, command: &Command) -> Answer
         requires asks { asks command.now ≡ None }
         requires given { IsGiven command.now }
@@ -318,6 +329,13 @@ impl Session {
                 self.change_overlays(*p, OverlayChange::Promote(*address))
             }
             Command::PromoteAll(p) => self.change_overlays(*p, OverlayChange::PromoteAll),
+            Command::Compact => self.compact(),
+            Command::Map(p, address, n, perms) => {
+                self.change_overlays(*p, OverlayChange::Map(*address, *n, *perms))
+            }
+            Command::Unmap(p, address, n) => {
+                self.change_overlays(*p, OverlayChange::Unmap(*address, *n))
+            }
             Command::Drop(p) => self.drop_process(*p),
             _ => Answer::Done,
         }

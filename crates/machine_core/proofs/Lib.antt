@@ -4,7 +4,6 @@ pub mod Accessing
 pub mod Stepping
 pub mod Machines
 pub mod Plays
-pub mod PageLines
 pub mod Adding
 pub mod Marks
 pub mod Images

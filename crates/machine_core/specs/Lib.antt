@@ -7,6 +7,7 @@ pub mod Codes
 pub mod Access
 pub mod Load
 pub mod Loading
+pub mod PageLines
 pub mod Laws
 pub mod LoadLaws
 pub mod Kept

@@ -1,23 +1,25 @@
-use Rattle.std.proofs.Common.{◌≡◌, ℕ, ◌≤◌, ◌-◌, ◌^◌, ◌&&◌, nat_le, nat_eq, refl, Bool, true, false, cond, List, [], ◌∷◌, length, subst, arith, Option, Some, None}
+use Rattle.std.proofs.Common.{◌≡◌, ℕ, ◌≤◌, ◌-◌, ◌^◌, ◌&&◌, nat_le, nat_eq, refl, Bool, true, false, cond, List, [], ◌∷◌, length, codes, subst, arith, Option, Some, None}
 use Rattle.std.specs.Option.{IfSome, option_or, option_map}
 use Rattle.std.specs.List.{list_all}
 use Rattle.std.proofs.lemmas.Bool.{and_parts}
 use Rattle.std.proofs.lemmas.Bool.Decides.{nat_tests}
 use lib.Pointwise.{pointwise}
 use Rattle.ovl_io.specs.Outside.{HasName}
-use Rattle.script_text.specs.declared.TheConstants.{MOST_CHECKPOINT_NAME, MOST_TURNS}
+use Rattle.ovl_io.specs.declared.perms.Perms.{Perms}
+use Rattle.script_text.specs.declared.TheConstants.{MOST_CHECKPOINT_NAME, MOST_PAGES, MOST_TURNS}
 use Rattle.sizes.specs.declared.TheConstants.{LAST_SPACE, MOST_FILE_NAME}
 use Rattle.script_text.specs.declared.command.Command.{Command}
 use Rattle.script_text.specs.declared.command.Command.TheVariants.{Exec, Load, Fork, Run, Step, Checkpoint, Restore, Forget, Speculate, Commit, Discard, Promote, Drop}
+use Rattle.script_text.specs.declared.command.Command.TheVariants as command
 use Rattle.script_text.specs.declared.command.Meaning.TheVariants.{Does, Nothing}
 use Rattle.script_text.specs.Words.{words_of}
 use Rattle.script_text.specs.Lines.{without_return}
 use Rattle.script_text.specs.Numbers.{within, number_in}
-use Rattle.script_text.specs.Kinds.{Kind, is_file_name, file_word, is_name_byte, is_checkpoint_name, checkpoint_word, turns_word, process_word, address_word, is_all, all_word}
-use Rattle.script_text.specs.Forms.{Form, forms, no_words, one_word, two_words, both, promote_all, made_by, command_of}
+use Rattle.script_text.specs.Kinds.{Kind, is_file_name, file_word, is_name_byte, is_checkpoint_name, checkpoint_word, turns_word, process_word, address_word, pages_word, perms_by, is_text, perms_word, is_all, all_word}
+use Rattle.script_text.specs.Forms.{Form, forms, no_words, one_word, two_words, three_words, with_said, word_then, both, promote_all, made_by, command_of}
 use Rattle.script_text.specs.Script.{is_comment, as_command, meaning_of_words, meaning_of}
 use Rattle.script_text.specs.FormLaws.{◌beside◌}
-use Rattle.script_text.specs.Given.{IsGiven, IsTurns, IsProcess, IsAddress, IsCheckpoint}
+use Rattle.script_text.specs.Given.{IsGiven, IsTurns, IsProcess, IsAddress, IsPages, IsPerms, IsCheckpoint}
 
 -- Each command of a script has its values in the ranges of their kinds.
 
@@ -64,6 +66,18 @@ below (Some n) h = omega (arith, h.1)
 address_given : (word : List ℕ) → IfSome (address_word word) IsAddress
 address_given word = below (address_word word) (in_range 0 (2 ^ 64 - 1) (number_in word))
 
+pages_given : (word : List ℕ) → IfSome (pages_word word) IsPages
+pages_given word = in_range 1 MOST_PAGES (number_in word)
+
+or_else : (t : Bool) (bits : ℕ) (o : Option Perms) → IsPerms (perms_by bits) → IfSome o IsPerms → IfSome (cond t (Some (perms_by bits)) o) IsPerms
+or_else true bits o h k = h
+or_else false bits o h k = k
+
+perms_given : (word : List ℕ) → IfSome (perms_word word) IsPerms
+perms_given word =
+    or_else (is_text word (codes "r")) 4 _ refl (or_else (is_text word (codes "rw")) 6 _ refl (or_else (is_text word (codes "x")) 1 _ refl
+    (or_else (is_text word (codes "rx")) 5 _ refl (or_else (is_text word (codes "rwx")) 7 None refl tt))))
+
 -- the word `all` says nothing more
 abbrev IsNamed : Unit {0} → Type 0
 IsNamed all = Unit {0}
@@ -94,6 +108,16 @@ two_given P Q kind other make has also given [] = tt
 two_given P Q kind other make has also given (w ∷ []) = tt
 two_given P Q kind other make has also given (w ∷ x ∷ []) = both_given P Q (kind w) (other x) make (has w) (also x) given
 two_given P Q kind other make has also given (w ∷ x ∷ y ∷ ws) = tt
+
+said_given : {A : Type 0} (P : A → Type 0) (o : Option A) (make : A → Option Command) → IfSome o P → ((a : A) → P a → IfSome (make a) IsGiven)
+    → IfSome (with_said o make) IsGiven
+said_given P None make h given = tt
+said_given P (Some a) make h given = given a h
+
+then_given : {A : Type 0} (P : A → Type 0) (kind : Kind A) (make : A → List (List ℕ) → Option Command) → ((w : List ℕ) → IfSome (kind w) P)
+    → ((a : A) → P a → (ws : List (List ℕ)) → IfSome (make a ws) IsGiven) → (ws : List (List ℕ)) → IfSome (word_then kind make ws) IsGiven
+then_given P kind make has given [] = tt
+then_given P kind make has given (w ∷ ws) = said_given P (kind w) (λ a. make a ws) (has w) (λ a h. given a h ws)
 
 none_given : (command : Command) → IsGiven command → (ws : List (List ℕ)) → IfSome (no_words command ws) IsGiven
 none_given command given [] = given
@@ -130,6 +154,12 @@ all_give =
     beside one_given IsProcess process_word Discard process_given (λ a h. h)
     beside two_given IsProcess IsAddress process_word address_word Promote process_given address_given (λ a b h k. (h, k))
     beside two_given IsProcess IsNamed process_word all_word promote_all process_given all_given (λ a b h k. h)
+    beside none_given _ tt
+    beside then_given IsProcess process_word (λ p. three_words address_word pages_word perms_word (command.Map p)) process_given
+    (λ p h. then_given IsAddress address_word (λ a. two_words pages_word perms_word (command.Map p a)) address_given
+    (λ a k. two_given IsPages IsPerms pages_word perms_word (command.Map p a) pages_given perms_given (λ n o l m. (h, k, l, m))))
+    beside then_given IsProcess process_word (λ p. two_words address_word pages_word (command.Unmap p)) process_given
+    (λ p h. two_given IsAddress IsPages address_word pages_word (command.Unmap p) address_given pages_given (λ a n k l. (h, k, l)))
     beside one_given IsProcess process_word Drop process_given (λ a h. h)
     beside none_given _ tt
     beside tt

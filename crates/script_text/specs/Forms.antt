@@ -5,7 +5,7 @@ use lib.Pointwise.{pointwise}
 use Rattle.script_text.specs.declared.command.Command.{Command}
 use Rattle.script_text.specs.declared.command.Command.TheVariants.{Exec, Load, Fork, Run, Step, Checkpoint, Restore, Forget, Speculate, Commit, Discard, Promote, PromoteAll, Drop}
 use Rattle.script_text.specs.declared.command.Command.TheVariants as command
-use Rattle.script_text.specs.Kinds.{Kind, file_word, checkpoint_word, turns_word, process_word, address_word, all_word}
+use Rattle.script_text.specs.Kinds.{Kind, file_word, checkpoint_word, turns_word, process_word, address_word, pages_word, perms_word, all_word}
 
 -- The forms of commands.
 
@@ -37,6 +37,22 @@ two_words kind other make (w ∷ []) = None
 two_words kind other make (w ∷ x ∷ []) = both (kind w) (other x) make
 two_words kind other make (w ∷ x ∷ y ∷ ws) = None
 
+-- a word of a kind, and what the words behind it make with what it says
+abbrev pub with_said : {A : Type 0} → Option A → (A → Option Command) → Option Command
+with_said None make = None
+with_said (Some a) make = make a
+
+abbrev pub word_then : {A : Type 0} → Kind A → (A → List (List ℕ) → Option Command) → List (List ℕ) → Option Command
+word_then kind make [] = None
+word_then kind make (w ∷ ws) = with_said (kind w) (λ a. make a ws)
+
+-- what three words and four words make
+abbrev pub three_words : {A B C : Type 0} → Kind A → Kind B → Kind C → (A → B → C → Command) → List (List ℕ) → Option Command
+three_words kind other third make = word_then kind (λ a. two_words other third (make a))
+
+abbrev pub four_words : {A B C D : Type 0} → Kind A → Kind B → Kind C → Kind D → (A → B → C → D → Command) → List (List ℕ) → Option Command
+four_words kind other third fourth make = word_then kind (λ a. three_words other third fourth (make a))
+
 -- the command of `promote P all`
 abbrev pub promote_all : ℕ → Unit {0} → Command
 promote_all p all = PromoteAll p
@@ -57,6 +73,9 @@ forms =
     ∷ form (codes "discard") (one_word process_word Discard)
     ∷ form (codes "promote") (two_words process_word address_word Promote)
     ∷ form (codes "promote") (two_words process_word all_word promote_all)
+    ∷ form (codes "compact") (no_words command.Compact)
+    ∷ form (codes "map") (four_words process_word address_word pages_word perms_word command.Map)
+    ∷ form (codes "unmap") (three_words process_word address_word pages_word command.Unmap)
     ∷ form (codes "drop") (one_word process_word Drop)
     ∷ form (codes "list") (no_words command.List)
     ∷ []

@@ -1,7 +1,9 @@
-use Rattle.std.specs.Prelude.{ℕ, ◌≤◌, ◌<◌, ◌^◌, List, length}
+use Rattle.std.specs.Prelude.{◌≡◌, ℕ, ◌≤◌, ◌<◌, ◌^◌, nat_eq, true, List, [], ◌∷◌, length}
+use Rattle.std.specs.List.{list_any}
+use Rattle.ovl_io.specs.declared.perms.Perms.{Perms}
 use Rattle.ovl_io.specs.Outside.{HasName}
 use Rattle.sizes.specs.declared.TheConstants.{LAST_SPACE}
-use Rattle.script_text.specs.declared.TheConstants.{MOST_CHECKPOINT_NAME, MOST_TURNS}
+use Rattle.script_text.specs.declared.TheConstants.{MOST_CHECKPOINT_NAME, MOST_PAGES, MOST_TURNS}
 use Rattle.script_text.specs.declared.command.Command.{Command}
 use Rattle.script_text.specs.declared.command.Command.TheVariants.{Exec, Load, Fork, Run, Step, Checkpoint, Restore, Forget, Speculate, Commit, Discard, Promote, PromoteAll, Drop}
 use Rattle.script_text.specs.declared.command.Command.TheVariants as command
@@ -16,6 +18,13 @@ IsProcess p = (1 ≤ p) × (p ≤ LAST_SPACE)
 
 abbrev pub IsAddress : ℕ → Type 0
 IsAddress address = address < 2 ^ 64
+
+abbrev pub IsPages : ℕ → Type 0
+IsPages n = (1 ≤ n) × (n ≤ MOST_PAGES)
+
+-- reading, reading and writing, or executing alone; or executing with one of the former
+abbrev pub IsPerms : Perms → Type 0
+IsPerms perms = list_any (nat_eq perms.0) (4 ∷ 6 ∷ 1 ∷ 5 ∷ 7 ∷ []) ≡ true
 
 -- a checkpoint's name has 1 to 32 bytes
 abbrev pub IsCheckpoint : List ℕ → Type 0
@@ -36,11 +45,11 @@ IsGiven (Commit p) = IsProcess p
 IsGiven (Discard p) = IsProcess p
 IsGiven (Promote p address) = IsProcess p × IsAddress address
 IsGiven (PromoteAll p) = IsProcess p
+IsGiven command.Compact = Unit {0}
+IsGiven (command.Map p address pages perms) = IsProcess p × IsAddress address × IsPages pages × IsPerms perms
+IsGiven (command.Unmap p address pages) = IsProcess p × IsAddress address × IsPages pages
 IsGiven (Drop p) = IsProcess p
 IsGiven command.List = Unit {0}
-IsGiven command.Compact = ⊥
-IsGiven (command.Map p address pages perms) = ⊥
-IsGiven (command.Unmap p address pages) = ⊥
 IsGiven (command.Regs p) = ⊥
 IsGiven (command.Dump p address count) = ⊥
 IsGiven (command.Poke p address bytes) = ⊥

@@ -1,7 +1,8 @@
 use Rattle.std.specs.Prelude.{ℕ, ◌-◌, ◌^◌, ◌==◌, ◌&&◌, ◌||◌, nat_le, nat_eq, Bool, List, length, Option, Some, None, codes, if◌then◌else◌}
 use Rattle.std.specs.List.{list_all}
 use lib.Pointwise.{pointwise}
-use Rattle.script_text.specs.declared.TheConstants.{MOST_CHECKPOINT_NAME, MOST_TURNS}
+use Rattle.ovl_io.specs.declared.perms.Perms.{Perms}
+use Rattle.script_text.specs.declared.TheConstants.{MOST_CHECKPOINT_NAME, MOST_PAGES, MOST_TURNS}
 use Rattle.sizes.specs.declared.TheConstants.{LAST_SPACE, MOST_FILE_NAME}
 use Rattle.script_text.specs.Numbers.{is_decimal, number_between}
 
@@ -40,6 +41,26 @@ process_word word = number_between 1 LAST_SPACE word
 -- ADDR: an address
 abbrev pub address_word : Kind ℕ
 address_word word = number_between 0 (2 ^ 64 - 1) word
+
+-- K: a number of pages
+abbrev pub pages_word : Kind ℕ
+pages_word word = number_between 1 MOST_PAGES word
+
+-- PERM: what may be done with a page
+abbrev pub perms_by : ℕ → Perms
+perms_by bits = record { 0 = bits }
+
+abbrev pub is_text : List ℕ → List ℕ → Bool
+is_text word text = pointwise nat_eq word text
+
+abbrev pub perms_word : Kind Perms
+perms_word word =
+    if is_text word (codes "r") then Some (perms_by 4)
+    else if is_text word (codes "rw") then Some (perms_by 6)
+    else if is_text word (codes "x") then Some (perms_by 1)
+    else if is_text word (codes "rx") then Some (perms_by 5)
+    else if is_text word (codes "rwx") then Some (perms_by 7)
+    else None
 
 -- the word `all`, which says no more than that it stands there
 abbrev pub is_all : List ℕ → Bool

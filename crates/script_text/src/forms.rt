@@ -1,15 +1,18 @@
 ghost use Rattle.std.specs.Prelude.{◌≡◌, ℕ, IfOk};
 ghost use Rattle.std.specs.Option.{option_map, option_or};
 ghost use Rattle.script_text.specs.Words.{words_of};
-ghost use Rattle.script_text.specs.Kinds.{file_word, checkpoint_word, turns_word, process_word, address_word, all_word};
-ghost use Rattle.script_text.specs.Forms.{no_words, one_word, two_words, promote_all, command_of};
+ghost use Rattle.script_text.specs.Kinds.{file_word, checkpoint_word, turns_word, process_word, address_word, pages_word, perms_word, all_word};
+ghost use Rattle.script_text.specs.Forms.{no_words, one_word, two_words, three_words, four_words, promote_all, command_of};
 ghost use Rattle.script_text.specs.Script.{is_comment, meaning_of};
 ghost use Rattle.script_text.specs.declared.command.Command.{Command};
 ghost use Rattle.script_text.specs.declared.command.Command.TheVariants.{Exec, Load, Fork, Run, Step, Checkpoint, Restore, Forget, Speculate, Commit, Discard, Promote, PromoteAll, Drop};
 ghost use Rattle.script_text.specs.declared.command.Command.TheVariants as command;
 
 use crate::command::{Command, Meaning};
-use crate::kinds::{address_word, checkpoint_word, file_word, is_all, process_word, turns_word};
+use crate::kinds::{
+    address_word, checkpoint_word, file_word, is_all, pages_word, perms_word, process_word,
+    turns_word,
+};
 use crate::lines::without_return;
 use crate::words::{next_word, no_words, one_word, two_words};
 use std::alloc::{AllocError, Global};
@@ -231,6 +234,84 @@ fn promote(words: &[u8]) -> Option<Command>
     }
 }
 
+/// `compact`
+fn compact(words: &[u8]) -> Option<Command>
+    ensures { result ≡ no_words command.Compact (words_of words.now) }
+{
+    if no_words(words) {
+        Some(Command::Compact)
+    } else {
+        None
+    }
+}
+
+/// `ADDR K PERM`, behind `map P`
+fn map_of(p: u16, words: &[u8]) -> Option<Command>
+    ensures { result ≡ three_words address_word pages_word perms_word (command.Map p) (words_of words.now) }
+{
+    let (address, behind) = match next_word(words) {
+        Some(parts) => parts,
+        None => return None,
+    };
+    let address = match address_word(address) {
+        Some(address) => address,
+        None => return None,
+    };
+    let (pages, perms) = match two_words(behind) {
+        Some(words) => words,
+        None => return None,
+    };
+    let pages = match pages_word(pages) {
+        Some(pages) => pages,
+        None => return None,
+    };
+    match perms_word(perms) {
+        Some(perms) => Some(Command::Map(p, address, pages, perms)),
+        None => None,
+    }
+}
+
+/// `map P ADDR K PERM`
+fn map(words: &[u8]) -> Option<Command>
+    ensures { result ≡ four_words process_word address_word pages_word perms_word command.Map
+        (words_of words.now) }
+{
+    let (p, behind) = match next_word(words) {
+        Some(parts) => parts,
+        None => return None,
+    };
+    match process_word(p) {
+        Some(p) => map_of(p, behind),
+        None => None,
+    }
+}
+
+/// `unmap P ADDR K`
+fn unmap(words: &[u8]) -> Option<Command>
+    ensures { result ≡ three_words process_word address_word pages_word command.Unmap (words_of words.now) }
+{
+    let (p, behind) = match next_word(words) {
+        Some(parts) => parts,
+        None => return None,
+    };
+    let p = match process_word(p) {
+        Some(p) => p,
+        None => return None,
+    };
+    let (address, pages) = match two_words(behind) {
+        Some(words) => words,
+        None => return None,
+    };
+    let address = match address_word(address) {
+        Some(address) => address,
+        None => return None,
+    };
+    match pages_word(pages) {
+        Some(pages) => Some(Command::Unmap(p, address, pages)),
+        None => None,
+    }
+}
+
 /// `drop P`
 fn give_up(words: &[u8]) -> Option<Command>
     ensures { result ≡ one_word process_word Drop (words_of words.now) }
@@ -280,6 +361,12 @@ fn command_of(alloc: Global, first: &[u8], words: &[u8]) -> Result<Option<Comman
         Ok(discard(words))
     } else if first == b"promote".as_slice() {
         Ok(promote(words))
+    } else if first == b"compact".as_slice() {
+        Ok(compact(words))
+    } else if first == b"map".as_slice() {
+        Ok(map(words))
+    } else if first == b"unmap".as_slice() {
+        Ok(unmap(words))
     } else if first == b"drop".as_slice() {
         Ok(give_up(words))
     } else if first == b"list".as_slice() {

@@ -1,10 +1,11 @@
 ghost use Rattle.std.specs.Prelude.{◌≡◌, ◌&&◌, nat_le, IfOk};
 ghost use Rattle.std.specs.List.{list_all};
-ghost use Rattle.script_text.specs.Kinds.{is_file_name, file_word, is_name_byte, is_checkpoint_name, checkpoint_word, turns_word, process_word, address_word, is_all};
+ghost use Rattle.script_text.specs.Kinds.{is_file_name, file_word, is_name_byte, is_checkpoint_name, checkpoint_word, turns_word, process_word, address_word, pages_word, perms_word, is_all};
 
 use crate::numbers::{is_decimal, number_between};
-use crate::{MOST_CHECKPOINT_NAME, MOST_TURNS};
-use ovl_io::Bytes;
+use crate::{MOST_CHECKPOINT_NAME, MOST_PAGES, MOST_TURNS};
+use bitflags::Flags;
+use ovl_io::{Bytes, Perms};
 use sizes::{LAST_SPACE, MOST_FILE_NAME};
 use std::alloc::{AllocError, Global};
 
@@ -98,6 +99,35 @@ pub(crate) fn address_word(word: &[u8]) -> Option<u64>
     ensures { result ≡ address_word word.now }
 {
     number_between(0, u64::MAX, word)
+}
+
+/// The number of pages that a word is.
+pub(crate) fn pages_word(word: &[u8]) -> Option<u32>
+    ensures { result ≡ pages_word word.now }
+{
+    match number_between(1, u64::from(MOST_PAGES), word) {
+        Some(n) => Some(n as u32),
+        None => None,
+    }
+}
+
+/// The permissions that a word is.
+pub(crate) fn perms_word(word: &[u8]) -> Option<Perms>
+    ensures { result ≡ perms_word word.now }
+{
+    if word == b"r".as_slice() {
+        Some(Perms::R)
+    } else if word == b"rw".as_slice() {
+        Some(Perms::R.union(Perms::W))
+    } else if word == b"x".as_slice() {
+        Some(Perms::X)
+    } else if word == b"rx".as_slice() {
+        Some(Perms::R.union(Perms::X))
+    } else if word == b"rwx".as_slice() {
+        Some(Perms::R.union(Perms::W).union(Perms::X))
+    } else {
+        None
+    }
 }
 
 /// Whether a word is the one that stands for each page.

@@ -29,5 +29,8 @@ pub use script::parse;
 /// The most turns of a command.
 pub const MOST_TURNS: u32 = 10_000_000;
 
+/// The most pages that one command maps or gives up.
+pub const MOST_PAGES: u32 = 1 << 16;
+
 /// The most bytes of a checkpoint's name.
 pub const MOST_CHECKPOINT_NAME: usize = 32;

@@ -2,8 +2,8 @@ use Rattle.std.proofs.Common.{refl, codes, ◌∙◌}
 use Rattle.script_text.specs.declared.command.Command.TheVariants.{Exec, Load, Fork, Run, Step, Checkpoint, Restore, Forget, Speculate, Commit, Discard, Promote, Drop}
 use Rattle.script_text.specs.declared.command.Command.TheVariants as command
 use Rattle.script_text.specs.Words.{words_of}
-use Rattle.script_text.specs.Kinds.{file_word, checkpoint_word, turns_word, process_word, address_word, all_word}
-use Rattle.script_text.specs.Forms.{no_words, one_word, two_words, promote_all, command_of}
+use Rattle.script_text.specs.Kinds.{file_word, checkpoint_word, turns_word, process_word, address_word, pages_word, perms_word, all_word}
+use Rattle.script_text.specs.Forms.{no_words, one_word, two_words, three_words, four_words, promote_all, command_of}
 use Rattle.script_text.specs.FormLaws.{◌beside◌}
 use Rattle.script_text.proofs.Rows.{at_row, at_rows, at_no_row, not_text, if_ok}
 use Rattle.script_text.proofs.forms.command_of.Goals as goal
@@ -75,16 +75,31 @@ returns-then-eq-12 c =
 
 pub returns-then-eq-13 : goal.returns-then-eq-13
 returns-then-eq-13 c =
-    c.give_up.ensures
-    ∙ at_row (codes "drop") c.as_slice-else-eq-12.result.now (one_word process_word Drop) c.args.first.now (words_of c.args.words.now) (λ ws. refl) c.as_slice-else-eq-12.ensures c.if-eq-13.ensures
+    c.compact.ensures
+    ∙ at_row (codes "compact") c.as_slice-else-eq-12.result.now (no_words command.Compact) c.args.first.now (words_of c.args.words.now) (λ ws. refl) c.as_slice-else-eq-12.ensures c.if-eq-13.ensures
 
 pub returns-then-eq-14 : goal.returns-then-eq-14
 returns-then-eq-14 c =
-    c.list.ensures
-    ∙ at_row (codes "list") c.as_slice-else-eq-13.result.now (no_words command.List) c.args.first.now (words_of c.args.words.now) (λ ws. refl) c.as_slice-else-eq-13.ensures c.if-eq-14.ensures
+    c.map.ensures
+    ∙ at_row (codes "map") c.as_slice-else-eq-13.result.now (four_words process_word address_word pages_word perms_word command.Map) c.args.first.now (words_of c.args.words.now) (λ ws. refl) c.as_slice-else-eq-13.ensures c.if-eq-14.ensures
 
-pub returns-else-eq-14 : goal.returns-else-eq-14
-returns-else-eq-14 c =
+pub returns-then-eq-15 : goal.returns-then-eq-15
+returns-then-eq-15 c =
+    c.unmap.ensures
+    ∙ at_row (codes "unmap") c.as_slice-else-eq-14.result.now (three_words process_word address_word pages_word command.Unmap) c.args.first.now (words_of c.args.words.now) (λ ws. refl) c.as_slice-else-eq-14.ensures c.if-eq-15.ensures
+
+pub returns-then-eq-16 : goal.returns-then-eq-16
+returns-then-eq-16 c =
+    c.give_up.ensures
+    ∙ at_row (codes "drop") c.as_slice-else-eq-15.result.now (one_word process_word Drop) c.args.first.now (words_of c.args.words.now) (λ ws. refl) c.as_slice-else-eq-15.ensures c.if-eq-16.ensures
+
+pub returns-then-eq-17 : goal.returns-then-eq-17
+returns-then-eq-17 c =
+    c.list.ensures
+    ∙ at_row (codes "list") c.as_slice-else-eq-16.result.now (no_words command.List) c.args.first.now (words_of c.args.words.now) (λ ws. refl) c.as_slice-else-eq-16.ensures c.if-eq-17.ensures
+
+pub returns-else-eq-17 : goal.returns-else-eq-17
+returns-else-eq-17 c =
     at_no_row c.args.first.now (words_of c.args.words.now) (
     not_text (codes "exec") c.as_slice.result.now c.args.first.now c.as_slice.ensures c.if-eq.ensures
     beside not_text (codes "load") c.as_slice-else-eq.result.now c.args.first.now c.as_slice-else-eq.ensures c.if-eq-2.ensures
@@ -99,7 +114,10 @@ returns-else-eq-14 c =
     beside not_text (codes "discard") c.as_slice-else-eq-10.result.now c.args.first.now c.as_slice-else-eq-10.ensures c.if-eq-11.ensures
     beside not_text (codes "promote") c.as_slice-else-eq-11.result.now c.args.first.now c.as_slice-else-eq-11.ensures c.if-eq-12.ensures
     beside not_text (codes "promote") c.as_slice-else-eq-11.result.now c.args.first.now c.as_slice-else-eq-11.ensures c.if-eq-12.ensures
-    beside not_text (codes "drop") c.as_slice-else-eq-12.result.now c.args.first.now c.as_slice-else-eq-12.ensures c.if-eq-13.ensures
-    beside not_text (codes "list") c.as_slice-else-eq-13.result.now c.args.first.now c.as_slice-else-eq-13.ensures c.if-eq-14.ensures
+    beside not_text (codes "compact") c.as_slice-else-eq-12.result.now c.args.first.now c.as_slice-else-eq-12.ensures c.if-eq-13.ensures
+    beside not_text (codes "map") c.as_slice-else-eq-13.result.now c.args.first.now c.as_slice-else-eq-13.ensures c.if-eq-14.ensures
+    beside not_text (codes "unmap") c.as_slice-else-eq-14.result.now c.args.first.now c.as_slice-else-eq-14.ensures c.if-eq-15.ensures
+    beside not_text (codes "drop") c.as_slice-else-eq-15.result.now c.args.first.now c.as_slice-else-eq-15.ensures c.if-eq-16.ensures
+    beside not_text (codes "list") c.as_slice-else-eq-16.result.now c.args.first.now c.as_slice-else-eq-16.ensures c.if-eq-17.ensures
     beside tt
     )

@@ -1,0 +1,18 @@
+use Rattle.std.proofs.Common.{ap, subst, ◌∙◌, refl}
+use Rattle.overlay_pages.specs.View.{state_of}
+use Rattle.machine_core.specs.Machine.{with_memory}
+use Rattle.report_text.specs.declared.answer.Answer.TheVariants.{Done}
+use Rattle.command_core.specs.State.{registry_of}
+use Rattle.command_core.specs.Sessions.{InSession}
+use Rattle.command_core.specs.Kept.{shown_state}
+use Rattle.command_core.specs.Rows.{still_row}
+use Rattle.command_core.specs.Giving.{GivesChange}
+use Rattle.command_core.proofs.Rows.{gives_moved}
+use Rattle.command_core.proofs.session.Session.compact.Goals as goal
+
+pub returns-clause-gives : goal.returns-clause-gives
+returns-clause-gives c =
+    let s = c.self.inside in
+    subst (λ (s : InSession). GivesChange (still_row (registry_of s.state)) s.state Done
+    (shown_state (with_memory c.self.inside.machine c.compact.new.self) c.self.inside.checkpoints c.self.inside.drawn)) c.self.view_is
+    (gives_moved s.machine (with_memory s.machine c.compact.new.self) s.checkpoints s.drawn (c.compact.ensures.state ∙ ap state_of c.memory_mut.ensures.value, refl))
