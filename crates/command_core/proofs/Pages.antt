@@ -27,12 +27,12 @@ use Rattle.page_table.specs.Table.{is_within}
 use Rattle.space_maps.specs.Books.{books_cut_page, books_put_page}
 use Rattle.space_maps.specs.Laws.{KeepsSpaces, are_cut, are_put, space_beside, space_put}
 use Rattle.space_maps.specs.Spaces.{cut_page, cut_pages, holds_space, of_pages, page_in, put_page, put_pages, put_space, space_in}
-use Rattle.machine_core.specs.Loading.{zero_content}
+use Rattle.machine_core.specs.Load.{zero_content}
 use Rattle.machine_core.specs.PageLines.{zero_bytes_are}
 use Rattle.machine_core.specs.Process.{Process}
 use Rattle.machine_core.specs.declared.process.Process as declared
 use Rattle.machine_core.specs.Machine.{AreLike, Machine, is_marked, processes_of, spaces_of, whole_in, wholes, with_memory}
-use Rattle.report_text.specs.declared.answer.Answer.TheVariants.{Done, Memory as NoMemory, Refused}
+use Rattle.report_text.specs.declared.answer.Answer.TheVariants.{Done, Refused}
 use Rattle.report_text.specs.declared.answer.Code.{Code}
 use Rattle.report_text.specs.declared.answer.Code.TheVariants.{Mapped, Outside, Speculating, Unmapped}
 use Rattle.command_core.specs.declared.overlays.OverlayChange.TheVariants.{Map, Unmap}
@@ -42,7 +42,7 @@ use Rattle.command_core.specs.Rows.{Row, first_refusal, ledger_by}
 use Rattle.command_core.specs.Refusals.{are_too_many, has_page, lacks_page, lie_outside, lowest, map_refusals, place_refusals, unmap_refusals}
 use Rattle.command_core.specs.Mapping.{FindsGap, FindsPage, RefusesMap, RefusesUnmap}
 use Rattle.command_core.specs.Overlays.{ChangesOverlays, overlay_row, pages_gone, pages_mapped, with_pages}
-use Rattle.command_core.proofs.Rows.{machine_done, machine_refused, machine_wants}
+use Rattle.command_core.proofs.Rows.{machine_done, machine_refused}
 use Rattle.command_core.proofs.Speculating.{kept_before, kept_by, put_again, saved_here, speculates, stays, wholes_are}
 
 -- Pages that are mapped, and that are given up.
@@ -392,10 +392,6 @@ module _ (p : ℕ) (process : declared.Process) (old : Machine) (memory : Memory
           let remade = remade_by e left (spaces_of old) _ (state_of memory) p put (zeros_put (spaces_of old) p page n perms here) in
           machine_done maps old mid (map_refusal_is address n perms None is) (λ kept drawn. refl) (λ r. refl) (λ kept drawn. remade_like e left remade unmarked)
           (λ r. refl) (λ r. refl) (remade_stays e left remade unmarked)
-
-      pub not_mapped : RefusesMap (spaces_of old) p address n None → memory ≡ old.memory → ChangesOverlays p (Map address n perms) process old NoMemory mid
-      not_mapped (is, free) same =
-          machine_wants maps old mid (map_refusal_is address n perms None is) (λ r. refl) (λ kept drawn. refl) (ap (with_memory old) same)
 
       pub map_refused : (code : Code) → RefusesMap (spaces_of old) p address n (Some code) → ChangesOverlays p (Map address n perms) process old (Refused code) old
       map_refused code (is, told) = machine_refused maps old old code (map_refusal_is address n perms (Some code) is) refl
