@@ -15,7 +15,7 @@ use Rattle.overlay_memory.specs.declared.error.MemoryError.TheVariants.{Unmapped
 use Rattle.overlay_memory.specs.declared.error.SpaceError.{SpaceError}
 use Rattle.overlay_memory.specs.declared.error.SpaceError.TheVariants as refused
 use Rattle.space_maps.specs.Laws.{space_absent, space_beside, space_put}
-use Rattle.space_maps.specs.Spaces.{bare_space, page_in, put_page, put_space, space_in, turned_page, put_pages}
+use Rattle.space_maps.specs.Spaces.{cut_page, cut_pages, bare_space, page_in, put_page, put_space, space_in, turned_page, put_pages}
 use Rattle.fork_checkpoint.specs.Copied.{Copies}
 
 -- No page of any space awaits, and what calls do leaves it so.
@@ -94,3 +94,9 @@ pub none_awaits_copies : (old new : MemoryView) (from to : ℕ) (r : Result (Uni
 none_awaits_copies old new from to (Ok done) h settled = none_awaits_beside (state_of old) (state_of new) to (h.1.awaiting ∙ sym (settled to)) h.1.others settled
 none_awaits_copies old new from to (Err (refused.Full needed limit)) h settled = none_awaits_view old new h.kept settled
 none_awaits_copies old new from to (Err refused.Memory) h settled = none_awaits_as (state_of old) (state_of new) h.1 settled
+
+-- what pages that go leave
+pub none_awaits_cut : (n from : ℕ) (v : State) (s : ℕ) → NoneAwaits v → NoneAwaits (cut_pages v s from n)
+unfolding cut_pages cut_page
+none_awaits_cut zero from v s settled = settled
+none_awaits_cut (suc n) from v s settled = none_awaits_put (cut_pages v s from n) s _ (none_awaits_cut n from v s settled) (none_awaits_cut n from v s settled s)

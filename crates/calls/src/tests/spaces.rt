@@ -109,6 +109,20 @@ impl Spaces {
         self.memory.map_zero(space, page, n, perms)
     }
 
+    // Takes away n pages that are there.
+    pub(super) fn unmap(&mut self, rt: &impl Abort, space: u16, page: u64, n: u32) {
+        assert!(rt; page < 1000 && n < 1000);
+        match self.memory.first_absent(space, page, n) {
+            Some(_) => panic!(rt; "page {page} and those behind it are there"),
+            None => self.memory.unmap(space, page, n),
+        }
+    }
+
+    // Moves segments until no two free blocks below a frame are equal in size.
+    pub(super) fn compact(&mut self) {
+        self.memory.compact();
+    }
+
     // Places a page that isn't there.
     pub(super) fn place_page(
         &mut self,
