@@ -27,14 +27,14 @@ use Rattle.page_table.specs.Table.{is_within}
 use Rattle.space_maps.specs.Books.{books_cut_page, books_put_page}
 use Rattle.space_maps.specs.Laws.{KeepsSpaces, are_cut, are_put, space_beside, space_put}
 use Rattle.space_maps.specs.Spaces.{cut_page, cut_pages, holds_space, of_pages, page_in, put_page, put_pages, put_space, space_in}
-use Rattle.machine_core.specs.Loading.{zero_content}
+use Rattle.machine_core.specs.Load.{zero_content}
 use Rattle.machine_core.specs.PageLines.{zero_bytes_are}
 use Rattle.machine_core.specs.Process.{Process}
 use Rattle.machine_core.specs.declared.process.Process as declared
 use Rattle.machine_core.specs.Machine.{AreLike, Machine, is_marked, processes_of, spaces_of, whole_in, wholes, with_memory}
-use Rattle.report_text.specs.declared.answer.Answer.TheVariants.{Done, Memory as NoMemory, Refused}
+use Rattle.report_text.specs.declared.answer.Answer.TheVariants.{Done, Refused}
 use Rattle.report_text.specs.declared.answer.Code.{Code}
-use Rattle.report_text.specs.declared.answer.Code.TheVariants.{Mapped, Outside, Speculating, Unmapped}
+use Rattle.report_text.specs.declared.answer.Code.TheVariants.{Mapped, Outside}
 use Rattle.command_core.specs.declared.overlays.OverlayChange.TheVariants.{Map, Unmap}
 use Rattle.command_core.specs.State.{Registry}
 use Rattle.command_core.specs.Sessions.{KeepsSession}
@@ -42,7 +42,7 @@ use Rattle.command_core.specs.Rows.{Row, first_refusal, ledger_by}
 use Rattle.command_core.specs.Refusals.{are_too_many, has_page, lacks_page, lie_outside, lowest, map_refusals, place_refusals, unmap_refusals}
 use Rattle.command_core.specs.Mapping.{FindsGap, FindsPage, RefusesMap, RefusesUnmap}
 use Rattle.command_core.specs.Overlays.{ChangesOverlays, overlay_row, pages_gone, pages_mapped, with_pages}
-use Rattle.command_core.proofs.Rows.{machine_done, machine_refused, machine_wants}
+use Rattle.command_core.proofs.Rows.{machine_done, machine_refused}
 use Rattle.command_core.proofs.Speculating.{kept_before, kept_by, put_again, saved_here, speculates, stays, wholes_are}
 
 -- Pages that are mapped, and that are given up.
@@ -119,18 +119,8 @@ module _ (v : State) (p page n : ℕ) where
       at : (q r : ℕ) → r ≡ q → IsSome (page_in v p r) → IsSome (page_in v p q)
       at q r same h = subst (λ k. IsSome (page_in v p k)) same h
 
--- Whether pages lie outside.
+-- Pages that don't lie outside end at the end of user addresses, counted by pages too.
 
-or_true : (b : Bool) → true ≡ b || true
-or_true true = refl
-or_true false = refl
-
-pub above_outside : (address n : ℕ) → ADDRESS_END < address → true ≡ lie_outside address n
-above_outside address n above =
-    let over : nat_lt ADDRESS_END (address + PAGE_BYTES * n) ≡ true = grind (arith, nat_tests) in
-    or_true (not (address % PAGE_BYTES == 0)) ∙ sym (ap (λ b. not (address % PAGE_BYTES == 0) || b) over)
-
--- they end at the end of user addresses, then, by pages too
 both_false : (a b : Bool) → false ≡ a || b → (false ≡ a) × (false ≡ b)
 both_false true b h = cc
 both_false false b h = (refl, h)
@@ -150,9 +140,6 @@ low_pages address n inside =
 -- The first refusal.
 
 module _ (mark : Bool) (outside : Bool) (page : Option Code) where
-  marked_first : true ≡ mark → Some Speculating ≡ first_refusal (place_refusals mark outside page)
-  marked_first is = ap (λ b. first_refusal (place_refusals b outside page)) is
-
   outside_first : false ≡ mark → true ≡ outside → Some Outside ≡ first_refusal (place_refusals mark outside page)
   outside_first unmarked is = ap (λ b. first_refusal (place_refusals false b page)) is ∙ ap (λ b. first_refusal (place_refusals b outside page)) unmarked
 
@@ -173,21 +160,11 @@ module _ (v : State) (p address n : ℕ) where
   abbrev here : Option ℕ
   here = lowest (has_page memory) (address / PAGE_BYTES) n
 
-  abbrev lacking : Option ℕ
-  lacking = lowest (lacks_page memory) (address / PAGE_BYTES) n
-
   abbrev too_far : Bool
   too_far = lie_outside address n || are_too_many memory n
 
   many_is : (pages : ℕ) (b : Bool) → pages ≡ len (space_in v p).pages → nat_lt MOST_SPACE_PAGES (pages + n) ≡ b → are_too_many memory n ≡ b
   many_is pages b count is = ap (λ k. nat_lt MOST_SPACE_PAGES (k + n)) (page_count v p ∙ sym count) ∙ is
-
-  pub map_marked : true ≡ mark → RefusesMap v p address n (Some Speculating)
-  map_marked is = (marked_first mark too_far (option_map (λ page. Mapped (PAGE_BYTES * page)) here) is, tt)
-
-  pub map_outside : false ≡ mark → true ≡ lie_outside address n → RefusesMap v p address n (Some Outside)
-  map_outside unmarked is =
-      (outside_first mark too_far (option_map (λ page. Mapped (PAGE_BYTES * page)) here) unmarked (ap (λ b. b || are_too_many memory n) is), tt)
 
   pub map_many : (pages : ℕ) → false ≡ mark → false ≡ lie_outside address n → pages ≡ len (space_in v p).pages → MOST_SPACE_PAGES < pages + n
       → RefusesMap v p address n (Some Outside)
@@ -214,27 +191,6 @@ module _ (v : State) (p address n : ℕ) where
     ap (λ o. first_refusal (option_map (λ page. Mapped (PAGE_BYTES * page)) o ∷ [])) is
         ∙ page_first mark too_far (option_map (λ page. Mapped (PAGE_BYTES * page)) here) unmarked (not_many pages inside count few),
     record { low = low_pages address n inside; few = subst (λ k. k + n ≤ MOST_SPACE_PAGES) count few; absent = absent },
-  )
-
-  pub unmap_marked : true ≡ mark → RefusesUnmap v p address n (Some Speculating)
-  unmap_marked is = (marked_first mark (lie_outside address n) (option_map (λ page. Unmapped (PAGE_BYTES * page)) lacking) is, tt)
-
-  pub unmap_outside : false ≡ mark → true ≡ lie_outside address n → RefusesUnmap v p address n (Some Outside)
-  unmap_outside unmarked is = (outside_first mark (lie_outside address n) (option_map (λ page. Unmapped (PAGE_BYTES * page)) lacking) unmarked is, tt)
-
-  pub unmap_lacking : (found at : ℕ) → false ≡ mark → false ≡ lie_outside address n → FindsGap v p (address / PAGE_BYTES) n (Some found) → at ≡ PAGE_BYTES * found
-      → RefusesUnmap v p address n (Some (Unmapped at))
-  unmap_lacking found at unmarked inside (is, low) at_is = (
-    ap (λ k. Some (Unmapped k)) at_is ∙ ap (λ o. first_refusal (option_map (λ page. Unmapped (PAGE_BYTES * page)) o ∷ [])) is
-        ∙ page_first mark (lie_outside address n) (option_map (λ page. Unmapped (PAGE_BYTES * page)) lacking) unmarked inside,
-    tt,
-  )
-
-  pub unmap_all : false ≡ mark → false ≡ lie_outside address n → FindsGap v p (address / PAGE_BYTES) n None → RefusesUnmap v p address n None
-  unmap_all unmarked inside (is, there) = (
-    ap (λ o. first_refusal (option_map (λ page. Unmapped (PAGE_BYTES * page)) o ∷ [])) is
-        ∙ page_first mark (lie_outside address n) (option_map (λ page. Unmapped (PAGE_BYTES * page)) lacking) unmarked inside,
-    there,
   )
 
 -- Pages put, and taken away, one after the other: the memory of the space, the ledger, and the other spaces.
@@ -392,10 +348,6 @@ module _ (p : ℕ) (process : declared.Process) (old : Machine) (memory : Memory
           let remade = remade_by e left (spaces_of old) _ (state_of memory) p put (zeros_put (spaces_of old) p page n perms here) in
           machine_done maps old mid (map_refusal_is address n perms None is) (λ kept drawn. refl) (λ r. refl) (λ kept drawn. remade_like e left remade unmarked)
           (λ r. refl) (λ r. refl) (remade_stays e left remade unmarked)
-
-      pub not_mapped : RefusesMap (spaces_of old) p address n None → memory ≡ old.memory → ChangesOverlays p (Map address n perms) process old NoMemory mid
-      not_mapped (is, free) same =
-          machine_wants maps old mid (map_refusal_is address n perms None is) (λ r. refl) (λ kept drawn. refl) (ap (with_memory old) same)
 
       pub map_refused : (code : Code) → RefusesMap (spaces_of old) p address n (Some code) → ChangesOverlays p (Map address n perms) process old (Refused code) old
       map_refused code (is, told) = machine_refused maps old old code (map_refusal_is address n perms (Some code) is) refl

@@ -14,7 +14,7 @@ use Rattle.machine_core.specs.Laws.{processes_at}
 use Rattle.machine_core.specs.Load.{IsAsBefore}
 use Rattle.machine_core.specs.LoadLaws.{same_wholes}
 use Rattle.report_text.specs.declared.answer.Answer.{Answer}
-use Rattle.report_text.specs.declared.answer.Answer.TheVariants.{Done, Full, Memory, Refused}
+use Rattle.report_text.specs.declared.answer.Answer.TheVariants.{Done, Full, Refused}
 use Rattle.report_text.specs.declared.answer.Code.{Code}
 use Rattle.report_text.specs.declared.answer.Code.TheVariants.{NoCheckpoint, NoProcess}
 use Rattle.command_core.specs.State.{AreLikeStates, Checkpoint, Registry, State, registry_of}
@@ -172,17 +172,6 @@ module _ (row : Registry → Row) (old new : Machine) where
         let r = registry_of before in
         row_full (row r) before (state_of new kept drawn) needed limit (none r) (may r) (ap (λ e. is_event_full e before.wholes) (by r) ∙ full)
         (needed_is ∙ sym (ap (λ e. event_needs e before.wholes) (by r))) limit_is (same_likes same kept drawn);
-    keeps = keeps_same old new same;
-  }
-
-  pub machine_wants : ((r : Registry) → first_refusal (row r).refusals ≡ None) → ((r : Registry) → (row r).memory ≡ TakesLast)
-      → ((kept : List Checkpoint) (drawn : ℕ) → is_full (row (registry_of (state_of old kept drawn))) (state_of old kept drawn) ≡ false) → new ≡ old
-      → MachineGives row old Memory new
-  machine_wants none last enough same = record {
-    gives = λ kept drawn.
-        let before = state_of old kept drawn in
-        let r = registry_of before in
-        (row_wants (row r) before (state_of new kept drawn) (last r) (none r) (enough kept drawn), ap (λ (m : Machine). state_of m kept drawn) same);
     keeps = keeps_same old new same;
   }
 

@@ -5,7 +5,7 @@ use Rattle.std.specs.FinMap.{insert, remove}
 use Rattle.sizes.specs.declared.TheConstants.{PAGE_BYTES}
 use Rattle.ledger.specs.Events as event
 use Rattle.ovl_io.specs.Memory.{Memory}
-use Rattle.machine_core.specs.Loading.{zero_content}
+use Rattle.machine_core.specs.Load.{zero_content}
 use Rattle.machine_core.specs.Process.{Process, Whole, is_speculating}
 use Rattle.machine_core.specs.declared.process.Process as declared
 use Rattle.machine_core.specs.Machine.{Machine, spaces_of, whole_in}

@@ -25,7 +25,8 @@ use Rattle.overlay_pages.specs.State.{PageState, SpaceState, State, books, held_
 use Rattle.space_maps.specs.Books.{books_put_page}
 use Rattle.space_maps.specs.Laws.{page_of, space_put}
 use Rattle.space_maps.specs.Spaces.{holds_space, of_pages, page_in, put_page, put_pages, put_space, space_in}
-use Rattle.machine_core.specs.Loading.{HasAdded, IsAdded, IsOpen, is_among, one_loaded, zero_content}
+use Rattle.machine_core.specs.Load.{zero_content}
+use Rattle.machine_core.specs.Loading.{HasAdded, IsAdded, IsOpen, is_among, one_loaded}
 use Rattle.machine_core.specs.PageLines.{lines_joined, page_length_is, zero_bytes_are}
 
 -- Pages added to a space, one after the other.

@@ -20,8 +20,8 @@ use Rattle.overlay_pages.specs.State.{PageState, SpaceState, State, books, held_
 use Rattle.space_maps.specs.Books.{books_page, books_spaces}
 use Rattle.space_maps.specs.Laws.{page_of}
 use Rattle.space_maps.specs.Spaces.{bare_space, holds_space, page_in, space_in}
-use Rattle.machine_core.specs.Load.{stack_page, stored_pages}
-use Rattle.machine_core.specs.Loading.{HasAdded, HasImage, IsAdded, IsReady, is_among, zero_content}
+use Rattle.machine_core.specs.Load.{stack_page, stored_pages, zero_content}
+use Rattle.machine_core.specs.Loading.{HasAdded, HasImage, IsAdded, IsReady, is_among}
 use Rattle.machine_core.proofs.Adding.{added_more}
 use Rattle.machine_core.proofs.Marks.{units_so_far}
 

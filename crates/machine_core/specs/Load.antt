@@ -22,9 +22,12 @@ use Rattle.machine_core.specs.Machine.{AreLike, Machine, StandsFor, StaysBut, Wh
 unfoldable pub stack_pages : List ℕ
 stack_pages = range_with_len STACK_PAGE STACK_PAGES
 
--- a page of the stack: zero, to be read and written
+-- a zero page; one of the stack may be read and written
+abbrev pub zero_content : ℕ → Page
+zero_content perms = record { perms = perms; bytes = replicate page_length 0 }
+
 abbrev pub stack_page : Page
-stack_page = record { perms = 6; bytes = replicate page_length 0 }
+stack_page = zero_content 6
 
 -- the pages of the image, and the stack
 abbrev pub image_memory : List ℕ → Memory

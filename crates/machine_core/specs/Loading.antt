@@ -1,10 +1,10 @@
-use Rattle.std.specs.Prelude.{◌≡◌, ℕ, ◌+◌, ◌<◌, Bool, true, false, cond, if◌then◌else◌, List, length, map, replicate, Some, None}
+use Rattle.std.specs.Prelude.{◌≡◌, ℕ, ◌+◌, ◌<◌, Bool, true, false, cond, if◌then◌else◌, List, length, map, Some, None}
 use Rattle.std.specs.List.{fold, list_any}
 use Rattle.std.specs.Ordering.{nat_cmp, is_eq}
 use Rattle.std.specs.FinMap.{empty, get, len}
 use Rattle.sizes.specs.declared.TheConstants.{MOST_SPACE_PAGES, PAGE_END}
 use Rattle.ovl_io.specs.Memory.{Page}
-use Rattle.elf_loader.specs.Image.{image_page, image_pages, is_stored, page_length}
+use Rattle.elf_loader.specs.Image.{image_page, image_pages, is_stored}
 use Rattle.ledger.specs.Ledger.{Ledger, with_page}
 use Rattle.ledger.specs.Alike.{AreAlike}
 use Rattle.ledger.specs.Changes.{without_own}
@@ -22,10 +22,6 @@ pub record IsReady (spaces : State) (p page : ℕ) : Type 0 where
   pub absent : page_in spaces p page ≡ None
   pub low : page < PAGE_END
   pub few : len (space_in spaces p).pages < MOST_SPACE_PAGES
-
--- a zero page
-abbrev pub zero_content : ℕ → Page
-zero_content perms = record { perms = perms; bytes = replicate page_length 0 }
 
 -- the ledger with one page more of a load
 abbrev pub one_loaded : ℕ → Ledger → ℕ × Bool → Ledger

@@ -9,8 +9,8 @@ ghost use Rattle.overlay_pages.specs.Changes.{limit_of, units_of};
 ghost use Rattle.overlay_pages.specs.State.{books};
 ghost use Rattle.overlay_pages.specs.View.{state_of};
 ghost use Rattle.space_maps.specs.Spaces.{bare_space, holds_space, page_in, space_in};
-ghost use Rattle.machine_core.specs.Load.{loaded_ledger, stored_count, stored_pages};
-ghost use Rattle.machine_core.specs.Loading.{HasImage, HasStack, IsAdded, IsOpen, IsReady, HasPages, IsSpaceOf, zero_content};
+ghost use Rattle.machine_core.specs.Load.{loaded_ledger, stored_count, stored_pages, zero_content};
+ghost use Rattle.machine_core.specs.Loading.{HasImage, HasStack, IsAdded, IsOpen, IsReady, HasPages, IsSpaceOf};
 
 use bitflags::Flags;
 use elf_loader::{Image, ImagePage};

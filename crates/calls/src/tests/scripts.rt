@@ -3,11 +3,14 @@ ghost use Rattle.sizes.specs.declared.TheConstants.{MOST_SCRIPT_BYTES};
 
 mod checkpoint_rows;
 mod long_rows;
+mod mapping_rows;
 mod overlay_rows;
 mod rows;
 
+use bitflags::Flags;
 use checkpoint_rows::CHECKPOINT_ROWS;
 use long_rows::LONG_ROWS;
+use mapping_rows::MAPPING_ROWS;
 use overlay_rows::OVERLAY_ROWS;
 use rows::ROWS;
 use script_text::{Command, ScriptError, line_count, parse};
@@ -47,6 +50,12 @@ fn show(alloc: Global, command: &Command, out: &mut Vec<u8>) -> Result<(), Alloc
         Command::Discard(p) => format!(in alloc; "discard {p}")?,
         Command::Promote(p, address) => format!(in alloc; "promote {p} {address}")?,
         Command::PromoteAll(p) => format!(in alloc; "promote {p} all")?,
+        Command::Compact => format!(in alloc; "compact")?,
+        Command::Map(p, address, pages, perms) => {
+            let bits = perms.bits();
+            format!(in alloc; "map {p} {address} {pages} {bits}")?
+        }
+        Command::Unmap(p, address, pages) => format!(in alloc; "unmap {p} {address} {pages}")?,
         Command::Drop(p) => format!(in alloc; "drop {p}")?,
         Command::List => format!(in alloc; "list")?,
         _ => format!(in alloc; "another")?,
@@ -105,7 +114,7 @@ fn bytes_of(alloc: Global, text: &str) -> Result<Vec<u8>, AllocError> {
 #[test]
 fn scripts_say_what_the_grammar_says(rt: HostRuntime) -> Result<(), Fail> {
     let mut rows: usize = 0;
-    for table in [ROWS, CHECKPOINT_ROWS, OVERLAY_ROWS, LONG_ROWS] {
+    for table in [ROWS, CHECKPOINT_ROWS, MAPPING_ROWS, OVERLAY_ROWS, LONG_ROWS] {
         for row in table.split('\n') {
             let (script, want) = row.split_once(" => ").expect(&rt, "a row has two parts");
             let script = bytes_of(rt.alloc(), script)?;
@@ -116,7 +125,7 @@ fn scripts_say_what_the_grammar_says(rt: HostRuntime) -> Result<(), Fail> {
             rows = rows.saturating_add(1);
         }
     }
-    assert_eq!(rt; rows, 1205);
+    assert_eq!(rt; rows, 1348);
     Ok(())
 }
 
