@@ -12,19 +12,22 @@ use Rattle.ovl_io.specs.Keys.{ties, differs}
 use Rattle.number_maps.specs.Views.{len_viewed}
 use Rattle.ovl_io.specs.declared.process_state.ProcessState.{ProcessState}
 use Rattle.rv_execute.specs.Registers.{Registers}
-use Rattle.overlay_pages.specs.State.{State, memory_of, seen_page}
+use Rattle.ledger.specs.Units.{own_lines, units}
+use Rattle.overlay_pages.specs.State.{State, books, memory_of, seen_page}
+use Rattle.overlay_pages.specs.View.{MemoryView, state_of}
 use Rattle.space_maps.specs.Spaces.{space_in}
 use Rattle.machine_core.specs.declared.process.Process as declared
-use Rattle.machine_core.specs.Machine.{Machine, Wholes, keys_from, registers_at, registers_of, registers_shown, spaces_of, whole_in, wholes}
+use Rattle.machine_core.specs.Machine.{Machine, Wholes, keys_from, limit_of, registers_at, registers_of, registers_shown, spaces_of, whole_in, wholes}
 use Rattle.machine_core.specs.Laws.{processes_at}
 use Rattle.machine_core.specs.NumberLaws.{Rises, entries_rise}
+use Rattle.command_core.specs.declared.session.Counts.{Counts}
 use Rattle.command_core.specs.declared.session.ProcessView.{ProcessView}
 use Rattle.sizes.specs.declared.TheConstants.{LAST_SPACE}
 use Rattle.command_core.specs.Sessions.{IsSession}
 use Rattle.command_core.specs.declared.checkpoints.Kept.{Kept}
 use Rattle.command_core.specs.declared.session.CheckpointView.{CheckpointView}
 use Rattle.command_core.specs.Kept.{checkpoint_in, checkpoints_in, spaces_kept}
-use Rattle.command_core.specs.Looks.{LooksAtCheckpoint, NextProcess, looked_at}
+use Rattle.command_core.specs.Looks.{LooksAtCheckpoint, NextProcess, counts_of, looked_at}
 use Rattle.command_core.proofs.Keeping.{rise_count}
 use Rattle.command_core.proofs.Places.{marked_is}
 
@@ -160,3 +163,13 @@ kept_within machine xs drawn index x is found =
     let count = rise_count 0 (spaces_kept xs) drawn is.rise in
     let same = length-map xs (λ (y : Kept). y.space) in
     omega (arith, inside, count, same, is.few)
+
+-- The counts, by those of the memory.
+pub counts_are : (machine : Machine) (memory : MemoryView) (used most own : ℕ) → memory ≡ machine.memory → used ≡ units (books (state_of memory))
+    → most ≡ limit_of (state_of memory).frames → own ≡ own_lines (books (state_of memory))
+    → ◌≡◌ {A = Counts} (record { units = used; limit = most; lines = own; hits = 0; misses = 0 }) (counts_of (wholes machine))
+counts_are machine memory used most own same is_used is_most is_own =
+    ap (λ n. record { units = n; limit = most; lines = own; hits = 0; misses = 0 }) is_used
+    ∙ ap (λ n. record { units = units (books (state_of memory)); limit = n; lines = own; hits = 0; misses = 0 }) is_most
+    ∙ ap (λ n. record { units = units (books (state_of memory)); limit = limit_of (state_of memory).frames; lines = n; hits = 0; misses = 0 }) is_own
+    ∙ ap (λ (m : MemoryView). counts_of (wholes (record { memory = m; processes = machine.processes }))) same

@@ -9,11 +9,13 @@ use Rattle.report_text.specs.declared.answer.Answer.{Answer}
 use Rattle.report_text.specs.declared.answer.Answer.TheVariants.{Loaded}
 use Rattle.report_text.specs.declared.answer.Code.TheVariants.{NoProcess, Ended}
 use Rattle.report_text.specs.Answers.{answer_text}
-use Rattle.report_text.specs.Lines.{checkpoint_line, list_line, process_line}
+use Rattle.report_text.specs.Lines.{checkpoint_line, list_line, process_line, stats_line}
+use Rattle.command_core.specs.declared.session.Counts.{Counts}
 use Rattle.command_core.specs.State.{Checkpoint, State, registry_of, with_wholes}
 use Rattle.command_core.specs.Sessions.{InSession}
 use Rattle.command_core.specs.Rows.{Changed, Row, change_by, may_want_memory, refuses}
 use Rattle.command_core.specs.Changes.{change_row, load_row}
+use Rattle.command_core.specs.Looks.{counts_of}
 use Rattle.command_core.specs.Turns.{InRun, Progress, alone, by_turns, left_of, ran_from, ran_text}
 
 -- What a command asks of the shelf, by the file that it names: nothing; or the file is there, isn't there, or
@@ -154,6 +156,16 @@ list_text state = list_head state ++ (processes_text state ++ checkpoints_text s
 abbrev pub list_done : State → Performed
 list_done state = record { text = list_text state; after = state; wants_memory = false }
 
+-- the line of the counts
+abbrev pub counts_text : Counts → List ℕ
+counts_text counts = stats_line counts.units counts.limit counts.lines counts.hits counts.misses
+
+unfoldable pub stats_text : State → List ℕ
+stats_text state = counts_text (counts_of state.wholes)
+
+abbrev pub stats_done : State → Performed
+stats_done state = record { text = stats_text state; after = state; wants_memory = false }
+
 -- What each command comes to, with the file that it has, in turns of a quantum: turns and printed lines have a line here, all others are
 -- changes.
 abbrev pub performed : ℕ → List ℕ → Command → State → Performed
@@ -161,6 +173,7 @@ performed quantum file (Exec name turns) = exec_done file turns
 performed quantum file (Run turns) = run_done quantum turns
 performed quantum file (Step p turns) = step_done p turns
 performed quantum file command.List = list_done
+performed quantum file command.Stats = stats_done
 performed quantum file other = change_told file other
 
 -- the same, in a session

@@ -5,7 +5,7 @@ use Rattle.std.specs.FinMap.{entries, get}
 use Rattle.ovl_io.specs.declared.turn.Turn.{Turn}
 use Rattle.ovl_io.specs.declared.turn.Turn.TheVariants as turn
 use Rattle.ledger.specs.Alike.{AreAlike}
-use Rattle.ledger.specs.AlikeUnits.{units_alike}
+use Rattle.ledger.specs.AlikeUnits.{lines_alike, units_alike}
 use Rattle.ledger.specs.RowLaws.{alike_after}
 use Rattle.machine_core.specs.Process.{Process, runs}
 use Rattle.machine_core.specs.Machine.{AreLike, Processes, Wholes, limit_of, running_numbers}
@@ -30,7 +30,8 @@ use Rattle.command_core.specs.Rows.{Changed, Row, accepts, change_by, event_need
 use Rattle.command_core.specs.Giving.{ComesTo, GivesChange}
 use Rattle.command_core.specs.Changes.{change_row, load_row}
 use Rattle.command_core.specs.Turns.{InRun, Progress, Ran, ending, ending_by, event_then, first_event, left_by, left_of, next_of, alone, by_turns, ran, ran_text, rest_of, run_after, run_found, stopped, turns_by, ran_from}
-use Rattle.command_core.specs.Commands.{Performed, checkpoint_text, exec_done, exec_turns, list_head, list_text, performed, process_text, row_told, step_done, steps, takes_turns, told}
+use Rattle.command_core.specs.Looks.{counts_of}
+use Rattle.command_core.specs.Commands.{Performed, checkpoint_text, counts_text, exec_done, exec_turns, list_head, list_text, performed, process_text, row_told, stats_text, step_done, steps, takes_turns, told}
 use Rattle.command_core.specs.Standing.{GivesAs}
 
 -- States that differ in the numbers of origins alone come to the same texts, and stay so.
@@ -275,6 +276,20 @@ list_same a b like =
     ap (λ (ps : Processes). list_line (length (entries ps)) (length a.checkpoints) ++ (flat_map process_text (entries ps) ++ flat_map checkpoint_text a.checkpoints)) like.wholes.processes
     ∙ ap (λ (cs : List Checkpoint). list_line (length (entries b.wholes.processes)) (length cs) ++ (flat_map process_text (entries b.wholes.processes) ++ flat_map checkpoint_text cs)) like.checkpoints
 
+-- the counts
+pub counts_same : (a b : Wholes) → AreLike a b → counts_of a ≡ counts_of b
+counts_same a b like = λ i. record {
+  units = units_alike a.ledger b.ledger like.ledger i;
+  limit = limit_of (like.frames i);
+  lines = lines_alike a.ledger b.ledger like.ledger i;
+  hits = 0;
+  misses = 0;
+}
+
+stats_same : (a b : State) → AreLikeStates a b → stats_text a ≡ stats_text b
+unfolding stats_text
+stats_same a b like = ap counts_text (counts_same a.wholes b.wholes like.wholes)
+
 pub like_performed : (quantum : ℕ) (file : List ℕ) (c : Command) (a b : State) → AreLikeStates a b → AreLikePerformed (performed quantum file c a) (performed quantum file c b)
 like_performed quantum file (command.Exec x y) a b like = like_exec file y a b like
 like_performed quantum file (command.Run x) a b like = like_takes (by_turns quantum x) a b like
@@ -301,4 +316,4 @@ like_performed quantum file (command.Set x y z) a b like = like_told (change_row
 like_performed quantum file (command.Break x y) a b like = like_told (change_row file (command.Break x y)) a b like
 like_performed quantum file (command.Unbreak x y) a b like = like_told (change_row file (command.Unbreak x y)) a b like
 like_performed quantum file (command.Disasm x y z) a b like = like_told (change_row file (command.Disasm x y z)) a b like
-like_performed quantum file command.Stats a b like = like_told (change_row file command.Stats) a b like
+like_performed quantum file command.Stats a b like = record { text = stats_same a b like; after = like; wants = refl }

@@ -1,11 +1,13 @@
 use Rattle.std.specs.Prelude.{◌≡◌, ℕ, ◌+◌, nat_le, List, [], ◌∷◌, if◌then◌else◌, slice_get, Option, Some, None, Result, Ok, Err}
 use Rattle.std.specs.List.{filter}
 use Rattle.std.specs.FinMap.{entries, get, len}
-use Rattle.machine_core.specs.Machine.{Processes, Wholes}
+use Rattle.ledger.specs.Units.{own_lines, units}
+use Rattle.machine_core.specs.Machine.{Processes, Wholes, limit_of}
 use Rattle.machine_core.specs.Process.{Process, is_speculating, runs}
 use Rattle.report_text.specs.declared.answer.Code.{Code}
 use Rattle.report_text.specs.declared.answer.Code.TheVariants.{NoProcess, Ended}
 use Rattle.command_core.specs.declared.session.CheckpointView.{CheckpointView}
+use Rattle.command_core.specs.declared.session.Counts.{Counts}
 use Rattle.command_core.specs.declared.session.ProcessView.{ProcessView}
 use Rattle.command_core.specs.State.{Checkpoint}
 use Rattle.command_core.specs.Turns.{InRun, alone, run_found}
@@ -34,6 +36,10 @@ abbrev pub LooksAtCheckpoint : List Checkpoint → ℕ → Option CheckpointView
 LooksAtCheckpoint checkpoints index None = slice_get checkpoints index ≡ None
 LooksAtCheckpoint checkpoints index (Some view) =
     (checkpoint : Checkpoint) × (slice_get checkpoints index ≡ Some checkpoint) × ShowsCheckpoint checkpoint view
+
+-- the counts: units of all pages, how many there may be, and own lines; translations aren't counted
+abbrev pub counts_of : Wholes → Counts
+counts_of all = record { units = units all.ledger; limit = limit_of all.frames; lines = own_lines all.ledger; hits = 0; misses = 0 }
 
 -- the turns of one process are begun: refused where it isn't there, or has ended
 abbrev pub begun : Wholes → ℕ → ℕ → Option Process → Result InRun Code

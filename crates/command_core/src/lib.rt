@@ -22,7 +22,7 @@ mod session;
 mod taking;
 mod turns;
 
-pub use session::{CheckpointView, ProcessView, Session};
+pub use session::{CheckpointView, Counts, ProcessView, Session};
 pub use turns::{Order, Running};
 
 #[cfg(test)]

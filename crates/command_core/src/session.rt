@@ -11,7 +11,7 @@ ghost use Rattle.command_core.specs.Overlays.{overlay_row};
 ghost use Rattle.command_core.specs.Checkpoints.{checkpoint_row, forget_row, on_checkpoint, restore_row};
 ghost use Rattle.command_core.specs.Changes.{CanBeTold, answer_of, change_row, drop_row, load_row, on_process};
 ghost use Rattle.command_core.specs.Commands.{RunsLoaded, asks};
-ghost use Rattle.command_core.specs.Looks.{BeginsStep, LooksAt, LooksAtCheckpoint, NextProcess, looked_at};
+ghost use Rattle.command_core.specs.Looks.{BeginsStep, LooksAt, LooksAtCheckpoint, NextProcess, counts_of, looked_at};
 ghost use Rattle.command_core.specs.Standing.{SessionAnswersAs, GivesAs, HoldsFor, SessionStandsFor, TurnsAs, begun_run, begun_step, ends_run, speaks, takes_turn};
 ghost use Rattle.std.specs.FinMap.{get};
 ghost use Rattle.command_core.specs.Turns.{begun_by, lines_left, run_found};
@@ -52,6 +52,20 @@ pub struct CheckpointView<'a> {
     pub space: u16,
     /// How many pages it has.
     pub pages: u32,
+}
+
+/// What is counted over all processes and checkpoints.
+#[derive(Clone, Copy, Debug)]
+pub struct Counts {
+    /// The units of their pages, in use.
+    pub units: u32,
+    /// How many units there may be: 16 for each frame.
+    pub limit: u32,
+    /// The own lines of their pages.
+    pub lines: u32,
+    /// The translations that were there, and those that weren't; 0, since they aren't counted.
+    pub hits: u64,
+    pub misses: u64,
 }
 
 /// Processes by number, checkpoints by name, what commands do to them, and the quantum of turns.
@@ -441,6 +455,7 @@ impl Session {
     {
         self.machine.next_process(from)
     }
+
     /// The checkpoint of a place, in the order of making; none exactly past the last.
     pub fn checkpoint_at(&self, index: usize) -> Option<CheckpointView<'_>>
         ensures looks { LooksAtCheckpoint self.now.state.checkpoints index result }
@@ -451,6 +466,20 @@ impl Session {
         match self.checkpoints.at(index) {
             None => None,
             Some(kept) => Some(view_of(kept, self.machine.memory().pages(kept.space))),
+        }
+    }
+    /// What is counted over all processes and checkpoints. Costs a step.
+    pub fn counts(&self) -> Counts
+        ensures counts { result ≡ counts_of self.now.state.wholes }
+        ensures stands { SessionAnswersAs (λ state. counts_of state.wholes) self.now result }
+    {
+        let memory = self.machine.memory();
+        Counts {
+            units: memory.units(),
+            limit: memory.limit(),
+            lines: memory.lines(),
+            hits: 0,
+            misses: 0,
         }
     }
 }

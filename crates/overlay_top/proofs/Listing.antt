@@ -9,10 +9,11 @@ use Rattle.std.specs.Prelude.{Result, Ok}
 use Rattle.report_text.specs.declared.answer.Code.{Code}
 use Rattle.report_text.specs.Lines.{checkpoint_line, list_line, process_line}
 use Rattle.command_core.specs.declared.session.CheckpointView.{CheckpointView}
+use Rattle.command_core.specs.declared.session.Counts.{Counts}
 use Rattle.command_core.specs.declared.session.ProcessView.{ProcessView}
 use Rattle.command_core.specs.State.{Checkpoint, State}
-use Rattle.command_core.specs.Commands.{checkpoint_text, list_head, process_text}
-use Rattle.command_core.specs.Looks.{NextProcess, ShowsCheckpoint, from_number, looked_at, view_of}
+use Rattle.command_core.specs.Commands.{checkpoint_text, counts_text, list_head, process_text, stats_text}
+use Rattle.command_core.specs.Looks.{NextProcess, ShowsCheckpoint, counts_of, from_number, looked_at, view_of}
 
 -- The processes from a number on.
 
@@ -88,3 +89,8 @@ unfolding checkpoint_text
 checkpoint_is x view line shows is =
     is ∙ ap (λ n. checkpoint_line n view.space view.pages) shows.name ∙ ap (λ n. checkpoint_line x.name n view.pages) shows.space
     ∙ ap (checkpoint_line x.name x.space) shows.pages
+
+-- The line of the counts.
+pub counts_line_is : (state : State) (counts : Counts) (line : List ℕ) → counts ≡ counts_of state.wholes → line ≡ counts_text counts → line ≡ stats_text state
+unfolding stats_text
+counts_line_is state counts line same is = is ∙ ap counts_text same

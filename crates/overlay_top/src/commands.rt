@@ -3,7 +3,7 @@ ghost use Rattle.std.specs.FinMap.{entries};
 ghost use Rattle.script_text.specs.Given.{IsGiven};
 ghost use Rattle.report_text.specs.Answers.{HasAnswerLine, answer_text};
 ghost use Rattle.command_core.specs.Changes.{CanBeTold};
-ghost use Rattle.command_core.specs.Commands.{RunsLoaded, asks, change_told, checkpoints_text, exec_done, exec_turns, list_done, list_text, load_told, performed_in, processes_text, run_done, step_done, takes_left, tells_exec};
+ghost use Rattle.command_core.specs.Commands.{RunsLoaded, asks, change_told, checkpoints_text, exec_done, exec_turns, list_done, list_text, load_told, performed_in, processes_text, run_done, stats_text, step_done, takes_left, tells_exec};
 ghost use Rattle.overlay_top.specs.Sending.{SendsText};
 ghost use Rattle.overlay_top.specs.Running.{DoesCommand, TakesOn, TellsAnswer};
 
@@ -11,7 +11,9 @@ use crate::running::Halt;
 use crate::sending::Report;
 use command_core::{Running, Session};
 use ovl_io::{Failed, Sink};
-use report_text::{Answer, answer_line, checkpoint_line, list_line, process_line, stop_line};
+use report_text::{
+    Answer, answer_line, checkpoint_line, list_line, process_line, stats_line, stop_line,
+};
 use script_text::Command;
 
 /// Sends the line of an answer.
@@ -263,6 +265,24 @@ fn list<K: Sink>(session: &Session, report: &mut Report<K>) -> Result<(), Failed
     list_checkpoints(session, report)
 }
 
+/// Prints the counts.
+fn stats<K: Sink>(session: &Session, report: &mut Report<K>) -> Result<(), Failed>
+    ensures sends { SendsText K.Sink report.old.sink.now (stats_text session.now.state)
+        report.new.sink.now result }
+    ensures same { report.new.sink.ghost_name ≡ report.old.sink.ghost_name }
+{
+    let counts = session.counts();
+    stats_line(
+        counts.units,
+        counts.limit,
+        counts.lines,
+        counts.hits,
+        counts.misses,
+        &mut report.line,
+    );
+    report.send()
+}
+
 /// Does one command, with the file that it asks for.
 pub(crate) fn do_command<K: Sink>(
     session: &mut Session,
@@ -281,6 +301,7 @@ pub(crate) fn do_command<K: Sink>(
         Command::Run(turns) => run_all(session, *turns, report),
         Command::Step(p, turns) => step(session, *p, *turns, report),
         Command::List => list(session, report),
+        Command::Stats => stats(session, report),
         _ => return change(session, command, report),
     };
     match sent {

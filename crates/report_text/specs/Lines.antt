@@ -71,3 +71,9 @@ process_line p state speculating pages =
 -- a checkpoint in a list, its space and its pages
 abbrev pub checkpoint_line : List ℕ → ℕ → ℕ → List ℕ
 checkpoint_line name space pages = codes "checkpoint " ++ name ++ codes " " ++ in_decimal space ++ pages_text pages ++ codes "\n"
+
+-- the units of all pages and how many there may be, their own lines, and the translations that were there and that weren't
+abbrev pub stats_line : ℕ → ℕ → ℕ → ℕ → ℕ → List ℕ
+stats_line units limit lines hits misses =
+    codes "units " ++ in_decimal units ++ codes " of " ++ in_decimal limit ++ codes " lines " ++ in_decimal lines ++ codes " hits " ++ in_decimal hits
+    ++ codes " misses " ++ in_decimal misses ++ codes "\n"

@@ -1,6 +1,6 @@
 ghost use Rattle.std.specs.Prelude.{◌≡◌, ◌+◌, ◌*◌, ◌==◌, ◌||◌, ◌≤◌, ◌++◌, length, IsTrue};
 ghost use Rattle.arrayvec.specs.ArrayVec.{array_vec_len};
-ghost use Rattle.report_text.specs.Lines.{loaded_line, forked_line, saved_line, refused_line, full_line, bad_line, wrote_line, exited_line, faulted_line, full_turn_line, break_line, ran_line, list_line, process_line, checkpoint_line};
+ghost use Rattle.report_text.specs.Lines.{loaded_line, forked_line, saved_line, refused_line, full_line, bad_line, wrote_line, exited_line, faulted_line, full_turn_line, break_line, ran_line, list_line, process_line, checkpoint_line, stats_line};
 ghost use Rattle.report_text.specs.Answers.{IsCheckpointName, HasCodeLine};
 
 use crate::names::{kind_text, port_text, push_code, push_pages, push_state, stop_word};
@@ -216,5 +216,24 @@ pub(crate) fn put_checkpoint(line: &mut Line, name: &[u8], space: u16, pages: u3
     push_text(line, b" ");
     push_decimal(line, u64::from(space));
     push_pages(line, pages);
+    push_text(line, b"\n");
+}
+
+/// The counts.
+pub(crate) fn put_stats(line: &mut Line, units: u32, limit: u32, lines: u32, hits: u64, misses: u64)
+    requires { array_vec_len line.old + 256 ≤ LINE_ROOM }
+    ensures text { line.new.items ≡ line.old.items ++ stats_line units limit lines hits misses }
+    ensures len { array_vec_len line.new ≤ array_vec_len line.old + 256 }
+{
+    push_text(line, b"units ");
+    push_decimal(line, u64::from(units));
+    push_text(line, b" of ");
+    push_decimal(line, u64::from(limit));
+    push_text(line, b" lines ");
+    push_decimal(line, u64::from(lines));
+    push_text(line, b" hits ");
+    push_decimal(line, hits);
+    push_text(line, b" misses ");
+    push_decimal(line, misses);
     push_text(line, b"\n");
 }

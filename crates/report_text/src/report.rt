@@ -1,10 +1,11 @@
 ghost use Rattle.std.specs.Prelude.{◌≡◌};
-ghost use Rattle.report_text.specs.Lines.{bad_line, list_line, process_line, checkpoint_line};
+ghost use Rattle.report_text.specs.Lines.{bad_line, list_line, process_line, checkpoint_line, stats_line};
 ghost use Rattle.report_text.specs.Answers.{HasAnswerLine, HasPort, IsCheckpointName, answer_text, turn_text, has_turn_line, stop_text};
 
 use crate::lines::{
     put_bad, put_break, put_checkpoint, put_exited, put_faulted, put_forked, put_full,
-    put_full_turn, put_list, put_loaded, put_process, put_ran, put_refused, put_saved, put_wrote,
+    put_full_turn, put_list, put_loaded, put_process, put_ran, put_refused, put_saved, put_stats,
+    put_wrote,
 };
 use crate::push::push_text;
 use crate::{Answer, Line, Stop};
@@ -88,4 +89,13 @@ pub fn checkpoint_line(name: &Bytes, space: u16, pages: u32, out: &mut Line)
 {
     out.clear();
     put_checkpoint(out, name.as_slice(), space, pages);
+}
+
+/// The counts: the units of all pages and how many there may be, their own lines, and the translations that were
+/// there and that weren't.
+pub fn stats_line(units: u32, limit: u32, lines: u32, hits: u64, misses: u64, out: &mut Line)
+    ensures { out.new.items ≡ stats_line units limit lines hits misses }
+{
+    out.clear();
+    put_stats(out, units, limit, lines, hits, misses);
 }

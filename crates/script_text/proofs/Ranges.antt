@@ -162,6 +162,7 @@ all_give =
     (λ p h. two_given IsAddress IsPages address_word pages_word (command.Unmap p) address_given pages_given (λ a n k l. (h, k, l)))
     beside one_given IsProcess process_word Drop process_given (λ a h. h)
     beside none_given _ tt
+    beside none_given _ tt
     beside tt
 
 -- what a line gives

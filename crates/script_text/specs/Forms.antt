@@ -78,6 +78,7 @@ forms =
     ∷ form (codes "unmap") (three_words process_word address_word pages_word command.Unmap)
     ∷ form (codes "drop") (one_word process_word Drop)
     ∷ form (codes "list") (no_words command.List)
+    ∷ form (codes "stats") (no_words command.Stats)
     ∷ []
 
 -- the command that a form makes of a first word and the words behind it, where they fit it

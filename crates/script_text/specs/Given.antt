@@ -57,4 +57,4 @@ IsGiven (command.Set p register value) = ⊥
 IsGiven (command.Break p address) = ⊥
 IsGiven (command.Unbreak p address) = ⊥
 IsGiven (command.Disasm p address words) = ⊥
-IsGiven command.Stats = ⊥
+IsGiven command.Stats = Unit {0}

@@ -333,6 +333,17 @@ fn list(words: &[u8]) -> Option<Command>
     }
 }
 
+/// `stats`
+fn stats(words: &[u8]) -> Option<Command>
+    ensures { result ≡ no_words command.Stats (words_of words.now) }
+{
+    if no_words(words) {
+        Some(Command::Stats)
+    } else {
+        None
+    }
+}
+
 /// The command that a first word and the words behind it are, by the table of forms.
 fn command_of(alloc: Global, first: &[u8], words: &[u8]) -> Result<Option<Command>, AllocError>
     ensures { IfOk result (λ command. command ≡ command_of first.now (words_of words.now)) }
@@ -371,6 +382,8 @@ fn command_of(alloc: Global, first: &[u8], words: &[u8]) -> Result<Option<Comman
         Ok(give_up(words))
     } else if first == b"list".as_slice() {
         Ok(list(words))
+    } else if first == b"stats".as_slice() {
+        Ok(stats(words))
     } else {
         Ok(None)
     }

@@ -3,7 +3,7 @@ use elf_loader::ElfError;
 use ovl_io::{Bytes, FaultKind, ProcessState, Turn, Written};
 use report_text::{
     Answer, Code, LINE_ROOM, Line, Stop, answer_line, bad_line, checkpoint_line, list_line,
-    process_line, stop_line, turn_line,
+    process_line, stats_line, stop_line, turn_line,
 };
 use std::test::Fail;
 
@@ -97,7 +97,7 @@ fn turns_are_printed(rt: HostRuntime) -> Result<(), Fail> {
 }
 
 #[test]
-fn endings_and_lists_are_printed(rt: HostRuntime) -> Result<(), Fail> {
+fn endings_lists_and_counts_are_printed(rt: HostRuntime) -> Result<(), Fail> {
     let mut out = Line::new();
     let rows: [(u32, Stop, &[u8]); 5] = [
         (0, Stop::Idle, b"ran 0 idle\n"),
@@ -133,6 +133,8 @@ fn endings_and_lists_are_printed(rt: HostRuntime) -> Result<(), Fail> {
     let name = Bytes::new(Vec::from_slice(rt.alloc(), b"k")?);
     checkpoint_line(&name, 2, 17, &mut out);
     assert!(rt; out.as_slice() == b"checkpoint k 2 pages 17\n".as_slice());
+    stats_line(36, 48, 8, 0, 18446744073709551615, &mut out);
+    assert!(rt; out.as_slice() == b"units 36 of 48 lines 8 hits 0 misses 18446744073709551615\n".as_slice());
     assert!(rt; LINE_ROOM == 16384);
     Ok(())
 }

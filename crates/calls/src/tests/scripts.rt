@@ -58,6 +58,7 @@ fn show(alloc: Global, command: &Command, out: &mut Vec<u8>) -> Result<(), Alloc
         Command::Unmap(p, address, pages) => format!(in alloc; "unmap {p} {address} {pages}")?,
         Command::Drop(p) => format!(in alloc; "drop {p}")?,
         Command::List => format!(in alloc; "list")?,
+        Command::Stats => format!(in alloc; "stats")?,
         _ => format!(in alloc; "another")?,
     };
     out.extend_from_slice(text.as_bytes())

@@ -98,8 +98,13 @@ returns-then-eq-17 c =
     c.list.ensures
     ∙ at_row (codes "list") c.as_slice-else-eq-16.result.now (no_words command.List) c.args.first.now (words_of c.args.words.now) (λ ws. refl) c.as_slice-else-eq-16.ensures c.if-eq-17.ensures
 
-pub returns-else-eq-17 : goal.returns-else-eq-17
-returns-else-eq-17 c =
+pub returns-then-eq-18 : goal.returns-then-eq-18
+returns-then-eq-18 c =
+    c.stats.ensures
+    ∙ at_row (codes "stats") c.as_slice-else-eq-17.result.now (no_words command.Stats) c.args.first.now (words_of c.args.words.now) (λ ws. refl) c.as_slice-else-eq-17.ensures c.if-eq-18.ensures
+
+pub returns-else-eq-18 : goal.returns-else-eq-18
+returns-else-eq-18 c =
     at_no_row c.args.first.now (words_of c.args.words.now) (
     not_text (codes "exec") c.as_slice.result.now c.args.first.now c.as_slice.ensures c.if-eq.ensures
     beside not_text (codes "load") c.as_slice-else-eq.result.now c.args.first.now c.as_slice-else-eq.ensures c.if-eq-2.ensures
@@ -119,5 +124,6 @@ returns-else-eq-17 c =
     beside not_text (codes "unmap") c.as_slice-else-eq-14.result.now c.args.first.now c.as_slice-else-eq-14.ensures c.if-eq-15.ensures
     beside not_text (codes "drop") c.as_slice-else-eq-15.result.now c.args.first.now c.as_slice-else-eq-15.ensures c.if-eq-16.ensures
     beside not_text (codes "list") c.as_slice-else-eq-16.result.now c.args.first.now c.as_slice-else-eq-16.ensures c.if-eq-17.ensures
+    beside not_text (codes "stats") c.as_slice-else-eq-17.result.now c.args.first.now c.as_slice-else-eq-17.ensures c.if-eq-18.ensures
     beside tt
     )
