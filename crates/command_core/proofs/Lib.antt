@@ -14,4 +14,5 @@ pub mod Forkings
 pub mod Savings
 pub mod Speculating
 pub mod Pages
+pub mod Registers
 pub mod Stills

@@ -14,7 +14,7 @@ use Rattle.report_text.specs.declared.answer.Code.TheVariants.{NoProcess, Elf}
 use Rattle.report_text.specs.Answers.{HasAnswerLine}
 use Rattle.script_text.specs.declared.command.Command.{Command}
 use Rattle.script_text.specs.declared.command.Command.TheVariants as command
-use Rattle.command_core.specs.declared.overlays.OverlayChange.TheVariants.{Speculate, Commit, Discard, Promote, PromoteAll, Map, Unmap}
+use Rattle.command_core.specs.declared.overlays.OverlayChange.TheVariants.{Speculate, Commit, Discard, Promote, PromoteAll, Map, Unmap, Set}
 use Rattle.command_core.specs.State.{Registry}
 use Rattle.command_core.specs.Rows.{Row, TakesFirst, plain_row, refused_row, still_row}
 use Rattle.command_core.specs.Refusals.{by_numbers_used}
@@ -61,6 +61,7 @@ change_row file command.Compact = still_row
 change_row file (command.Map p address n perms) = on_process p (overlay_row p (Map address n perms))
 change_row file (command.Unmap p address n) = on_process p (overlay_row p (Unmap address n))
 change_row file (command.Drop p) = on_process p (drop_row p)
+change_row file (command.Set p register value) = on_process p (overlay_row p (Set register value))
 change_row file other = still_row
 
 -- what is answered where a machine doesn't load a file, or doesn't copy a space

@@ -1,4 +1,4 @@
-use Rattle.std.specs.Prelude.{ℕ, ◌/◌, true, false, [], ◌∷◌, Some, None}
+use Rattle.std.specs.Prelude.{ℕ, ◌/◌, true, false, [], ◌∷◌, nat_lt, if◌then◌else◌, Some, None}
 use Rattle.std.specs.Option.{option_map_or}
 use Rattle.std.specs.List.{fold, range_with_len}
 use Rattle.std.specs.FinMap.{insert, remove}
@@ -6,6 +6,8 @@ use Rattle.sizes.specs.declared.TheConstants.{PAGE_BYTES}
 use Rattle.ledger.specs.Events as event
 use Rattle.ovl_io.specs.Memory.{Memory}
 use Rattle.machine_core.specs.Load.{zero_content}
+use Rattle.rv_execute.specs.Registers.{Registers, with_pc, with_register}
+use Rattle.script_text.specs.declared.TheConstants.{PC_NUMBER}
 use Rattle.machine_core.specs.Process.{Process, Whole, is_speculating}
 use Rattle.machine_core.specs.declared.process.Process as declared
 use Rattle.machine_core.specs.Machine.{Machine, spaces_of, whole_in}
@@ -17,13 +19,13 @@ use Rattle.report_text.specs.declared.answer.Answer.{Answer}
 use Rattle.report_text.specs.declared.answer.Answer.TheVariants.{Done, Refused, Full}
 use Rattle.report_text.specs.declared.answer.Code.TheVariants.{Speculating, NotSpeculating, Unmapped}
 use Rattle.command_core.specs.declared.overlays.OverlayChange.{OverlayChange}
-use Rattle.command_core.specs.declared.overlays.OverlayChange.TheVariants.{Speculate, Commit, Discard, Promote, PromoteAll, Map, Unmap}
+use Rattle.command_core.specs.declared.overlays.OverlayChange.TheVariants.{Speculate, Commit, Discard, Promote, PromoteAll, Map, Unmap, Set}
 use Rattle.command_core.specs.State.{Registry, process_of, whole_of}
 use Rattle.command_core.specs.Rows.{Row, TakesLast, plain_row, refused_row}
 use Rattle.command_core.specs.Giving.{MachineGives}
 use Rattle.command_core.specs.Refusals.{map_refusals, unmap_refusals, by_ended, by_not_speculating, by_speculating, by_unmapped}
 
--- What speculation, promotion, and pages that are mapped or given up make of a process that is there.
+-- What speculation, promotion, pages that are mapped or given up, and a register that is set make of a process that is there.
 
 -- A speculation begins: the whole is kept.
 abbrev pub after_speculate : Process → Process
@@ -53,6 +55,14 @@ pages_gone from n memory = fold (λ m page. remove m page) memory (range_with_le
 abbrev pub with_pages : Memory → Process → Process
 with_pages memory process = record { registers = process.registers; state = process.state; memory = memory; kept = process.kept }
 
+-- the process with this value of a register, or of the pc
+abbrev pub set_register : ℕ → ℕ → Registers → Registers
+set_register register value registers = if nat_lt register PC_NUMBER then with_register registers register value else with_pc registers value
+
+abbrev pub after_set : ℕ → ℕ → Process → Process
+after_set register value process =
+    record { registers = set_register register value process.registers; state = process.state; memory = process.memory; kept = process.kept }
+
 -- the process in its place
 abbrev pub leaves : ℕ → Process → Registry → Registry
 leaves p process registry =
@@ -80,6 +90,7 @@ overlay_row p (Map address n perms) process registry = record {
 overlay_row p (Unmap address n) process registry =
     plain_row false (unmap_refusals address n (is_speculating process) process.memory) (event.Unmap p (address / PAGE_BYTES) n)
     (leaves p (with_pages (pages_gone (address / PAGE_BYTES) n process.memory) process) registry)
+overlay_row p (Set register value) process registry = plain_row false [] event.Other (leaves p (after_set register value process) registry)
 
 -- what a machine answers of one of them, at a process that stood in its place
 abbrev pub ChangesOverlays : ℕ → OverlayChange → declared.Process → Machine → Answer → Machine → Type 0

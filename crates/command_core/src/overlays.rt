@@ -1,21 +1,23 @@
-//! What commands do to the pages of a process that is there: speculation, promotion, and pages that are mapped or given up.
+//! What commands do to a process that is there: speculation, promotion, pages that are mapped or given up, and registers that are set.
 
 ghost use Rattle.std.specs.Prelude.{◌≡◌, Some, true};
 ghost use Rattle.std.specs.FinMap.{empty, get};
 ghost use Rattle.space_maps.specs.Spaces.{space_in};
 ghost use Rattle.machine_core.specs.Machine.{has_saved, has_space, is_marked, spaces_of};
 ghost use Rattle.command_core.specs.Changes.{CanBeTold};
-ghost use Rattle.command_core.specs.Overlays.{ChangesOverlays, promotion_answer, speculation_answer};
+ghost use Rattle.command_core.specs.Overlays.{ChangesOverlays, promotion_answer, set_register, speculation_answer};
 
 use crate::mapping::{map_pages, unmap_pages};
 use machine_core::{Machine, Process, SavedRegs};
 use ovl_io::{Perms, ProcessState};
 use promotion::{PromoteError, promote, promote_all};
 use report_text::{Answer, Code};
+use rv_execute::Regs;
+use script_text::PC_NUMBER;
 use sizes::PAGE_BYTES;
 use speculation::{SpeculationError, commit, discard, start};
 
-/// What is done with the overlays and the pages of a process.
+/// What is done with the overlays, the pages and the registers of a process.
 #[derive(Clone, Copy, Debug)]
 pub(crate) enum OverlayChange {
     /// A speculation begins.
@@ -32,6 +34,8 @@ pub(crate) enum OverlayChange {
     Map(u64, u32, Perms),
     /// So many pages are given up from an address on.
     Unmap(u64, u32),
+    /// A register is set, by its number, or the pc.
+    Set(u8, u64),
 }
 
 /// What is answered where a speculation doesn't begin or end.
@@ -188,6 +192,35 @@ fn promote_pages(machine: &mut Machine, p: u16, process: Process) -> Answer
     }
 }
 
+/// Registers of which one has another value, or the pc has.
+fn with_value(regs: Regs, register: u8, value: u64) -> Regs
+    ensures { result ≡ set_register register value regs }
+{
+    let mut regs = regs;
+    if register < PC_NUMBER {
+        regs.set(register, value);
+    } else {
+        regs.set_pc(value);
+    }
+    regs
+}
+
+/// Sets a register of process `p`, or its pc, whatever its state is. What is kept of it stays.
+fn put_register(machine: &mut Machine, p: u16, process: Process, register: u8, value: u64) -> Answer
+    requires there { get machine.old.processes p ≡ Some process }
+    ensures done { ChangesOverlays p (OverlayChange.Set register value) process
+        machine.old result machine.new }
+    ensures told { CanBeTold result }
+{
+    let left = Process {
+        regs: with_value(process.regs, register, value),
+        state: process.state,
+        saved: process.saved,
+    };
+    machine.set_process(p, left);
+    Answer::Done
+}
+
 /// Does a change to process `p`, which is there with its space, of which no page awaits, and of which registers and state are kept
 /// exactly where it is speculating. Takes memory for pages that are mapped, and else none.
 pub(crate) fn change_overlays(
@@ -211,5 +244,6 @@ pub(crate) fn change_overlays(
         OverlayChange::PromoteAll => promote_pages(machine, p, process),
         OverlayChange::Map(address, n, perms) => map_pages(machine, p, process, address, n, perms),
         OverlayChange::Unmap(address, n) => unmap_pages(machine, p, process, address, n),
+        OverlayChange::Set(register, value) => put_register(machine, p, process, register, value),
     }
 }

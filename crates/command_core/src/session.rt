@@ -278,7 +278,7 @@ impl Session {
         }
     }
 
-    /// Does a change to the pages of a process: a speculation begins or ends, or pages are promoted, mapped or given up. Answers what came of it, or why
+    /// Does a change to a process: a speculation begins or ends, pages are promoted, mapped or given up, or a register is set. Answers what came of it, or why
     /// it wasn't done. `Full` exactly where it isn't refused and the units after it would exceed the limit.
     fn change_overlays(&mut self, p: u16, change: OverlayChange) -> Answer
         ensures gives { GivesChange (on_process p (overlay_row p change) (registry_of self.old.state))
@@ -351,6 +351,9 @@ impl Session {
                 self.change_overlays(*p, OverlayChange::Unmap(*address, *n))
             }
             Command::Drop(p) => self.drop_process(*p),
+            Command::Set(p, register, value) => {
+                self.change_overlays(*p, OverlayChange::Set(*register, *value))
+            }
             _ => Answer::Done,
         }
     }

@@ -1,4 +1,4 @@
-use Rattle.std.proofs.Common.{◌≡◌, ℕ, ◌≤◌, ◌-◌, ◌^◌, ◌&&◌, nat_le, nat_eq, refl, Bool, true, false, cond, List, [], ◌∷◌, length, codes, subst, arith, Option, Some, None}
+use Rattle.std.proofs.Common.{◌≡◌, ℕ, ◌≤◌, ◌-◌, ◌^◌, ◌&&◌, nat_le, nat_eq, refl, Bool, true, false, cond, List, [], ◌∷◌, length, drop, codes, subst, arith, Option, Some, None}
 use Rattle.std.specs.Option.{IfSome, option_or, option_map}
 use Rattle.std.specs.List.{list_all}
 use Rattle.std.proofs.lemmas.Bool.{and_parts}
@@ -6,7 +6,7 @@ use Rattle.std.proofs.lemmas.Bool.Decides.{nat_tests}
 use lib.Pointwise.{pointwise}
 use Rattle.ovl_io.specs.Outside.{HasName}
 use Rattle.ovl_io.specs.declared.perms.Perms.{Perms}
-use Rattle.script_text.specs.declared.TheConstants.{MOST_CHECKPOINT_NAME, MOST_PAGES, MOST_TURNS}
+use Rattle.script_text.specs.declared.TheConstants.{MOST_CHECKPOINT_NAME, MOST_PAGES, MOST_TURNS, PC_NUMBER}
 use Rattle.sizes.specs.declared.TheConstants.{LAST_SPACE, MOST_FILE_NAME}
 use Rattle.script_text.specs.declared.command.Command.{Command}
 use Rattle.script_text.specs.declared.command.Command.TheVariants.{Exec, Load, Fork, Run, Step, Checkpoint, Restore, Forget, Speculate, Commit, Discard, Promote, Drop}
@@ -14,12 +14,12 @@ use Rattle.script_text.specs.declared.command.Command.TheVariants as command
 use Rattle.script_text.specs.declared.command.Meaning.TheVariants.{Does, Nothing}
 use Rattle.script_text.specs.Words.{words_of}
 use Rattle.script_text.specs.Lines.{without_return}
-use Rattle.script_text.specs.Numbers.{within, number_in}
-use Rattle.script_text.specs.Kinds.{Kind, is_file_name, file_word, is_name_byte, is_checkpoint_name, checkpoint_word, turns_word, process_word, address_word, pages_word, perms_by, is_text, perms_word, is_all, all_word}
+use Rattle.script_text.specs.Numbers.{within, number_between, number_in}
+use Rattle.script_text.specs.Kinds.{Kind, is_file_name, file_word, is_name_byte, is_checkpoint_name, checkpoint_word, turns_word, process_word, address_word, begins_with, has_leading_zero, register_word, pages_word, perms_by, is_text, perms_word, is_all, all_word}
 use Rattle.script_text.specs.Forms.{Form, forms, no_words, one_word, two_words, three_words, with_said, word_then, both, promote_all, made_by, command_of}
 use Rattle.script_text.specs.Script.{is_comment, as_command, meaning_of_words, meaning_of}
 use Rattle.script_text.specs.FormLaws.{◌beside◌}
-use Rattle.script_text.specs.Given.{IsGiven, IsTurns, IsProcess, IsAddress, IsPages, IsPerms, IsCheckpoint}
+use Rattle.script_text.specs.Given.{IsGiven, IsTurns, IsProcess, IsAddress, IsRegister, IsPages, IsPerms, IsCheckpoint}
 
 -- Each command of a script has its values in the ranges of their kinds.
 
@@ -65,6 +65,22 @@ below (Some n) h = omega (arith, h.1)
 
 address_given : (word : List ℕ) → IfSome (address_word word) IsAddress
 address_given word = below (address_word word) (in_range 0 (2 ^ 64 - 1) (number_in word))
+
+numbered : (o : Option ℕ) → IfSome o (λ n. (0 ≤ n) × (n ≤ 31)) → IfSome o IsRegister
+numbered None h = tt
+numbered (Some n) h = omega (arith, h.1)
+
+by_name : (pc x zero : Bool) (o : Option ℕ) → IfSome o IsRegister → IfSome (cond pc (Some PC_NUMBER) (cond x (cond zero None o) None)) IsRegister
+by_name true x zero o h = omega arith
+by_name false false zero o h = tt
+by_name false true true o h = tt
+by_name false true false o h = h
+
+register_given : (word : List ℕ) → IfSome (register_word word) IsRegister
+register_given word =
+    let digits = drop 1 word in
+    by_name (is_text word (codes "pc")) (begins_with word (codes "x")) (has_leading_zero digits) (number_between 0 31 digits)
+    (numbered (number_between 0 31 digits) (in_range 0 31 (number_in digits)))
 
 pages_given : (word : List ℕ) → IfSome (pages_word word) IsPages
 pages_given word = in_range 1 MOST_PAGES (number_in word)
@@ -161,6 +177,8 @@ all_give =
     beside then_given IsProcess process_word (λ p. two_words address_word pages_word (command.Unmap p)) process_given
     (λ p h. two_given IsAddress IsPages address_word pages_word (command.Unmap p) address_given pages_given (λ a n k l. (h, k, l)))
     beside one_given IsProcess process_word Drop process_given (λ a h. h)
+    beside then_given IsProcess process_word (λ p. two_words register_word address_word (command.Set p)) process_given
+    (λ p h. two_given IsRegister IsAddress register_word address_word (command.Set p) register_given address_given (λ r a k l. (h, k, l)))
     beside none_given _ tt
     beside none_given _ tt
     beside tt

@@ -5,7 +5,7 @@ use lib.Pointwise.{pointwise}
 use Rattle.script_text.specs.declared.command.Command.{Command}
 use Rattle.script_text.specs.declared.command.Command.TheVariants.{Exec, Load, Fork, Run, Step, Checkpoint, Restore, Forget, Speculate, Commit, Discard, Promote, PromoteAll, Drop}
 use Rattle.script_text.specs.declared.command.Command.TheVariants as command
-use Rattle.script_text.specs.Kinds.{Kind, file_word, checkpoint_word, turns_word, process_word, address_word, pages_word, perms_word, all_word}
+use Rattle.script_text.specs.Kinds.{Kind, file_word, checkpoint_word, turns_word, process_word, address_word, pages_word, perms_word, register_word, all_word}
 
 -- The forms of commands.
 
@@ -77,6 +77,7 @@ forms =
     ∷ form (codes "map") (four_words process_word address_word pages_word perms_word command.Map)
     ∷ form (codes "unmap") (three_words process_word address_word pages_word command.Unmap)
     ∷ form (codes "drop") (one_word process_word Drop)
+    ∷ form (codes "set") (three_words process_word register_word address_word command.Set)
     ∷ form (codes "list") (no_words command.List)
     ∷ form (codes "stats") (no_words command.Stats)
     ∷ []

@@ -3,7 +3,7 @@ use Rattle.std.specs.List.{list_any}
 use Rattle.ovl_io.specs.declared.perms.Perms.{Perms}
 use Rattle.ovl_io.specs.Outside.{HasName}
 use Rattle.sizes.specs.declared.TheConstants.{LAST_SPACE}
-use Rattle.script_text.specs.declared.TheConstants.{MOST_CHECKPOINT_NAME, MOST_PAGES, MOST_TURNS}
+use Rattle.script_text.specs.declared.TheConstants.{MOST_CHECKPOINT_NAME, MOST_PAGES, MOST_TURNS, PC_NUMBER}
 use Rattle.script_text.specs.declared.command.Command.{Command}
 use Rattle.script_text.specs.declared.command.Command.TheVariants.{Exec, Load, Fork, Run, Step, Checkpoint, Restore, Forget, Speculate, Commit, Discard, Promote, PromoteAll, Drop}
 use Rattle.script_text.specs.declared.command.Command.TheVariants as command
@@ -18,6 +18,10 @@ IsProcess p = (1 ≤ p) × (p ≤ LAST_SPACE)
 
 abbrev pub IsAddress : ℕ → Type 0
 IsAddress address = address < 2 ^ 64
+
+-- a register by its number, or the pc
+abbrev pub IsRegister : ℕ → Type 0
+IsRegister register = register ≤ PC_NUMBER
 
 abbrev pub IsPages : ℕ → Type 0
 IsPages n = (1 ≤ n) × (n ≤ MOST_PAGES)
@@ -53,7 +57,7 @@ IsGiven command.List = Unit {0}
 IsGiven (command.Regs p) = ⊥
 IsGiven (command.Dump p address count) = ⊥
 IsGiven (command.Poke p address bytes) = ⊥
-IsGiven (command.Set p register value) = ⊥
+IsGiven (command.Set p register value) = IsProcess p × IsRegister register × IsAddress value
 IsGiven (command.Break p address) = ⊥
 IsGiven (command.Unbreak p address) = ⊥
 IsGiven (command.Disasm p address words) = ⊥

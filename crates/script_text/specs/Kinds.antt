@@ -1,8 +1,8 @@
-use Rattle.std.specs.Prelude.{ℕ, ◌-◌, ◌^◌, ◌==◌, ◌&&◌, ◌||◌, nat_le, nat_eq, Bool, List, length, Option, Some, None, codes, if◌then◌else◌}
+use Rattle.std.specs.Prelude.{ℕ, ◌-◌, ◌^◌, ◌==◌, ◌&&◌, ◌||◌, not, nat_le, nat_eq, Bool, List, length, take, drop, Option, Some, None, codes, if◌then◌else◌}
 use Rattle.std.specs.List.{list_all}
 use lib.Pointwise.{pointwise}
 use Rattle.ovl_io.specs.declared.perms.Perms.{Perms}
-use Rattle.script_text.specs.declared.TheConstants.{MOST_CHECKPOINT_NAME, MOST_PAGES, MOST_TURNS}
+use Rattle.script_text.specs.declared.TheConstants.{MOST_CHECKPOINT_NAME, MOST_PAGES, MOST_TURNS, PC_NUMBER}
 use Rattle.sizes.specs.declared.TheConstants.{LAST_SPACE, MOST_FILE_NAME}
 use Rattle.script_text.specs.Numbers.{is_decimal, number_between}
 
@@ -38,9 +38,28 @@ turns_word word = number_between 1 MOST_TURNS word
 abbrev pub process_word : Kind ℕ
 process_word word = number_between 1 LAST_SPACE word
 
--- ADDR: an address
+-- ADDR: an address; VALUE: that of a register
 abbrev pub address_word : Kind ℕ
 address_word word = number_between 0 (2 ^ 64 - 1) word
+
+-- REG: the pc, whose number is behind those of the registers; or `x` and the number of a register, without leading zeros
+abbrev pub is_text : List ℕ → List ℕ → Bool
+is_text word text = pointwise nat_eq word text
+
+abbrev pub begins_with : List ℕ → List ℕ → Bool
+begins_with word text = is_text (take 1 word) text
+
+abbrev pub has_leading_zero : List ℕ → Bool
+has_leading_zero digits = begins_with digits (codes "0") && not (length digits == 1)
+
+abbrev pub register_number : Kind ℕ
+register_number digits = if has_leading_zero digits then None else number_between 0 31 digits
+
+abbrev pub register_word : Kind ℕ
+register_word word =
+    if is_text word (codes "pc") then Some PC_NUMBER
+    else if begins_with word (codes "x") then register_number (drop 1 word)
+    else None
 
 -- K: a number of pages
 abbrev pub pages_word : Kind ℕ
@@ -49,9 +68,6 @@ pages_word word = number_between 1 MOST_PAGES word
 -- PERM: what may be done with a page
 abbrev pub perms_by : ℕ → Perms
 perms_by bits = record { 0 = bits }
-
-abbrev pub is_text : List ℕ → List ℕ → Bool
-is_text word text = pointwise nat_eq word text
 
 abbrev pub perms_word : Kind Perms
 perms_word word =

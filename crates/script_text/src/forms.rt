@@ -1,7 +1,7 @@
 ghost use Rattle.std.specs.Prelude.{◌≡◌, ℕ, IfOk};
 ghost use Rattle.std.specs.Option.{option_map, option_or};
 ghost use Rattle.script_text.specs.Words.{words_of};
-ghost use Rattle.script_text.specs.Kinds.{file_word, checkpoint_word, turns_word, process_word, address_word, pages_word, perms_word, all_word};
+ghost use Rattle.script_text.specs.Kinds.{file_word, checkpoint_word, turns_word, process_word, address_word, pages_word, perms_word, register_word, all_word};
 ghost use Rattle.script_text.specs.Forms.{no_words, one_word, two_words, three_words, four_words, promote_all, command_of};
 ghost use Rattle.script_text.specs.Script.{is_comment, meaning_of};
 ghost use Rattle.script_text.specs.declared.command.Command.{Command};
@@ -11,7 +11,7 @@ ghost use Rattle.script_text.specs.declared.command.Command.TheVariants as comma
 use crate::command::{Command, Meaning};
 use crate::kinds::{
     address_word, checkpoint_word, file_word, is_all, pages_word, perms_word, process_word,
-    turns_word,
+    register_word, turns_word,
 };
 use crate::lines::without_return;
 use crate::words::{next_word, no_words, one_word, two_words};
@@ -322,6 +322,32 @@ fn give_up(words: &[u8]) -> Option<Command>
     }
 }
 
+/// `set P REG VALUE`
+fn set(words: &[u8]) -> Option<Command>
+    ensures { result ≡ three_words process_word register_word address_word command.Set (words_of words.now) }
+{
+    let (p, behind) = match next_word(words) {
+        Some(parts) => parts,
+        None => return None,
+    };
+    let p = match process_word(p) {
+        Some(p) => p,
+        None => return None,
+    };
+    let (register, value) = match two_words(behind) {
+        Some(words) => words,
+        None => return None,
+    };
+    let register = match register_word(register) {
+        Some(register) => register,
+        None => return None,
+    };
+    match address_word(value) {
+        Some(value) => Some(Command::Set(p, register, value)),
+        None => None,
+    }
+}
+
 /// `list`
 fn list(words: &[u8]) -> Option<Command>
     ensures { result ≡ no_words command.List (words_of words.now) }
@@ -380,6 +406,8 @@ fn command_of(alloc: Global, first: &[u8], words: &[u8]) -> Result<Option<Comman
         Ok(unmap(words))
     } else if first == b"drop".as_slice() {
         Ok(give_up(words))
+    } else if first == b"set".as_slice() {
+        Ok(set(words))
     } else if first == b"list".as_slice() {
         Ok(list(words))
     } else if first == b"stats".as_slice() {

@@ -1,9 +1,9 @@
-ghost use Rattle.std.specs.Prelude.{◌≡◌, ◌&&◌, nat_le, IfOk};
+ghost use Rattle.std.specs.Prelude.{◌≡◌, ◌&&◌, nat_le, codes, IfOk};
 ghost use Rattle.std.specs.List.{list_all};
-ghost use Rattle.script_text.specs.Kinds.{is_file_name, file_word, is_name_byte, is_checkpoint_name, checkpoint_word, turns_word, process_word, address_word, pages_word, perms_word, is_all};
+ghost use Rattle.script_text.specs.Kinds.{is_file_name, file_word, is_name_byte, is_checkpoint_name, checkpoint_word, turns_word, process_word, address_word, begins_with, has_leading_zero, register_number, register_word, pages_word, perms_word, is_all};
 
 use crate::numbers::{is_decimal, number_between};
-use crate::{MOST_CHECKPOINT_NAME, MOST_PAGES, MOST_TURNS};
+use crate::{MOST_CHECKPOINT_NAME, MOST_PAGES, MOST_TURNS, PC_NUMBER};
 use bitflags::Flags;
 use ovl_io::{Bytes, Perms};
 use sizes::{LAST_SPACE, MOST_FILE_NAME};
@@ -94,7 +94,47 @@ pub(crate) fn process_word(word: &[u8]) -> Option<u16>
     }
 }
 
-/// The address that a word is.
+/// Whether a word begins as the name of a register does.
+fn begins_with_x(word: &[u8]) -> bool
+    ensures { result ≡ begins_with word.now (codes "x") }
+{
+    !word.is_empty() && &word[..1] == b"x".as_slice()
+}
+
+/// Whether digits begin with a zero that stands for nothing.
+fn has_leading_zero(digits: &[u8]) -> bool
+    ensures { result ≡ has_leading_zero digits.now }
+{
+    !digits.is_empty() && &digits[..1] == b"0".as_slice() && digits.len() != 1
+}
+
+/// The number of a register that digits are.
+fn register_number(digits: &[u8]) -> Option<u8>
+    ensures { result ≡ register_number digits.now }
+{
+    if has_leading_zero(digits) {
+        return None;
+    }
+    match number_between(0, 31, digits) {
+        Some(n) => Some(n as u8),
+        None => None,
+    }
+}
+
+/// The register that a word names, by its number, or the pc.
+pub(crate) fn register_word(word: &[u8]) -> Option<u8>
+    ensures { result ≡ register_word word.now }
+{
+    if word == b"pc".as_slice() {
+        Some(PC_NUMBER)
+    } else if begins_with_x(word) {
+        register_number(&word[1..])
+    } else {
+        None
+    }
+}
+
+/// The address that a word is, or the value of a register.
 pub(crate) fn address_word(word: &[u8]) -> Option<u64>
     ensures { result ≡ address_word word.now }
 {

@@ -34,3 +34,6 @@ pub const MOST_PAGES: u32 = 1 << 16;
 
 /// The most bytes of a checkpoint's name.
 pub const MOST_CHECKPOINT_NAME: usize = 32;
+
+/// The number by which `set` names the pc, behind those of the registers.
+pub const PC_NUMBER: u8 = 32;

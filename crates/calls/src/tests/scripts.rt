@@ -57,6 +57,7 @@ fn show(alloc: Global, command: &Command, out: &mut Vec<u8>) -> Result<(), Alloc
         }
         Command::Unmap(p, address, pages) => format!(in alloc; "unmap {p} {address} {pages}")?,
         Command::Drop(p) => format!(in alloc; "drop {p}")?,
+        Command::Set(p, register, value) => format!(in alloc; "set {p} {register} {value}")?,
         Command::List => format!(in alloc; "list")?,
         Command::Stats => format!(in alloc; "stats")?,
         _ => format!(in alloc; "another")?,
@@ -126,7 +127,7 @@ fn scripts_say_what_the_grammar_says(rt: HostRuntime) -> Result<(), Fail> {
             rows = rows.saturating_add(1);
         }
     }
-    assert_eq!(rt; rows, 1348);
+    assert_eq!(rt; rows, 1376);
     Ok(())
 }
 

@@ -16,4 +16,5 @@ returns-in_default-clause-gives c =
       map = c.in_default.not-Map;
       unmap = c.in_default.not-Unmap;
       drop = c.in_default.not-Drop;
+      set = c.in_default.not-Set;
     })
