@@ -134,7 +134,9 @@ fn endings_lists_and_counts_are_printed(rt: HostRuntime) -> Result<(), Fail> {
     checkpoint_line(&name, 2, 17, &mut out);
     assert!(rt; out.as_slice() == b"checkpoint k 2 pages 17\n".as_slice());
     stats_line(36, 48, 8, 0, 18446744073709551615, &mut out);
-    assert!(rt; out.as_slice() == b"units 36 of 48 lines 8 hits 0 misses 18446744073709551615\n".as_slice());
+    assert!(rt;
+        out.as_slice() == b"units 36 of 48 lines 8 hits 0 misses 18446744073709551615\n".as_slice()
+    );
     assert!(rt; LINE_ROOM == 16384);
     Ok(())
 }
