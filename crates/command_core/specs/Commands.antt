@@ -1,6 +1,7 @@
-use Rattle.std.specs.Prelude.{◌≡◌, ℕ, nat_lt, ◌||◌, Bool, true, false, List, [], ◌++◌, length, flat_map, Option, Some, None, if◌then◌else◌}
+use Rattle.std.specs.Prelude.{◌≡◌, ℕ, zero, suc, ◌+◌, ◌==◌, nat_lt, ◌||◌, Bool, true, false, List, [], ◌++◌, length, flat_map, Option, Some, None, if◌then◌else◌}
 use Rattle.std.specs.FinMap.{entries, get, len}
 use Rattle.sizes.specs.declared.TheConstants.{MOST_FILE_BYTES}
+use Rattle.rv_execute.specs.Registers.{Registers, register}
 use Rattle.machine_core.specs.Process.{Process, is_speculating, runs}
 use Rattle.script_text.specs.declared.command.Command.{Command}
 use Rattle.script_text.specs.declared.command.Command.TheVariants.{Exec, Load, Run, Step}
@@ -9,7 +10,7 @@ use Rattle.report_text.specs.declared.answer.Answer.{Answer}
 use Rattle.report_text.specs.declared.answer.Answer.TheVariants.{Loaded}
 use Rattle.report_text.specs.declared.answer.Code.TheVariants.{NoProcess, Ended}
 use Rattle.report_text.specs.Answers.{answer_text}
-use Rattle.report_text.specs.Lines.{checkpoint_line, list_line, process_line, stats_line}
+use Rattle.report_text.specs.Lines.{checkpoint_line, list_line, process_line, register_line, regs_line, stats_line}
 use Rattle.command_core.specs.declared.session.Counts.{Counts}
 use Rattle.command_core.specs.State.{Checkpoint, State, registry_of, with_wholes}
 use Rattle.command_core.specs.Sessions.{InSession}
@@ -156,6 +157,31 @@ list_text state = list_head state ++ (processes_text state ++ checkpoints_text s
 abbrev pub list_done : State → Performed
 list_done state = record { text = list_text state; after = state; wants_memory = false }
 
+-- the lines of a process's registers: its state, the pc, and x1 to x31
+unfoldable pub regs_head : ℕ → Process → List ℕ
+regs_head p process = regs_line p process.state (is_speculating process)
+
+abbrev pub value_at : Registers → ℕ → ℕ
+value_at registers i = if i == 0 then registers.pc else register registers i
+
+unfoldable pub registers_from : Registers → ℕ → ℕ → List ℕ
+registers_from registers i zero = []
+registers_from registers i (suc n) = register_line i (value_at registers i) ++ registers_from registers (i + 1) n
+
+abbrev pub registers_text : Registers → List ℕ
+registers_text registers = registers_from registers 0 32
+
+abbrev pub regs_text : ℕ → Process → List ℕ
+regs_text p process = regs_head p process ++ registers_text process.registers
+
+-- the registers of a process, which has to be there
+abbrev pub regs_of : ℕ → Option Process → State → Performed
+regs_of p None state = told false (refuses NoProcess state)
+regs_of p (Some process) state = record { text = regs_text p process; after = state; wants_memory = false }
+
+abbrev pub regs_done : ℕ → State → Performed
+regs_done p state = regs_of p (get state.wholes.processes p) state
+
 -- the line of the counts
 abbrev pub counts_text : Counts → List ℕ
 counts_text counts = stats_line counts.units counts.limit counts.lines counts.hits counts.misses
@@ -174,6 +200,7 @@ performed quantum file (Run turns) = run_done quantum turns
 performed quantum file (Step p turns) = step_done p turns
 performed quantum file command.List = list_done
 performed quantum file command.Stats = stats_done
+performed quantum file (command.Regs p) = regs_done p
 performed quantum file other = change_told file other
 
 -- the same, in a session

@@ -31,7 +31,7 @@ use Rattle.command_core.specs.Giving.{ComesTo, GivesChange}
 use Rattle.command_core.specs.Changes.{change_row, load_row}
 use Rattle.command_core.specs.Turns.{InRun, Progress, Ran, ending, ending_by, event_then, first_event, left_by, left_of, next_of, alone, by_turns, ran, ran_text, rest_of, run_after, run_found, stopped, turns_by, ran_from}
 use Rattle.command_core.specs.Looks.{counts_of}
-use Rattle.command_core.specs.Commands.{Performed, checkpoint_text, counts_text, exec_done, exec_turns, list_head, list_text, performed, process_text, row_told, stats_text, step_done, steps, takes_turns, told}
+use Rattle.command_core.specs.Commands.{Performed, checkpoint_text, counts_text, exec_done, exec_turns, list_head, list_text, performed, process_text, regs_done, regs_of, row_told, stats_text, step_done, steps, takes_turns, told}
 use Rattle.command_core.specs.Standing.{GivesAs}
 
 -- States that differ in the numbers of origins alone come to the same texts, and stay so.
@@ -276,6 +276,15 @@ list_same a b like =
     ap (λ (ps : Processes). list_line (length (entries ps)) (length a.checkpoints) ++ (flat_map process_text (entries ps) ++ flat_map checkpoint_text a.checkpoints)) like.wholes.processes
     ∙ ap (λ (cs : List Checkpoint). list_line (length (entries b.wholes.processes)) (length cs) ++ (flat_map process_text (entries b.wholes.processes) ++ flat_map checkpoint_text cs)) like.checkpoints
 
+-- the registers of a process
+like_regs : (p : ℕ) (a b : State) → AreLikeStates a b → AreLikePerformed (regs_done p a) (regs_done p b)
+like_regs p a b like =
+    subst (λ (o : Option Process). AreLikePerformed (regs_done p a) (regs_of p o b)) (ap (λ (ps : Processes). get ps p) like.wholes.processes) (by_found (get a.wholes.processes p))
+  where
+    by_found : (o : Option Process) → AreLikePerformed (regs_of p o a) (regs_of p o b)
+    by_found None = record { text = refl; after = like; wants = refl }
+    by_found (Some process) = record { text = refl; after = like; wants = refl }
+
 -- the counts
 pub counts_same : (a b : Wholes) → AreLike a b → counts_of a ≡ counts_of b
 counts_same a b like = λ i. record {
@@ -309,7 +318,7 @@ like_performed quantum file command.Compact a b like = like_told (change_row fil
 like_performed quantum file (command.Map x y z w) a b like = like_told (change_row file (command.Map x y z w)) a b like
 like_performed quantum file (command.Unmap x y z) a b like = like_told (change_row file (command.Unmap x y z)) a b like
 like_performed quantum file (command.Drop x) a b like = like_told (change_row file (command.Drop x)) a b like
-like_performed quantum file (command.Regs x) a b like = like_told (change_row file (command.Regs x)) a b like
+like_performed quantum file (command.Regs x) a b like = like_regs x a b like
 like_performed quantum file (command.Dump x y z) a b like = like_told (change_row file (command.Dump x y z)) a b like
 like_performed quantum file (command.Poke x y z) a b like = like_told (change_row file (command.Poke x y z)) a b like
 like_performed quantum file (command.Set x y z) a b like = like_told (change_row file (command.Set x y z)) a b like

@@ -6,6 +6,7 @@ pub mod Runs
 pub mod Calls
 pub mod Codes
 pub mod Listing
+pub mod Registers
 pub mod Given
 pub mod Beginnings
 pub mod Endings

@@ -3,6 +3,7 @@ pub mod Reading
 pub mod Status
 pub mod Outcome
 pub mod Sending
+pub mod Printing
 pub mod Outside
 pub mod Running
 pub mod Ends

@@ -1,19 +1,22 @@
-ghost use Rattle.std.specs.Prelude.{◌≡◌, [], None, length};
+ghost use Rattle.std.specs.Prelude.{◌≡◌, ◌<◌, [], None, length};
 ghost use Rattle.std.specs.FinMap.{entries};
 ghost use Rattle.script_text.specs.Given.{IsGiven};
 ghost use Rattle.report_text.specs.Answers.{HasAnswerLine, answer_text};
 ghost use Rattle.command_core.specs.Changes.{CanBeTold};
-ghost use Rattle.command_core.specs.Commands.{RunsLoaded, asks, change_told, checkpoints_text, exec_done, exec_turns, list_done, list_text, load_told, performed_in, processes_text, run_done, stats_text, step_done, takes_left, tells_exec};
+ghost use Rattle.command_core.specs.Commands.{RunsLoaded, asks, change_told, checkpoints_text, exec_done, exec_turns, list_done, list_text, load_told, performed_in, processes_text, registers_text, regs_done, run_done, stats_text, step_done, takes_left, tells_exec, value_at};
 ghost use Rattle.overlay_top.specs.Sending.{SendsText};
+ghost use Rattle.overlay_top.specs.Printing.{view_text};
 ghost use Rattle.overlay_top.specs.Running.{DoesCommand, TakesOn, TellsAnswer};
 
 use crate::running::Halt;
 use crate::sending::Report;
-use command_core::{Running, Session};
+use command_core::{ProcessView, Running, Session};
 use ovl_io::{Failed, Sink};
 use report_text::{
-    Answer, answer_line, checkpoint_line, list_line, process_line, stats_line, stop_line,
+    Answer, answer_line, checkpoint_line, list_line, process_line, register_line, regs_line,
+    stats_line, stop_line,
 };
+use rv_execute::Regs;
 use script_text::Command;
 
 /// Sends the line of an answer.
@@ -265,6 +268,52 @@ fn list<K: Sink>(session: &Session, report: &mut Report<K>) -> Result<(), Failed
     list_checkpoints(session, report)
 }
 
+/// The value of a register, by its number; of the pc, for 0.
+fn value_at(regs: &Regs, i: u8) -> u64
+    requires { i < 32 }
+    ensures { result ≡ value_at regs.now i }
+{
+    if i == 0 { regs.pc() } else { regs.get(i) }
+}
+
+/// Sends the lines of the pc, and of x1 to x31.
+fn send_registers<K: Sink>(regs: &Regs, report: &mut Report<K>) -> Result<(), Failed>
+    ensures sends { SendsText K.Sink report.old.sink.now (registers_text regs.now)
+        report.new.sink.now result }
+    ensures same { report.new.sink.ghost_name ≡ report.old.sink.ghost_name }
+{
+    let mut i = 0u8;
+    'sending: while i < 32 {
+        register_line(i, value_at(regs, i), &mut report.line);
+        report.send()?;
+        i += 1;
+    }
+    Ok(())
+}
+
+/// Sends the lines of the state and the registers of a process that was looked up.
+fn send_process<K: Sink>(p: u16, view: &ProcessView, report: &mut Report<K>) -> Result<(), Failed>
+    ensures sends { SendsText K.Sink report.old.sink.now (view_text p view.now)
+        report.new.sink.now result }
+    ensures same { report.new.sink.ghost_name ≡ report.old.sink.ghost_name }
+{
+    regs_line(p, &view.state, view.speculating, &mut report.line);
+    report.send()?;
+    send_registers(&view.regs, report)
+}
+
+/// Prints the state and the registers of a process.
+fn regs<K: Sink>(session: &Session, p: u16, report: &mut Report<K>) -> Result<(), Failed>
+    ensures sends { SendsText K.Sink report.old.sink.now (regs_done p session.now.state).text
+        report.new.sink.now result }
+    ensures same { report.new.sink.ghost_name ≡ report.old.sink.ghost_name }
+{
+    match session.look_process(p) {
+        Ok(view) => send_process(p, &view, report),
+        Err(code) => send_answer(&Answer::Refused(code), report),
+    }
+}
+
 /// Prints the counts.
 fn stats<K: Sink>(session: &Session, report: &mut Report<K>) -> Result<(), Failed>
     ensures sends { SendsText K.Sink report.old.sink.now (stats_text session.now.state)
@@ -302,6 +351,7 @@ pub(crate) fn do_command<K: Sink>(
         Command::Step(p, turns) => step(session, *p, *turns, report),
         Command::List => list(session, report),
         Command::Stats => stats(session, report),
+        Command::Regs(p) => regs(session, *p, report),
         _ => return change(session, command, report),
     };
     match sent {

@@ -1,4 +1,4 @@
-use Rattle.std.proofs.Common.{◌≡◌, ℕ, zero, suc, ◌+◌, ◌-◌, ◌*◌, ◌/◌, ◌%◌, ◌^◌, ◌<◌, ◌==◌, Bool, false, cond, List, [], ◌∷◌, ◌++◌, map, sym, ap, ◌∙◌, subst, arith, append_assoc, codes}
+use Rattle.std.proofs.Common.{◌≡◌, ℕ, zero, suc, ◌+◌, ◌-◌, ◌*◌, ◌/◌, ◌%◌, ◌^◌, ◌<◌, ◌==◌, Bool, false, cond, List, [], ◌∷◌, ◌++◌, map, sym, ap, ◌∙◌, subst, arith, append_assoc, append-nil, ◌≤◌, codes}
 use Rattle.std.proofs.Math.Nat.{pow-succ'}
 use Rattle.std.proofs.lemmas.List.{map-append}
 use Rattle.std.specs.Int.Digits.{digits_of}
@@ -6,7 +6,7 @@ use Rattle.std.specs.Fmt.{decimal}
 use Rattle.std.proofs.lemmas.Fmt.{decimal_digit, decimal-digits_of}
 use Rattle.std.proofs.lemmas.Int.Digits.{digits_of_step}
 use Rattle.std.proofs.lemmas.Bool.Decides.{nat_tests}
-use Rattle.report_text.specs.Digits.{hex_digit, in_decimal}
+use Rattle.report_text.specs.Digits.{hex_digit, hex_places, in_decimal}
 
 -- Numbers by their digits.
 
@@ -35,3 +35,18 @@ decimal_is (suc n) small =
     let some : (suc n == 0) ≡ false = grind (arith, nat_tests) in
     decimal-digits_of (suc n) (omega arith) small
     ∙ sym (ap (λ (t : Bool). cond t (codes "0") (map (λ d. 48 + d) (digits_of 10 (suc n)))) some)
+
+-- The places of a number are those of its sixteenth, and the last; and there is none.
+pub one_place_more : (old before new : List ℕ) (n digit places : ℕ) → 0 < places → before ≡ old ++ hex_places (places - 1) (n / 16)
+    → digit ≡ hex_digit (n % 16) → new ≡ before ++ digit ∷ [] → new ≡ old ++ hex_places places n
+unfolding hex_places
+one_place_more old before new n digit zero some so_far last pushed = absurd (omega (arith, some))
+one_place_more old before new n digit (suc k) some so_far last pushed =
+    let less : suc k - 1 ≡ k = omega arith in
+    pushed ∙ ap (λ d. before ++ d ∷ []) last ∙ ap (λ ds. ds ++ hex_digit (n % 16) ∷ []) (so_far ∙ ap (λ m. old ++ hex_places m (n / 16)) less)
+    ∙ append_assoc old (hex_places k (n / 16)) (hex_digit (n % 16) ∷ [])
+
+pub no_place : (old : List ℕ) (n places : ℕ) → places ≤ 0 → old ≡ old ++ hex_places places n
+unfolding hex_places
+no_place old n zero none = sym (append-nil old)
+no_place old n (suc k) none = absurd (omega (arith, none))

@@ -1,4 +1,4 @@
-use Rattle.std.specs.Prelude.{ℕ, ◌+◌, ◌==◌, nat_lt, map, List, ◌++◌, codes, if◌then◌else◌}
+use Rattle.std.specs.Prelude.{ℕ, zero, suc, ◌+◌, ◌/◌, ◌%◌, ◌==◌, nat_lt, map, List, [], ◌∷◌, ◌++◌, codes, if◌then◌else◌}
 use Rattle.std.specs.Int.Digits.{digits_of}
 
 -- Numbers as characters, without leading zeros; zero is the one digit 0. A number's digits in a base are the
@@ -16,3 +16,11 @@ in_hexadecimal n = if n == 0 then codes "0" else map hex_digit (digits_of 16 n)
 
 abbrev pub address_text : ℕ → List ℕ
 address_text at = codes "0x" ++ in_hexadecimal at
+
+-- the last so many hexadecimal digits of a number, with leading zeros; and those of a word of 64 bits
+unfoldable pub hex_places : ℕ → ℕ → List ℕ
+hex_places zero n = []
+hex_places (suc places) n = hex_places places (n / 16) ++ hex_digit (n % 16) ∷ []
+
+abbrev pub word_text : ℕ → List ℕ
+word_text n = hex_places 16 n

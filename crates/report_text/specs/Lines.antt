@@ -1,9 +1,9 @@
-use Rattle.std.specs.Prelude.{ℕ, Bool, List, ◌++◌, codes}
+use Rattle.std.specs.Prelude.{ℕ, ◌==◌, Bool, List, ◌++◌, codes, if◌then◌else◌}
 use Rattle.ovl_io.specs.declared.process_state.FaultKind.{FaultKind}
 use Rattle.ovl_io.specs.declared.process_state.ProcessState.{ProcessState}
 use Rattle.report_text.specs.declared.answer.Code.{Code}
 use Rattle.report_text.specs.declared.answer.Stop.{Stop}
-use Rattle.report_text.specs.Digits.{in_decimal, address_text}
+use Rattle.report_text.specs.Digits.{in_decimal, address_text, word_text}
 use Rattle.report_text.specs.Names.{kind_text, code_text, stop_word}
 use Rattle.report_text.specs.Texts.{bytes_text, port_text, state_text, pages_text}
 
@@ -77,3 +77,14 @@ abbrev pub stats_line : ℕ → ℕ → ℕ → ℕ → ℕ → List ℕ
 stats_line units limit lines hits misses =
     codes "units " ++ in_decimal units ++ codes " of " ++ in_decimal limit ++ codes " lines " ++ in_decimal lines ++ codes " hits " ++ in_decimal hits
     ++ codes " misses " ++ in_decimal misses ++ codes "\n"
+
+-- the first line of a process's registers: its state
+abbrev pub regs_line : ℕ → ProcessState → Bool → List ℕ
+regs_line p state speculating = codes "regs " ++ in_decimal p ++ codes " " ++ state_text state speculating ++ codes "\n"
+
+-- a register, by its number; the pc stands in the place of x0
+abbrev pub register_name : ℕ → List ℕ
+register_name i = if i == 0 then codes "pc" else codes "x" ++ in_decimal i
+
+abbrev pub register_line : ℕ → ℕ → List ℕ
+register_line i value = register_name i ++ codes " " ++ word_text value ++ codes "\n"

@@ -1,10 +1,10 @@
 ghost use Rattle.std.specs.Prelude.{◌≡◌, ◌+◌, ◌*◌, ◌==◌, ◌||◌, ◌≤◌, ◌++◌, length, IsTrue};
 ghost use Rattle.arrayvec.specs.ArrayVec.{array_vec_len};
-ghost use Rattle.report_text.specs.Lines.{loaded_line, forked_line, saved_line, refused_line, full_line, bad_line, wrote_line, exited_line, faulted_line, full_turn_line, break_line, ran_line, list_line, process_line, checkpoint_line, stats_line};
+ghost use Rattle.report_text.specs.Lines.{loaded_line, forked_line, saved_line, refused_line, full_line, bad_line, wrote_line, exited_line, faulted_line, full_turn_line, break_line, ran_line, list_line, process_line, checkpoint_line, stats_line, regs_line, register_name, register_line};
 ghost use Rattle.report_text.specs.Answers.{IsCheckpointName, HasCodeLine};
 
 use crate::names::{kind_text, port_text, push_code, push_pages, push_state, stop_word};
-use crate::push::{push_address, push_bytes, push_decimal, push_text};
+use crate::push::{push_address, push_bytes, push_decimal, push_text, push_word};
 use crate::{Code, LINE_ROOM, Line, Stop};
 use ovl_io::{FaultKind, ProcessState};
 
@@ -235,5 +235,44 @@ pub(crate) fn put_stats(line: &mut Line, units: u32, limit: u32, lines: u32, hit
     push_decimal(line, hits);
     push_text(line, b" misses ");
     push_decimal(line, misses);
+    push_text(line, b"\n");
+}
+
+/// The first line of a process's registers.
+pub(crate) fn put_regs(line: &mut Line, p: u16, state: &ProcessState, speculating: bool)
+    requires { array_vec_len line.old + 256 ≤ LINE_ROOM }
+    ensures text { line.new.items ≡ line.old.items ++ regs_line p state.now speculating }
+    ensures len { array_vec_len line.new ≤ array_vec_len line.old + 256 }
+{
+    push_text(line, b"regs ");
+    push_decimal(line, u64::from(p));
+    push_text(line, b" ");
+    push_state(line, state, speculating);
+    push_text(line, b"\n");
+}
+
+/// The name of a register, or of the pc.
+fn put_name(line: &mut Line, i: u8)
+    requires { array_vec_len line.old + 32 ≤ LINE_ROOM }
+    ensures text { line.new.items ≡ line.old.items ++ register_name i }
+    ensures len { array_vec_len line.new ≤ array_vec_len line.old + 32 }
+{
+    if i == 0 {
+        push_text(line, b"pc");
+    } else {
+        push_text(line, b"x");
+        push_decimal(line, u64::from(i));
+    }
+}
+
+/// A register, or the pc.
+pub(crate) fn put_register(line: &mut Line, i: u8, value: u64)
+    requires { array_vec_len line.old + 256 ≤ LINE_ROOM }
+    ensures text { line.new.items ≡ line.old.items ++ register_line i value }
+    ensures len { array_vec_len line.new ≤ array_vec_len line.old + 256 }
+{
+    put_name(line, i);
+    push_text(line, b" ");
+    push_word(line, value);
     push_text(line, b"\n");
 }

@@ -1,7 +1,7 @@
 ghost use Rattle.std.specs.Prelude.{◌≡◌, ◌+◌, ◌*◌, ◌^◌, ◌<◌, ◌≤◌, ◌++◌, length, map};
 ghost use Rattle.std.specs.Int.Digits.{digits_of};
 ghost use Rattle.arrayvec.specs.ArrayVec.{array_vec_len};
-ghost use Rattle.report_text.specs.Digits.{hex_digit, in_decimal, in_hexadecimal, address_text};
+ghost use Rattle.report_text.specs.Digits.{hex_digit, hex_places, in_decimal, in_hexadecimal, address_text, word_text};
 ghost use Rattle.report_text.specs.Texts.{is_plain, byte_text, bytes_text};
 
 use crate::LINE_ROOM;
@@ -62,6 +62,27 @@ pub(crate) fn push_address(line: &mut Line, address: u64)
     } else {
         push_digits(line, address, 16);
     }
+}
+
+/// The last so many hexadecimal digits of a number, with leading zeros.
+fn push_places(line: &mut Line, n: u64, places: u32)
+    requires room { array_vec_len line.old + places ≤ LINE_ROOM }
+    ensures text { line.new.items ≡ line.old.items ++ hex_places places n }
+    ensures len { array_vec_len line.new ≡ array_vec_len line.old + places }
+{
+    if places > 0 {
+        push_places(line, n / 16, places - 1);
+        line.push(hex_digit((n % 16) as u8));
+    }
+}
+
+/// A word of 64 bits in 16 hexadecimal digits.
+pub(crate) fn push_word(line: &mut Line, n: u64)
+    requires { array_vec_len line.old + 16 ≤ LINE_ROOM }
+    ensures text { line.new.items ≡ line.old.items ++ word_text n }
+    ensures len { array_vec_len line.new ≤ array_vec_len line.old + 16 }
+{
+    push_places(line, n, 16);
 }
 
 /// Whether a byte stands for itself in a text.

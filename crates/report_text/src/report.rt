@@ -1,11 +1,11 @@
-ghost use Rattle.std.specs.Prelude.{◌≡◌};
-ghost use Rattle.report_text.specs.Lines.{bad_line, list_line, process_line, checkpoint_line, stats_line};
+ghost use Rattle.std.specs.Prelude.{◌≡◌, ◌<◌};
+ghost use Rattle.report_text.specs.Lines.{bad_line, list_line, process_line, checkpoint_line, stats_line, regs_line, register_line};
 ghost use Rattle.report_text.specs.Answers.{HasAnswerLine, HasPort, IsCheckpointName, answer_text, turn_text, has_turn_line, stop_text};
 
 use crate::lines::{
     put_bad, put_break, put_checkpoint, put_exited, put_faulted, put_forked, put_full,
-    put_full_turn, put_list, put_loaded, put_process, put_ran, put_refused, put_saved, put_stats,
-    put_wrote,
+    put_full_turn, put_list, put_loaded, put_process, put_ran, put_refused, put_register, put_regs,
+    put_saved, put_stats, put_wrote,
 };
 use crate::push::push_text;
 use crate::{Answer, Line, Stop};
@@ -98,4 +98,21 @@ pub fn stats_line(units: u32, limit: u32, lines: u32, hits: u64, misses: u64, ou
 {
     out.clear();
     put_stats(out, units, limit, lines, hits, misses);
+}
+
+/// The first line of a process's registers: its state.
+pub fn regs_line(p: u16, state: &ProcessState, speculating: bool, out: &mut Line)
+    ensures { out.new.items ≡ regs_line p state.now speculating }
+{
+    out.clear();
+    put_regs(out, p, state, speculating);
+}
+
+/// A register, by its number, at most 31; 0 is the pc.
+pub fn register_line(i: u8, v: u64, out: &mut Line)
+    requires { i < 32 }
+    ensures { out.new.items ≡ register_line i v }
+{
+    out.clear();
+    put_register(out, i, v);
 }

@@ -177,6 +177,7 @@ all_give =
     beside then_given IsProcess process_word (λ p. two_words address_word pages_word (command.Unmap p)) process_given
     (λ p h. two_given IsAddress IsPages address_word pages_word (command.Unmap p) address_given pages_given (λ a n k l. (h, k, l)))
     beside one_given IsProcess process_word Drop process_given (λ a h. h)
+    beside one_given IsProcess process_word command.Regs process_given (λ a h. h)
     beside then_given IsProcess process_word (λ p. two_words register_word address_word (command.Set p)) process_given
     (λ p h. two_given IsRegister IsAddress register_word address_word (command.Set p) register_given address_given (λ r a k l. (h, k, l)))
     beside none_given _ tt

@@ -77,6 +77,7 @@ forms =
     ∷ form (codes "map") (four_words process_word address_word pages_word perms_word command.Map)
     ∷ form (codes "unmap") (three_words process_word address_word pages_word command.Unmap)
     ∷ form (codes "drop") (one_word process_word Drop)
+    ∷ form (codes "regs") (one_word process_word command.Regs)
     ∷ form (codes "set") (three_words process_word register_word address_word command.Set)
     ∷ form (codes "list") (no_words command.List)
     ∷ form (codes "stats") (no_words command.Stats)

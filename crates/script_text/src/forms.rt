@@ -322,6 +322,16 @@ fn give_up(words: &[u8]) -> Option<Command>
     }
 }
 
+/// `regs P`
+fn regs(words: &[u8]) -> Option<Command>
+    ensures { result ≡ one_word process_word command.Regs (words_of words.now) }
+{
+    match one_process(words) {
+        Some(p) => Some(Command::Regs(p)),
+        None => None,
+    }
+}
+
 /// `set P REG VALUE`
 fn set(words: &[u8]) -> Option<Command>
     ensures { result ≡ three_words process_word register_word address_word command.Set (words_of words.now) }
@@ -406,6 +416,8 @@ fn command_of(alloc: Global, first: &[u8], words: &[u8]) -> Result<Option<Comman
         Ok(unmap(words))
     } else if first == b"drop".as_slice() {
         Ok(give_up(words))
+    } else if first == b"regs".as_slice() {
+        Ok(regs(words))
     } else if first == b"set".as_slice() {
         Ok(set(words))
     } else if first == b"list".as_slice() {

@@ -57,6 +57,7 @@ fn show(alloc: Global, command: &Command, out: &mut Vec<u8>) -> Result<(), Alloc
         }
         Command::Unmap(p, address, pages) => format!(in alloc; "unmap {p} {address} {pages}")?,
         Command::Drop(p) => format!(in alloc; "drop {p}")?,
+        Command::Regs(p) => format!(in alloc; "regs {p}")?,
         Command::Set(p, register, value) => format!(in alloc; "set {p} {register} {value}")?,
         Command::List => format!(in alloc; "list")?,
         Command::Stats => format!(in alloc; "stats")?,
@@ -127,7 +128,7 @@ fn scripts_say_what_the_grammar_says(rt: HostRuntime) -> Result<(), Fail> {
             rows = rows.saturating_add(1);
         }
     }
-    assert_eq!(rt; rows, 1376);
+    assert_eq!(rt; rows, 1383);
     Ok(())
 }
 

@@ -95,21 +95,26 @@ returns-then-eq-16 c =
 
 pub returns-then-eq-17 : goal.returns-then-eq-17
 returns-then-eq-17 c =
-    c.set.ensures
-    ∙ at_row (codes "set") c.as_slice-else-eq-16.result.now (three_words process_word register_word address_word command.Set) c.args.first.now (words_of c.args.words.now) (λ ws. refl) c.as_slice-else-eq-16.ensures c.if-eq-17.ensures
+    c.regs.ensures
+    ∙ at_row (codes "regs") c.as_slice-else-eq-16.result.now (one_word process_word command.Regs) c.args.first.now (words_of c.args.words.now) (λ ws. refl) c.as_slice-else-eq-16.ensures c.if-eq-17.ensures
 
 pub returns-then-eq-18 : goal.returns-then-eq-18
 returns-then-eq-18 c =
-    c.list.ensures
-    ∙ at_row (codes "list") c.as_slice-else-eq-17.result.now (no_words command.List) c.args.first.now (words_of c.args.words.now) (λ ws. refl) c.as_slice-else-eq-17.ensures c.if-eq-18.ensures
+    c.set.ensures
+    ∙ at_row (codes "set") c.as_slice-else-eq-17.result.now (three_words process_word register_word address_word command.Set) c.args.first.now (words_of c.args.words.now) (λ ws. refl) c.as_slice-else-eq-17.ensures c.if-eq-18.ensures
 
 pub returns-then-eq-19 : goal.returns-then-eq-19
 returns-then-eq-19 c =
-    c.stats.ensures
-    ∙ at_row (codes "stats") c.as_slice-else-eq-18.result.now (no_words command.Stats) c.args.first.now (words_of c.args.words.now) (λ ws. refl) c.as_slice-else-eq-18.ensures c.if-eq-19.ensures
+    c.list.ensures
+    ∙ at_row (codes "list") c.as_slice-else-eq-18.result.now (no_words command.List) c.args.first.now (words_of c.args.words.now) (λ ws. refl) c.as_slice-else-eq-18.ensures c.if-eq-19.ensures
 
-pub returns-else-eq-19 : goal.returns-else-eq-19
-returns-else-eq-19 c =
+pub returns-then-eq-20 : goal.returns-then-eq-20
+returns-then-eq-20 c =
+    c.stats.ensures
+    ∙ at_row (codes "stats") c.as_slice-else-eq-19.result.now (no_words command.Stats) c.args.first.now (words_of c.args.words.now) (λ ws. refl) c.as_slice-else-eq-19.ensures c.if-eq-20.ensures
+
+pub returns-else-eq-20 : goal.returns-else-eq-20
+returns-else-eq-20 c =
     at_no_row c.args.first.now (words_of c.args.words.now) (
     not_text (codes "exec") c.as_slice.result.now c.args.first.now c.as_slice.ensures c.if-eq.ensures
     beside not_text (codes "load") c.as_slice-else-eq.result.now c.args.first.now c.as_slice-else-eq.ensures c.if-eq-2.ensures
@@ -128,8 +133,9 @@ returns-else-eq-19 c =
     beside not_text (codes "map") c.as_slice-else-eq-13.result.now c.args.first.now c.as_slice-else-eq-13.ensures c.if-eq-14.ensures
     beside not_text (codes "unmap") c.as_slice-else-eq-14.result.now c.args.first.now c.as_slice-else-eq-14.ensures c.if-eq-15.ensures
     beside not_text (codes "drop") c.as_slice-else-eq-15.result.now c.args.first.now c.as_slice-else-eq-15.ensures c.if-eq-16.ensures
-    beside not_text (codes "set") c.as_slice-else-eq-16.result.now c.args.first.now c.as_slice-else-eq-16.ensures c.if-eq-17.ensures
-    beside not_text (codes "list") c.as_slice-else-eq-17.result.now c.args.first.now c.as_slice-else-eq-17.ensures c.if-eq-18.ensures
-    beside not_text (codes "stats") c.as_slice-else-eq-18.result.now c.args.first.now c.as_slice-else-eq-18.ensures c.if-eq-19.ensures
+    beside not_text (codes "regs") c.as_slice-else-eq-16.result.now c.args.first.now c.as_slice-else-eq-16.ensures c.if-eq-17.ensures
+    beside not_text (codes "set") c.as_slice-else-eq-17.result.now c.args.first.now c.as_slice-else-eq-17.ensures c.if-eq-18.ensures
+    beside not_text (codes "list") c.as_slice-else-eq-18.result.now c.args.first.now c.as_slice-else-eq-18.ensures c.if-eq-19.ensures
+    beside not_text (codes "stats") c.as_slice-else-eq-19.result.now c.args.first.now c.as_slice-else-eq-19.ensures c.if-eq-20.ensures
     beside tt
     )
