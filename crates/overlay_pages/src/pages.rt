@@ -24,7 +24,7 @@ ghost use Rattle.overlay_pages.specs.contracts.pages.OverlayPages.{the_row};
 
 use crate::moving::{compact, make_room};
 use crate::overlays::{bring_lines, drop_overlay};
-use crate::placing::{place_bytes, take_out};
+use crate::placing::{place_bytes, take_out, take_run_out};
 use crate::settling::{commit, copy_commit};
 use crate::sharing::{share, share_below};
 use crate::spots::{FoundLine, Spot, spot_of};
@@ -154,8 +154,8 @@ impl OverlayPages {
         }
     }
 
-    /// Takes away a page that is there, with its overlay. Takes no memory.
-    pub fn remove_page(&mut self, space: u16, page: u64)
+    // Takes away a page that is there, with its overlay.
+    fn remove_page(&mut self, space: u16, page: u64)
         requires there { IsSome (page_in (state_of self.old) space page) }
         requires settled { (space_in (state_of self.old) space).awaiting ≡ map.empty }
         ensures gone { state_of self.new ≡ cut_page (state_of self.old) space page }
@@ -187,15 +187,30 @@ impl OverlayPages {
         self.ledger.zeros_from(space, page)
     }
 
-    /// Takes away the `n` pages from `from` on, which are there, on the zero frame and without own lines. No page of the space awaits.
-    /// Takes no memory. Costs a look-up for each of their runs.
-    pub fn remove_zeros(&mut self, space: u16, from: u64, n: u32)
-        requires there { holds_space (state_of self.old) space ≡ true }
+    /// Takes away a page that is there, with its overlay, and maybe pages behind it, `most` at most in all: where it has no own lines,
+    /// those without own lines that lie in one run with it may go in the same step. Answers how many went. No page of the space
+    /// awaits. Takes no memory. Costs a few look-ups, and for each page of a run, where it isn't on the zero frame, a step, and what
+    /// giving a block costs where no other page names its frame.
+    pub fn remove_run(&mut self, space: u16, page: u64, most: u32) -> u32
+        requires space { holds_space (state_of self.old) space ≡ true }
         requires settled { (space_in (state_of self.old) space).awaiting ≡ map.empty }
-        requires zeros { AreZeros (state_of self.old) space from n }
-        ensures { state_of self.new ≡ cut_pages (state_of self.old) space from n }
+        requires there { IsSome (page_in (state_of self.old) space page) }
+        requires room { 0 < most }
+        ensures gone { state_of self.new ≡ cut_pages (state_of self.old) space page result }
+        ensures some { 0 < result }
+        ensures few { result ≤ most }
+        ensures low { page + result ≤ PAGE_END }
     {
-        self.ledger.remove_zeros(space, from, n);
+        match self.ledger.bare_run(space, page, most) {
+            Some(run) => {
+                take_run_out(&mut self.store, &mut self.ledger, space, &run);
+                run.n
+            }
+            None => {
+                self.remove_page(space, page);
+                1
+            }
+        }
     }
 
     /// The permissions and the frame of a page. None exactly where the page isn't there. Costs a look-up.

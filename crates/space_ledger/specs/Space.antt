@@ -87,3 +87,8 @@ first_of run n = record { page = run.page; n = n; entry = run.entry; rising = ru
 abbrev pub IsCut : PageRun → ℕ → Option PageRun → Type 0
 IsCut run until None = until ≤ run.page
 IsCut run until (Some part) = (part ≡ first_of run part.n) × (0 < part.n) × (part.n ≤ run.n) × (run.page + part.n ≤ until)
+
+-- as many of the first pages of a run that begins with a page, where there are any
+abbrev pub IsStartOf : PageRun → ℕ → ℕ → Option PageRun → Type 0
+IsStartOf run page n None = Unit {0}
+IsStartOf run page n (Some part) = (run.page ≡ page) × (0 < n) × (part ≡ first_of run n)
