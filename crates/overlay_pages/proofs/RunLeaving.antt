@@ -6,7 +6,8 @@ use Rattle.page_table.specs.declared.entry.PageEntry.{PageEntry}
 use Rattle.page_table.specs.declared.run.PageRun.{PageRun}
 use Rattle.ledger.specs.Ledger.{has_origin}
 use Rattle.segment_store.specs.Store.{Store, IsFrame}
-use Rattle.space_maps.specs.Laws.{after_cut}
+use Rattle.segment_store.specs.Laws.{frame_inside}
+use Rattle.space_maps.specs.Laws.{after_cut, are_cut}
 use Rattle.space_maps.specs.Spaces.{cut_page, cut_pages, holds_space, page_in}
 use Rattle.space_ledger.specs.View.{LedgerView, PageView, ledger_of}
 use Rattle.space_ledger.specs.Calls.{GivesNothingUp, GivesUpAtLast, IsBareRun, given_up}
@@ -56,8 +57,17 @@ module _ (old : Store) (v : LedgerView) (s : ℕ) (run : PageRun) (is : IsJoined
       subst (λ (e : PageEntry). IsFrame now e.frame) (sym (entry_is ∙ (page k low).is))
       (so_far.joined.held s (run.page + k) (page k low).x (after_cut k run.page v s has ∙ (page k low).there)).frame
 
+  pub frame_below : (now : Store) (k : ℕ) → k < run.n → HasLeft old now v s run k → (entry : PageEntry) → entry ≡ entry_at run k → (new : LedgerView) → new ≡ cut_pages v s run.page run.n
+      → entry.frame < new.frames
+  frame_below now k low so_far entry entry_is new gone =
+      let inside = frame_inside now so_far.joined.store entry.frame (frame_taken now k low so_far entry entry_is) in
+      let count = so_far.joined.frames in
+      let then = (are_cut k run.page v s has).keeps.frames in
+      let last = ap (λ (w : LedgerView). w.frames) gone ∙ (are_cut run.n run.page v s has).keeps.frames in
+      omega (arith, inside, count, then, last)
+
   module _ (new : LedgerView) (given : GivesUpAtLast v new s run) where
-    pub given_of : (k : ℕ) → k < run.n → (entry : PageEntry) → entry ≡ entry_at run k → (unused : Bool) → unused ≡ not (nat_eq entry.frame new.zero_frame || has_origin (ledger_of new) (entry.frame + 1))
+    given_of : (k : ℕ) → k < run.n → (entry : PageEntry) → entry ≡ entry_at run k → (unused : Bool) → unused ≡ not (nat_eq entry.frame new.zero_frame || has_origin (ledger_of new) (entry.frame + 1))
         → given_up new (page_in v s (run.page + k)) ≡ cond unused (Some entry.frame) None
     given_of k low entry entry_is unused unused_is =
         let one = page k low in
@@ -80,11 +90,21 @@ module _ (old : Store) (v : LedgerView) (s : ℕ) (run : PageRun) (is : IsJoined
               ∙ ap (λ (m : State). cut_page m s (run.page + k)) so_far.state;
         }
 
-    pub one_left : (k : ℕ) → k < run.n → (now next : Store) → HasLeft old now v s run k → (freed : Option ℕ) → freed ≡ given_up new (page_in v s (run.page + k)) → LeavesStore now next freed
-        → HasLeft old next v s run (k + 1)
-    one_left k low now next so_far freed freed_is leaves =
-        let last : suc k ≡ k + 1 = omega arith in
-        subst (HasLeft old next v s run) last (one_more k low now next so_far freed freed_is leaves)
+    -- a frame that nothing names is given back, and one that is named stays
+    module _ (k : ℕ) (low : k < run.n) (now : Store) (so_far : HasLeft old now v s run k) (entry : PageEntry) (entry_is : entry ≡ entry_at run k) (unused : Bool)
+        (unused_is : unused ≡ not (nat_eq entry.frame new.zero_frame || has_origin (ledger_of new) (entry.frame + 1))) where
+      freed_is : (b : Bool) → unused ≡ b → cond b (Some entry.frame) None ≡ given_up new (page_in v s (run.page + k))
+      freed_is b is_b = sym (given_of k low entry entry_is unused unused_is ∙ ap (λ t. cond t (Some entry.frame) None) is_b)
+
+      pub one_given : (next : Store) → unused ≡ true → LeavesStore now next (Some entry.frame) → HasLeft old next v s run (k + 1)
+      one_given next yes_unused leaves =
+          let last : suc k ≡ k + 1 = omega arith in
+          subst (HasLeft old next v s run) last (one_more k low now next so_far (Some entry.frame) (freed_is true yes_unused) leaves)
+
+      pub one_kept : unused ≡ false → HasLeft old now v s run (k + 1)
+      one_kept not_unused =
+          let last : suc k ≡ k + 1 = omega arith in
+          subst (HasLeft old now v s run) last (one_more k low now now so_far None (freed_is false not_unused) (leaves_none now so_far.joined.store))
 
     -- where nothing is given up, the store stays as it is
     some_left : GivesNothingUp v new s run → (k : ℕ) → k ≤ run.n → HasLeft old old v s run k

@@ -1,36 +1,49 @@
-use Rattle.std.proofs.Common.{rules, ◌≡◌, ◌+◌, ◌≤◌, IfSome, IsSome, None, false, true, ℕ, ◌-◌, ◌*◌, ◌<◌, length, ◌/◌, ◌%◌, Bool, nat_eq, nat_lt, List, [], ◌∷◌, ◌++◌, slice_index_or, slice_set, bit_and, bit_or, Fits, w8, w32, w64, Bor, MutBor}
-use Rattle.std.specs.FinMap as map
-use Rattle.sizes.specs.declared.TheConstants.{FRAME_UNITS, PAGE_BYTES}
-use Rattle.unit_map.specs.Changes.{HasRoom}
-use Rattle.ledger.specs.Ledger.{is_alone}
-use Rattle.space_maps.specs.Spaces.{cut_page, cut_pages, holds_space, page_in, space_in}
-use Rattle.space_ledger.specs.Calls.{IsBareRun}
-use Rattle.space_ledger.specs.View.{ledger_of, overlay_at}
-use Rattle.overlay_pages.specs.Lines.{lines_of_bytes, same_lines}
-use Rattle.overlay_pages.specs.Changes.{IsPlaced, moved_to}
+use Rattle.std.proofs.Common.{◌+◌, Some, refl, sym, ap, subst, ◌∙◌}
+use Rattle.segment_store.specs.Store.{Store}
+use Rattle.space_ledger.specs.View.{LedgerView}
 use Rattle.overlay_pages.specs.View.{IsJoined, state_of, view_of}
+use Rattle.overlay_pages.proofs.Leaving.{gives_frame}
+use Rattle.overlay_pages.proofs.RunLeaving.{HasLeft, all_left, frame_below, frame_taken, none_left, one_given, one_kept}
 use Rattle.overlay_pages.proofs.placing.take_run_out.Goals as goal
+use Rattle.overlay_pages.proofs.placing.take_run_out.Goals.{then-is_unused, else-is_unused}
 
--- src/placing.rt:52:9
 pub returns-then-remove_run-eq0-clause-joined : goal.returns-then-remove_run-eq0-clause-joined
-returns-then-remove_run-eq0-clause-joined c = ?
+returns-then-remove_run-eq0-clause-joined c =
+    subst (λ (t : LedgerView). IsJoined (view_of c.args.store.now t)) (sym c.remove_run.ensures.gone)
+    (all_left c.args.store.now c.args.ledger.now c.args.space c.args.run.now c.requires.joined c.requires.there c.requires.bare c.remove_run.new.self
+    c.remove_run.ensures.given (c.remove_run.ensures.none c.if-remove_run-eq0.true)).joined
 
--- src/placing.rt:52:9
 pub returns-then-remove_run-eq0-clause-state : goal.returns-then-remove_run-eq0-clause-state
-returns-then-remove_run-eq0-clause-state c = ?
+returns-then-remove_run-eq0-clause-state c =
+    ap (λ (t : LedgerView). state_of (view_of c.args.store.now t)) c.remove_run.ensures.gone
+    ∙ (all_left c.args.store.now c.args.ledger.now c.args.space c.args.run.now c.requires.joined c.requires.there c.requires.bare c.remove_run.new.self
+    c.remove_run.ensures.given (c.remove_run.ensures.none c.if-remove_run-eq0.true)).state
 
--- src/placing.rt:54:5
 pub giving-init : goal.giving-init
-giving-init c = ?
+giving-init c = none_left c.args.store.now c.args.ledger.now c.args.space c.args.run.now c.requires.joined c.requires.there c.requires.bare
 
--- src/placing.rt:56:12
 pub is_unused-requires : goal.is_unused-requires
-is_unused-requires c = ?
+is_unused-requires c =
+    frame_below c.args.store.now c.args.ledger.now c.args.space c.args.run.now c.requires.joined c.requires.there c.requires.bare c.giving.store c.giving.i c.giving-test.true
+    c.giving.invariant c.entry_at-entry.result c.entry_at-entry.ensures c.remove_run.new.self c.remove_run.ensures.gone
 
--- src/placing.rt:57:13
 pub give_frame-requires : goal.give_frame-requires
-give_frame-requires c = ?
+give_frame-requires c =
+    frame_taken c.args.store.now c.args.ledger.now c.args.space c.args.run.now c.requires.joined c.requires.there c.requires.bare c.giving.store c.giving.i c.giving-test.true
+    c.giving.invariant c.entry_at-entry.result c.entry_at-entry.ensures
 
--- src/placing.rt:54:5
 pub giving-preserved : goal.giving-preserved
-giving-preserved c = ?
+giving-preserved c = elim c.if-is_unused.branch [
+  | then-is_unused w ↦
+      let g = w.give_frame.ensures in
+      subst (λ (st : Store). HasLeft c.args.store.now st c.args.ledger.now c.args.space c.args.run.now (c.giving.i + 1)) (sym w.store-is)
+      (one_given c.args.store.now c.args.ledger.now c.args.space c.args.run.now c.requires.joined c.requires.there c.requires.bare c.remove_run.new.self c.remove_run.ensures.given
+      c.giving.i c.giving-test.true c.giving.store c.giving.invariant c.entry_at-entry.result c.entry_at-entry.ensures c.is_unused.result c.is_unused.ensures
+      w.give_frame.new.self w.if-is_unused.true
+      (gives_frame c.giving.store w.give_frame.new.self c.entry_at-entry.result.frame (Some c.entry_at-entry.result.frame) refl g.same g.segments g.frames g.free g.units g.store))
+  | else-is_unused w ↦
+      subst (λ (st : Store). HasLeft c.args.store.now st c.args.ledger.now c.args.space c.args.run.now (c.giving.i + 1)) (sym w.store-is)
+      (one_kept c.args.store.now c.args.ledger.now c.args.space c.args.run.now c.requires.joined c.requires.there c.requires.bare c.remove_run.new.self c.remove_run.ensures.given
+      c.giving.i c.giving-test.true c.giving.store c.giving.invariant c.entry_at-entry.result c.entry_at-entry.ensures c.is_unused.result c.is_unused.ensures
+      w.if-is_unused.false)
+]
