@@ -403,8 +403,8 @@ impl OverlayMemory {
         None
     }
 
-    /// How many pages from one on are there, on the zero frame and without own lines: at least those that lie in one run with it. No
-    /// page of the space awaits. Costs two look-ups.
+    /// How many pages from one on are there, on the zero frame and without own lines. It may tell fewer than there are. No page of the
+    /// space awaits. Costs two look-ups.
     pub fn zeros_from(&self, space: u16, page: u64) -> u32
         requires there { holds_space (state_of self.now) space ≡ true }
         requires settled { (space_in (state_of self.now) space).awaiting ≡ map.empty }

@@ -5,12 +5,12 @@ use Rattle.std.specs.Option.{option_and_then, option_map, option_map_or}
 use Rattle.sizes.specs.declared.TheConstants.{PAGE_END}
 use Rattle.ledger.specs.Ledger.{Ledger, holding_at}
 use Rattle.space_maps.specs.Books.{books_page}
-use Rattle.space_maps.specs.Spaces.{page_in}
+use Rattle.space_maps.specs.Spaces.{AreMapped, page_in}
 use Rattle.space_ledger.specs.View.{LedgerView, PageView, frame_at, holding_of, ledger_of, lines_of, origin_of, overlay_at}
 use Rattle.page_table.specs.declared.entry.PageEntry.{PageEntry}
 use Rattle.page_table.specs.declared.run.PageRun.{PageRun}
 use Rattle.space_ledger.specs.Calls as calls
-use Rattle.overlay_pages.specs.Calls.{AreMapped, AreZeros, zero_holding}
+use Rattle.overlay_pages.specs.Calls.{AreZeros, zero_holding}
 use Rattle.overlay_pages.specs.View.{IsJoined, MemoryView, page_state, state_of}
 use Rattle.overlay_pages.specs.ViewLaws.{state_books, state_page, state_page_some}
 
@@ -31,11 +31,11 @@ held_zero v s p is = books_page holding_of v s p ∙ at (page_in v s p) is.0 is.
         let origin = zero_origin v.zero_frame x.entry.frame (ap (λ (o : Option ℕ). option_map_or (λ (n : ℕ). n) o v.zero_frame) frame) in
         λ i. Some (record { origin = origin i; own = lines_of (bare i) })
 
-pub zeros_state : (view : MemoryView) (s from n : ℕ) → calls.AreZeros view.table s from n → AreZeros (state_of view) s from n
+pub zeros_state : (view : MemoryView) (s from n : ℕ) → calls.AreBareOnZero view.table s from n → AreZeros (state_of view) s from n
 zeros_state view s from n zeros i less = ap (λ (l : Ledger). holding_at l s (from + i)) (state_books view) ∙ held_zero view.table s (from + i) (zeros i less)
 
 -- pages go no further than pages may
-pub mapped_low : (view : MemoryView) (s from n : ℕ) → IsJoined view → calls.AreThere view.table s from n → 0 < n → from + n ≤ PAGE_END
+pub mapped_low : (view : MemoryView) (s from n : ℕ) → IsJoined view → AreMapped view.table s from n → 0 < n → from + n ≤ PAGE_END
 mapped_low view s from zero is there some = absurd (omega (arith, some))
 mapped_low view s from (suc k) is there some = at (page_in view.table s (from + k)) refl (there k (omega arith))
   where
@@ -51,7 +51,7 @@ run_low view s page run is bare same =
     some None h = let no = ap is_some h in cc
     some (Some x) h = refl
 
-pub zeros_low : (view : MemoryView) (s from n : ℕ) → IsJoined view → calls.AreZeros view.table s from n → 0 < n → from + n ≤ PAGE_END
+pub zeros_low : (view : MemoryView) (s from n : ℕ) → IsJoined view → calls.AreBareOnZero view.table s from n → 0 < n → from + n ≤ PAGE_END
 zeros_low view s from n is zeros = mapped_low view s from n is (λ i less. some (page_in view.table s (from + i)) (zeros i less).0)
   where
     some : (o : Option PageView) → option_map (λ (x : PageView). x.entry.frame) o ≡ Some view.table.zero_frame → IsSome o
@@ -59,7 +59,7 @@ zeros_low view s from n is zeros = mapped_low view s from n is (λ i less. some 
     some (Some x) h = refl
 
 -- pages of the tables are pages of the state
-pub mapped_state : (view : MemoryView) (s from n : ℕ) → calls.AreThere view.table s from n → AreMapped (state_of view) s from n
+pub mapped_state : (view : MemoryView) (s from n : ℕ) → AreMapped view.table s from n → AreMapped (state_of view) s from n
 mapped_state view s from n there i less = state_page_some view s (from + i) ∙ there i less
 
 pub none_state : (view : MemoryView) (s p : ℕ) → page_in view.table s p ≡ None → page_in (state_of view) s p ≡ None

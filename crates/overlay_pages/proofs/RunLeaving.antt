@@ -4,12 +4,13 @@ use Rattle.std.specs.Option.{option_and_then, option_map, option_map_or}
 use Rattle.page_table.specs.Run.{entry_at}
 use Rattle.page_table.specs.declared.entry.PageEntry.{PageEntry}
 use Rattle.page_table.specs.declared.run.PageRun.{PageRun}
-use Rattle.ledger.specs.Ledger.{has_origin}
+use Rattle.ledger.specs.Ledger.{has_origin, is_unused}
 use Rattle.segment_store.specs.Store.{Store, IsFrame}
 use Rattle.segment_store.specs.Laws.{frame_inside}
 use Rattle.space_maps.specs.Laws.{after_cut, are_cut}
 use Rattle.space_maps.specs.Spaces.{cut_page, cut_pages, holds_space, page_in}
-use Rattle.space_ledger.specs.View.{LedgerView, PageView, ledger_of}
+use Rattle.space_ledger.specs.View.{LedgerView, PageView, ledger_of, origin_of}
+use Rattle.space_ledger.specs.ViewLaws.{unused_is}
 use Rattle.space_ledger.specs.Calls.{GivesNothingUp, GivesUpAtLast, IsBareRun, given_up}
 use Rattle.overlay_pages.specs.State.{State}
 use Rattle.overlay_pages.specs.View.{IsJoined, state_of, view_of}
@@ -35,10 +36,10 @@ one_of v s p entry has = at (page_in v s p) refl has
     at (Some x) there h = record { x = x; there = there; is = ap (λ (o : Option PageEntry). option_map_or (λ (e : PageEntry). e) o entry) (sym h) }
 
 -- its frame is given up where nothing names it
-given_as : (new : LedgerView) (x : PageView) (unused : Bool) → unused ≡ not (nat_eq x.entry.frame new.zero_frame || has_origin (ledger_of new) (x.entry.frame + 1))
+given_as : (new : LedgerView) (x : PageView) (unused : Bool) → unused ≡ is_unused (ledger_of new) (origin_of new.zero_frame x.entry.frame)
     → given_up new (Some x) ≡ cond unused (Some x.entry.frame) None
 given_as new x unused is =
-    turned (nat_eq x.entry.frame new.zero_frame || has_origin (ledger_of new) (x.entry.frame + 1)) ∙ ap (λ b. cond b (Some x.entry.frame) None) (sym is)
+    turned (nat_eq x.entry.frame new.zero_frame || has_origin (ledger_of new) (x.entry.frame + 1)) ∙ ap (λ b. cond b (Some x.entry.frame) None) (sym (is ∙ unused_is new x.entry.frame))
   where
     turned : (b : Bool) → ◌≡◌ {A = Option ℕ} (cond b None (Some x.entry.frame)) (cond (not b) (Some x.entry.frame) None)
     turned true = refl
@@ -67,13 +68,13 @@ module _ (old : Store) (v : LedgerView) (s : ℕ) (run : PageRun) (is : IsJoined
       omega (arith, inside, count, then, last)
 
   module _ (new : LedgerView) (given : GivesUpAtLast v new s run) where
-    given_of : (k : ℕ) → k < run.n → (entry : PageEntry) → entry ≡ entry_at run k → (unused : Bool) → unused ≡ not (nat_eq entry.frame new.zero_frame || has_origin (ledger_of new) (entry.frame + 1))
+    given_of : (k : ℕ) → k < run.n → (entry : PageEntry) → entry ≡ entry_at run k → (unused : Bool) → unused ≡ is_unused (ledger_of new) (origin_of new.zero_frame entry.frame)
         → given_up new (page_in v s (run.page + k)) ≡ cond unused (Some entry.frame) None
     given_of k low entry entry_is unused unused_is =
         let one = page k low in
         let same : entry ≡ one.x.entry = entry_is ∙ one.is in
         ap (given_up new) one.there
-        ∙ given_as new one.x unused (unused_is ∙ ap (λ (e : PageEntry). not (nat_eq e.frame new.zero_frame || has_origin (ledger_of new) (e.frame + 1))) same)
+        ∙ given_as new one.x unused (unused_is ∙ ap (λ (e : PageEntry). is_unused (ledger_of new) (origin_of new.zero_frame e.frame)) same)
         ∙ ap (λ (e : PageEntry). cond unused (Some e.frame) None) (sym same)
 
     one_more : (k : ℕ) → k < run.n → (now next : Store) → HasLeft old now v s run k → (freed : Option ℕ) → freed ≡ given_up new (page_in v s (run.page + k)) → LeavesStore now next freed
@@ -92,7 +93,7 @@ module _ (old : Store) (v : LedgerView) (s : ℕ) (run : PageRun) (is : IsJoined
 
     -- a frame that nothing names is given back, and one that is named stays
     module _ (k : ℕ) (low : k < run.n) (now : Store) (so_far : HasLeft old now v s run k) (entry : PageEntry) (entry_is : entry ≡ entry_at run k) (unused : Bool)
-        (unused_is : unused ≡ not (nat_eq entry.frame new.zero_frame || has_origin (ledger_of new) (entry.frame + 1))) where
+        (unused_is : unused ≡ is_unused (ledger_of new) (origin_of new.zero_frame entry.frame)) where
       freed_is : (b : Bool) → unused ≡ b → cond b (Some entry.frame) None ≡ given_up new (page_in v s (run.page + k))
       freed_is b is_b = sym (given_of k low entry entry_is unused unused_is ∙ ap (λ t. cond t (Some entry.frame) None) is_b)
 

@@ -165,8 +165,8 @@ impl OverlayPages {
         take_out(&mut self.store, &mut self.ledger, space, page);
     }
 
-    /// How many pages from one on are there: none exactly where it isn't, and at least those that lie in one run with it. No page of the
-    /// space awaits. Costs a look-up.
+    /// How many pages from one on are there: none exactly where it isn't. It may tell fewer than there are. No page of the space
+    /// awaits. Costs a look-up.
     pub fn pages_from(&self, space: u16, page: u64) -> u32
         requires { (space_in (state_of self.now) space).awaiting ≡ map.empty }
         ensures there { AreMapped (state_of self.now) space page result }
@@ -176,8 +176,8 @@ impl OverlayPages {
         self.ledger.pages_from(space, page)
     }
 
-    /// How many pages from one on are there, on the zero frame and without own lines: at least those that lie in one run with it. No
-    /// page of the space awaits. Costs two look-ups.
+    /// How many pages from one on are there, on the zero frame and without own lines. It may tell fewer than there are. No page of the
+    /// space awaits. Costs two look-ups.
     pub fn zeros_from(&self, space: u16, page: u64) -> u32
         requires there { holds_space (state_of self.now) space ≡ true }
         requires settled { (space_in (state_of self.now) space).awaiting ≡ map.empty }
@@ -407,36 +407,6 @@ impl OverlayPages {
                 Spot::Segment(block) => self.store.place(block, line),
                 Spot::Frame(frame) => 64 * frame + u32::from(line),
             },
-            None => unreachable!(),
-        }
-    }
-
-    /// Lends a line of a page that is there. Costs a look-up.
-    #[inline]
-    pub fn line(&self, space: u16, page: u64, line: u8) -> &[u8; 64]
-        requires there { IsSome (page_in (state_of self.now) space page) }
-        requires line { line < PAGE_LINES }
-        ensures value { option_map (λ x. line_in_page x.lines line) (page_in (state_of self.now) space page)
-            ≡ Some result.now }
-        ensures bytes { length result.now ≡ LINE_BYTES }
-        ensures joined { IsJoined self.now }
-    {
-        match self.find(space, page, line) {
-            Some(found) => self.line_at(found),
-            None => unreachable!(),
-        }
-    }
-
-    /// Whether a line of a page that is there can be written where it stands: it is in the overlay, or else the space isn't
-    /// speculating and the frame is the page's alone. Costs a look-up.
-    #[inline]
-    pub fn is_writable(&self, space: u16, page: u64, line: u8) -> bool
-        requires there { IsSome (page_in (state_of self.now) space page) }
-        requires line { line < PAGE_LINES }
-        ensures { result ≡ is_writable (state_of self.now) space page line }
-    {
-        match self.find(space, page, line) {
-            Some(found) => self.is_writable_at(found),
             None => unreachable!(),
         }
     }

@@ -10,12 +10,12 @@ use Rattle.page_table.specs.Run.{IsNextRun, IsRunFrom, entry_at}
 use Rattle.page_table.specs.Table.{Pages, AreThere, IsUnmapped, is_within}
 use Rattle.page_table.specs.declared.entry.PageEntry.{PageEntry}
 use Rattle.page_table.specs.declared.run.PageRun.{PageRun}
-use Rattle.space_maps.specs.Spaces.{cut_page, cut_pages, page_in, space_in}
+use Rattle.space_maps.specs.Spaces.{AreMapped, cut_page, cut_pages, page_in, space_in}
 use Rattle.space_maps.specs.Laws.{after_cut, page_of}
 use Rattle.space_ledger.specs.declared.tables.Tables.TheInside.{Inside}
 use Rattle.space_ledger.specs.Space.{SpaceTable, IsCounted, pages_below, pages_from, without_page, without_pages}
 use Rattle.space_ledger.specs.View.{LedgerView, PageView, overlay_at}
-use Rattle.space_ledger.specs.Calls.{AreBare, AreThere as ArePagesThere, AreZeros, IsNextOverlaid, entries_of}
+use Rattle.space_ledger.specs.Calls.{AreBare, AreBareOnZero, IsNextOverlaid, entries_of}
 use Rattle.space_ledger.proofs.Parts.{all_inside, from_at, in_table, same_space}
 use Rattle.space_ledger.proofs.Seen.{Shows, entry_there, there_is, with_spaces}
 use Rattle.space_ledger.proofs.TableOps.{shown_gone, shown_still}
@@ -129,7 +129,7 @@ entry_of v s p e is =
 
 -- the first pages of a run on the zero frame
 pub zeros_of_run : (v : LedgerView) (s page : ℕ) (run : PageRun) (few many : ℕ) → IsRunFrom (entries_of v s) page run → few ≤ many → many ≤ run.n → (0 < many → run.page ≡ page)
-    → ((i : ℕ) → i < many → (entry_at run i).frame ≡ v.zero_frame) → ((i : ℕ) → i < few → overlay_at v s (page + i) ≡ None) → AreZeros v s page few
+    → ((i : ℕ) → i < many → (entry_at run i).frame ≡ v.zero_frame) → ((i : ℕ) → i < few → overlay_at v s (page + i) ≡ None) → AreBareOnZero v s page few
 zeros_of_run v s page run few many first fits inside start on_zero bare i less =
     let same = start (omega (arith, less, fits)) in
     let entry : get (entries_of v s) (page + i) ≡ Some (entry_at run i) = ap (λ p. get (entries_of v s) (p + i)) (sym same) ∙ first.has i (omega (arith, less, fits, inside)) in
@@ -155,7 +155,7 @@ none_by : {X : Type 0} (o : Option X) → is_some o ≡ false → o ≡ None
 none_by None h = refl
 none_by (Some x) h = cc
 
-pub run_there : (v : LedgerView) (s page : ℕ) (run : PageRun) → IsRunFrom (entries_of v s) page run → run.page ≡ page → ArePagesThere v s page run.n
+pub run_there : (v : LedgerView) (s page : ℕ) (run : PageRun) → IsRunFrom (entries_of v s) page run → run.page ≡ page → AreMapped v s page run.n
 run_there v s page run first same i less =
     subst (λ p. IsSome (page_in v s (p + i))) same (sym (entry_some v s (run.page + i)) ∙ ap is_some (first.has i less))
 

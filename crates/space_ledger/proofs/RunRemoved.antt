@@ -4,7 +4,7 @@ use Rattle.std.proofs.lemmas.Bool.Decides.{nat_tests}
 use Rattle.std.specs.Option.{option_and_then, option_map}
 use Rattle.sizes.specs.declared.TheConstants.{PAGE_END}
 use Rattle.frame_pool.specs.Counts.{sharers_of}
-use Rattle.ledger.specs.Ledger.{has_origin}
+use Rattle.ledger.specs.Ledger.{has_origin, is_unused}
 use Rattle.ledger.specs.TallyLaws.{had_by_count}
 use Rattle.ledger.specs.Units.{sharers}
 use Rattle.page_table.specs.Run.{IsRunFrom, entry_at}
@@ -13,7 +13,8 @@ use Rattle.page_table.specs.declared.run.PageRun.{PageRun}
 use Rattle.space_maps.specs.Laws.{after_cut, are_cut}
 use Rattle.space_maps.specs.Spaces.{cut_page, cut_pages, holds_space, page_in}
 use Rattle.space_ledger.specs.Frames.{frame_units, released_run, run_freed}
-use Rattle.space_ledger.specs.View.{LedgerView, PageView, ledger_of, overlay_at}
+use Rattle.space_ledger.specs.View.{LedgerView, PageView, ledger_of, origin_of, overlay_at}
+use Rattle.space_ledger.specs.ViewLaws.{unused_is}
 use Rattle.space_ledger.specs.Calls.{AreBare, GivesNothingUp, GivesUpAtLast, IsBareFrom, IsBareRun, IsBooked, IsSound, entries_of, given_up}
 use Rattle.space_ledger.specs.Space.{IsStartOf}
 use Rattle.space_ledger.proofs.Booked.{in_pages}
@@ -43,14 +44,20 @@ unused_by_count v counts u n kept f low = at (nat_eq f v.zero_frame) refl
             let right : nat_lt 0 (suc k) ≡ true = grind (arith, nat_tests) in left ∙ sym (ap not (had ∙ right))
 
 pub unused_call : (v : LedgerView) (counts : List ℕ) (u n : ℕ) → IsBooked v counts u n → (f z count : ℕ) → f < v.frames → z ≡ v.zero_frame → (f ≡ z → ⊥) → count ≡ sharers_of counts f
-    → nat_eq count 0 ≡ not (nat_eq f v.zero_frame || has_origin (ledger_of v) (f + 1))
+    → nat_eq count 0 ≡ is_unused (ledger_of v) (origin_of v.zero_frame f)
 unused_call v counts u n kept f z count low zero_is other is =
     let isnt : nat_eq f v.zero_frame ≡ false = at (nat_eq f v.zero_frame) refl in
-    ap (λ k. nat_eq k 0) is ∙ ap (λ (b : Bool). not b && nat_eq (sharers_of counts f) 0) (sym isnt) ∙ unused_by_count v counts u n kept f low
+    ap (λ k. nat_eq k 0) is ∙ ap (λ (b : Bool). not b && nat_eq (sharers_of counts f) 0) (sym isnt) ∙ unused_by_count v counts u n kept f low ∙ sym (unused_is v f)
   where
     at : (b : Bool) → nat_eq f v.zero_frame ≡ b → nat_eq f v.zero_frame ≡ false
     at true e = absurd (other (eq_true f v.zero_frame e ∙ sym zero_is))
     at false e = e
+
+pub zero_used : (v : LedgerView) (f z : ℕ) → z ≡ v.zero_frame → f ≡ z → not (nat_eq f z) ≡ is_unused (ledger_of v) (origin_of v.zero_frame f)
+zero_used v f z zero_is same =
+    let here : nat_eq f z ≡ true = grind (arith, nat_tests) in
+    let kept : nat_eq f v.zero_frame ≡ true = grind (arith, nat_tests) in
+    ap not here ∙ ap (λ (b : Bool). not (b || has_origin (ledger_of v) (f + 1))) (sym kept) ∙ sym (unused_is v f)
 
 -- so what is given up of a page is told by the count of its frame
 given_by_count : (v : LedgerView) (counts : List ℕ) (u n : ℕ) → IsBooked v counts u n → (x : PageView) → x.entry.frame < v.frames

@@ -27,16 +27,12 @@ AreSharersCounted ledger zero_frame frames counts = (f : ℕ) → f < frames →
 abbrev pub AreFree : LedgerView → ℕ → ℕ → ℕ → Type 0
 AreFree view space from n = (page : ℕ) → IsTrue (is_within from n page) → page_in view space page ≡ None
 
--- the n pages from `from` on are there
-abbrev pub AreThere : LedgerView → ℕ → ℕ → ℕ → Type 0
-AreThere view space from n = (i : ℕ) → i < n → IsSome (page_in view space (from + i))
-
--- they are, without own lines; and they are on the zero frame
+-- the n pages from `from` on are there without own lines; and they are on the zero frame
 abbrev pub AreBare : LedgerView → ℕ → ℕ → ℕ → Type 0
 AreBare view space from n = (i : ℕ) → i < n → IsSome (page_in view space (from + i)) × (overlay_at view space (from + i) ≡ None)
 
-abbrev pub AreZeros : LedgerView → ℕ → ℕ → ℕ → Type 0
-AreZeros view space from n =
+abbrev pub AreBareOnZero : LedgerView → ℕ → ℕ → ℕ → Type 0
+AreBareOnZero view space from n =
     (i : ℕ) → i < n → (frame_at view space (from + i) ≡ Some view.zero_frame) × (overlay_at view space (from + i) ≡ None)
 
 -- the pages of a run are there, with its entries and without own lines

@@ -42,7 +42,7 @@ without_pages space from zero = space
 without_pages space from (suc k) = without_page (without_pages space from k) (from + k)
 
 -- the n pages from `from` on have the entry, and nothing else changed
-pub record AreMapped (old : SpaceTable) (from n : ℕ) (entry : PageEntry) (new : SpaceTable) : Type 0 where
+pub record HasMapped (old : SpaceTable) (from n : ℕ) (entry : PageEntry) (new : SpaceTable) : Type 0 where
   pub pages : IsMapped old.pages from n entry new.pages
   pub count : len new.pages ≡ len old.pages + n
   pub awaiting : new.awaiting ≡ old.awaiting

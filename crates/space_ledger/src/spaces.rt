@@ -1,6 +1,6 @@
 //! The space ledger.
 
-ghost use Rattle.std.specs.Prelude.{◌≡◌, ℕ, ◌+◌, ◌-◌, ◌*◌, ◌==◌, ◌≢◌, ◌<◌, ◌≤◌, ◌⊎◌, ◌&&◌, ◌||◌, cond, not, nat_lt, length, true, false, Some, None, [], ◌∷◌, IfOk, IfSome, IsSome, OnOk, OnErr};
+ghost use Rattle.std.specs.Prelude.{◌≡◌, ℕ, ◌+◌, ◌-◌, ◌*◌, ◌==◌, ◌≢◌, ◌<◌, ◌≤◌, ◌⊎◌, ◌&&◌, cond, not, nat_lt, length, true, false, Some, None, [], ◌∷◌, IfOk, IfSome, IsSome, OnOk, OnErr};
 ghost use Rattle.std.specs.FinMap as map;
 ghost use Rattle.std.specs.Option.{is_some, option_and_then, option_map};
 ghost use Rattle.sizes.specs.declared.TheConstants.{FRAME_UNITS, LAST_SPACE, MOST_FRAMES, MOST_SPACE_PAGES, PAGE_END, PAGE_LINES};
@@ -11,13 +11,14 @@ ghost use Rattle.overlay_bits.specs.Lines.{AreLines, with_lines};
 ghost use Rattle.ledger.specs.Changes.{has_own};
 ghost use Rattle.ledger.specs.Events.{Store, ledger_after};
 ghost use Rattle.overlay_address.specs.Names.{page_of, space_of};
-ghost use Rattle.page_table.specs.Run.{IsRunFrom, entry_at};
-ghost use Rattle.space_maps.specs.Spaces.{bare_space, cut_page, cut_pages, cut_space, holds_space, page_in, put_awaiting, put_mark, put_space, space_in};
-ghost use Rattle.space_ledger.specs.Space.{AwaitsFirst, IsLeast, IsStartOf};
-ghost use Rattle.space_ledger.specs.View.{frame_at, frame_awaiting, ledger_of, lines_of, overlay_at, with_block, with_frame, with_overlay, with_page_shared, with_run_shared, with_zero_pages};
-ghost use Rattle.space_ledger.specs.Calls.{AreBareBelow, AreFree, AreSharedBare, AreThere, AreZeros, GivesNothingUp, GivesUpAtLast, HasOverlayRoom, HasSpare, IsBareFrom, IsBareRun, IsFreeFor, IsNextOf, IsNextOwn, NamesOnce, RisesBeside, RisesBy, entries_of, given_up, held_at};
+ghost use Rattle.page_table.specs.Run.{IsRunFrom};
+ghost use Rattle.space_maps.specs.Spaces.{AreMapped, bare_space, cut_page, cut_pages, cut_space, holds_space, page_in, put_awaiting, put_mark, put_space, space_in};
+ghost use Rattle.space_ledger.specs.Space.{AwaitsFirst, IsLeast};
+ghost use Rattle.space_ledger.specs.View.{frame_at, frame_awaiting, ledger_of, lines_of, origin_of, overlay_at, with_block, with_frame, with_overlay, with_page_shared, with_run_shared, with_zero_pages};
+ghost use Rattle.space_ledger.specs.Calls.{AreBareBelow, AreBareOnZero, AreFree, AreSharedBare, GivesNothingUp, GivesUpAtLast, HasOverlayRoom, HasSpare, IsBareFrom, IsBareRun, IsFreeFor, IsNextOf, IsNextOwn, NamesOnce, RisesBeside, RisesBy, entries_of, given_up, held_at};
 
 use crate::frames::{class_of, hold, hold_run, is_only, release, release_run};
+use crate::runs::{start_of, zeros_in};
 use crate::tables::Tables;
 use frame_pool::FramePool;
 use overlay_address::OverlayPage;
@@ -344,11 +345,11 @@ impl SpaceLedger {
         }
     }
 
-    /// How many pages from one on are there: none exactly where it isn't, and at least those that lie in one run with it. No page of the
-    /// space awaits. Costs a look-up.
+    /// How many pages from one on are there: none exactly where it isn't. It may tell fewer than there are. No page of the space
+    /// awaits. Costs a look-up.
     pub fn pages_from(&self, space: u16, page: u64) -> u32
         requires { (space_in self.now space).awaiting ≡ map.empty }
-        ensures there { AreThere self.now space page result }
+        ensures there { AreMapped self.now space page result }
         ensures none { result ≡ 0 → page_in self.now space page ≡ None }
     {
         match self.tables.next_run(space, page) {
@@ -357,12 +358,12 @@ impl SpaceLedger {
         }
     }
 
-    /// How many pages from one on are there, on the zero frame and without own lines: at least those that lie in one run with it. No
-    /// page of the space awaits. Costs two look-ups.
+    /// How many pages from one on are there, on the zero frame and without own lines. It may tell fewer than there are. No page of the
+    /// space awaits. Costs two look-ups.
     pub fn zeros_from(&self, space: u16, page: u64) -> u32
         requires there { holds_space self.now space ≡ true }
         requires settled { (space_in self.now space).awaiting ≡ map.empty }
-        ensures { AreZeros self.now space page result }
+        ensures { AreBareOnZero self.now space page result }
     {
         match self.tables.next_run(space, page) {
             Some(run) => self.bare_from(space, page, zeros_in(&run, page, self.tables.zero())),
@@ -426,7 +427,7 @@ impl SpaceLedger {
     #[inline]
     pub fn is_unused(&self, frame: u32) -> bool
         requires { frame < self.now.frames }
-        ensures { result ≡ not (frame == self.now.zero_frame || book.has_origin (ledger_of self.now) (frame + 1)) }
+        ensures { result ≡ book.is_unused (ledger_of self.now) (origin_of self.now.zero_frame frame) }
     {
         frame != self.tables.zero() && self.pool.sharers(frame) == 0
     }
@@ -496,34 +497,6 @@ impl SpaceLedger {
         let own = bits_of(&self.tables.overlay(space, page));
         rise_of(is_speculating, is_alone, own, lines)
     }
-}
-
-/// How many pages of a run, from one on, are on the zero frame: all, where it begins with that page, or none.
-fn zeros_in(run: &PageRun, page: u64, zero: u32) -> u32
-    ensures start { 0 < result → run.now.page ≡ page }
-    ensures few { result ≤ run.now.n }
-    ensures zeros { (i : ℕ) → i < result → (entry_at run.now i).frame ≡ zero }
-{
-    if run.page == page && !run.rising && run.entry.frame == zero {
-        run.n
-    } else {
-        0
-    }
-}
-
-/// The first `n` pages of a run that begins with a page: none where it doesn't.
-fn start_of(run: &PageRun, page: u64, n: u32) -> Option<PageRun>
-    ensures { IsStartOf run.now page n result }
-{
-    if run.page != page || n == 0 {
-        return None;
-    }
-    Some(PageRun {
-        page,
-        n,
-        entry: run.entry,
-        rising: run.rising,
-    })
 }
 
 /// The lines of a page's overlay with another block, where one is given.
