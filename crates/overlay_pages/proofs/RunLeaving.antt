@@ -36,10 +36,12 @@ one_of v s p entry has = at (page_in v s p) refl has
     at (Some x) there h = record { x = x; there = there; is = ap (λ (o : Option PageEntry). option_map_or (λ (e : PageEntry). e) o entry) (sym h) }
 
 -- its frame is given up where nothing names it
-given_as : (new : LedgerView) (x : PageView) (unused : Bool) → unused ≡ is_unused (ledger_of new) (origin_of new.zero_frame x.entry.frame)
+given_as : (new : LedgerView) (x : PageView) (unused : Bool)
+    → unused ≡ is_unused (ledger_of new) (origin_of new.zero_frame x.entry.frame)
     → given_up new (Some x) ≡ cond unused (Some x.entry.frame) None
 given_as new x unused is =
-    turned (nat_eq x.entry.frame new.zero_frame || has_origin (ledger_of new) (x.entry.frame + 1)) ∙ ap (λ b. cond b (Some x.entry.frame) None) (sym (is ∙ unused_is new x.entry.frame))
+    turned (nat_eq x.entry.frame new.zero_frame || has_origin (ledger_of new) (x.entry.frame + 1))
+    ∙ ap (λ b. cond b (Some x.entry.frame) None) (sym (is ∙ unused_is new x.entry.frame))
   where
     turned : (b : Bool) → ◌≡◌ {A = Option ℕ} (cond b None (Some x.entry.frame)) (cond (not b) (Some x.entry.frame) None)
     turned true = refl
@@ -58,8 +60,8 @@ module _ (old : Store) (v : LedgerView) (s : ℕ) (run : PageRun) (is : IsJoined
       subst (λ (e : PageEntry). IsFrame now e.frame) (sym (entry_is ∙ (page k low).is))
       (so_far.joined.held s (run.page + k) (page k low).x (after_cut k run.page v s has ∙ (page k low).there)).frame
 
-  pub frame_below : (now : Store) (k : ℕ) → k < run.n → HasLeft old now v s run k → (entry : PageEntry) → entry ≡ entry_at run k → (new : LedgerView) → new ≡ cut_pages v s run.page run.n
-      → entry.frame < new.frames
+  pub frame_below : (now : Store) (k : ℕ) → k < run.n → HasLeft old now v s run k → (entry : PageEntry) → entry ≡ entry_at run k
+      → (new : LedgerView) → new ≡ cut_pages v s run.page run.n → entry.frame < new.frames
   frame_below now k low so_far entry entry_is new gone =
       let inside = frame_inside now so_far.joined.store entry.frame (frame_taken now k low so_far entry entry_is) in
       let count = so_far.joined.frames in
@@ -68,8 +70,8 @@ module _ (old : Store) (v : LedgerView) (s : ℕ) (run : PageRun) (is : IsJoined
       omega (arith, inside, count, then, last)
 
   module _ (new : LedgerView) (given : GivesUpAtLast v new s run) where
-    given_of : (k : ℕ) → k < run.n → (entry : PageEntry) → entry ≡ entry_at run k → (unused : Bool) → unused ≡ is_unused (ledger_of new) (origin_of new.zero_frame entry.frame)
-        → given_up new (page_in v s (run.page + k)) ≡ cond unused (Some entry.frame) None
+    given_of : (k : ℕ) → k < run.n → (entry : PageEntry) → entry ≡ entry_at run k → (unused : Bool)
+        → unused ≡ is_unused (ledger_of new) (origin_of new.zero_frame entry.frame) → given_up new (page_in v s (run.page + k)) ≡ cond unused (Some entry.frame) None
     given_of k low entry entry_is unused unused_is =
         let one = page k low in
         let same : entry ≡ one.x.entry = entry_is ∙ one.is in
@@ -77,23 +79,26 @@ module _ (old : Store) (v : LedgerView) (s : ℕ) (run : PageRun) (is : IsJoined
         ∙ given_as new one.x unused (unused_is ∙ ap (λ (e : PageEntry). is_unused (ledger_of new) (origin_of new.zero_frame e.frame)) same)
         ∙ ap (λ (e : PageEntry). cond unused (Some e.frame) None) (sym same)
 
-    one_more : (k : ℕ) → k < run.n → (now next : Store) → HasLeft old now v s run k → (freed : Option ℕ) → freed ≡ given_up new (page_in v s (run.page + k)) → LeavesStore now next freed
-        → HasLeft old next v s run (suc k)
+    one_more : (k : ℕ) → k < run.n → (now next : Store) → HasLeft old now v s run k → (freed : Option ℕ)
+        → freed ≡ given_up new (page_in v s (run.page + k)) → LeavesStore now next freed → HasLeft old next v s run (suc k)
     unfolding cut_pages
     one_more k low now next so_far freed freed_is leaves =
         let w = cut_pages v s run.page k in
         let one = page k low in
         let same = after_cut k run.page v s has in
         let over : one.x.overlay ≡ None = ap (option_and_then (λ (x : PageView). x.overlay)) (sym one.there) ∙ bare.bare k low in
-        let freed_then : freed ≡ given_up (cut_page w s (run.page + k)) (page_in w s (run.page + k)) = freed_is ∙ sym (given k low) ∙ ap (given_up (cut_page w s (run.page + k))) (sym same) in record {
-          joined = left_joined (view_of now w) next (cut_page w s (run.page + k)) s (run.page + k) one.x freed so_far.joined (same ∙ one.there) over refl freed_then leaves;
-          state = left_state (view_of now w) next (cut_page w s (run.page + k)) s (run.page + k) one.x freed so_far.joined (same ∙ one.there) over refl freed_then leaves
+        let freed_then : freed ≡ given_up (cut_page w s (run.page + k)) (page_in w s (run.page + k)) =
+        freed_is ∙ sym (given k low) ∙ ap (given_up (cut_page w s (run.page + k))) (sym same) in record {
+          joined = left_joined (view_of now w) next (cut_page w s (run.page + k)) s (run.page + k) one.x freed so_far.joined
+              (same ∙ one.there) over refl freed_then leaves;
+          state = left_state (view_of now w) next (cut_page w s (run.page + k)) s (run.page + k) one.x freed so_far.joined
+              (same ∙ one.there) over refl freed_then leaves
               ∙ ap (λ (m : State). cut_page m s (run.page + k)) so_far.state;
         }
 
     -- a frame that nothing names is given back, and one that is named stays
-    module _ (k : ℕ) (low : k < run.n) (now : Store) (so_far : HasLeft old now v s run k) (entry : PageEntry) (entry_is : entry ≡ entry_at run k) (unused : Bool)
-        (unused_is : unused ≡ is_unused (ledger_of new) (origin_of new.zero_frame entry.frame)) where
+    module _ (k : ℕ) (low : k < run.n) (now : Store) (so_far : HasLeft old now v s run k) (entry : PageEntry) (entry_is : entry ≡ entry_at run k)
+        (unused : Bool) (unused_is : unused ≡ is_unused (ledger_of new) (origin_of new.zero_frame entry.frame)) where
       freed_is : (b : Bool) → unused ≡ b → cond b (Some entry.frame) None ≡ given_up new (page_in v s (run.page + k))
       freed_is b is_b = sym (given_of k low entry entry_is unused unused_is ∙ ap (λ t. cond t (Some entry.frame) None) is_b)
 

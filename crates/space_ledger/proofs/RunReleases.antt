@@ -52,8 +52,8 @@ unfolding released_run run_freed
 none_released z counts run = record { counts = refl; units_are = refl }
 
 -- one more page
-one_more : (z : ℕ) (old now new : List ℕ) (units more : ℕ) (run : PageRun) (k : ℕ) (entry : PageEntry) → HasReleased z old now units run k → entry ≡ entry_at run k
-    → new ≡ released_by z now entry.frame → more ≡ frame_units z new entry.frame → HasReleased z old new (units + more) run (suc k)
+one_more : (z : ℕ) (old now new : List ℕ) (units more : ℕ) (run : PageRun) (k : ℕ) (entry : PageEntry) → HasReleased z old now units run k
+    → entry ≡ entry_at run k → new ≡ released_by z now entry.frame → more ≡ frame_units z new entry.frame → HasReleased z old new (units + more) run (suc k)
 unfolding released_run run_freed
 one_more z old now new units more run k entry h is new_is more_is =
     let counted : new ≡ released_run z old run (suc k) =
@@ -63,26 +63,27 @@ one_more z old now new units more run k entry h is new_is more_is =
           (more_is ∙ ap (λ (e : PageEntry). frame_units z new e.frame) is ∙ ap (λ (c : List ℕ). frame_units z c (entry_at run k).frame) counted);
     }
 
-pub one_released : (z : ℕ) (old now new : List ℕ) (units more : ℕ) (run : PageRun) (k : ℕ) (entry : PageEntry) → HasReleased z old now units run k → entry ≡ entry_at run k
-    → new ≡ released_by z now entry.frame → more ≡ frame_units z new entry.frame → HasReleased z old new (units + more) run (k + 1)
+pub one_released : (z : ℕ) (old now new : List ℕ) (units more : ℕ) (run : PageRun) (k : ℕ) (entry : PageEntry) → HasReleased z old now units run k
+    → entry ≡ entry_at run k → new ≡ released_by z now entry.frame → more ≡ frame_units z new entry.frame → HasReleased z old new (units + more) run (k + 1)
 one_released z old now new units more run k entry h is new_is more_is =
     let next : suc k ≡ k + 1 = omega arith in
     subst (HasReleased z old new (units + more) run) next (one_more z old now new units more run k entry h is new_is more_is)
 
 -- its frame is one of the frames, which some page names, and its units fit
-pub frame_left : (z : ℕ) (old now : List ℕ) (units : ℕ) (run : PageRun) (k : ℕ) (entry : PageEntry) → HasReleased z old now units run k → entry ≡ entry_at run k
-    → (entry_at run k).frame < length old → entry.frame < length now
+pub frame_left : (z : ℕ) (old now : List ℕ) (units : ℕ) (run : PageRun) (k : ℕ) (entry : PageEntry) → HasReleased z old now units run k
+    → entry ≡ entry_at run k → (entry_at run k).frame < length old → entry.frame < length now
 frame_left z old now units run k entry h is low =
     subst (λ n. entry.frame < n) (sym (ap length h.counts ∙ length_without z old run k)) (subst (λ (e : PageEntry). e.frame < length old) (sym is) low)
 
-pub named_left : (z : ℕ) (old now : List ℕ) (units : ℕ) (run : PageRun) (k : ℕ) (entry : PageEntry) → HasReleased z old now units run k → entry ≡ entry_at run k
-    → ((entry_at run k).frame ≡ z) ⊎ (0 < sharers_of (released_run z old run k) (entry_at run k).frame) → (entry.frame ≡ z) ⊎ (0 < sharers_of now entry.frame)
+pub named_left : (z : ℕ) (old now : List ℕ) (units : ℕ) (run : PageRun) (k : ℕ) (entry : PageEntry) → HasReleased z old now units run k
+    → entry ≡ entry_at run k → ((entry_at run k).frame ≡ z) ⊎ (0 < sharers_of (released_run z old run k) (entry_at run k).frame)
+    → (entry.frame ≡ z) ⊎ (0 < sharers_of now entry.frame)
 named_left z old now units run k entry h is named =
     subst (λ (c : List ℕ). (entry.frame ≡ z) ⊎ (0 < sharers_of c entry.frame)) (sym h.counts)
     (subst (λ (e : PageEntry). (e.frame ≡ z) ⊎ (0 < sharers_of (released_run z old run k) e.frame)) (sym is) named)
 
-pub freed_small : (z : ℕ) (old now new : List ℕ) (units more f : ℕ) (run : PageRun) (k : ℕ) → HasReleased z old now units run k → more ≡ frame_units z new f → k < PAGE_END
-    → units + more < 2 ^ 32
+pub freed_small : (z : ℕ) (old now new : List ℕ) (units more f : ℕ) (run : PageRun) (k : ℕ) → HasReleased z old now units run k
+    → more ≡ frame_units z new f → k < PAGE_END → units + more < 2 ^ 32
 freed_small z old now new units more f run k h more_is low =
     let so_far = h.units_are in
     let most = freed_most z old run k in
@@ -107,11 +108,13 @@ freed_grows z counts run (suc n) i low = by_two i n
     before : (i ≡ n → ⊥) → i < n
     before other = grind (arith, low, other)
 
-freed_last : (z : ℕ) (counts : List ℕ) (run : PageRun) (i : ℕ) → run_freed z counts run (suc i) ≡ 0 → frame_units z (released_run z counts run (suc i)) (entry_at run i).frame ≡ 0
+freed_last : (z : ℕ) (counts : List ℕ) (run : PageRun) (i : ℕ) → run_freed z counts run (suc i) ≡ 0
+    → frame_units z (released_run z counts run (suc i)) (entry_at run i).frame ≡ 0
 unfolding run_freed
 freed_last z counts run i none = omega (arith, none)
 
-pub nothing_freed : (z : ℕ) (counts : List ℕ) (run : PageRun) (n i : ℕ) → run_freed z counts run n ≡ 0 → i < n → frame_units z (released_run z counts run (suc i)) (entry_at run i).frame ≡ 0
+pub nothing_freed : (z : ℕ) (counts : List ℕ) (run : PageRun) (n i : ℕ) → run_freed z counts run n ≡ 0 → i < n
+    → frame_units z (released_run z counts run (suc i)) (entry_at run i).frame ≡ 0
 nothing_freed z counts run n i none low =
     let most = freed_grows z counts run n i low in
     freed_last z counts run i (omega (arith, most, none))

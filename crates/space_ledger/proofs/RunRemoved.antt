@@ -1,8 +1,7 @@
-use Rattle.std.specs.Prelude.{◌≡◌, ℕ, zero, suc, ◌+◌, ◌-◌, ◌≤◌, ◌<◌, ◌⊎◌, ◌||◌, ◌&&◌, Bool, true, false, cond, not, nat_eq, nat_lt, List, length, Option, Some, None, is_some, IsSome, refl}
+use Rattle.std.specs.Prelude.{◌≡◌, ℕ, zero, suc, ◌+◌, ◌-◌, ◌≤◌, ◌<◌, ◌⊎◌, ◌||◌, ◌&&◌, Bool, true, false, cond, not, nat_eq, nat_lt, List, length, Option, Some, None, refl}
 use Rattle.std.proofs.Common.{sym, ap, subst, ◌∙◌, arith}
 use Rattle.std.proofs.lemmas.Bool.Decides.{nat_tests}
 use Rattle.std.specs.Option.{option_and_then, option_map}
-use Rattle.sizes.specs.declared.TheConstants.{PAGE_END}
 use Rattle.frame_pool.specs.Counts.{sharers_of}
 use Rattle.ledger.specs.Ledger.{has_origin, is_unused}
 use Rattle.ledger.specs.TallyLaws.{had_by_count}
@@ -15,7 +14,7 @@ use Rattle.space_maps.specs.Spaces.{cut_page, cut_pages, holds_space, page_in}
 use Rattle.space_ledger.specs.Frames.{frame_units, released_run, run_freed}
 use Rattle.space_ledger.specs.View.{LedgerView, PageView, ledger_of, origin_of, overlay_at}
 use Rattle.space_ledger.specs.ViewLaws.{unused_is}
-use Rattle.space_ledger.specs.Calls.{AreBare, GivesNothingUp, GivesUpAtLast, IsBareFrom, IsBareRun, IsBooked, IsSound, entries_of, given_up}
+use Rattle.space_ledger.specs.Calls.{GivesNothingUp, GivesUpAtLast, IsBareFrom, IsBareRun, IsBooked, entries_of, given_up}
 use Rattle.space_ledger.specs.Space.{IsStartOf}
 use Rattle.space_ledger.proofs.Booked.{in_pages}
 use Rattle.space_ledger.proofs.Booking.{eq_false, eq_true}
@@ -35,7 +34,8 @@ unused_by_count v counts u n kept f low = at (nat_eq f v.zero_frame) refl
     at true e = refl
     at false e = by (sharers (ledger_of v) (f + 1)) (kept.counted f low (eq_false f v.zero_frame e)) (had_by_count (ledger_of v) (f + 1))
       where
-        by : (k : ℕ) → sharers_of counts f ≡ k → has_origin (ledger_of v) (f + 1) ≡ nat_lt 0 k → nat_eq (sharers_of counts f) 0 ≡ not (has_origin (ledger_of v) (f + 1))
+        by : (k : ℕ) → sharers_of counts f ≡ k → has_origin (ledger_of v) (f + 1) ≡ nat_lt 0 k
+            → nat_eq (sharers_of counts f) 0 ≡ not (has_origin (ledger_of v) (f + 1))
         by zero is had =
             let left : nat_eq (sharers_of counts f) 0 ≡ true = grind (arith, nat_tests) in
             let right : nat_lt 0 0 ≡ false = grind (arith, nat_tests) in left ∙ sym (ap not (had ∙ right))
@@ -43,11 +43,12 @@ unused_by_count v counts u n kept f low = at (nat_eq f v.zero_frame) refl
             let left : nat_eq (sharers_of counts f) 0 ≡ false = grind (arith, nat_tests) in
             let right : nat_lt 0 (suc k) ≡ true = grind (arith, nat_tests) in left ∙ sym (ap not (had ∙ right))
 
-pub unused_call : (v : LedgerView) (counts : List ℕ) (u n : ℕ) → IsBooked v counts u n → (f z count : ℕ) → f < v.frames → z ≡ v.zero_frame → (f ≡ z → ⊥) → count ≡ sharers_of counts f
-    → nat_eq count 0 ≡ is_unused (ledger_of v) (origin_of v.zero_frame f)
+pub unused_call : (v : LedgerView) (counts : List ℕ) (u n : ℕ) → IsBooked v counts u n → (f z count : ℕ) → f < v.frames → z ≡ v.zero_frame → (f ≡ z → ⊥)
+    → count ≡ sharers_of counts f → nat_eq count 0 ≡ is_unused (ledger_of v) (origin_of v.zero_frame f)
 unused_call v counts u n kept f z count low zero_is other is =
     let isnt : nat_eq f v.zero_frame ≡ false = at (nat_eq f v.zero_frame) refl in
-    ap (λ k. nat_eq k 0) is ∙ ap (λ (b : Bool). not b && nat_eq (sharers_of counts f) 0) (sym isnt) ∙ unused_by_count v counts u n kept f low ∙ sym (unused_is v f)
+    ap (λ k. nat_eq k 0) is ∙ ap (λ (b : Bool). not b && nat_eq (sharers_of counts f) 0) (sym isnt)
+    ∙ unused_by_count v counts u n kept f low ∙ sym (unused_is v f)
   where
     at : (b : Bool) → nat_eq f v.zero_frame ≡ b → nat_eq f v.zero_frame ≡ false
     at true e = absurd (other (eq_true f v.zero_frame e ∙ sym zero_is))
@@ -60,8 +61,12 @@ zero_used v f z zero_is same =
     ap not here ∙ ap (λ (b : Bool). not (b || has_origin (ledger_of v) (f + 1))) (sym kept) ∙ sym (unused_is v f)
 
 -- so what is given up of a page is told by the count of its frame
+given_by : ℕ → List ℕ → ℕ → Option ℕ
+given_by z counts f = cond (not (nat_eq f z) && nat_eq (sharers_of counts f) 0) (Some f) None
+
 given_by_count : (v : LedgerView) (counts : List ℕ) (u n : ℕ) → IsBooked v counts u n → (x : PageView) → x.entry.frame < v.frames
-    → given_up v (Some x) ≡ cond (not (nat_eq x.entry.frame v.zero_frame) && nat_eq (sharers_of counts x.entry.frame) 0) (Some x.entry.frame) None
+    → given_up v (Some x) ≡ given_by v.zero_frame counts x.entry.frame
+unfolding given_by
 given_by_count v counts u n kept x low =
     turned (nat_eq x.entry.frame v.zero_frame || has_origin (ledger_of v) (x.entry.frame + 1))
     ∙ ap (λ b. cond b (Some x.entry.frame) None) (sym (unused_by_count v counts u n kept x.entry.frame low))
@@ -69,6 +74,15 @@ given_by_count v counts u n kept x low =
     turned : (b : Bool) → ◌≡◌ {A = Option ℕ} (cond b None (Some x.entry.frame)) (cond (not b) (Some x.entry.frame) None)
     turned true = refl
     turned false = refl
+
+given_still : (z f : ℕ) (a b : List ℕ) → ((f ≡ z → ⊥) → sharers_of a f ≡ sharers_of b f) → given_by z a f ≡ given_by z b f
+unfolding given_by
+given_still z f a b same = at (nat_eq f z) refl
+  where
+    at : (e : Bool) → nat_eq f z ≡ e
+        → ◌≡◌ {A = Option ℕ} (cond (not e && nat_eq (sharers_of a f) 0) (Some f) None) (cond (not e && nat_eq (sharers_of b f) 0) (Some f) None)
+    at true e = refl
+    at false e = ap (λ c. cond (nat_eq c 0) (Some f) None) (same (eq_false f z e))
 
 -- The first pages of a run that come before one with own lines.
 pub bare_of_run : (v : LedgerView) (s page most few : ℕ) (run : PageRun) (part : Option PageRun) → IsRunFrom (entries_of v s) page run → few ≤ run.n → few ≤ most
@@ -89,48 +103,41 @@ bare_of_run v s page most few run (Some part) first inside within bare start =
     entry : (i : ℕ) → i < run.n → option_map (λ (x : PageView). x.entry) (page_in v s (run.page + i)) ≡ Some (entry_at run i)
     entry i low = entry_of v s (run.page + i) (entry_at run i) (first.has i low)
 
--- pages that are there are in range
-pub run_low : (v : LedgerView) → IsSound v → (s : ℕ) (run : PageRun) → IsBareRun v s run → run.n ≤ PAGE_END
-run_low v sound s run is = at run.n refl
-  where
-    some_of : (o : Option PageView) (e : PageEntry) → option_map (λ (x : PageView). x.entry) o ≡ Some e → IsSome o
-    some_of None e h = let no = ap is_some h in cc
-    some_of (Some x) e h = refl
-
-    at : (n : ℕ) → run.n ≡ n → run.n ≤ PAGE_END
-    at zero e = omega (arith, e)
-    at (suc k) e =
-        let low = sound.low s (run.page + k) (some_of (page_in v s (run.page + k)) (entry_at run k) (is.has k (omega (arith, e)))) in
-        omega (arith, e, low)
-
-pub run_bare : (v : LedgerView) (s : ℕ) (run : PageRun) → IsBareRun v s run → AreBare v s run.page run.n
-run_bare v s run is i low = (some_of (page_in v s (run.page + i)) (is.has i low), is.bare i low)
-  where
-    some_of : (o : Option PageView) → option_map (λ (x : PageView). x.entry) o ≡ Some (entry_at run i) → IsSome o
-    some_of None h = let no = ap is_some h in cc
-    some_of (Some x) h = refl
-
+-- What is left once so many pages of a run went.
 module _ (v : LedgerView) (counts : List ℕ) (u n : ℕ) (kept : IsBooked v counts u n) (s : ℕ) (run : PageRun) (has : holds_space v s ≡ true) (is : IsBareRun v s run) where
-  record IsFreedAt (k : ℕ) : Type 0 where
-    pub fits : run_freed v.zero_frame counts run k ≤ u
-    pub booked : IsBooked (cut_pages v s run.page k) (released_run v.zero_frame counts run k) (u - run_freed v.zero_frame counts run k) n
+  abbrev left : ℕ → LedgerView
+  left k = cut_pages v s run.page k
 
-  entry_is : (k : ℕ) → k < run.n → Some (entry_at run k) ≡ option_map (λ (x : PageView). x.entry) (page_in (cut_pages v s run.page k) s (run.page + k))
+  abbrev counts_left : ℕ → List ℕ
+  counts_left k = released_run v.zero_frame counts run k
+
+  abbrev freed : ℕ → ℕ
+  freed k = run_freed v.zero_frame counts run k
+
+  abbrev frame_of : ℕ → ℕ
+  frame_of k = (entry_at run k).frame
+
+  record IsFreedAt (k : ℕ) : Type 0 where
+    pub fits : freed k ≤ u
+    pub booked : IsBooked (left k) (counts_left k) (u - freed k) n
+
+  entry_is : (k : ℕ) → k < run.n → Some (entry_at run k) ≡ option_map (λ (x : PageView). x.entry) (page_in (left k) s (run.page + k))
   entry_is k low = sym (ap (option_map (λ (x : PageView). x.entry)) (after_cut k run.page v s has) ∙ is.has k low)
 
-  zero_is : (k : ℕ) → v.zero_frame ≡ (cut_pages v s run.page k).zero_frame
+  zero_is : (k : ℕ) → v.zero_frame ≡ (left k).zero_frame
   zero_is k = sym (are_cut k run.page v s has).keeps.zero_frame
 
-  frames_is : (k : ℕ) → (cut_pages v s run.page k).frames ≡ v.frames
+  frames_is : (k : ℕ) → (left k).frames ≡ v.frames
   frames_is k = (are_cut k run.page v s has).keeps.frames
 
-  step : (k : ℕ) → k < run.n → IsFreedAt k
-      → Released (cut_pages v s run.page k) (released_run v.zero_frame counts run (suc k)) (u - run_freed v.zero_frame counts run k) n s (run.page + k)
-      (frame_units v.zero_frame (released_run v.zero_frame counts run (suc k)) (entry_at run k).frame) (entry_at run k).frame
+  abbrev freed_next : ℕ → ℕ
+  freed_next k = frame_units v.zero_frame (counts_left (suc k)) (frame_of k)
+
+  step : (k : ℕ) → k < run.n → IsFreedAt k → Released (left k) (counts_left (suc k)) (u - freed k) n s (run.page + k) (freed_next k) (frame_of k)
   unfolding released_run
   step k low so_far =
-      removed_call (cut_pages v s run.page k) (released_run v.zero_frame counts run k) (released_run v.zero_frame counts run (suc k)) (u - run_freed v.zero_frame counts run k) n so_far.booked
-      s (run.page + k) v.zero_frame (frame_units v.zero_frame (released_run v.zero_frame counts run (suc k)) (entry_at run k).frame) (entry_at run k) (zero_is k) (entry_is k low) refl refl
+      removed_call (left k) (counts_left k) (counts_left (suc k)) (u - freed k) n so_far.booked
+      s (run.page + k) v.zero_frame (freed_next k) (entry_at run k) (zero_is k) (entry_is k low) refl refl
       (ap (option_and_then (λ (x : PageView). x.overlay)) (after_cut k run.page v s has) ∙ is.bare k low)
 
   one_more : (k : ℕ) → k < run.n → IsFreedAt k → IsFreedAt (suc k)
@@ -139,10 +146,9 @@ module _ (v : LedgerView) (counts : List ℕ) (u n : ℕ) (kept : IsBooked v cou
       let made = step k low so_far in
       let before = so_far.fits in
       let fits = made.fits in
-      let freed = frame_units v.zero_frame (released_run v.zero_frame counts run (suc k)) (entry_at run k).frame in
-      let same : u - run_freed v.zero_frame counts run k - freed ≡ u - (run_freed v.zero_frame counts run k + freed) = omega arith in record {
+      let same : u - freed k - freed_next k ≡ u - (freed k + freed_next k) = omega arith in record {
         fits = omega (arith, before, fits);
-        booked = subst (λ m. IsBooked (cut_page (cut_pages v s run.page k) s (run.page + k)) (released_run v.zero_frame counts run (suc k)) m n) same made.books;
+        booked = subst (λ m. IsBooked (cut_page (left k) s (run.page + k)) (counts_left (suc k)) m n) same made.books;
       }
 
   freed_at : (k : ℕ) → k ≤ run.n → IsFreedAt k
@@ -150,89 +156,69 @@ module _ (v : LedgerView) (counts : List ℕ) (u n : ℕ) (kept : IsBooked v cou
   freed_at zero low = record { fits = omega arith; booked = let all : u ≡ u - 0 = omega arith in subst (λ m. IsBooked v counts m n) all kept }
   freed_at (suc k) low = one_more k (omega (arith, low)) (freed_at k (omega (arith, low)))
 
-  -- what is asked before its frame is let go
-  pub before_at : (k : ℕ) → k < run.n
-      → ((entry_at run k).frame < length (released_run v.zero_frame counts run k)) × (((entry_at run k).frame ≡ v.zero_frame) ⊎ (0 < sharers_of (released_run v.zero_frame counts run k) (entry_at run k).frame))
+  -- what is asked before the next frame is let go
+  pub before_at : (k : ℕ) → k < run.n → (frame_of k < length (counts_left k)) × ((frame_of k ≡ v.zero_frame) ⊎ (0 < sharers_of (counts_left k) (frame_of k)))
   before_at k low =
-      before_release (cut_pages v s run.page k) (released_run v.zero_frame counts run k) (u - run_freed v.zero_frame counts run k) n (freed_at k (omega (arith, low))).booked
+      before_release (left k) (counts_left k) (u - freed k) n (freed_at k (omega (arith, low))).booked
       s (run.page + k) v.zero_frame (entry_at run k) (zero_is k) (entry_is k low)
 
-  pub frame_in : (k : ℕ) → k < run.n → (entry_at run k).frame < v.frames
-  frame_in k low =
-      let found = entry_page v s (run.page + k) (entry_at run k) (sym (is.has k low)) in
-      subst (λ (e : PageEntry). e.frame < v.frames) (sym found.2) (kept.inside s (run.page + k) found.0 found.1)
-
   -- The frames of two pages of the run aren't the same, but the zero frame.
-  frames_differ : (i j : ℕ) → i < run.n → j < run.n → (j ≡ i → ⊥) → ((entry_at run i).frame ≡ v.zero_frame → ⊥) → (entry_at run j).frame ≡ (entry_at run i).frame → ⊥
+  frames_differ : (i j : ℕ) → i < run.n → j < run.n → (j ≡ i → ⊥) → (frame_of i ≡ v.zero_frame → ⊥) → frame_of j ≡ frame_of i → ⊥
   frames_differ i j low_i low_j other isnt same =
       let one = entry_page v s (run.page + i) (entry_at run i) (sym (is.has i low_i)) in
       let two = entry_page v s (run.page + j) (entry_at run j) (sym (is.has j low_j)) in
       let frame_one = ap (λ (e : PageEntry). e.frame) one.2 in
       let frame_two = ap (λ (e : PageEntry). e.frame) two.2 in
-      let at = (kept.apart s).pages (run.page + j) (run.page + i) two.0 one.0 (in_pages v s (run.page + j) two.0 two.1) (in_pages v s (run.page + i) one.0 one.1)
+      let at = (kept.apart s).pages (run.page + j) (run.page + i) two.0 one.0
+      (in_pages v s (run.page + j) two.0 two.1) (in_pages v s (run.page + i) one.0 one.1)
       (sym frame_two ∙ same ∙ frame_one) (λ z. isnt (sym same ∙ frame_two ∙ z)) in
       other (omega (arith, at))
 
-  given_at_last : GivesUpAtLast v (cut_pages v s run.page run.n) s run
-  given_at_last i low = ap (given_up (cut_pages v s run.page (suc i))) found.1 ∙ by_count (suc i) (omega (arith, low)) ∙ same_count ∙ sym (by_count run.n (omega arith)) ∙ ap (given_up (cut_pages v s run.page run.n)) (sym found.1)
-    where
-      found : (x : PageView) × (page_in v s (run.page + i) ≡ Some x) × (entry_at run i ≡ x.entry)
-      found = entry_page v s (run.page + i) (entry_at run i) (sym (is.has i low))
+  -- So no later page changes the count of its frame.
+  count_last : (i : ℕ) → i < run.n → (frame_of i ≡ v.zero_frame → ⊥) → sharers_of (counts_left (suc i)) (frame_of i) ≡ sharers_of (counts_left run.n) (frame_of i)
+  count_last i low isnt =
+      sym (count_stays v.zero_frame counts run (frame_of i) run.n i low (λ j after before. frames_differ i j low before (λ e. omega (arith, e, after)) isnt))
 
-      f : ℕ
-      f = found.0.entry.frame
+  given_at : (i k : ℕ) → i < run.n → k ≤ run.n → given_up (left k) (page_in v s (run.page + i)) ≡ given_by v.zero_frame (counts_left k) (frame_of i)
+  given_at i k low few =
+      let one = entry_page v s (run.page + i) (entry_at run i) (sym (is.has i low)) in
+      ap (given_up (left k)) one.1
+      ∙ given_by_count (left k) (counts_left k) (u - freed k) n (freed_at k few).booked one.0
+      (subst (λ m. one.0.entry.frame < m) (sym (frames_is k)) (kept.inside s (run.page + i) one.0 one.1))
+      ∙ ap (λ z. given_by z (counts_left k) one.0.entry.frame) (sym (zero_is k))
+      ∙ ap (λ (e : PageEntry). given_by v.zero_frame (counts_left k) e.frame) (sym one.2)
 
-      frame_is : (entry_at run i).frame ≡ found.0.entry.frame
-      frame_is = ap (λ (e : PageEntry). e.frame) found.2
-
-      by_count : (k : ℕ) → k ≤ run.n
-          → given_up (cut_pages v s run.page k) (Some found.0)
-          ≡ cond (not (nat_eq found.0.entry.frame v.zero_frame) && nat_eq (sharers_of (released_run v.zero_frame counts run k) found.0.entry.frame) 0) (Some found.0.entry.frame) None
-      by_count k few =
-          given_by_count (cut_pages v s run.page k) (released_run v.zero_frame counts run k) (u - run_freed v.zero_frame counts run k) n (freed_at k few).booked found.0
-          (subst (λ m. found.0.entry.frame < m) (sym (frames_is k)) (kept.inside s (run.page + i) found.0 found.1))
-          ∙ ap (λ z. cond (not (nat_eq found.0.entry.frame z) && nat_eq (sharers_of (released_run v.zero_frame counts run k) found.0.entry.frame) 0) (Some found.0.entry.frame) None) (sym (zero_is k))
-
-      same_count : cond (not (nat_eq found.0.entry.frame v.zero_frame) && nat_eq (sharers_of (released_run v.zero_frame counts run (suc i)) found.0.entry.frame) 0) (Some found.0.entry.frame) None
-          ≡ cond (not (nat_eq found.0.entry.frame v.zero_frame) && nat_eq (sharers_of (released_run v.zero_frame counts run run.n) found.0.entry.frame) 0) (Some found.0.entry.frame) None
-      same_count = at (nat_eq found.0.entry.frame v.zero_frame) refl
-        where
-          at : (b : Bool) → nat_eq found.0.entry.frame v.zero_frame ≡ b
-              → ◌≡◌ {A = Option ℕ} (cond (not b && nat_eq (sharers_of (released_run v.zero_frame counts run (suc i)) found.0.entry.frame) 0) (Some found.0.entry.frame) None)
-              (cond (not b && nat_eq (sharers_of (released_run v.zero_frame counts run run.n) found.0.entry.frame) 0) (Some found.0.entry.frame) None)
-          at true e = refl
-          at false e =
-              ap (λ c. cond (nat_eq c 0) (Some found.0.entry.frame) None)
-              (sym (count_stays v.zero_frame counts run found.0.entry.frame run.n i low
-              (λ j after before same. frames_differ i j low before (λ e. omega (arith, e, after)) (λ z. eq_false found.0.entry.frame v.zero_frame e (sym frame_is ∙ z)) (same ∙ sym frame_is))))
+  given_at_last : GivesUpAtLast v (left run.n) s run
+  given_at_last i low =
+      given_at i (suc i) low (omega (arith, low)) ∙ given_still v.zero_frame (frame_of i) (counts_left (suc i)) (counts_left run.n) (count_last i low)
+      ∙ sym (given_at i run.n low (omega arith))
 
   -- what is given up with a page is what it frees
-  given_then : (i : ℕ) → i < run.n → cond (nat_lt 0 (frame_units v.zero_frame (released_run v.zero_frame counts run (suc i)) (entry_at run i).frame)) (Some (entry_at run i).frame) None
-      ≡ given_up (cut_pages v s run.page (suc i)) (page_in v s (run.page + i))
+  given_then : (i : ℕ) → i < run.n → cond (nat_lt 0 (freed_next i)) (Some (frame_of i)) None ≡ given_up (left (suc i)) (page_in v s (run.page + i))
   unfolding cut_pages
   given_then i low =
-      (step i low (freed_at i (omega (arith, low)))).answer ∙ ap (given_up (cut_page (cut_pages v s run.page i) s (run.page + i))) (after_cut i run.page v s has)
+      (step i low (freed_at i (omega (arith, low)))).answer ∙ ap (given_up (cut_page (left i) s (run.page + i))) (after_cut i run.page v s has)
 
-  nothing_given : run_freed v.zero_frame counts run run.n ≡ 0 → GivesNothingUp v (cut_pages v s run.page run.n) s run
+  nothing_given : freed run.n ≡ 0 → GivesNothingUp v (left run.n) s run
   nothing_given none i low =
       sym (given_at_last i low) ∙ sym (given_then i low)
-      ∙ ap (λ k. cond (nat_lt 0 k) (Some (entry_at run i).frame) None) (nothing_freed v.zero_frame counts run run.n i none low)
+      ∙ ap (λ k. cond (nat_lt 0 k) (Some (frame_of i)) None) (nothing_freed v.zero_frame counts run run.n i none low)
 
   -- The same of what the call has.
-  pub record AreFreed (now : List ℕ) (freed : ℕ) : Type 0 where
-    pub fits : freed ≤ u
-    pub booked : IsBooked (cut_pages v s run.page run.n) now (u - freed) n
-    pub given : GivesUpAtLast v (cut_pages v s run.page run.n) s run
-    pub nothing : freed ≡ 0 → GivesNothingUp v (cut_pages v s run.page run.n) s run
+  pub record AreFreed (now : List ℕ) (units : ℕ) : Type 0 where
+    pub fits : units ≤ u
+    pub booked : IsBooked (left run.n) now (u - units) n
+    pub given : GivesUpAtLast v (left run.n) s run
+    pub nothing : units ≡ 0 → GivesNothingUp v (left run.n) s run
 
-  pub run_removed : (z : ℕ) (now : List ℕ) (freed : ℕ) → z ≡ v.zero_frame → now ≡ released_run z counts run run.n → freed ≡ run_freed z counts run run.n → AreFreed now freed
-  run_removed z now freed zero_same now_is freed_is =
+  pub run_removed : (z : ℕ) (now : List ℕ) (units : ℕ) → z ≡ v.zero_frame → now ≡ released_run z counts run run.n → units ≡ run_freed z counts run run.n → AreFreed now units
+  run_removed z now units zero_same now_is units_is =
       let all = freed_at run.n (omega arith) in
-      let now_here : released_run v.zero_frame counts run run.n ≡ now = sym (now_is ∙ ap (λ k. released_run k counts run run.n) zero_same) in
-      let freed_here : run_freed v.zero_frame counts run run.n ≡ freed = sym (freed_is ∙ ap (λ k. run_freed k counts run run.n) zero_same) in record {
-        fits = subst (λ k. k ≤ u) freed_here all.fits;
-        booked = subst (λ k. IsBooked (cut_pages v s run.page run.n) now (u - k) n) freed_here
-            (subst (λ (c : List ℕ). IsBooked (cut_pages v s run.page run.n) c (u - run_freed v.zero_frame counts run run.n) n) now_here all.booked);
+      let now_here : counts_left run.n ≡ now = sym (now_is ∙ ap (λ k. released_run k counts run run.n) zero_same) in
+      let units_here : freed run.n ≡ units = sym (units_is ∙ ap (λ k. run_freed k counts run run.n) zero_same) in record {
+        fits = subst (λ k. k ≤ u) units_here all.fits;
+        booked = subst (λ k. IsBooked (left run.n) now (u - k) n) units_here
+            (subst (λ (c : List ℕ). IsBooked (left run.n) c (u - freed run.n) n) now_here all.booked);
         given = given_at_last;
-        nothing = λ none. nothing_given (freed_here ∙ none);
+        nothing = λ none. nothing_given (units_here ∙ none);
       }

@@ -25,11 +25,12 @@ pub overflow_add-units : goal.overflow_add-units
 overflow_add-units c =
     let short = c.requires.short in
     let before = c.releasing-test.true in
-    let small = freed_small c.args.zero c.args.pool.now c.releasing.pool c.release-units.new.pool c.releasing.units c.release-units.result c.entry_at-entry.result.frame c.args.run.now c.releasing.i
+    let small = freed_small c.args.zero c.args.pool.now c.releasing.pool c.release-units.new.pool c.releasing.units c.release-units.result
+    c.entry_at-entry.result.frame c.args.run.now c.releasing.i
     c.releasing.invariant c.release-units.ensures.units (omega (arith, short, before)) in
     omega (arith, small)
 
 pub releasing-preserved : goal.releasing-preserved
 releasing-preserved c =
-    one_released c.args.zero c.args.pool.now c.releasing.pool c.release-units.new.pool c.releasing.units c.release-units.result c.args.run.now c.releasing.i c.entry_at-entry.result
-    c.releasing.invariant c.entry_at-entry.ensures c.release-units.ensures.released c.release-units.ensures.units
+    one_released c.args.zero c.args.pool.now c.releasing.pool c.release-units.new.pool c.releasing.units c.release-units.result
+    c.args.run.now c.releasing.i c.entry_at-entry.result c.releasing.invariant c.entry_at-entry.ensures c.release-units.ensures.released c.release-units.ensures.units

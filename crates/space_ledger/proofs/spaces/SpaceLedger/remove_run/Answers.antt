@@ -10,40 +10,50 @@ use Rattle.space_ledger.proofs.spaces.SpaceLedger.remove_run.Goals as goal
 
 pub release_run-freed-requires-clause-some : goal.release_run-freed-requires-clause-some
 release_run-freed-requires-clause-some c i low =
-    subst (λ z. ((entry_at c.args.run.now i).frame ≡ z) ⊎ (0 < sharers_of (released_run z c.self.inside.pool c.args.run.now i) (entry_at c.args.run.now i).frame)) (sym c.zero-zero.ensures.zero)
-    (before_at c.self.inside.tables c.self.inside.pool c.self.inside.units c.self.inside.lines c.self.invariant c.args.space c.args.run.now
+    subst (λ z. ((entry_at c.args.run.now i).frame ≡ z) ⊎ (0 < sharers_of (released_run z c.self.inside.pool c.args.run.now i) (entry_at c.args.run.now i).frame))
+    (sym c.zero-zero.ensures.zero)
+    (before_at c.self.inside.tables c.self.inside.pool c.self.inside.units c.self.inside.lines c.self.invariant
+    c.args.space c.args.run.now
     (ap (λ (v : LedgerView). holds_space v c.args.space) c.self.view_is ∙ c.requires.there)
     (subst (λ (v : LedgerView). IsBareRun v c.args.space c.args.run.now) (sym c.self.view_is) c.requires.bare) i low).1
 
 pub overflow_sub-self : goal.overflow_sub-self
 overflow_sub-self c =
-    (run_removed c.self.inside.tables c.self.inside.pool c.self.inside.units c.self.inside.lines c.self.invariant c.args.space c.args.run.now
+    (run_removed c.self.inside.tables c.self.inside.pool c.self.inside.units c.self.inside.lines c.self.invariant
+    c.args.space c.args.run.now
     (ap (λ (v : LedgerView). holds_space v c.args.space) c.self.view_is ∙ c.requires.there)
     (subst (λ (v : LedgerView). IsBareRun v c.args.space c.args.run.now) (sym c.self.view_is) c.requires.bare)
-    c.zero-zero.result c.release_run-freed.new.pool c.release_run-freed.result c.zero-zero.ensures.zero c.release_run-freed.ensures.released c.release_run-freed.ensures.units).fits
+    c.zero-zero.result c.release_run-freed.new.pool c.release_run-freed.result c.zero-zero.ensures.zero
+    c.release_run-freed.ensures.released c.release_run-freed.ensures.units).fits
 
 pub invariant_of-self : goal.invariant_of-self
 invariant_of-self c =
     subst (λ (v : LedgerView). IsBooked v c.release_run-freed.new.pool (c.self.inside.units - c.release_run-freed.result) c.self.inside.lines) (sym c.remove_pages.ensures)
-    (run_removed c.self.inside.tables c.self.inside.pool c.self.inside.units c.self.inside.lines c.self.invariant c.args.space c.args.run.now
+    (run_removed c.self.inside.tables c.self.inside.pool c.self.inside.units c.self.inside.lines c.self.invariant
+    c.args.space c.args.run.now
     (ap (λ (v : LedgerView). holds_space v c.args.space) c.self.view_is ∙ c.requires.there)
     (subst (λ (v : LedgerView). IsBareRun v c.args.space c.args.run.now) (sym c.self.view_is) c.requires.bare)
-    c.zero-zero.result c.release_run-freed.new.pool c.release_run-freed.result c.zero-zero.ensures.zero c.release_run-freed.ensures.released c.release_run-freed.ensures.units).booked
+    c.zero-zero.result c.release_run-freed.new.pool c.release_run-freed.result c.zero-zero.ensures.zero
+    c.release_run-freed.ensures.released c.release_run-freed.ensures.units).booked
 
 pub returns-clause-given : goal.returns-clause-given
 returns-clause-given c =
     subst (λ (v : LedgerView). GivesUpAtLast v c.remove_pages.new.self c.args.space c.args.run.now) c.self.view_is
     (subst (λ (v : LedgerView). GivesUpAtLast c.self.inside.tables v c.args.space c.args.run.now) (sym c.remove_pages.ensures)
-    (run_removed c.self.inside.tables c.self.inside.pool c.self.inside.units c.self.inside.lines c.self.invariant c.args.space c.args.run.now
+    (run_removed c.self.inside.tables c.self.inside.pool c.self.inside.units c.self.inside.lines c.self.invariant
+    c.args.space c.args.run.now
     (ap (λ (v : LedgerView). holds_space v c.args.space) c.self.view_is ∙ c.requires.there)
     (subst (λ (v : LedgerView). IsBareRun v c.args.space c.args.run.now) (sym c.self.view_is) c.requires.bare)
-    c.zero-zero.result c.release_run-freed.new.pool c.release_run-freed.result c.zero-zero.ensures.zero c.release_run-freed.ensures.released c.release_run-freed.ensures.units).given)
+    c.zero-zero.result c.release_run-freed.new.pool c.release_run-freed.result c.zero-zero.ensures.zero
+    c.release_run-freed.ensures.released c.release_run-freed.ensures.units).given)
 
 pub returns-clause-none : goal.returns-clause-none
 returns-clause-none c none =
     subst (λ (v : LedgerView). GivesNothingUp v c.remove_pages.new.self c.args.space c.args.run.now) c.self.view_is
     (subst (λ (v : LedgerView). GivesNothingUp c.self.inside.tables v c.args.space c.args.run.now) (sym c.remove_pages.ensures)
-    ((run_removed c.self.inside.tables c.self.inside.pool c.self.inside.units c.self.inside.lines c.self.invariant c.args.space c.args.run.now
+    ((run_removed c.self.inside.tables c.self.inside.pool c.self.inside.units c.self.inside.lines c.self.invariant
+    c.args.space c.args.run.now
     (ap (λ (v : LedgerView). holds_space v c.args.space) c.self.view_is ∙ c.requires.there)
     (subst (λ (v : LedgerView). IsBareRun v c.args.space c.args.run.now) (sym c.self.view_is) c.requires.bare)
-    c.zero-zero.result c.release_run-freed.new.pool c.release_run-freed.result c.zero-zero.ensures.zero c.release_run-freed.ensures.released c.release_run-freed.ensures.units).nothing none))
+    c.zero-zero.result c.release_run-freed.new.pool c.release_run-freed.result c.zero-zero.ensures.zero
+    c.release_run-freed.ensures.released c.release_run-freed.ensures.units).nothing none))
