@@ -5,7 +5,7 @@ use Rattle.std.specs.Option.{option_and_then, option_map}
 use Rattle.frame_pool.specs.Counts.{sharers_of}
 use Rattle.ledger.specs.Ledger.{has_origin, is_unused}
 use Rattle.ledger.specs.TallyLaws.{had_by_count}
-use Rattle.ledger.specs.Units.{sharers}
+use Rattle.ledger.specs.Units.{sharers, units as units_of}
 use Rattle.page_table.specs.Run.{IsRunFrom, entry_at}
 use Rattle.page_table.specs.declared.entry.PageEntry.{PageEntry}
 use Rattle.page_table.specs.declared.run.PageRun.{PageRun}
@@ -208,6 +208,7 @@ module _ (v : LedgerView) (counts : List ℕ) (u n : ℕ) (kept : IsBooked v cou
   pub record AreFreed (now : List ℕ) (units : ℕ) : Type 0 where
     pub fits : units ≤ u
     pub booked : IsBooked (left run.n) now (u - units) n
+    pub count : units_of (ledger_of v) ≡ units_of (ledger_of (left run.n)) + units
     pub given : GivesUpAtLast v (left run.n) s run
     pub nothing : units ≡ 0 → GivesNothingUp v (left run.n) s run
 
@@ -215,10 +216,15 @@ module _ (v : LedgerView) (counts : List ℕ) (u n : ℕ) (kept : IsBooked v cou
   run_removed z now units zero_same now_is units_is =
       let all = freed_at run.n (omega arith) in
       let now_here : counts_left run.n ≡ now = sym (now_is ∙ ap (λ k. released_run k counts run run.n) zero_same) in
-      let units_here : freed run.n ≡ units = sym (units_is ∙ ap (λ k. run_freed k counts run run.n) zero_same) in record {
-        fits = subst (λ k. k ≤ u) units_here all.fits;
-        booked = subst (λ k. IsBooked (left run.n) now (u - k) n) units_here
-            (subst (λ (c : List ℕ). IsBooked (left run.n) c (u - freed run.n) n) now_here all.booked);
+      let units_here : freed run.n ≡ units = sym (units_is ∙ ap (λ k. run_freed k counts run run.n) zero_same) in
+      let fits : units ≤ u = subst (λ k. k ≤ u) units_here all.fits in
+      let booked : IsBooked (left run.n) now (u - units) n =
+      subst (λ k. IsBooked (left run.n) now (u - k) n) units_here (subst (λ (c : List ℕ). IsBooked (left run.n) c (u - freed run.n) n) now_here all.booked) in
+      let before = kept.units_is in
+      let after = booked.units_is in record {
+        fits = fits;
+        booked = booked;
+        count = omega (arith, before, after, fits);
         given = given_at_last;
         nothing = λ none. nothing_given (units_here ∙ none);
       }

@@ -414,6 +414,7 @@ impl SpaceLedger {
         requires bare { IsBareRun self.old space run.now }
         ensures gone { self.new ≡ cut_pages self.old space run.now.page run.now.n }
         ensures given { GivesUpAtLast self.old self.new space run.now }
+        ensures freed { units (ledger_of self.old) ≡ units (ledger_of self.new) + result }
         ensures none { result ≡ 0 → GivesNothingUp self.old self.new space run.now }
     {
         let zero = self.tables.zero();

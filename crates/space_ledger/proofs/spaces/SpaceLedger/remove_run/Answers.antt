@@ -1,8 +1,9 @@
-use Rattle.std.proofs.Common.{◌≡◌, ◌-◌, ◌<◌, ◌⊎◌, sym, ap, subst, ◌∙◌}
+use Rattle.std.proofs.Common.{◌≡◌, ◌+◌, ◌-◌, ◌<◌, ◌⊎◌, sym, ap, subst, ◌∙◌}
 use Rattle.frame_pool.specs.Counts.{sharers_of}
 use Rattle.page_table.specs.Run.{entry_at}
 use Rattle.space_maps.specs.Spaces.{holds_space}
-use Rattle.space_ledger.specs.View.{LedgerView}
+use Rattle.ledger.specs.Units.{units}
+use Rattle.space_ledger.specs.View.{LedgerView, ledger_of}
 use Rattle.space_ledger.specs.Calls.{GivesNothingUp, GivesUpAtLast, IsBareRun, IsBooked}
 use Rattle.space_ledger.specs.Frames.{released_run}
 use Rattle.space_ledger.proofs.RunRemoved.{before_at, run_removed}
@@ -57,3 +58,14 @@ returns-clause-none c none =
     (subst (λ (v : LedgerView). IsBareRun v c.args.space c.args.run.now) (sym c.self.view_is) c.requires.bare)
     c.zero-zero.result c.release_run-freed.new.pool c.release_run-freed.result c.zero-zero.ensures.zero
     c.release_run-freed.ensures.released c.release_run-freed.ensures.units).nothing none))
+
+pub returns-clause-freed : goal.returns-clause-freed
+returns-clause-freed c =
+    subst (λ (v : LedgerView). units (ledger_of v) ≡ units (ledger_of c.remove_pages.new.self) + c.release_run-freed.result) c.self.view_is
+    (subst (λ (v : LedgerView). units (ledger_of c.self.inside.tables) ≡ units (ledger_of v) + c.release_run-freed.result) (sym c.remove_pages.ensures)
+    (run_removed c.self.inside.tables c.self.inside.pool c.self.inside.units c.self.inside.lines c.self.invariant
+    c.args.space c.args.run.now
+    (ap (λ (v : LedgerView). holds_space v c.args.space) c.self.view_is ∙ c.requires.there)
+    (subst (λ (v : LedgerView). IsBareRun v c.args.space c.args.run.now) (sym c.self.view_is) c.requires.bare)
+    c.zero-zero.result c.release_run-freed.new.pool c.release_run-freed.result c.zero-zero.ensures.zero
+    c.release_run-freed.ensures.released c.release_run-freed.ensures.units).count)
