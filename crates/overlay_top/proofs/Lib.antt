@@ -1,3 +1,5 @@
+pub mod Numbers
+pub mod Readings
 pub mod Fronts
 pub mod Texts
 pub mod Errors

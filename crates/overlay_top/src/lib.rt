@@ -4,6 +4,7 @@
 //! report and a status, over a machine whose memories are whole. `run_program` says that what its sink
 //! took and what it answers end so.
 //!
+//! - `words`: the words of the command line
 //! - `reading`: the script, from the source
 //! - `sending`: texts, to the sink
 //! - `commands`: one command, on the session
@@ -18,6 +19,7 @@ mod running;
 mod sending;
 mod status;
 mod top;
+mod words;
 
 pub use top::run_program;
 
