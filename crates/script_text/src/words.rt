@@ -81,3 +81,13 @@ pub(crate) fn two_words(text: &[u8]) -> Option<(&[u8], &[u8])>
         None => None,
     }
 }
+
+/// The words of a text that has three.
+pub(crate) fn three_words(text: &[u8]) -> Option<(&[u8], &[u8], &[u8])>
+    ensures { MatchOption result ((length (words_of text.now) == 3) ≡ false)
+        (λ w. words_of text.now ≡ w.0.now ∷ w.1.now ∷ w.2.now ∷ []) }
+{
+    let (word, rest) = next_word(text)?;
+    let (other, third) = two_words(rest)?;
+    Some((word, other, third))
+}
