@@ -23,10 +23,7 @@ fn one_process(words: &[u8]) -> Option<u16>
     ensures { (make : ℕ → Command) →
         option_map make result ≡ one_word process_word make (words_of words.now) }
 {
-    match one_word(words) {
-        Some(p) => process_word(p),
-        None => None,
-    }
+    process_word(one_word(words)?)
 }
 
 /// The process number and the address that are the two words of a text.
@@ -96,42 +93,23 @@ fn load(alloc: Global, words: &[u8]) -> Result<Option<Command>, AllocError>
 fn fork(words: &[u8]) -> Option<Command>
     ensures { result ≡ one_word process_word Fork (words_of words.now) }
 {
-    match one_process(words) {
-        Some(p) => Some(Command::Fork(p)),
-        None => None,
-    }
+    Some(Command::Fork(one_process(words)?))
 }
 
 /// `run N`
 fn run(words: &[u8]) -> Option<Command>
     ensures { result ≡ one_word turns_word Run (words_of words.now) }
 {
-    let turns = match one_word(words) {
-        Some(turns) => turns,
-        None => return None,
-    };
-    match turns_word(turns) {
-        Some(turns) => Some(Command::Run(turns)),
-        None => None,
-    }
+    Some(Command::Run(turns_word(one_word(words)?)?))
 }
 
 /// `step P N`
 fn step(words: &[u8]) -> Option<Command>
     ensures { result ≡ two_words process_word turns_word Step (words_of words.now) }
 {
-    let (p, turns) = match two_words(words) {
-        Some(words) => words,
-        None => return None,
-    };
-    let p = match process_word(p) {
-        Some(p) => p,
-        None => return None,
-    };
-    match turns_word(turns) {
-        Some(turns) => Some(Command::Step(p, turns)),
-        None => None,
-    }
+    let (p, turns) = two_words(words)?;
+    let p = process_word(p)?;
+    Some(Command::Step(p, turns_word(turns)?))
 }
 
 /// `checkpoint P NAME`
@@ -174,30 +152,21 @@ fn forget(alloc: Global, words: &[u8]) -> Result<Option<Command>, AllocError>
 fn speculate(words: &[u8]) -> Option<Command>
     ensures { result ≡ one_word process_word Speculate (words_of words.now) }
 {
-    match one_process(words) {
-        Some(p) => Some(Command::Speculate(p)),
-        None => None,
-    }
+    Some(Command::Speculate(one_process(words)?))
 }
 
 /// `commit P`
 fn commit(words: &[u8]) -> Option<Command>
     ensures { result ≡ one_word process_word Commit (words_of words.now) }
 {
-    match one_process(words) {
-        Some(p) => Some(Command::Commit(p)),
-        None => None,
-    }
+    Some(Command::Commit(one_process(words)?))
 }
 
 /// `discard P`
 fn discard(words: &[u8]) -> Option<Command>
     ensures { result ≡ one_word process_word Discard (words_of words.now) }
 {
-    match one_process(words) {
-        Some(p) => Some(Command::Discard(p)),
-        None => None,
-    }
+    Some(Command::Discard(one_process(words)?))
 }
 
 /// `promote P ADDR`
@@ -212,14 +181,8 @@ fn promote_page(words: &[u8]) -> Option<Command>
 fn promote_all(words: &[u8]) -> Option<Command>
     ensures { result ≡ two_words process_word all_word promote_all (words_of words.now) }
 {
-    let (p, all) = match two_words(words) {
-        Some(words) => words,
-        None => return None,
-    };
-    let p = match process_word(p) {
-        Some(p) => p,
-        None => return None,
-    };
+    let (p, all) = two_words(words)?;
+    let p = process_word(p)?;
     if is_all(all) {
         Some(Command::PromoteAll(p))
     } else {
@@ -282,20 +245,14 @@ fn unmap(words: &[u8]) -> Option<Command>
 fn give_up(words: &[u8]) -> Option<Command>
     ensures { result ≡ one_word process_word Drop (words_of words.now) }
 {
-    match one_process(words) {
-        Some(p) => Some(Command::Drop(p)),
-        None => None,
-    }
+    Some(Command::Drop(one_process(words)?))
 }
 
 /// `regs P`
 fn regs(words: &[u8]) -> Option<Command>
     ensures { result ≡ one_word process_word command.Regs (words_of words.now) }
 {
-    match one_process(words) {
-        Some(p) => Some(Command::Regs(p)),
-        None => None,
-    }
+    Some(Command::Regs(one_process(words)?))
 }
 
 /// `dump P ADDR LEN`

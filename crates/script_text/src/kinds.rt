@@ -81,20 +81,14 @@ pub(crate) fn checkpoint_word(alloc: Global, word: &[u8]) -> Result<Option<Bytes
 pub(crate) fn turns_word(word: &[u8]) -> Option<u32>
     ensures { result ≡ turns_word word.now }
 {
-    match number_between(1, u64::from(MOST_TURNS), word) {
-        Some(n) => Some(n as u32),
-        None => None,
-    }
+    Some(number_between(1, u64::from(MOST_TURNS), word)? as u32)
 }
 
 /// The process number that a word is.
 pub(crate) fn process_word(word: &[u8]) -> Option<u16>
     ensures { result ≡ process_word word.now }
 {
-    match number_between(1, u64::from(LAST_SPACE), word) {
-        Some(n) => Some(n as u16),
-        None => None,
-    }
+    Some(number_between(1, u64::from(LAST_SPACE), word)? as u16)
 }
 
 /// Whether a word begins as the name of a register does.
@@ -118,10 +112,7 @@ fn register_number(digits: &[u8]) -> Option<u8>
     if has_leading_zero(digits) {
         return None;
     }
-    match number_between(0, 31, digits) {
-        Some(n) => Some(n as u8),
-        None => None,
-    }
+    Some(number_between(0, 31, digits)? as u8)
 }
 
 /// The register that a word names, by its number, or the pc.
@@ -148,30 +139,21 @@ pub(crate) fn address_word(word: &[u8]) -> Option<u64>
 pub(crate) fn pages_word(word: &[u8]) -> Option<u32>
     ensures { result ≡ pages_word word.now }
 {
-    match number_between(1, u64::from(MOST_PAGES), word) {
-        Some(n) => Some(n as u32),
-        None => None,
-    }
+    Some(number_between(1, u64::from(MOST_PAGES), word)? as u32)
 }
 
 /// The number of bytes to print that a word is.
 pub(crate) fn dumped_word(word: &[u8]) -> Option<u32>
     ensures { result ≡ dumped_word word.now }
 {
-    match number_between(1, u64::from(MOST_DUMPED), word) {
-        Some(n) => Some(n as u32),
-        None => None,
-    }
+    Some(number_between(1, u64::from(MOST_DUMPED), word)? as u32)
 }
 
 /// The number of words to print that a word is.
 pub(crate) fn words_word(word: &[u8]) -> Option<u32>
     ensures { result ≡ words_word word.now }
 {
-    match number_between(1, u64::from(MOST_WORDS), word) {
-        Some(n) => Some(n as u32),
-        None => None,
-    }
+    Some(number_between(1, u64::from(MOST_WORDS), word)? as u32)
 }
 
 /// Whether each byte is a hexadecimal digit.
