@@ -29,7 +29,8 @@ fn one_process(words: &[u8]) -> Option<u16>
 /// The process number and the address that are the two words of a text.
 fn process_and_address(words: &[u8]) -> Option<(u16, u64)>
     ensures { (make : ℕ → ℕ → Command) →
-        option_map (λ said. make said.0 said.1) result ≡ two_words process_word address_word make (words_of words.now) }
+        option_map (λ both. make both.0 both.1) result
+        ≡ two_words process_word address_word make (words_of words.now) }
 {
     let (p, address) = two_words(words)?;
     let p = process_word(p)?;
@@ -39,7 +40,8 @@ fn process_and_address(words: &[u8]) -> Option<(u16, u64)>
 /// The process number and the checkpoint's name that are the two words of a text.
 fn process_and_name(alloc: Global, words: &[u8]) -> Result<Option<(u16, Bytes)>, AllocError>
     ensures { IfOk result (λ said. (make : ℕ → List ℕ → Command) →
-        option_map (λ said. make said.0 said.1) said ≡ two_words process_word checkpoint_word make (words_of words.now)) }
+        option_map (λ both. make both.0 both.1) said
+        ≡ two_words process_word checkpoint_word make (words_of words.now)) }
 {
     let (p, name) = match two_words(words) {
         Some(words) => words,

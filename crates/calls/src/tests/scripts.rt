@@ -126,7 +126,14 @@ fn bytes_of(alloc: Global, text: &str) -> Result<Vec<u8>, AllocError> {
 #[test]
 fn scripts_say_what_the_grammar_says(rt: HostRuntime) -> Result<(), Fail> {
     let mut rows: usize = 0;
-    for table in [ROWS, CHECKPOINT_ROWS, MAPPING_ROWS, OVERLAY_ROWS, DEBUGGER_ROWS, LONG_ROWS] {
+    for table in [
+        ROWS,
+        CHECKPOINT_ROWS,
+        MAPPING_ROWS,
+        OVERLAY_ROWS,
+        DEBUGGER_ROWS,
+        LONG_ROWS,
+    ] {
         for row in table.split('\n') {
             let (script, want) = row.split_once(" => ").expect(&rt, "a row has two parts");
             let script = bytes_of(rt.alloc(), script)?;
