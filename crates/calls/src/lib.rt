@@ -6,7 +6,7 @@
 //! - `scripts`: calls of `script_text`
 //! - `files`: calls of `elf_loader`
 //! - `words`: calls of `rv_decode`
-//! - `reports`: calls of `report_text`
+//! - `reports`, `instructions`: calls of `report_text`
 //! - `turns`: calls of `round_robin`
 //! - `levels`, `blocks`, `names`: calls of `mark_levels`, `unit_map` and `overlay_mapping_table`
 //! - `lines`, `addresses`, `frames`: calls of `overlay_bits`, `overlay_address` and `frame_pool`

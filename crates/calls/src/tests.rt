@@ -2,6 +2,7 @@ mod addresses;
 mod blocks;
 mod files;
 mod frames;
+mod instructions;
 mod ledgers;
 mod levels;
 mod lines;

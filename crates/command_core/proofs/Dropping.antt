@@ -1,4 +1,5 @@
 use Rattle.std.proofs.Common.{◌≡◌, ℕ, List, true, sym, ap, ◌∙◌, refl, Some, None}
+use Rattle.breakpoints.specs.Breakpoints.{Breaks}
 use Rattle.std.specs.List.{AllByRecursion}
 use Rattle.std.specs.Option.{is_some, option_map}
 use Rattle.std.specs.FinMap.{get, remove}
@@ -23,18 +24,19 @@ use Rattle.command_core.proofs.Rows.{gives_named, row_accepted}
 
 -- What a drop and a forget come to.
 
-module _ (old mid new : Machine) (kept : List Checkpoint) (drawn p : ℕ) (process : declared.Process) where
+module _ (old mid new : Machine) (kept : List Checkpoint) (breaks : Breaks) (drawn p : ℕ) (process : declared.Process) where
   dropped_after : wholes new ≡ without_pages p (without_process p (wholes old))
-      → state_of new kept drawn ≡ (accepts (drop_row p (whole_in (spaces_of old) p process) (registry_of (state_of old kept drawn))) (state_of old kept drawn)).after
+      → state_of new kept (remove breaks p) drawn ≡ (accepts (drop_row p (whole_in (spaces_of old) p process) (registry_of (state_of old kept breaks drawn))) (state_of old kept breaks drawn)).after
   unfolding ledger_by
-  dropped_after is = ap (λ (w : Wholes). record { wholes = w; checkpoints = kept; drawn = drawn }) is
+  dropped_after is = ap (λ (w : Wholes). record { wholes = w; checkpoints = kept; breakpoints = remove breaks p; drawn = drawn }) is
 
   pub gives_dropped : wholes mid ≡ without_process p (wholes old) → get mid.processes p ≡ None → IsDropped p mid new
-      → GivesChange (drop_row p (whole_in (spaces_of old) p process) (registry_of (state_of old kept drawn))) (state_of old kept drawn) Done (state_of new kept drawn)
+      → GivesChange (drop_row p (whole_in (spaces_of old) p process) (registry_of (state_of old kept breaks drawn))) (state_of old kept breaks drawn) Done
+      (state_of new kept (remove breaks p) drawn)
   gives_dropped removed absent dropped =
-      let row = drop_row p (whole_in (spaces_of old) p process) (registry_of (state_of old kept drawn)) in
-      row_accepted row (state_of old kept drawn) (state_of new kept drawn) refl refl
-      (states_same (state_of new kept drawn) (accepts row (state_of old kept drawn)).after (dropped_after (wholes_dropped p mid new absent dropped ∙ ap (without_pages p) removed)))
+      let row = drop_row p (whole_in (spaces_of old) p process) (registry_of (state_of old kept breaks drawn)) in
+      row_accepted row (state_of old kept breaks drawn) (state_of new kept (remove breaks p) drawn) refl refl
+      (states_same (state_of new kept (remove breaks p) drawn) (accepts row (state_of old kept breaks drawn)).after (dropped_after (wholes_dropped p mid new absent dropped ∙ ap (without_pages p) removed)))
 
 -- what is kept of a session from which a process goes with its space
 module _ (old mid new : Machine) (p : ℕ) (there : is_some (get old.processes p) ≡ true) (removed : mid ≡ without_process_at old p) (dropped : IsDropped p mid new) where
@@ -50,7 +52,7 @@ module _ (old mid new : Machine) (p : ℕ) (there : is_some (get old.processes p
       }
 
 -- A checkpoint goes with its space.
-module _ (old new : Machine) (xs : List Kept) (drawn : ℕ) (name : List ℕ) (x : Kept) (is : IsSession old (spaces_kept xs) drawn) (found : kept_named name xs ≡ Some x)
+module _ (old new : Machine) (xs : List Kept) (breaks : Breaks) (drawn : ℕ) (name : List ℕ) (x : Kept) (is : IsSession old (spaces_kept xs) drawn) (found : kept_named name xs ≡ Some x)
     (dropped : IsDropped x.space old new) where
   pub is_free : IsFree old x.space
   is_free = found_has name (IsFree old) xs x is.free found
@@ -73,7 +75,7 @@ module _ (old new : Machine) (xs : List Kept) (drawn : ℕ) (name : List ℕ) (x
       ∙ sym (but_shown name (spaces_of old) xs)
 
   abbrev before : State
-  before = state_of old (checkpoints_in (spaces_of old) xs) drawn
+  before = state_of old (checkpoints_in (spaces_of old) xs) breaks drawn
 
   abbrev shown : Checkpoint
   shown = checkpoint_in (spaces_of old) x
@@ -82,10 +84,10 @@ module _ (old new : Machine) (xs : List Kept) (drawn : ℕ) (name : List ℕ) (x
   unfolding ledger_by
   wholes_forgot = wholes_dropped x.space old new is_free.1 dropped
 
-  pub gives_forgot : GivesChange (on_checkpoint name (forget_row name) (registry_of before)) before Done (state_of new (checkpoints_in (spaces_of new) (kept_but name xs)) drawn)
+  pub gives_forgot : GivesChange (on_checkpoint name (forget_row name) (registry_of before)) before Done (state_of new (checkpoints_in (spaces_of new) (kept_but name xs)) breaks drawn)
   gives_forgot =
       let row = forget_row name shown (registry_of before) in
-      let after = state_of new (checkpoints_in (spaces_of new) (kept_but name xs)) drawn in
+      let after = state_of new (checkpoints_in (spaces_of new) (kept_but name xs)) breaks drawn in
       gives_named before name shown (forget_row name) Done after (named_shown name (spaces_of old) xs ∙ ap (option_map (checkpoint_in (spaces_of old))) found)
       (row_accepted row before after refl refl
-      (states_same after (accepts row before).after (λ i. record { wholes = wholes_forgot i; checkpoints = others_shown i; drawn = drawn })))
+      (states_same after (accepts row before).after (λ i. record { wholes = wholes_forgot i; checkpoints = others_shown i; breakpoints = breaks; drawn = drawn })))

@@ -1,4 +1,5 @@
 use Rattle.std.proofs.Common.{◌≡◌, ℕ, ◌+◌, ◌≤◌, Bool, false, List, sym, ap, ◌∙◌, refl, Option, Some, None}
+use Rattle.breakpoints.specs.Breakpoints.{Breaks}
 use Rattle.std.specs.Prelude.{Ok}
 use Rattle.std.specs.Option.{is_some, option_map_or}
 use Rattle.std.specs.FinMap.{get}
@@ -23,6 +24,7 @@ use Rattle.command_core.specs.Changes.{answer_of, on_process}
 use Rattle.command_core.specs.LikeLaws.{states_itself, states_same}
 use Rattle.command_core.proofs.Copies.{copy_keeps, gives_unmade}
 use Rattle.command_core.proofs.Places.{free_same, mark_at, marked_is, next_same, session_more}
+use Rattle.command_core.proofs.Breaks.{none_removed}
 use Rattle.command_core.proofs.Rows.{gives_found, gives_kept, row_accepted, row_refused}
 
 -- What a fork comes to.
@@ -39,9 +41,9 @@ refusal_by old drawn p process mark memory o is marked same =
     let here : mark ≡ mark_in old p = marked ∙ ap (λ (m : MemoryView). (space_in (spaces_in m) p).speculating) same in
     sym (is ∙ ap (λ b. first_refusal (fork_refusals process.state b drawn)) here)
 
-module _ (old : Machine) (xs : List Kept) (drawn p : ℕ) (process : declared.Process) where
+module _ (old : Machine) (xs : List Kept) (breaks : Breaks) (drawn p : ℕ) (process : declared.Process) where
   abbrev before : State
-  before = shown_state old xs drawn
+  before = shown_state old xs breaks drawn
 
   abbrev kept : List Checkpoint
   kept = checkpoints_in (spaces_of old) xs
@@ -54,26 +56,27 @@ module _ (old : Machine) (xs : List Kept) (drawn p : ℕ) (process : declared.Pr
 
   pub fork_refused : (code : Code) → get old.processes p ≡ Some process → first_refusal (fork_refusals process.state (mark_in old p) drawn) ≡ Some code
       → GivesChange (on_process p (fork_row p) (registry_of before)) before (Refused code) before
-  fork_refused code there is = gives_found old kept drawn p (fork_row p) process (Refused code) before there (row_refused row before before code (refusals_are ∙ is) (states_itself before))
+  fork_refused code there is = gives_found old kept breaks drawn p (fork_row p) process (Refused code) before there (row_refused row before before code (refusals_are ∙ is) (states_itself before))
 
   -- it isn't refused
   module _ (new : Machine) (is : IsSession old (spaces_kept xs) drawn) (there : get old.processes p ≡ Some process)
-      (taken : first_refusal (fork_refusals process.state (mark_in old p) drawn) ≡ None) where
+      (taken : first_refusal (fork_refusals process.state (mark_in old p) drawn) ≡ None) (unbroken : get breaks (drawn + 1) ≡ None) where
     pub forked : CopiesProcess p (drawn + 1) process old new (Ok tt)
-        → GivesChange (on_process p (fork_row p) (registry_of before)) before (Forked p (drawn + 1)) (shown_state new xs (drawn + 1))
+        → GivesChange (on_process p (fork_row p) (registry_of before)) before (Forked p (drawn + 1)) (shown_state new xs breaks (drawn + 1))
     forked (enough, copied) =
-        let after = state_of new kept (drawn + 1) in
-        gives_kept (on_process p (fork_row p)) old new xs drawn (next_same old new (spaces_kept xs) drawn is copied.others) (Forked p (drawn + 1)) (drawn + 1)
-        (gives_found old kept drawn p (fork_row p) process (Forked p (drawn + 1)) after there
+        let after = state_of new kept breaks (drawn + 1) in
+        gives_kept (on_process p (fork_row p)) old new xs breaks drawn (next_same old new (spaces_kept xs) drawn is copied.others) (Forked p (drawn + 1)) (drawn + 1)
+        (gives_found old kept breaks drawn p (fork_row p) process (Forked p (drawn + 1)) after there
         (row_accepted row before after (refusals_are ∙ taken) enough
-        (states_same after (accepts row before).after (ap (λ (w : Wholes). record { wholes = w; checkpoints = kept; drawn = drawn + 1 }) copied.after))))
+        (states_same after (accepts row before).after
+        (λ i. record { wholes = copied.after i; checkpoints = kept; breakpoints = sym (none_removed breaks (drawn + 1) unbroken) i; drawn = drawn + 1 }))))
 
     pub not_forked : (e : SpaceError) → CopyFails p (drawn + 1) old new e
-        → GivesChange (on_process p (fork_row p) (registry_of before)) before (answer_of e) (shown_state new xs drawn)
+        → GivesChange (on_process p (fork_row p) (registry_of before)) before (answer_of e) (shown_state new xs breaks drawn)
     not_forked e unmade =
-        gives_kept (on_process p (fork_row p)) old new xs drawn (free_same old new (spaces_kept xs) (copy_keeps p (drawn + 1) old new e unmade).free is.free) (answer_of e) drawn
-        (gives_found old kept drawn p (fork_row p) process (answer_of e) (state_of new kept drawn) there
-        (gives_unmade row p (drawn + 1) old new kept drawn (refusals_are ∙ taken) refl refl refl e unmade))
+        gives_kept (on_process p (fork_row p)) old new xs breaks drawn (free_same old new (spaces_kept xs) (copy_keeps p (drawn + 1) old new e unmade).free is.free) (answer_of e) drawn
+        (gives_found old kept breaks drawn p (fork_row p) process (answer_of e) (state_of new kept breaks drawn) there
+        (gives_unmade row p (drawn + 1) old new kept breaks drawn (refusals_are ∙ taken) refl refl refl e unmade))
 
 -- what a session keeps
 abbrev saved_of : Option declared.Process → Bool

@@ -4,7 +4,8 @@ pub mod Keeping
 pub mod Places
 pub mod Rows
 pub mod Rans
-pub mod Stretches
+pub mod Breaks
+mod Stretches
 pub mod Stretching
 pub mod Standing
 pub mod Loadings
@@ -15,4 +16,7 @@ pub mod Savings
 pub mod Speculating
 pub mod Pages
 pub mod Registers
+pub mod Debugging
+pub mod Bytes
+pub mod Stores
 pub mod Stills

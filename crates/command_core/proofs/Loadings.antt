@@ -1,4 +1,5 @@
 use Rattle.std.proofs.Common.{◌≡◌, ℕ, ◌+◌, ◌==◌, nat_lt, Bool, true, false, List, [], ◌∷◌, sym, ap, subst, ◌∙◌, refl, Option, Some, None}
+use Rattle.breakpoints.specs.Breakpoints.{Breaks}
 use Rattle.std.specs.Prelude.{Ok, Err}
 use Rattle.std.specs.Option.{option_map}
 use Rattle.std.specs.FinMap.{get, insert}
@@ -23,6 +24,7 @@ use Rattle.command_core.specs.Refusals.{by_numbers_used}
 use Rattle.command_core.specs.Changes.{answer_of, load_row}
 use Rattle.command_core.specs.Commands.{RunsLoaded}
 use Rattle.command_core.specs.LikeLaws.{states_itself}
+use Rattle.command_core.proofs.Breaks.{none_removed}
 use Rattle.command_core.proofs.Rows.{row_accepted, row_full, row_refused}
 use Rattle.command_core.proofs.Places.{keeps_before, keeps_same}
 
@@ -60,33 +62,34 @@ module _ (file : List ℕ) (s : State) where
   comes_used taken all = row_refused row s s NumbersUsed (by_number true taken all) (states_itself s)
 
 -- where a number is left, what the machine answers
-module _ (file : List ℕ) (old new : Machine) (kept : List Checkpoint) (drawn : ℕ) (taken : file_refusal file ≡ None) (left : (drawn == LAST_SPACE) ≡ false) where
+module _ (file : List ℕ) (old new : Machine) (kept : List Checkpoint) (breaks : Breaks) (drawn : ℕ) (taken : file_refusal file ≡ None)
+    (left : (drawn == LAST_SPACE) ≡ false) where
   abbrev before : State
-  before = state_of old kept drawn
+  before = state_of old kept breaks drawn
 
   none : first_refusal (row file before).refusals ≡ None
   none = by_number file before false taken left
 
-  pub gives_loaded : (n entry : ℕ) → Loads (drawn + 1) file old new (Ok n) → entry ≡ entry_of file
-      → ComesTo (change_by (row file before) before) (Loaded (drawn + 1) n entry) (state_of new kept (drawn + 1))
-  gives_loaded n entry (count, fits, loaded) is =
+  pub gives_loaded : get breaks (drawn + 1) ≡ None → (n entry : ℕ) → Loads (drawn + 1) file old new (Ok n) → entry ≡ entry_of file
+      → ComesTo (change_by (row file before) before) (Loaded (drawn + 1) n entry) (state_of new kept breaks (drawn + 1))
+  gives_loaded unbroken n entry (count, fits, loaded) is =
       let enough = sym (load_full (drawn + 1) file (wholes old)) ∙ fits in
-      let comes = row_accepted (row file before) before (state_of new kept (drawn + 1)) none enough
-      (record { wholes = like_accepted (drawn + 1) file (wholes new) (wholes old) loaded.like; checkpoints = refl; drawn = refl }) in
+      let comes = row_accepted (row file before) before (state_of new kept breaks (drawn + 1)) none enough
+      (record { wholes = like_accepted (drawn + 1) file (wholes new) (wholes old) loaded.like; checkpoints = refl; breakpoints = sym (none_removed breaks (drawn + 1) unbroken); drawn = refl }) in
       record {
         answer_is = ap (λ k. Loaded (drawn + 1) k entry) count ∙ ap (Loaded (drawn + 1) (page_count file)) is ∙ comes.answer_is;
         after_is = comes.after_is;
       }
 
-  pub runs_loaded : (n entry : ℕ) → Loads (drawn + 1) file old new (Ok n) → RunsLoaded (Loaded (drawn + 1) n entry) (state_of new kept (drawn + 1))
+  pub runs_loaded : (n entry : ℕ) → Loads (drawn + 1) file old new (Ok n) → RunsLoaded (Loaded (drawn + 1) n entry) (state_of new kept breaks (drawn + 1))
   runs_loaded n entry (count, fits, loaded) =
       (loaded_process file, ap (λ (ps : Processes). get ps (drawn + 1)) loaded.like.processes ∙ get_same (wholes old).processes (drawn + 1) (drawn + 1) (loaded_process file) refl, refl)
 
-  pub gives_other : (e : SpaceError) → Loads (drawn + 1) file old new (Err e) → GivesChange (row file before) before (answer_of e) (state_of new kept drawn)
+  pub gives_other : (e : SpaceError) → Loads (drawn + 1) file old new (Err e) → GivesChange (row file before) before (answer_of e) (state_of new kept breaks drawn)
   gives_other (error.Full needed limit) (needed_is, limit_is, full, same) =
-      row_full (row file before) before (state_of new kept drawn) needed limit none refl (sym (load_full (drawn + 1) file (wholes old)) ∙ full)
-      (needed_is ∙ load_needed (drawn + 1) file (wholes old)) limit_is (subst (λ (m : Machine). AreLikeStates (state_of m kept drawn) before) (sym same) (states_itself before))
-  gives_other error.Memory (fits, same) = (refl, ap (λ (w : Wholes). record { wholes = w; checkpoints = kept; drawn = drawn }) (same_wholes old new same))
+      row_full (row file before) before (state_of new kept breaks drawn) needed limit none refl (sym (load_full (drawn + 1) file (wholes old)) ∙ full)
+      (needed_is ∙ load_needed (drawn + 1) file (wholes old)) limit_is (subst (λ (m : Machine). AreLikeStates (state_of m kept breaks drawn) before) (sym same) (states_itself before))
+  gives_other error.Memory (fits, same) = (refl, ap (λ (w : Wholes). record { wholes = w; checkpoints = kept; breakpoints = breaks; drawn = drawn }) (same_wholes old new same))
 
   pub session_other : (e : SpaceError) → Loads (drawn + 1) file old new (Err e) → KeepsSession old new
   session_other (error.Full needed limit) (needed_is, limit_is, full, same) = keeps_same old new same

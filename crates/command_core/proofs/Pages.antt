@@ -346,8 +346,8 @@ module _ (p : ℕ) (process : declared.Process) (old : Machine) (memory : Memory
           let left = pages_mapped perms.0 page n (memory_of (spaces_of old) p) in
           let unmarked = unmarked_by _ _ _ is in
           let remade = remade_by e left (spaces_of old) _ (state_of memory) p put (zeros_put (spaces_of old) p page n perms here) in
-          machine_done maps old mid (map_refusal_is address n perms None is) (λ kept drawn. refl) (λ r. refl) (λ kept drawn. remade_like e left remade unmarked)
-          (λ r. refl) (λ r. refl) (remade_stays e left remade unmarked)
+          machine_done maps old mid (map_refusal_is address n perms None is) (λ kept breaks drawn. refl) (λ r. refl) (λ kept breaks drawn. remade_like e left remade unmarked)
+          (λ r. refl) (λ r. refl) (λ r. refl) (remade_stays e left remade unmarked)
 
       pub map_refused : (code : Code) → RefusesMap (spaces_of old) p address n (Some code) → ChangesOverlays p (Map address n perms) process old (Refused code) old
       map_refused code (is, told) = machine_refused maps old old code (map_refusal_is address n perms (Some code) is) refl
@@ -362,8 +362,8 @@ module _ (p : ℕ) (process : declared.Process) (old : Machine) (memory : Memory
         let left = pages_gone page n (memory_of (spaces_of old) p) in
         let unmarked = unmarked_by _ _ _ is in
         let remade = remade_by e left (spaces_of old) _ (state_of memory) p cut (pages_cut (spaces_of old) p page n here) in
-        machine_done gives_up old mid (unmap_refusal_is address n None is) (λ kept drawn. refl) (λ r. refl) (λ kept drawn. remade_like e left remade unmarked)
-        (λ r. refl) (λ r. refl) (remade_stays e left remade unmarked)
+        machine_done gives_up old mid (unmap_refusal_is address n None is) (λ kept breaks drawn. refl) (λ r. refl) (λ kept breaks drawn. remade_like e left remade unmarked)
+        (λ r. refl) (λ r. refl) (λ r. refl) (remade_stays e left remade unmarked)
 
     pub unmap_refused : (code : Code) → RefusesUnmap (spaces_of old) p address n (Some code) → ChangesOverlays p (Unmap address n) process old (Refused code) old
     unmap_refused code (is, told) = machine_refused gives_up old old code (unmap_refusal_is address n (Some code) is) refl

@@ -1,4 +1,5 @@
 use Rattle.std.proofs.Common.{◌≡◌, ℕ, ◌≤◌, ◌<◌, ◌&&◌, nat_lt, arith, Bool, true, false, cond, List, sym, ap, subst, ◌∙◌, refl, Option, Some, None}
+use Rattle.breakpoints.specs.Breakpoints.{Breaks}
 use Rattle.std.specs.Prelude.{not}
 use Rattle.std.specs.Option.{is_some, option_map, option_map_or}
 use Rattle.std.specs.FinMap.{get}
@@ -109,17 +110,17 @@ pub gives_still : (s : State) → GivesChange (still_row (registry_of s)) s Done
 gives_still s = row_accepted (still_row (registry_of s)) s s refl refl (still_like s)
 
 -- and neither does compaction, whose moves nothing shows
-pub gives_moved : (old new : Machine) (xs : List Kept) (drawn : ℕ) → IsAsBefore old new
-    → GivesChange (still_row (registry_of (shown_state old xs drawn))) (shown_state old xs drawn) Done (shown_state new xs drawn)
-gives_moved old new xs drawn same =
+pub gives_moved : (old new : Machine) (xs : List Kept) (breaks : Breaks) (drawn : ℕ) → IsAsBefore old new
+    → GivesChange (still_row (registry_of (shown_state old xs breaks drawn))) (shown_state old xs breaks drawn) Done (shown_state new xs breaks drawn)
+gives_moved old new xs breaks drawn same =
     let all = same_wholes old new same in
-    let is : shown_state new xs drawn ≡ shown_state old xs drawn = λ i. record { wholes = all i; checkpoints = checkpoints_in (same.0 i) xs; drawn = drawn } in
-    subst (λ (s : State). GivesChange (still_row (registry_of (shown_state old xs drawn))) (shown_state old xs drawn) Done s) (sym is) (gives_still (shown_state old xs drawn))
+    let is : shown_state new xs breaks drawn ≡ shown_state old xs breaks drawn = λ i. record { wholes = all i; checkpoints = checkpoints_in (same.0 i) xs; breakpoints = breaks; drawn = drawn } in
+    subst (λ (s : State). GivesChange (still_row (registry_of (shown_state old xs breaks drawn))) (shown_state old xs breaks drawn) Done s) (sym is) (gives_still (shown_state old xs breaks drawn))
 
 -- The row of a process, by whether it is there.
-module _ (old : Machine) (kept : List Checkpoint) (drawn p : ℕ) (row : Process → Registry → Row) where
+module _ (old : Machine) (kept : List Checkpoint) (breaks : Breaks) (drawn p : ℕ) (row : Process → Registry → Row) where
   abbrev before : State
-  before = state_of old kept drawn
+  before = state_of old kept breaks drawn
 
   found_is : (o : Option declared.Process) → get old.processes p ≡ o
       → on_process p row (registry_of before) ≡ option_map_or (λ process. row process (registry_of before)) (option_map (whole_in (spaces_of old) p) o) (refused_row NoProcess (registry_of before))
@@ -151,14 +152,14 @@ module _ (before : State) (name : List ℕ) where
 
 -- What a machine answers.
 module _ (row : Registry → Row) (old new : Machine) where
-  same_likes : new ≡ old → (kept : List Checkpoint) (drawn : ℕ) → AreLikeStates (state_of new kept drawn) (state_of old kept drawn)
-  same_likes same kept drawn =
-      subst (λ (m : Machine). AreLikeStates (state_of m kept drawn) (state_of old kept drawn)) (sym same) (states_itself (state_of old kept drawn))
+  same_likes : new ≡ old → (kept : List Checkpoint) (breaks : Breaks) (drawn : ℕ) → AreLikeStates (state_of new kept breaks drawn) (state_of old kept breaks drawn)
+  same_likes same kept breaks drawn =
+      subst (λ (m : Machine). AreLikeStates (state_of m kept breaks drawn) (state_of old kept breaks drawn)) (sym same) (states_itself (state_of old kept breaks drawn))
 
   pub machine_refused : (code : Code) → ((r : Registry) → first_refusal (row r).refusals ≡ Some code) → new ≡ old → MachineGives row old (Refused code) new
   machine_refused code is same = record {
-    gives = λ kept drawn. row_refused (row (registry_of (state_of old kept drawn))) (state_of old kept drawn) (state_of new kept drawn) code
-        (is (registry_of (state_of old kept drawn))) (same_likes same kept drawn);
+    gives = λ kept breaks drawn. row_refused (row (registry_of (state_of old kept breaks drawn))) (state_of old kept breaks drawn) (state_of new kept breaks drawn) code
+        (is (registry_of (state_of old kept breaks drawn))) (same_likes same kept breaks drawn);
     keeps = keeps_same old new same;
   }
 
@@ -167,33 +168,40 @@ module _ (row : Registry → Row) (old new : Machine) where
       → needed ≡ event_needs event (wholes old) → limit ≡ limit_of (wholes old).frames → is_event_full event (wholes old) ≡ true → new ≡ old
       → MachineGives row old (Full needed limit) new
   machine_full event needed limit none may by needed_is limit_is full same = record {
-    gives = λ kept drawn.
-        let before = state_of old kept drawn in
+    gives = λ kept breaks drawn.
+        let before = state_of old kept breaks drawn in
         let r = registry_of before in
-        row_full (row r) before (state_of new kept drawn) needed limit (none r) (may r) (ap (λ e. is_event_full e before.wholes) (by r) ∙ full)
-        (needed_is ∙ sym (ap (λ e. event_needs e before.wholes) (by r))) limit_is (same_likes same kept drawn);
+        row_full (row r) before (state_of new kept breaks drawn) needed limit (none r) (may r) (ap (λ e. is_event_full e before.wholes) (by r) ∙ full)
+        (needed_is ∙ sym (ap (λ e. event_needs e before.wholes) (by r))) limit_is (same_likes same kept breaks drawn);
     keeps = keeps_same old new same;
   }
 
   pub machine_done : ((r : Registry) → first_refusal (row r).refusals ≡ None)
-      → ((kept : List Checkpoint) (drawn : ℕ) → is_full (row (registry_of (state_of old kept drawn))) (state_of old kept drawn) ≡ false)
+      → ((kept : List Checkpoint) (breaks : Breaks) (drawn : ℕ) → is_full (row (registry_of (state_of old kept breaks drawn))) (state_of old kept breaks drawn) ≡ false)
       → ((r : Registry) → (row r).answer ≡ Done)
-      → ((kept : List Checkpoint) (drawn : ℕ) → AreLike (wholes new) (accepts (row (registry_of (state_of old kept drawn))) (state_of old kept drawn)).after.wholes)
-      → ((r : Registry) → r.checkpoints ≡ (row r).after.checkpoints) → ((r : Registry) → r.drawn ≡ (row r).after.drawn) → KeepsSession old new → MachineGives row old Done new
-  machine_done none enough answers like kept_is drawn_is keeps = record {
-    gives = λ kept drawn.
-        let before = state_of old kept drawn in
+      → ((kept : List Checkpoint) (breaks : Breaks) (drawn : ℕ) → AreLike (wholes new) (accepts (row (registry_of (state_of old kept breaks drawn))) (state_of old kept breaks drawn)).after.wholes)
+      → ((r : Registry) → r.checkpoints ≡ (row r).after.checkpoints) → ((r : Registry) → r.breakpoints ≡ (row r).after.breakpoints)
+      → ((r : Registry) → r.drawn ≡ (row r).after.drawn) → KeepsSession old new → MachineGives row old Done new
+  machine_done none enough answers like kept_is breaks_is drawn_is keeps = record {
+    gives = λ kept breaks drawn.
+        let before = state_of old kept breaks drawn in
         let r = registry_of before in
-        subst (λ answer. ComesTo (change_by (row r) before) answer (state_of new kept drawn)) (answers r)
-        (row_accepted (row r) before (state_of new kept drawn) (none r) (enough kept drawn)
-        (record { wholes = like kept drawn; checkpoints = kept_is r; drawn = drawn_is r }));
+        subst (λ answer. ComesTo (change_by (row r) before) answer (state_of new kept breaks drawn)) (answers r)
+        (row_accepted (row r) before (state_of new kept breaks drawn) (none r) (enough kept breaks drawn)
+        (record { wholes = like kept breaks drawn; checkpoints = kept_is r; breakpoints = breaks_is r; drawn = drawn_is r }));
     keeps = keeps;
   }
 
 -- What is shown of checkpoints stays where their spaces do.
-module _ (row : Registry → Row) (old new : Machine) (xs : List Kept) (drawn : ℕ) (same : AreSame old new (spaces_kept xs)) where
-  pub gives_kept : (answer : Answer) (after : ℕ) → GivesChange (row (registry_of (shown_state old xs drawn))) (shown_state old xs drawn) answer (state_of new (checkpoints_in (spaces_of old) xs) after)
-      → GivesChange (row (registry_of (shown_state old xs drawn))) (shown_state old xs drawn) answer (shown_state new xs after)
-  gives_kept answer after given =
-      subst (λ (cs : List Checkpoint). GivesChange (row (registry_of (shown_state old xs drawn))) (shown_state old xs drawn) answer (state_of new cs after))
+module _ (row : Registry → Row) (old new : Machine) (xs : List Kept) (breaks : Breaks) (drawn : ℕ) (same : AreSame old new (spaces_kept xs)) where
+  pub gives_left : (answer : Answer) (left : Breaks) (after : ℕ)
+      → GivesChange (row (registry_of (shown_state old xs breaks drawn))) (shown_state old xs breaks drawn) answer (state_of new (checkpoints_in (spaces_of old) xs) left after)
+      → GivesChange (row (registry_of (shown_state old xs breaks drawn))) (shown_state old xs breaks drawn) answer (shown_state new xs left after)
+  gives_left answer left after given =
+      subst (λ (cs : List Checkpoint). GivesChange (row (registry_of (shown_state old xs breaks drawn))) (shown_state old xs breaks drawn) answer (state_of new cs left after))
       (sym (all_shown (spaces_of new) (spaces_of old) xs same)) given
+
+  pub gives_kept : (answer : Answer) (after : ℕ)
+      → GivesChange (row (registry_of (shown_state old xs breaks drawn))) (shown_state old xs breaks drawn) answer (state_of new (checkpoints_in (spaces_of old) xs) breaks after)
+      → GivesChange (row (registry_of (shown_state old xs breaks drawn))) (shown_state old xs breaks drawn) answer (shown_state new xs breaks after)
+  gives_kept answer after given = gives_left answer breaks after given

@@ -1,4 +1,5 @@
 use Rattle.std.proofs.Common.{◌≡◌, ℕ, ◌+◌, ◌≤◌, Bool, true, false, cond, List, [], ◌∷◌, ◌++◌, sym, ap, subst, ◌∙◌, refl, arith, Option, Some, None}
+use Rattle.breakpoints.specs.Breakpoints.{Breaks}
 use Rattle.std.specs.Prelude.{Ok}
 use Rattle.std.specs.Option.{is_some, option_map, option_map_or}
 use Rattle.std.specs.FinMap.{get}
@@ -63,9 +64,9 @@ taken_is xs told name taken same is = is ∙ ap (λ n. is_some (kept_named n xs)
 pub told_mark : (old : Machine) (p : ℕ) (mark : Bool) (memory : MemoryView) → mark ≡ (space_in (spaces_in memory) p).speculating → memory ≡ old.memory → mark ≡ mark_in old p
 told_mark old p mark memory marked same = marked ∙ ap (λ (m : MemoryView). (space_in (spaces_in m) p).speculating) same
 
-module _ (old : Machine) (xs : List Kept) (drawn p : ℕ) (name : List ℕ) (process : declared.Process) (there : get old.processes p ≡ Some process) where
+module _ (old : Machine) (xs : List Kept) (breaks : Breaks) (drawn p : ℕ) (name : List ℕ) (process : declared.Process) (there : get old.processes p ≡ Some process) where
   abbrev before : State
-  before = shown_state old xs drawn
+  before = shown_state old xs breaks drawn
 
   abbrev kept : List Checkpoint
   kept = checkpoints_in (spaces_of old) xs
@@ -86,7 +87,7 @@ module _ (old : Machine) (xs : List Kept) (drawn p : ℕ) (name : List ℕ) (pro
     pub checkpoint_refused : (code : Code) → first_refusal (checkpoint_refusals mark found drawn) ≡ Some code
         → GivesChange (on_process p (checkpoint_row p name) (registry_of before)) before (Refused code) before
     checkpoint_refused code is =
-        gives_found old kept drawn p (checkpoint_row p name) process (Refused code) before there
+        gives_found old kept breaks drawn p (checkpoint_row p name) process (Refused code) before there
         (row_refused saving before before code (saving_refusals mark found marked is_found ∙ is) (states_itself before))
 
     -- it isn't refused
@@ -98,23 +99,23 @@ module _ (old : Machine) (xs : List Kept) (drawn p : ℕ) (name : List ℕ) (pro
       entered = record { name = name; space = drawn + 1; regs = process.regs; state = process.state }
 
       pub checkpoint_saved : SavesSpace {T = List ℕ} p (drawn + 1) old new (Ok name)
-          → GivesChange (on_process p (checkpoint_row p name) (registry_of before)) before (Saved p name (drawn + 1)) (shown_state new (xs ++ entered ∷ []) (drawn + 1))
+          → GivesChange (on_process p (checkpoint_row p name) (registry_of before)) before (Saved p name (drawn + 1)) (shown_state new (xs ++ entered ∷ []) breaks (drawn + 1))
       checkpoint_saved (enough, saved) =
           let same = all_shown (spaces_of new) (spaces_of old) xs (next_same old new (spaces_kept xs) drawn is saved.others) in
           let shows : checkpoints_in (spaces_of new) (xs ++ entered ∷ []) ≡ (accepts saving before).after.checkpoints =
           more_shown (spaces_of new) xs entered ∙ ap (λ (cs : List Checkpoint). cs ++ checkpoint_in (spaces_of new) entered ∷ []) same
           ∙ ap (λ m. kept ++ record { name = name; space = drawn + 1; whole = record { registers = process.regs; state = process.state; memory = m } } ∷ []) saved.memory in
-          let after = shown_state new (xs ++ entered ∷ []) (drawn + 1) in
-          gives_found old kept drawn p (checkpoint_row p name) process (Saved p name (drawn + 1)) after there
+          let after = shown_state new (xs ++ entered ∷ []) breaks (drawn + 1) in
+          gives_found old kept breaks drawn p (checkpoint_row p name) process (Saved p name (drawn + 1)) after there
           (row_accepted saving before after none enough
-          (states_same after (accepts saving before).after (λ i. record { wholes = saved.after i; checkpoints = shows i; drawn = drawn + 1 })))
+          (states_same after (accepts saving before).after (λ i. record { wholes = saved.after i; checkpoints = shows i; breakpoints = breaks; drawn = drawn + 1 })))
 
       pub checkpoint_unsaved : (e : SpaceError) → CopyFails p (drawn + 1) old new e
-          → GivesChange (on_process p (checkpoint_row p name) (registry_of before)) before (answer_of e) (shown_state new xs drawn)
+          → GivesChange (on_process p (checkpoint_row p name) (registry_of before)) before (answer_of e) (shown_state new xs breaks drawn)
       checkpoint_unsaved e unmade =
-          gives_kept (on_process p (checkpoint_row p name)) old new xs drawn (free_same old new (spaces_kept xs) (copy_keeps p (drawn + 1) old new e unmade).free is.free) (answer_of e) drawn
-          (gives_found old kept drawn p (checkpoint_row p name) process (answer_of e) (state_of new kept drawn) there
-          (gives_unmade saving p (drawn + 1) old new kept drawn none refl refl refl e unmade))
+          gives_kept (on_process p (checkpoint_row p name)) old new xs breaks drawn (free_same old new (spaces_kept xs) (copy_keeps p (drawn + 1) old new e unmade).free is.free) (answer_of e) drawn
+          (gives_found old kept breaks drawn p (checkpoint_row p name) process (answer_of e) (state_of new kept breaks drawn) there
+          (gives_unmade saving p (drawn + 1) old new kept breaks drawn none refl refl refl e unmade))
 
   -- A restore.
   abbrev restoring : Row
@@ -132,7 +133,7 @@ module _ (old : Machine) (xs : List Kept) (drawn p : ℕ) (name : List ℕ) (pro
   gives_by : (mark : Bool) (o : Option Kept) (answer : Answer) (after : State) → mark ≡ mark_in old p → kept_named name xs ≡ o → GivesChange (restores_by mark o) before answer after
       → GivesChange (on_process p (restore_row p name) (registry_of before)) before answer after
   gives_by mark o answer after marked is given =
-      gives_found old kept drawn p (restore_row p name) process answer after there
+      gives_found old kept breaks drawn p (restore_row p name) process answer after there
       (subst (λ (r : Row). GivesChange r before answer after) (sym (restoring_is mark o marked is)) given)
 
   pub restore_speculating : true ≡ mark_in old p → GivesChange (on_process p (restore_row p name) (registry_of before)) before (Refused Speculating) before
@@ -146,28 +147,28 @@ module _ (old : Machine) (xs : List Kept) (drawn p : ℕ) (name : List ℕ) (pro
   -- one is found
   module _ (new : Machine) (x : Kept) (is : IsSession old (spaces_kept xs) drawn) (marked : false ≡ mark_in old p) (found : kept_named name xs ≡ Some x) where
     abbrev after : State
-    after = state_of new kept drawn
+    after = state_of new kept breaks drawn
 
     pub restored_done : CopiesProcess x.space p (kept_process x) old new (Ok tt)
-        → GivesChange (on_process p (restore_row p name) (registry_of before)) before Done (shown_state new xs drawn)
+        → GivesChange (on_process p (restore_row p name) (registry_of before)) before Done (shown_state new xs breaks drawn)
     restored_done (enough, copied) =
         let row = restores_by false (Some x) in
         let free = found_has name (IsFree old) xs x is.free found in
         let put = put_is old (spaces_kept xs) drawn x is free in
-        gives_kept (on_process p (restore_row p name)) old new xs drawn
+        gives_kept (on_process p (restore_row p name)) old new xs breaks drawn
         (free_same old new (spaces_kept xs) (free_stays p old new copied.others (ap is_some there)) is.free) Done drawn
         (gives_by false (Some x) Done after marked found
         (row_accepted row before after refl enough
         (states_same after (accepts row before).after
-        (ap (λ (w : Wholes). record { wholes = w; checkpoints = kept; drawn = drawn })
+        (ap (λ (w : Wholes). record { wholes = w; checkpoints = kept; breakpoints = breaks; drawn = drawn })
         (copied.after ∙ ap (λ (y : Process). with_copied x.space p y (wholes old)) put)))))
 
     pub not_restored : (e : SpaceError) → CopyFails x.space p old new e
-        → GivesChange (on_process p (restore_row p name) (registry_of before)) before (answer_of e) (shown_state new xs drawn)
+        → GivesChange (on_process p (restore_row p name) (registry_of before)) before (answer_of e) (shown_state new xs breaks drawn)
     not_restored e unmade =
-        gives_kept (on_process p (restore_row p name)) old new xs drawn (free_same old new (spaces_kept xs) (copy_keeps x.space p old new e unmade).free is.free) (answer_of e) drawn
+        gives_kept (on_process p (restore_row p name)) old new xs breaks drawn (free_same old new (spaces_kept xs) (copy_keeps x.space p old new e unmade).free is.free) (answer_of e) drawn
         (gives_by false (Some x) (answer_of e) after marked found
-        (gives_unmade (restores_by false (Some x)) x.space p old new kept drawn refl refl refl refl e unmade))
+        (gives_unmade (restores_by false (Some x)) x.space p old new kept breaks drawn refl refl refl refl e unmade))
 
 -- what a session keeps
 pub session_of_saved : (old new : Machine) (xs : List Kept) (drawn p : ℕ) (x : Kept) → IsSession old (spaces_kept xs) drawn → drawn + 1 ≤ LAST_SPACE → x.space ≡ drawn + 1

@@ -139,8 +139,8 @@ module _ (p : ℕ) (process : declared.Process) (old : Machine) (memory : Memory
       let kept = kept_by (Some saved) true (memory_of (spaces_of old) p) s.marked (has.base ∙ s.memory) in
       let is : whole_in (state_of memory) p begun ≡ after_speculate before =
       λ i. record { registers = process.regs; state = process.state; memory = s.memory i; kept = kept i } in
-      machine_done begins old (with_process_at mid p begun) (start_refusal false run unmarked) (λ kept drawn. fits (event.Settle p) old within) (λ r. refl)
-      (λ kept drawn. wholes_are (event.Settle p) begun (after_speculate before) is s.others has.ledger s.frames) (λ r. refl) (λ r. refl)
+      machine_done begins old (with_process_at mid p begun) (start_refusal false run unmarked) (λ kept breaks drawn. fits (event.Settle p) old within) (λ r. refl)
+      (λ kept breaks drawn. wholes_are (event.Settle p) begun (after_speculate before) is s.others has.ledger s.frames) (λ r. refl) (λ r. refl) (λ r. refl)
       (stays (event.Settle p) begun (after_speculate before) is s.others s.spaces s.awaiting (λ h. s.marked))
 
   pub not_started : (e : SpeculationError) → Starts old.memory memory p (Err e) → runs process.state ≡ true → ChangesOverlays p Speculate process old (speculation_answer e) mid
@@ -167,8 +167,8 @@ module _ (p : ℕ) (process : declared.Process) (old : Machine) (memory : Memory
       let is : whole_in (state_of memory) p forgotten ≡ after_commit before =
       λ i. record { registers = process.regs; state = process.state; memory = s.memory i; kept = kept i } in
       let ledger = subst (AreAlike (books (state_of memory))) has.ledger (alike_itself (books (state_of memory))) in
-      machine_done (ends Commit) old (with_process_at mid p forgotten) (λ r. end_refusal true marked) (λ kept drawn. refl) (λ r. refl)
-      (λ kept drawn. wholes_are (event.Commit p) forgotten (after_commit before) is s.others ledger s.frames) (λ r. refl) (λ r. refl)
+      machine_done (ends Commit) old (with_process_at mid p forgotten) (λ r. end_refusal true marked) (λ kept breaks drawn. refl) (λ r. refl)
+      (λ kept breaks drawn. wholes_are (event.Commit p) forgotten (after_commit before) is s.others ledger s.frames) (λ r. refl) (λ r. refl) (λ r. refl)
       (stays (event.Commit p) forgotten (after_commit before) is s.others s.spaces s.awaiting (λ h. s.marked))
 
   pub not_committed : (e : SpeculationError) → Commits old.memory memory p (Err e) → ChangesOverlays p Commit process old (speculation_answer e) mid
@@ -199,8 +199,8 @@ module _ (p : ℕ) (process : declared.Process) (old : Machine) (memory : Memory
       λ i. record { registers = saved.regs; state = saved.state; memory = has.memory i; kept = kept i } in
       let ledger = subst (AreAlike (books (state_of memory))) has.ledger (alike_itself (books (state_of memory))) in
       subst (λ (o : Option Whole). MachineGives (goes_back o) old Done (with_process_at mid p (again saved))) (sym was)
-      (machine_done (goes_back (Some whole)) old (with_process_at mid p (again saved)) (λ r. refl) (λ kept drawn. refl) (λ r. refl)
-      (λ kept drawn. wholes_are (event.Discard p) (again saved) (after_discard whole) is has.others ledger has.frames) (λ r. refl) (λ r. refl)
+      (machine_done (goes_back (Some whole)) old (with_process_at mid p (again saved)) (λ r. refl) (λ kept breaks drawn. refl) (λ r. refl)
+      (λ kept breaks drawn. wholes_are (event.Discard p) (again saved) (after_discard whole) is has.others ledger has.frames) (λ r. refl) (λ r. refl) (λ r. refl)
       (stays (event.Discard p) (again saved) (after_discard whole) is has.others has.spaces has.awaiting (λ h. has.marked)))
 
   pub not_discarded : (e : SpeculationError) → Discards old.memory memory p (Err e) → ChangesOverlays p Discard process old (speculation_answer e) mid
@@ -233,8 +233,8 @@ module _ (p : ℕ) (process : declared.Process) (old : Machine) (memory : Memory
 
   pub all_promoted : PromotesAll old.memory memory p (Ok tt) → ChangesOverlays p PromoteAll process old Done mid
   all_promoted (unmarked, within, has) =
-      machine_done (overlay_row p PromoteAll before) old mid (all_refusal false unmarked) (λ kept drawn. fits (event.Settle p) old within) (λ r. refl)
-      (λ kept drawn. promoted _ has.settled unmarked (event.Settle p) has.ledger) (λ r. refl) (λ r. refl) (promoted_stays _ has.settled unmarked (event.Settle p) has.ledger)
+      machine_done (overlay_row p PromoteAll before) old mid (all_refusal false unmarked) (λ kept breaks drawn. fits (event.Settle p) old within) (λ r. refl)
+      (λ kept breaks drawn. promoted _ has.settled unmarked (event.Settle p) has.ledger) (λ r. refl) (λ r. refl) (λ r. refl) (promoted_stays _ has.settled unmarked (event.Settle p) has.ledger)
 
   pub none_promoted : (e : PromoteError) (address : ℕ) → PromotesAll old.memory memory p (Err e) → ChangesOverlays p PromoteAll process old (promotion_answer address e) mid
   none_promoted (promote.Unmapped at) address h = absurd h
@@ -269,8 +269,8 @@ module _ (p : ℕ) (process : declared.Process) (old : Machine) (memory : Memory
     pub page_promoted : Promotes old.memory memory p (address / PAGE_BYTES) (Ok tt) → ChangesOverlays p (Promote address) process old Done mid
     page_promoted (unmarked, has) =
         let e = event.SettlePage p (address / PAGE_BYTES) in
-        machine_done one old mid (here_refusal unmarked has.there) (λ kept drawn. fits e old has.fits) (λ r. refl)
-        (λ kept drawn. promoted _ has.settled unmarked e has.ledger) (λ r. refl) (λ r. refl) (promoted_stays _ has.settled unmarked e has.ledger)
+        machine_done one old mid (here_refusal unmarked has.there) (λ kept breaks drawn. fits e old has.fits) (λ r. refl)
+        (λ kept breaks drawn. promoted _ has.settled unmarked e has.ledger) (λ r. refl) (λ r. refl) (λ r. refl) (promoted_stays _ has.settled unmarked e has.ledger)
 
     pub not_promoted : (e : PromoteError) → Promotes old.memory memory p (address / PAGE_BYTES) (Err e)
         → ChangesOverlays p (Promote address) process old (promotion_answer address e) mid

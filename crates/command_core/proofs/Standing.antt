@@ -2,6 +2,7 @@ use Rattle.std.proofs.Common.{◌≡◌, ℕ, cond, List, sym, ap, ◌∙◌, re
 use Rattle.std.specs.Prelude.{Result, Ok, Err}
 use Rattle.std.specs.Option.{option_or}
 use Rattle.std.specs.FinMap.{get}
+use Rattle.breakpoints.specs.Breakpoints.{Breaks}
 use Rattle.ovl_io.specs.declared.turn.Turn.{Turn}
 use Rattle.ovl_io.specs.declared.turn.Turn.TheVariants as turn
 use Rattle.machine_core.specs.Process.{Process, runs}
@@ -19,7 +20,7 @@ use Rattle.command_core.proofs.Places.{free_same}
 use Rattle.command_core.specs.Looks.{BeginsStep, begun}
 use Rattle.command_core.specs.LikeLaws.{like_ending, like_found, like_left, like_next, like_text}
 use Rattle.command_core.specs.Standing.{SessionAnswersAs, SessionStandsFor, TurnsAs, begun_step, ends_run, speaks, takes_turn}
-use Rattle.command_core.specs.Turns.{InRun, Progress, alone, TakesTurn, found_before, left_of, ran_text, run_after, run_found, run_turned}
+use Rattle.command_core.specs.Turns.{EndsRun, InRun, Progress, Speaks, alone, TakesTurn, found_before, left_of, ran_text, run_after, run_found, run_turned}
 
 -- What holds of a session's own processes holds of those of each state that it stands for.
 
@@ -27,87 +28,111 @@ pub for_each : (fact : Processes → Type 0) (session : InSession) → fact sess
 for_each fact session holds state stands = subst fact stands.wholes.processes holds
 
 -- turns that are begun
-like_begun : (a b : Wholes) (p turns : ℕ) → AreLike a b → begun a p turns (get a.processes p) ≡ begun b p turns (get b.processes p)
-like_begun a b p turns like = by_found (get a.processes p) ∙ ap (λ (ps : Processes). begun b p turns (get ps p)) like.processes
+like_begun : (breaks : Breaks) (a b : Wholes) (p turns : ℕ) → AreLike a b → begun breaks a p turns (get a.processes p) ≡ begun breaks b p turns (get b.processes p)
+like_begun breaks a b p turns like = by_found (get a.processes p) ∙ ap (λ (ps : Processes). begun breaks b p turns (get ps p)) like.processes
   where
-    by_found : (o : Option Process) → begun a p turns o ≡ begun b p turns o
+    by_found : (o : Option Process) → begun breaks a p turns o ≡ begun breaks b p turns o
     by_found None = refl
-    by_found (Some process) = ap (λ r. cond (runs process.state) (Ok r) (Err Ended)) (like_found a b like (alone p turns))
+    by_found (Some process) = ap (λ r. cond (runs process.state) (Ok r) (Err Ended)) (like_found a b like breaks (alone p turns))
 
-pub step_begun : (session : InSession) (p turns : ℕ) (result : Result InRun Code) → BeginsStep session.state.wholes p turns result → SessionAnswersAs (begun_step p turns) session result
-step_begun session p turns result is state stands = is ∙ like_begun session.state.wholes state.wholes p turns stands.wholes
+pub step_begun : (session : InSession) (p turns : ℕ) (result : Result InRun Code) → BeginsStep session.state.breakpoints session.state.wholes p turns result
+    → SessionAnswersAs (begun_step p turns) session result
+step_begun session p turns result is state stands =
+    is ∙ like_begun session.state.breakpoints session.state.wholes state.wholes p turns stands.wholes
+    ∙ ap (λ (bs : Breaks). begun bs state.wholes p turns (get state.wholes.processes p)) stands.breakpoints
 
-pub run_begun : (session : InSession) (run : Progress) (result : InRun) → result ≡ run_found session.state.wholes run → (state : State) → SessionStandsFor session state
-    → result ≡ run_found state.wholes run
-run_begun session run result is state stands = is ∙ like_found session.state.wholes state.wholes stands.wholes run
+pub run_begun : (session : InSession) (run : Progress) (result : InRun) → result ≡ run_found session.state.breakpoints session.state.wholes run
+    → (state : State) → SessionStandsFor session state → result ≡ run_found state.breakpoints state.wholes run
+run_begun session run result is state stands =
+    is ∙ like_found session.state.wholes state.wholes stands.wholes session.state.breakpoints run
+    ∙ ap (λ (bs : Breaks). run_found bs state.wholes run) stands.breakpoints
 
 -- a turn
 
-like_turned : (t : Turn) (p : ℕ) (a b : Wholes) (run : Progress) → AreLike a b → run_turned t p a run ≡ run_turned t p b run
-like_turned turn.Stepped p a b run like = like_found a b like (run_after p run)
-like_turned (turn.Wrote written) p a b run like = like_found a b like (run_after p run)
-like_turned (turn.Exited code) p a b run like = like_found a b like (run_after p run)
-like_turned (turn.Faulted kind at) p a b run like = like_found a b like (run_after p run)
-like_turned (turn.Full units limit) p a b run like = refl
+module _ (breaks : Breaks) where
+  like_turned : (t : Turn) (p : ℕ) (a b : Wholes) (run : Progress) → AreLike a b → run_turned breaks t p a run ≡ run_turned breaks t p b run
+  like_turned turn.Stepped p a b run like = like_found a b like breaks (run_after p run)
+  like_turned (turn.Wrote written) p a b run like = like_found a b like breaks (run_after p run)
+  like_turned (turn.Exited code) p a b run like = like_found a b like breaks (run_after p run)
+  like_turned (turn.Faulted kind at) p a b run like = like_found a b like breaks (run_after p run)
+  like_turned (turn.Full units limit) p a b run like = refl
 
-found_same : (a b : Wholes) (running : InRun) → AreLike a b → found_before b running ≡ found_before a running
-found_same a b running like = sym (ap (option_or running.stop) (like_ending a b like running.run))
+  found_same : (a b : Wholes) (running : InRun) → AreLike a b → found_before breaks b running ≡ found_before breaks a running
+  found_same a b running like = sym (ap (option_or running.stop) (like_ending a b like breaks running.run))
 
-takes_like : (a b new : Wholes) (running after : InRun) (r : Option (ℕ × Turn)) → AreLike a b → TakesTurn a running r new after
-    → (left : Wholes) × AreLike new left × TakesTurn b running r left after
-takes_like a b new running after None like (same, (stop, found, is)) =
-    (b, subst (λ (w : Wholes). AreLike w b) (sym same) like, (refl, (stop, found_same a b running like ∙ found, is)))
-takes_like a b new running after (Some (p, t)) like (none, next, came, turned, is) =
-    let left = subst (λ (w : Wholes). AreLike w (after_turn b p)) (sym turned) (like_after_turn p a b like) in (
-      after_turn b p,
-      left,
-      (
-        found_same a b running like ∙ none,
-        sym (like_next a b like running.run.order) ∙ next,
-        came ∙ like_turn p a b like,
-        refl,
-        is ∙ like_turned t p new (after_turn b p) running.run left,
-      ),
-    )
+  takes_like : (a b new : Wholes) (running after : InRun) (r : Option (ℕ × Turn)) → AreLike a b → TakesTurn breaks a running r new after
+      → (left : Wholes) × AreLike new left × TakesTurn breaks b running r left after
+  takes_like a b new running after None like (same, (stop, found, is)) =
+      (b, subst (λ (w : Wholes). AreLike w b) (sym same) like, (refl, (stop, found_same a b running like ∙ found, is)))
+  takes_like a b new running after (Some (p, t)) like (none, next, came, turned, is) =
+      let left = subst (λ (w : Wholes). AreLike w (after_turn b p)) (sym turned) (like_after_turn p a b like) in (
+        after_turn b p,
+        left,
+        (
+          found_same a b running like ∙ none,
+          sym (like_next a b like running.run.order) ∙ next,
+          came ∙ like_turn p a b like,
+          refl,
+          is ∙ like_turned t p new (after_turn b p) running.run left,
+        ),
+      )
 
 -- what is kept of the rest
-pub rest_kept : (old new : Machine) (xs : List Kept) (drawn quantum : ℕ) → IsSession old (spaces_kept xs) drawn → KeepsFree old new
-    → KeepsRest (shown_session old xs drawn quantum) (shown_session new xs drawn quantum)
-rest_kept old new xs drawn quantum is free =
-    record { checkpoints = all_shown (spaces_of new) (spaces_of old) xs (free_same old new (spaces_kept xs) free is.free); drawn = refl; quantum = refl }
+pub rest_kept : (old new : Machine) (xs : List Kept) (breaks : Breaks) (drawn quantum : ℕ) → IsSession old (spaces_kept xs) drawn → KeepsFree old new
+    → KeepsRest (shown_session old xs breaks drawn quantum) (shown_session new xs breaks drawn quantum)
+rest_kept old new xs breaks drawn quantum is free = record {
+  checkpoints = all_shown (spaces_of new) (spaces_of old) xs (free_same old new (spaces_kept xs) free is.free);
+  breakpoints = refl;
+  drawn = refl;
+  quantum = refl;
+}
 
 -- the state after turns that left these processes stands, where all else is as it was
 after_stands : (old new : InSession) (state : State) (left : Wholes) → KeepsRest old new → SessionStandsFor old state → AreLike new.state.wholes left
     → SessionStandsFor new (with_wholes left state)
 after_stands old new state left rest stands like =
-    record { wholes = like; checkpoints = rest.checkpoints ∙ stands.checkpoints; drawn = rest.drawn ∙ stands.drawn }
+    record {
+      wholes = like;
+      checkpoints = rest.checkpoints ∙ stands.checkpoints;
+      breakpoints = rest.breakpoints ∙ stands.breakpoints;
+      drawn = rest.drawn ∙ stands.drawn;
+    }
 
 pub turns_as : (old new : InSession) (running after : InRun) (r : Option (ℕ × Turn)) → takes_turn running r after old.state new.state → KeepsRest old new
     → TurnsAs (takes_turn running r after) old new
 turns_as old new running after r took rest state stands =
-    let (left, like, turned) = takes_like old.state.wholes state.wholes new.state.wholes running after r stands.wholes took in
-    (with_wholes left state, after_stands old new state left rest stands like, refl, refl, turned)
+    let (left, like, turned) = takes_like old.state.breakpoints old.state.wholes state.wholes new.state.wholes running after r stands.wholes took in (
+      with_wholes left state,
+      after_stands old new state left rest stands like,
+      refl,
+      refl,
+      refl,
+      subst (λ (bs : Breaks). TakesTurn bs state.wholes running r left after) stands.breakpoints turned,
+    )
 
 -- turns with a line, and the last ones
-module _ (a b : Wholes) (running : InRun) (like : AreLike a b) where
-  same_text : ran_text (left_of b running) ≡ ran_text (left_of a running)
-  same_text = sym (like_text (left_of a running) (left_of b running) (like_left a b running like))
+module _ (breaks : Breaks) (a b : Wholes) (running : InRun) (like : AreLike a b) where
+  same_text : ran_text (left_of breaks b running) ≡ ran_text (left_of breaks a running)
+  same_text = sym (like_text (left_of breaks a running) (left_of breaks b running) (like_left breaks a b running like))
 
-  same_after : AreLike (left_of b running).after (left_of a running).after
-  same_after = like_back (left_of a running).after (left_of b running).after (like_left a b running like).after
+  same_after : AreLike (left_of breaks b running).after (left_of breaks a running).after
+  same_after = like_back (left_of breaks a running).after (left_of breaks b running).after (like_left breaks a b running like).after
 
 pub speaks_as : (old new : InSession) (running after : InRun) (line : List ℕ) → speaks running line after old.state new.state → KeepsRest old new
     → TurnsAs (speaks running line after) old new
 speaks_as old new running after line (text, left) rest state stands =
     let a = old.state.wholes in
-    let b = state.wholes in (
+    let b = state.wholes in
+    let breaks = old.state.breakpoints in (
       with_wholes new.state.wholes state,
       after_stands old new state new.state.wholes rest stands (like_itself new.state.wholes),
       refl,
       refl,
-      (
-        same_text a b running stands.wholes ∙ text,
-        like_chain (left_of b running).after (left_of a running).after (left_of new.state.wholes after).after (same_after a b running stands.wholes) left,
+      refl,
+      subst (λ (bs : Breaks). Speaks bs b running line new.state.wholes after) stands.breakpoints (
+        same_text breaks a b running stands.wholes ∙ text,
+        like_chain (left_of breaks b running).after (left_of breaks a running).after (left_of breaks new.state.wholes after).after
+            (same_after breaks a b running stands.wholes) left,
       ),
     )
 
@@ -115,15 +140,17 @@ pub ends_as : (old new : InSession) (running after : InRun) → ends_run running
     → TurnsAs (ends_run running after) old new
 ends_as old new running after (stop, found, text, left) rest state stands =
     let a = old.state.wholes in
-    let b = state.wholes in (
+    let b = state.wholes in
+    let breaks = old.state.breakpoints in (
       with_wholes new.state.wholes state,
       after_stands old new state new.state.wholes rest stands (like_itself new.state.wholes),
       refl,
       refl,
-      (
+      refl,
+      subst (λ (bs : Breaks). EndsRun bs b running new.state.wholes after) stands.breakpoints (
         stop,
         found,
-        same_text a b running stands.wholes ∙ text,
-        like_chain (left_of b running).after (left_of a running).after new.state.wholes (same_after a b running stands.wholes) left,
+        same_text breaks a b running stands.wholes ∙ text,
+        like_chain (left_of breaks b running).after (left_of breaks a running).after new.state.wholes (same_after breaks a b running stands.wholes) left,
       ),
     )

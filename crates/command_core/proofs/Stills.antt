@@ -25,7 +25,10 @@ pub record IsNoChange (c : Command) : Type 0 where
   pub map : (p address n : ℕ) (perms : Perms) → c ≡ command.Map p address n perms → ⊥
   pub unmap : (p address n : ℕ) → c ≡ command.Unmap p address n → ⊥
   pub drop : (p : ℕ) → c ≡ command.Drop p → ⊥
+  pub poke : (p address : ℕ) (bytes : List ℕ) → c ≡ command.Poke p address bytes → ⊥
   pub set : (p register value : ℕ) → c ≡ command.Set p register value → ⊥
+  pub break_ : (p address : ℕ) → c ≡ command.Break p address → ⊥
+  pub unbreak : (p address : ℕ) → c ≡ command.Unbreak p address → ⊥
 
 pub still_left : (s : State) (c : Command) → asks c ≡ None → IsGiven c → IsNoChange c → GivesChange (change_row [] c (registry_of s)) s Done s
 still_left s (command.Exec name turns) none given other = cc
@@ -47,10 +50,10 @@ still_left s (command.Unmap p address n) none given other = absurd (other.unmap 
 still_left s (command.Drop p) none given other = absurd (other.drop p refl)
 still_left s (command.Regs p) none given other = gives_still s
 still_left s (command.Dump p address n) none given other = gives_still s
-still_left s (command.Poke p address bytes) none given other = gives_still s
+still_left s (command.Poke p address bytes) none given other = absurd (other.poke p address bytes refl)
 still_left s (command.Set p register value) none given other = absurd (other.set p register value refl)
-still_left s (command.Break p address) none given other = gives_still s
-still_left s (command.Unbreak p address) none given other = gives_still s
+still_left s (command.Break p address) none given other = absurd (other.break_ p address refl)
+still_left s (command.Unbreak p address) none given other = absurd (other.unbreak p address refl)
 still_left s (command.Disasm p address words) none given other = gives_still s
 still_left s command.List none given other = gives_still s
 still_left s command.Stats none given other = gives_still s

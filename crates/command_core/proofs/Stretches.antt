@@ -8,7 +8,8 @@ use Rattle.rv_execute.specs.Execution.{Upshot, Steps, Asks, Faults, outcome_by}
 use Rattle.machine_core.specs.Process.{Process, runs}
 use Rattle.machine_core.specs.Machine.{Processes, Wholes, is_running, limit_of, running_numbers}
 use Rattle.machine_core.specs.Turns.{Guest, after_execution, after_turn, came_to, executed, execution_of, guest_at, guest_executed, guest_of, is_full, outcome_found, outcome_of, state_executed, units_needed, with_guest}
-use Rattle.machine_core.specs.Executions.{Executions, executions, first_execution, last_execution, no_execution}
+use Rattle.breakpoints.specs.Breakpoints.{Breaks, addresses_of}
+use Rattle.machine_core.specs.Executions.{Executions, executions, first_execution, is_at_stop, last_execution, more_executions, no_execution, stopped_execution}
 use Rattle.machine_core.specs.Laws.{turn_law}
 use Rattle.machine_core.specs.NumberLaws.{numbers_are}
 use Rattle.round_robin.specs.Turns.{after_turns_of}
@@ -16,13 +17,11 @@ use Rattle.round_robin.specs.Laws.{goes_on_next, left_after, one_turn_more}
 use Rattle.report_text.specs.Answers.{turn_text}
 use Rattle.command_core.specs.declared.turns.Order.{Order}
 use Rattle.command_core.specs.declared.turns.Order.TheVariants.{ByTurns, Alone}
-use Rattle.command_core.specs.Turns.{GoesOn, Progress, next_of, order_after, order_left, order_took, ran_from, ran_text, run_after, run_took, stretch}
+use Rattle.command_core.specs.Turns.{GoesOn, Progress, last_break, last_took, next_of, order_after, order_left, order_took, ran_from, ran_text, run_after, run_took, stretch}
+use Rattle.command_core.proofs.Breaks.{unbroken_after}
 use Rattle.command_core.proofs.Rans.{is_counted, ran_after, ran_quiet}
 
 -- Turns of one process, one after the other.
-
-run_of : Order → ℕ → ℕ → Progress
-run_of order turns taken = record { order = order; turns = turns; taken = taken }
 
 order_none : (p : ℕ) (order : Order) → order_took 0 p order ≡ order
 order_none p (ByTurns turns) = refl
@@ -31,17 +30,32 @@ order_none p (Alone q) = refl
 pub took_none : (p : ℕ) (run : Progress) → run_took 0 p run ≡ run
 took_none p run =
     let same : run.taken + 0 ≡ run.taken = omega arith in
-    λ i. record { order = order_none p run.order i; turns = run.turns; taken = same i }
+    λ i. record { order = order_none p run.order i; turns = run.turns; taken = same i; last = run.last }
 
 order_first : (n p : ℕ) (order : Order) → order_took (n + 1) p order ≡ order_took n p (order_after p order)
 order_first n p (ByTurns turns) =
     let next : n + 1 ≡ suc n = omega arith in ap (λ k. ByTurns (after_turns_of k p turns)) next
 order_first n p (Alone q) = refl
 
+-- whose turn was the last
+last_more : (n p : ℕ) (last : Option ℕ) → last_took (n + 1) p last ≡ Some p
+last_more n p last =
+    let next : n + 1 ≡ suc n = omega arith in ap (λ k. last_took k p last) next
+
+last_over : (n p : ℕ) → last_took n p (Some p) ≡ Some p
+last_over zero p = refl
+last_over (suc n) p = refl
+
+last_first : (n p : ℕ) (last : Option ℕ) → last_took (n + 1) p last ≡ last_took n p (Some p)
+last_first n p last = last_more n p last ∙ sym (last_over n p)
+
+last_last : (n p : ℕ) (last : Option ℕ) → last_took (n + 1) p last ≡ Some p
+last_last n p last = last_more n p last
+
 pub took_first : (n p : ℕ) (run : Progress) → run_took (n + 1) p run ≡ run_took n p (run_after p run)
 took_first n p run =
     let same : run.taken + (n + 1) ≡ run.taken + 1 + n = omega arith in
-    λ i. record { order = order_first n p run.order i; turns = run.turns; taken = same i }
+    λ i. record { order = order_first n p run.order i; turns = run.turns; taken = same i; last = last_first n p run.last i }
 
 order_last : (n p : ℕ) (order : Order) → order_took (n + 1) p order ≡ order_after p (order_took n p order)
 order_last n p (ByTurns turns) = ap ByTurns (one_turn_more n p turns)
@@ -50,7 +64,7 @@ order_last n p (Alone q) = refl
 pub took_last : (n p : ℕ) (run : Progress) → run_took (n + 1) p run ≡ run_after p (run_took n p run)
 took_last n p run =
     let same : run.taken + (n + 1) ≡ run.taken + n + 1 = omega arith in
-    λ i. record { order = order_last n p run.order i; turns = run.turns; taken = same i }
+    λ i. record { order = order_last n p run.order i; turns = run.turns; taken = same i; last = last_last n p run.last i }
 
 -- what is left after one of them
 left_by : (n p : ℕ) (order : Order) (turns taken : ℕ) → n + 1 ≤ order_left p order (turns - taken) → n ≤ order_left p (order_after p order) (turns - (taken + 1))
@@ -123,58 +137,63 @@ still_runs p guest is =
     ap (λ b. runs (cond b guest (guest_executed p guest)).process.state) parts.0 ∙ ap (λ u. runs (state_executed u)) parts.1
 
 -- The steps of some executions are turns without a line; the last one, where it is no step, is the next turn's.
-pub record IsStretch (ps : Wholes) (p most : ℕ) (run : Progress) (e : Executions) : Type 0 where
-  pub quiet : GoesOn ps run (with_guest ps p e.before) (run_took e.steps p run)
+pub record IsStretch (breaks : Breaks) (ps : Wholes) (p most : ℕ) (run : Progress) (e : Executions) : Type 0 where
+  pub quiet : GoesOn breaks ps run (with_guest ps p e.before) (run_took e.steps p run)
   pub fits : e.steps ≤ most
-  pub all : e.outcome ≡ outcome.Stepped → (e.steps ≡ most) × (e.before ≡ e.after)
+  pub all : e.outcome ≡ outcome.Stepped → e.before ≡ e.after
+  pub some : e.outcome ≡ outcome.Stepped → 0 < most → 0 < e.steps
   pub fewer : (e.outcome ≡ outcome.Stepped → ⊥) → e.steps < most
   pub runs : (e.outcome ≡ outcome.Stepped → ⊥) → is_running (with_guest ps p e.before) p ≡ true
   pub next : (e.outcome ≡ outcome.Stepped → ⊥) → next_of (with_guest ps p e.before) (run_took e.steps p run).order ≡ Some p
+  pub unbroken : (e.outcome ≡ outcome.Stepped → ⊥) → last_break breaks (with_guest ps p e.before) (run_took e.steps p run) ≡ None
   pub came : (e.outcome ≡ outcome.Stepped → ⊥) → came_to (with_guest ps p e.before) p ≡ e.outcome
   pub after : (e.outcome ≡ outcome.Stepped → ⊥) → after_execution (with_guest ps p e.before) p ≡ with_guest ps p e.after
 
-none_quiet : (ps : Wholes) (p : ℕ) (guest : Guest) (run : Progress) → IsAt ps p guest → GoesOn ps run (with_guest ps p guest) (run_took 0 p run)
-none_quiet ps p guest run at =
+none_quiet : (breaks : Breaks) (ps : Wholes) (p : ℕ) (guest : Guest) (run : Progress) → IsAt ps p guest → GoesOn breaks ps run (with_guest ps p guest) (run_took 0 p run)
+none_quiet breaks ps p guest run at =
     let none = took_none p run in (
-      sym (ap (λ (q : Wholes). ran_text (ran_from q (run_took 0 p run))) at.same ∙ ap (λ r. ran_text (ran_from ps r)) none),
-      sym (ap (λ (q : Wholes). (ran_from q (run_took 0 p run)).after) at.same ∙ ap (λ r. (ran_from ps r).after) none),
+      sym (ap (λ (q : Wholes). ran_text (ran_from breaks q (run_took 0 p run))) at.same ∙ ap (λ r. ran_text (ran_from breaks ps r)) none),
+      sym (ap (λ (q : Wholes). (ran_from breaks q (run_took 0 p run)).after) at.same ∙ ap (λ r. (ran_from breaks ps r).after) none),
     )
 
 -- no execution
-none_done : (ps : Wholes) (p : ℕ) (guest : Guest) (run : Progress) → IsAt ps p guest → IsStretch ps p 0 run (no_execution guest)
-none_done ps p guest run at = record {
-  quiet = none_quiet ps p guest run at;
+none_done : (breaks : Breaks) (ps : Wholes) (p : ℕ) (guest : Guest) (run : Progress) → IsAt ps p guest → IsStretch breaks ps p 0 run (no_execution guest)
+none_done breaks ps p guest run at = record {
+  quiet = none_quiet breaks ps p guest run at;
   fits = omega arith;
-  all = λ is. (refl, refl);
+  all = λ is. refl;
+  some = λ is more. more;
   fewer = λ other. absurd (other refl);
   runs = λ other. absurd (other refl);
   next = λ other. absurd (other refl);
+  unbroken = λ other. absurd (other refl);
   came = λ other. absurd (other refl);
   after = λ other. absurd (other refl);
 }
 
 -- an execution that is no step
-last_done : (ps : Wholes) (p most : ℕ) (guest : Guest) (run : Progress) (o : Outcome) → IsAt ps p guest → runs guest.process.state ≡ true
-    → next_of ps run.order ≡ Some p → outcome_of p guest ≡ o → (o ≡ outcome.Stepped → ⊥)
-    → IsStretch ps p (most + 1) run (last_execution o guest (executed p guest))
-last_done ps p most guest run o at running next is other =
+last_done : (breaks : Breaks) (ps : Wholes) (p most : ℕ) (guest : Guest) (run : Progress) (o : Outcome) → IsAt ps p guest → runs guest.process.state ≡ true
+    → next_of ps run.order ≡ Some p → last_break breaks ps run ≡ None → outcome_of p guest ≡ o → (o ≡ outcome.Stepped → ⊥)
+    → IsStretch breaks ps p (most + 1) run (last_execution o guest (executed p guest))
+last_done breaks ps p most guest run o at running next unbroken is other =
     record {
-      quiet = none_quiet ps p guest run at;
+      quiet = none_quiet breaks ps p guest run at;
       fits = omega arith;
       all = λ steps. absurd (other steps);
+      some = λ steps. absurd (other steps);
       fewer = λ _. omega arith;
       runs = λ _. ap (λ (q : Wholes). is_running q p) at.same ∙ is_there ps p guest at running;
       next = λ _. ap (λ (q : Wholes). next_of q (run_took 0 p run).order) at.same ∙ ap (λ (r : Progress). next_of ps r.order) (took_none p run) ∙ next;
+      unbroken = λ _. ap (λ (q : Wholes). last_break breaks q (run_took 0 p run)) at.same ∙ ap (last_break breaks ps) (took_none p run) ∙ unbroken;
       came = λ _. ap (λ (q : Wholes). came_to q p) at.same ∙ came_there ps p guest at ∙ is;
       after = λ _. ap (λ (q : Wholes). after_execution q p) at.same ∙ executed_there ps p guest at;
     }
 
 -- a step, and then the others
-first_done : (ps : Wholes) (p most : ℕ) (guest : Guest) (run : Progress) (e : Executions) → IsAt ps p guest → runs guest.process.state ≡ true
-    → next_of ps run.order ≡ Some p → run.taken < run.turns → outcome_of p guest ≡ outcome.Stepped
-    → IsStretch (with_guest ps p (executed p guest)) p most (run_after p run) e
-    → IsStretch ps p (most + 1) run (record { steps = e.steps + 1; before = e.before; outcome = e.outcome; after = e.after })
-first_done ps p most guest run e at running next below is rest =
+first_done : (breaks : Breaks) (ps : Wholes) (p most : ℕ) (guest : Guest) (run : Progress) (e : Executions) → IsAt ps p guest → runs guest.process.state ≡ true
+    → next_of ps run.order ≡ Some p → last_break breaks ps run ≡ None → run.taken < run.turns → outcome_of p guest ≡ outcome.Stepped
+    → IsStretch breaks (with_guest ps p (executed p guest)) p most (run_after p run) e → IsStretch breaks ps p (most + 1) run (more_executions e)
+first_done breaks ps p most guest run e at running next unbroken below is rest =
     let law = turn_law outcome.Stepped ps p (is_there ps p guest at running) (came_there ps p guest at ∙ is) in
     let turned : with_guest ps p (executed p guest) ≡ after_turn ps p = sym (executed_there ps p guest at) ∙ sym law.after_is in
     let silent = ap (turn_text p) law.turn_is in
@@ -183,51 +202,84 @@ first_done ps p most guest run e at running next below is rest =
     let took = sym (took_first e.steps p run) in
     record {
       quiet = (
-        ran_quiet ps (with_guest ps p (executed p guest)) run p below next counted silent turned ∙ rest.quiet.0
-            ∙ ap (λ (q : Wholes). ran_text (ran_from q (run_took e.steps p (run_after p run)))) over
-            ∙ ap (λ r. ran_text (ran_from (with_guest ps p e.before) r)) took,
-        ran_after ps (with_guest ps p (executed p guest)) run p below next counted turned ∙ rest.quiet.1
-            ∙ ap (λ (q : Wholes). (ran_from q (run_took e.steps p (run_after p run))).after) over
-            ∙ ap (λ r. (ran_from (with_guest ps p e.before) r).after) took,
+        ran_quiet breaks ps (with_guest ps p (executed p guest)) run p unbroken below next counted silent turned ∙ rest.quiet.0
+            ∙ ap (λ (q : Wholes). ran_text (ran_from breaks q (run_took e.steps p (run_after p run)))) over
+            ∙ ap (λ r. ran_text (ran_from breaks (with_guest ps p e.before) r)) took,
+        ran_after breaks ps (with_guest ps p (executed p guest)) run p unbroken below next counted turned ∙ rest.quiet.1
+            ∙ ap (λ (q : Wholes). (ran_from breaks q (run_took e.steps p (run_after p run))).after) over
+            ∙ ap (λ r. (ran_from breaks (with_guest ps p e.before) r).after) took,
       );
       fits = omega (arith, rest.fits);
-      all = λ steps. (omega (arith, (rest.all steps).0), (rest.all steps).1);
+      all = rest.all;
+      some = λ steps more. omega arith;
       fewer = λ other. omega (arith, rest.fewer other);
       runs = λ other. sym (ap (λ (q : Wholes). is_running q p) over) ∙ rest.runs other;
       next = λ other. ap (λ (r : Progress). next_of (with_guest ps p e.before) r.order) (sym took)
           ∙ sym (ap (λ (q : Wholes). next_of q (run_took e.steps p (run_after p run)).order) over) ∙ rest.next other;
+      unbroken = λ other. ap (last_break breaks (with_guest ps p e.before)) (sym took)
+          ∙ sym (ap (λ (q : Wholes). last_break breaks q (run_took e.steps p (run_after p run))) over) ∙ rest.unbroken other;
       came = λ other. sym (ap (λ (q : Wholes). came_to q p) over) ∙ rest.came other;
       after = λ other. sym (ap (λ (q : Wholes). after_execution q p) over) ∙ rest.after other ∙ put_over ps p (executed p guest) e.after;
     }
 
-by_outcome : (o : Outcome) (ps : Wholes) (p most : ℕ) (guest : Guest) (run : Progress) → IsAt ps p guest → runs guest.process.state ≡ true
-    → next_of ps run.order ≡ Some p → run.taken < run.turns → outcome_of p guest ≡ o
-    → (o ≡ outcome.Stepped → IsStretch (with_guest ps p (executed p guest)) p most (run_after p run) (executions p most (executed p guest)))
-    → IsStretch ps p (most + 1) run (first_execution o guest (executed p guest) (executions p most (executed p guest)))
-by_outcome outcome.Stepped ps p most guest run at running next below is rest =
-    first_done ps p most guest run (executions p most (executed p guest)) at running next below is (rest refl)
-by_outcome outcome.Asked ps p most guest run at running next below is rest =
-    last_done ps p most guest run outcome.Asked at running next is (λ same. cc)
-by_outcome (outcome.Fault kind address) ps p most guest run at running next below is rest =
-    last_done ps p most guest run (outcome.Fault kind address) at running next is (λ same. cc)
-by_outcome (outcome.Full units limit) ps p most guest run at running next below is rest =
-    last_done ps p most guest run (outcome.Full units limit) at running next is (λ same. cc)
+-- a step that reaches a breakpoint, of as many as there may be
+stop_done : (breaks : Breaks) (ps : Wholes) (p most : ℕ) (run : Progress) (next : Guest) → IsStretch breaks ps p 1 run (stopped_execution next)
+    → IsStretch breaks ps p (most + 1) run (stopped_execution next)
+stop_done breaks ps p most run next one = record {
+  quiet = one.quiet;
+  fits = omega arith;
+  all = one.all;
+  some = λ steps more. omega arith;
+  fewer = λ other. absurd (other refl);
+  runs = one.runs;
+  next = one.next;
+  unbroken = one.unbroken;
+  came = one.came;
+  after = one.after;
+}
 
-pub is_stretch : (most : ℕ) (ps : Wholes) (p : ℕ) (guest : Guest) (run : Progress) → IsAt ps p guest → runs guest.process.state ≡ true
-    → (0 < most → next_of ps run.order ≡ Some p) → most ≤ stretch p run → IsStretch ps p most run (executions p most guest)
-is_stretch zero ps p guest run at running next left = none_done ps p guest run at
-is_stretch (suc most) ps p guest run at running next left =
+module _ (breaks : Breaks) (ps : Wholes) (p most : ℕ) (guest : Guest) (run : Progress) (at : IsAt ps p guest) (running : runs guest.process.state ≡ true)
+    (next : next_of ps run.order ≡ Some p) (unbroken : last_break breaks ps run ≡ None) (below : run.taken < run.turns) (others : Executions) where
+  abbrev after_one : Wholes
+  after_one = with_guest ps p (executed p guest)
+
+  by_stop : (t : Bool) → is_at_stop (addresses_of breaks p) (executed p guest) ≡ t → outcome_of p guest ≡ outcome.Stepped
+      → (last_break breaks after_one (run_after p run) ≡ None → IsStretch breaks after_one p most (run_after p run) others)
+      → IsStretch breaks ps p (most + 1) run (cond t (stopped_execution (executed p guest)) (more_executions others))
+  by_stop true stop is rest =
+      stop_done breaks ps p most run (executed p guest)
+      (first_done breaks ps p 0 guest run (no_execution (executed p guest)) at running next unbroken below is
+      (none_done breaks after_one p (executed p guest) (run_after p run) (put_at ps p (executed p guest))))
+  by_stop false stop is rest =
+      first_done breaks ps p most guest run others at running next unbroken below is (rest (unbroken_after breaks ps p (executed p guest) run stop))
+
+  by_outcome : (o : Outcome) → outcome_of p guest ≡ o
+      → (o ≡ outcome.Stepped → last_break breaks after_one (run_after p run) ≡ None → IsStretch breaks after_one p most (run_after p run) others)
+      → IsStretch breaks ps p (most + 1) run (first_execution (addresses_of breaks p) o guest (executed p guest) others)
+  by_outcome outcome.Stepped is rest = by_stop (is_at_stop (addresses_of breaks p) (executed p guest)) refl is (rest refl)
+  by_outcome outcome.Asked is rest = last_done breaks ps p most guest run outcome.Asked at running next unbroken is (λ same. cc)
+  by_outcome (outcome.Fault kind address) is rest = last_done breaks ps p most guest run (outcome.Fault kind address) at running next unbroken is (λ same. cc)
+  by_outcome (outcome.Full units limit) is rest = last_done breaks ps p most guest run (outcome.Full units limit) at running next unbroken is (λ same. cc)
+
+pub is_stretch : (breaks : Breaks) (most : ℕ) (ps : Wholes) (p : ℕ) (guest : Guest) (run : Progress) → IsAt ps p guest → runs guest.process.state ≡ true
+    → (0 < most → next_of ps run.order ≡ Some p) → last_break breaks ps run ≡ None → most ≤ stretch p run
+    → IsStretch breaks ps p most run (executions (addresses_of breaks p) p most guest)
+is_stretch breaks zero ps p guest run at running next unbroken left = none_done breaks ps p guest run at
+is_stretch breaks (suc most) ps p guest run at running next unbroken left =
     let more : most + 1 ≡ suc most = omega arith in
     let enough : most + 1 ≤ stretch p run = omega (arith, left) in
     let first : next_of ps run.order ≡ Some p = next (omega arith) in
     let after = with_guest ps p (executed p guest) in
     let now = put_at ps p (executed p guest) in
-    ap_stretch more (by_outcome (outcome_of p guest) ps p most guest run at running first (some_left p run.order run.turns run.taken (omega (arith, left))) refl
-    (λ steps.
+    ap_stretch more
+    (by_outcome breaks ps p most guest run at running first unbroken (some_left p run.order run.turns run.taken (omega (arith, left)))
+    (executions (addresses_of breaks p) p most (executed p guest)) (outcome_of p guest) refl
+    (λ steps goes_on.
     let goes = still_runs p guest steps in
-    is_stretch most after p (executed p guest) (run_after p run) now goes
+    is_stretch breaks most after p (executed p guest) (run_after p run) now goes
     (λ some. next_by p run.order run.turns run.taken ps after first (omega (arith, left, some)) (is_there after p (executed p guest) now goes))
-    (left_goes most p run enough)))
+    goes_on (left_goes most p run enough)))
   where
-    ap_stretch : most + 1 ≡ suc most → IsStretch ps p (most + 1) run (executions p (suc most) guest) → IsStretch ps p (suc most) run (executions p (suc most) guest)
-    ap_stretch same h = subst (λ n. IsStretch ps p n run (executions p (suc most) guest)) same h
+    ap_stretch : most + 1 ≡ suc most → IsStretch breaks ps p (most + 1) run (executions (addresses_of breaks p) p (suc most) guest)
+        → IsStretch breaks ps p (suc most) run (executions (addresses_of breaks p) p (suc most) guest)
+    ap_stretch same h = subst (λ n. IsStretch breaks ps p n run (executions (addresses_of breaks p) p (suc most) guest)) same h

@@ -1,5 +1,6 @@
 use Rattle.std.proofs.Common.{◌≡◌, ℕ, ◌+◌, ◌-◌, ◌<◌, ◌≤◌, true, false, List, ◌++◌, sym, ap, ◌∙◌, refl, arith, Option, Some, None}
 use Rattle.std.specs.FinMap.{get}
+use Rattle.breakpoints.specs.Breakpoints.{Addresses, Breaks, addresses_of}
 use Rattle.std.specs.Option.{option_map_or}
 use Rattle.ovl_io.specs.declared.turn.Turn.TheVariants as turn
 use Rattle.rv_execute.specs.declared.outcome.Outcome.{Outcome}
@@ -13,7 +14,7 @@ use Rattle.report_text.specs.declared.answer.Stop.TheVariants.{Full}
 use Rattle.report_text.specs.Answers.{turn_text}
 use Rattle.command_core.specs.declared.turns.Order.{Order}
 use Rattle.command_core.specs.declared.turns.Order.TheVariants.{ByTurns, Alone}
-use Rattle.command_core.specs.Turns.{GoesOn, Progress, Ran, next_of, order_left, ran_from, ran_text, run_took, stopped, stretch}
+use Rattle.command_core.specs.Turns.{GoesOn, Progress, Ran, last_break, next_of, order_left, ran_from, ran_text, run_took, stopped, stretch}
 use Rattle.command_core.proofs.Rans.{is_counted, ran_after, ran_full, ran_says, text_first}
 use Rattle.command_core.proofs.Stretches.{IsAt, IsStretch, is_at, is_stretch, took_last}
 
@@ -32,16 +33,20 @@ within_by p (ByTurns rounds) turns taken = omega arith
 within_by p (Alone q) turns taken = omega arith
 
 -- The last turn of a stretch, where its execution is no step: the state before it, and the run.
-pub record IsLastTurn (ps : Wholes) (p steps : ℕ) (run : Progress) (o : Outcome) (now : Wholes) : Type 0 where
+pub record IsLastTurn (breaks : Breaks) (ps : Wholes) (p steps : ℕ) (run : Progress) (o : Outcome) (now : Wholes) : Type 0 where
   pub before : Wholes
-  pub quiet : GoesOn ps run before (run_took steps p run)
+  pub quiet : GoesOn breaks ps run before (run_took steps p run)
+  pub unbroken : last_break breaks before (run_took steps p run) ≡ None
   pub below : run.taken + steps < run.turns
   pub next : next_of before (run_took steps p run).order ≡ Some p
   pub law : IsTurnOf before p o
   pub executed : now ≡ after_execution before p
 
-module _ (ps : Wholes) (p most steps : ℕ) (run : Progress) (running : is_running ps p ≡ true) (next : next_of ps run.order ≡ Some p) (is : most ≡ stretch p run)
-    (counted : steps ≡ steps_to most ps p) where
+module _ (breaks : Breaks) (ps : Wholes) (p most steps : ℕ) (run : Progress) (running : is_running ps p ≡ true) (next : next_of ps run.order ≡ Some p)
+    (unbroken : last_break breaks ps run ≡ None) (is : most ≡ stretch p run) (counted : steps ≡ steps_to (addresses_of breaks p) most ps p) where
+  abbrev stops : Addresses
+  stops = addresses_of breaks p
+
   abbrev process : Process
   process = (there_is ps p running).0
 
@@ -54,77 +59,78 @@ module _ (ps : Wholes) (p most steps : ℕ) (run : Progress) (running : is_runni
   at : IsAt ps p guest
   at = is_at ps p process at_p
 
-  whole : IsStretch ps p most run (executions p most guest)
-  whole = is_stretch most ps p guest run at (there_is ps p running).2 (λ some. next) (omega (arith, is))
+  whole : IsStretch breaks ps p most run (executions stops p most guest)
+  whole = is_stretch breaks most ps p guest run at (there_is ps p running).2 (λ some. next) unbroken (omega (arith, is))
 
-  steps_are : steps ≡ (executions p most guest).steps
-  steps_are = counted ∙ ap (steps_of p most) at.there
+  steps_are : steps ≡ (executions stops p most guest).steps
+  steps_are = counted ∙ ap (steps_of stops p most) at.there
 
-  outcome_is : came_to_last most ps p ≡ (executions p most guest).outcome
-  outcome_is = ap (last_outcome p most) at.there
+  outcome_is : came_to_last stops most ps p ≡ (executions stops p most guest).outcome
+  outcome_is = ap (last_outcome stops p most) at.there
 
-  after_is : after_executions most ps p ≡ with_guest ps p (executions p most guest).after
-  after_is = ap (λ (o : Option Guest). option_map_or (λ g. with_guest ps p (all_executed p most g)) o ps) at.there
+  after_is : after_executions stops most ps p ≡ with_guest ps p (executions stops p most guest).after
+  after_is = ap (λ (o : Option Guest). option_map_or (λ g. with_guest ps p (all_executed stops p most g)) o ps) at.there
 
-  all_steps : outcome.Stepped ≡ came_to_last most ps p → (executions p most guest).outcome ≡ outcome.Stepped
+  all_steps : outcome.Stepped ≡ came_to_last stops most ps p → (executions stops p most guest).outcome ≡ outcome.Stepped
   all_steps came = sym (came ∙ outcome_is)
 
-  pub all_taken : outcome.Stepped ≡ came_to_last most ps p → steps ≡ most
-  all_taken came = steps_are ∙ (whole.all (all_steps came)).0
+  pub all_taken : outcome.Stepped ≡ came_to_last stops most ps p → (steps ≤ most) × (0 < most → 0 < steps)
+  all_taken came = (omega (arith, steps_are, whole.fits), λ more. omega (arith, steps_are, whole.some (all_steps came) more))
 
-  pub goes_on : (now : Wholes) (after : Progress) → outcome.Stepped ≡ came_to_last most ps p → now ≡ after_executions most ps p
-      → after ≡ run_took steps p run → GoesOn ps run now after
+  pub goes_on : (now : Wholes) (after : Progress) → outcome.Stepped ≡ came_to_last stops most ps p → now ≡ after_executions stops most ps p
+      → after ≡ run_took steps p run → GoesOn breaks ps run now after
   goes_on now after came moved took =
-      let here = sym (moved ∙ after_is ∙ ap (with_guest ps p) (sym (whole.all (all_steps came)).1)) in
+      let here = sym (moved ∙ after_is ∙ ap (with_guest ps p) (sym (whole.all (all_steps came)))) in
       let run_is = sym (took ∙ ap (λ n. run_took n p run) steps_are) in (
-        whole.quiet.0 ∙ ap (λ (q : Wholes). ran_text (ran_from q (run_took (executions p most guest).steps p run))) here ∙ ap (λ r. ran_text (ran_from now r)) run_is,
-        whole.quiet.1 ∙ ap (λ (q : Wholes). (ran_from q (run_took (executions p most guest).steps p run)).after) here ∙ ap (λ r. (ran_from now r).after) run_is,
+        whole.quiet.0 ∙ ap (λ (q : Wholes). ran_text (ran_from breaks q (run_took (executions stops p most guest).steps p run))) here ∙ ap (λ r. ran_text (ran_from breaks now r)) run_is,
+        whole.quiet.1 ∙ ap (λ (q : Wholes). (ran_from breaks q (run_took (executions stops p most guest).steps p run)).after) here ∙ ap (λ r. (ran_from breaks now r).after) run_is,
       )
 
-  not_steps : (o : Outcome) → o ≡ came_to_last most ps p → (o ≡ outcome.Stepped → ⊥) → (executions p most guest).outcome ≡ outcome.Stepped → ⊥
+  not_steps : (o : Outcome) → o ≡ came_to_last stops most ps p → (o ≡ outcome.Stepped → ⊥) → (executions stops p most guest).outcome ≡ outcome.Stepped → ⊥
   not_steps o came other steps = other (came ∙ outcome_is ∙ steps)
 
-  pub one_more : (o : Outcome) → o ≡ came_to_last most ps p → (o ≡ outcome.Stepped → ⊥) → steps + 1 ≤ most
+  pub one_more : (o : Outcome) → o ≡ came_to_last stops most ps p → (o ≡ outcome.Stepped → ⊥) → steps + 1 ≤ most
   one_more o came other = omega (arith, steps_are, whole.fewer (not_steps o came other))
 
-  pub last_turn : (o : Outcome) (now : Wholes) → o ≡ came_to_last most ps p → (o ≡ outcome.Stepped → ⊥) → now ≡ after_executions most ps p
-      → IsLastTurn ps p steps run o now
+  pub last_turn : (o : Outcome) (now : Wholes) → o ≡ came_to_last stops most ps p → (o ≡ outcome.Stepped → ⊥) → now ≡ after_executions stops most ps p
+      → IsLastTurn breaks ps p steps run o now
   last_turn o now came other moved =
       let no = not_steps o came other in
-      let before = with_guest ps p (executions p most guest).before in
+      let before = with_guest ps p (executions stops p most guest).before in
       let same = ap (λ n. run_took n p run) (sym steps_are) in
       record {
         before = before;
         quiet = (
-          whole.quiet.0 ∙ ap (λ r. ran_text (ran_from before r)) same,
-          whole.quiet.1 ∙ ap (λ r. (ran_from before r).after) same,
+          whole.quiet.0 ∙ ap (λ r. ran_text (ran_from breaks before r)) same,
+          whole.quiet.1 ∙ ap (λ r. (ran_from breaks before r).after) same,
         );
         below = omega (arith, one_more o came other, is, within_by p run.order run.turns run.taken);
         next = ap (λ (r : Progress). next_of before r.order) (sym same) ∙ whole.next no;
+        unbroken = ap (last_break breaks before) (sym same) ∙ whole.unbroken no;
         law = turn_law o before p (whole.runs no) (whole.came no ∙ sym outcome_is ∙ sym came);
         executed = moved ∙ after_is ∙ sym (whole.after no);
       }
 
 -- its line, and what follows it
-pub says_last : (ps : Wholes) (p steps : ℕ) (run : Progress) (o : Outcome) (now new : Wholes) (line : List ℕ) (after : Progress)
-    → (t : IsLastTurn ps p steps run o now) → is_counted (turn_of t.before p) ≡ true → line ≡ turn_text p (turn_of t.before p) → new ≡ after_turn t.before p
+pub says_last : (breaks : Breaks) (ps : Wholes) (p steps : ℕ) (run : Progress) (o : Outcome) (now new : Wholes) (line : List ℕ) (after : Progress)
+    → (t : IsLastTurn breaks ps p steps run o now) → is_counted (turn_of t.before p) ≡ true → line ≡ turn_text p (turn_of t.before p) → new ≡ after_turn t.before p
     → after ≡ run_took (steps + 1) p run
-    → (ran_text (ran_from ps run) ≡ line ++ ran_text (ran_from new after)) × ((ran_from ps run).after ≡ (ran_from new after).after)
-says_last ps p steps run o now new line after t counted says turned took =
+    → (ran_text (ran_from breaks ps run) ≡ line ++ ran_text (ran_from breaks new after)) × ((ran_from breaks ps run).after ≡ (ran_from breaks new after).after)
+says_last breaks ps p steps run o now new line after t counted says turned took =
     let r = run_took steps p run in
     let same = sym (took ∙ took_last steps p run) in (
-      t.quiet.0 ∙ ran_says t.before new r p line t.below t.next counted says turned ∙ ap (λ q. line ++ ran_text (ran_from new q)) same,
-      t.quiet.1 ∙ ran_after t.before new r p t.below t.next counted turned ∙ ap (λ q. (ran_from new q).after) same,
+      t.quiet.0 ∙ ran_says breaks t.before new r p line t.unbroken t.below t.next counted says turned ∙ ap (λ q. line ++ ran_text (ran_from breaks new q)) same,
+      t.quiet.1 ∙ ran_after breaks t.before new r p t.unbroken t.below t.next counted turned ∙ ap (λ q. (ran_from breaks new q).after) same,
     )
 
 -- a last turn for which there weren't units enough: its line, and then the run has ended
-pub says_full : (ps : Wholes) (p steps : ℕ) (run : Progress) (units limit : ℕ) (now : Wholes) (line : List ℕ) (after : Progress)
-    → (t : IsLastTurn ps p steps run (outcome.Full units limit) now) → line ≡ turn_text p (turn.Full units limit) → after ≡ run_took steps p run
-    → (ran_text (ran_from ps run) ≡ line ++ ran_text (stopped Full now after)) × ((ran_from ps run).after ≡ now)
-says_full ps p steps run units limit now line after t says took =
+pub says_full : (breaks : Breaks) (ps : Wholes) (p steps : ℕ) (run : Progress) (units limit : ℕ) (now : Wholes) (line : List ℕ) (after : Progress)
+    → (t : IsLastTurn breaks ps p steps run (outcome.Full units limit) now) → line ≡ turn_text p (turn.Full units limit) → after ≡ run_took steps p run
+    → (ran_text (ran_from breaks ps run) ≡ line ++ ran_text (stopped Full now after)) × ((ran_from breaks ps run).after ≡ now)
+says_full breaks ps p steps run units limit now line after t says took =
     let r = run_took steps p run in
     let same : t.before ≡ now = sym (t.executed ∙ t.law.kept) in
-    let all = ran_full t.before r p units limit t.below t.next t.law.turn_is in (
+    let all = ran_full breaks t.before r p units limit t.unbroken t.below t.next t.law.turn_is in (
       t.quiet.0 ∙ ap ran_text all ∙ text_first p (turn.Full units limit) (stopped Full t.before r)
           ∙ ap (λ bs. bs ++ ran_text (stopped Full t.before r)) (sym says)
           ∙ ap (λ (x : Progress). line ++ ran_text (stopped Full t.before x)) (sym took) ∙ ap (λ (w : Wholes). line ++ ran_text (stopped Full w after)) same,

@@ -20,6 +20,7 @@ use Rattle.command_core.specs.Rows.{Row, TakesFirst, plain_row, refused_row, sti
 use Rattle.command_core.specs.Refusals.{by_numbers_used}
 use Rattle.command_core.specs.Copies.{draws, fork_row}
 use Rattle.command_core.specs.Overlays.{overlay_row}
+use Rattle.command_core.specs.Debugging.{break_row, poke_row, unbreak_row}
 use Rattle.command_core.specs.Checkpoints.{checkpoint_row, forget_row, on_checkpoint, restore_row}
 
 -- The changes that commands make.
@@ -39,11 +40,16 @@ load_row file registry = record {
   after = draws (loaded_process file) registry;
 }
 
--- `drop`: the process goes, and its pages
+-- `drop`: the process goes, with its pages and its breakpoints
 abbrev pub drop_row : ℕ → Process → Registry → Row
 drop_row p process registry =
     plain_row false [] (event.Drop p)
-    (record { processes = remove registry.processes p; checkpoints = registry.checkpoints; drawn = registry.drawn })
+    (record {
+      processes = remove registry.processes p;
+      checkpoints = registry.checkpoints;
+      breakpoints = remove registry.breakpoints p;
+      drawn = registry.drawn;
+    })
 
 -- The changes, a row each, with the file that a command asks for. Compaction moves segments, which no state shows. A command that isn't there changes nothing.
 abbrev pub change_row : List ℕ → Command → Registry → Row
@@ -61,7 +67,10 @@ change_row file command.Compact = still_row
 change_row file (command.Map p address n perms) = on_process p (overlay_row p (Map address n perms))
 change_row file (command.Unmap p address n) = on_process p (overlay_row p (Unmap address n))
 change_row file (command.Drop p) = on_process p (drop_row p)
+change_row file (command.Poke p address bytes) = on_process p (poke_row p address bytes)
 change_row file (command.Set p register value) = on_process p (overlay_row p (Set register value))
+change_row file (command.Break p address) = on_process p (break_row p address)
+change_row file (command.Unbreak p address) = on_process p (unbreak_row p address)
 change_row file other = still_row
 
 -- what is answered where a machine doesn't load a file, or doesn't copy a space

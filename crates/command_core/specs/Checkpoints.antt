@@ -35,6 +35,7 @@ abbrev pub saves : List ℕ → Process → Registry → Registry
 saves name process registry = record {
   processes = registry.processes;
   checkpoints = registry.checkpoints ++ record { name = name; space = registry.drawn + 1; whole = whole_of process } ∷ [];
+  breakpoints = registry.breakpoints;
   drawn = registry.drawn + 1;
 }
 
@@ -85,7 +86,12 @@ on_checkpoint name row registry = option_map_or (λ x. row x registry) (checkpoi
 abbrev pub forget_row : List ℕ → Checkpoint → Registry → Row
 forget_row name x registry =
     plain_row false [] (event.Drop x.space)
-    (record { processes = registry.processes; checkpoints = checkpoints_but name registry.checkpoints; drawn = registry.drawn })
+    (record {
+      processes = registry.processes;
+      checkpoints = checkpoints_but name registry.checkpoints;
+      breakpoints = registry.breakpoints;
+      drawn = registry.drawn;
+    })
 
 -- What a checkpoint makes of a machine.
 

@@ -1,6 +1,8 @@
 use Rattle.std.specs.Prelude.{ℕ, List, Option, refl}
 use Rattle.std.specs.Coded.{Coded, code_by, coded×, coded_ℕ, coded_list, coded_option}
 use Rattle.std.specs.FinMap.{code}
+use Rattle.std.specs.FinSet.{code as set_code}
+use Rattle.breakpoints.specs.Breakpoints.{Breaks}
 use Rattle.ovl_io.specs.Memory.{Memory}
 use Rattle.ovl_io.specs.declared.process_state.ProcessState.{ProcessState}
 use Rattle.ovl_io.specs.contracts.process_state.ProcessState as state
@@ -48,10 +50,14 @@ checkpoint_code =
     code_by (List ℕ × (ℕ × Whole)) (coded× (coded_list coded_ℕ) (coded× coded_ℕ whole_code)) (λ c. (c.name, (c.space, c.whole)))
     (λ t. record { name = t.0; space = t.1.0; whole = t.1.1 }) (λ _. refl)
 
+abbrev pub breaks_code : Coded Breaks
+breaks_code = code coded_ℕ (set_code coded_ℕ)
+
 abbrev pub state_code : Coded State
 state_code =
-    code_by (Wholes × (List Checkpoint × ℕ)) (coded× wholes_code (coded× (coded_list checkpoint_code) coded_ℕ)) (λ s. (s.wholes, (s.checkpoints, s.drawn)))
-    (λ t. record { wholes = t.0; checkpoints = t.1.0; drawn = t.1.1 }) (λ _. refl)
+    code_by (Wholes × (List Checkpoint × (Breaks × ℕ))) (coded× wholes_code (coded× (coded_list checkpoint_code) (coded× breaks_code coded_ℕ)))
+    (λ s. (s.wholes, (s.checkpoints, (s.breakpoints, s.drawn))))
+    (λ t. record { wholes = t.0; checkpoints = t.1.0; breakpoints = t.1.1.0; drawn = t.1.1.1 }) (λ _. refl)
 
 abbrev pub session_code : Coded InSession
 session_code = code_by (State × ℕ) (coded× state_code coded_ℕ) (λ s. (s.state, s.quantum)) (λ t. record { state = t.0; quantum = t.1 }) (λ _. refl)

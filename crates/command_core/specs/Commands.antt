@@ -1,6 +1,8 @@
-use Rattle.std.specs.Prelude.{◌≡◌, ℕ, zero, suc, ◌+◌, ◌==◌, nat_lt, ◌||◌, Bool, true, false, List, [], ◌++◌, length, flat_map, Option, Some, None, if◌then◌else◌}
+use Rattle.std.specs.Prelude.{◌≡◌, ℕ, zero, suc, ◌+◌, ◌-◌, ◌*◌, ◌/◌, ◌==◌, min, nat_lt, ◌||◌, Bool, true, false, List, [], ◌++◌, length, flat_map, Option, Some, None, if◌then◌else◌}
 use Rattle.std.specs.FinMap.{entries, get, len}
 use Rattle.sizes.specs.declared.TheConstants.{MOST_FILE_BYTES}
+use Rattle.ovl_io.specs.Memory.{Memory, bytes_at, first_denied}
+use Rattle.rv_execute.specs.Calls.{word_at}
 use Rattle.rv_execute.specs.Registers.{Registers, register}
 use Rattle.machine_core.specs.Process.{Process, is_speculating, runs}
 use Rattle.script_text.specs.declared.command.Command.{Command}
@@ -8,9 +10,11 @@ use Rattle.script_text.specs.declared.command.Command.TheVariants.{Exec, Load, R
 use Rattle.script_text.specs.declared.command.Command.TheVariants as command
 use Rattle.report_text.specs.declared.answer.Answer.{Answer}
 use Rattle.report_text.specs.declared.answer.Answer.TheVariants.{Loaded}
-use Rattle.report_text.specs.declared.answer.Code.TheVariants.{NoProcess, Ended}
+use Rattle.report_text.specs.declared.answer.Code.TheVariants.{NoProcess, Ended, Unmapped}
+use Rattle.report_text.specs.declared.TheConstants.{ROW_BYTES}
 use Rattle.report_text.specs.Answers.{answer_text}
-use Rattle.report_text.specs.Lines.{checkpoint_line, list_line, process_line, register_line, regs_line, stats_line}
+use Rattle.report_text.specs.Lines.{checkpoint_line, disasm_line, dump_line, list_line, process_line, register_line, regs_line, stats_line}
+use Rattle.command_core.specs.declared.TheConstants.{WORD_BYTES}
 use Rattle.command_core.specs.declared.session.Counts.{Counts}
 use Rattle.command_core.specs.State.{Checkpoint, State, registry_of, with_wholes}
 use Rattle.command_core.specs.Sessions.{InSession}
@@ -77,16 +81,16 @@ change_told file command state = row_told (change_row file command (registry_of 
 -- turns, with their lines
 abbrev pub takes_turns : Progress → State → Performed
 takes_turns run state = record {
-  text = ran_text (ran_from state.wholes run);
-  after = with_wholes (ran_from state.wholes run).after state;
+  text = ran_text (ran_from state.breakpoints state.wholes run);
+  after = with_wholes (ran_from state.breakpoints state.wholes run).after state;
   wants_memory = false;
 }
 
 -- those that are left of a run in progress
 abbrev pub takes_left : InRun → State → Performed
 takes_left running state = record {
-  text = ran_text (left_of state.wholes running);
-  after = with_wholes (left_of state.wholes running).after state;
+  text = ran_text (left_of state.breakpoints state.wholes running);
+  after = with_wholes (left_of state.breakpoints state.wholes running).after state;
   wants_memory = false;
 }
 
@@ -182,6 +186,42 @@ regs_of p (Some process) state = record { text = regs_text p process; after = st
 abbrev pub regs_done : ℕ → State → Performed
 regs_done p state = regs_of p (get state.wholes.processes p) state
 
+-- the lines of bytes of a memory from an address on, up to 16 a line; and those of words, as instructions
+abbrev pub dump_row : Memory → ℕ → ℕ → List ℕ
+dump_row memory address count = dump_line address (bytes_at memory address (min ROW_BYTES count))
+
+unfoldable pub dump_from : ℕ → Memory → ℕ → ℕ → List ℕ
+dump_from zero memory address count = []
+dump_from (suc rows) memory address count =
+    dump_row memory address count ++ dump_from rows memory (address + ROW_BYTES) (count - ROW_BYTES)
+
+abbrev pub dump_text : Memory → ℕ → ℕ → List ℕ
+dump_text memory address count = dump_from ((count + (ROW_BYTES - 1)) / ROW_BYTES) memory address count
+
+abbrev pub disasm_row : Memory → ℕ → List ℕ
+disasm_row memory address = disasm_line address (word_at memory address)
+
+unfoldable pub disasm_text : Memory → ℕ → ℕ → List ℕ
+disasm_text memory address zero = []
+disasm_text memory address (suc words) = disasm_row memory address ++ disasm_text memory (address + WORD_BYTES) words
+
+-- what is printed of n bytes of a process from an address on: it has to be there, and so does each byte, whatever the permissions
+abbrev pub prints_read : (Memory → List ℕ) → Memory → Option ℕ → State → Performed
+prints_read text memory None state = record { text = text memory; after = state; wants_memory = false }
+prints_read text memory (Some at) state = told false (refuses (Unmapped at) state)
+
+abbrev pub prints_of : ℕ → ℕ → (Memory → List ℕ) → Option Process → State → Performed
+prints_of address n text None state = told false (refuses NoProcess state)
+prints_of address n text (Some process) state = prints_read text process.memory (first_denied process.memory 0 address n) state
+
+abbrev pub dump_done : ℕ → ℕ → ℕ → State → Performed
+dump_done p address count state =
+    prints_of address count (λ memory. dump_text memory address count) (get state.wholes.processes p) state
+
+abbrev pub disasm_done : ℕ → ℕ → ℕ → State → Performed
+disasm_done p address words state =
+    prints_of address (WORD_BYTES * words) (λ memory. disasm_text memory address words) (get state.wholes.processes p) state
+
 -- the line of the counts
 abbrev pub counts_text : Counts → List ℕ
 counts_text counts = stats_line counts.units counts.limit counts.lines counts.hits counts.misses
@@ -201,6 +241,8 @@ performed quantum file (Step p turns) = step_done p turns
 performed quantum file command.List = list_done
 performed quantum file command.Stats = stats_done
 performed quantum file (command.Regs p) = regs_done p
+performed quantum file (command.Dump p address count) = dump_done p address count
+performed quantum file (command.Disasm p address words) = disasm_done p address words
 performed quantum file other = change_told file other
 
 -- the same, in a session

@@ -1,5 +1,5 @@
 use Rattle.std.specs.Prelude.{◌≡◌, ℕ, ◌+◌, Bool, true, false, List, [], ◌∷◌, Option, Some, Result, Ok, Err}
-use Rattle.std.specs.FinMap.{empty, get, insert}
+use Rattle.std.specs.FinMap.{empty, get, insert, remove}
 use Rattle.ovl_io.specs.declared.process_state.ProcessState.{ProcessState}
 use Rattle.ledger.specs.Events.{Copy}
 use Rattle.overlay_memory.specs.declared.error.SpaceError.{SpaceError}
@@ -17,11 +17,12 @@ use Rattle.command_core.specs.Refusals.{by_ended, by_numbers_used, by_speculatin
 
 -- What a fork makes of a process that is there.
 
--- a further process, under the next number
+-- a further process, under the next number, without breakpoints
 abbrev pub draws : Process → Registry → Registry
 draws process registry = record {
   processes = insert registry.processes (registry.drawn + 1) process;
   checkpoints = registry.checkpoints;
+  breakpoints = remove registry.breakpoints (registry.drawn + 1);
   drawn = registry.drawn + 1;
 }
 

@@ -1,4 +1,5 @@
 use Rattle.std.specs.Prelude.{◌≡◌, ℕ, List, true}
+use Rattle.breakpoints.specs.Breakpoints.{Breaks}
 use Rattle.machine_core.specs.Machine.{Machine}
 use Rattle.report_text.specs.declared.answer.Answer.{Answer}
 use Rattle.report_text.specs.declared.answer.Answer.TheVariants.{Memory}
@@ -19,7 +20,9 @@ abbrev pub GivesChange : Row → State → Answer → State → Type 0
 GivesChange row old Memory new = (may_want_memory row old ≡ true) × (new ≡ old)
 GivesChange row old answer new = ComesTo (change_by row old) answer new
 
--- what a machine answers of it, whatever checkpoints there are and however many numbers were drawn; and it stays that of a session
+-- what a machine answers of it, whatever checkpoints and breakpoints there are and however many numbers were drawn; and it stays that of
+-- a session
 pub record MachineGives (row : Registry → Row) (old : Machine) (answer : Answer) (new : Machine) : Type 0 where
-  pub gives : (kept : List Checkpoint) (drawn : ℕ) → GivesChange (row (registry_of (state_of old kept drawn))) (state_of old kept drawn) answer (state_of new kept drawn)
+  pub gives : (kept : List Checkpoint) (breaks : Breaks) (drawn : ℕ)
+      → GivesChange (row (registry_of (state_of old kept breaks drawn))) (state_of old kept breaks drawn) answer (state_of new kept breaks drawn)
   pub keeps : KeepsSession old new

@@ -1,6 +1,7 @@
 use Rattle.std.specs.Prelude.{◌≡◌, ℕ, nat_eq, List, [], ◌∷◌, ◌++◌, map, Option, Some, None, Result, Ok, Err, if◌then◌else◌}
 use Rattle.std.specs.List.{AllByRecursion}
 use lib.Pointwise.{pointwise}
+use Rattle.breakpoints.specs.Breakpoints.{Breaks}
 use Rattle.overlay_pages.specs.State.{State, memory_of}
 use Rattle.machine_core.specs.declared.process.Process.{Process}
 use Rattle.machine_core.specs.Machine.{Machine, spaces_of}
@@ -43,11 +44,11 @@ abbrev pub checkpoints_in : State → List Kept → List Checkpoint
 checkpoints_in spaces xs = map (checkpoint_in spaces) xs
 
 -- the state that a session shows, and the session
-abbrev pub shown_state : Machine → List Kept → ℕ → Shown
-shown_state machine xs drawn = state_of machine (checkpoints_in (spaces_of machine) xs) drawn
+abbrev pub shown_state : Machine → List Kept → Breaks → ℕ → Shown
+shown_state machine xs breakpoints drawn = state_of machine (checkpoints_in (spaces_of machine) xs) breakpoints drawn
 
-abbrev pub shown_session : Machine → List Kept → ℕ → ℕ → InSession
-shown_session machine xs drawn quantum = record { state = shown_state machine xs drawn; quantum = quantum }
+abbrev pub shown_session : Machine → List Kept → Breaks → ℕ → ℕ → InSession
+shown_session machine xs breakpoints drawn quantum = record { state = shown_state machine xs breakpoints drawn; quantum = quantum }
 
 -- the spaces of checkpoints
 abbrev pub spaces_kept : List Kept → List ℕ

@@ -1,7 +1,9 @@
-use Rattle.std.specs.Prelude.{◌≡◌, ℕ, zero, suc, ◌-◌, ◌==◌, nat_lt, ◌&&◌, Bool, true, false, cond, List, ◌∷◌, ◌++◌, flat_map, length, Option, Some, None, refl, ◌≤◌}
+use Rattle.std.specs.Prelude.{◌≡◌, ℕ, zero, suc, ◌-◌, ◌*◌, ◌==◌, nat_lt, ◌&&◌, Bool, true, false, cond, List, ◌∷◌, ◌++◌, flat_map, length, Option, Some, None, refl, ◌≤◌}
 use Rattle.std.proofs.Common.{sym, ap, subst, ◌∙◌, arith, eqb-true}
-use Rattle.std.specs.Option.{is_some, option_map_or}
+use Rattle.std.specs.Option.{is_some, option_and_then, option_map_or, option_or}
 use Rattle.std.specs.FinMap.{entries, get}
+use Rattle.breakpoints.specs.Breakpoints.{Breaks}
+use Rattle.ovl_io.specs.Memory.{Memory as Contents, first_denied}
 use Rattle.ovl_io.specs.declared.turn.Turn.{Turn}
 use Rattle.ovl_io.specs.declared.turn.Turn.TheVariants as turn
 use Rattle.ledger.specs.Alike.{AreAlike}
@@ -24,25 +26,27 @@ use Rattle.script_text.specs.declared.command.Command.{Command}
 use Rattle.script_text.specs.declared.command.Command.TheVariants as command
 use Rattle.command_core.specs.declared.turns.Order.{Order}
 use Rattle.command_core.specs.declared.turns.Order.TheVariants.{ByTurns, Alone}
-use Rattle.command_core.specs.State.{AreLikeStates, Checkpoint, Registry, State, registry_of}
+use Rattle.command_core.specs.declared.TheConstants.{WORD_BYTES}
+use Rattle.command_core.specs.State.{AreLikeStates, Checkpoint, Registry, State, registry_of, with_wholes}
 use Rattle.command_core.specs.Sessions.{InSession}
 use Rattle.command_core.specs.Rows.{Changed, Row, accepts, change_by, event_needs, falls_short, first_refusal, is_full, ledger_by, may_want_memory, refuses, wants_by, within_units}
 use Rattle.command_core.specs.Giving.{ComesTo, GivesChange}
 use Rattle.command_core.specs.Changes.{change_row, load_row}
-use Rattle.command_core.specs.Turns.{InRun, Progress, Ran, ending, ending_by, event_then, first_event, left_by, left_of, next_of, alone, by_turns, ran, ran_text, rest_of, run_after, run_found, stopped, turns_by, ran_from}
+use Rattle.command_core.specs.Turns.{InRun, Progress, Ran, break_at, ending, ending_by, event_then, first_event, last_break, left_by, left_of, next_of, alone, by_turns, ran, ran_text, rest_of, run_after, run_found, stopped, turns_by, ran_from, unless_broken}
 use Rattle.command_core.specs.Looks.{counts_of}
-use Rattle.command_core.specs.Commands.{Performed, checkpoint_text, counts_text, exec_done, exec_turns, list_head, list_text, performed, process_text, regs_done, regs_of, row_told, stats_text, step_done, steps, takes_turns, told}
+use Rattle.command_core.specs.Commands.{Performed, checkpoint_text, counts_text, disasm_text, dump_text, exec_done, exec_turns, list_head, list_text, performed, prints_of, prints_read, process_text, regs_done, regs_of, row_told, stats_text, step_done, steps, takes_turns, told}
 use Rattle.command_core.specs.Standing.{GivesAs}
 
 -- States that differ in the numbers of origins alone come to the same texts, and stay so.
 
 pub states_itself : (a : State) → AreLikeStates a a
-states_itself a = record { wholes = like_itself a.wholes; checkpoints = refl; drawn = refl }
+states_itself a = record { wholes = like_itself a.wholes; checkpoints = refl; breakpoints = refl; drawn = refl }
 
 pub states_chain : (a b c : State) → AreLikeStates a b → AreLikeStates b c → AreLikeStates a c
 states_chain a b c h k = record {
   wholes = like_chain a.wholes b.wholes c.wholes h.wholes k.wholes;
   checkpoints = h.checkpoints ∙ k.checkpoints;
+  breakpoints = h.breakpoints ∙ k.breakpoints;
   drawn = h.drawn ∙ k.drawn;
 }
 
@@ -59,11 +63,16 @@ module _ (a b : Wholes) (like : AreLike a b) where
   like_next (ByTurns turns) = ap (λ (ps : Processes). next_number turns (running_numbers (record { processes = ps; ledger = a.ledger; frames = a.frames }))) like.processes
   like_next (Alone p) = ap (λ c. cond c (Some p) None) (like_running p a b like)
 
-  pub like_ending : (run : Progress) → ending a run ≡ ending b run
-  like_ending run = ap (λ n. ending_by n run) (like_next run.order)
+  pub like_break : (breaks : Breaks) (run : Progress) → last_break breaks a run ≡ last_break breaks b run
+  like_break breaks run = ap (λ (ps : Processes). option_and_then (λ p. option_and_then (break_at breaks p) (get ps p)) run.last) like.processes
 
-  pub like_found : (run : Progress) → run_found a run ≡ run_found b run
-  like_found run = ap (λ s. record { run = run; stop = s }) (like_ending run)
+  pub like_ending : (breaks : Breaks) (run : Progress) → ending breaks a run ≡ ending breaks b run
+  like_ending breaks run =
+      ap (λ o. option_or o (ending_by (next_of a run.order) run)) (like_break breaks run)
+      ∙ ap (λ n. option_or (last_break breaks b run) (ending_by n run)) (like_next run.order)
+
+  pub like_found : (breaks : Breaks) (run : Progress) → run_found breaks a run ≡ run_found breaks b run
+  like_found breaks run = ap (λ s. record { run = run; stop = s }) (like_ending breaks run)
 
 pub record AreLikeRans (r s : Ran) : Type 0 where
   pub events : r.events ≡ s.events
@@ -96,57 +105,94 @@ like_by (Some p) f g a b run like h =
     subst (λ t. AreLikeRans (event_then p (turn_of a p) (f p) a run) (event_then p t (g p) b run)) (like_turn p a b like)
     (like_then p (turn_of a p) (f p) (g p) a b run (h p) like)
 
-pub like_ran : (left : ℕ) (a b : Wholes) (run : Progress) → AreLike a b → AreLikeRans (ran left a run) (ran left b run)
-like_ran zero a b run like =
-    subst (λ (n : Option ℕ). AreLikeRans (ran zero a run) (stopped (option_map_or (λ p. stop.Limit) n (rest_of run.order)) b run)) (like_next a b like run.order)
-    (like_stopped (option_map_or (λ p. stop.Limit) (next_of a run.order) (rest_of run.order)) a b run like)
-like_ran (suc left) a b run like =
-    subst (λ (n : Option ℕ). AreLikeRans (ran (suc left) a run) (turns_by n (λ p. ran left (after_turn b p) (run_after p run)) b run)) (like_next a b like run.order)
-    (like_by (next_of a run.order) (λ p. ran left (after_turn a p) (run_after p run)) (λ p. ran left (after_turn b p) (run_after p run)) a b run like
-    (λ p. like_ran left (after_turn a p) (after_turn b p) (run_after p run) (like_after_turn p a b like)))
+like_unless : (o : Option Stop) (r s : Ran) (a b : Wholes) (run : Progress) → AreLikeRans r s → AreLike a b → AreLikeRans (unless_broken o r a run) (unless_broken o s b run)
+like_unless None r s a b run h like = h
+like_unless (Some why) r s a b run h like = like_stopped why a b run like
 
-pub like_left : (a b : Wholes) (running : InRun) → AreLike a b → AreLikeRans (left_of a running) (left_of b running)
-like_left a b running like = by_stop running.stop
-  where
-    by_stop : (found : Option Stop) → AreLikeRans (left_by found a running.run) (left_by found b running.run)
-    by_stop None = like_ran _ a b running.run like
-    by_stop (Some why) = like_stopped why a b running.run like
+module _ (breaks : Breaks) where
+  like_broken : (r s : Ran) (a b : Wholes) (run : Progress) → AreLike a b → AreLikeRans r s
+      → AreLikeRans (unless_broken (last_break breaks a run) r a run) (unless_broken (last_break breaks b run) s b run)
+  like_broken r s a b run like h =
+      subst (λ o. AreLikeRans (unless_broken (last_break breaks a run) r a run) (unless_broken o s b run)) (like_break a b like breaks run)
+      (like_unless (last_break breaks a run) r s a b run h like)
+
+  pub like_ran : (left : ℕ) (a b : Wholes) (run : Progress) → AreLike a b → AreLikeRans (ran breaks left a run) (ran breaks left b run)
+  like_ran zero a b run like =
+      like_broken _ _ a b run like
+      (subst (λ (n : Option ℕ). AreLikeRans (stopped (option_map_or (λ p. stop.Limit) (next_of a run.order) (rest_of run.order)) a run)
+      (stopped (option_map_or (λ p. stop.Limit) n (rest_of run.order)) b run)) (like_next a b like run.order)
+      (like_stopped (option_map_or (λ p. stop.Limit) (next_of a run.order) (rest_of run.order)) a b run like))
+  like_ran (suc left) a b run like =
+      like_broken _ _ a b run like
+      (subst (λ (n : Option ℕ). AreLikeRans (turns_by (next_of a run.order) (λ p. ran breaks left (after_turn a p) (run_after p run)) a run)
+      (turns_by n (λ p. ran breaks left (after_turn b p) (run_after p run)) b run)) (like_next a b like run.order)
+      (like_by (next_of a run.order) (λ p. ran breaks left (after_turn a p) (run_after p run)) (λ p. ran breaks left (after_turn b p) (run_after p run)) a b run like
+      (λ p. like_ran left (after_turn a p) (after_turn b p) (run_after p run) (like_after_turn p a b like))))
+
+  pub like_left : (a b : Wholes) (running : InRun) → AreLike a b → AreLikeRans (left_of breaks a running) (left_of breaks b running)
+  like_left a b running like = by_stop running.stop
+    where
+      by_stop : (found : Option Stop) → AreLikeRans (left_by found breaks a running.run) (left_by found breaks b running.run)
+      by_stop None = like_ran _ a b running.run like
+      by_stop (Some why) = like_stopped why a b running.run like
 
 -- turns that have ended
 limit_stop : (b : Bool) (why : Stop) → cond b (Some stop.Limit) None ≡ Some why → (b ≡ true) × (stop.Limit ≡ why)
 limit_stop true why is = (refl, cc)
 limit_stop false why is = cc
 
-ran_by_next : (state : Wholes) (run : Progress) (next : Option ℕ) (why : Stop) (left : ℕ) → next_of state run.order ≡ next
-    → left ≡ run.turns - run.taken → run.taken ≤ run.turns → ending_by next run ≡ Some why → ran left state run ≡ stopped why state run
-ran_by_next state run None why zero is many below ends =
-    let same : rest_of run.order ≡ why = cc in
-    ap (λ n. stopped (option_map_or (λ p. stop.Limit) n (rest_of run.order)) state run) is ∙ ap (λ s. stopped s state run) same
-ran_by_next state run None why (suc left) is many below ends =
-    let same : rest_of run.order ≡ why = cc in
-    ap (λ n. turns_by n (λ p. ran left (after_turn state p) (run_after p run)) state run) is ∙ ap (λ s. stopped s state run) same
-ran_by_next state run (Some p) why left is many below ends =
-    let parts = limit_stop (run.taken == run.turns) why ends in
-    let none : left ≡ 0 = omega (arith, many, eqb-true run.taken run.turns parts.0) in
-    ap (λ n. ran n state run) none
-    ∙ ap (λ n. stopped (option_map_or (λ q. stop.Limit) n (rest_of run.order)) state run) is ∙ ap (λ s. stopped s state run) parts.1
+module _ (breaks : Breaks) (state : Wholes) (run : Progress) where
+  -- the last turn led to a breakpoint
+  pub ran_broken : (why : Stop) (left : ℕ) → last_break breaks state run ≡ Some why → ran breaks left state run ≡ stopped why state run
+  ran_broken why zero is =
+      ap (λ o. unless_broken o (stopped (option_map_or (λ p. stop.Limit) (next_of state run.order) (rest_of run.order)) state run) state run) is
+  ran_broken why (suc left) is =
+      ap (λ o. unless_broken o (turns_by (next_of state run.order) (λ p. ran breaks left (after_turn state p) (run_after p run)) state run) state run) is
 
-pub ran_ended : (state : Wholes) (run : Progress) (why : Stop) → run.taken ≤ run.turns → ending state run ≡ Some why
-    → ran_from state run ≡ stopped why state run
-ran_ended state run why below ends = ran_by_next state run (next_of state run.order) why (run.turns - run.taken) refl refl below ends
+  -- or to none
+  module _ (none : last_break breaks state run ≡ None) where
+    ran_none : ran breaks zero state run ≡ stopped (option_map_or (λ p. stop.Limit) (next_of state run.order) (rest_of run.order)) state run
+    ran_none = ap (λ o. unless_broken o (stopped (option_map_or (λ p. stop.Limit) (next_of state run.order) (rest_of run.order)) state run) state run) none
 
--- what is left of a run of which the ending was found that holds
-pub left_found : (state : Wholes) (run : Progress) → run.taken ≤ run.turns → left_by (ending state run) state run ≡ ran_from state run
-left_found state run below = by_stop (ending state run) refl
-  where
-    by_stop : (found : Option Stop) → ending state run ≡ found → left_by found state run ≡ ran_from state run
-    by_stop None is = refl
-    by_stop (Some why) is = sym (ran_ended state run why below is)
+    pub ran_more : (left : ℕ) → ran breaks (suc left) state run
+        ≡ turns_by (next_of state run.order) (λ p. ran breaks left (after_turn state p) (run_after p run)) state run
+    ran_more left = ap (λ o. unless_broken o (turns_by (next_of state run.order) (λ p. ran breaks left (after_turn state p) (run_after p run)) state run) state run) none
+
+    ran_by_next : (next : Option ℕ) (why : Stop) (left : ℕ) → next_of state run.order ≡ next
+        → left ≡ run.turns - run.taken → run.taken ≤ run.turns → ending_by next run ≡ Some why → ran breaks left state run ≡ stopped why state run
+    ran_by_next None why zero is many below ends =
+        let same : rest_of run.order ≡ why = cc in
+        ran_none ∙ ap (λ n. stopped (option_map_or (λ p. stop.Limit) n (rest_of run.order)) state run) is ∙ ap (λ s. stopped s state run) same
+    ran_by_next None why (suc left) is many below ends =
+        let same : rest_of run.order ≡ why = cc in
+        ran_more left ∙ ap (λ n. turns_by n (λ p. ran breaks left (after_turn state p) (run_after p run)) state run) is ∙ ap (λ s. stopped s state run) same
+    ran_by_next (Some p) why left is many below ends =
+        let parts = limit_stop (run.taken == run.turns) why ends in
+        let none_left : left ≡ 0 = omega (arith, many, eqb-true run.taken run.turns parts.0) in
+        ap (λ n. ran breaks n state run) none_left ∙ ran_none
+        ∙ ap (λ n. stopped (option_map_or (λ q. stop.Limit) n (rest_of run.order)) state run) is ∙ ap (λ s. stopped s state run) parts.1
+
+  ended_by_break : (o : Option Stop) (why : Stop) → last_break breaks state run ≡ o → run.taken ≤ run.turns
+      → option_or o (ending_by (next_of state run.order) run) ≡ Some why → ran_from breaks state run ≡ stopped why state run
+  ended_by_break None why is below ends = ran_by_next is (next_of state run.order) why (run.turns - run.taken) refl refl below ends
+  ended_by_break (Some found) why is below ends =
+      let same : found ≡ why = cc in ran_broken found (run.turns - run.taken) is ∙ ap (λ s. stopped s state run) same
+
+  pub ran_ended : (why : Stop) → run.taken ≤ run.turns → ending breaks state run ≡ Some why → ran_from breaks state run ≡ stopped why state run
+  ran_ended why below ends = ended_by_break (last_break breaks state run) why refl below ends
+
+  -- what is left of a run of which the ending was found that holds
+  pub left_found : run.taken ≤ run.turns → left_by (ending breaks state run) breaks state run ≡ ran_from breaks state run
+  left_found below = by_stop (ending breaks state run) refl
+    where
+      by_stop : (found : Option Stop) → ending breaks state run ≡ found → left_by found breaks state run ≡ ran_from breaks state run
+      by_stop None is = refl
+      by_stop (Some why) is = sym (ran_ended why below is)
 
 -- Changes.
 
 pub registries_same : (a b : State) → AreLikeStates a b → registry_of a ≡ registry_of b
-registries_same a b like = λ i. record { processes = like.wholes.processes i; checkpoints = like.checkpoints i; drawn = like.drawn i }
+registries_same a b like = λ i. record { processes = like.wholes.processes i; checkpoints = like.checkpoints i; breakpoints = like.breakpoints i; drawn = like.drawn i }
 
 -- one comes to what another does
 abbrev pub AreLikeChanges : Changed → Changed → Type 0
@@ -177,7 +223,7 @@ module _ (row : Row) (a b : State) (like : AreLikeStates a b) where
   like_within false false same =
       record {
         answer_is = refl;
-        after_is = record { wholes = record { processes = refl; ledger = like_ledger; frames = like.wholes.frames }; checkpoints = refl; drawn = refl };
+        after_is = record { wholes = record { processes = refl; ledger = like_ledger; frames = like.wholes.frames }; checkpoints = refl; breakpoints = refl; drawn = refl };
       }
   like_within true false same = cc
   like_within false true same = cc
@@ -230,10 +276,20 @@ like_told row a b like =
     let change = like_change row a b like in
     record { text = ap answer_text change.answer_is; after = change.after_is; wants = like_wanting row a b like }
 
+-- the turns that there are with some breakpoints
+abbrev takes_by : Breaks → Progress → State → Performed
+takes_by breaks run state =
+    record { text = ran_text (ran_from breaks state.wholes run); after = with_wholes (ran_from breaks state.wholes run).after state; wants_memory = false }
+
 pub like_takes : (run : Progress) (a b : State) → AreLikeStates a b → AreLikePerformed (takes_turns run a) (takes_turns run b)
 like_takes run a b like =
-    let rans = like_ran (run.turns - run.taken) a.wholes b.wholes run like.wholes in
-    record { text = like_text _ _ rans; after = record { wholes = rans.after; checkpoints = like.checkpoints; drawn = like.drawn }; wants = refl }
+    let rans = like_ran a.breakpoints (run.turns - run.taken) a.wholes b.wholes run like.wholes in
+    subst (λ (bs : Breaks). AreLikePerformed (takes_turns run a) (takes_by bs run b)) like.breakpoints
+    (record {
+      text = like_text _ _ rans;
+      after = record { wholes = rans.after; checkpoints = like.checkpoints; breakpoints = like.breakpoints; drawn = like.drawn };
+      wants = refl;
+    })
 
 pub like_exec_turns : (turns : ℕ) (answer : Answer) (a b : State) → AreLikeStates a b → AreLikePerformed (exec_turns turns answer a) (exec_turns turns answer b)
 like_exec_turns turns (Loaded p pages entry) a b like = like_takes (alone p turns) a b like
@@ -285,6 +341,21 @@ like_regs p a b like =
     by_found None = record { text = refl; after = like; wants = refl }
     by_found (Some process) = record { text = refl; after = like; wants = refl }
 
+-- bytes of a process
+like_prints : (p address n : ℕ) (text : Contents → List ℕ) (a b : State) → AreLikeStates a b
+    → AreLikePerformed (prints_of address n text (get a.wholes.processes p) a) (prints_of address n text (get b.wholes.processes p) b)
+like_prints p address n text a b like =
+    subst (λ (o : Option Process). AreLikePerformed (prints_of address n text (get a.wholes.processes p) a) (prints_of address n text o b))
+    (ap (λ (ps : Processes). get ps p) like.wholes.processes) (by_found (get a.wholes.processes p))
+  where
+    by_denied : (memory : Contents) (o : Option ℕ) → AreLikePerformed (prints_read text memory o a) (prints_read text memory o b)
+    by_denied memory None = record { text = refl; after = like; wants = refl }
+    by_denied memory (Some at) = record { text = refl; after = like; wants = refl }
+
+    by_found : (o : Option Process) → AreLikePerformed (prints_of address n text o a) (prints_of address n text o b)
+    by_found None = record { text = refl; after = like; wants = refl }
+    by_found (Some process) = by_denied process.memory (first_denied process.memory 0 address n)
+
 -- the counts
 pub counts_same : (a b : Wholes) → AreLike a b → counts_of a ≡ counts_of b
 counts_same a b like = λ i. record {
@@ -319,10 +390,10 @@ like_performed quantum file (command.Map x y z w) a b like = like_told (change_r
 like_performed quantum file (command.Unmap x y z) a b like = like_told (change_row file (command.Unmap x y z)) a b like
 like_performed quantum file (command.Drop x) a b like = like_told (change_row file (command.Drop x)) a b like
 like_performed quantum file (command.Regs x) a b like = like_regs x a b like
-like_performed quantum file (command.Dump x y z) a b like = like_told (change_row file (command.Dump x y z)) a b like
+like_performed quantum file (command.Dump x y z) a b like = like_prints x y z (λ memory. dump_text memory y z) a b like
 like_performed quantum file (command.Poke x y z) a b like = like_told (change_row file (command.Poke x y z)) a b like
 like_performed quantum file (command.Set x y z) a b like = like_told (change_row file (command.Set x y z)) a b like
 like_performed quantum file (command.Break x y) a b like = like_told (change_row file (command.Break x y)) a b like
 like_performed quantum file (command.Unbreak x y) a b like = like_told (change_row file (command.Unbreak x y)) a b like
-like_performed quantum file (command.Disasm x y z) a b like = like_told (change_row file (command.Disasm x y z)) a b like
+like_performed quantum file (command.Disasm x y z) a b like = like_prints x y (WORD_BYTES * z) (λ memory. disasm_text memory y z) a b like
 like_performed quantum file command.Stats a b like = record { text = stats_same a b like; after = like; wants = refl }

@@ -5,12 +5,14 @@ use Rattle.ledger.specs.Units.{own_lines, units}
 use Rattle.machine_core.specs.Machine.{Processes, Wholes, limit_of}
 use Rattle.machine_core.specs.Process.{Process, is_speculating, runs}
 use Rattle.report_text.specs.declared.answer.Code.{Code}
-use Rattle.report_text.specs.declared.answer.Code.TheVariants.{NoProcess, Ended}
+use Rattle.report_text.specs.declared.answer.Code.TheVariants.{NoProcess, Ended, Unmapped}
 use Rattle.command_core.specs.declared.session.CheckpointView.{CheckpointView}
 use Rattle.command_core.specs.declared.session.Counts.{Counts}
 use Rattle.command_core.specs.declared.session.ProcessView.{ProcessView}
 use Rattle.command_core.specs.State.{Checkpoint}
 use Rattle.command_core.specs.Turns.{InRun, alone, run_found}
+use Rattle.breakpoints.specs.Breakpoints.{Breaks}
+use Rattle.ovl_io.specs.Memory.{bytes_at, first_denied}
 
 -- What is looked up in a session.
 
@@ -42,12 +44,33 @@ abbrev pub counts_of : Wholes → Counts
 counts_of all = record { units = units all.ledger; limit = limit_of all.frames; lines = own_lines all.ledger; hits = 0; misses = 0 }
 
 -- the turns of one process are begun: refused where it isn't there, or has ended
-abbrev pub begun : Wholes → ℕ → ℕ → Option Process → Result InRun Code
-begun state p turns None = Err NoProcess
-begun state p turns (Some process) = if runs process.state then Ok (run_found state (alone p turns)) else Err Ended
+abbrev pub begun : Breaks → Wholes → ℕ → ℕ → Option Process → Result InRun Code
+begun breaks state p turns None = Err NoProcess
+begun breaks state p turns (Some process) = if runs process.state then Ok (run_found breaks state (alone p turns)) else Err Ended
 
-abbrev pub BeginsStep : Wholes → ℕ → ℕ → Result InRun Code → Type 0
-BeginsStep state p turns result = result ≡ begun state p turns (get state.processes p)
+abbrev pub BeginsStep : Breaks → Wholes → ℕ → ℕ → Result InRun Code → Type 0
+BeginsStep breaks state p turns result = result ≡ begun breaks state p turns (get state.processes p)
+
+-- n bytes of a process from an address on are looked at, whatever the permissions: refused at the first whose page isn't there
+abbrev pub look_denied : Option ℕ → Result (Unit {0}) Code
+look_denied None = Ok tt
+look_denied (Some at) = Err (Unmapped at)
+
+abbrev pub look_of : ℕ → ℕ → Option Process → Result (Unit {0}) Code
+look_of address n None = Err NoProcess
+look_of address n (Some process) = look_denied (first_denied process.memory 0 address n)
+
+abbrev pub CanRead : Processes → ℕ → ℕ → ℕ → Result (Unit {0}) Code → Type 0
+CanRead processes p address n result = result ≡ look_of address n (get processes p)
+
+-- the bytes of a process that is there
+abbrev pub bytes_in : ℕ → ℕ → Option Process → List ℕ
+bytes_in address n None = []
+bytes_in address n (Some process) = bytes_at process.memory address n
+
+abbrev pub ReadsBytes : Processes → ℕ → ℕ → ℕ → List ℕ → Result (Unit {0}) Code → Type 0
+ReadsBytes processes p address n into (Ok done) = into ≡ bytes_in address n (get processes p)
+ReadsBytes processes p address n into (Err code) = Unit {0}
 
 -- the processes from a number on, ascending
 abbrev pub from_number : ℕ → Processes → List (ℕ × Process)

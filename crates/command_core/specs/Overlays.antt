@@ -66,7 +66,12 @@ after_set register value process =
 -- the process in its place
 abbrev pub leaves : ℕ → Process → Registry → Registry
 leaves p process registry =
-    record { processes = insert registry.processes p process; checkpoints = registry.checkpoints; drawn = registry.drawn }
+    record {
+      processes = insert registry.processes p process;
+      checkpoints = registry.checkpoints;
+      breakpoints = registry.breakpoints;
+      drawn = registry.drawn;
+    }
 
 -- The changes, a row each: whether it may need units, its refusals, what happens to the ledger, and what it leaves.
 abbrev pub overlay_row : ℕ → OverlayChange → Process → Registry → Row

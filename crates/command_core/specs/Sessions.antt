@@ -2,6 +2,7 @@ use Rattle.std.specs.Prelude.{◌≡◌, ℕ, ◌<◌, ◌≤◌, true, false, L
 use Rattle.std.specs.Option.{is_some}
 use Rattle.std.specs.List.{AllByRecursion}
 use Rattle.std.specs.FinMap.{empty, get}
+use Rattle.breakpoints.specs.Breakpoints.{Breaks}
 use Rattle.sizes.specs.declared.TheConstants.{LAST_SPACE}
 use Rattle.space_maps.specs.Spaces.{space_in}
 use Rattle.machine_core.specs.Machine.{Machine, has_saved, has_space, is_marked, spaces_of, wholes}
@@ -44,9 +45,14 @@ pub record KeepsSession (old new : Machine) : Type 0 where
   pub session : (spaces : List ℕ) (drawn : ℕ) → IsSession old spaces drawn → IsSession new spaces drawn
   pub free : KeepsFree old new
 
--- the state that a machine shows, with these checkpoints and so many numbers drawn
-abbrev pub state_of : Machine → List Checkpoint → ℕ → State
-state_of machine checkpoints drawn = record { wholes = wholes machine; checkpoints = checkpoints; drawn = drawn }
+-- no number above those drawn has breakpoints
+abbrev pub NoBreaksAbove : ℕ → Breaks → Type 0
+NoBreaksAbove drawn breakpoints = (p : ℕ) → drawn < p → get breakpoints p ≡ None
+
+-- the state that a machine shows, with these checkpoints and breakpoints, and so many numbers drawn
+abbrev pub state_of : Machine → List Checkpoint → Breaks → ℕ → State
+state_of machine checkpoints breakpoints drawn =
+    record { wholes = wholes machine; checkpoints = checkpoints; breakpoints = breakpoints; drawn = drawn }
 
 -- A session: the state, and the quantum of turns by round robin.
 pub record InSession : Type 0 where
@@ -56,5 +62,6 @@ pub record InSession : Type 0 where
 -- all but the processes is as it was
 pub record KeepsRest (old new : InSession) : Type 0 where
   pub checkpoints : new.state.checkpoints ≡ old.state.checkpoints
+  pub breakpoints : new.state.breakpoints ≡ old.state.breakpoints
   pub drawn : new.state.drawn ≡ old.state.drawn
   pub quantum : new.quantum ≡ old.quantum

@@ -32,25 +32,26 @@ GivesAs row old answer new =
 abbrev pub HoldsFor : (State → Type 0) → InSession → Type 0
 HoldsFor fact session = (state : State) → SessionStandsFor session state → fact state
 
--- turns: those of the state's processes, and the session stands for the state after them, in which the checkpoints and the numbers drawn
--- are the same
+-- turns: those of the state's processes, and the session stands for the state after them, in which the checkpoints, the breakpoints and
+-- the numbers drawn are the same
 abbrev pub TurnsAs : (State → State → Type 0) → InSession → InSession → Type 0
 TurnsAs turns old new =
     (state : State) → SessionStandsFor old state
-    → (after : State) × SessionStandsFor new after × (after.checkpoints ≡ state.checkpoints) × (after.drawn ≡ state.drawn) × turns state after
+    → (after : State) × SessionStandsFor new after × (after.checkpoints ≡ state.checkpoints) × (after.breakpoints ≡ state.breakpoints)
+    × (after.drawn ≡ state.drawn) × turns state after
 
 abbrev pub takes_turn : InRun → Option (ℕ × Turn) → InRun → State → State → Type 0
-takes_turn running turn after_run state after = TakesTurn state.wholes running turn after.wholes after_run
+takes_turn running turn after_run state after = TakesTurn state.breakpoints state.wholes running turn after.wholes after_run
 
 abbrev pub speaks : InRun → List ℕ → InRun → State → State → Type 0
-speaks running line after_run state after = Speaks state.wholes running line after.wholes after_run
+speaks running line after_run state after = Speaks state.breakpoints state.wholes running line after.wholes after_run
 
 abbrev pub ends_run : InRun → InRun → State → State → Type 0
-ends_run running after_run state after = EndsRun state.wholes running after.wholes after_run
+ends_run running after_run state after = EndsRun state.breakpoints state.wholes running after.wholes after_run
 
 -- the turns of all processes, begun, and those of one
 abbrev pub begun_run : ℕ → ℕ → State → InRun
-begun_run quantum turns state = run_found state.wholes (by_turns quantum turns)
+begun_run quantum turns state = run_found state.breakpoints state.wholes (by_turns quantum turns)
 
 abbrev pub begun_step : ℕ → ℕ → State → Result InRun Code
-begun_step p turns state = begun state.wholes p turns (get state.wholes.processes p)
+begun_step p turns state = begun state.breakpoints state.wholes p turns (get state.wholes.processes p)

@@ -1,5 +1,6 @@
 use Rattle.std.specs.Prelude.{◌≡◌, ℕ, List, [], None}
 use Rattle.std.specs.FinMap.{empty}
+use Rattle.breakpoints.specs.Breakpoints.{Breaks}
 use Rattle.ledger.specs.Ledger.{Ledger}
 use Rattle.machine_core.specs.Process.{Process, Whole}
 use Rattle.machine_core.specs.Machine.{AreLike, Processes, Wholes}
@@ -11,33 +12,37 @@ pub record Checkpoint : Type 0 where
   pub whole : Whole
 
 -- The copying machine: the processes by number, each with its whole memory, with the ledger of the pages of all spaces; the
--- checkpoints, in the order of making; and how many numbers were drawn.
+-- checkpoints, in the order of making; the breakpoints of each process; and how many numbers were drawn.
 pub record State : Type 0 where
   pub wholes : Wholes
   pub checkpoints : List Checkpoint
+  pub breakpoints : Breaks
   pub drawn : ℕ
 
 -- the state at the start, with so many frames
 abbrev pub fresh : ℕ → State
-fresh frames = record { wholes = record { processes = empty; ledger = empty; frames = frames }; checkpoints = []; drawn = 0 }
+fresh frames = record { wholes = record { processes = empty; ledger = empty; frames = frames }; checkpoints = []; breakpoints = empty; drawn = 0 }
 
 abbrev pub with_wholes : Wholes → State → State
-with_wholes wholes state = record { wholes = wholes; checkpoints = state.checkpoints; drawn = state.drawn }
+with_wholes wholes state = record { wholes = wholes; checkpoints = state.checkpoints; breakpoints = state.breakpoints; drawn = state.drawn }
 
 -- What a command looks at and leaves: all of the state but the ledger and the frames. Those say only whether there are units enough.
 pub record Registry : Type 0 where
   pub processes : Processes
   pub checkpoints : List Checkpoint
+  pub breakpoints : Breaks
   pub drawn : ℕ
 
 abbrev pub registry_of : State → Registry
-registry_of state = record { processes = state.wholes.processes; checkpoints = state.checkpoints; drawn = state.drawn }
+registry_of state =
+    record { processes = state.wholes.processes; checkpoints = state.checkpoints; breakpoints = state.breakpoints; drawn = state.drawn }
 
 -- the state with another registry and another ledger
 abbrev pub with_registry : Registry → Ledger → State → State
 with_registry registry ledger state = record {
   wholes = record { processes = registry.processes; ledger = ledger; frames = state.wholes.frames };
   checkpoints = registry.checkpoints;
+  breakpoints = registry.breakpoints;
   drawn = registry.drawn;
 }
 
@@ -52,4 +57,5 @@ process_of whole = record { registers = whole.registers; state = whole.state; me
 pub record AreLikeStates (a b : State) : Type 0 where
   pub wholes : AreLike a.wholes b.wholes
   pub checkpoints : a.checkpoints ≡ b.checkpoints
+  pub breakpoints : a.breakpoints ≡ b.breakpoints
   pub drawn : a.drawn ≡ b.drawn

@@ -1,23 +1,30 @@
-use Rattle.std.specs.Prelude.{◌≡◌, ℕ, zero, suc, ◌+◌, ◌-◌, ◌==◌, List, [], ◌∷◌, ◌++◌, flat_map, min, Option, Some, None, if◌then◌else◌}
-use Rattle.std.specs.Option.{option_map_or, option_or}
+use Rattle.std.specs.Prelude.{◌≡◌, ℕ, zero, suc, ◌+◌, ◌-◌, ◌==◌, ◌&&◌, List, [], ◌∷◌, ◌++◌, flat_map, min, Option, Some, None, if◌then◌else◌}
+use Rattle.std.specs.Option.{option_and_then, option_map_or, option_or}
+use Rattle.std.specs.FinMap.{get}
+use Rattle.std.specs.FinSet.{contains}
+use Rattle.breakpoints.specs.Breakpoints.{Addresses, Breaks, addresses_of}
+use Rattle.ovl_io.specs.declared.process_state.ProcessState.{ProcessState}
+use Rattle.machine_core.specs.declared.process.Process as declared
 use Rattle.ovl_io.specs.declared.turn.Turn.{Turn}
 use Rattle.ovl_io.specs.declared.turn.Turn.TheVariants as turn
+use Rattle.machine_core.specs.Process.{Process, runs}
 use Rattle.machine_core.specs.Machine.{AreLike, Wholes, is_running, running_numbers}
 use Rattle.machine_core.specs.Turns.{after_turn, turn_of}
 use Rattle.round_robin.specs.Turns.{next_number, after_turn_of, after_turns_of, left_for}
 use Rattle.command_core.specs.declared.turns.Order.{Order}
 use Rattle.command_core.specs.declared.turns.Order.TheVariants.{ByTurns, Alone}
 use Rattle.report_text.specs.declared.answer.Stop.{Stop}
-use Rattle.report_text.specs.declared.answer.Stop.TheVariants.{Limit, Idle, Ended, Full}
+use Rattle.report_text.specs.declared.answer.Stop.TheVariants.{Limit, Idle, Ended, Break, Full}
 use Rattle.report_text.specs.Answers.{turn_text, stop_text}
 
 -- The turns of `run` and `step`.
 
--- A run in progress: the order as it stands, how many turns were asked for, and how many were taken.
+-- A run in progress: the order as it stands, how many turns were asked for, how many were taken, and whose turn was the last.
 pub record Progress : Type 0 where
   pub order : Order
   pub turns : ℕ
   pub taken : ℕ
+  pub last : Option ℕ
 
 -- the number whose turn is next
 abbrev pub next_of : Wholes → Order → Option ℕ
@@ -33,17 +40,33 @@ abbrev pub rest_of : Order → Stop
 rest_of (ByTurns turns) = Idle
 rest_of (Alone p) = Ended
 
--- The endings, in their order: nothing is left to run; as many turns were taken as were asked for.
+-- The endings, in their order: the process of the last turn runs, with its pc at one of its breakpoints; nothing is left to run; as many
+-- turns were taken as were asked for.
+abbrev pub break_by : Addresses → ℕ → ProcessState → ℕ → Option Stop
+break_by addresses p state pc = if runs state && contains addresses pc then Some (Break p pc) else None
+
+abbrev pub break_among : Addresses → ℕ → declared.Process → Option Stop
+break_among addresses p process = break_by addresses p process.state process.regs.pc
+
+abbrev pub break_at : Breaks → ℕ → Process → Option Stop
+break_at breaks p process = break_by (addresses_of breaks p) p process.state process.registers.pc
+
+abbrev pub break_of : Breaks → Wholes → ℕ → Option Stop
+break_of breaks state p = option_and_then (break_at breaks p) (get state.processes p)
+
+abbrev pub last_break : Breaks → Wholes → Progress → Option Stop
+last_break breaks state run = option_and_then (break_of breaks state) run.last
+
 abbrev pub ending_by : Option ℕ → Progress → Option Stop
 ending_by None run = Some (rest_of run.order)
 ending_by (Some p) run = if run.taken == run.turns then Some Limit else None
 
-abbrev pub ending : Wholes → Progress → Option Stop
-ending state run = ending_by (next_of state run.order) run
+abbrev pub ending : Breaks → Wholes → Progress → Option Stop
+ending breaks state run = option_or (last_break breaks state run) (ending_by (next_of state run.order) run)
 
 -- the run after a turn of a process
 abbrev pub run_after : ℕ → Progress → Progress
-run_after p run = record { order = order_after p run.order; turns = run.turns; taken = run.taken + 1 }
+run_after p run = record { order = order_after p run.order; turns = run.turns; taken = run.taken + 1; last = Some p }
 
 -- how many turns a process, whose turn is next, has until another one's may be, or until none is left
 abbrev pub order_left : ℕ → Order → ℕ → ℕ
@@ -58,8 +81,12 @@ abbrev pub order_took : ℕ → ℕ → Order → Order
 order_took n p (ByTurns turns) = ByTurns (after_turns_of n p turns)
 order_took n p (Alone q) = Alone q
 
+abbrev pub last_took : ℕ → ℕ → Option ℕ → Option ℕ
+last_took zero p last = last
+last_took (suc n) p last = Some p
+
 abbrev pub run_took : ℕ → ℕ → Progress → Progress
-run_took n p run = record { order = order_took n p run.order; turns = run.turns; taken = run.taken + n }
+run_took n p run = record { order = order_took n p run.order; turns = run.turns; taken = run.taken + n; last = last_took n p run.last }
 
 -- What turns come to: the events in order, each the process and what came of its turn; why they ended, how many
 -- were taken, and the copying machine after them.
@@ -88,15 +115,22 @@ abbrev pub turns_by : Option ℕ → (ℕ → Ran) → Wholes → Progress → R
 turns_by None others state run = stopped (rest_of run.order) state run
 turns_by (Some p) others state run = event_then p (turn_of state p) (others p) state run
 
+-- none where the last turn reached a breakpoint
+abbrev pub unless_broken : Option Stop → Ran → Wholes → Progress → Ran
+unless_broken None others state run = others
+unless_broken (Some stop) others state run = stopped stop state run
+
 -- up to so many more turns
-abbrev pub ran : ℕ → Wholes → Progress → Ran
-ran zero state run = stopped (option_map_or (λ p. Limit) (next_of state run.order) (rest_of run.order)) state run
-ran (suc left) state run =
-    turns_by (next_of state run.order) (λ p. ran left (after_turn state p) (run_after p run)) state run
+abbrev pub ran : Breaks → ℕ → Wholes → Progress → Ran
+ran breaks zero state run =
+    unless_broken (last_break breaks state run) (stopped (option_map_or (λ p. Limit) (next_of state run.order) (rest_of run.order)) state run) state run
+ran breaks (suc left) state run =
+    unless_broken (last_break breaks state run)
+    (turns_by (next_of state run.order) (λ p. ran breaks left (after_turn state p) (run_after p run)) state run) state run
 
 -- all that are left of a run
-abbrev pub ran_from : Wholes → Progress → Ran
-ran_from state run = ran (run.turns - run.taken) state run
+abbrev pub ran_from : Breaks → Wholes → Progress → Ran
+ran_from breaks state run = ran breaks (run.turns - run.taken) state run
 
 -- the lines of turns, in their order, and the last one
 abbrev pub ran_text : Ran → List ℕ
@@ -104,7 +138,7 @@ ran_text r = flat_map (λ event. turn_text event.0 event.1) r.events ++ stop_tex
 
 -- turns that are begun
 abbrev pub begun_by : Order → ℕ → Progress
-begun_by order turns = record { order = order; turns = turns; taken = 0 }
+begun_by order turns = record { order = order; turns = turns; taken = 0; last = None }
 
 abbrev pub by_turns : ℕ → ℕ → Progress
 by_turns quantum turns = begun_by (ByTurns (record { quantum = quantum; last = None })) turns
@@ -118,41 +152,41 @@ pub record InRun : Type 0 where
   pub stop : Option Stop
 
 -- an ending that was found is the one that holds
-abbrev pub IsFound : Wholes → InRun → Type 0
-IsFound state running = (stop : Stop) → running.stop ≡ Some stop → ending state running.run ≡ Some stop
+abbrev pub IsFound : Breaks → Wholes → InRun → Type 0
+IsFound breaks state running = (stop : Stop) → running.stop ≡ Some stop → ending breaks state running.run ≡ Some stop
 
 -- A turn of a run, where none of the endings holds: whose it is and what came of it, the copying machine after it, and
 -- the run, with the ending that holds then.
-abbrev pub run_found : Wholes → Progress → InRun
-run_found state run = record { run = run; stop = ending state run }
+abbrev pub run_found : Breaks → Wholes → Progress → InRun
+run_found breaks state run = record { run = run; stop = ending breaks state run }
 
 -- `turn`: where an ending was found before, or one holds, there is no turn, and that ending is found; else the next
 -- process takes one.
-abbrev pub found_before : Wholes → InRun → Option Stop
-found_before state running = option_or running.stop (ending state running.run)
+abbrev pub found_before : Breaks → Wholes → InRun → Option Stop
+found_before breaks state running = option_or running.stop (ending breaks state running.run)
 
 -- the run after a turn of p, which left this state
-abbrev pub run_turned : Turn → ℕ → Wholes → Progress → InRun
-run_turned turn.Stepped p state run = run_found state (run_after p run)
-run_turned (turn.Wrote written) p state run = run_found state (run_after p run)
-run_turned (turn.Exited code) p state run = run_found state (run_after p run)
-run_turned (turn.Faulted kind at) p state run = run_found state (run_after p run)
-run_turned (turn.Full units limit) p state run = record { run = run; stop = Some Full }
+abbrev pub run_turned : Breaks → Turn → ℕ → Wholes → Progress → InRun
+run_turned breaks turn.Stepped p state run = run_found breaks state (run_after p run)
+run_turned breaks (turn.Wrote written) p state run = run_found breaks state (run_after p run)
+run_turned breaks (turn.Exited code) p state run = run_found breaks state (run_after p run)
+run_turned breaks (turn.Faulted kind at) p state run = run_found breaks state (run_after p run)
+run_turned breaks (turn.Full units limit) p state run = record { run = run; stop = Some Full }
 
-abbrev pub TakesTurn : Wholes → InRun → Option (ℕ × Turn) → Wholes → InRun → Type 0
-TakesTurn old running None new after =
-    (new ≡ old) × ((stop : Stop) × (found_before old running ≡ Some stop) × (after ≡ record { run = running.run; stop = Some stop }))
-TakesTurn old running (Some (p, turn)) new after =
-    (found_before old running ≡ None) × (next_of old running.run.order ≡ Some p) × (turn ≡ turn_of old p) × (new ≡ after_turn old p)
-    × (after ≡ run_turned turn p new running.run)
+abbrev pub TakesTurn : Breaks → Wholes → InRun → Option (ℕ × Turn) → Wholes → InRun → Type 0
+TakesTurn breaks old running None new after =
+    (new ≡ old) × ((stop : Stop) × (found_before breaks old running ≡ Some stop) × (after ≡ record { run = running.run; stop = Some stop }))
+TakesTurn breaks old running (Some (p, turn)) new after =
+    (found_before breaks old running ≡ None) × (next_of old running.run.order ≡ Some p) × (turn ≡ turn_of old p) × (new ≡ after_turn old p)
+    × (after ≡ run_turned breaks turn p new running.run)
 
 -- What is left of a run in progress: nothing, where an ending was found.
-abbrev pub left_by : Option Stop → Wholes → Progress → Ran
-left_by None state run = ran_from state run
-left_by (Some stop) state run = stopped stop state run
+abbrev pub left_by : Option Stop → Breaks → Wholes → Progress → Ran
+left_by None breaks state run = ran_from breaks state run
+left_by (Some stop) breaks state run = stopped stop state run
 
-abbrev pub left_of : Wholes → InRun → Ran
-left_of state running = left_by running.stop state running.run
+abbrev pub left_of : Breaks → Wholes → InRun → Ran
+left_of breaks state running = left_by running.stop breaks state running.run
 
 -- how often a line may still come
 abbrev pub lines_left : InRun → ℕ
@@ -160,17 +194,18 @@ lines_left running = option_map_or (λ stop. 0) running.stop (running.run.turns 
 
 -- Turns up to one that has a line: its line comes first, and then what the others come to. Where none has one, the
 -- run has ended.
-abbrev pub Speaks : Wholes → InRun → List ℕ → Wholes → InRun → Type 0
-Speaks old running line new after =
-    (ran_text (left_of old running) ≡ line ++ ran_text (left_of new after))
-    × AreLike (left_of old running).after (left_of new after).after
+abbrev pub Speaks : Breaks → Wholes → InRun → List ℕ → Wholes → InRun → Type 0
+Speaks breaks old running line new after =
+    (ran_text (left_of breaks old running) ≡ line ++ ran_text (left_of breaks new after))
+    × AreLike (left_of breaks old running).after (left_of breaks new after).after
 
 -- turns without a line: what is left comes to what all came to
-abbrev pub GoesOn : Wholes → Progress → Wholes → Progress → Type 0
-GoesOn old run new after =
-    (ran_text (ran_from old run) ≡ ran_text (ran_from new after)) × ((ran_from old run).after ≡ (ran_from new after).after)
+abbrev pub GoesOn : Breaks → Wholes → Progress → Wholes → Progress → Type 0
+GoesOn breaks old run new after =
+    (ran_text (ran_from breaks old run) ≡ ran_text (ran_from breaks new after))
+    × ((ran_from breaks old run).after ≡ (ran_from breaks new after).after)
 
-abbrev pub EndsRun : Wholes → InRun → Wholes → InRun → Type 0
-EndsRun old running new after =
-    (stop : Stop) × (after.stop ≡ Some stop) × (ran_text (left_of old running) ≡ stop_text after.run.taken stop)
-    × AreLike (left_of old running).after new
+abbrev pub EndsRun : Breaks → Wholes → InRun → Wholes → InRun → Type 0
+EndsRun breaks old running new after =
+    (stop : Stop) × (after.stop ≡ Some stop) × (ran_text (left_of breaks old running) ≡ stop_text after.run.taken stop)
+    × AreLike (left_of breaks old running).after new

@@ -1,7 +1,7 @@
 //! The session: what the commands of a script do to a machine of several processes.
 //!
-//! The model is the copying machine: the processes by number, each with its whole memory, the checkpoints by name, and how
-//! many numbers were drawn; for each command what it comes to, as one value.
+//! The model is the copying machine: the processes by number, each with its whole memory, the checkpoints by name, the breakpoints
+//! of each process, and how many numbers were drawn; for each command what it comes to, as one value.
 //!
 //! - `session`: loads, changes, and what is looked up
 //! - `forking`: a process under a second number
@@ -9,6 +9,8 @@
 //! - `checkpoints`: what is kept of them, by name
 //! - `overlays`: what is done with the pages of a process: speculation and promotion
 //! - `mapping`: pages that are mapped, and that are given up
+//! - `poking`: bytes that are stored
+//! - `reading`: bytes that are looked at
 //! - `turns`: a run in progress
 //! - `taking`: its turns, taken
 #![tactic(auto)]
@@ -17,6 +19,8 @@ mod checkpoints;
 mod forking;
 mod mapping;
 mod overlays;
+mod poking;
+mod reading;
 mod saving;
 mod session;
 mod taking;
@@ -24,6 +28,9 @@ mod turns;
 
 pub use session::{CheckpointView, Counts, ProcessView, Session};
 pub use turns::{Order, Running};
+
+/// Bytes of an instruction's word.
+pub const WORD_BYTES: u64 = 4;
 
 #[cfg(test)]
 mod tests;

@@ -1,17 +1,18 @@
-ghost use Rattle.std.specs.Prelude.{◌≡◌, ◌==◌, ◌+◌, ◌≤◌, ◌<◌, [], None, true, false, IfOk, IfSome};
+ghost use Rattle.std.specs.Prelude.{◌≡◌, ◌==◌, ◌+◌, ◌≤◌, ◌<◌, [], None, true, false, length, IfOk, IfSome, OnOk};
 ghost use Rattle.script_text.specs.Given.{IsGiven};
 ghost use Rattle.report_text.specs.Answers.{IsCheckpointName};
-ghost use Rattle.sizes.specs.declared.TheConstants.{LAST_SPACE, MOST_FRAMES};
+ghost use Rattle.sizes.specs.declared.TheConstants.{ADDRESS_END, LAST_SPACE, MOST_FRAMES, PAGE_BYTES};
 ghost use Rattle.command_core.specs.State.{fresh, registry_of};
 ghost use Rattle.command_core.specs.Sessions.{KeepsRest};
 ghost use Rattle.command_core.specs.Giving.{GivesChange};
 ghost use Rattle.command_core.specs.Rows.{still_row};
 ghost use Rattle.command_core.specs.Copies.{fork_row};
 ghost use Rattle.command_core.specs.Overlays.{overlay_row};
+ghost use Rattle.command_core.specs.Debugging.{break_row, poke_row, unbreak_row};
 ghost use Rattle.command_core.specs.Checkpoints.{checkpoint_row, forget_row, on_checkpoint, restore_row};
 ghost use Rattle.command_core.specs.Changes.{CanBeTold, answer_of, change_row, drop_row, load_row, on_process};
 ghost use Rattle.command_core.specs.Commands.{RunsLoaded, asks};
-ghost use Rattle.command_core.specs.Looks.{BeginsStep, LooksAt, LooksAtCheckpoint, NextProcess, counts_of, looked_at};
+ghost use Rattle.command_core.specs.Looks.{BeginsStep, CanRead, LooksAt, LooksAtCheckpoint, NextProcess, ReadsBytes, counts_of, look_of, looked_at};
 ghost use Rattle.command_core.specs.Standing.{SessionAnswersAs, GivesAs, HoldsFor, SessionStandsFor, TurnsAs, begun_run, begun_step, ends_run, speaks, takes_turn};
 ghost use Rattle.std.specs.FinMap.{get};
 ghost use Rattle.command_core.specs.Turns.{begun_by, lines_left, run_found};
@@ -19,9 +20,12 @@ ghost use Rattle.command_core.specs.Turns.{begun_by, lines_left, run_found};
 use crate::checkpoints::{Checkpoints, Kept};
 use crate::forking::{fork_process, fork_refusal};
 use crate::overlays::{OverlayChange, change_overlays};
+use crate::poking::poke;
+use crate::reading::{can_read, read_bytes};
 use crate::saving::{checkpoint_refusal, restore_process, save_process};
 use crate::taking::{ending, next_turn, turns_to_line};
 use crate::turns::{Order, Running};
+use breakpoints::Breakpoints;
 use elf_loader::{ElfError, read_image};
 use machine_core::{Machine, SpaceError};
 use ovl_io::{Bytes, ProcessState, Turn};
@@ -68,19 +72,20 @@ pub struct Counts {
     pub misses: u64,
 }
 
-/// Processes by number, checkpoints by name, what commands do to them, and the quantum of turns.
+/// Processes by number, checkpoints by name, breakpoints, what commands do to them, and the quantum of turns.
 #[derive(Drop)]
 pub struct Session {
     alloc: Global,
     machine: Machine,
     checkpoints: Checkpoints,
+    breakpoints: Breakpoints,
     drawn: u16,
     quantum: u32,
 }
 
 impl Model for Session {
     ghost use Rattle.std.specs.Prelude.{◌≤◌};
-    ghost use Rattle.command_core.specs.Sessions.{InSession, IsSession};
+    ghost use Rattle.command_core.specs.Sessions.{InSession, IsSession, NoBreaksAbove};
     ghost use Rattle.command_core.specs.Kept.{shown_session, spaces_kept};
     ghost use Rattle.command_core.specs.Codes.{session_code};
 
@@ -88,9 +93,10 @@ impl Model for Session {
 
     ghost coded = { session_code };
 
-    ghost view = { λ s. shown_session s.machine s.checkpoints s.drawn s.quantum };
+    ghost view = { λ s. shown_session s.machine s.checkpoints s.breakpoints s.drawn s.quantum };
 
-    ghost invariant = { λ s. IsSession s.machine (spaces_kept s.checkpoints) s.drawn × (1 ≤ s.quantum) };
+    ghost invariant = { λ s. IsSession s.machine (spaces_kept s.checkpoints) s.drawn
+        × (1 ≤ s.quantum) × NoBreaksAbove s.drawn s.breakpoints };
 }
 
 /// What a load or a copy that wasn't done answers.
@@ -130,6 +136,7 @@ impl Session {
             alloc,
             machine: Machine::new(alloc, frames)?,
             checkpoints: Checkpoints::new(alloc),
+            breakpoints: Breakpoints::new(alloc),
             drawn: 0,
             quantum,
         })
@@ -306,6 +313,57 @@ impl Session {
         Answer::Done
     }
 
+    /// Stores bytes from an address of a process on. Unmapped or Forbidden at the first whose page isn't there or may not be written, and
+    /// `Full` exactly where neither holds and the units after it would exceed the limit.
+    fn poke(&mut self, p: u16, address: u64, bytes: &Bytes) -> Answer
+        requires { length bytes.now ≤ PAGE_BYTES }
+        ensures gives { GivesChange (on_process p (poke_row p address bytes.now) (registry_of self.old.state))
+            self.old.state result self.new.state }
+        ensures told { CanBeTold result }
+        ensures quantum { self.new.quantum ≡ self.old.quantum }
+    {
+        match self.machine.process(p) {
+            None => Answer::Refused(Code::NoProcess),
+            Some(process) => {
+                let process = *process;
+                poke(&mut self.machine, p, process, address, bytes.as_slice())
+            }
+        }
+    }
+
+    /// Adds a breakpoint of a process. One that is there stays, and takes no memory.
+    fn add_breakpoint(&mut self, p: u16, address: u64) -> Answer
+        ensures gives { GivesChange (on_process p (break_row p address) (registry_of self.old.state))
+            self.old.state result self.new.state }
+        ensures told { CanBeTold result }
+        ensures quantum { self.new.quantum ≡ self.old.quantum }
+    {
+        match self.machine.process(p) {
+            None => return Answer::Refused(Code::NoProcess),
+            Some(_) => {}
+        }
+        match self.breakpoints.add(p, address) {
+            Ok(()) => {}
+            Err(_) => return Answer::Memory,
+        }
+        Answer::Done
+    }
+
+    /// Takes away a breakpoint of a process, where it is there.
+    fn remove_breakpoint(&mut self, p: u16, address: u64) -> Answer
+        ensures gives { GivesChange (on_process p (unbreak_row p address) (registry_of self.old.state))
+            self.old.state result self.new.state }
+        ensures told { CanBeTold result }
+        ensures quantum { self.new.quantum ≡ self.old.quantum }
+    {
+        match self.machine.process(p) {
+            None => return Answer::Refused(Code::NoProcess),
+            Some(_) => {}
+        }
+        self.breakpoints.remove(p, address);
+        Answer::Done
+    }
+
     /// Gives up a process.
     fn drop_process(&mut self, p: u16) -> Answer
         ensures gives { GivesChange (on_process p (drop_row p) (registry_of self.old.state)) self.old.state
@@ -319,6 +377,7 @@ impl Session {
         }
         self.machine.remove(p);
         self.machine.drop_space(p);
+        self.breakpoints.clear(p);
         Answer::Done
     }
 
@@ -351,9 +410,12 @@ impl Session {
                 self.change_overlays(*p, OverlayChange::Unmap(*address, *n))
             }
             Command::Drop(p) => self.drop_process(*p),
+            Command::Poke(p, address, bytes) => self.poke(*p, *address, bytes),
             Command::Set(p, register, value) => {
                 self.change_overlays(*p, OverlayChange::Set(*register, *value))
             }
+            Command::Break(p, address) => self.add_breakpoint(*p, *address),
+            Command::Unbreak(p, address) => self.remove_breakpoint(*p, *address),
             _ => Answer::Done,
         }
     }
@@ -383,7 +445,7 @@ impl Session {
 
     /// Begins so many turns, at least 1, of one process. Refused where there is none, or where it has ended.
     pub fn begin_step(&self, p: u16, turns: u32) -> Result<Running, Code>
-        ensures begun { BeginsStep self.now.state.wholes p turns result }
+        ensures begun { BeginsStep self.now.state.breakpoints self.now.state.wholes p turns result }
         ensures stands { SessionAnswersAs (begun_step p turns) self.now result }
     {
         match self.machine.process(p) {
@@ -397,10 +459,10 @@ impl Session {
 
     /// A run of which no turn was taken, with the ending that holds.
     fn begin(&self, order: Order, turns: u32) -> Running
-        ensures { result ≡ run_found self.now.state.wholes (begun_by order turns) }
+        ensures { result ≡ run_found self.now.state.breakpoints self.now.state.wholes (begun_by order turns) }
     {
         let mut running = Running::new(order, turns);
-        let stop = ending(&self.machine, &running);
+        let stop = ending(&self.machine, &self.breakpoints, &running);
         running.set_stop(stop);
         running
     }
@@ -412,7 +474,7 @@ impl Session {
         ensures stands { TurnsAs (takes_turn running.old result running.new) self.old self.new }
         ensures others { KeepsRest self.old self.new }
     {
-        next_turn(&mut self.machine, running)
+        next_turn(&mut self.machine, &self.breakpoints, running)
     }
 
     /// Takes turns until one has a line, which it sets, and answers true; or until the run has ended. It is `turn` again
@@ -430,7 +492,7 @@ impl Session {
         ensures within { running.new.run.taken ≤ running.new.run.turns }
         ensures others { KeepsRest self.old self.new }
     {
-        turns_to_line(&mut self.machine, running, line)
+        turns_to_line(&mut self.machine, &self.breakpoints, running, line)
     }
 
     /// A process, by its number; refused where there is none.
@@ -447,6 +509,36 @@ impl Session {
                 speculating: self.machine.memory().is_speculating(p),
                 pages: self.machine.memory().pages(p),
             }),
+        }
+    }
+
+    /// Whether `n` bytes of a process from an address on are there, whatever the permissions: refused where there is no process, and at the
+    /// first byte whose page isn't there.
+    pub fn can_read(&self, p: u16, address: u64, n: u32) -> Result<(), Code>
+        ensures looks { CanRead self.now.state.wholes.processes p address n result }
+        ensures stands { SessionAnswersAs
+            (λ state. look_of address n (get state.wholes.processes p)) self.now result }
+        ensures low { OnOk result (0 < n → address + n ≤ ADDRESS_END) }
+    {
+        match self.machine.process(p) {
+            None => Err(Code::NoProcess),
+            Some(_) => can_read(self.machine.memory(), p, address, n),
+        }
+    }
+
+    /// Fills `into` with the bytes of a process from an address on, whatever the permissions: refused where there is no process, and at
+    /// the first byte whose page isn't there.
+    pub fn read(&self, p: u16, address: u64, into: &mut [u8]) -> Result<(), Code>
+        ensures looks { CanRead self.now.state.wholes.processes p address (length into.old) result }
+        ensures bytes { ReadsBytes self.now.state.wholes.processes p address (length into.old)
+            into.new result }
+        ensures stands { HoldsFor
+            (λ state. CanRead state.wholes.processes p address (length into.old) result) self.now }
+        ensures kept { length into.new ≡ length into.old }
+    {
+        match self.machine.process(p) {
+            None => Err(Code::NoProcess),
+            Some(_) => read_bytes(self.machine.memory(), p, address, into),
         }
     }
 
@@ -471,6 +563,7 @@ impl Session {
             Some(kept) => Some(view_of(kept, self.machine.memory().pages(kept.space))),
         }
     }
+
     /// What is counted over all processes and checkpoints. Costs a step.
     pub fn counts(&self) -> Counts
         ensures counts { result ≡ counts_of self.now.state.wholes }

@@ -2,14 +2,17 @@
 
 ghost use Rattle.std.specs.Prelude.{◌≡◌, ◌+◌, ◌≤◌, ◌<◌, [], Some, None, true, false, IfSome};
 ghost use Rattle.report_text.specs.Answers.{turn_text};
-ghost use Rattle.machine_core.specs.Machine.{KeepsPlaces, has_space, is_running, wholes};
+ghost use Rattle.machine_core.specs.Machine.{KeepsPlaces, StaysBut, has_space, is_running, wholes};
+ghost use Rattle.machine_core.specs.Executions.{after_executions, came_to_last, steps_to};
 ghost use Rattle.machine_core.specs.Turns.{after_asked, turn_asked};
 ghost use Rattle.command_core.specs.Sessions.{KeepsFree, OwnSpaces};
-ghost use Rattle.command_core.specs.Turns.{EndsRun, GoesOn, Speaks, TakesTurn, ending, lines_left, next_of, rest_of, run_turned};
+ghost use Rattle.breakpoints.specs.Breakpoints.{addresses_of};
+ghost use Rattle.command_core.specs.Turns.{EndsRun, GoesOn, Speaks, TakesTurn, break_among, break_of, ending, ending_by, last_break, lines_left, next_of, rest_of, run_turned};
 
 use crate::turns::{Order, Running};
-use machine_core::Machine;
-use ovl_io::{FaultKind, Turn};
+use breakpoints::{Addresses, Breakpoints};
+use machine_core::{Machine, Process};
+use ovl_io::{FaultKind, ProcessState, Turn};
 use report_text::{Line, Stop, turn_line};
 use rv_execute::Outcome;
 
@@ -43,20 +46,50 @@ fn full_line(p: u16, units: u32, limit: u32, line: &mut Line)
     turn_line(p, &Turn::Full(units, limit), line);
 }
 
-/// Takes turns of a running process, whose turn is next: until one has a line, which it sets, and answers true; or as
-/// many as there are until another's turn may be next. One for which there aren't units enough isn't counted, and ends the
+/// Executes up to so many instructions of a running process, whose space is there, as long as each is a step and leads to none
+/// of its breakpoints. Answers how many were steps, and what came of the last one.
+#[inline]
+fn execute_up_to(
+    machine: &mut Machine,
+    breakpoints: &Breakpoints,
+    p: u16,
+    most: u32,
+) -> (u32, Outcome)
+    requires runs { is_running (wholes machine.old) p ≡ true }
+    requires there { has_space machine.old p ≡ true }
+    ensures steps { result.0
+        ≡ steps_to (addresses_of breakpoints.now p) most (wholes machine.old) p }
+    ensures outcome { result.1
+        ≡ came_to_last (addresses_of breakpoints.now p) most (wholes machine.old) p }
+    ensures after { wholes machine.new
+        ≡ after_executions (addresses_of breakpoints.now p) most (wholes machine.old) p }
+    ensures others { StaysBut p machine.old machine.new }
+    ensures places { KeepsPlaces machine.old machine.new }
+{
+    machine.execute_up_to(p, most, breakpoints.of(p))
+}
+
+/// Takes turns of a running process, whose turn is next: until one has a line, which it sets, and answers true; or until one
+/// reaches a breakpoint; or as many as there are until another's turn may be next. One for which there aren't units enough isn't counted, and ends the
 /// run.
 #[inline]
-fn take_turns(machine: &mut Machine, running: &mut Running, p: u16, line: &mut Line) -> bool
+fn take_turns(
+    machine: &mut Machine,
+    breakpoints: &Breakpoints,
+    running: &mut Running,
+    p: u16,
+    line: &mut Line,
+) -> bool
     requires runs { is_running (wholes machine.old) p ≡ true }
     requires there { has_space machine.old p ≡ true }
     requires next { next_of (wholes machine.old) running.old.run.order ≡ Some p }
     requires left { running.old.run.taken < running.old.run.turns }
+    requires unbroken { last_break breakpoints.now (wholes machine.old) running.old.run ≡ None }
     requires goes { running.old.stop ≡ None }
-    ensures says { result ≡ true →
-        Speaks (wholes machine.old) running.old line.new.items (wholes machine.new) running.new }
-    ensures quiet { result ≡ false →
-        GoesOn (wholes machine.old) running.old.run (wholes machine.new) running.new.run }
+    ensures says { result ≡ true → Speaks breakpoints.now
+        (wholes machine.old) running.old line.new.items (wholes machine.new) running.new }
+    ensures quiet { result ≡ false → GoesOn breakpoints.now
+        (wholes machine.old) running.old.run (wholes machine.new) running.new.run }
     ensures goes { result ≡ false → running.new.stop ≡ None }
     ensures fewer { lines_left running.new < lines_left running.old }
     ensures asked { running.new.run.turns ≡ running.old.run.turns }
@@ -64,7 +97,7 @@ fn take_turns(machine: &mut Machine, running: &mut Running, p: u16, line: &mut L
     ensures kept { KeepsPlaces machine.old machine.new }
     ensures free { KeepsFree machine.old machine.new }
 {
-    let (steps, outcome) = machine.execute_up_to(p, running.stretch(p));
+    let (steps, outcome) = execute_up_to(machine, breakpoints, p, running.stretch(p));
     match outcome {
         Outcome::Stepped => {
             running.took_turns(p, steps);
@@ -116,9 +149,50 @@ fn rest(order: &Order) -> Stop
     }
 }
 
-/// The ending that holds, if one does.
-pub(crate) fn ending(machine: &Machine, running: &Running) -> Option<Stop>
-    ensures { result ≡ ending (wholes machine.now) running.now.run }
+/// The breakpoint at one of some addresses at which a process runs, if it does.
+fn break_in(addresses: &Addresses, p: u16, process: &Process) -> Option<Stop>
+    ensures { result ≡ break_among addresses.now p process.now }
+{
+    let at = process.regs.pc();
+    match process.state {
+        ProcessState::Running => {
+            if addresses.has(at) {
+                Some(Stop::Break(p, at))
+            } else {
+                None
+            }
+        }
+        ProcessState::Exited(_) | ProcessState::Faulted(_, _) => None,
+    }
+}
+
+/// The breakpoint of a process at which it runs, if it does.
+fn break_of(machine: &Machine, breakpoints: &Breakpoints, p: u16) -> Option<Stop>
+    ensures { result ≡ break_of breakpoints.now (wholes machine.now) p }
+{
+    match breakpoints.of(p) {
+        None => None,
+        Some(addresses) => match machine.process(p) {
+            None => None,
+            Some(process) => break_in(addresses, p, process),
+        },
+    }
+}
+
+/// The breakpoint to which the last turn led, if it led to one.
+#[inline]
+fn last_break(machine: &Machine, breakpoints: &Breakpoints, running: &Running) -> Option<Stop>
+    ensures { result ≡ last_break breakpoints.now (wholes machine.now) running.now.run }
+{
+    match running.last() {
+        None => None,
+        Some(p) => break_of(machine, breakpoints, p),
+    }
+}
+
+/// The ending that holds where the last turn led to no breakpoint, if one does.
+fn ending_unbroken(machine: &Machine, running: &Running) -> Option<Stop>
+    ensures { result ≡ ending_by (next_of (wholes machine.now) running.now.run.order) running.now.run }
 {
     match next(machine, running.order()) {
         None => Some(rest(running.order())),
@@ -132,26 +206,51 @@ pub(crate) fn ending(machine: &Machine, running: &Running) -> Option<Stop>
     }
 }
 
+/// The ending that holds, if one does.
+pub(crate) fn ending(
+    machine: &Machine,
+    breakpoints: &Breakpoints,
+    running: &Running,
+) -> Option<Stop>
+    ensures { result ≡ ending breakpoints.now (wholes machine.now) running.now.run }
+{
+    match last_break(machine, breakpoints, running) {
+        Some(stop) => Some(stop),
+        None => ending_unbroken(machine, running),
+    }
+}
+
 /// Counts a turn of a process, and finds the ending that holds then. One for which there weren't units enough isn't counted, and
 /// ends the run.
-fn end_turn(machine: &Machine, running: &mut Running, p: u16, turn: &Turn)
+fn end_turn(
+    machine: &Machine,
+    breakpoints: &Breakpoints,
+    running: &mut Running,
+    p: u16,
+    turn: &Turn,
+)
     requires { running.old.run.taken < running.old.run.turns }
-    ensures { running.new ≡ run_turned turn.now p (wholes machine.now) running.old.run }
+    ensures { running.new ≡ run_turned breakpoints.now turn.now p (wholes machine.now) running.old.run }
 {
     match turn {
         Turn::Full(_, _) => running.set_stop(Some(Stop::Full)),
         Turn::Stepped | Turn::Wrote(_) | Turn::Exited(_) | Turn::Faulted(_, _) => {
             running.took(p);
-            let stop = ending(machine, running);
+            let stop = ending(machine, breakpoints, running);
             running.set_stop(stop);
         }
     }
 }
 
 /// Takes the next turn. None exactly where an ending was found before, or one holds; then no turn is taken.
-pub(crate) fn next_turn(machine: &mut Machine, running: &mut Running) -> Option<(u16, Turn)>
+pub(crate) fn next_turn(
+    machine: &mut Machine,
+    breakpoints: &Breakpoints,
+    running: &mut Running,
+) -> Option<(u16, Turn)>
     requires { OwnSpaces machine.old }
-    ensures turn { TakesTurn (wholes machine.old) running.old result (wholes machine.new) running.new }
+    ensures turn { TakesTurn breakpoints.now
+        (wholes machine.old) running.old result (wholes machine.new) running.new }
     ensures kept { KeepsPlaces machine.old machine.new }
     ensures free { KeepsFree machine.old machine.new }
 {
@@ -159,7 +258,7 @@ pub(crate) fn next_turn(machine: &mut Machine, running: &mut Running) -> Option<
         Some(_) => return None,
         None => {}
     }
-    match ending(machine, running) {
+    match ending(machine, breakpoints, running) {
         Some(stop) => {
             running.set_stop(Some(stop));
             return None;
@@ -170,7 +269,7 @@ pub(crate) fn next_turn(machine: &mut Machine, running: &mut Running) -> Option<
         None => None,
         Some(p) => {
             let turn = machine.event(p);
-            end_turn(machine, running, p, &turn);
+            end_turn(machine, breakpoints, running, p, &turn);
             Some((p, turn))
         }
     }
@@ -178,13 +277,18 @@ pub(crate) fn next_turn(machine: &mut Machine, running: &mut Running) -> Option<
 
 /// Takes turns of a run of which no ending was found, until one has a line, which it sets, and answers true; or until the run
 /// has ended.
-fn quiet_turns(machine: &mut Machine, running: &mut Running, line: &mut Line) -> bool
+fn quiet_turns(
+    machine: &mut Machine,
+    breakpoints: &Breakpoints,
+    running: &mut Running,
+    line: &mut Line,
+) -> bool
     requires spaces { OwnSpaces machine.old }
     requires goes { running.old.stop ≡ None }
-    ensures says { result ≡ true →
-        Speaks (wholes machine.old) running.old line.new.items (wholes machine.new) running.new }
-    ensures ends { result ≡ false →
-        EndsRun (wholes machine.old) running.old (wholes machine.new) running.new }
+    ensures says { result ≡ true → Speaks breakpoints.now
+        (wholes machine.old) running.old line.new.items (wholes machine.new) running.new }
+    ensures ends { result ≡ false → EndsRun breakpoints.now
+        (wholes machine.old) running.old (wholes machine.new) running.new }
     ensures fewer { result ≡ true → lines_left running.new < lines_left running.old }
     ensures asked { running.new.run.turns ≡ running.old.run.turns }
     ensures within { running.new.run.taken ≤ running.new.run.turns }
@@ -192,28 +296,37 @@ fn quiet_turns(machine: &mut Machine, running: &mut Running, line: &mut Line) ->
     ensures free { KeepsFree machine.old machine.new }
 {
     'quiet: while running.has_left() {
+        match last_break(machine, breakpoints, running) {
+            Some(_) => break,
+            None => {}
+        }
         match next(machine, running.order()) {
             None => break,
             Some(p) => {
-                if take_turns(machine, running, p, line) {
+                if take_turns(machine, breakpoints, running, p, line) {
                     return true;
                 }
             }
         }
     }
-    let stop = ending(machine, running);
+    let stop = ending(machine, breakpoints, running);
     running.set_stop(stop);
     false
 }
 
 /// Takes turns until one has a line, which it sets, and answers true; or until the run has ended. Where an ending was found
 /// before, nothing changes.
-pub(crate) fn turns_to_line(machine: &mut Machine, running: &mut Running, line: &mut Line) -> bool
+pub(crate) fn turns_to_line(
+    machine: &mut Machine,
+    breakpoints: &Breakpoints,
+    running: &mut Running,
+    line: &mut Line,
+) -> bool
     requires { OwnSpaces machine.old }
-    ensures says { result ≡ true →
-        Speaks (wholes machine.old) running.old line.new.items (wholes machine.new) running.new }
-    ensures ends { result ≡ false →
-        EndsRun (wholes machine.old) running.old (wholes machine.new) running.new }
+    ensures says { result ≡ true → Speaks breakpoints.now
+        (wholes machine.old) running.old line.new.items (wholes machine.new) running.new }
+    ensures ends { result ≡ false → EndsRun breakpoints.now
+        (wholes machine.old) running.old (wholes machine.new) running.new }
     ensures fewer { result ≡ true → lines_left running.new < lines_left running.old }
     ensures asked { running.new.run.turns ≡ running.old.run.turns }
     ensures within { running.new.run.taken ≤ running.new.run.turns }
@@ -223,5 +336,5 @@ pub(crate) fn turns_to_line(machine: &mut Machine, running: &mut Running, line: 
     if running.has_ended() {
         return false;
     }
-    quiet_turns(machine, running, line)
+    quiet_turns(machine, breakpoints, running, line)
 }

@@ -1,6 +1,6 @@
 ghost use Rattle.std.specs.Prelude.{◌≡◌, ◌<◌, ◌≤◌, None, nat_lt};
 ghost use Rattle.std.specs.Option.{is_some};
-ghost use Rattle.command_core.specs.Turns.{run_after, run_took, stretch};
+ghost use Rattle.command_core.specs.Turns.{begun_by, run_after, run_took, stretch};
 
 use report_text::Stop;
 use round_robin::RoundRobin;
@@ -21,6 +21,7 @@ pub struct Running {
     order: Order,
     turns: u32,
     taken: u32,
+    last: Option<u16>,
     stop: Option<Stop>,
 }
 
@@ -31,7 +32,7 @@ impl Model for Running {
     ghost Value = { InRun };
 
     ghost view = { λ r. record {
-      run = record { order = r.order; turns = r.turns; taken = r.taken };
+      run = record { order = r.order; turns = r.turns; taken = r.taken; last = r.last };
       stop = r.stop;
     } };
 
@@ -41,12 +42,13 @@ impl Model for Running {
 impl Running {
     /// A run of so many turns, of which none was taken; no ending was looked for.
     pub(crate) fn new(order: Order, turns: u32) -> Running
-        ensures { result ≡ record { run = record { order = order; turns = turns; taken = 0 }; stop = None } }
+        ensures { result ≡ record { run = begun_by order turns; stop = None } }
     {
         Running {
             order,
             turns,
             taken: 0,
+            last: None,
             stop: None,
         }
     }
@@ -56,6 +58,14 @@ impl Running {
         ensures within { self.now.run.taken ≤ self.now.run.turns }
     {
         &self.order
+    }
+
+    /// Whose turn was the last; none where none was taken.
+    #[inline]
+    pub(crate) fn last(&self) -> Option<u16>
+        ensures { result ≡ self.now.run.last }
+    {
+        self.last
     }
 
     /// Whether a turn is left to be taken.
@@ -83,6 +93,7 @@ impl Running {
             turns.took(p);
         }
         self.taken += 1;
+        self.last = Some(p);
     }
 
     /// How many turns `p`, whose turn is next, has until another's may be, or until none is left.
@@ -110,6 +121,7 @@ impl Running {
             if let Order::ByTurns(turns) = &mut self.order {
                 turns.took_turns(p, n);
             }
+            self.last = Some(p);
         }
         self.taken += n;
     }

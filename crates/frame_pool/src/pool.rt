@@ -46,6 +46,7 @@ impl FramePool {
 
     /// One page fewer names a frame, which is there and which a page names. Every other count stays. True exactly
     /// where no page names it now. Takes no memory, and costs a step.
+    #[inline(always)]
     pub fn release(&mut self, f: u32) -> bool
         requires there { f < length self.old }
         requires some { 0 < sharers_of self.old f }

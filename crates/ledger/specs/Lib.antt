@@ -10,6 +10,7 @@ pub mod Alike
 pub mod PlaceLaws
 pub mod ClassLaws
 pub mod UnitLaws
+pub mod AmpleLaws
 pub mod AloneLaws
 pub mod OriginLaws
 pub mod AlikeLaws

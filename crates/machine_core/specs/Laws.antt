@@ -30,7 +30,9 @@ use Rattle.rv_execute.specs.Step.{Request, request, turned}
 use Rattle.machine_core.specs.Process.{Process, is_speculating, runs}
 use Rattle.machine_core.specs.Machine.{AnswersAs, AreLike, IsDropped, LeadsTo, Machine, Processes, Wholes, is_running, kept_in, kept_whole, limit_of, none_saved, processes_of, spaces_of, whole_in, wholes, with_process_at, without_pages, without_process, without_process_at}
 use Rattle.machine_core.specs.Turns.{Guest, asked_found, after_asked, after_execution, after_request, after_step, after_turn, came_to, exceeds, executed, execution_of, guest_after, guest_answered, guest_at, guest_executed, guest_of, is_full, ledger_executed, ledger_stored, outcome_found, outcome_of, process_after, process_executed, request_of, state_executed, step_of, store_of, turn_asked, turn_in, turn_of, units_needed, with_guest}
-use Rattle.machine_core.specs.Executions.{Executions, after_executions, all_executed, came_to_last, executions, first_execution, steps_to}
+use Rattle.std.specs.FinSet.{contains}
+use Rattle.breakpoints.specs.Breakpoints.{Addresses}
+use Rattle.machine_core.specs.Executions.{Executions, after_executions, all_executed, came_to_last, executions, first_execution, is_at_stop, more_executions, steps_to, stopped_execution}
 use Rattle.machine_core.specs.Play.{after_number, run_over}
 
 -- What the copying machine has of a machine, what states that differ in the numbers of origins alone have in common, and a turn by
@@ -194,19 +196,27 @@ pub record AreLikeExecutions (a b : Executions) : Type 0 where
   pub outcome_is : a.outcome ≡ b.outcome
   pub after : AreLikeGuests a.after b.after
 
-like_first : (o : Outcome) (a b x y : Guest) (r s : Executions) → AreLikeGuests a b → AreLikeGuests x y → AreLikeExecutions r s
-    → AreLikeExecutions (first_execution o a x r) (first_execution o b y s)
-like_first outcome.Stepped a b x y r s h k more = record { steps = ap (λ n. n + 1) more.steps; before = more.before; outcome_is = more.outcome_is; after = more.after }
-like_first outcome.Asked a b x y r s h k more = record { steps = refl; before = h; outcome_is = refl; after = k }
-like_first (outcome.Fault kind address) a b x y r s h k more = record { steps = refl; before = h; outcome_is = refl; after = k }
-like_first (outcome.Full units limit) a b x y r s h k more = record { steps = refl; before = h; outcome_is = refl; after = k }
+like_step : (t u : Bool) (x y : Guest) (r s : Executions) → t ≡ u → AreLikeGuests x y → AreLikeExecutions r s
+    → AreLikeExecutions (cond t (stopped_execution x) (more_executions r)) (cond u (stopped_execution y) (more_executions s))
+like_step true true x y r s same k more = record { steps = refl; before = k; outcome_is = refl; after = k }
+like_step false false x y r s same k more = record { steps = ap (λ n. n + 1) more.steps; before = more.before; outcome_is = more.outcome_is; after = more.after }
+like_step true false x y r s same k more = cc
+like_step false true x y r s same k more = cc
 
-pub like_executions : (p most : ℕ) (a b : Guest) → AreLikeGuests a b → AreLikeExecutions (executions p most a) (executions p most b)
-like_executions p zero a b like = record { steps = refl; before = like; outcome_is = refl; after = like }
-like_executions p (suc most) a b like =
-    subst (λ o. AreLikeExecutions (executions p (suc most) a) (first_execution o b (executed p b) (executions p most (executed p b)))) (like_outcome p a b like)
-    (like_first (outcome_of p a) a b (executed p a) (executed p b) _ _ like (like_executed p a b like)
-    (like_executions p most (executed p a) (executed p b) (like_executed p a b like)))
+like_first : (stops : Addresses) (o : Outcome) (a b x y : Guest) (r s : Executions) → AreLikeGuests a b → AreLikeGuests x y → AreLikeExecutions r s
+    → AreLikeExecutions (first_execution stops o a x r) (first_execution stops o b y s)
+like_first stops outcome.Stepped a b x y r s h k more =
+    like_step (is_at_stop stops x) (is_at_stop stops y) x y r s (ap (λ (process : Process). contains stops process.registers.pc) k.process) k more
+like_first stops outcome.Asked a b x y r s h k more = record { steps = refl; before = h; outcome_is = refl; after = k }
+like_first stops (outcome.Fault kind address) a b x y r s h k more = record { steps = refl; before = h; outcome_is = refl; after = k }
+like_first stops (outcome.Full units limit) a b x y r s h k more = record { steps = refl; before = h; outcome_is = refl; after = k }
+
+pub like_executions : (stops : Addresses) (p most : ℕ) (a b : Guest) → AreLikeGuests a b → AreLikeExecutions (executions stops p most a) (executions stops p most b)
+like_executions stops p zero a b like = record { steps = refl; before = like; outcome_is = refl; after = like }
+like_executions stops p (suc most) a b like =
+    subst (λ o. AreLikeExecutions (executions stops p (suc most) a) (first_execution stops o b (executed p b) (executions stops p most (executed p b)))) (like_outcome p a b like)
+    (like_first stops (outcome_of p a) a b (executed p a) (executed p b) _ _ like (like_executed p a b like)
+    (like_executions stops p most (executed p a) (executed p b) (like_executed p a b like)))
 
 -- of a process that may be there
 module _ (p : ℕ) (a b : Wholes) (like : AreLike a b) where
@@ -235,14 +245,14 @@ module _ (p : ℕ) (a b : Wholes) (like : AreLike a b) where
             frames = more.frames;
           }
 
-  pub like_steps : (most : ℕ) → steps_to most a p ≡ steps_to most b p
-  like_steps most = at_both (λ guest. (executions p most guest).steps) 0 (λ g h k. (like_executions p most g h k).steps)
+  pub like_steps : (stops : Addresses) (most : ℕ) → steps_to stops most a p ≡ steps_to stops most b p
+  like_steps stops most = at_both (λ guest. (executions stops p most guest).steps) 0 (λ g h k. (like_executions stops p most g h k).steps)
 
-  pub like_came : (most : ℕ) → came_to_last most a p ≡ came_to_last most b p
-  like_came most = at_both (λ guest. (executions p most guest).outcome) outcome.Stepped (λ g h k. (like_executions p most g h k).outcome_is)
+  pub like_came : (stops : Addresses) (most : ℕ) → came_to_last stops most a p ≡ came_to_last stops most b p
+  like_came stops most = at_both (λ guest. (executions stops p most guest).outcome) outcome.Stepped (λ g h k. (like_executions stops p most g h k).outcome_is)
 
-  pub like_after_executions : (most : ℕ) → AreLike (after_executions most a p) (after_executions most b p)
-  like_after_executions most = after_both (all_executed p most) (λ g h k. (like_executions p most g h k).after)
+  pub like_after_executions : (stops : Addresses) (most : ℕ) → AreLike (after_executions stops most a p) (after_executions stops most b p)
+  like_after_executions stops most = after_both (all_executed stops p most) (λ g h k. (like_executions stops p most g h k).after)
 
   pub like_asked : turn_asked a p ≡ turn_asked b p
   like_asked = at_both (λ guest. (request_of p guest.process).turn) turn.Stepped (λ g h k. ap (λ (process : Process). (request_of p process).turn) k.process)

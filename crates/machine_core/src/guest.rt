@@ -1,6 +1,7 @@
 //! One process, and its turn.
 
 ghost use Rattle.std.specs.Prelude.{◌≡◌, ℕ, ◌≤◌, length, true};
+ghost use Rattle.std.specs.FinSet.{contains};
 ghost use Rattle.sizes.specs.declared.TheConstants.{MOST_WRITTEN};
 ghost use Rattle.rv_execute.specs.Registers.{with_register};
 ghost use Rattle.rv_execute.specs.Step.{exit, request, write};
@@ -8,7 +9,7 @@ ghost use Rattle.overlay_pages.specs.State.{memory_of};
 ghost use Rattle.overlay_pages.specs.View.{state_of};
 ghost use Rattle.space_maps.specs.Spaces.{holds_space};
 ghost use Rattle.machine_core.specs.Turns.{answered_by, executed, outcome_of};
-ghost use Rattle.machine_core.specs.Executions.{all_executed, executions};
+ghost use Rattle.machine_core.specs.Executions.{all_executed, executions, stops_in};
 ghost use Rattle.machine_core.specs.Access.{IsReadyView, spaces_lent};
 ghost use Rattle.machine_core.specs.Kept.{IsBeside, guest_in, guest_lent};
 
@@ -16,6 +17,7 @@ use crate::process::Process;
 use crate::view::View;
 use arrayvec::ArrayVec;
 use bitflags::Flags;
+use breakpoints::Addresses;
 use overlay_memory::OverlayMemory;
 use ovl_io::{Perms, ProcessState, Turn, Written};
 use rv_execute::{Outcome, execute};
@@ -136,25 +138,47 @@ fn execute_one(process: &mut Process, view: &mut View) -> Outcome
     outcome
 }
 
-/// Executes up to so many instructions in the space that is lent, which is there, as long as each is a step. Answers how many
-/// were steps, and what came of the last one.
-fn step_up_to(process: &mut Process, view: &mut View, most: u32) -> (u32, Outcome)
+/// Whether an address is among those at which executions stop.
+#[inline]
+fn is_stop(stops: Option<&Addresses>, address: u64) -> bool
+    ensures { result ≡ contains (stops_in stops.entry) address }
+{
+    match stops {
+        Some(addresses) => addresses.has(address),
+        None => false,
+    }
+}
+
+/// Executes up to so many instructions in the space that is lent, which is there, as long as each is a step and leaves the pc
+/// at no stop. Answers how many were steps, and what came of the last one.
+fn step_up_to(
+    process: &mut Process,
+    view: &mut View,
+    most: u32,
+    stops: Option<&Addresses>,
+) -> (u32, Outcome)
     requires runs { process.old.state ≡ ProcessState.Running }
     requires ready { IsReadyView view.old }
     ensures loan { view.new.memory.ghost_name ≡ view.old.memory.ghost_name }
     ensures space { view.new.space ≡ view.old.space }
-    ensures steps { result.0 ≡ (executions view.old.space most (guest_lent view.old process.old)).steps }
+    ensures steps { result.0
+        ≡ (executions (stops_in stops.entry) view.old.space most (guest_lent view.old process.old)).steps }
     ensures outcome { result.1
-        ≡ (executions view.old.space most (guest_lent view.old process.old)).outcome }
+        ≡ (executions (stops_in stops.entry) view.old.space most (guest_lent view.old process.old)).outcome }
     ensures after { guest_lent view.new process.new
-        ≡ all_executed view.old.space most (guest_lent view.old process.old) }
+        ≡ all_executed (stops_in stops.entry) view.old.space most (guest_lent view.old process.old) }
     ensures saved { process.new.saved ≡ process.old.saved }
     ensures beside { IsBeside view.old.space (spaces_lent view.old) (spaces_lent view.new) }
 {
     let mut steps = 0u32;
     'stepping: while steps < most {
         match execute_one(process, view) {
-            Outcome::Stepped => steps += 1,
+            Outcome::Stepped => {
+                steps += 1;
+                if is_stop(stops, process.regs.pc()) {
+                    return (steps, Outcome::Stepped);
+                }
+            }
             Outcome::Asked => return (steps, Outcome::Asked),
             Outcome::Fault(kind, address) => return (steps, Outcome::Fault(kind, address)),
             Outcome::Full(units, limit) => return (steps, Outcome::Full(units, limit)),
@@ -163,23 +187,24 @@ fn step_up_to(process: &mut Process, view: &mut View, most: u32) -> (u32, Outcom
     (steps, Outcome::Stepped)
 }
 
-/// Executes up to so many instructions in space `p`, which is there, as long as each is a step. Answers how many were steps,
-/// and what came of the last one.
+/// Executes up to so many instructions in space `p`, which is there, as long as each is a step and leaves the pc at no stop.
+/// Answers how many were steps, and what came of the last one.
 #[inline]
 pub(crate) fn execute_up_to(
     process: &mut Process,
     memory: &mut OverlayMemory,
     p: u16,
     most: u32,
+    stops: Option<&Addresses>,
 ) -> (u32, Outcome)
     requires runs { process.old.state ≡ ProcessState.Running }
     requires there { holds_space (state_of memory.old) p ≡ true }
     ensures steps { result.0
-        ≡ (executions p most (guest_in p (state_of memory.old) process.old)).steps }
+        ≡ (executions (stops_in stops.entry) p most (guest_in p (state_of memory.old) process.old)).steps }
     ensures outcome { result.1
-        ≡ (executions p most (guest_in p (state_of memory.old) process.old)).outcome }
+        ≡ (executions (stops_in stops.entry) p most (guest_in p (state_of memory.old) process.old)).outcome }
     ensures after { guest_in p (state_of memory.new) process.new
-        ≡ all_executed p most (guest_in p (state_of memory.old) process.old) }
+        ≡ all_executed (stops_in stops.entry) p most (guest_in p (state_of memory.old) process.old) }
     ensures saved { process.new.saved ≡ process.old.saved }
     ensures beside { IsBeside p (state_of memory.old) (state_of memory.new) }
 {
@@ -188,5 +213,5 @@ pub(crate) fn execute_up_to(
         space: p,
         code: None,
     };
-    step_up_to(process, &mut view, most)
+    step_up_to(process, &mut view, most, stops)
 }

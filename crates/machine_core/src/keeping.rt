@@ -5,12 +5,13 @@ ghost use Rattle.std.specs.FinMap as map;
 ghost use Rattle.std.specs.Option.{is_some};
 ghost use Rattle.machine_core.specs.Machine.{has_space, is_running, wholes};
 ghost use Rattle.machine_core.specs.Turns.{after_asked, turn_asked};
-ghost use Rattle.machine_core.specs.Executions.{after_executions, came_to_last, steps_to};
+ghost use Rattle.machine_core.specs.Executions.{after_executions, came_to_last, steps_to, stops_in};
 ghost use Rattle.machine_core.specs.Kept.{IsChanged, IsListBut, IsRunningList, machine_of, runs_at};
 
 use crate::guest::{answer_request, execute_up_to};
 use crate::process::{Process, is_running};
 use crate::running::{list, reserve};
+use breakpoints::Addresses;
 use by_number::ByNumber;
 use overlay_memory::OverlayMemory;
 use ovl_io::Turn;
@@ -36,36 +37,37 @@ fn relist(processes: &ByNumber<Process>, running: &mut Vec<u16>, p: u16)
     list(running, p, runs_in(processes, p));
 }
 
-/// Executes up to so many instructions of a running process, whose space is there, as long as each is a step. Answers also whether
-/// it still runs.
+/// Executes up to so many instructions of a running process, whose space is there, as long as each is a step and leaves the pc at no
+/// stop. Answers also whether it still runs.
 #[inline]
 fn execute_in(
     processes: &mut ByNumber<Process>,
     memory: &mut OverlayMemory,
     p: u16,
     most: u32,
+    stops: Option<&Addresses>,
 ) -> ((u32, Outcome), bool)
     requires runs { is_running (wholes (machine_of memory.old processes.old)) p ≡ true }
     requires there { has_space (machine_of memory.old processes.old) p ≡ true }
-    ensures steps { result.0.0 ≡ steps_to most (wholes (machine_of memory.old processes.old)) p }
+    ensures steps { result.0.0 ≡ steps_to (stops_in stops.entry) most (wholes (machine_of memory.old processes.old)) p }
     ensures outcome { result.0.1
-        ≡ came_to_last most (wholes (machine_of memory.old processes.old)) p }
+        ≡ came_to_last (stops_in stops.entry) most (wholes (machine_of memory.old processes.old)) p }
     ensures changed { IsChanged p (machine_of memory.old processes.old)
         (machine_of memory.new processes.new)
-        (after_executions most (wholes (machine_of memory.old processes.old)) p) }
+        (after_executions (stops_in stops.entry) most (wholes (machine_of memory.old processes.old)) p) }
     ensures runs { result.1 ≡ runs_at processes.new p }
 {
     match processes.get_mut(p) {
         Some(process) => {
-            let came = execute_up_to(process, memory, p, most);
+            let came = execute_up_to(process, memory, p, most, stops);
             (came, is_running(process))
         }
         None => unreachable!(),
     }
 }
 
-/// Executes up to so many instructions of a running process, whose space is there, as long as each is a step. One that faults
-/// is taken out of the list.
+/// Executes up to so many instructions of a running process, whose space is there, as long as each is a step and leaves the pc at no
+/// stop. One that faults is taken out of the list.
 #[inline]
 pub(crate) fn execute_turns(
     processes: &mut ByNumber<Process>,
@@ -73,19 +75,20 @@ pub(crate) fn execute_turns(
     running: &mut Vec<u16>,
     p: u16,
     most: u32,
+    stops: Option<&Addresses>,
 ) -> (u32, Outcome)
     requires kept { IsRunningList processes.old running.old }
     requires runs { is_running (wholes (machine_of memory.old processes.old)) p ≡ true }
     requires there { has_space (machine_of memory.old processes.old) p ≡ true }
-    ensures steps { result.0 ≡ steps_to most (wholes (machine_of memory.old processes.old)) p }
+    ensures steps { result.0 ≡ steps_to (stops_in stops.entry) most (wholes (machine_of memory.old processes.old)) p }
     ensures outcome { result.1
-        ≡ came_to_last most (wholes (machine_of memory.old processes.old)) p }
+        ≡ came_to_last (stops_in stops.entry) most (wholes (machine_of memory.old processes.old)) p }
     ensures changed { IsChanged p (machine_of memory.old processes.old)
         (machine_of memory.new processes.new)
-        (after_executions most (wholes (machine_of memory.old processes.old)) p) }
+        (after_executions (stops_in stops.entry) most (wholes (machine_of memory.old processes.old)) p) }
     ensures kept { IsRunningList processes.new running.new }
 {
-    let (came, runs) = execute_in(processes, memory, p, most);
+    let (came, runs) = execute_in(processes, memory, p, most, stops);
     if runs {
         return came;
     }

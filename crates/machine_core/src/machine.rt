@@ -12,7 +12,7 @@ ghost use Rattle.overlay_pages.specs.Calls.{IsEmptyState};
 ghost use Rattle.space_maps.specs.Spaces.{space_in};
 ghost use Rattle.machine_core.specs.Machine.{AnswersAs, AreLike, HaveSpaces, IsDropped, KeepsPlaces, LeadsTo, StaysBut, has_saved, has_space, is_marked, is_running, keys_from, registers_at, registers_shown, running_numbers, shown_at, spaces_of, wholes, with_memory, with_process_at, without_pages, without_process, without_process_at};
 ghost use Rattle.machine_core.specs.Turns.{after_asked, after_execution, after_turn, came_to, turn_asked, turn_of};
-ghost use Rattle.machine_core.specs.Executions.{after_executions, came_to_last, steps_to};
+ghost use Rattle.machine_core.specs.Executions.{after_executions, came_to_last, steps_to, stops_in};
 ghost use Rattle.machine_core.specs.Play.{AreOwnTurns, after_number, run_over};
 ghost use Rattle.machine_core.specs.Load.{IsAsBefore, IsLoaded, Loads, LoadsAs, is_load_full, page_count, with_loaded};
 ghost use Rattle.machine_core.specs.contracts.machine.Machine.{the_row};
@@ -21,6 +21,7 @@ ghost use Rattle.overlay_memory.specs.contracts.memory.OverlayMemory as memory;
 use crate::keeping::{adopt, answer_turn, execute_turns, remove, runs_in, set};
 use crate::load::{load_space, stored_in};
 use crate::process::Process;
+use breakpoints::Addresses;
 use by_number::ByNumber;
 use elf_loader::Image;
 use overlay_memory::{OverlayMemory, SpaceError};
@@ -213,20 +214,22 @@ impl Machine {
         self.processes.next_from(from)
     }
 
-    /// Executes up to so many instructions of a running process, whose space is there, as long as each is a step, but not what
-    /// the last one asks for where it is ECALL: that is left to `answer`. Answers how many were steps, and what came of the last
-    /// one: `Full` exactly where the units after its store would exceed the limit, and then it isn't done. Looks up the process
+    /// Executes up to so many instructions of a running process, whose space is there, as long as each is a step and leaves the pc
+    /// at none of some addresses, but not what the last one asks for where it is ECALL: that is left to `answer`. The pc at which
+    /// it starts stops nothing. Answers how many were steps, and what came of the last one: `Full` exactly where the units after its store would exceed the limit, and then it isn't done. Looks up the process
     /// once, and the pages of its accesses, and takes no memory.
     #[inline]
-    pub fn execute_up_to(&mut self, p: u16, most: u32) -> (u32, Outcome)
+    pub fn execute_up_to(&mut self, p: u16, most: u32, stops: Option<&Addresses>) -> (u32, Outcome)
         requires runs { is_running (wholes self.old) p ≡ true }
         requires there { has_space self.old p ≡ true }
-        ensures steps { result.0 ≡ steps_to most (wholes self.old) p }
-        ensures outcome { result.1 ≡ came_to_last most (wholes self.old) p }
-        ensures after { wholes self.new ≡ after_executions most (wholes self.old) p }
-        ensures counts { AnswersAs (λ state. steps_to most state p) self.old result.0 }
-        ensures answers { AnswersAs (λ state. came_to_last most state p) self.old result.1 }
-        ensures stands { LeadsTo (λ state. after_executions most state p) self.old self.new }
+        ensures steps { result.0 ≡ steps_to (stops_in stops.entry) most (wholes self.old) p }
+        ensures outcome { result.1 ≡ came_to_last (stops_in stops.entry) most (wholes self.old) p }
+        ensures after { wholes self.new ≡ after_executions (stops_in stops.entry) most (wholes self.old) p }
+        ensures counts { AnswersAs (λ state. steps_to (stops_in stops.entry) most state p) self.old result.0 }
+        ensures answers { AnswersAs (λ state. came_to_last (stops_in stops.entry) most state p)
+            self.old result.1 }
+        ensures stands { LeadsTo (λ state. after_executions (stops_in stops.entry) most state p)
+            self.old self.new }
         ensures others { StaysBut p self.old self.new }
         ensures places { KeepsPlaces self.old self.new }
     {
@@ -236,6 +239,7 @@ impl Machine {
             &mut self.running,
             p,
             most,
+            stops,
         )
     }
 
@@ -248,7 +252,7 @@ impl Machine {
         ensures others { StaysBut p self.old self.new }
         ensures places { KeepsPlaces self.old self.new }
     {
-        self.execute_up_to(p, 1).1
+        self.execute_up_to(p, 1, None).1
     }
 
     /// Does what a running process, whose space is there, asked for by ECALL, and answers what came of it. Takes no memory.

@@ -86,8 +86,9 @@ impl OverlayMemory {
         self.pages.add_space(space)
     }
 
-    /// Gives a space up, with its pages. Takes no memory. Costs a few look-ups for each run of pages on the zero frame without own
-    /// lines, and for each other page.
+    /// Gives a space up, with its pages. Takes no memory. Costs a few look-ups for each run of pages without own lines, and for each
+    /// page that has some; and for each page that isn't on the zero frame a step, and where no other page names its frame, what giving
+    /// that back costs.
     pub fn drop_space(&mut self, space: u16)
         requires there { holds_space (state_of self.old) space ≡ true }
         requires settled { (space_in (state_of self.old) space).awaiting ≡ map.empty }
@@ -107,7 +108,7 @@ impl OverlayMemory {
     }
 
     /// Takes away the `n` pages from `page` on, which are all there, with their overlays. No page of the space awaits. Takes no memory.
-    /// Costs a few look-ups for each run of pages on the zero frame without own lines, and for each other page.
+    /// Costs for these pages what `drop_space` costs.
     pub fn unmap(&mut self, space: u16, page: u64, n: u32)
         requires there { AreMapped (state_of self.old) space page n }
         requires settled { (space_in (state_of self.old) space).awaiting ≡ map.empty }
@@ -116,7 +117,7 @@ impl OverlayMemory {
         let mut at = page;
         let mut left = n;
         'unmapping: while left > 0 {
-            let gone = remove_some(&mut self.pages, space, at, left);
+            let gone = self.pages.remove_run(space, at, left);
             at += u64::from(gone);
             left -= gone;
         }
@@ -402,8 +403,8 @@ impl OverlayMemory {
         None
     }
 
-    /// How many pages from one on are there, on the zero frame and without own lines: at least those that lie in one run with it. No
-    /// page of the space awaits. Costs two look-ups.
+    /// How many pages from one on are there, on the zero frame and without own lines. It may tell fewer than there are. No page of the
+    /// space awaits. Costs two look-ups.
     pub fn zeros_from(&self, space: u16, page: u64) -> u32
         requires there { holds_space (state_of self.now) space ≡ true }
         requires settled { (space_in (state_of self.now) space).awaiting ≡ map.empty }
@@ -511,27 +512,6 @@ fn remove_pages(pages: &mut OverlayPages, space: u16)
     ensures { IsEmptied (state_of pages.old) (state_of pages.new) space }
 {
     'removing: while let Some(page) = pages.next_page(space, 0) {
-        remove_some(pages, space, page, u32::MAX);
+        pages.remove_run(space, page, u32::MAX);
     }
-}
-
-/// Takes away a page that is there, and maybe pages behind it that are there, `most` at most in all: where it is on the zero frame and has
-/// no own lines, those like it that lie in one run with it go in the same step. Answers how many went.
-fn remove_some(pages: &mut OverlayPages, space: u16, page: u64, most: u32) -> u32
-    requires space { holds_space (state_of pages.old) space ≡ true }
-    requires settled { (space_in (state_of pages.old) space).awaiting ≡ map.empty }
-    requires there { IsSome (page_in (state_of pages.old) space page) }
-    requires room { 0 < most }
-    ensures gone { state_of pages.new ≡ cut_pages (state_of pages.old) space page result }
-    ensures some { 0 < result }
-    ensures few { result ≤ most }
-    ensures low { page + result ≤ PAGE_END }
-{
-    let zeros = pages.zeros_from(space, page).min(most);
-    if zeros == 0 {
-        pages.remove_page(space, page);
-        return 1;
-    }
-    pages.remove_zeros(space, page, zeros);
-    zeros
 }

@@ -14,6 +14,7 @@ pub mod Found
 pub mod NewFrames
 pub mod Leaving
 pub mod Removing
+pub mod RunLeaving
 pub mod Placed
 pub mod Adding
 pub mod Committing

@@ -12,6 +12,7 @@ use Rattle.unit_map.specs.Pieces.{AreSettled}
 use Rattle.segment_store.specs.Store.{with_line_at}
 use Rattle.segment_store.specs.Changes.{KeepsFrames, WholeSegmentsStay}
 use Rattle.space_maps.specs.Spaces.{page_in, space_in}
+pub use Rattle.space_maps.specs.Spaces.{AreMapped}
 use Rattle.space_ledger.specs.Space.{IsLeast}
 use Rattle.overlay_pages.specs.State.{PageState, State, books}
 use Rattle.overlay_pages.specs.Changes.{units_of, with_shared}
@@ -39,10 +40,6 @@ abbrev pub IsNextPage : State → ℕ → ℕ → Option ℕ → Type 0
 IsNextPage state space page None = (q : ℕ) → page ≤ q → page_in state space q ≡ None
 IsNextPage state space page (Some found) =
     (page ≤ found) × IsSome (page_in state space found) × ((q : ℕ) → page ≤ q → q < found → page_in state space q ≡ None)
-
--- the n pages from `from` on are there
-abbrev pub AreMapped : State → ℕ → ℕ → ℕ → Type 0
-AreMapped state space from n = (i : ℕ) → i < n → IsSome (page_in state space (from + i))
 
 -- what the ledger has of a page on the zero frame without own lines
 abbrev pub zero_holding : Holding

@@ -24,7 +24,7 @@ ghost use Rattle.overlay_pages.specs.contracts.pages.OverlayPages.{the_row};
 
 use crate::moving::{compact, make_room};
 use crate::overlays::{bring_lines, drop_overlay};
-use crate::placing::{place_bytes, take_out};
+use crate::placing::{place_bytes, take_out, take_run_out};
 use crate::settling::{commit, copy_commit};
 use crate::sharing::{share, share_below};
 use crate::spots::{FoundLine, Spot, spot_of};
@@ -154,8 +154,8 @@ impl OverlayPages {
         }
     }
 
-    /// Takes away a page that is there, with its overlay. Takes no memory.
-    pub fn remove_page(&mut self, space: u16, page: u64)
+    // Takes away a page that is there, with its overlay.
+    fn remove_page(&mut self, space: u16, page: u64)
         requires there { IsSome (page_in (state_of self.old) space page) }
         requires settled { (space_in (state_of self.old) space).awaiting ≡ map.empty }
         ensures gone { state_of self.new ≡ cut_page (state_of self.old) space page }
@@ -165,8 +165,8 @@ impl OverlayPages {
         take_out(&mut self.store, &mut self.ledger, space, page);
     }
 
-    /// How many pages from one on are there: none exactly where it isn't, and at least those that lie in one run with it. No page of the
-    /// space awaits. Costs a look-up.
+    /// How many pages from one on are there: none exactly where it isn't. It may tell fewer than there are. No page of the space
+    /// awaits. Costs a look-up.
     pub fn pages_from(&self, space: u16, page: u64) -> u32
         requires { (space_in (state_of self.now) space).awaiting ≡ map.empty }
         ensures there { AreMapped (state_of self.now) space page result }
@@ -176,8 +176,8 @@ impl OverlayPages {
         self.ledger.pages_from(space, page)
     }
 
-    /// How many pages from one on are there, on the zero frame and without own lines: at least those that lie in one run with it. No
-    /// page of the space awaits. Costs two look-ups.
+    /// How many pages from one on are there, on the zero frame and without own lines. It may tell fewer than there are. No page of the
+    /// space awaits. Costs two look-ups.
     pub fn zeros_from(&self, space: u16, page: u64) -> u32
         requires there { holds_space (state_of self.now) space ≡ true }
         requires settled { (space_in (state_of self.now) space).awaiting ≡ map.empty }
@@ -187,15 +187,30 @@ impl OverlayPages {
         self.ledger.zeros_from(space, page)
     }
 
-    /// Takes away the `n` pages from `from` on, which are there, on the zero frame and without own lines. No page of the space awaits.
-    /// Takes no memory. Costs a look-up for each of their runs.
-    pub fn remove_zeros(&mut self, space: u16, from: u64, n: u32)
-        requires there { holds_space (state_of self.old) space ≡ true }
+    /// Takes away a page that is there, with its overlay, and maybe pages behind it, `most` at most in all: where it has no own lines,
+    /// those without own lines that lie in one run with it may go in the same step. Answers how many went. No page of the space
+    /// awaits. Takes no memory. Costs a few look-ups, and for each page of a run, where it isn't on the zero frame, a step, and what
+    /// giving a block costs where no other page names its frame.
+    pub fn remove_run(&mut self, space: u16, page: u64, most: u32) -> u32
+        requires space { holds_space (state_of self.old) space ≡ true }
         requires settled { (space_in (state_of self.old) space).awaiting ≡ map.empty }
-        requires zeros { AreZeros (state_of self.old) space from n }
-        ensures { state_of self.new ≡ cut_pages (state_of self.old) space from n }
+        requires there { IsSome (page_in (state_of self.old) space page) }
+        requires room { 0 < most }
+        ensures gone { state_of self.new ≡ cut_pages (state_of self.old) space page result }
+        ensures some { 0 < result }
+        ensures few { result ≤ most }
+        ensures low { page + result ≤ PAGE_END }
     {
-        self.ledger.remove_zeros(space, from, n);
+        match self.ledger.bare_run(space, page, most) {
+            Some(run) => {
+                take_run_out(&mut self.store, &mut self.ledger, space, &run);
+                run.n
+            }
+            None => {
+                self.remove_page(space, page);
+                1
+            }
+        }
     }
 
     /// The permissions and the frame of a page. None exactly where the page isn't there. Costs a look-up.
@@ -392,36 +407,6 @@ impl OverlayPages {
                 Spot::Segment(block) => self.store.place(block, line),
                 Spot::Frame(frame) => 64 * frame + u32::from(line),
             },
-            None => unreachable!(),
-        }
-    }
-
-    /// Lends a line of a page that is there. Costs a look-up.
-    #[inline]
-    pub fn line(&self, space: u16, page: u64, line: u8) -> &[u8; 64]
-        requires there { IsSome (page_in (state_of self.now) space page) }
-        requires line { line < PAGE_LINES }
-        ensures value { option_map (λ x. line_in_page x.lines line) (page_in (state_of self.now) space page)
-            ≡ Some result.now }
-        ensures bytes { length result.now ≡ LINE_BYTES }
-        ensures joined { IsJoined self.now }
-    {
-        match self.find(space, page, line) {
-            Some(found) => self.line_at(found),
-            None => unreachable!(),
-        }
-    }
-
-    /// Whether a line of a page that is there can be written where it stands: it is in the overlay, or else the space isn't
-    /// speculating and the frame is the page's alone. Costs a look-up.
-    #[inline]
-    pub fn is_writable(&self, space: u16, page: u64, line: u8) -> bool
-        requires there { IsSome (page_in (state_of self.now) space page) }
-        requires line { line < PAGE_LINES }
-        ensures { result ≡ is_writable (state_of self.now) space page line }
-    {
-        match self.find(space, page, line) {
-            Some(found) => self.is_writable_at(found),
             None => unreachable!(),
         }
     }

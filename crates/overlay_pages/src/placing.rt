@@ -1,17 +1,19 @@
 //! Pages that come into new frames, and pages that go.
 
-ghost use Rattle.std.specs.Prelude.{◌≡◌, ◌+◌, ◌≤◌, IfSome, IsSome, None, false};
+ghost use Rattle.std.specs.Prelude.{◌≡◌, ◌+◌, ◌≤◌, IfSome, IsSome, None, false, true};
 ghost use Rattle.std.specs.FinMap as map;
 ghost use Rattle.sizes.specs.declared.TheConstants.{FRAME_UNITS, PAGE_BYTES};
 ghost use Rattle.unit_map.specs.Changes.{HasRoom};
 ghost use Rattle.ledger.specs.Ledger.{is_alone};
-ghost use Rattle.space_maps.specs.Spaces.{cut_page, page_in, space_in};
+ghost use Rattle.space_maps.specs.Spaces.{cut_page, cut_pages, holds_space, page_in, space_in};
+ghost use Rattle.space_ledger.specs.Calls.{IsBareRun};
 ghost use Rattle.space_ledger.specs.View.{ledger_of, overlay_at};
 ghost use Rattle.overlay_pages.specs.Lines.{lines_of_bytes, same_lines};
 ghost use Rattle.overlay_pages.specs.Changes.{IsPlaced, moved_to};
 ghost use Rattle.overlay_pages.specs.View.{IsJoined, state_of, view_of};
 
 use crate::frames::{fill_bytes, fill_lines};
+use page_table::PageRun;
 use segment_store::SegmentStore;
 use sizes::PAGE_BYTES;
 use space_ledger::SpaceLedger;
@@ -28,6 +30,32 @@ pub(crate) fn take_out(store: &mut SegmentStore, ledger: &mut SpaceLedger, space
     match ledger.remove_page(space, page) {
         Some(frame) => store.give_frame(frame),
         None => {}
+    }
+}
+
+/// The pages of a run, which have no overlays, go, and those of their frames that no page names any more.
+pub(crate) fn take_run_out(
+    store: &mut SegmentStore,
+    ledger: &mut SpaceLedger,
+    space: u16,
+    run: &PageRun,
+)
+    requires joined { IsJoined (view_of store.old ledger.old) }
+    requires there { holds_space ledger.old space ≡ true }
+    requires settled { (space_in ledger.old space).awaiting ≡ map.empty }
+    requires bare { IsBareRun ledger.old space run.now }
+    ensures joined { IsJoined (view_of store.new ledger.new) }
+    ensures state { state_of (view_of store.new ledger.new)
+        ≡ cut_pages (state_of (view_of store.old ledger.old)) space run.now.page run.now.n }
+{
+    if ledger.remove_run(space, run) == 0 {
+        return;
+    }
+    'giving: for i in 0..run.n {
+        let entry = run.entry_at(i);
+        if ledger.is_unused(entry.frame) {
+            store.give_frame(entry.frame);
+        }
     }
 }
 

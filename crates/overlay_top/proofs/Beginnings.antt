@@ -12,11 +12,11 @@ use Rattle.command_core.specs.Turns.{InRun, Progress, Ran, alone, ran_text, run_
 
 -- Turns that were just begun: all of them are left.
 
-pub left_begun : (run : Progress) (state : State) → run.taken ≤ run.turns → takes_left (run_found state.wholes run) state ≡ takes_turns run state
+pub left_begun : (run : Progress) (state : State) → run.taken ≤ run.turns → takes_left (run_found state.breakpoints state.wholes run) state ≡ takes_turns run state
 left_begun run state within =
-    ap (λ (r : Ran). record { text = ran_text r; after = with_wholes r.after state; wants_memory = false }) (left_found state.wholes run within)
+    ap (λ (r : Ran). record { text = ran_text r; after = with_wholes r.after state; wants_memory = false }) (left_found state.breakpoints state.wholes run within)
 
-pub takes_begun : (running : InRun) (run : Progress) (state : State) → running ≡ run_found state.wholes run → run.taken ≤ run.turns
+pub takes_begun : (running : InRun) (run : Progress) (state : State) → running ≡ run_found state.breakpoints state.wholes run → run.taken ≤ run.turns
     → takes_left running state ≡ takes_turns run state
 takes_begun running run state is within = ap (λ (r : InRun). takes_left r state) is ∙ left_begun run state within
 
@@ -25,15 +25,15 @@ ok_is a b e = cc
 
 -- the turns of one process, which is there and runs
 module _ (p turns : ℕ) (state : State) where
-  runs_begun : (running : InRun) (b : Bool) → Ok running ≡ cond b (Ok (run_found state.wholes (alone p turns))) (Err Ended)
+  runs_begun : (running : InRun) (b : Bool) → Ok running ≡ cond b (Ok (run_found state.breakpoints state.wholes (alone p turns))) (Err Ended)
       → takes_left running state ≡ cond b (takes_turns (alone p turns) state) (told false (refuses Ended state))
-  runs_begun running true is = takes_begun running (alone p turns) state (ok_is running (run_found state.wholes (alone p turns)) is) (omega arith)
+  runs_begun running true is = takes_begun running (alone p turns) state (ok_is running (run_found state.breakpoints state.wholes (alone p turns)) is) (omega arith)
   runs_begun running false is = cc
 
-  found_begun : (running : InRun) (found : Option Process) → Ok running ≡ begun state.wholes p turns found
+  found_begun : (running : InRun) (found : Option Process) → Ok running ≡ begun state.breakpoints state.wholes p turns found
       → takes_left running state ≡ steps p turns found state
   found_begun running None is = cc
   found_begun running (Some process) is = runs_begun running (runs process.state) is
 
-  pub step_begun : (running : InRun) → BeginsStep state.wholes p turns (Ok running) → takes_left running state ≡ step_done p turns state
+  pub step_begun : (running : InRun) → BeginsStep state.breakpoints state.wholes p turns (Ok running) → takes_left running state ≡ step_done p turns state
   step_begun running is = found_begun running (get state.wholes.processes p) is

@@ -1,4 +1,4 @@
-use Rattle.std.proofs.Common.{◌≡◌, ℕ, ◌+◌, ◌<◌, ◌≤◌, Bool, true, false, cond, List, [], ◌∷◌, ◌++◌, length, map, sym, ap, subst, ◌∙◌, refl, arith, append-nil, length-append, Option, Result, Ok, Err, inl, inr, ◌==◌, ◌||◌, eqb-true}
+use Rattle.std.proofs.Common.{◌≡◌, ℕ, ◌+◌, ◌<◌, ◌≤◌, Bool, true, false, cond, List, [], ◌++◌, length, sym, ap, subst, ◌∙◌, refl, arith, append-nil, length-append, Option, Some, None, Result, Ok, Err, inl, inr, ◌||◌}
 use Rattle.std.proofs.lemmas.Bool.Decides.{nat_tests}
 use Rattle.std.specs.Prelude.{nat_lt}
 use Rattle.sizes.specs.declared.TheConstants.{MOST_SCRIPT_BYTES, MOST_SCRIPT_LINES}
@@ -18,9 +18,11 @@ use Rattle.overlay_top.specs.declared.status.Status.TheVariants as ending
 use Rattle.report_text.specs.Lines.{bad_line}
 use Rattle.script_text.specs.Script.{commands_of, Parses}
 use Rattle.script_text.specs.Lines.{line_count}
-use Rattle.overlay_top.specs.Outcome.{RunOutcome, ScriptSays, is_too_much, SaysTooMuch, ended, names_said, run_outcome, said, read_by, said_outcome}
+use Rattle.overlay_top.specs.declared.words.Settings.{Settings}
+use Rattle.overlay_top.specs.Outcome.{RunOutcome, ScriptSays, is_too_much, SaysTooMuch, ended, names_said, outcome_set, run_outcome, said, read_by, said_outcome}
 use Rattle.overlay_top.specs.Outside.{ShelfBy, SinkBy, SourceSound}
 use Rattle.overlay_top.specs.Running.{Reported, RunEnds}
+use Rattle.overlay_top.specs.Words.{settings_of}
 use Rattle.overlay_top.specs.Status.{code_of}
 use Rattle.overlay_top.specs.Ends.{Ends, IsTaken, IsCompleteWith, NoFault, Refuses, SaysAt, World, status_of}
 use Rattle.overlay_top.specs.Ends.Ends.{Untouched, Whole, SourceFailed, ShelfFailed, SinkFailed, OutOfMemory}
@@ -124,31 +126,31 @@ commands_halted s h k SendFailed outcome names old new sound taken none shelf si
     SinkFailed ends.0 ends.1 sound shelf sink none ends.2 ends.3
 
 -- a script without commands
-pub refused : {S H K : Type 0} (s : SourceOf S) (h : ShelfOf H) (k : SinkOf K) (error : ScriptError) (bytes : List ℕ) (lines : ℕ) (files : List ℕ → Option (List ℕ))
+pub refused : {S H K : Type 0} (set : Settings) (s : SourceOf S) (h : ShelfOf H) (k : SinkOf K) (error : ScriptError) (bytes : List ℕ) (lines : ℕ) (files : List ℕ → Option (List ℕ))
     (source_old source_new : S) (shelf : H) (report_old report_new : K) (status : Status)
     → SourceSound s source_old source_new → s.left source_new ≡ [] → bytes ≡ s.left source_old → length bytes ≤ MOST_SCRIPT_BYTES
     → lines ≡ line_count bytes → lines ≤ MOST_SCRIPT_LINES → Parses (λ (commands : List Command). commands) bytes (Err error) → Refuses k error report_old report_new status
-    → Ends s h k (said_outcome (said (s.left source_old)) files) (names_said (said (s.left source_old)))
+    → Ends s h k (said_outcome set (said (s.left source_old)) files) (names_said (said (s.left source_old)))
     (record { script = source_old; files = shelf; report = report_old }) (record { script = source_new; files = shelf; report = report_new }) status
-refused {S = S} {H = H} {K = K} s h k (Line line) bytes lines files source_old source_new shelf report_old report_new status sound none is small count few parsed (inl whole) =
+refused {S = S} {H = H} {K = K} set s h k (Line line) bytes lines files source_old source_new shelf report_old report_new status sound none is small count few parsed (inl whole) =
     let says = said_small (s.left source_old) bytes lines (Err line) is small count few parsed in
     let old : World S H K = record { script = source_old; files = shelf; report = report_old } in
     let new : World S H K = record { script = source_new; files = shelf; report = report_new } in
     ends_as s h k _ (ended (bad_line line) ending.BadLine) _ [] old new status
-    (ap (λ says. said_outcome says files) says) (ap names_said says)
+    (ap (λ says. said_outcome set says files) says) (ap names_said says)
     (ends_whole s h k (ended (bad_line line) ending.BadLine) [] old new status (sym whole.0)
     (Whole sound refl whole.1 (taken_whole (s.left source_old) bytes (s.left source_new) is small none) refl whole.2))
-refused {S = S} {H = H} {K = K} s h k (Line line) bytes lines files source_old source_new shelf report_old report_new status sound none is small count few parsed (inr cut) =
+refused {S = S} {H = H} {K = K} set s h k (Line line) bytes lines files source_old source_new shelf report_old report_new status sound none is small count few parsed (inr cut) =
     let says = said_small (s.left source_old) bytes lines (Err line) is small count few parsed in
     let old : World S H K = record { script = source_old; files = shelf; report = report_old } in
     let new : World S H K = record { script = source_new; files = shelf; report = report_new } in
     ends_as s h k _ (ended (bad_line line) ending.BadLine) _ [] old new status
-    (ap (λ says. said_outcome says files) says) (ap names_said says)
+    (ap (λ says. said_outcome set says files) says) (ap names_said says)
     (subst (Ends s h k (ended (bad_line line) ending.BadLine) [] old new) (sym cut.0)
     (SinkFailed 0 (omega arith) sound refl cut.1 none refl cut.2))
-refused {S = S} {H = H} {K = K} s h k script.Memory bytes lines files source_old source_new shelf report_old report_new status sound none is small count few parsed h0 =
+refused {S = S} {H = H} {K = K} set s h k script.Memory bytes lines files source_old source_new shelf report_old report_new status sound none is small count few parsed h0 =
     let old : World S H K = record { script = source_old; files = shelf; report = report_old } in
-    let outcome = said_outcome (said (s.left source_old)) files in
+    let outcome = said_outcome set (said (s.left source_old)) files in
     let names = names_said (said (s.left source_old)) in
     subst (Ends s h k outcome names old (record { script = source_new; files = shelf; report = report_new })) (sym h0.0)
     (subst (λ held. Ends s h k outcome names old (record { script = source_new; files = shelf; report = held }) ending.NoMemory) (sym h0.1)
@@ -166,12 +168,10 @@ complete s h k outcome names old new _ (SinkFailed j within source shelf rose ta
 complete s h k outcome names old new _ (OutOfMemory j begun within few source shelf sink asked first) is none = inl refl
 
 -- the words
-pub without_words : {Word : Type 0} (view : Word → List ℕ) (words : List Word) (left : List ℕ) (files : List ℕ → Option (List ℕ)) → true ≡ (length words == 0)
-    → run_outcome (map view words) left files ≡ said_outcome (said left) files
-without_words view [] left files none = refl
-without_words view (word ∷ words) left files none = absurd (omega (arith, eqb-true (length (word ∷ words)) 0 (sym none)))
+pub outcome_by : (words : List (List ℕ)) (set : Settings) (left : List ℕ) (files : List ℕ → Option (List ℕ)) → settings_of words ≡ Some set
+    → run_outcome words left files ≡ said_outcome set (said left) files
+outcome_by words set left files is = ap (λ found. outcome_set found left files) is
 
-pub with_words : {Word : Type 0} (view : Word → List ℕ) (words : List Word) (left : List ℕ) (files : List ℕ → Option (List ℕ)) → false ≡ (length words == 0)
-    → run_outcome (map view words) left files ≡ ended [] ending.BadWords
-with_words view [] left files some = cc
-with_words view (word ∷ words) left files some = refl
+pub outcome_refused : (words : List (List ℕ)) (left : List ℕ) (files : List ℕ → Option (List ℕ)) → settings_of words ≡ None
+    → run_outcome words left files ≡ ended [] ending.BadWords
+outcome_refused words left files is = ap (λ found. outcome_set found left files) is

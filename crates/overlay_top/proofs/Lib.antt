@@ -1,3 +1,5 @@
+pub mod Numbers
+pub mod Readings
 pub mod Fronts
 pub mod Texts
 pub mod Errors
@@ -6,6 +8,7 @@ pub mod Runs
 pub mod Calls
 pub mod Codes
 pub mod Listing
+pub mod MemoryRows
 pub mod Registers
 pub mod Given
 pub mod Beginnings

@@ -1,4 +1,4 @@
-use Rattle.std.proofs.Common.{◌≡◌, ℕ, suc, ◌+◌, ◌-◌, ◌<◌, ◌≤◌, List, [], ◌++◌, ap, sym, subst, ◌∙◌, refl, arith, Option, Some, None, Result, Ok, Err}
+use Rattle.std.proofs.Common.{◌≡◌, ℕ, suc, ◌+◌, ◌-◌, ◌<◌, ◌≤◌, List, [], ◌++◌, ap, sym, subst, ◌∙◌, arith, Option, Some, None, Result, Ok, Err}
 use Rattle.rv_execute.specs.Registers.{Registers}
 use Rattle.report_text.specs.Lines.{register_line}
 use Rattle.report_text.specs.declared.answer.Answer.TheVariants.{Refused}

@@ -15,9 +15,9 @@ use Rattle.overlay_top.specs.declared.status.Status.TheVariants as ending
 use Rattle.command_core.specs.State.{AreLikeStates, State, fresh}
 use Rattle.command_core.specs.Commands.{FileAsked, AsksNothing, HasFile, IsMissing, IsTooLong, Performed, asked_by, asked_for, asks, file_asked, file_in, has_all, performed}
 use Rattle.command_core.specs.LikeLaws.{AreLikePerformed, like_performed, states_chain, states_same}
-use Rattle.overlay_top.specs.declared.running.TheConstants.{FRAMES, QUANTUM}
+use Rattle.overlay_top.specs.declared.words.Settings.{Settings}
 use Rattle.overlay_top.specs.Sending.{IsSent, IsCut}
-use Rattle.overlay_top.specs.Outcome.{Passage, RunOutcome, report_of, passage_after, passage_of, first_report, ended_by, not_fetched, done, texts_of, with_asked, run_from, named, command_done}
+use Rattle.overlay_top.specs.Outcome.{Passage, RunOutcome, report_of, passage_after, passage_of, first_report, ended_by, not_fetched, done, texts_of, with_asked, run_from, run_all, named, command_done}
 use Rattle.overlay_top.specs.Running.{FailedAt, FailedFor, LacksMemory, Reported, WasGiven, RunEnds, Sends}
 use Rattle.overlay_top.specs.Outside.{RefusedFor}
 use Rattle.overlay_top.proofs.Asks.{asked_at, fetches_all}
@@ -33,21 +33,24 @@ abbrev pub behind : List Passage → RunOutcome → RunOutcome
 behind passages outcome = record { passages = passages ++ outcome.passages; last = outcome.last; status = outcome.status }
 
 -- The commands before an index are done, and the others are left.
-pub record HasRun (all : List Command) (index : ℕ) (files : List ℕ → Option (List ℕ)) (state : State) (tells : Type 0) (start now : List ℕ) : Type 0 where
+pub record HasRun (set : Settings) (all : List Command) (index : ℕ) (files : List ℕ → Option (List ℕ)) (state : State) (tells : Type 0) (start now : List ℕ) : Type 0 where
   pub passages : List Passage
   pub as_many : length passages ≡ index
-  pub comes : run_from all (fresh FRAMES) files ≡ behind passages (run_from (drop index all) state files)
+  pub comes : run_all set all files ≡ behind passages (run_from set.quantum (drop index all) state files)
   pub sent : tells → now ≡ start ++ texts_of passages
 
 -- The same of a session, which stands for the state that those commands come to.
-pub record SessionHasRun (all : List Command) (index : ℕ) (files : List ℕ → Option (List ℕ)) (session : State) (tells : Type 0) (start now : List ℕ) : Type 0 where
+pub record SessionHasRun (set : Settings) (all : List Command) (index : ℕ) (files : List ℕ → Option (List ℕ)) (session : State) (tells : Type 0) (start now : List ℕ) : Type 0 where
   pub state : State
   pub stands : AreLikeStates session state
-  pub run : HasRun all index files state tells start now
+  pub run : HasRun set all index files state tells start now
 
 -- what a command comes to on states that are alike
-like_done : (files : List ℕ → Option (List ℕ)) (command : Command) (a b : State) → AreLikeStates a b → AreLikePerformed (command_done files command a) (command_done files command b)
-like_done files command a b like = like_performed QUANTUM (file_in (file_asked files command)) command a b like
+like_done : (quantum turns : ℕ) (files : List ℕ → Option (List ℕ)) (command : Command) (a b : State) → quantum ≡ turns → AreLikeStates a b
+    → AreLikePerformed (command_done quantum files command a) (command_done turns files command b)
+like_done quantum turns files command a b same like =
+    subst (λ n. AreLikePerformed (command_done quantum files command a) (command_done n files command b)) same
+    (like_performed quantum (file_in (file_asked files command)) command a b like)
 
 -- an outcome that has more passages in front
 outcome_behind : (passages : List Passage) (passage : Passage) (outcome : RunOutcome) → behind passages (done passage outcome) ≡ behind (passages ++ passage ∷ []) outcome
@@ -125,30 +128,30 @@ failed_name h new None failed = absurd failed
 failed_name h new (Some name) failed = (name, refl, failed)
 
 -- the outcome, with the command at an index
-comes_at : (all : List Command) (index : ℕ) (command : Command) (files now_files : List ℕ → Option (List ℕ)) (state : State) (tells : Type 0)
+comes_at : (set : Settings) (all : List Command) (index : ℕ) (command : Command) (files now_files : List ℕ → Option (List ℕ)) (state : State) (tells : Type 0)
     (start now : List ℕ) → index < length all → command ≡ get_or all index command → ((name : List ℕ) → now_files name ≡ files name)
-    → (run : HasRun all index files state tells start now)
-    → run_from all (fresh FRAMES) files ≡ behind run.passages (with_asked (file_asked now_files command) (passage_of (file_asked now_files command) (command_done now_files command state))
-    (run_from (drop (index + 1) all) (command_done now_files command state).after files))
-comes_at all index command files now_files state tells start now below is same run =
-    run.comes ∙ ap (λ left. behind run.passages (run_from left state files)) (left_at all index command below is)
-    ∙ ap (λ asked. behind run.passages (with_asked asked (passage_of asked (performed QUANTUM (file_in asked) command state))
-    (run_from (drop (index + 1) all) (performed QUANTUM (file_in asked) command state).after files)))
+    → (run : HasRun set all index files state tells start now)
+    → run_all set all files ≡ behind run.passages (with_asked (file_asked now_files command) (passage_of (file_asked now_files command) (command_done set.quantum now_files command state))
+    (run_from set.quantum (drop (index + 1) all) (command_done set.quantum now_files command state).after files))
+comes_at set all index command files now_files state tells start now below is same run =
+    run.comes ∙ ap (λ left. behind run.passages (run_from set.quantum left state files)) (left_at all index command below is)
+    ∙ ap (λ asked. behind run.passages (with_asked asked (passage_of asked (performed set.quantum (file_in asked) command state))
+    (run_from set.quantum (drop (index + 1) all) (performed set.quantum (file_in asked) command state).after files)))
     (sym (same_asked files now_files command same))
 
 -- one command more is done
-one_step : (all : List Command) (index : ℕ) (command : Command) (files now_files : List ℕ → Option (List ℕ)) (state : State) (tells : Type 0)
+one_step : (set : Settings) (all : List Command) (index : ℕ) (command : Command) (files now_files : List ℕ → Option (List ℕ)) (state : State) (tells : Type 0)
     (start now new : List ℕ) → index < length all → command ≡ get_or all index command → ((name : List ℕ) → now_files name ≡ files name)
-    → HasRun all index files state tells start now → has_all (file_asked now_files command) ≡ true
-    → (tells → IsSent now (command_done now_files command state).text new)
-    → HasRun all (index + 1) files (command_done now_files command state).after tells start new
-one_step all index command files now_files state tells start now new below is same run has sends =
-    let passage = passage_of (file_asked now_files command) (command_done now_files command state) in
-    let left = run_from (drop (index + 1) all) (command_done now_files command state).after files in
+    → HasRun set all index files state tells start now → has_all (file_asked now_files command) ≡ true
+    → (tells → IsSent now (command_done set.quantum now_files command state).text new)
+    → HasRun set all (index + 1) files (command_done set.quantum now_files command state).after tells start new
+one_step set all index command files now_files state tells start now new below is same run has sends =
+    let passage = passage_of (file_asked now_files command) (command_done set.quantum now_files command state) in
+    let left = run_from set.quantum (drop (index + 1) all) (command_done set.quantum now_files command state).after files in
     record {
       passages = run.passages ++ passage ∷ [];
       as_many = length-append run.passages (passage ∷ []) ∙ ap (λ n. n + 1) run.as_many;
-      comes = comes_at all index command files now_files state tells start now below is same run
+      comes = comes_at set all index command files now_files state tells start now below is same run
           ∙ ap (behind run.passages) (has_asked (file_asked now_files command) passage left has)
           ∙ outcome_behind run.passages passage left;
       sent = λ is_told.
@@ -156,57 +159,57 @@ one_step all index command files now_files state tells start now new below is sa
           ∙ ap (λ bs. start ++ bs) (sym (one_more run.passages passage));
     }
 
-pub step : (all : List Command) (index : ℕ) (command : Command) (files now_files : List ℕ → Option (List ℕ)) (session after : State) (tells : Type 0)
-    (start now new : List ℕ) → index < length all → command ≡ get_or all index command → ((name : List ℕ) → now_files name ≡ files name)
-    → SessionHasRun all index files session tells start now → has_all (file_asked now_files command) ≡ true
-    → (tells → IsSent now (command_done now_files command session).text new) → AreLikeStates after (command_done now_files command session).after
-    → SessionHasRun all (index + 1) files after tells start new
-step all index command files now_files session after tells start now new below is same has_run has sends leaves =
+pub step : (set : Settings) (quantum : ℕ) (all : List Command) (index : ℕ) (command : Command) (files now_files : List ℕ → Option (List ℕ)) (session after : State)
+    (tells : Type 0) (start now new : List ℕ) → quantum ≡ set.quantum → index < length all → command ≡ get_or all index command → ((name : List ℕ) → now_files name ≡ files name)
+    → SessionHasRun set all index files session tells start now → has_all (file_asked now_files command) ≡ true
+    → (tells → IsSent now (command_done quantum now_files command session).text new) → AreLikeStates after (command_done quantum now_files command session).after
+    → SessionHasRun set all (index + 1) files after tells start new
+step set quantum all index command files now_files session after tells start now new turns below is same has_run has sends leaves =
     let state = has_run.state in
-    let like = like_done now_files command session state has_run.stands in
+    let like = like_done quantum set.quantum now_files command session state turns has_run.stands in
     record {
-      state = (command_done now_files command state).after;
-      stands = states_chain after (command_done now_files command session).after (command_done now_files command state).after leaves like.after;
-      run = one_step all index command files now_files state tells start now new below is same has_run.run has
+      state = (command_done set.quantum now_files command state).after;
+      stands = states_chain after (command_done quantum now_files command session).after (command_done set.quantum now_files command state).after leaves like.after;
+      run = one_step set all index command files now_files state tells start now new below is same has_run.run has
           (λ is_told. subst (λ text. IsSent now text new) like.text (sends is_told));
     }
 
-pub none_run : (all : List Command) (files : List ℕ → Option (List ℕ)) (session : State) (tells : Type 0) (start : List ℕ) → session ≡ fresh FRAMES
-    → SessionHasRun all 0 files session tells start start
-none_run all files session tells start is = record {
-  state = fresh FRAMES;
-  stands = states_same session (fresh FRAMES) is;
+pub none_run : (set : Settings) (all : List Command) (files : List ℕ → Option (List ℕ)) (session : State) (tells : Type 0) (start : List ℕ) → session ≡ fresh set.frames
+    → SessionHasRun set all 0 files session tells start start
+none_run set all files session tells start is = record {
+  state = fresh set.frames;
+  stands = states_same session (fresh set.frames) is;
   run = record { passages = []; as_many = refl; comes = refl; sent = λ is_told. sym (append-nil start) };
 }
 
 -- all commands are done
-pub all_done : {H K : Type 0} (h : ShelfOf H) (k : SinkOf K) (all : List Command) (index : ℕ) (files : List ℕ → Option (List ℕ)) (session : State)
+pub all_done : {H K : Type 0} (set : Settings) (h : ShelfOf H) (k : SinkOf K) (all : List Command) (index : ℕ) (files : List ℕ → Option (List ℕ)) (session : State)
     (shelf_old shelf_new : H) (start now : K) → length all ≤ index → drop index all ≡ []
-    → SessionHasRun all index files session k.tells (k.taken start) (k.taken now)
+    → SessionHasRun set all index files session k.tells (k.taken start) (k.taken now)
     → AsksFor h.fetched (named (take index (map asks all))) shelf_old shelf_new
-    → RunEnds h k (run_from all (fresh FRAMES) files) (map asks all) shelf_old shelf_new start now (Ok tt)
-all_done h k all index files session shelf_old shelf_new start now last none has_run asked =
+    → RunEnds h k (run_all set all files) (map asks all) shelf_old shelf_new start now (Ok tt)
+all_done set h k all index files session shelf_old shelf_new start now last none has_run asked =
     let run = has_run.run in
-    let comes = run.comes ∙ ap (λ left. behind run.passages (run_from left has_run.state files)) none in
+    let comes = run.comes ∙ ap (λ left. behind run.passages (run_from set.quantum left has_run.state files)) none in
     let many : length (map asks all) ≤ index = omega (arith, last, length-map all asks) in
-    let enough : length (map asks all) ≤ length (run_from all (fresh FRAMES) files).passages + 1 =
-    omega (arith, last, length-map all asks, run.as_many, as_long (run_from all (fresh FRAMES) files) run.passages _ ending.Done comes) in (
+    let enough : length (map asks all) ≤ length (run_all set all files).passages + 1 =
+    omega (arith, last, length-map all asks, run.as_many, as_long (run_all set all files) run.passages _ ending.Done comes) in (
       ap (λ (o : RunOutcome). o.status) comes,
-      fetches_all h.fetched (map asks all) index (length (run_from all (fresh FRAMES) files).passages + 1) shelf_old shelf_new many enough asked,
-      λ is_told. run.sent is_told ∙ ap (λ bs. k.taken start ++ bs) (sym (reported (run_from all (fresh FRAMES) files) run.passages false ending.Done comes)),
+      fetches_all h.fetched (map asks all) index (length (run_all set all files).passages + 1) shelf_old shelf_new many enough asked,
+      λ is_told. run.sent is_told ∙ ap (λ bs. k.taken start ++ bs) (sym (reported (run_all set all files) run.passages false ending.Done comes)),
     )
 
 -- the file of the next command isn't had, and that ends the call
-unfetched : {H K : Type 0} (h : ShelfOf H) (k : SinkOf K) (status : Status) (all : List Command) (index : ℕ) (command : Command)
+unfetched : {H K : Type 0} (set : Settings) (h : ShelfOf H) (k : SinkOf K) (status : Status) (all : List Command) (index : ℕ) (command : Command)
     (files now_files : List ℕ → Option (List ℕ)) (state : State) (shelf_old shelf_new : H) (start now new : K)
-    (run : HasRun all index files state k.tells (k.taken start) (k.taken now))
+    (run : HasRun set all index files state k.tells (k.taken start) (k.taken now))
     → AsksFor h.fetched (named (take (index + 1) (map asks all))) shelf_old shelf_new → (k.tells → k.taken new ≡ k.taken now)
-    → run_from all (fresh FRAMES) files ≡ behind run.passages (not_fetched status)
-    → ((run_from all (fresh FRAMES) files).status ≡ status)
-    × AsksFor h.fetched (named (take (length (run_from all (fresh FRAMES) files).passages + 1) (map asks all))) shelf_old shelf_new
-    × Reported k start (report_of (run_from all (fresh FRAMES) files)) new
-unfetched h k status all index command files now_files state shelf_old shelf_new start now new run asked sends comes =
-    let out = run_from all (fresh FRAMES) files in
+    → run_all set all files ≡ behind run.passages (not_fetched status)
+    → ((run_all set all files).status ≡ status)
+    × AsksFor h.fetched (named (take (length (run_all set all files).passages + 1) (map asks all))) shelf_old shelf_new
+    × Reported k start (report_of (run_all set all files)) new
+unfetched set h k status all index command files now_files state shelf_old shelf_new start now new run asked sends comes =
+    let out = run_all set all files in
     let long : index + 1 ≡ length out.passages + 1 = ap (λ n. n + 1) (sym run.as_many ∙ sym (as_long out run.passages _ status comes)) in (
       ap (λ (o : RunOutcome). o.status) comes,
       subst (λ n. AsksFor h.fetched (named (take n (map asks all))) shelf_old shelf_new) long asked,
@@ -214,56 +217,56 @@ unfetched h k status all index command files now_files state shelf_old shelf_new
     )
 
 -- the next command isn't done
-halted : {H K : Type 0} (h : ShelfOf H) (k : SinkOf K) (halt : Halt) (all : List Command) (index : ℕ) (command : Command)
+halted : {H K : Type 0} (set : Settings) (h : ShelfOf H) (k : SinkOf K) (halt : Halt) (all : List Command) (index : ℕ) (command : Command)
     (files now_files : List ℕ → Option (List ℕ)) (state : State) (shelf_old shelf_new : H) (start now new : K)
     → index < length all → command ≡ get_or all index command → ((name : List ℕ) → now_files name ≡ files name)
-    → HasRun all index files state k.tells (k.taken start) (k.taken now) → WasGiven (file_asked now_files command) (Err halt)
-    → LacksMemory (file_asked now_files command) (command_done now_files command state) (Err halt)
-    → (k.tells → Sends (k.taken now) (command_done now_files command state).text (k.taken new) (Err halt))
+    → HasRun set all index files state k.tells (k.taken start) (k.taken now) → WasGiven (file_asked now_files command) (Err halt)
+    → LacksMemory (file_asked now_files command) (command_done set.quantum now_files command state) (Err halt)
+    → (k.tells → Sends (k.taken now) (command_done set.quantum now_files command state).text (k.taken new) (Err halt))
     → FailedFor h shelf_new (asks command) (Err halt)
     → AsksFor h.fetched (named (take (index + 1) (map asks all))) shelf_old shelf_new
-    → RunEnds h k (run_from all (fresh FRAMES) files) (map asks all) shelf_old shelf_new start new (Err halt)
-halted h k Missing all index command files now_files state shelf_old shelf_new start now new below is same run given lacks sends failed asked =
-    unfetched h k ending.ReadFailed all index command files now_files state shelf_old shelf_new start now new run asked sends
-    (comes_at all index command files now_files state k.tells (k.taken start) (k.taken now) below is same run
-    ∙ ap (λ a. behind run.passages (with_asked a (passage_of (file_asked now_files command) (command_done now_files command state))
-    (run_from (drop (index + 1) all) (command_done now_files command state).after files))) given)
-halted h k TooLong all index command files now_files state shelf_old shelf_new start now new below is same run given lacks sends failed asked =
-    unfetched h k ending.TooLong all index command files now_files state shelf_old shelf_new start now new run asked sends
-    (comes_at all index command files now_files state k.tells (k.taken start) (k.taken now) below is same run
-    ∙ ap (λ a. behind run.passages (with_asked a (passage_of (file_asked now_files command) (command_done now_files command state))
-    (run_from (drop (index + 1) all) (command_done now_files command state).after files))) given)
-halted h k FetchFailed all index command files now_files state shelf_old shelf_new start now new below is same run given lacks sends failed asked =
-    let left = run_from (drop index all) state files in
+    → RunEnds h k (run_all set all files) (map asks all) shelf_old shelf_new start new (Err halt)
+halted set h k Missing all index command files now_files state shelf_old shelf_new start now new below is same run given lacks sends failed asked =
+    unfetched set h k ending.ReadFailed all index command files now_files state shelf_old shelf_new start now new run asked sends
+    (comes_at set all index command files now_files state k.tells (k.taken start) (k.taken now) below is same run
+    ∙ ap (λ a. behind run.passages (with_asked a (passage_of (file_asked now_files command) (command_done set.quantum now_files command state))
+    (run_from set.quantum (drop (index + 1) all) (command_done set.quantum now_files command state).after files))) given)
+halted set h k TooLong all index command files now_files state shelf_old shelf_new start now new below is same run given lacks sends failed asked =
+    unfetched set h k ending.TooLong all index command files now_files state shelf_old shelf_new start now new run asked sends
+    (comes_at set all index command files now_files state k.tells (k.taken start) (k.taken now) below is same run
+    ∙ ap (λ a. behind run.passages (with_asked a (passage_of (file_asked now_files command) (command_done set.quantum now_files command state))
+    (run_from set.quantum (drop (index + 1) all) (command_done set.quantum now_files command state).after files))) given)
+halted set h k FetchFailed all index command files now_files state shelf_old shelf_new start now new below is same run given lacks sends failed asked =
+    let left = run_from set.quantum (drop index all) state files in
     let named_by = failed_name h shelf_new (asks command) failed in
     let at : ◌≡◌ {A = ℕ} index (length run.passages) = sym run.as_many in (
       index,
       named_by.0,
-      subst (λ n. n ≤ length (run_from all (fresh FRAMES) files).passages) run.as_many (within _ run.passages left run.comes),
+      subst (λ n. n ≤ length (run_all set all files).passages) run.as_many (within _ run.passages left run.comes),
       asked_at asks all index command below is ∙ ap Some named_by.1,
       asked,
       named_by.2,
-      λ is_told. sends is_told ∙ run.sent is_told ∙ ap (λ bs. k.taken start ++ bs) (sym (ap (λ n. first_report n (run_from all (fresh FRAMES) files)) at ∙ first_texts _ run.passages left run.comes)),
+      λ is_told. sends is_told ∙ run.sent is_told ∙ ap (λ bs. k.taken start ++ bs) (sym (ap (λ n. first_report n (run_all set all files)) at ∙ first_texts _ run.passages left run.comes)),
     )
-halted h k Memory all index command files now_files state shelf_old shelf_new start now new below is same run given lacks sends failed asked =
-    let left = run_from (drop index all) state files in
-    let out = run_from all (fresh FRAMES) files in
-    let next = run_from (drop (index + 1) all) (command_done now_files command state).after files in
-    let comes = comes_at all index command files now_files state k.tells (k.taken start) (k.taken now) below is same run in
+halted set h k Memory all index command files now_files state shelf_old shelf_new start now new below is same run given lacks sends failed asked =
+    let left = run_from set.quantum (drop index all) state files in
+    let out = run_all set all files in
+    let next = run_from set.quantum (drop (index + 1) all) (command_done set.quantum now_files command state).after files in
+    let comes = comes_at set all index command files now_files state k.tells (k.taken start) (k.taken now) below is same run in
     let wants = ap (λ n. (passage_after n out).wants_memory) (sym run.as_many) ∙ ap (λ (o : RunOutcome). (passage_after (length run.passages) o).wants_memory) comes
-    ∙ wants_next run.passages (file_asked now_files command) (command_done now_files command state) next lacks in (
+    ∙ wants_next run.passages (file_asked now_files command) (command_done set.quantum now_files command state) next lacks in (
       index,
       index + 1,
       subst (λ n. n ≤ length out.passages) run.as_many (within _ run.passages left run.comes),
       inr (refl, wants),
       asked,
-      λ is_told. sends is_told ∙ run.sent is_told ∙ ap (λ bs. k.taken start ++ bs) (sym (ap (λ n. first_report n (run_from all (fresh FRAMES) files)) (sym run.as_many) ∙ first_texts _ run.passages left run.comes)),
+      λ is_told. sends is_told ∙ run.sent is_told ∙ ap (λ bs. k.taken start ++ bs) (sym (ap (λ n. first_report n (run_all set all files)) (sym run.as_many) ∙ first_texts _ run.passages left run.comes)),
     )
-halted h k SendFailed all index command files now_files state shelf_old shelf_new start now new below is same run given lacks sends failed asked =
-    let passage = passage_of (file_asked now_files command) (command_done now_files command state) in
-    let left = run_from (drop (index + 1) all) (command_done now_files command state).after files in
-    let out = run_from all (fresh FRAMES) files in
-    let comes = comes_at all index command files now_files state k.tells (k.taken start) (k.taken now) below is same run
+halted set h k SendFailed all index command files now_files state shelf_old shelf_new start now new below is same run given lacks sends failed asked =
+    let passage = passage_of (file_asked now_files command) (command_done set.quantum now_files command state) in
+    let left = run_from set.quantum (drop (index + 1) all) (command_done set.quantum now_files command state).after files in
+    let out = run_all set all files in
+    let comes = comes_at set all index command files now_files state k.tells (k.taken start) (k.taken now) below is same run
     ∙ ap (behind run.passages) (has_asked (file_asked now_files command) passage left given) in
     let first = ap (λ n. first_report n out) (sym run.as_many) ∙ first_texts out run.passages (done passage left) comes in
     let next = ap (λ n. passage_after n out) (sym run.as_many) ∙ passage_next out run.passages passage left comes in (
@@ -282,18 +285,18 @@ lacks_like TooLong asked x y same lacks = tt
 lacks_like FetchFailed asked x y same lacks = tt
 lacks_like SendFailed asked x y same lacks = tt
 
-pub stop : {H K : Type 0} (h : ShelfOf H) (k : SinkOf K) (r : Result (Unit {0}) Halt) (halt : Halt) (all : List Command) (index : ℕ) (command : Command)
-    (files now_files : List ℕ → Option (List ℕ)) (session : State) (shelf_old shelf_new : H) (start now new : K) → r ≡ Err halt
+pub stop : {H K : Type 0} (set : Settings) (quantum : ℕ) (h : ShelfOf H) (k : SinkOf K) (r : Result (Unit {0}) Halt) (halt : Halt) (all : List Command) (index : ℕ) (command : Command)
+    (files now_files : List ℕ → Option (List ℕ)) (session : State) (shelf_old shelf_new : H) (start now new : K) → quantum ≡ set.quantum → r ≡ Err halt
     → index < length all → command ≡ get_or all index command → ((name : List ℕ) → now_files name ≡ files name)
-    → SessionHasRun all index files session k.tells (k.taken start) (k.taken now) → WasGiven (file_asked now_files command) (Err halt)
-    → LacksMemory (file_asked now_files command) (command_done now_files command session) (Err halt)
-    → (k.tells → Sends (k.taken now) (command_done now_files command session).text (k.taken new) (Err halt))
+    → SessionHasRun set all index files session k.tells (k.taken start) (k.taken now) → WasGiven (file_asked now_files command) (Err halt)
+    → LacksMemory (file_asked now_files command) (command_done quantum now_files command session) (Err halt)
+    → (k.tells → Sends (k.taken now) (command_done quantum now_files command session).text (k.taken new) (Err halt))
     → FailedFor h shelf_new (asks command) (Err halt)
     → AsksFor h.fetched (named (take (index + 1) (map asks all))) shelf_old shelf_new
-    → RunEnds h k (run_from all (fresh FRAMES) files) (map asks all) shelf_old shelf_new start new r
-stop h k r halt all index command files now_files session shelf_old shelf_new start now new is_err below is same has_run given lacks sends failed asked =
-    let like = like_done now_files command session has_run.state has_run.stands in
-    subst (RunEnds h k (run_from all (fresh FRAMES) files) (map asks all) shelf_old shelf_new start new) (sym is_err)
-    (halted h k halt all index command files now_files has_run.state shelf_old shelf_new start now new below is same has_run.run given
-    (lacks_like halt (file_asked now_files command) (command_done now_files command session) (command_done now_files command has_run.state) like.wants lacks)
+    → RunEnds h k (run_all set all files) (map asks all) shelf_old shelf_new start new r
+stop set quantum h k r halt all index command files now_files session shelf_old shelf_new start now new turns is_err below is same has_run given lacks sends failed asked =
+    let like = like_done quantum set.quantum now_files command session has_run.state turns has_run.stands in
+    subst (RunEnds h k (run_all set all files) (map asks all) shelf_old shelf_new start new) (sym is_err)
+    (halted set h k halt all index command files now_files has_run.state shelf_old shelf_new start now new below is same has_run.run given
+    (lacks_like halt (file_asked now_files command) (command_done quantum now_files command session) (command_done set.quantum now_files command has_run.state) like.wants lacks)
     (λ is_told. subst (λ text. Sends (k.taken now) text (k.taken new) (Err halt)) like.text (sends is_told)) failed asked)

@@ -1,4 +1,6 @@
--- In reading order: how a call ends, what it comes to, and what its parts read, send and ask for.
+-- In reading order: what the words set, how a call ends, what it comes to, and what its parts read, send and ask for.
+pub mod Words
+pub mod WordsExamples
 pub mod Reading
 pub mod Status
 pub mod Outcome

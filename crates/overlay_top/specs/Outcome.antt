@@ -6,7 +6,8 @@ use Rattle.script_text.specs.Script.{commands_of}
 use Rattle.report_text.specs.Lines.{bad_line}
 use Rattle.command_core.specs.State.{State, fresh}
 use Rattle.command_core.specs.Commands.{FileAsked, AsksNothing, HasFile, IsMissing, IsTooLong, Performed, asks, file_asked, file_in, performed}
-use Rattle.overlay_top.specs.declared.running.TheConstants.{FRAMES, QUANTUM}
+use Rattle.overlay_top.specs.declared.words.Settings.{Settings}
+use Rattle.overlay_top.specs.Words.{settings_of}
 use Rattle.overlay_top.specs.declared.status.Status.{Status}
 use Rattle.overlay_top.specs.declared.status.Status.TheVariants.{Done, BadWords, ReadFailed, BadLine, TooLong}
 
@@ -52,9 +53,9 @@ done passage outcome = record { passages = passage ∷ outcome.passages; last = 
 abbrev pub MayLackMemory : RunOutcome → ℕ → ℕ → Type 0
 MayLackMemory outcome j begun = ((j ≡ 0) × (begun ≡ 0)) ⊎ ((begun ≡ j + 1) × ((passage_after j outcome).wants_memory ≡ true))
 
--- a command on a state, over files by name
-abbrev pub command_done : (List ℕ → Option (List ℕ)) → Command → State → Performed
-command_done files command state = performed QUANTUM (file_in (file_asked files command)) command state
+-- a command on a state, over files by name, where turns have this quantum
+abbrev pub command_done : ℕ → (List ℕ → Option (List ℕ)) → Command → State → Performed
+command_done quantum files command state = performed quantum (file_in (file_asked files command)) command state
 
 -- The commands of a script on a state, over files by name. One that asks for a file that isn't there, or that
 -- is too long, ends the call.
@@ -72,10 +73,15 @@ asks_file other = true
 abbrev pub passage_of : FileAsked → Performed → Passage
 passage_of asked performed = record { text = performed.text; wants_memory = asks_file asked || performed.wants_memory }
 
-abbrev pub run_from : List Command → State → (List ℕ → Option (List ℕ)) → RunOutcome
-run_from [] state files = ended [] Done
-run_from (command ∷ commands) state files =
-    with_asked (file_asked files command) (passage_of (file_asked files command) (command_done files command state)) (run_from commands (command_done files command state).after files)
+abbrev pub run_from : ℕ → List Command → State → (List ℕ → Option (List ℕ)) → RunOutcome
+run_from quantum [] state files = ended [] Done
+run_from quantum (command ∷ commands) state files =
+    with_asked (file_asked files command) (passage_of (file_asked files command) (command_done quantum files command state))
+    (run_from quantum commands (command_done quantum files command state).after files)
+
+-- all of them, from no process
+abbrev pub run_all : Settings → List Command → (List ℕ → Option (List ℕ)) → RunOutcome
+run_all settings commands files = run_from settings.quantum commands (fresh settings.frames) files
 
 -- What a script says: too much, or its commands, or the number of its first line that is outside.
 pub data ScriptSays : Type 0 where
@@ -95,19 +101,18 @@ abbrev pub said : List ℕ → ScriptSays
 said script = if is_too_much script then SaysTooMuch else read_by (commands_of script)
 
 -- the outcome of a script, as it reads
-abbrev pub said_outcome : ScriptSays → (List ℕ → Option (List ℕ)) → RunOutcome
-said_outcome SaysTooMuch files = ended [] TooLong
-said_outcome (SaysCommands commands) files = run_from commands (fresh FRAMES) files
-said_outcome (SaysOutside line) files = ended (bad_line line) BadLine
+abbrev pub said_outcome : Settings → ScriptSays → (List ℕ → Option (List ℕ)) → RunOutcome
+said_outcome settings SaysTooMuch files = ended [] TooLong
+said_outcome settings (SaysCommands commands) files = run_all settings commands files
+said_outcome settings (SaysOutside line) files = ended (bad_line line) BadLine
 
--- whether the words are the command's: there are none yet
-abbrev pub are_words : List (List ℕ) → Bool
-are_words [] = true
-are_words (word ∷ words) = false
+-- The outcome of words, a script and files by name. What isn't the command's sets nothing, and nothing is done.
+abbrev pub outcome_set : Option Settings → List ℕ → (List ℕ → Option (List ℕ)) → RunOutcome
+outcome_set (Some settings) script files = said_outcome settings (said script) files
+outcome_set None script files = ended [] BadWords
 
--- The outcome of words, a script and files by name.
 abbrev pub run_outcome : List (List ℕ) → List ℕ → (List ℕ → Option (List ℕ)) → RunOutcome
-run_outcome words script files = if are_words words then said_outcome (said script) files else ended [] BadWords
+run_outcome words script files = outcome_set (settings_of words) script files
 
 -- the names that the commands of a script ask for, in order, with none where a command asks for no file
 abbrev pub names_said : ScriptSays → List (Option (List ℕ))

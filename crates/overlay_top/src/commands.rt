@@ -1,16 +1,18 @@
-ghost use Rattle.std.specs.Prelude.{◌≡◌, ◌<◌, [], None, length};
+ghost use Rattle.std.specs.Prelude.{◌≡◌, ◌<◌, ◌≤◌, [], None, length};
 ghost use Rattle.std.specs.FinMap.{entries};
 ghost use Rattle.script_text.specs.Given.{IsGiven};
+ghost use Rattle.script_text.specs.declared.TheConstants.{MOST_WORDS};
 ghost use Rattle.report_text.specs.Answers.{HasAnswerLine, answer_text};
 ghost use Rattle.command_core.specs.Changes.{CanBeTold};
-ghost use Rattle.command_core.specs.Commands.{RunsLoaded, asks, change_told, checkpoints_text, exec_done, exec_turns, list_done, list_text, load_told, performed_in, processes_text, registers_text, regs_done, run_done, stats_text, step_done, takes_left, tells_exec, value_at};
+ghost use Rattle.command_core.specs.Commands.{RunsLoaded, asks, change_told, checkpoints_text, disasm_done, dump_done, exec_done, exec_turns, list_done, list_text, load_told, performed_in, processes_text, registers_text, regs_done, run_done, stats_text, step_done, takes_left, tells_exec, value_at};
 ghost use Rattle.overlay_top.specs.Sending.{SendsText};
 ghost use Rattle.overlay_top.specs.Printing.{view_text};
 ghost use Rattle.overlay_top.specs.Running.{DoesCommand, TakesOn, TellsAnswer};
 
+use crate::printing::{send_bytes, send_words};
 use crate::running::Halt;
 use crate::sending::Report;
-use command_core::{ProcessView, Running, Session};
+use command_core::{ProcessView, Running, Session, WORD_BYTES};
 use ovl_io::{Failed, Sink};
 use report_text::{
     Answer, answer_line, checkpoint_line, list_line, process_line, register_line, regs_line,
@@ -314,6 +316,43 @@ fn regs<K: Sink>(session: &Session, p: u16, report: &mut Report<K>) -> Result<()
     }
 }
 
+/// Prints bytes of a process, where all are there.
+fn dump<K: Sink>(
+    session: &Session,
+    p: u16,
+    address: u64,
+    count: u32,
+    report: &mut Report<K>,
+) -> Result<(), Failed>
+    ensures sends { SendsText K.Sink report.old.sink.now
+        (dump_done p address count session.now.state).text report.new.sink.now result }
+    ensures same { report.new.sink.ghost_name ≡ report.old.sink.ghost_name }
+{
+    match session.can_read(p, address, count) {
+        Ok(()) => send_bytes(session, p, address, count, report),
+        Err(code) => send_answer(&Answer::Refused(code), report),
+    }
+}
+
+/// Prints words of a process as instructions, where all their bytes are there.
+fn disasm<K: Sink>(
+    session: &Session,
+    p: u16,
+    address: u64,
+    words: u32,
+    report: &mut Report<K>,
+) -> Result<(), Failed>
+    requires { words ≤ MOST_WORDS }
+    ensures sends { SendsText K.Sink report.old.sink.now
+        (disasm_done p address words session.now.state).text report.new.sink.now result }
+    ensures same { report.new.sink.ghost_name ≡ report.old.sink.ghost_name }
+{
+    match session.can_read(p, address, WORD_BYTES as u32 * words) {
+        Ok(()) => send_words(session, p, address, words, report),
+        Err(code) => send_answer(&Answer::Refused(code), report),
+    }
+}
+
 /// Prints the counts.
 fn stats<K: Sink>(session: &Session, report: &mut Report<K>) -> Result<(), Failed>
     ensures sends { SendsText K.Sink report.old.sink.now (stats_text session.now.state)
@@ -352,6 +391,8 @@ pub(crate) fn do_command<K: Sink>(
         Command::List => list(session, report),
         Command::Stats => stats(session, report),
         Command::Regs(p) => regs(session, *p, report),
+        Command::Dump(p, address, count) => dump(session, *p, *address, *count, report),
+        Command::Disasm(p, address, words) => disasm(session, *p, *address, *words, report),
         _ => return change(session, command, report),
     };
     match sent {

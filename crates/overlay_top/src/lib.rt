@@ -4,20 +4,24 @@
 //! report and a status, over a machine whose memories are whole. `run_program` says that what its sink
 //! took and what it answers end so.
 //!
+//! - `words`: the words of the command line
 //! - `reading`: the script, from the source
 //! - `sending`: texts, to the sink
 //! - `commands`: one command, on the session
+//! - `printing`: bytes of a process, as lines
 //! - `running`: the commands of a script, and the files that they ask for
 //! - `status`: how a call ended
 //! - `top`: `run_program`
 #![tactic(auto)]
 
 mod commands;
+mod printing;
 mod reading;
 mod running;
 mod sending;
 mod status;
 mod top;
+mod words;
 
 pub use top::run_program;
 

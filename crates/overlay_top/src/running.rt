@@ -3,24 +3,19 @@ ghost use Rattle.std.specs.List.{All};
 ghost use Rattle.std.specs.Option.{option_copied};
 ghost use Rattle.ovl_io.specs.Outside.{AsksFor, HasName};
 ghost use Rattle.script_text.specs.Given.{IsGiven};
-ghost use Rattle.command_core.specs.State.{fresh};
 ghost use Rattle.command_core.specs.Commands.{asked_by, asks, file_asked};
-ghost use Rattle.overlay_top.specs.Outcome.{command_done, named, run_from};
+ghost use Rattle.overlay_top.specs.Outcome.{command_done, named, run_all};
 ghost use Rattle.overlay_top.specs.Outside.{FetchedFor, ShelfBy, SinkBy};
+ghost use Rattle.overlay_top.specs.Words.{AreInRange};
 ghost use Rattle.overlay_top.specs.Running.{AsksInOrder, FailedFor, FetchesFor, GivesAll, GivesFile, LacksMemory, LeavesOn, RunEnds, SendsOn, WasGiven};
 
 use crate::commands::do_command;
 use crate::sending::Report;
+use crate::words::Settings;
 use command_core::Session;
 use ovl_io::{Bytes, Failed, Shelf, ShelfError, Sink};
 use script_text::Command;
 use std::alloc::{AllocError, Global};
-
-/// How many frames the machine has.
-pub const FRAMES: u32 = 1024;
-
-/// How many turns a process takes before the next one does.
-pub const QUANTUM: u32 = 100;
 
 /// Why a command isn't done.
 #[derive(Clone, Copy, Debug, PartialEq, Eq)]
@@ -112,19 +107,18 @@ fn perform<H: Shelf, K: Sink>(
     report: &mut Report<K>,
 ) -> Result<(), Halt>
     requires given { IsGiven command.now }
-    requires quantum { session.old.quantum ≡ QUANTUM }
     ensures given { H.tells → WasGiven (file_asked (H.files shelf.old) command.now) result }
     ensures sends { H.tells → SendsOn K.Sink report.old.sink.now
-        (command_done (H.files shelf.old) command.now session.old.state).text report.new.sink.now result }
+        (command_done session.old.quantum (H.files shelf.old) command.now session.old.state).text report.new.sink.now result }
     ensures after { H.tells →
-        LeavesOn (command_done (H.files shelf.old) command.now session.old.state) session.new result }
-    ensures quantum { session.new.quantum ≡ QUANTUM }
+        LeavesOn (command_done session.old.quantum (H.files shelf.old) command.now session.old.state) session.new result }
+    ensures quantum { session.new.quantum ≡ session.old.quantum }
     ensures shelf { ShelfBy H.Shelf shelf.old shelf.new result }
     ensures sink { SinkBy K.Sink report.old.sink.now report.new.sink.now result }
     ensures same { report.new.sink.ghost_name ≡ report.old.sink.ghost_name }
     ensures failed { FailedFor H.Shelf shelf.new (asks command.now) result }
     ensures lacks { H.tells → LacksMemory (file_asked (H.files shelf.old) command.now)
-        (command_done (H.files shelf.old) command.now session.old.state) result }
+        (command_done session.old.quantum (H.files shelf.old) command.now session.old.state) result }
     ensures kept { H.tells → (other : List ℕ) → H.files shelf.new other ≡ H.files shelf.old other }
     ensures fetched { AsksFor H.fetched (named (asks command.now ∷ [])) shelf.old shelf.new }
 {
@@ -132,24 +126,25 @@ fn perform<H: Shelf, K: Sink>(
     do_command(session, command, file.as_slice(), report)
 }
 
-/// Does the commands in order, from a machine of `FRAMES` frames without a process. Each line is sent
-/// as it arises.
+/// Does the commands in order, from a machine without a process. Each line is sent as it arises.
 pub(crate) fn run<H: Shelf, K: Sink>(
     alloc: Global,
+    settings: Settings,
     commands: &[Command],
     shelf: &mut H,
     report: &mut Report<K>,
 ) -> Result<(), Halt>
-    requires { All IsGiven commands.now }
+    requires set { AreInRange settings }
+    requires given { All IsGiven commands.now }
     ensures ends { H.tells →
-        RunEnds H.Shelf K.Sink (run_from commands.now (fresh FRAMES) (H.files shelf.old))
+        RunEnds H.Shelf K.Sink (run_all settings commands.now (H.files shelf.old))
         (map asks commands.now) shelf.old shelf.new report.old.sink.now report.new.sink.now result }
     ensures asked { AsksInOrder H.Shelf (map asks commands.now) shelf.old shelf.new }
     ensures shelf { ShelfBy H.Shelf shelf.old shelf.new result }
     ensures sink { SinkBy K.Sink report.old.sink.now report.new.sink.now result }
     ensures same { report.new.sink.ghost_name ≡ report.old.sink.ghost_name }
 {
-    let mut session = Session::new(alloc, FRAMES, QUANTUM)?;
+    let mut session = Session::new(alloc, settings.frames, settings.quantum)?;
     'running: for command in commands {
         perform(alloc, &mut session, command, shelf, report)?;
     }

@@ -1,5 +1,6 @@
-ghost use Rattle.std.specs.Prelude.{◌≡◌, ◌≢◌, ◌↔◌, ◌≤◌, false, map, string_bytes};
-ghost use Rattle.overlay_top.specs.Outcome.{are_words, names_asked, run_outcome, said, said_outcome};
+ghost use Rattle.std.specs.Prelude.{◌≡◌, ◌≢◌, ◌⊎◌, ◌≤◌, None, map, string_bytes};
+ghost use Rattle.overlay_top.specs.Outcome.{names_asked, run_outcome, said, said_outcome};
+ghost use Rattle.overlay_top.specs.Words.{AreInRange, settings_of};
 ghost use Rattle.overlay_top.specs.Status.{code_of};
 ghost use Rattle.overlay_top.specs.Running.{AsksInOrder};
 ghost use Rattle.overlay_top.specs.Outside.{ShelfSound, SinkRose, SinkSound, SourceSound};
@@ -9,6 +10,7 @@ use crate::reading::{ReadError, read_script};
 use crate::running::{Halt, run};
 use crate::sending::Report;
 use crate::status::Status;
+use crate::words::{Settings, WordsError, read_words};
 use ovl_io::{Shelf, Sink, Source};
 use report_text::{Line, bad_line};
 use script_text::{ScriptError, line_count, parse};
@@ -46,12 +48,14 @@ fn refuse<K: Sink>(error: ScriptError, report: &mut Report<K>) -> Status
 /// Reads a script, parses it whole, and does its commands.
 fn run_script<S: Source, H: Shelf, K: Sink>(
     alloc: Global,
+    settings: Settings,
     script: &mut S,
     shelf: &mut H,
     sink: &mut K,
 ) -> Status
+    requires { AreInRange settings }
     ensures ends { S.tells → H.tells → Ends S.Source H.Shelf K.Sink
-        (said_outcome (said (S.left script.old)) (H.files shelf.old)) (names_asked (S.left script.old))
+        (said_outcome settings (said (S.left script.old)) (H.files shelf.old)) (names_asked (S.left script.old))
         (world_of script.old shelf.old sink.old) (world_of script.new shelf.new sink.new) result }
     ensures takes { S.tells → TakesAt S.Source H.Shelf
         (world_of script.old shelf.old sink.old) (world_of script.new shelf.new sink.new) result }
@@ -84,7 +88,7 @@ fn run_script<S: Source, H: Shelf, K: Sink>(
         Ok(commands) => commands,
         Err(error) => return refuse(error, &mut report),
     };
-    match run(alloc, commands.as_slice(), shelf, &mut report) {
+    match run(alloc, settings, commands.as_slice(), shelf, &mut report) {
         Ok(()) => Status::Done,
         Err(halt) => status_of(halt),
     }
@@ -92,7 +96,15 @@ fn run_script<S: Source, H: Shelf, K: Sink>(
 
 /// All that the program does.
 ///
-/// `words` are the arguments without the program's name: there are none yet, and with one the status is 2.
+/// `words` are the arguments without the program's name: `--frames N`, how many frames of 4,096 bytes the machine has, and `--quantum Q`, how
+/// many turns a process takes before the next one does. Each comes at most once, in any order, also as `--frames=N`; a number is spelled as
+/// `parse` of a `u32` takes it.
+///
+/// | Word | Range | Where it isn't given |
+/// |---|---|---|
+/// | `--frames N` | 1 to 65,536 | 1,024 |
+/// | `--quantum Q` | 1 to 1,000,000 | 100 |
+///
 /// The script is read to its end, or to one byte above 1,048,576, may have 65,536 lines, and is parsed whole
 /// before a command is done. A command's file is fetched by its name, of 1 to 255 bytes, and may have up to 16 MiB. Each line
 /// is written as it arises. Answers the status:
@@ -101,7 +113,7 @@ fn run_script<S: Source, H: Shelf, K: Sink>(
 /// |---|---|
 /// | 0 | all commands are done |
 /// | 1 | want of memory |
-/// | 2 | the words aren't the command's |
+/// | 2 | the words aren't the command's: nothing was read or written |
 /// | 3 | a file isn't there; the source or the shelf failed |
 /// | 4 | the sink failed |
 /// | 5 | a line of the script is outside the grammar |
@@ -116,7 +128,9 @@ pub fn run_program<S: Source, H: Shelf, K: Sink>(
     ensures headline { S.tells → H.tells → EndsWith S.Source H.Shelf K.Sink
         (run_outcome (map string_bytes words.now) (S.left script.old) (H.files shelf.old)) (names_asked (S.left script.old))
         (world_of script.old shelf.old sink.old) (world_of script.new shelf.new sink.new) result }
-    ensures words { (result ≡ 2) ↔ (are_words (map string_bytes words.now) ≡ false) }
+    ensures words { result ≡ 2 → settings_of (map string_bytes words.now) ≡ None }
+    ensures refused { settings_of (map string_bytes words.now) ≡ None → ((result ≡ 2) ⊎ (result ≡ 1))
+        × (world_of script.new shelf.new sink.new ≡ world_of script.old shelf.old sink.old) }
     ensures untouched { result ≡ 2 →
         world_of script.new shelf.new sink.new ≡ world_of script.old shelf.old sink.old }
     ensures takes { S.tells → TakesWith S.Source H.Shelf
@@ -136,8 +150,9 @@ pub fn run_program<S: Source, H: Shelf, K: Sink>(
         → NoFault S.Source H.Shelf K.Sink (world_of script.old shelf.old sink.old) (world_of script.new shelf.new sink.new)
         → IsCompleteWith K.Sink (run_outcome (map string_bytes words.now) (S.left script.old) (H.files shelf.old)) sink.old sink.new result }
 {
-    if !words.is_empty() {
-        return Status::BadWords.code();
+    match read_words(alloc, words) {
+        Ok(settings) => run_script(alloc, settings, script, shelf, sink).code(),
+        Err(WordsError::Refused) => Status::BadWords.code(),
+        Err(WordsError::Memory) => Status::NoMemory.code(),
     }
-    run_script(alloc, script, shelf, sink).code()
 }

@@ -1,4 +1,4 @@
-use Rattle.std.specs.Prelude.{ℕ, zero, suc, ◌+◌, ◌/◌, ◌%◌, ◌==◌, nat_lt, map, List, [], ◌∷◌, ◌++◌, codes, if◌then◌else◌}
+use Rattle.std.specs.Prelude.{ℕ, zero, suc, ◌+◌, ◌/◌, ◌%◌, ◌==◌, nat_lt, ℤ, pos, negsuc, map, List, [], ◌∷◌, ◌++◌, codes, if◌then◌else◌}
 use Rattle.std.specs.Int.Digits.{digits_of}
 
 -- Numbers as characters, without leading zeros; zero is the one digit 0. A number's digits in a base are the
@@ -6,6 +6,11 @@ use Rattle.std.specs.Int.Digits.{digits_of}
 
 unfoldable pub in_decimal : ℕ → List ℕ
 in_decimal n = if n == 0 then codes "0" else map (λ d. 48 + d) (digits_of 10 n)
+
+-- with its sign
+abbrev pub signed_text : ℤ → List ℕ
+signed_text (pos n) = in_decimal n
+signed_text (negsuc n) = codes "-" ++ in_decimal (n + 1)
 
 -- a hexadecimal digit, in lower case
 abbrev pub hex_digit : ℕ → ℕ

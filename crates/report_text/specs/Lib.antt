@@ -1,6 +1,7 @@
--- In reading order: numbers and texts as characters, printed names, and then the lines, one by one.
+-- In reading order: numbers and texts as characters, printed names, instructions, and then the lines, one by one.
 pub mod Digits
 pub mod Names
 pub mod Texts
+pub mod Instructions
 pub mod Lines
 pub mod Answers

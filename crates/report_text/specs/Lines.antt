@@ -3,9 +3,10 @@ use Rattle.ovl_io.specs.declared.process_state.FaultKind.{FaultKind}
 use Rattle.ovl_io.specs.declared.process_state.ProcessState.{ProcessState}
 use Rattle.report_text.specs.declared.answer.Code.{Code}
 use Rattle.report_text.specs.declared.answer.Stop.{Stop}
-use Rattle.report_text.specs.Digits.{in_decimal, address_text, word_text}
+use Rattle.report_text.specs.Digits.{in_decimal, address_text, hex_places, word_text}
 use Rattle.report_text.specs.Names.{kind_text, code_text, stop_word}
-use Rattle.report_text.specs.Texts.{bytes_text, port_text, state_text, pages_text}
+use Rattle.report_text.specs.Texts.{bytes_text, port_text, state_text, pages_text, dumped_text}
+use Rattle.report_text.specs.Instructions.{instruction_text}
 
 -- The lines of the report. Each ends with the byte 0A; its words are divided by one blank.
 
@@ -88,3 +89,11 @@ register_name i = if i == 0 then codes "pc" else codes "x" ++ in_decimal i
 
 abbrev pub register_line : ℕ → ℕ → List ℕ
 register_line i value = register_name i ++ codes " " ++ word_text value ++ codes "\n"
+
+-- bytes of memory, and the address of the first
+abbrev pub dump_line : ℕ → List ℕ → List ℕ
+dump_line at bytes = word_text at ++ dumped_text bytes ++ codes "\n"
+
+-- a word of memory as an instruction: its address, the word, and what it means
+abbrev pub disasm_line : ℕ → ℕ → List ℕ
+disasm_line at word = word_text at ++ codes " " ++ hex_places 8 word ++ codes " " ++ instruction_text word ++ codes "\n"

@@ -1,7 +1,7 @@
 use Rattle.std.specs.Prelude.{ℕ, ◌/◌, ◌%◌, ◌==◌, ◌&&◌, not, nat_le, flat_map, Bool, List, [], ◌∷◌, ◌++◌, codes, if◌then◌else◌}
 use Rattle.ovl_io.specs.declared.process_state.ProcessState.{ProcessState}
 use Rattle.ovl_io.specs.declared.process_state.ProcessState.TheVariants as state
-use Rattle.report_text.specs.Digits.{hex_digit, in_decimal, address_text}
+use Rattle.report_text.specs.Digits.{hex_digit, hex_places, in_decimal, address_text}
 use Rattle.report_text.specs.Names.{kind_text}
 
 -- Parts of lines.
@@ -36,3 +36,7 @@ state_text state speculating = bare_state_text state ++ speculating_text specula
 
 abbrev pub pages_text : ℕ → List ℕ
 pages_text pages = codes " pages " ++ in_decimal pages
+
+-- bytes of memory: for each a blank and its two hexadecimal digits
+abbrev pub dumped_text : List ℕ → List ℕ
+dumped_text bytes = flat_map (λ b. codes " " ++ hex_places 2 b) bytes

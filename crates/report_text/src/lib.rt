@@ -7,11 +7,13 @@
 //! - `answer`: what a command, a refusal and an ending are
 //! - `report`: the calls
 //! - `lines`: one function a line
+//! - `instructions`: a word of memory as an instruction
 //! - `names`: the printed names of refusals, faults and endings
 //! - `push`: text, numbers and bytes at the end of a line
 #![tactic(auto)]
 
 mod answer;
+mod instructions;
 mod lines;
 mod names;
 mod push;
@@ -20,14 +22,17 @@ mod report;
 pub use answer::{Answer, Code, Stop};
 pub use push::Line;
 pub use report::{
-    answer_line, bad_line, checkpoint_line, list_line, process_line, register_line, regs_line,
-    stats_line, stop_line, turn_line,
+    answer_line, bad_line, checkpoint_line, disasm_line, dump_line, list_line, process_line,
+    register_line, regs_line, stats_line, stop_line, turn_line,
 };
 use sizes::MOST_WRITTEN;
 
 /// Bytes that a line has room for: three for each byte that a process writes in one turn, and as many again
 /// as those bytes for all else.
 pub const LINE_ROOM: usize = 4 * MOST_WRITTEN;
+
+/// The most bytes of memory on a line.
+pub const ROW_BYTES: usize = 16;
 
 /// The most bytes of a checkpoint's name.
 pub const MOST_NAME: usize = 32;

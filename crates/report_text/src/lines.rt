@@ -1,11 +1,14 @@
 ghost use Rattle.std.specs.Prelude.{◌≡◌, ◌+◌, ◌*◌, ◌==◌, ◌||◌, ◌≤◌, ◌++◌, length, IsTrue};
 ghost use Rattle.arrayvec.specs.ArrayVec.{array_vec_len};
-ghost use Rattle.report_text.specs.Lines.{loaded_line, forked_line, saved_line, refused_line, full_line, bad_line, wrote_line, exited_line, faulted_line, full_turn_line, break_line, ran_line, list_line, process_line, checkpoint_line, stats_line, regs_line, register_name, register_line};
+ghost use Rattle.report_text.specs.Lines.{loaded_line, forked_line, saved_line, refused_line, full_line, bad_line, wrote_line, exited_line, faulted_line, full_turn_line, break_line, ran_line, list_line, process_line, checkpoint_line, stats_line, regs_line, register_name, register_line, dump_line, disasm_line};
 ghost use Rattle.report_text.specs.Answers.{IsCheckpointName, HasCodeLine};
 
+use crate::instructions::push_instruction;
 use crate::names::{kind_text, port_text, push_code, push_pages, push_state, stop_word};
-use crate::push::{push_address, push_bytes, push_decimal, push_text, push_word};
-use crate::{Code, LINE_ROOM, Line, Stop};
+use crate::push::{
+    push_address, push_bytes, push_decimal, push_dumped, push_places, push_text, push_word,
+};
+use crate::{Code, LINE_ROOM, Line, ROW_BYTES, Stop};
 use ovl_io::{FaultKind, ProcessState};
 
 // One function a line, in the order of their definitions. Each puts its line at the end of `line`.
@@ -274,5 +277,31 @@ pub(crate) fn put_register(line: &mut Line, i: u8, value: u64)
     put_name(line, i);
     push_text(line, b" ");
     push_word(line, value);
+    push_text(line, b"\n");
+}
+
+/// Bytes of memory.
+pub(crate) fn put_dump(line: &mut Line, address: u64, bytes: &[u8])
+    requires room { array_vec_len line.old + 256 ≤ LINE_ROOM }
+    requires row { length bytes.now ≤ ROW_BYTES }
+    ensures text { line.new.items ≡ line.old.items ++ dump_line address bytes.now }
+    ensures len { array_vec_len line.new ≤ array_vec_len line.old + 256 }
+{
+    push_word(line, address);
+    push_dumped(line, bytes);
+    push_text(line, b"\n");
+}
+
+/// A word of memory as an instruction.
+pub(crate) fn put_disasm(line: &mut Line, address: u64, word: u32)
+    requires { array_vec_len line.old + 256 ≤ LINE_ROOM }
+    ensures text { line.new.items ≡ line.old.items ++ disasm_line address word }
+    ensures len { array_vec_len line.new ≤ array_vec_len line.old + 256 }
+{
+    push_word(line, address);
+    push_text(line, b" ");
+    push_places(line, u64::from(word), 8);
+    push_text(line, b" ");
+    push_instruction(line, word);
     push_text(line, b"\n");
 }

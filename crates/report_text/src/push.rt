@@ -1,8 +1,8 @@
 ghost use Rattle.std.specs.Prelude.{◌≡◌, ◌+◌, ◌*◌, ◌^◌, ◌<◌, ◌≤◌, ◌++◌, length, map};
 ghost use Rattle.std.specs.Int.Digits.{digits_of};
 ghost use Rattle.arrayvec.specs.ArrayVec.{array_vec_len};
-ghost use Rattle.report_text.specs.Digits.{hex_digit, hex_places, in_decimal, in_hexadecimal, address_text, word_text};
-ghost use Rattle.report_text.specs.Texts.{is_plain, byte_text, bytes_text};
+ghost use Rattle.report_text.specs.Digits.{hex_digit, hex_places, in_decimal, signed_text, in_hexadecimal, address_text, word_text};
+ghost use Rattle.report_text.specs.Texts.{is_plain, byte_text, bytes_text, dumped_text};
 
 use crate::LINE_ROOM;
 use arrayvec::ArrayVec;
@@ -23,6 +23,16 @@ pub(crate) fn push_text(line: &mut Line, text: &[u8])
 pub(crate) fn push_decimal(line: &mut Line, n: u64)
     requires { array_vec_len line.old + 20 ≤ LINE_ROOM }
     ensures text { line.new.items ≡ line.old.items ++ in_decimal n }
+    ensures len { array_vec_len line.new ≤ array_vec_len line.old + 20 }
+{
+    let mut buffer = Buffer::new();
+    push_text(line, buffer.format(n).as_bytes());
+}
+
+/// A number in decimal digits behind its sign, at most 20 characters.
+pub(crate) fn push_signed(line: &mut Line, n: i64)
+    requires { array_vec_len line.old + 20 ≤ LINE_ROOM }
+    ensures text { line.new.items ≡ line.old.items ++ signed_text n }
     ensures len { array_vec_len line.new ≤ array_vec_len line.old + 20 }
 {
     let mut buffer = Buffer::new();
@@ -65,7 +75,7 @@ pub(crate) fn push_address(line: &mut Line, address: u64)
 }
 
 /// The last so many hexadecimal digits of a number, with leading zeros.
-fn push_places(line: &mut Line, n: u64, places: u32)
+pub(crate) fn push_places(line: &mut Line, n: u64, places: u32)
     requires room { array_vec_len line.old + places ≤ LINE_ROOM }
     ensures text { line.new.items ≡ line.old.items ++ hex_places places n }
     ensures len { array_vec_len line.new ≡ array_vec_len line.old + places }
@@ -83,6 +93,18 @@ pub(crate) fn push_word(line: &mut Line, n: u64)
     ensures len { array_vec_len line.new ≤ array_vec_len line.old + 16 }
 {
     push_places(line, n, 16);
+}
+
+/// Bytes of memory, for each a blank and its two hexadecimal digits.
+pub(crate) fn push_dumped(line: &mut Line, bytes: &[u8])
+    requires { array_vec_len line.old + 3 * length bytes.now ≤ LINE_ROOM }
+    ensures text { line.new.items ≡ line.old.items ++ dumped_text bytes.now }
+    ensures len { array_vec_len line.new ≤ array_vec_len line.old + 3 * length bytes.now }
+{
+    for b in bytes {
+        push_text(line, b" ");
+        push_places(line, u64::from(*b), 2);
+    }
 }
 
 /// Whether a byte stands for itself in a text.

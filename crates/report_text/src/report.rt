@@ -1,14 +1,14 @@
-ghost use Rattle.std.specs.Prelude.{◌≡◌, ◌<◌};
-ghost use Rattle.report_text.specs.Lines.{bad_line, list_line, process_line, checkpoint_line, stats_line, regs_line, register_line};
+ghost use Rattle.std.specs.Prelude.{◌≡◌, ◌<◌, ◌≤◌, length};
+ghost use Rattle.report_text.specs.Lines.{bad_line, list_line, process_line, checkpoint_line, stats_line, regs_line, register_line, dump_line, disasm_line};
 ghost use Rattle.report_text.specs.Answers.{HasAnswerLine, HasPort, IsCheckpointName, answer_text, turn_text, has_turn_line, stop_text};
 
 use crate::lines::{
-    put_bad, put_break, put_checkpoint, put_exited, put_faulted, put_forked, put_full,
-    put_full_turn, put_list, put_loaded, put_process, put_ran, put_refused, put_register, put_regs,
-    put_saved, put_stats, put_wrote,
+    put_bad, put_break, put_checkpoint, put_disasm, put_dump, put_exited, put_faulted, put_forked,
+    put_full, put_full_turn, put_list, put_loaded, put_process, put_ran, put_refused, put_register,
+    put_regs, put_saved, put_stats, put_wrote,
 };
 use crate::push::push_text;
-use crate::{Answer, Line, Stop};
+use crate::{Answer, Line, ROW_BYTES, Stop};
 use ovl_io::{Bytes, ProcessState, Turn};
 
 /// The line of an answer. Want of memory has none, and a checkpoint's name has 1 to 32 bytes.
@@ -115,4 +115,21 @@ pub fn register_line(i: u8, v: u64, out: &mut Line)
 {
     out.clear();
     put_register(out, i, v);
+}
+
+/// Bytes of memory, at most `ROW_BYTES`, and the address of the first.
+pub fn dump_line(address: u64, bytes: &[u8], out: &mut Line)
+    requires { length bytes.now ≤ ROW_BYTES }
+    ensures { out.new.items ≡ dump_line address bytes.now }
+{
+    out.clear();
+    put_dump(out, address, bytes);
+}
+
+/// A word of memory at an address, and what it means as an instruction.
+pub fn disasm_line(address: u64, word: u32, out: &mut Line)
+    ensures { out.new.items ≡ disasm_line address word }
+{
+    out.clear();
+    put_disasm(out, address, word);
 }

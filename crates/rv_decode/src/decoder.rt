@@ -13,7 +13,7 @@ use crate::instruction::Instr;
 use crate::names::Name;
 
 /// What the word means by the table.
-#[inline]
+#[inline(always)]
 #[tactic(auto, using(crate::proofs::MeansInstr::means_instr))]
 fn by_opcode(word: u32) -> Option<Instr>
     ensures { Means word result }
@@ -38,7 +38,7 @@ fn by_opcode(word: u32) -> Option<Instr>
 
 /// What the word is: no instruction exactly where no row of the table fits it, and else the one instruction whose row
 /// fits, with the fields of its format.
-#[inline]
+#[inline(always)]
 #[tactic(auto, using(crate::proofs::MeaningIs::meaning_is, crate::proofs::Decoded::decoded_encodable))]
 pub fn decode(word: u32) -> Option<Instr>
     ensures exact { Means word result }

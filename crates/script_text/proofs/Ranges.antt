@@ -6,7 +6,7 @@ use Rattle.std.proofs.lemmas.Bool.Decides.{nat_tests}
 use lib.Pointwise.{pointwise}
 use Rattle.ovl_io.specs.Outside.{HasName}
 use Rattle.ovl_io.specs.declared.perms.Perms.{Perms}
-use Rattle.script_text.specs.declared.TheConstants.{MOST_CHECKPOINT_NAME, MOST_PAGES, MOST_TURNS, PC_NUMBER}
+use Rattle.script_text.specs.declared.TheConstants.{MOST_CHECKPOINT_NAME, MOST_DUMPED, MOST_PAGES, MOST_TURNS, MOST_WORDS, PC_NUMBER}
 use Rattle.sizes.specs.declared.TheConstants.{LAST_SPACE, MOST_FILE_NAME}
 use Rattle.script_text.specs.declared.command.Command.{Command}
 use Rattle.script_text.specs.declared.command.Command.TheVariants.{Exec, Load, Fork, Run, Step, Checkpoint, Restore, Forget, Speculate, Commit, Discard, Promote, Drop}
@@ -15,11 +15,12 @@ use Rattle.script_text.specs.declared.command.Meaning.TheVariants.{Does, Nothing
 use Rattle.script_text.specs.Words.{words_of}
 use Rattle.script_text.specs.Lines.{without_return}
 use Rattle.script_text.specs.Numbers.{within, number_between, number_in}
-use Rattle.script_text.specs.Kinds.{Kind, is_file_name, file_word, is_name_byte, is_checkpoint_name, checkpoint_word, turns_word, process_word, address_word, begins_with, has_leading_zero, register_word, pages_word, perms_by, is_text, perms_word, is_all, all_word}
+use Rattle.script_text.specs.Kinds.{Kind, is_file_name, file_word, is_name_byte, is_checkpoint_name, checkpoint_word, turns_word, process_word, address_word, begins_with, has_leading_zero, register_word, pages_word, perms_by, is_text, perms_word, dumped_word, words_word, is_hex, bytes_of_pairs, hex_word, is_all, all_word}
 use Rattle.script_text.specs.Forms.{Form, forms, no_words, one_word, two_words, three_words, with_said, word_then, both, promote_all, made_by, command_of}
 use Rattle.script_text.specs.Script.{is_comment, as_command, meaning_of_words, meaning_of}
 use Rattle.script_text.specs.FormLaws.{◌beside◌}
-use Rattle.script_text.specs.Given.{IsGiven, IsTurns, IsProcess, IsAddress, IsRegister, IsPages, IsPerms, IsCheckpoint}
+use Rattle.script_text.specs.Given.{IsGiven, IsTurns, IsProcess, IsAddress, IsRegister, IsPages, IsPerms, IsCheckpoint, IsDumped, IsPoked, IsWords}
+use Rattle.script_text.proofs.Pairs.{paired}
 
 -- Each command of a script has its values in the ranges of their kinds.
 
@@ -85,6 +86,15 @@ register_given word =
 pages_given : (word : List ℕ) → IfSome (pages_word word) IsPages
 pages_given word = in_range 1 MOST_PAGES (number_in word)
 
+dumped_given : (word : List ℕ) → IfSome (dumped_word word) IsDumped
+dumped_given word = in_range 1 MOST_DUMPED (number_in word)
+
+words_given : (word : List ℕ) → IfSome (words_word word) IsWords
+words_given word = in_range 1 MOST_WORDS (number_in word)
+
+hex_given : (word : List ℕ) → IfSome (hex_word word) IsPoked
+hex_given word = where_true IsPoked (is_hex word) (bytes_of_pairs word) (paired word)
+
 or_else : (t : Bool) (bits : ℕ) (o : Option Perms) → IsPerms (perms_by bits) → IfSome o IsPerms → IfSome (cond t (Some (perms_by bits)) o) IsPerms
 or_else true bits o h k = h
 or_else false bits o h k = k
@@ -135,6 +145,14 @@ then_given : {A : Type 0} (P : A → Type 0) (kind : Kind A) (make : A → List 
 then_given P kind make has given [] = tt
 then_given P kind make has given (w ∷ ws) = said_given P (kind w) (λ a. make a ws) (has w) (λ a h. given a h ws)
 
+-- a process, an address, and a word of some kind
+at_address : {A : Type 0} (P : A → Type 0) (kind : Kind A) (make : ℕ → ℕ → A → Command) → ((w : List ℕ) → IfSome (kind w) P)
+    → ((p a : ℕ) (b : A) → IsProcess p → IsAddress a → P b → IsGiven (make p a b)) → (ws : List (List ℕ))
+    → IfSome (three_words process_word address_word kind make ws) IsGiven
+at_address P kind make has given ws =
+    then_given IsProcess process_word (λ p. two_words address_word kind (make p)) process_given
+    (λ p h. two_given IsAddress P address_word kind (make p) address_given has (λ a b k l. given p a b h k l)) ws
+
 none_given : (command : Command) → IsGiven command → (ws : List (List ℕ)) → IfSome (no_words command ws) IsGiven
 none_given command given [] = given
 none_given command given (w ∷ ws) = tt
@@ -174,12 +192,16 @@ all_give =
     beside then_given IsProcess process_word (λ p. three_words address_word pages_word perms_word (command.Map p)) process_given
     (λ p h. then_given IsAddress address_word (λ a. two_words pages_word perms_word (command.Map p a)) address_given
     (λ a k. two_given IsPages IsPerms pages_word perms_word (command.Map p a) pages_given perms_given (λ n o l m. (h, k, l, m))))
-    beside then_given IsProcess process_word (λ p. two_words address_word pages_word (command.Unmap p)) process_given
-    (λ p h. two_given IsAddress IsPages address_word pages_word (command.Unmap p) address_given pages_given (λ a n k l. (h, k, l)))
+    beside at_address IsPages pages_word command.Unmap pages_given (λ p a b h k l. (h, k, l))
     beside one_given IsProcess process_word Drop process_given (λ a h. h)
     beside one_given IsProcess process_word command.Regs process_given (λ a h. h)
+    beside at_address IsDumped dumped_word command.Dump dumped_given (λ p a b h k l. (h, k, l))
+    beside at_address IsPoked hex_word command.Poke hex_given (λ p a b h k l. (h, k, l))
     beside then_given IsProcess process_word (λ p. two_words register_word address_word (command.Set p)) process_given
     (λ p h. two_given IsRegister IsAddress register_word address_word (command.Set p) register_given address_given (λ r a k l. (h, k, l)))
+    beside two_given IsProcess IsAddress process_word address_word command.Break process_given address_given (λ a b h k. (h, k))
+    beside two_given IsProcess IsAddress process_word address_word command.Unbreak process_given address_given (λ a b h k. (h, k))
+    beside at_address IsWords words_word command.Disasm words_given (λ p a b h k l. (h, k, l))
     beside none_given _ tt
     beside none_given _ tt
     beside tt

@@ -75,6 +75,11 @@ apart =
     beside (λ words command is. refl)
     beside (λ words command is. refl)
     beside (λ words command is. refl)
+    beside (λ words command is. refl)
+    beside (λ words command is. refl)
+    beside (λ words command is. refl)
+    beside (λ words command is. refl)
+    beside (λ words command is. refl)
     beside tt
 
 pub at_most_one_fits : (first : List ℕ) (words : List (List ℕ)) → length (made_by_each forms first words) ≤ 1

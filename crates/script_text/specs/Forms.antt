@@ -1,11 +1,11 @@
-use Rattle.std.specs.Prelude.{ℕ, nat_eq, List, [], ◌∷◌, Option, Some, None, codes, if◌then◌else◌}
+use Rattle.std.specs.Prelude.{ℕ, nat_eq, List, [], ◌∷◌, ◌++◌, Option, Some, None, codes, if◌then◌else◌}
 use Rattle.std.specs.Option.{option_map, option_or}
 use Rattle.std.specs.List.{filter_map}
 use lib.Pointwise.{pointwise}
 use Rattle.script_text.specs.declared.command.Command.{Command}
 use Rattle.script_text.specs.declared.command.Command.TheVariants.{Exec, Load, Fork, Run, Step, Checkpoint, Restore, Forget, Speculate, Commit, Discard, Promote, PromoteAll, Drop}
 use Rattle.script_text.specs.declared.command.Command.TheVariants as command
-use Rattle.script_text.specs.Kinds.{Kind, file_word, checkpoint_word, turns_word, process_word, address_word, pages_word, perms_word, register_word, all_word}
+use Rattle.script_text.specs.Kinds.{Kind, file_word, checkpoint_word, turns_word, process_word, address_word, pages_word, perms_word, register_word, dumped_word, words_word, hex_word, all_word}
 
 -- The forms of commands.
 
@@ -57,9 +57,10 @@ four_words kind other third fourth make = word_then kind (λ a. three_words othe
 abbrev pub promote_all : ℕ → Unit {0} → Command
 promote_all p all = PromoteAll p
 
--- The table: a row a form, with its first word, the kinds of the words behind it, and the command.
-abbrev pub forms : List Form
-forms =
+-- The table: a row a form, with its first word, the kinds of the words behind it, and the command. First those that
+-- run the machine and change what it is made of
+abbrev pub machine_forms : List Form
+machine_forms =
     form (codes "exec") (two_words file_word turns_word Exec)
     ∷ form (codes "load") (one_word file_word Load)
     ∷ form (codes "fork") (one_word process_word Fork)
@@ -77,11 +78,24 @@ forms =
     ∷ form (codes "map") (four_words process_word address_word pages_word perms_word command.Map)
     ∷ form (codes "unmap") (three_words process_word address_word pages_word command.Unmap)
     ∷ form (codes "drop") (one_word process_word Drop)
-    ∷ form (codes "regs") (one_word process_word command.Regs)
+    ∷ []
+
+-- and then the debugger's
+abbrev pub debugger_forms : List Form
+debugger_forms =
+    form (codes "regs") (one_word process_word command.Regs)
+    ∷ form (codes "dump") (three_words process_word address_word dumped_word command.Dump)
+    ∷ form (codes "poke") (three_words process_word address_word hex_word command.Poke)
     ∷ form (codes "set") (three_words process_word register_word address_word command.Set)
+    ∷ form (codes "break") (two_words process_word address_word command.Break)
+    ∷ form (codes "unbreak") (two_words process_word address_word command.Unbreak)
+    ∷ form (codes "disasm") (three_words process_word address_word words_word command.Disasm)
     ∷ form (codes "list") (no_words command.List)
     ∷ form (codes "stats") (no_words command.Stats)
     ∷ []
+
+abbrev pub forms : List Form
+forms = machine_forms ++ debugger_forms
 
 -- the command that a form makes of a first word and the words behind it, where they fit it
 abbrev pub made_at : List ℕ → List (List ℕ) → Form → Option Command

@@ -1,9 +1,9 @@
 use Rattle.std.specs.Prelude.{◌≡◌, ℕ, ◌≤◌, ◌<◌, ◌^◌, nat_eq, true, List, [], ◌∷◌, length}
-use Rattle.std.specs.List.{list_any}
+use Rattle.std.specs.List.{list_any, All}
 use Rattle.ovl_io.specs.declared.perms.Perms.{Perms}
 use Rattle.ovl_io.specs.Outside.{HasName}
 use Rattle.sizes.specs.declared.TheConstants.{LAST_SPACE}
-use Rattle.script_text.specs.declared.TheConstants.{MOST_CHECKPOINT_NAME, MOST_PAGES, MOST_TURNS, PC_NUMBER}
+use Rattle.script_text.specs.declared.TheConstants.{MOST_CHECKPOINT_NAME, MOST_DUMPED, MOST_PAGES, MOST_POKED, MOST_TURNS, MOST_WORDS, PC_NUMBER}
 use Rattle.script_text.specs.declared.command.Command.{Command}
 use Rattle.script_text.specs.declared.command.Command.TheVariants.{Exec, Load, Fork, Run, Step, Checkpoint, Restore, Forget, Speculate, Commit, Discard, Promote, PromoteAll, Drop}
 use Rattle.script_text.specs.declared.command.Command.TheVariants as command
@@ -34,7 +34,18 @@ IsPerms perms = list_any (nat_eq perms.0) (4 ∷ 6 ∷ 1 ∷ 5 ∷ 7 ∷ []) ≡
 abbrev pub IsCheckpoint : List ℕ → Type 0
 IsCheckpoint name = (1 ≤ length name) × (length name ≤ MOST_CHECKPOINT_NAME)
 
--- Each value lies in the range of its kind. No form makes one of the other commands yet.
+-- bytes to store: 1 to 4096
+abbrev pub IsPoked : List ℕ → Type 0
+IsPoked bytes = (1 ≤ length bytes) × (length bytes ≤ MOST_POKED) × All (λ b. b < 256) bytes
+
+-- a number of bytes to print, and one of words
+abbrev pub IsDumped : ℕ → Type 0
+IsDumped count = (1 ≤ count) × (count ≤ MOST_DUMPED)
+
+abbrev pub IsWords : ℕ → Type 0
+IsWords words = (1 ≤ words) × (words ≤ MOST_WORDS)
+
+-- Each value lies in the range of its kind.
 abbrev pub IsGiven : Command → Type 0
 IsGiven (Exec name turns) = HasName name × IsTurns turns
 IsGiven (Load name) = HasName name
@@ -55,10 +66,10 @@ IsGiven (command.Unmap p address pages) = IsProcess p × IsAddress address × Is
 IsGiven (Drop p) = IsProcess p
 IsGiven command.List = Unit {0}
 IsGiven (command.Regs p) = IsProcess p
-IsGiven (command.Dump p address count) = ⊥
-IsGiven (command.Poke p address bytes) = ⊥
+IsGiven (command.Dump p address count) = IsProcess p × IsAddress address × IsDumped count
+IsGiven (command.Poke p address bytes) = IsProcess p × IsAddress address × IsPoked bytes
 IsGiven (command.Set p register value) = IsProcess p × IsRegister register × IsAddress value
-IsGiven (command.Break p address) = ⊥
-IsGiven (command.Unbreak p address) = ⊥
-IsGiven (command.Disasm p address words) = ⊥
+IsGiven (command.Break p address) = IsProcess p × IsAddress address
+IsGiven (command.Unbreak p address) = IsProcess p × IsAddress address
+IsGiven (command.Disasm p address words) = IsProcess p × IsAddress address × IsWords words
 IsGiven command.Stats = Unit {0}

@@ -1,10 +1,10 @@
-use Rattle.std.specs.Prelude.{ℕ, ◌-◌, ◌^◌, ◌==◌, ◌&&◌, ◌||◌, not, nat_le, nat_eq, Bool, List, length, take, drop, Option, Some, None, codes, if◌then◌else◌}
+use Rattle.std.specs.Prelude.{ℕ, ◌+◌, ◌-◌, ◌*◌, ◌%◌, ◌^◌, ◌==◌, ◌&&◌, ◌||◌, not, nat_le, nat_eq, Bool, List, [], ◌∷◌, length, take, drop, Option, Some, None, codes, if◌then◌else◌}
 use Rattle.std.specs.List.{list_all}
 use lib.Pointwise.{pointwise}
 use Rattle.ovl_io.specs.declared.perms.Perms.{Perms}
-use Rattle.script_text.specs.declared.TheConstants.{MOST_CHECKPOINT_NAME, MOST_PAGES, MOST_TURNS, PC_NUMBER}
+use Rattle.script_text.specs.declared.TheConstants.{MOST_CHECKPOINT_NAME, MOST_DUMPED, MOST_PAGES, MOST_POKED, MOST_TURNS, MOST_WORDS, PC_NUMBER}
 use Rattle.sizes.specs.declared.TheConstants.{LAST_SPACE, MOST_FILE_NAME}
-use Rattle.script_text.specs.Numbers.{is_decimal, number_between}
+use Rattle.script_text.specs.Numbers.{is_decimal, is_hexadecimal, digit, number_between}
 
 -- The kinds of words. A kind is what it makes of a word: what the word says, or nothing where it is none of
 -- the kind.
@@ -64,6 +64,27 @@ register_word word =
 -- K: a number of pages
 abbrev pub pages_word : Kind ℕ
 pages_word word = number_between 1 MOST_PAGES word
+
+-- LEN: a number of bytes to print
+abbrev pub dumped_word : Kind ℕ
+dumped_word word = number_between 1 MOST_DUMPED word
+
+-- W: a number of words to print
+abbrev pub words_word : Kind ℕ
+words_word word = number_between 1 MOST_WORDS word
+
+-- HEX: 1 to 4096 bytes, each as two hexadecimal digits, of which the first is the higher
+abbrev pub is_hex : List ℕ → Bool
+is_hex word =
+    nat_le 2 (length word) && nat_le (length word) (2 * MOST_POKED) && length word % 2 == 0 && list_all is_hexadecimal word
+
+abbrev pub bytes_of_pairs : List ℕ → List ℕ
+bytes_of_pairs [] = []
+bytes_of_pairs (high ∷ []) = []
+bytes_of_pairs (high ∷ low ∷ digits) = (16 * digit high + digit low) ∷ bytes_of_pairs digits
+
+abbrev pub hex_word : Kind (List ℕ)
+hex_word word = if is_hex word then Some (bytes_of_pairs word) else None
 
 -- PERM: what may be done with a page
 abbrev pub perms_by : ℕ → Perms

@@ -1,8 +1,8 @@
-ghost use Rattle.std.specs.Prelude.{◌≡◌, ℕ, IfOk};
+ghost use Rattle.std.specs.Prelude.{◌≡◌, ℕ, List, IfOk};
 ghost use Rattle.std.specs.Option.{option_map, option_or};
 ghost use Rattle.script_text.specs.Words.{words_of};
-ghost use Rattle.script_text.specs.Kinds.{file_word, checkpoint_word, turns_word, process_word, address_word, pages_word, perms_word, register_word, all_word};
-ghost use Rattle.script_text.specs.Forms.{no_words, one_word, two_words, three_words, four_words, promote_all, command_of};
+ghost use Rattle.script_text.specs.Kinds.{file_word, checkpoint_word, turns_word, process_word, address_word, pages_word, perms_word, register_word, dumped_word, words_word, hex_word, all_word};
+ghost use Rattle.script_text.specs.Forms.{no_words, one_word, two_words, three_words, four_words, promote_all, machine_forms, debugger_forms, made_by, command_of};
 ghost use Rattle.script_text.specs.Script.{is_comment, meaning_of};
 ghost use Rattle.script_text.specs.declared.command.Command.{Command};
 ghost use Rattle.script_text.specs.declared.command.Command.TheVariants.{Exec, Load, Fork, Run, Step, Checkpoint, Restore, Forget, Speculate, Commit, Discard, Promote, PromoteAll, Drop};
@@ -10,11 +10,12 @@ ghost use Rattle.script_text.specs.declared.command.Command.TheVariants as comma
 
 use crate::command::{Command, Meaning};
 use crate::kinds::{
-    address_word, checkpoint_word, file_word, is_all, pages_word, perms_word, process_word,
-    register_word, turns_word,
+    address_word, checkpoint_word, dumped_word, file_word, hex_word, is_all, pages_word,
+    perms_word, process_word, register_word, turns_word, words_word,
 };
 use crate::lines::without_return;
-use crate::words::{next_word, no_words, one_word, two_words};
+use crate::words::{next_word, no_words, one_word, three_words, two_words};
+use ovl_io::Bytes;
 use std::alloc::{AllocError, Global};
 
 /// The process number that is the one word of a text.
@@ -22,9 +23,37 @@ fn one_process(words: &[u8]) -> Option<u16>
     ensures { (make : ℕ → Command) →
         option_map make result ≡ one_word process_word make (words_of words.now) }
 {
-    match one_word(words) {
-        Some(p) => process_word(p),
-        None => None,
+    process_word(one_word(words)?)
+}
+
+/// The process number and the address that are the two words of a text.
+fn process_and_address(words: &[u8]) -> Option<(u16, u64)>
+    ensures { (make : ℕ → ℕ → Command) →
+        option_map (λ both. make both.0 both.1) result
+        ≡ two_words process_word address_word make (words_of words.now) }
+{
+    let (p, address) = two_words(words)?;
+    let p = process_word(p)?;
+    Some((p, address_word(address)?))
+}
+
+/// The process number and the checkpoint's name that are the two words of a text.
+fn process_and_name(alloc: Global, words: &[u8]) -> Result<Option<(u16, Bytes)>, AllocError>
+    ensures { IfOk result (λ said. (make : ℕ → List ℕ → Command) →
+        option_map (λ both. make both.0 both.1) said
+        ≡ two_words process_word checkpoint_word make (words_of words.now)) }
+{
+    let (p, name) = match two_words(words) {
+        Some(words) => words,
+        None => return Ok(None),
+    };
+    let p = match process_word(p) {
+        Some(p) => p,
+        None => return Ok(None),
+    };
+    match checkpoint_word(alloc, name)? {
+        Some(name) => Ok(Some((p, name))),
+        None => Ok(None),
     }
 }
 
@@ -66,42 +95,23 @@ fn load(alloc: Global, words: &[u8]) -> Result<Option<Command>, AllocError>
 fn fork(words: &[u8]) -> Option<Command>
     ensures { result ≡ one_word process_word Fork (words_of words.now) }
 {
-    match one_process(words) {
-        Some(p) => Some(Command::Fork(p)),
-        None => None,
-    }
+    Some(Command::Fork(one_process(words)?))
 }
 
 /// `run N`
 fn run(words: &[u8]) -> Option<Command>
     ensures { result ≡ one_word turns_word Run (words_of words.now) }
 {
-    let turns = match one_word(words) {
-        Some(turns) => turns,
-        None => return None,
-    };
-    match turns_word(turns) {
-        Some(turns) => Some(Command::Run(turns)),
-        None => None,
-    }
+    Some(Command::Run(turns_word(one_word(words)?)?))
 }
 
 /// `step P N`
 fn step(words: &[u8]) -> Option<Command>
     ensures { result ≡ two_words process_word turns_word Step (words_of words.now) }
 {
-    let (p, turns) = match two_words(words) {
-        Some(words) => words,
-        None => return None,
-    };
-    let p = match process_word(p) {
-        Some(p) => p,
-        None => return None,
-    };
-    match turns_word(turns) {
-        Some(turns) => Some(Command::Step(p, turns)),
-        None => None,
-    }
+    let (p, turns) = two_words(words)?;
+    let p = process_word(p)?;
+    Some(Command::Step(p, turns_word(turns)?))
 }
 
 /// `checkpoint P NAME`
@@ -109,16 +119,8 @@ fn checkpoint(alloc: Global, words: &[u8]) -> Result<Option<Command>, AllocError
     ensures { IfOk result (λ command. command
         ≡ two_words process_word checkpoint_word Checkpoint (words_of words.now)) }
 {
-    let (p, name) = match two_words(words) {
-        Some(words) => words,
-        None => return Ok(None),
-    };
-    let p = match process_word(p) {
-        Some(p) => p,
-        None => return Ok(None),
-    };
-    match checkpoint_word(alloc, name)? {
-        Some(name) => Ok(Some(Command::Checkpoint(p, name))),
+    match process_and_name(alloc, words)? {
+        Some((p, name)) => Ok(Some(Command::Checkpoint(p, name))),
         None => Ok(None),
     }
 }
@@ -128,16 +130,8 @@ fn restore(alloc: Global, words: &[u8]) -> Result<Option<Command>, AllocError>
     ensures { IfOk result (λ command. command
         ≡ two_words process_word checkpoint_word Restore (words_of words.now)) }
 {
-    let (p, name) = match two_words(words) {
-        Some(words) => words,
-        None => return Ok(None),
-    };
-    let p = match process_word(p) {
-        Some(p) => p,
-        None => return Ok(None),
-    };
-    match checkpoint_word(alloc, name)? {
-        Some(name) => Ok(Some(Command::Restore(p, name))),
+    match process_and_name(alloc, words)? {
+        Some((p, name)) => Ok(Some(Command::Restore(p, name))),
         None => Ok(None),
     }
 }
@@ -160,62 +154,37 @@ fn forget(alloc: Global, words: &[u8]) -> Result<Option<Command>, AllocError>
 fn speculate(words: &[u8]) -> Option<Command>
     ensures { result ≡ one_word process_word Speculate (words_of words.now) }
 {
-    match one_process(words) {
-        Some(p) => Some(Command::Speculate(p)),
-        None => None,
-    }
+    Some(Command::Speculate(one_process(words)?))
 }
 
 /// `commit P`
 fn commit(words: &[u8]) -> Option<Command>
     ensures { result ≡ one_word process_word Commit (words_of words.now) }
 {
-    match one_process(words) {
-        Some(p) => Some(Command::Commit(p)),
-        None => None,
-    }
+    Some(Command::Commit(one_process(words)?))
 }
 
 /// `discard P`
 fn discard(words: &[u8]) -> Option<Command>
     ensures { result ≡ one_word process_word Discard (words_of words.now) }
 {
-    match one_process(words) {
-        Some(p) => Some(Command::Discard(p)),
-        None => None,
-    }
+    Some(Command::Discard(one_process(words)?))
 }
 
 /// `promote P ADDR`
 fn promote_page(words: &[u8]) -> Option<Command>
     ensures { result ≡ two_words process_word address_word Promote (words_of words.now) }
 {
-    let (p, address) = match two_words(words) {
-        Some(words) => words,
-        None => return None,
-    };
-    let p = match process_word(p) {
-        Some(p) => p,
-        None => return None,
-    };
-    match address_word(address) {
-        Some(address) => Some(Command::Promote(p, address)),
-        None => None,
-    }
+    let (p, address) = process_and_address(words)?;
+    Some(Command::Promote(p, address))
 }
 
 /// `promote P all`
 fn promote_all(words: &[u8]) -> Option<Command>
     ensures { result ≡ two_words process_word all_word promote_all (words_of words.now) }
 {
-    let (p, all) = match two_words(words) {
-        Some(words) => words,
-        None => return None,
-    };
-    let p = match process_word(p) {
-        Some(p) => p,
-        None => return None,
-    };
+    let (p, all) = two_words(words)?;
+    let p = process_word(p)?;
     if is_all(all) {
         Some(Command::PromoteAll(p))
     } else {
@@ -249,26 +218,10 @@ fn compact(words: &[u8]) -> Option<Command>
 fn map_of(p: u16, words: &[u8]) -> Option<Command>
     ensures { result ≡ three_words address_word pages_word perms_word (command.Map p) (words_of words.now) }
 {
-    let (address, behind) = match next_word(words) {
-        Some(parts) => parts,
-        None => return None,
-    };
-    let address = match address_word(address) {
-        Some(address) => address,
-        None => return None,
-    };
-    let (pages, perms) = match two_words(behind) {
-        Some(words) => words,
-        None => return None,
-    };
-    let pages = match pages_word(pages) {
-        Some(pages) => pages,
-        None => return None,
-    };
-    match perms_word(perms) {
-        Some(perms) => Some(Command::Map(p, address, pages, perms)),
-        None => None,
-    }
+    let (address, pages, perms) = three_words(words)?;
+    let address = address_word(address)?;
+    let pages = pages_word(pages)?;
+    Some(Command::Map(p, address, pages, perms_word(perms)?))
 }
 
 /// `map P ADDR K PERM`
@@ -276,59 +229,64 @@ fn map(words: &[u8]) -> Option<Command>
     ensures { result ≡ four_words process_word address_word pages_word perms_word command.Map
         (words_of words.now) }
 {
-    let (p, behind) = match next_word(words) {
-        Some(parts) => parts,
-        None => return None,
-    };
-    match process_word(p) {
-        Some(p) => map_of(p, behind),
-        None => None,
-    }
+    let (p, behind) = next_word(words)?;
+    map_of(process_word(p)?, behind)
 }
 
 /// `unmap P ADDR K`
 fn unmap(words: &[u8]) -> Option<Command>
     ensures { result ≡ three_words process_word address_word pages_word command.Unmap (words_of words.now) }
 {
-    let (p, behind) = match next_word(words) {
-        Some(parts) => parts,
-        None => return None,
-    };
-    let p = match process_word(p) {
-        Some(p) => p,
-        None => return None,
-    };
-    let (address, pages) = match two_words(behind) {
-        Some(words) => words,
-        None => return None,
-    };
-    let address = match address_word(address) {
-        Some(address) => address,
-        None => return None,
-    };
-    match pages_word(pages) {
-        Some(pages) => Some(Command::Unmap(p, address, pages)),
-        None => None,
-    }
+    let (p, address, pages) = three_words(words)?;
+    let p = process_word(p)?;
+    let address = address_word(address)?;
+    Some(Command::Unmap(p, address, pages_word(pages)?))
 }
 
 /// `drop P`
 fn give_up(words: &[u8]) -> Option<Command>
     ensures { result ≡ one_word process_word Drop (words_of words.now) }
 {
-    match one_process(words) {
-        Some(p) => Some(Command::Drop(p)),
-        None => None,
-    }
+    Some(Command::Drop(one_process(words)?))
 }
 
 /// `regs P`
 fn regs(words: &[u8]) -> Option<Command>
     ensures { result ≡ one_word process_word command.Regs (words_of words.now) }
 {
-    match one_process(words) {
-        Some(p) => Some(Command::Regs(p)),
-        None => None,
+    Some(Command::Regs(one_process(words)?))
+}
+
+/// `dump P ADDR LEN`
+fn dump(words: &[u8]) -> Option<Command>
+    ensures { result ≡ three_words process_word address_word dumped_word command.Dump (words_of words.now) }
+{
+    let (p, address, count) = three_words(words)?;
+    let p = process_word(p)?;
+    let address = address_word(address)?;
+    Some(Command::Dump(p, address, dumped_word(count)?))
+}
+
+/// `poke P ADDR HEX`
+fn poke(alloc: Global, words: &[u8]) -> Result<Option<Command>, AllocError>
+    ensures { IfOk result (λ made. made
+        ≡ three_words process_word address_word hex_word command.Poke (words_of words.now)) }
+{
+    let (p, address, bytes) = match three_words(words) {
+        Some(words) => words,
+        None => return Ok(None),
+    };
+    let p = match process_word(p) {
+        Some(p) => p,
+        None => return Ok(None),
+    };
+    let address = match address_word(address) {
+        Some(address) => address,
+        None => return Ok(None),
+    };
+    match hex_word(alloc, bytes)? {
+        Some(bytes) => Ok(Some(Command::Poke(p, address, bytes))),
+        None => Ok(None),
     }
 }
 
@@ -336,26 +294,36 @@ fn regs(words: &[u8]) -> Option<Command>
 fn set(words: &[u8]) -> Option<Command>
     ensures { result ≡ three_words process_word register_word address_word command.Set (words_of words.now) }
 {
-    let (p, behind) = match next_word(words) {
-        Some(parts) => parts,
-        None => return None,
-    };
-    let p = match process_word(p) {
-        Some(p) => p,
-        None => return None,
-    };
-    let (register, value) = match two_words(behind) {
-        Some(words) => words,
-        None => return None,
-    };
-    let register = match register_word(register) {
-        Some(register) => register,
-        None => return None,
-    };
-    match address_word(value) {
-        Some(value) => Some(Command::Set(p, register, value)),
-        None => None,
-    }
+    let (p, register, value) = three_words(words)?;
+    let p = process_word(p)?;
+    let register = register_word(register)?;
+    Some(Command::Set(p, register, address_word(value)?))
+}
+
+/// `break P ADDR`
+fn add_break(words: &[u8]) -> Option<Command>
+    ensures { result ≡ two_words process_word address_word command.Break (words_of words.now) }
+{
+    let (p, address) = process_and_address(words)?;
+    Some(Command::Break(p, address))
+}
+
+/// `unbreak P ADDR`
+fn unbreak(words: &[u8]) -> Option<Command>
+    ensures { result ≡ two_words process_word address_word command.Unbreak (words_of words.now) }
+{
+    let (p, address) = process_and_address(words)?;
+    Some(Command::Unbreak(p, address))
+}
+
+/// `disasm P ADDR W`
+fn disasm(words: &[u8]) -> Option<Command>
+    ensures { result ≡ three_words process_word address_word words_word command.Disasm (words_of words.now) }
+{
+    let (p, address, count) = three_words(words)?;
+    let p = process_word(p)?;
+    let address = address_word(address)?;
+    Some(Command::Disasm(p, address, words_word(count)?))
 }
 
 /// `list`
@@ -380,9 +348,9 @@ fn stats(words: &[u8]) -> Option<Command>
     }
 }
 
-/// The command that a first word and the words behind it are, by the table of forms.
-fn command_of(alloc: Global, first: &[u8], words: &[u8]) -> Result<Option<Command>, AllocError>
-    ensures { IfOk result (λ command. command ≡ command_of first.now (words_of words.now)) }
+/// The command that a first word and the words behind it are, by the forms of the machine.
+fn machine_command(alloc: Global, first: &[u8], words: &[u8]) -> Result<Option<Command>, AllocError>
+    ensures { IfOk result (λ command. command ≡ made_by machine_forms first.now (words_of words.now)) }
 {
     if first == b"exec".as_slice() {
         exec(alloc, words)
@@ -416,16 +384,50 @@ fn command_of(alloc: Global, first: &[u8], words: &[u8]) -> Result<Option<Comman
         Ok(unmap(words))
     } else if first == b"drop".as_slice() {
         Ok(give_up(words))
-    } else if first == b"regs".as_slice() {
+    } else {
+        Ok(None)
+    }
+}
+
+/// The same by the forms of the debugger.
+fn debugger_command(
+    alloc: Global,
+    first: &[u8],
+    words: &[u8],
+) -> Result<Option<Command>, AllocError>
+    ensures { IfOk result (λ command. command ≡ made_by debugger_forms first.now (words_of words.now)) }
+{
+    if first == b"regs".as_slice() {
         Ok(regs(words))
+    } else if first == b"dump".as_slice() {
+        Ok(dump(words))
+    } else if first == b"poke".as_slice() {
+        poke(alloc, words)
     } else if first == b"set".as_slice() {
         Ok(set(words))
+    } else if first == b"break".as_slice() {
+        Ok(add_break(words))
+    } else if first == b"unbreak".as_slice() {
+        Ok(unbreak(words))
+    } else if first == b"disasm".as_slice() {
+        Ok(disasm(words))
     } else if first == b"list".as_slice() {
         Ok(list(words))
     } else if first == b"stats".as_slice() {
         Ok(stats(words))
     } else {
         Ok(None)
+    }
+}
+
+/// The command that a first word and the words behind it are, by the table of forms.
+#[tactic(auto, using(crate::proofs::Rows::in_either))]
+fn command_of(alloc: Global, first: &[u8], words: &[u8]) -> Result<Option<Command>, AllocError>
+    ensures { IfOk result (λ command. command ≡ command_of first.now (words_of words.now)) }
+{
+    match machine_command(alloc, first, words)? {
+        Some(command) => Ok(Some(command)),
+        None => debugger_command(alloc, first, words),
     }
 }
 

@@ -1,9 +1,12 @@
-ghost use Rattle.std.specs.Prelude.{◌≡◌, ◌&&◌, nat_le, codes, IfOk};
+ghost use Rattle.std.specs.Prelude.{◌≡◌, ◌&&◌, nat_le, codes, IfOk, IsTrue};
 ghost use Rattle.std.specs.List.{list_all};
-ghost use Rattle.script_text.specs.Kinds.{is_file_name, file_word, is_name_byte, is_checkpoint_name, checkpoint_word, turns_word, process_word, address_word, begins_with, has_leading_zero, register_number, register_word, pages_word, perms_word, is_all};
+ghost use Rattle.script_text.specs.Kinds.{is_file_name, file_word, is_name_byte, is_checkpoint_name, checkpoint_word, turns_word, process_word, address_word, begins_with, has_leading_zero, register_number, register_word, pages_word, perms_word, dumped_word, words_word, is_hex, bytes_of_pairs, hex_word, is_all};
+ghost use Rattle.script_text.specs.Numbers.{is_hexadecimal};
 
-use crate::numbers::{is_decimal, number_between};
-use crate::{MOST_CHECKPOINT_NAME, MOST_PAGES, MOST_TURNS, PC_NUMBER};
+use crate::numbers::{digit, is_decimal, is_hexadecimal, number_between};
+use crate::{
+    MOST_CHECKPOINT_NAME, MOST_DUMPED, MOST_PAGES, MOST_POKED, MOST_TURNS, MOST_WORDS, PC_NUMBER,
+};
 use bitflags::Flags;
 use ovl_io::{Bytes, Perms};
 use sizes::{LAST_SPACE, MOST_FILE_NAME};
@@ -78,20 +81,14 @@ pub(crate) fn checkpoint_word(alloc: Global, word: &[u8]) -> Result<Option<Bytes
 pub(crate) fn turns_word(word: &[u8]) -> Option<u32>
     ensures { result ≡ turns_word word.now }
 {
-    match number_between(1, u64::from(MOST_TURNS), word) {
-        Some(n) => Some(n as u32),
-        None => None,
-    }
+    Some(number_between(1, u64::from(MOST_TURNS), word)? as u32)
 }
 
 /// The process number that a word is.
 pub(crate) fn process_word(word: &[u8]) -> Option<u16>
     ensures { result ≡ process_word word.now }
 {
-    match number_between(1, u64::from(LAST_SPACE), word) {
-        Some(n) => Some(n as u16),
-        None => None,
-    }
+    Some(number_between(1, u64::from(LAST_SPACE), word)? as u16)
 }
 
 /// Whether a word begins as the name of a register does.
@@ -115,10 +112,7 @@ fn register_number(digits: &[u8]) -> Option<u8>
     if has_leading_zero(digits) {
         return None;
     }
-    match number_between(0, 31, digits) {
-        Some(n) => Some(n as u8),
-        None => None,
-    }
+    Some(number_between(0, 31, digits)? as u8)
 }
 
 /// The register that a word names, by its number, or the pc.
@@ -145,10 +139,60 @@ pub(crate) fn address_word(word: &[u8]) -> Option<u64>
 pub(crate) fn pages_word(word: &[u8]) -> Option<u32>
     ensures { result ≡ pages_word word.now }
 {
-    match number_between(1, u64::from(MOST_PAGES), word) {
-        Some(n) => Some(n as u32),
-        None => None,
+    Some(number_between(1, u64::from(MOST_PAGES), word)? as u32)
+}
+
+/// The number of bytes to print that a word is.
+pub(crate) fn dumped_word(word: &[u8]) -> Option<u32>
+    ensures { result ≡ dumped_word word.now }
+{
+    Some(number_between(1, u64::from(MOST_DUMPED), word)? as u32)
+}
+
+/// The number of words to print that a word is.
+pub(crate) fn words_word(word: &[u8]) -> Option<u32>
+    ensures { result ≡ words_word word.now }
+{
+    Some(number_between(1, u64::from(MOST_WORDS), word)? as u32)
+}
+
+/// Whether each byte is a hexadecimal digit.
+fn all_hexadecimal(bytes: &[u8]) -> bool
+    ensures { result ≡ list_all is_hexadecimal bytes.now }
+{
+    bytes.iter().all(|b| is_hexadecimal(*b))
+}
+
+/// Whether a word is bytes in hexadecimal digits, two a byte.
+fn is_hex(word: &[u8]) -> bool
+    ensures { result ≡ is_hex word.now }
+{
+    if word.len() < 2 || word.len() > 2 * MOST_POKED || word.len() % 2 != 0 {
+        return false;
     }
+    all_hexadecimal(word)
+}
+
+/// The bytes that digits are, two a byte, of which the first is the higher.
+fn bytes_of_pairs(alloc: Global, digits: &[u8]) -> Result<Vec<u8>, AllocError>
+    requires { IsTrue (list_all is_hexadecimal digits.now) }
+    ensures { IfOk result (λ bytes. bytes.items ≡ bytes_of_pairs digits.now) }
+{
+    let mut bytes = Vec::with_capacity(alloc, digits.len() / 2)?;
+    'pairs: for i in 0..digits.len() / 2 {
+        bytes.push(16 * digit(digits[2 * i]) + digit(digits[2 * i + 1]))?;
+    }
+    Ok(bytes)
+}
+
+/// The bytes that a word is.
+pub(crate) fn hex_word(alloc: Global, word: &[u8]) -> Result<Option<Bytes>, AllocError>
+    ensures { IfOk result (λ bytes. bytes ≡ hex_word word.now) }
+{
+    if !is_hex(word) {
+        return Ok(None);
+    }
+    Ok(Some(Bytes::new(bytes_of_pairs(alloc, word)?)))
 }
 
 /// The permissions that a word is.

@@ -25,12 +25,22 @@ mod words;
 pub use command::{Command, ScriptError};
 pub use lines::line_count;
 pub use script::parse;
+use sizes::PAGE_BYTES;
 
 /// The most turns of a command.
 pub const MOST_TURNS: u32 = 10_000_000;
 
 /// The most pages that one command maps or gives up.
 pub const MOST_PAGES: u32 = 1 << 16;
+
+/// The most bytes that one command prints, those of 16 pages.
+pub const MOST_DUMPED: u32 = 16 * PAGE_BYTES as u32;
+
+/// The most bytes that one command stores, those of a page.
+pub const MOST_POKED: usize = PAGE_BYTES;
+
+/// The most words that one command prints as instructions.
+pub const MOST_WORDS: u32 = PAGE_BYTES as u32;
 
 /// The most bytes of a checkpoint's name.
 pub const MOST_CHECKPOINT_NAME: usize = 32;

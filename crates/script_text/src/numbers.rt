@@ -10,26 +10,25 @@ pub(crate) fn is_decimal(b: u8) -> bool
 }
 
 /// Whether a byte is a hexadecimal digit, of either case.
-fn is_hexadecimal(b: u8) -> bool
+pub(crate) fn is_hexadecimal(b: u8) -> bool
     ensures { result ≡ is_hexadecimal b }
 {
     is_decimal(b) || (b'A'..=b'F').contains(&b) || (b'a'..=b'f').contains(&b)
 }
 
 /// What a digit stands for.
-fn digit(b: u8) -> u64
+pub(crate) fn digit(b: u8) -> u8
     requires { IsTrue (is_hexadecimal b) }
     ensures value { result ≡ digit b }
     ensures small { result < 16 }
 {
-    let d = if b <= b'9' {
+    if b <= b'9' {
         b - b'0'
     } else if b <= b'F' {
         b - b'A' + 10
     } else {
         b - b'a' + 10
-    };
-    u64::from(d)
+    }
 }
 
 /// The number below 2^64 that decimal digits stand for.
@@ -44,7 +43,7 @@ fn decimal(digits: &[u8]) -> Option<u64>
         if !is_decimal(*b) {
             return None;
         }
-        let d = digit(*b);
+        let d = u64::from(digit(*b));
         if n > (u64::MAX - d) / 10 {
             return None;
         }
@@ -65,7 +64,7 @@ fn hexadecimal(digits: &[u8]) -> Option<u64>
         if !is_hexadecimal(*b) {
             return None;
         }
-        let d = digit(*b);
+        let d = u64::from(digit(*b));
         if n > (u64::MAX - d) / 16 {
             return None;
         }

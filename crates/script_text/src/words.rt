@@ -60,10 +60,7 @@ pub(crate) fn one_word(text: &[u8]) -> Option<&[u8]>
     ensures { MatchOption result ((length (words_of text.now) == 1) ≡ false)
         (λ w. words_of text.now ≡ w.now ∷ []) }
 {
-    let (word, rest) = match next_word(text) {
-        Some(parts) => parts,
-        None => return None,
-    };
+    let (word, rest) = next_word(text)?;
     if no_words(rest) { Some(word) } else { None }
 }
 
@@ -72,12 +69,16 @@ pub(crate) fn two_words(text: &[u8]) -> Option<(&[u8], &[u8])>
     ensures { MatchOption result ((length (words_of text.now) == 2) ≡ false)
         (λ w. words_of text.now ≡ w.0.now ∷ w.1.now ∷ []) }
 {
-    let (word, rest) = match next_word(text) {
-        Some(parts) => parts,
-        None => return None,
-    };
-    match one_word(rest) {
-        Some(other) => Some((word, other)),
-        None => None,
-    }
+    let (word, rest) = next_word(text)?;
+    Some((word, one_word(rest)?))
+}
+
+/// The words of a text that has three.
+pub(crate) fn three_words(text: &[u8]) -> Option<(&[u8], &[u8], &[u8])>
+    ensures { MatchOption result ((length (words_of text.now) == 3) ≡ false)
+        (λ w. words_of text.now ≡ w.0.now ∷ w.1.now ∷ w.2.now ∷ []) }
+{
+    let (word, rest) = next_word(text)?;
+    let (other, third) = two_words(rest)?;
+    Some((word, other, third))
 }

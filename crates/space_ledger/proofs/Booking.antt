@@ -33,7 +33,7 @@ has_frame z f g isnt = at (nat_eq g z) refl
         by_frame false h = grind (arith, nat_tests)
     at false e = grind (arith, nat_tests)
 
-by_two : {P : Type 0} (a b : ℕ) → (a ≡ b → P) → ((a ≡ b → ⊥) → P) → P
+pub by_two : {P : Type 0} (a b : ℕ) → (a ≡ b → P) → ((a ≡ b → ⊥) → P) → P
 by_two {P = P} a b same other = at (nat_eq a b) refl
   where
     at : (c : Bool) → nat_eq a b ≡ c → P
@@ -48,11 +48,11 @@ held_more : (z : ℕ) (counts : List ℕ) (f : ℕ) → (f ≡ z → ⊥) → he
 unfolding held_by
 held_more z counts f other = ap (λ (b : Bool). cond b counts (held counts f)) (arent f z other)
 
-released_zero : (z : ℕ) (counts : List ℕ) (f : ℕ) → f ≡ z → released_by z counts f ≡ counts
+pub released_zero : (z : ℕ) (counts : List ℕ) (f : ℕ) → f ≡ z → released_by z counts f ≡ counts
 unfolding released_by
 released_zero z counts f same = let yes : nat_eq f z ≡ true = grind (arith, nat_tests) in ap (λ (b : Bool). cond b counts (released counts f)) yes
 
-released_less : (z : ℕ) (counts : List ℕ) (f : ℕ) → (f ≡ z → ⊥) → released_by z counts f ≡ released counts f
+pub released_less : (z : ℕ) (counts : List ℕ) (f : ℕ) → (f ≡ z → ⊥) → released_by z counts f ≡ released counts f
 unfolding released_by
 released_less z counts f other = ap (λ (b : Bool). cond b counts (released counts f)) (arent f z other)
 

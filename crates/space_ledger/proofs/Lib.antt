@@ -14,5 +14,7 @@ pub mod RunCounts
 pub mod Rises
 pub mod LedgerCalls
 pub mod Removing
+pub mod RunReleases
+pub mod RunRemoved
 pub mod RunBooks
 pub mod Sharing

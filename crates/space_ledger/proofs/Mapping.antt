@@ -14,7 +14,7 @@ use Rattle.space_maps.specs.Spaces.{holds_space, page_in, put_page, put_pages, p
 use Rattle.space_maps.specs.Laws.{ArePut, are_put, beside_space, in_space, keeps_page_put, keeps_put, page_put_beside, spaces_alike}
 use Rattle.space_maps.specs.Mapped.{mapped_space}
 use Rattle.space_ledger.specs.declared.tables.Tables.TheInside.{Inside}
-use Rattle.space_ledger.specs.Space.{SpaceTable, AreMapped}
+use Rattle.space_ledger.specs.Space.{SpaceTable, HasMapped}
 use Rattle.space_ledger.specs.View.{LedgerView, PageView, SpaceView, with_zero_pages}
 use Rattle.space_ledger.specs.Calls.{AreFree}
 use Rattle.space_ledger.specs.Kept.{IsKept, seen, seen_page}
@@ -62,7 +62,7 @@ module _ {t : Inside} {v : LedgerView} (show : Shows t v) (s : ℕ) (x : SpaceTa
       there q (Some e) h = refl
 
   -- the pages are mapped
-  pub shown_mapped : (from n : ℕ) (entry : PageEntry) (y : SpaceTable) → AreFree v s from n → from + n ≤ PAGE_END → AreMapped x from n entry y
+  pub shown_mapped : (from n : ℕ) (entry : PageEntry) (y : SpaceTable) → AreFree v s from n → from + n ≤ PAGE_END → HasMapped x from n entry y
       → Shows (with_spaces t (insert t.spaces s y)) (with_zero_pages v s from n entry)
   unfolding with_zero_pages
   shown_mapped from n entry y free low mapped = record { is = is; kept = kept_all n from v t.overlays s page show.kept has free low refl }

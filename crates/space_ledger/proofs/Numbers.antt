@@ -37,7 +37,7 @@ length_held z counts f = at (f == z)
     at true = refl
     at false = length-set counts f _
 
-length_released : (z : ℕ) (counts : List ℕ) (f : ℕ) → length (released_by z counts f) ≡ length counts
+pub length_released : (z : ℕ) (counts : List ℕ) (f : ℕ) → length (released_by z counts f) ≡ length counts
 unfolding released_by
 length_released z counts f = at (f == z)
   where

@@ -7,7 +7,7 @@ use Rattle.std.specs.FinMap.{empty, empty_of_len, get, get-empty, get-retain_key
 use Rattle.number_maps.specs.Keys.{alike, by_key, get_other, get_same, removed_other, removed_same}
 use Rattle.page_table.specs.Table.{Pages, AreThere, IsFree, IsMapped, IsNext, is_within}
 use Rattle.page_table.specs.declared.entry.PageEntry.{PageEntry}
-use Rattle.space_ledger.specs.Space.{SpaceTable, AreMapped, IsCounted, IsLeast, IsNextPage, adopted, awaited, pages_below, pages_from, with_entry, without_page}
+use Rattle.space_ledger.specs.Space.{SpaceTable, HasMapped, IsCounted, IsLeast, IsNextPage, adopted, awaited, pages_below, pages_from, with_entry, without_page}
 
 -- A table in two parts: the pages below one, and those from it on.
 
@@ -129,7 +129,7 @@ beyond old new end from n entry settled mapped low small q high =
     ∙ sym (waits old end q (omega (arith, high, small))) ∙ ap (λ (m : Pages). get m q) settled ∙ none_at q
 
 pub map_all : (old new : Pages) (end from n : ℕ) (entry : PageEntry) (mark : Bool) → pages_from old end ≡ empty → IsMapped old from n entry new → len new ≡ len old + n → from + n ≤ 2 ^ 36 → end < 2 ^ 64
-    → AreMapped (record { pages = pages_below old end; awaiting = pages_from old end; speculating = mark }) from n entry
+    → HasMapped (record { pages = pages_below old end; awaiting = pages_from old end; speculating = mark }) from n entry
     (record { pages = pages_below new (2 ^ 64 - 1); awaiting = pages_from new (2 ^ 64 - 1); speculating = mark })
 map_all old new end from n entry mark settled mapped count low small =
     let far = beyond old new end from n entry settled mapped low small in

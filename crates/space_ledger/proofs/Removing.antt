@@ -1,28 +1,24 @@
-use Rattle.std.specs.Prelude.{◌≡◌, ℕ, zero, suc, ◌+◌, ◌-◌, ◌≤◌, ◌<◌, ◌||◌, Bool, true, false, not, cond, nat_eq, nat_le, nat_lt, List, Option, Some, None, is_some, IsSome, refl}
+use Rattle.std.specs.Prelude.{◌≡◌, ℕ, zero, suc, ◌+◌, ◌-◌, ◌≤◌, ◌<◌, Bool, true, false, cond, nat_le, nat_lt, Option, Some, None, is_some, IsSome, refl}
 use Rattle.std.proofs.Common.{sym, ap, subst, ◌∙◌, arith}
 use Rattle.std.proofs.lemmas.Bool.Decides.{nat_tests}
-use Rattle.std.specs.Option.{option_and_then, option_map, option_map_or}
+use Rattle.std.specs.Option.{option_and_then, option_map}
 use Rattle.std.specs.Ordering.{nat_cmp}
 use Rattle.std.specs.FinMap.{FinMap, empty, get, get-empty, insert, len}
 use Rattle.number_maps.specs.Keys.{alike, by_key, get_same, insert_over, removed_other, removed_same}
 use Rattle.number_maps.specs.Views.{get_viewed}
-use Rattle.sizes.specs.declared.TheConstants.{FRAME_UNITS}
-use Rattle.frame_pool.specs.Counts.{released, sharers_of}
 use Rattle.page_table.specs.Run.{IsNextRun, IsRunFrom, entry_at}
 use Rattle.page_table.specs.Table.{Pages, AreThere, IsUnmapped, is_within}
 use Rattle.page_table.specs.declared.entry.PageEntry.{PageEntry}
 use Rattle.page_table.specs.declared.run.PageRun.{PageRun}
-use Rattle.space_maps.specs.Spaces.{cut_page, cut_pages, holds_space, page_in, space_in}
-use Rattle.space_maps.specs.Laws.{after_cut, are_cut, page_of}
+use Rattle.space_maps.specs.Spaces.{AreMapped, cut_page, cut_pages, page_in, space_in}
+use Rattle.space_maps.specs.Laws.{after_cut, page_of}
 use Rattle.space_ledger.specs.declared.tables.Tables.TheInside.{Inside}
 use Rattle.space_ledger.specs.Space.{SpaceTable, IsCounted, pages_below, pages_from, without_page, without_pages}
-use Rattle.space_ledger.specs.Frames.{frame_units, released_by}
-use Rattle.space_ledger.specs.View.{LedgerView, PageView, frame_at, overlay_at}
-use Rattle.space_ledger.specs.Calls.{AreBare, AreThere as ArePagesThere, AreZeros, IsBooked, IsNextOverlaid, entries_of}
+use Rattle.space_ledger.specs.View.{LedgerView, PageView, overlay_at}
+use Rattle.space_ledger.specs.Calls.{AreBare, AreBareOnZero, IsNextOverlaid, entries_of}
 use Rattle.space_ledger.proofs.Parts.{all_inside, from_at, in_table, same_space}
 use Rattle.space_ledger.proofs.Seen.{Shows, entry_there, there_is, with_spaces}
 use Rattle.space_ledger.proofs.TableOps.{shown_gone, shown_still}
-use Rattle.space_ledger.proofs.Numbers.{removed_books}
 
 -- Pages that are taken away, one after the other.
 
@@ -118,69 +114,26 @@ unfolding entries_of
 none_next v s page none q from =
     get_viewed (λ _ (x : PageView). x.entry) (space_in v s).pages q ∙ ap (option_map (λ (x : PageView). x.entry)) (sym (page_of v s q) ∙ none q)
 
--- The books: a page on the zero frame counts nothing.
-
-zero_released : (z f : ℕ) (counts : List ℕ) → f ≡ z → released_by z counts f ≡ counts
-unfolding released_by
-zero_released z f counts same = let yes : nat_eq f z ≡ true = grind (arith, nat_tests) in ap (λ b. cond b counts (released counts f)) yes
-
-zero_free : (z f : ℕ) (counts : List ℕ) → f ≡ z → frame_units z counts f ≡ 0
-unfolding frame_units
-zero_free z f counts same =
-    let yes : nat_eq f z ≡ true = grind (arith, nat_tests) in
-    ap (λ b. cond (b || not (nat_eq (sharers_of counts f) 0)) 0 FRAME_UNITS) yes
-
-page_on : (v : LedgerView) (s p f : ℕ) → frame_at v s p ≡ Some f → (x : PageView) × (page_in v s p ≡ Some x) × (x.entry.frame ≡ f)
-page_on v s p f is = at (page_in v s p) refl is
-  where
-    at : (o : Option PageView) → page_in v s p ≡ o → option_map (λ (x : PageView). x.entry.frame) o ≡ Some f → (x : PageView) × (page_in v s p ≡ Some x) × (x.entry.frame ≡ f)
-    at None there h = let no = ap is_some h in cc
-    at (Some x) there h = (x, there, ap (λ (o : Option ℕ). option_map_or (λ (n : ℕ). n) o f) h)
-
-zero_gone : (v : LedgerView) (counts : List ℕ) (u n : ℕ) → IsBooked v counts u n → (s p : ℕ) → frame_at v s p ≡ Some v.zero_frame → overlay_at v s p ≡ None → IsBooked (cut_page v s p) counts u n
-zero_gone v counts u n kept s p zero_is bare =
-    let found = page_on v s p v.zero_frame zero_is in
-    let x = found.0 in
-    let over : x.overlay ≡ None = sym (ap (option_and_then (λ (y : PageView). y.overlay)) found.1) ∙ bare in
-    let same = zero_released v.zero_frame x.entry.frame counts found.2 in
-    let nothing = zero_free v.zero_frame x.entry.frame (released_by v.zero_frame counts x.entry.frame) found.2 in
-    subst (λ (c : List ℕ). IsBooked (cut_page v s p) c u n) same
-    (subst (λ k. IsBooked (cut_page v s p) (released_by v.zero_frame counts x.entry.frame) k n) (omega (arith, nothing)) (removed_books v counts u n kept s p x found.1 over))
-
-pub zeros_gone : (k from : ℕ) (v : LedgerView) (counts : List ℕ) (u n s : ℕ) → IsBooked v counts u n → holds_space v s ≡ true → AreZeros v s from k → IsBooked (cut_pages v s from k) counts u n
-unfolding cut_pages
-zeros_gone zero from v counts u n s kept there zeros = kept
-zeros_gone (suc k) from v counts u n s kept there zeros =
-    let before = zeros_gone k from v counts u n s kept there (λ i less. zeros i (omega (arith, less))) in
-    let last = zeros k (omega arith) in
-    let same = after_cut k from v s there in
-    let frame = (are_cut k from v s there).keeps.zero_frame in
-    zero_gone (cut_pages v s from k) counts u n before s (from + k)
-    (ap (option_map (λ (x : PageView). x.entry.frame)) same ∙ last.0 ∙ ap Some (sym frame))
-    (ap (option_and_then (λ (x : PageView). x.overlay)) same ∙ last.1)
-
 -- How many pages are zeros.
-
-pub zeros_bare : (v : LedgerView) (s from n : ℕ) → AreZeros v s from n → AreBare v s from n
-zeros_bare v s from n zeros i less = (some (page_in v s (from + i)) (zeros i less).0, (zeros i less).1)
-  where
-    some : (o : Option PageView) → option_map (λ (x : PageView). x.entry.frame) o ≡ Some v.zero_frame → IsSome o
-    some None h = let no = ap is_some h in cc
-    some (Some x) h = refl
 
 -- the pages before one with own lines
 pub before_overlaid : (v : LedgerView) (s page n : ℕ) (found : ℕ) → IsNextOverlaid v s page (Some found) → (i : ℕ) → i < found - page → overlay_at v s (page + i) ≡ None
 before_overlaid v s page n found next i less =
     let low = next.0 in next.2 (page + i) (omega arith) (omega (arith, less, low))
 
+-- the entry of a page, by those of its space
+pub entry_of : (v : LedgerView) (s p : ℕ) (e : PageEntry) → get (entries_of v s) p ≡ Some e → option_map (λ (x : PageView). x.entry) (page_in v s p) ≡ Some e
+unfolding entries_of
+entry_of v s p e is =
+    sym (get_viewed (λ _ (x : PageView). x.entry) (space_in v s).pages p ∙ ap (option_map (λ (x : PageView). x.entry)) (sym (page_of v s p))) ∙ is
+
 -- the first pages of a run on the zero frame
 pub zeros_of_run : (v : LedgerView) (s page : ℕ) (run : PageRun) (few many : ℕ) → IsRunFrom (entries_of v s) page run → few ≤ many → many ≤ run.n → (0 < many → run.page ≡ page)
-    → ((i : ℕ) → i < many → (entry_at run i).frame ≡ v.zero_frame) → ((i : ℕ) → i < few → overlay_at v s (page + i) ≡ None) → AreZeros v s page few
-unfolding entries_of
+    → ((i : ℕ) → i < many → (entry_at run i).frame ≡ v.zero_frame) → ((i : ℕ) → i < few → overlay_at v s (page + i) ≡ None) → AreBareOnZero v s page few
 zeros_of_run v s page run few many first fits inside start on_zero bare i less =
     let same = start (omega (arith, less, fits)) in
     let entry : get (entries_of v s) (page + i) ≡ Some (entry_at run i) = ap (λ p. get (entries_of v s) (p + i)) (sym same) ∙ first.has i (omega (arith, less, fits, inside)) in
-    let entry_is = sym (get_viewed (λ _ (x : PageView). x.entry) (space_in v s).pages (page + i) ∙ ap (option_map (λ (x : PageView). x.entry)) (sym (page_of v s (page + i)))) ∙ entry in
+    let entry_is = entry_of v s (page + i) (entry_at run i) entry in
     (framed (page_in v s (page + i)) (entry_at run i) entry_is ∙ ap Some (on_zero i (omega (arith, less, fits))), bare i less)
   where
     framed : (o : Option PageView) (e : PageEntry) → option_map (λ (x : PageView). x.entry) o ≡ Some e → option_map (λ (x : PageView). x.entry.frame) o ≡ Some e.frame
@@ -202,7 +155,7 @@ none_by : {X : Type 0} (o : Option X) → is_some o ≡ false → o ≡ None
 none_by None h = refl
 none_by (Some x) h = cc
 
-pub run_there : (v : LedgerView) (s page : ℕ) (run : PageRun) → IsRunFrom (entries_of v s) page run → run.page ≡ page → ArePagesThere v s page run.n
+pub run_there : (v : LedgerView) (s page : ℕ) (run : PageRun) → IsRunFrom (entries_of v s) page run → run.page ≡ page → AreMapped v s page run.n
 run_there v s page run first same i less =
     subst (λ p. IsSome (page_in v s (p + i))) same (sym (entry_some v s (run.page + i)) ∙ ap is_some (first.has i less))
 

@@ -15,13 +15,13 @@ on_zero : (z f : ℕ) (counts : List ℕ) → f ≡ z → held_by z counts f ≡
 unfolding held_by
 on_zero z f counts same = let yes : nat_eq f z ≡ true = grind (arith, nat_tests) in ap (λ (b : Bool). cond b counts (held counts f)) yes
 
-no_units : (z f : ℕ) (counts : List ℕ) → f ≡ z → frame_units z counts f ≡ 0
+pub no_units : (z f : ℕ) (counts : List ℕ) → f ≡ z → frame_units z counts f ≡ 0
 unfolding frame_units
 no_units z f counts same =
     let yes : nat_eq f z ≡ true = grind (arith, nat_tests) in ap (λ (b : Bool). cond (b || not (sharers_of counts f == 0)) 0 FRAME_UNITS) yes
 
 module _ (z : ℕ) (counts : List ℕ) (run : PageRun) (level : run.rising ≡ false) (on : run.entry.frame ≡ z) where
-  frame_is : (k : ℕ) → (entry_at run k).frame ≡ z
+  pub frame_is : (k : ℕ) → (entry_at run k).frame ≡ z
   frame_is k = ap (λ (b : Bool). cond b (run.entry.frame + k) run.entry.frame) level ∙ on
 
   pub zero_held : (k : ℕ) → held_run z counts run k ≡ counts
@@ -42,7 +42,7 @@ pub record HasHeld (z : ℕ) (old now : List ℕ) (units : ℕ) (run : PageRun) 
   pub counts : now ≡ held_run z old run k
   pub units_are : units ≡ run_units z old run k
 
-few_units : (z f : ℕ) (counts : List ℕ) → frame_units z counts f ≤ 16
+pub few_units : (z f : ℕ) (counts : List ℕ) → frame_units z counts f ≤ 16
 unfolding frame_units
 few_units z f counts = by (nat_eq f z || not (sharers_of counts f == 0))
   where

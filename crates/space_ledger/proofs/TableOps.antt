@@ -22,7 +22,7 @@ use Rattle.space_maps.specs.Laws.{changed_there, page_absent, page_of}
 use Rattle.space_maps.specs.Mapped.{mapped, mapped_none}
 use Rattle.space_maps.specs.Books.{books_empty}
 use Rattle.space_ledger.specs.declared.tables.Tables.TheInside.{Inside}
-use Rattle.space_ledger.specs.Space.{SpaceTable, AreMapped, IsNextPage, adopted, awaited, marked, run_awaited, with_entry, without_page}
+use Rattle.space_ledger.specs.Space.{SpaceTable, HasMapped, IsNextPage, adopted, awaited, marked, run_awaited, with_entry, without_page}
 use Rattle.space_ledger.specs.View.{LedgerView, PageView, SpaceView, holding_of, ledger_of, with_entry_at, with_run_shared, with_zero_pages}
 use Rattle.space_ledger.specs.Calls.{AreFree, HasSpare, IsLined, IsNextOf, IsSound, entries_of}
 use Rattle.space_ledger.specs.Kept.{IsKept, plain, seen, seen_page}
@@ -138,7 +138,7 @@ module _ {t : Inside} {v : LedgerView} (show : Shows t v) (s : ℕ) (x y : Space
   len_is = ap len entries_is ∙ len_viewed (λ page (k : PageView). k.entry) (space_in v s).pages
 
   -- pages mapped; and a space that is as it was
-  pub shown_zeros : (from n : ℕ) (e : PageEntry) → AreFree v s from n → from + n ≤ PAGE_END → AreMapped x from n e y → Shows (with_spaces t (insert t.spaces s y)) (with_zero_pages v s from n e)
+  pub shown_zeros : (from n : ℕ) (e : PageEntry) → AreFree v s from n → from + n ≤ PAGE_END → HasMapped x from n e y → Shows (with_spaces t (insert t.spaces s y)) (with_zero_pages v s from n e)
   shown_zeros from n e free low mapped = shown_mapped show s x (sym at) from n e y free low mapped
 
   pub shown_still : y ≡ x → Shows (with_spaces t (insert t.spaces s y)) v

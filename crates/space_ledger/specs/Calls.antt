@@ -1,5 +1,5 @@
-use Rattle.std.specs.Prelude.{◌≡◌, ℕ, ◌+◌, ◌*◌, ◌==◌, ◌≤◌, ◌<◌, ◌⊎◌, ◌||◌, if◌then◌else◌, true, false, List, [], ◌∷◌, length, IsTrue, Option, Some, None, IsSome}
-use Rattle.std.specs.Option.{option_and_then}
+use Rattle.std.specs.Prelude.{◌≡◌, ℕ, suc, ◌+◌, ◌*◌, ◌^◌, ◌==◌, ◌≤◌, ◌<◌, ◌⊎◌, ◌||◌, if◌then◌else◌, true, false, List, [], ◌∷◌, length, IsTrue, Option, Some, None, IsSome}
+use Rattle.std.specs.Option.{option_and_then, option_map}
 use Rattle.std.specs.FinMap.{get, len}
 use Rattle.sizes.specs.declared.TheConstants.{FRAME_UNITS, LAST_SPACE, MOST_FRAMES, PAGE_END, PAGE_LINES}
 use Rattle.frame_pool.specs.Counts.{sharers_of}
@@ -7,11 +7,13 @@ use Rattle.ledger.specs.Changes.{has_own}
 use Rattle.ledger.specs.Events.{Store, ledger_after}
 use Rattle.ledger.specs.Ledger.{Holding, Ledger, has_origin, holding_at}
 use Rattle.ledger.specs.Units.{overlaid_pages, own_lines, sharers, units}
+use Rattle.page_table.specs.Run.{entry_at}
 use Rattle.page_table.specs.declared.entry.PageEntry.{PageEntry}
+use Rattle.page_table.specs.declared.run.PageRun.{PageRun}
 use Rattle.overlay_mapping_table.specs.declared.entry.Entry.{Entry}
 use Rattle.number_maps.specs.Views.{viewed}
 use Rattle.page_table.specs.Table.{Pages, is_within}
-use Rattle.space_maps.specs.Spaces.{page_in, space_in}
+use Rattle.space_maps.specs.Spaces.{cut_pages, page_in, space_in}
 use Rattle.space_ledger.specs.Space.{IsLeast}
 use Rattle.space_ledger.specs.View.{LedgerView, PageView, SpaceView, frame_at, frame_awaiting, ledger_of, overlay_at, with_page_shared}
 
@@ -25,17 +27,24 @@ AreSharersCounted ledger zero_frame frames counts = (f : ℕ) → f < frames →
 abbrev pub AreFree : LedgerView → ℕ → ℕ → ℕ → Type 0
 AreFree view space from n = (page : ℕ) → IsTrue (is_within from n page) → page_in view space page ≡ None
 
--- the n pages from `from` on are there
-abbrev pub AreThere : LedgerView → ℕ → ℕ → ℕ → Type 0
-AreThere view space from n = (i : ℕ) → i < n → IsSome (page_in view space (from + i))
-
--- they are, without own lines; and they are on the zero frame
+-- the n pages from `from` on are there without own lines; and they are on the zero frame
 abbrev pub AreBare : LedgerView → ℕ → ℕ → ℕ → Type 0
 AreBare view space from n = (i : ℕ) → i < n → IsSome (page_in view space (from + i)) × (overlay_at view space (from + i) ≡ None)
 
-abbrev pub AreZeros : LedgerView → ℕ → ℕ → ℕ → Type 0
-AreZeros view space from n =
+abbrev pub AreBareOnZero : LedgerView → ℕ → ℕ → ℕ → Type 0
+AreBareOnZero view space from n =
     (i : ℕ) → i < n → (frame_at view space (from + i) ≡ Some view.zero_frame) × (overlay_at view space (from + i) ≡ None)
+
+-- the pages of a run are there, with its entries and without own lines
+pub record IsBareRun (view : LedgerView) (space : ℕ) (run : PageRun) : Type 0 where
+  pub has : (i : ℕ) → i < run.n → option_map (λ x. x.entry) (page_in view space (run.page + i)) ≡ Some (entry_at run i)
+  pub bare : (i : ℕ) → i < run.n → overlay_at view space (run.page + i) ≡ None
+  pub fits : run.rising ≡ true → run.entry.frame + run.n ≤ 2 ^ 32
+
+-- some pages from one on are such a run, so many at most
+abbrev pub IsBareFrom : LedgerView → ℕ → ℕ → ℕ → Option PageRun → Type 0
+IsBareFrom view space page most None = Unit {0}
+IsBareFrom view space page most (Some run) = (run.page ≡ page) × (0 < run.n) × (run.n ≤ most) × IsBareRun view space run
 
 -- the least page of a space not below one, or that there is none
 abbrev pub IsNextOf : LedgerView → ℕ → ℕ → Option ℕ → Type 0
@@ -105,6 +114,14 @@ IsFreeFor view space page frame =
 abbrev pub given_up : LedgerView → Option PageView → Option ℕ
 given_up now None = None
 given_up now (Some x) = if x.entry.frame == now.zero_frame || has_origin (ledger_of now) (x.entry.frame + 1) then None else Some x.entry.frame
+
+-- pages of a run went one after the other: what was given up with each is what is given up once all went; and that is nothing
+abbrev pub GivesUpAtLast : LedgerView → LedgerView → ℕ → PageRun → Type 0
+GivesUpAtLast old new space run = (i : ℕ) → i < run.n
+    → given_up (cut_pages old space run.page (suc i)) (page_in old space (run.page + i)) ≡ given_up new (page_in old space (run.page + i))
+
+abbrev pub GivesNothingUp : LedgerView → LedgerView → ℕ → PageRun → Type 0
+GivesNothingUp old new space run = (i : ℕ) → i < run.n → given_up new (page_in old space (run.page + i)) ≡ None
 
 -- what is kept beside the tables: how many pages name each frame but the zero frame, the units, and the own lines
 pub record IsBooked (view : LedgerView) (counts : List ℕ) (units_kept lines_kept : ℕ) : Type 0 where

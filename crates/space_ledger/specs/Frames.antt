@@ -25,3 +25,14 @@ held_run zero_frame counts run (suc k) = held_by zero_frame (held_run zero_frame
 unfoldable pub run_units : ℕ → List ℕ → PageRun → ℕ → ℕ
 run_units zero_frame counts run zero = 0
 run_units zero_frame counts run (suc k) = run_units zero_frame counts run k + frame_units zero_frame (held_run zero_frame counts run k) (entry_at run k).frame
+
+-- And of pages that go: the counts, and the units that are freed.
+
+unfoldable pub released_run : ℕ → List ℕ → PageRun → ℕ → List ℕ
+released_run zero_frame counts run zero = counts
+released_run zero_frame counts run (suc k) = released_by zero_frame (released_run zero_frame counts run k) (entry_at run k).frame
+
+unfoldable pub run_freed : ℕ → List ℕ → PageRun → ℕ → ℕ
+run_freed zero_frame counts run zero = 0
+run_freed zero_frame counts run (suc k) =
+    run_freed zero_frame counts run k + frame_units zero_frame (released_run zero_frame counts run (suc k)) (entry_at run k).frame

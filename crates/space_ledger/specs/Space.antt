@@ -42,7 +42,7 @@ without_pages space from zero = space
 without_pages space from (suc k) = without_page (without_pages space from k) (from + k)
 
 -- the n pages from `from` on have the entry, and nothing else changed
-pub record AreMapped (old : SpaceTable) (from n : ℕ) (entry : PageEntry) (new : SpaceTable) : Type 0 where
+pub record HasMapped (old : SpaceTable) (from n : ℕ) (entry : PageEntry) (new : SpaceTable) : Type 0 where
   pub pages : IsMapped old.pages from n entry new.pages
   pub count : len new.pages ≡ len old.pages + n
   pub awaiting : new.awaiting ≡ old.awaiting
@@ -87,3 +87,8 @@ first_of run n = record { page = run.page; n = n; entry = run.entry; rising = ru
 abbrev pub IsCut : PageRun → ℕ → Option PageRun → Type 0
 IsCut run until None = until ≤ run.page
 IsCut run until (Some part) = (part ≡ first_of run part.n) × (0 < part.n) × (part.n ≤ run.n) × (run.page + part.n ≤ until)
+
+-- as many of the first pages of a run that begins with a page, where there are any
+abbrev pub IsStartOf : PageRun → ℕ → ℕ → Option PageRun → Type 0
+IsStartOf run page n None = Unit {0}
+IsStartOf run page n (Some part) = (run.page ≡ page) × (0 < n) × (part ≡ first_of run n)

@@ -5,7 +5,7 @@ ghost use Rattle.sizes.specs.declared.TheConstants.{PAGE_END};
 ghost use Rattle.frame_pool.specs.Counts.{sharers_of};
 ghost use Rattle.ledger.specs.Units.{class};
 ghost use Rattle.page_table.specs.Run.{entry_at};
-ghost use Rattle.space_ledger.specs.Frames.{frame_units, held_by, held_run, released_by, run_units};
+ghost use Rattle.space_ledger.specs.Frames.{frame_units, held_by, held_run, released_by, released_run, run_freed, run_units};
 
 use frame_pool::FramePool;
 use page_table::PageRun;
@@ -60,6 +60,7 @@ pub(crate) fn hold_run(pool: &mut FramePool, zero: u32, run: &PageRun) -> u32
 }
 
 /// One page fewer names a frame: no count where it is the zero frame. Answers the units that it frees.
+#[inline(always)]
 #[tactic(auto, unfolding(crate::specs::Frames::released_by, crate::specs::Frames::frame_units))]
 pub(crate) fn release(pool: &mut FramePool, zero: u32, frame: u32) -> u32
     requires there { frame < length pool.old }
@@ -71,6 +72,28 @@ pub(crate) fn release(pool: &mut FramePool, zero: u32, frame: u32) -> u32
         return 0;
     }
     if pool.release(frame) { FRAME_UNITS } else { 0 }
+}
+
+/// The frame of each page of a run is named by one page fewer, as by `release`. Answers the units that they free. Costs a step for each
+/// page, and one in all where each is on the zero frame.
+pub(crate) fn release_run(pool: &mut FramePool, zero: u32, run: &PageRun) -> u32
+    requires there { (i : ℕ) → i < run.now.n → (entry_at run.now i).frame < length pool.old }
+    requires some { (i : ℕ) → i < run.now.n → ((entry_at run.now i).frame ≡ zero)
+        ⊎ (0 < sharers_of (released_run zero pool.old run.now i) (entry_at run.now i).frame) }
+    requires fits { run.now.rising ≡ true → run.now.entry.frame + run.now.n ≤ 2 ^ 32 }
+    requires short { run.now.n ≤ PAGE_END }
+    ensures released { pool.new ≡ released_run zero pool.old run.now run.now.n }
+    ensures units { result ≡ run_freed zero pool.old run.now run.now.n }
+{
+    if !run.rising && run.entry.frame == zero {
+        return 0;
+    }
+    let mut units = 0;
+    'releasing: for i in 0..run.n {
+        let entry = run.entry_at(i);
+        units += release(pool, zero, entry.frame);
+    }
+    units
 }
 
 /// The units of a segment for as many lines: 0 to 16.

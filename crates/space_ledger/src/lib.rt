@@ -8,11 +8,13 @@
 //!
 //! - `spaces`: the ledger of all spaces
 //! - `frames`: the sharers of a frame
+//! - `runs`: parts of a run of pages
 //! - `tables`: the tables and overlays of all spaces
 //! - `space`: the pages of one space
 #![tactic(auto)]
 
 mod frames;
+mod runs;
 mod space;
 mod spaces;
 mod tables;

@@ -4,8 +4,9 @@ ghost use Rattle.std.specs.Prelude.{◌≡◌, ℕ, ◌+◌, ◌^◌, ◌<◌, �
 ghost use Rattle.std.specs.FinMap as map;
 ghost use Rattle.page_table.specs.Run.{IsNextRun, IsRunFrom};
 ghost use Rattle.page_table.specs.Table.{AreThere, IsFree};
-ghost use Rattle.space_ledger.specs.Space.{AreMapped, IsLeast, IsNextPage, AwaitsFirst, AwaitsRun, IsCut, adopted, awaited, marked, run_awaited, with_entry, without_page, without_pages};
+ghost use Rattle.space_ledger.specs.Space.{HasMapped, IsLeast, IsNextPage, AwaitsFirst, AwaitsRun, adopted, awaited, marked, run_awaited, with_entry, without_page, without_pages};
 
+use crate::runs::cut;
 use ovl_io::Perms;
 use page_table::{PageEntry, PageRun, PageTable};
 use std::alloc::{AllocError, Global};
@@ -112,7 +113,7 @@ impl Space {
         requires free { IsFree self.old.pages from n }
         requires low { from + n ≤ 2 ^ 36 }
         requires few { map.len self.old.pages + n < 2 ^ 32 }
-        ensures mapped { OnOk result (AreMapped self.old from n
+        ensures mapped { OnOk result (HasMapped self.old from n
             (record { perms = perms; frame = frame }) self.new) }
         ensures kept { OnErr result (self.new ≡ self.old) }
     {
@@ -225,24 +226,4 @@ impl Space {
     {
         self.speculating = on;
     }
-}
-
-/// The pages of a run that are below one, if there are any.
-fn cut(run: PageRun, until: u64) -> Option<PageRun>
-    requires { 0 < run.n }
-    ensures { IsCut run until result }
-{
-    if until <= run.page {
-        return None;
-    }
-    let left = until - run.page;
-    if u64::from(run.n) <= left {
-        return Some(run);
-    }
-    Some(PageRun {
-        page: run.page,
-        n: left as u32,
-        entry: run.entry,
-        rising: run.rising,
-    })
 }

@@ -11,13 +11,14 @@ ghost use Rattle.overlay_bits.specs.Lines.{AreLines, with_lines};
 ghost use Rattle.ledger.specs.Changes.{has_own};
 ghost use Rattle.ledger.specs.Events.{Store, ledger_after};
 ghost use Rattle.overlay_address.specs.Names.{page_of, space_of};
-ghost use Rattle.page_table.specs.Run.{IsRunFrom, entry_at};
-ghost use Rattle.space_maps.specs.Spaces.{bare_space, cut_page, cut_pages, cut_space, holds_space, page_in, put_awaiting, put_mark, put_space, space_in};
+ghost use Rattle.page_table.specs.Run.{IsRunFrom};
+ghost use Rattle.space_maps.specs.Spaces.{AreMapped, bare_space, cut_page, cut_pages, cut_space, holds_space, page_in, put_awaiting, put_mark, put_space, space_in};
 ghost use Rattle.space_ledger.specs.Space.{AwaitsFirst, IsLeast};
-ghost use Rattle.space_ledger.specs.View.{frame_at, frame_awaiting, ledger_of, lines_of, overlay_at, with_block, with_frame, with_overlay, with_page_shared, with_run_shared, with_zero_pages};
-ghost use Rattle.space_ledger.specs.Calls.{AreBareBelow, AreFree, AreSharedBare, AreThere, AreZeros, HasOverlayRoom, HasSpare, IsFreeFor, IsNextOf, IsNextOwn, NamesOnce, RisesBeside, RisesBy, entries_of, given_up, held_at};
+ghost use Rattle.space_ledger.specs.View.{frame_at, frame_awaiting, ledger_of, lines_of, origin_of, overlay_at, with_block, with_frame, with_overlay, with_page_shared, with_run_shared, with_zero_pages};
+ghost use Rattle.space_ledger.specs.Calls.{AreBareBelow, AreBareOnZero, AreFree, AreSharedBare, GivesNothingUp, GivesUpAtLast, HasOverlayRoom, HasSpare, IsBareFrom, IsBareRun, IsFreeFor, IsNextOf, IsNextOwn, NamesOnce, RisesBeside, RisesBy, entries_of, given_up, held_at};
 
-use crate::frames::{class_of, hold, hold_run, is_only, release};
+use crate::frames::{class_of, hold, hold_run, is_only, release, release_run};
+use crate::runs::{start_of, zeros_in};
 use crate::tables::Tables;
 use frame_pool::FramePool;
 use overlay_address::OverlayPage;
@@ -344,11 +345,11 @@ impl SpaceLedger {
         }
     }
 
-    /// How many pages from one on are there: none exactly where it isn't, and at least those that lie in one run with it. No page of the
-    /// space awaits. Costs a look-up.
+    /// How many pages from one on are there: none exactly where it isn't. It may tell fewer than there are. No page of the space
+    /// awaits. Costs a look-up.
     pub fn pages_from(&self, space: u16, page: u64) -> u32
         requires { (space_in self.now space).awaiting ≡ map.empty }
-        ensures there { AreThere self.now space page result }
+        ensures there { AreMapped self.now space page result }
         ensures none { result ≡ 0 → page_in self.now space page ≡ None }
     {
         match self.tables.next_run(space, page) {
@@ -357,12 +358,12 @@ impl SpaceLedger {
         }
     }
 
-    /// How many pages from one on are there, on the zero frame and without own lines: at least those that lie in one run with it. No
-    /// page of the space awaits. Costs two look-ups.
+    /// How many pages from one on are there, on the zero frame and without own lines. It may tell fewer than there are. No page of the
+    /// space awaits. Costs two look-ups.
     pub fn zeros_from(&self, space: u16, page: u64) -> u32
         requires there { holds_space self.now space ≡ true }
         requires settled { (space_in self.now space).awaiting ≡ map.empty }
-        ensures { AreZeros self.now space page result }
+        ensures { AreBareOnZero self.now space page result }
     {
         match self.tables.next_run(space, page) {
             Some(run) => self.bare_from(space, page, zeros_in(&run, page, self.tables.zero())),
@@ -388,15 +389,48 @@ impl SpaceLedger {
         }
     }
 
-    /// Takes away the `n` pages from `from` on, which are there, on the zero frame and without own lines. No page of the space awaits.
-    /// Takes no memory. Costs a look-up for each of their runs.
-    pub fn remove_zeros(&mut self, space: u16, from: u64, n: u32)
+    /// Some pages from one on that lie in one run and have no own lines, `most` at most. None where the page isn't there or has own
+    /// lines. No page of the space awaits. Costs two look-ups.
+    pub fn bare_run(&self, space: u16, page: u64, most: u32) -> Option<PageRun>
+        requires there { holds_space self.now space ≡ true }
+        requires settled { (space_in self.now space).awaiting ≡ map.empty }
+        ensures { IsBareFrom self.now space page most result }
+    {
+        match self.tables.next_run(space, page) {
+            Some(run) => {
+                let n = self.bare_from(space, page, run.n.min(most));
+                start_of(&run, page, n)
+            }
+            None => None,
+        }
+    }
+
+    /// Takes away the pages of a run, which are there and have no own lines. No page of the space awaits. Answers the units of the
+    /// frames that no page names any more, as `is_unused` tells of each. Takes no memory. Costs a look-up for each of the space's runs
+    /// that they lie in, and a step for each of them where they aren't on the zero frame.
+    pub fn remove_run(&mut self, space: u16, run: &PageRun) -> u32
         requires there { holds_space self.old space ≡ true }
         requires settled { (space_in self.old space).awaiting ≡ map.empty }
-        requires zeros { AreZeros self.old space from n }
-        ensures { self.new ≡ cut_pages self.old space from n }
+        requires bare { IsBareRun self.old space run.now }
+        ensures gone { self.new ≡ cut_pages self.old space run.now.page run.now.n }
+        ensures given { GivesUpAtLast self.old self.new space run.now }
+        ensures freed { units (ledger_of self.old) ≡ units (ledger_of self.new) + result }
+        ensures none { result ≡ 0 → GivesNothingUp self.old self.new space run.now }
     {
-        self.tables.remove_pages(space, from, n);
+        let zero = self.tables.zero();
+        self.tables.remove_pages(space, run.page, run.n);
+        let freed = release_run(&mut self.pool, zero, run);
+        self.units -= freed;
+        freed
+    }
+
+    /// Whether a frame isn't the zero frame, and no page names it. Costs a step.
+    #[inline]
+    pub fn is_unused(&self, frame: u32) -> bool
+        requires { frame < self.now.frames }
+        ensures { result ≡ book.is_unused (ledger_of self.now) (origin_of self.now.zero_frame frame) }
+    {
+        frame != self.tables.zero() && self.pool.sharers(frame) == 0
     }
 
     /// Shares the page of a space with another one, where it awaits as the least and has the frame that it has in the first: it
@@ -463,19 +497,6 @@ impl SpaceLedger {
         let is_speculating = self.is_speculating(space);
         let own = bits_of(&self.tables.overlay(space, page));
         rise_of(is_speculating, is_alone, own, lines)
-    }
-}
-
-/// How many pages of a run, from one on, are on the zero frame: all, where it begins with that page, or none.
-fn zeros_in(run: &PageRun, page: u64, zero: u32) -> u32
-    ensures start { 0 < result → run.now.page ≡ page }
-    ensures few { result ≤ run.now.n }
-    ensures zeros { (i : ℕ) → i < result → (entry_at run.now i).frame ≡ zero }
-{
-    if run.page == page && !run.rising && run.entry.frame == zero {
-        run.n
-    } else {
-        0
     }
 }
 

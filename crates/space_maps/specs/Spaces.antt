@@ -1,4 +1,4 @@
-use Rattle.std.specs.Prelude.{ℕ, zero, suc, ◌+◌, Bool, false, Option, Some, None, is_some}
+use Rattle.std.specs.Prelude.{ℕ, zero, suc, ◌+◌, ◌<◌, Bool, false, Option, Some, None, is_some, IsSome}
 use Rattle.std.specs.List.{fold, range_with_len}
 use Rattle.std.specs.Option.{option_map_or, unwrap_or}
 use Rattle.std.specs.Ordering.{nat_cmp}
@@ -31,6 +31,10 @@ space_in v space = unwrap_or (get v.spaces space) bare_space
 
 unfoldable pub page_in : {P : Type 0} → Spaces P → ℕ → ℕ → Option P
 page_in v space page = get (space_in v space).pages page
+
+-- the n pages from `from` on are there
+abbrev pub AreMapped : {P : Type 0} → Spaces P → ℕ → ℕ → ℕ → Type 0
+AreMapped v space from n = (i : ℕ) → i < n → IsSome (page_in v space (from + i))
 
 -- Changes.
 

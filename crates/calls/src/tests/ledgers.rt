@@ -26,6 +26,8 @@ fn what_takes_memory_is_done_where_there_is_memory(rt: HostRuntime) -> Result<()
     assert!(rt; ledger.pages(1) < 1000 && is_free(&ledger, 1, 100, 16));
     ledger.map_zero(1, 100, 16, Perms::W)?;
     assert!(rt; ledger.has_space(1) && ledger.first_awaiting(1).is_none());
+    assert_eq!(rt; ledger.zeros_from(1, 100), 16);
+    assert!(rt; matches!(ledger.bare_run(1, 104, 7), Some(run) if run.page == 104 && run.n == 7));
     assert_eq!(rt; ledger.copy_table(1)?.len(), 16);
     Ok(())
 }

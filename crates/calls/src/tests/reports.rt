@@ -2,8 +2,8 @@ use arrayvec::ArrayVec;
 use elf_loader::ElfError;
 use ovl_io::{Bytes, FaultKind, ProcessState, Turn, Written};
 use report_text::{
-    Answer, Code, LINE_ROOM, Line, Stop, answer_line, bad_line, checkpoint_line, list_line,
-    process_line, stats_line, stop_line, turn_line,
+    Answer, Code, LINE_ROOM, Line, ROW_BYTES, Stop, answer_line, bad_line, checkpoint_line,
+    dump_line, list_line, process_line, stats_line, stop_line, turn_line,
 };
 use std::test::Fail;
 
@@ -138,5 +138,31 @@ fn endings_lists_and_counts_are_printed(rt: HostRuntime) -> Result<(), Fail> {
         out.as_slice() == b"units 36 of 48 lines 8 hits 0 misses 18446744073709551615\n".as_slice()
     );
     assert!(rt; LINE_ROOM == 16384);
+    Ok(())
+}
+
+#[test]
+fn bytes_of_memory_are_printed(rt: HostRuntime) -> Result<(), Fail> {
+    let rows: [(u64, &[u8], &[u8]); 4] = [
+        (0x10000, b"\0", b"0000000000010000 00\n"),
+        (
+            0x20010,
+            b"hi\n\xff\x80\x0f\xf0\x9a ~\x7f\x01\x02\x03\x04\xab",
+            b"0000000000020010 68 69 0a ff 80 0f f0 9a 20 7e 7f 01 02 03 04 ab\n",
+        ),
+        (
+            0xFEDC_BA98_7654_3210,
+            b"\x12\x21\xcd",
+            b"fedcba9876543210 12 21 cd\n",
+        ),
+        (u64::MAX, b"\xef", b"ffffffffffffffff ef\n"),
+    ];
+    let mut out = Line::new();
+    for (address, bytes, want) in &rows {
+        assert!(rt; bytes.len() <= ROW_BYTES);
+        dump_line(*address, bytes, &mut out);
+        assert!(rt; out.as_slice() == *want);
+    }
+    assert!(rt; ROW_BYTES == 16);
     Ok(())
 }

@@ -2,6 +2,7 @@ ghost use Rattle.std.specs.Prelude.{◌≤◌, length};
 ghost use Rattle.sizes.specs.declared.TheConstants.{MOST_SCRIPT_BYTES};
 
 mod checkpoint_rows;
+mod debugger_rows;
 mod long_rows;
 mod mapping_rows;
 mod overlay_rows;
@@ -9,6 +10,7 @@ mod rows;
 
 use bitflags::Flags;
 use checkpoint_rows::CHECKPOINT_ROWS;
+use debugger_rows::DEBUGGER_ROWS;
 use long_rows::LONG_ROWS;
 use mapping_rows::MAPPING_ROWS;
 use overlay_rows::OVERLAY_ROWS;
@@ -18,7 +20,7 @@ use sizes::{MOST_SCRIPT_BYTES, MOST_SCRIPT_LINES};
 use std::alloc::{AllocError, Global};
 use std::test::Fail;
 
-// What a command says, as a script spells it with decimal numbers. No form makes one of the others yet.
+// What a command says, as a script spells it with decimal numbers, and with bytes as they are.
 fn show(alloc: Global, command: &Command, out: &mut Vec<u8>) -> Result<(), AllocError> {
     let text = match command {
         Command::Exec(name, turns) => {
@@ -61,7 +63,14 @@ fn show(alloc: Global, command: &Command, out: &mut Vec<u8>) -> Result<(), Alloc
         Command::Set(p, register, value) => format!(in alloc; "set {p} {register} {value}")?,
         Command::List => format!(in alloc; "list")?,
         Command::Stats => format!(in alloc; "stats")?,
-        _ => format!(in alloc; "another")?,
+        Command::Dump(p, address, count) => format!(in alloc; "dump {p} {address} {count}")?,
+        Command::Poke(p, address, bytes) => {
+            out.extend_from_slice(format!(in alloc; "poke {p} {address} ")?.as_bytes())?;
+            return out.extend_from_slice(bytes.as_slice());
+        }
+        Command::Break(p, address) => format!(in alloc; "break {p} {address}")?,
+        Command::Unbreak(p, address) => format!(in alloc; "unbreak {p} {address}")?,
+        Command::Disasm(p, address, words) => format!(in alloc; "disasm {p} {address} {words}")?,
     };
     out.extend_from_slice(text.as_bytes())
 }
@@ -117,7 +126,14 @@ fn bytes_of(alloc: Global, text: &str) -> Result<Vec<u8>, AllocError> {
 #[test]
 fn scripts_say_what_the_grammar_says(rt: HostRuntime) -> Result<(), Fail> {
     let mut rows: usize = 0;
-    for table in [ROWS, CHECKPOINT_ROWS, MAPPING_ROWS, OVERLAY_ROWS, LONG_ROWS] {
+    for table in [
+        ROWS,
+        CHECKPOINT_ROWS,
+        MAPPING_ROWS,
+        OVERLAY_ROWS,
+        DEBUGGER_ROWS,
+        LONG_ROWS,
+    ] {
         for row in table.split('\n') {
             let (script, want) = row.split_once(" => ").expect(&rt, "a row has two parts");
             let script = bytes_of(rt.alloc(), script)?;
@@ -128,7 +144,7 @@ fn scripts_say_what_the_grammar_says(rt: HostRuntime) -> Result<(), Fail> {
             rows = rows.saturating_add(1);
         }
     }
-    assert_eq!(rt; rows, 1383);
+    assert_eq!(rt; rows, 1528);
     Ok(())
 }
 

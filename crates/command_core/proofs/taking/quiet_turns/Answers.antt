@@ -1,17 +1,17 @@
-use Rattle.std.proofs.Common.{◌≡◌, ◌∙◌, sym, subst, Some, None, ◌⊎◌, inl, inr, false, nat_lt, arith}
-use Rattle.command_core.specs.Turns.{EndsRun, next_of}
+use Rattle.std.proofs.Common.{◌∙◌, sym, subst, Some, None, inl, inr, arith}
+use Rattle.command_core.specs.Turns.{EndsRun}
 use Rattle.machine_core.specs.Machine.{wholes}
 use Rattle.command_core.proofs.Places.{free_then, own_kept, same_then, space_there}
-use Rattle.command_core.proofs.Rans.{next_is, run_ended}
+use Rattle.command_core.proofs.Rans.{WhyEnded, next_is, none_left, run_ended}
 use Rattle.command_core.proofs.taking.quiet_turns.Goals as goal
-use Rattle.command_core.proofs.taking.quiet_turns.Goals.{else-quiet-test, then-quiet-test+in-None}
+use Rattle.command_core.proofs.taking.quiet_turns.Goals.{else-quiet-test, then-quiet-test+in-None+in-None-next, then-quiet-test+in-Some}
 
 pub take_turns-requires-clause-next : goal.take_turns-requires-clause-next
 take_turns-requires-clause-next c =
-    next_is (wholes c.quiet.machine) c.order.result.now c.quiet.running.run.order (Some c.in-Some.p) c.in-Some.ensures.number c.order.ensures.order
+    next_is (wholes c.quiet.machine) c.order.result.now c.quiet.running.run.order (Some c.in-Some-next.p) c.in-Some-next.ensures.number c.order.ensures.order
 
 pub take_turns-requires-clause-there : goal.take_turns-requires-clause-there
-take_turns-requires-clause-there c = space_there c.quiet.machine c.in-Some.p c.quiet.invariant.spaces c.in-Some.ensures.runs
+take_turns-requires-clause-there c = space_there c.quiet.machine c.in-Some-next.p c.quiet.invariant.spaces c.in-Some-next.ensures.runs
 
 pub quiet-preserved : goal.quiet-preserved
 quiet-preserved c =
@@ -31,14 +31,17 @@ quiet-preserved c =
 pub returns-clause-ends : goal.returns-clause-ends
 returns-clause-ends c silent =
     let run = c.quiet.running.run in
-    let why : (next_of (wholes c.quiet.machine) run.order ≡ None) ⊎ (nat_lt run.taken run.turns ≡ false) = elim c.quiet-test.branch [
-      | else-quiet-test w ↦ inr (sym c.has_left.ensures.left ∙ w.quiet-test.false)
-      | then-quiet-test+in-None w ↦ inl (next_is (wholes c.quiet.machine) w.order.result.now run.order None w.in-None.ensures.number w.order.ensures.order)
+    let breaks = c.args.breakpoints.now in
+    let why : WhyEnded breaks (wholes c.quiet.machine) run = elim c.quiet-test.branch [
+      | else-quiet-test w ↦ none_left breaks (wholes c.quiet.machine) run (sym c.has_left.ensures.left ∙ w.quiet-test.false)
+      | then-quiet-test+in-None+in-None-next w ↦
+          inr (sym w.in-None.ensures, inl (next_is (wholes c.quiet.machine) w.order.result.now run.order None w.in-None-next.ensures.number w.order.ensures.order))
+      | then-quiet-test+in-Some w ↦ inl (w.in-Some.field-0, sym w.in-Some.ensures)
     ] in
     let found = c.ending-stop.result in
-    let ends = run_ended (wholes c.args.machine.now) (wholes c.quiet.machine) c.args.running.now run found c.requires.goes c.ending-stop.ensures c.quiet.invariant.text c.quiet.invariant.after why
+    let ends = run_ended breaks (wholes c.args.machine.now) (wholes c.quiet.machine) c.args.running.now run found c.requires.goes c.ending-stop.ensures c.quiet.invariant.text c.quiet.invariant.after why
     c.has_left.ensures.within in
-    subst (EndsRun (wholes c.args.machine.now) c.args.running.now (wholes c.quiet.machine)) (sym c.set_stop.ensures) ends
+    subst (EndsRun breaks (wholes c.args.machine.now) c.args.running.now (wholes c.quiet.machine)) (sym c.set_stop.ensures) ends
 
 pub returns-then-take_turns-clause-free : goal.returns-then-take_turns-clause-free
 returns-then-take_turns-clause-free c =

@@ -7,8 +7,8 @@ use Rattle.command_core.proofs.taking.quiet_turns.Given as goal
 -- the turns so far had no line: what is left comes to what all come to
 abbrev pub invariant-quiet : goal.invariant-quiet
 invariant-quiet l = record {
-  text : ran_text (ran_from (wholes l.fn.machine) l.fn.running.run) ≡ ran_text (ran_from (wholes l.machine) l.running.run);
-  after : (ran_from (wholes l.fn.machine) l.fn.running.run).after ≡ (ran_from (wholes l.machine) l.running.run).after;
+  text : ran_text (ran_from l.breakpoints (wholes l.fn.machine) l.fn.running.run) ≡ ran_text (ran_from l.breakpoints (wholes l.machine) l.running.run);
+  after : (ran_from l.breakpoints (wholes l.fn.machine) l.fn.running.run).after ≡ (ran_from l.breakpoints (wholes l.machine) l.running.run).after;
   fewer : lines_left l.running ≤ lines_left l.fn.running;
   goes : l.running.stop ≡ None;
   asked : l.running.run.turns ≡ l.fn.running.run.turns;

@@ -1,5 +1,5 @@
 use Rattle.std.proofs.Common.{sym, ap, ◌∙◌}
-use Rattle.machine_core.specs.Executions.{all_executed, last_outcome, steps_of}
+use Rattle.machine_core.specs.Executions.{all_executed, last_outcome, steps_of, stops_in}
 use Rattle.machine_core.specs.Kept.{machine_of}
 use Rattle.machine_core.proofs.Listed.{runs_put}
 use Rattle.machine_core.proofs.Machines.{changed, guest_is, none_runs, state_is}
@@ -15,17 +15,17 @@ execute_up_to-came-requires-clause-runs c =
 pub returns-clause-steps : goal.returns-clause-steps
 returns-clause-steps c =
     let is = guest_is (machine_of c.args.memory.now c.args.processes.now) c.args.p c.in-Some.process.now (sym c.in-Some.ensures.value) in
-    c.execute_up_to-came.ensures.steps ∙ sym (ap (steps_of c.args.p c.args.most) is)
+    c.execute_up_to-came.ensures.steps ∙ sym (ap (steps_of (stops_in c.args.stops) c.args.p c.args.most) is)
 
 pub returns-clause-outcome : goal.returns-clause-outcome
 returns-clause-outcome c =
     let is = guest_is (machine_of c.args.memory.now c.args.processes.now) c.args.p c.in-Some.process.now (sym c.in-Some.ensures.value) in
-    c.execute_up_to-came.ensures.outcome ∙ sym (ap (last_outcome c.args.p c.args.most) is)
+    c.execute_up_to-came.ensures.outcome ∙ sym (ap (last_outcome (stops_in c.args.stops) c.args.p c.args.most) is)
 
 pub returns-clause-changed : goal.returns-clause-changed
 returns-clause-changed c =
     let done = c.execute_up_to-came.ensures in
-    changed (all_executed c.args.p c.args.most) c.args.p (machine_of c.args.memory.now c.args.processes.now) c.execute_up_to-came.new.memory
+    changed (all_executed (stops_in c.args.stops) c.args.p c.args.most) c.args.p (machine_of c.args.memory.now c.args.processes.now) c.execute_up_to-came.new.memory
     c.in-Some.process.now c.execute_up_to-came.new.process (sym c.in-Some.ensures.value) done.after done.saved done.beside
 
 pub returns-clause-runs : goal.returns-clause-runs

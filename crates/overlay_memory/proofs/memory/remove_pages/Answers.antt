@@ -4,12 +4,12 @@ use Rattle.overlay_memory.proofs.memory.remove_pages.Goals as goal
 
 pub removing-smaller : goal.removing-smaller
 removing-smaller c =
-    fewer (state_of c.removing.pages) (state_of c.remove_some.new.pages) c.args.space c.in-Some.page c.remove_some.result c.remove_some.ensures.gone c.remove_some.ensures.some c.in-Some.ensures.1
+    fewer (state_of c.removing.pages) (state_of c.remove_run.new.self) c.args.space c.in-Some.page c.remove_run.result c.remove_run.ensures.gone c.remove_run.ensures.some c.in-Some.ensures.1
 
 pub removing-preserved : goal.removing-preserved
 removing-preserved c =
     emptying_more (state_of c.args.pages.now) (state_of c.removing.pages)
-    (state_of c.remove_some.new.pages) c.args.space c.in-Some.page c.remove_some.result c.removing.invariant c.remove_some.ensures.gone
+    (state_of c.remove_run.new.self) c.args.space c.in-Some.page c.remove_run.result c.removing.invariant c.remove_run.ensures.gone
 
 pub returns : goal.returns
 returns c = emptied (state_of c.args.pages.now) (state_of c.removing.pages) c.args.space c.removing.invariant c.in_default.ensures

@@ -1,4 +1,4 @@
-use Rattle.std.proofs.Common.{◌+◌, ◌++◌, ◌∙◌, [], drop, sym, ap, refl, arith, append-nil}
+use Rattle.std.proofs.Common.{◌+◌, ◌++◌, ◌∙◌, [], drop, sym, ap, arith, append-nil}
 use Rattle.std.specs.Prelude.{flat_map}
 use Rattle.std.proofs.lemmas.Option.{slice_get_within}
 use Rattle.command_core.specs.Commands.{checkpoint_text}

@@ -1,4 +1,4 @@
-use Rattle.std.proofs.Common.{◌++◌, ◌∙◌, ap, sym, refl}
+use Rattle.std.proofs.Common.{◌++◌, ap, sym, refl}
 use Rattle.command_core.specs.Commands.{registers_text}
 use Rattle.overlay_top.specs.Printing.{view_text}
 use Rattle.overlay_top.proofs.Errors.{by_err}

@@ -10,11 +10,12 @@ invariant-turns g l = record {
   same : l.report.sink.ghost_name ≡ l.fn.report.sink.ghost_name;
   sound : g.K.Sink.faults l.report.sink.now ≡ g.K.Sink.faults l.fn.report.sink.now;
   checkpoints : l.session.state.checkpoints ≡ l.fn.session.state.checkpoints;
+  breakpoints : l.session.state.breakpoints ≡ l.fn.session.state.breakpoints;
   drawn : l.session.state.drawn ≡ l.fn.session.state.drawn;
   quantum : l.session.quantum ≡ l.fn.session.quantum;
-  after : AreLike (left_of l.fn.session.state.wholes l.fn.running).after (left_of l.session.state.wholes l.running).after;
-  text : g.K.Sink.tells → IsDone (g.K.Sink.taken l.fn.report.sink.now) (g.K.Sink.taken l.report.sink.now) (ran_text (left_of l.session.state.wholes l.running))
-      (ran_text (left_of l.fn.session.state.wholes l.fn.running));
+  after : AreLike (left_of l.fn.session.state.breakpoints l.fn.session.state.wholes l.fn.running).after (left_of l.fn.session.state.breakpoints l.session.state.wholes l.running).after;
+  text : g.K.Sink.tells → IsDone (g.K.Sink.taken l.fn.report.sink.now) (g.K.Sink.taken l.report.sink.now) (ran_text (left_of l.fn.session.state.breakpoints l.session.state.wholes l.running))
+      (ran_text (left_of l.fn.session.state.breakpoints l.fn.session.state.wholes l.fn.running));
 }
 
 abbrev pub decreases-turns : goal.decreases-turns

@@ -1,6 +1,5 @@
 use Rattle.std.proofs.Common.{◌≡◌, ℕ, List, take, map}
 use Rattle.ovl_io.specs.Outside.{AsksFor}
-use Rattle.overlay_top.specs.declared.running.TheConstants.{QUANTUM}
 use Rattle.command_core.specs.Commands.{asks}
 use Rattle.overlay_top.specs.Outcome.{named}
 use Rattle.overlay_top.proofs.Runs.{SessionHasRun}
@@ -10,11 +9,11 @@ use Rattle.overlay_top.proofs.running.run.Given as goal
 abbrev pub invariant-running : goal.invariant-running
 invariant-running g l = record {
   same : l.report.sink.ghost_name ≡ l.fn.report.sink.ghost_name;
-  quantum : l.session.quantum ≡ QUANTUM;
+  quantum : l.session.quantum ≡ l.fn.settings.quantum;
   shelf : g.H.Shelf.faults l.shelf ≡ g.H.Shelf.faults l.fn.shelf;
   sink : g.K.Sink.faults l.report.sink.now ≡ g.K.Sink.faults l.fn.report.sink.now;
   kept : g.H.Shelf.tells → (other : List ℕ) → g.H.Shelf.files l.shelf other ≡ g.H.Shelf.files l.fn.shelf other;
   asked : AsksFor g.H.Shelf.fetched (named (take l.command-index (map asks l.commands))) l.fn.shelf l.shelf;
   runs : g.H.Shelf.tells →
-      SessionHasRun l.commands l.command-index (g.H.Shelf.files l.fn.shelf) l.session.state g.K.Sink.tells (g.K.Sink.taken l.fn.report.sink.now) (g.K.Sink.taken l.report.sink.now);
+      SessionHasRun l.fn.settings l.commands l.command-index (g.H.Shelf.files l.fn.shelf) l.session.state g.K.Sink.tells (g.K.Sink.taken l.fn.report.sink.now) (g.K.Sink.taken l.report.sink.now);
 }

@@ -1,4 +1,3 @@
-use Rattle.std.proofs.Common.{arith}
 use Rattle.report_text.proofs.Places.{no_place, one_place_more}
 use Rattle.report_text.proofs.push.+push_places.Goals as goal
 

@@ -7,4 +7,4 @@ pub returns-then-n-d : goal.returns-then-n-d
 returns-then-n-d c =
     let grows : (m : ℕ) → m ≤ 16 * m = λ m. omega arith in
     too_high 16 18446744073709551615 is_hexadecimal c.args.digits.now c.loop-b.b-index c.loop-b.n grows c.loop-b-test.true c.loop-b.invariant.value
-    (omega (arith, c.if-n-d.true, c.digit-d.ensures.value, c.digit-d.ensures.small))
+    (omega (arith, c.if-n-d.true, c.from-d.ensures, c.digit.ensures.value, c.digit.ensures.small))

@@ -12,7 +12,7 @@ use Rattle.command_core.proofs.session.Session.change_overlays.Goals as goal
 
 pub invariant_of-self : goal.invariant_of-self
 invariant_of-self c =
-    (c.change_overlays.ensures.done.keeps.session (spaces_kept c.self.inside.checkpoints) c.self.inside.drawn c.self.invariant.0, c.self.invariant.1)
+    (c.change_overlays.ensures.done.keeps.session (spaces_kept c.self.inside.checkpoints) c.self.inside.drawn c.self.invariant.0, c.self.invariant.1, c.self.invariant.2)
 
 pub returns-in-Some-clause-gives : goal.returns-in-Some-clause-gives
 returns-in-Some-clause-gives c =
@@ -22,7 +22,7 @@ returns-in-Some-clause-gives c =
     let row = overlay_row c.args.p c.args.change in
     let kept = checkpoints_in (spaces_of old) s.checkpoints in
     let done = c.change_overlays.ensures.done in
-    subst (λ (s : InSession). GivesChange (on_process c.args.p row (registry_of s.state)) s.state c.change_overlays.result (shown_state new c.self.inside.checkpoints c.self.inside.drawn)) c.self.view_is
-    (gives_kept (on_process c.args.p row) old new s.checkpoints s.drawn (free_same old new (spaces_kept s.checkpoints) done.keeps.free c.self.invariant.0.free) c.change_overlays.result s.drawn
-    (gives_found old kept s.drawn c.args.p row c.in-Some.process.now c.change_overlays.result (state_of new kept s.drawn) (sym c.in-Some.ensures.kept)
-    (done.gives kept s.drawn)))
+    subst (λ (s : InSession). GivesChange (on_process c.args.p row (registry_of s.state)) s.state c.change_overlays.result (shown_state new c.self.inside.checkpoints c.self.inside.breakpoints c.self.inside.drawn)) c.self.view_is
+    (gives_kept (on_process c.args.p row) old new s.checkpoints s.breakpoints s.drawn (free_same old new (spaces_kept s.checkpoints) done.keeps.free c.self.invariant.0.free) c.change_overlays.result s.drawn
+    (gives_found old kept s.breakpoints s.drawn c.args.p row c.in-Some.process.now c.change_overlays.result (state_of new kept s.breakpoints s.drawn) (sym c.in-Some.ensures.kept)
+    (done.gives kept s.breakpoints s.drawn)))

@@ -9,6 +9,7 @@ use Rattle.command_core.specs.Kept.{shown_state, spaces_kept}
 use Rattle.command_core.specs.Giving.{GivesChange}
 use Rattle.command_core.specs.Checkpoints.{SavesSpace, checkpoint_row}
 use Rattle.command_core.specs.Changes.{answer_of, on_process}
+use Rattle.command_core.proofs.Breaks.{above_more}
 use Rattle.command_core.proofs.Copies.{copy_keeps}
 use Rattle.command_core.proofs.Savings.{checkpoint_refused, checkpoint_saved, checkpoint_unsaved, session_of_saved, taken_is, told_mark}
 use Rattle.command_core.proofs.session.Session.checkpoint.Goals as goal
@@ -17,7 +18,7 @@ pub returns-in-Some-checkpoint_refusal-clause-gives : goal.returns-in-Some-check
 returns-in-Some-checkpoint_refusal-clause-gives c =
     let s = c.self.inside in
     subst (λ (s : InSession). GivesChange (on_process c.args.p (checkpoint_row c.args.p c.args.name.now) (registry_of s.state)) s.state (Refused c.in-Some-checkpoint_refusal.refusal) s.state) c.self.view_is
-    (checkpoint_refused s.machine s.checkpoints s.drawn c.args.p c.args.name.now c.in-Some.process.now (sym c.in-Some.ensures.kept)
+    (checkpoint_refused s.machine s.checkpoints s.breakpoints s.drawn c.args.p c.args.name.now c.in-Some.process.now (sym c.in-Some.ensures.kept)
     c.is_speculating-speculating.result c.has-taken.result
     (told_mark s.machine c.args.p c.is_speculating-speculating.result c.memory.result.now c.is_speculating-speculating.ensures.mark c.memory.ensures)
     (taken_is s.checkpoints c.as_slice.result.now c.args.name.now c.has-taken.result c.as_slice.ensures c.has-taken.ensures)
@@ -34,6 +35,7 @@ invariant_of-self c =
       subst (λ (xs : List Kept). IsSession c.save_process.new.machine (spaces_kept xs) (c.self.inside.drawn + 1)) (sym c.in-Ok.ensures.kept.1)
           (session_of_saved s.machine c.save_process.new.machine s.checkpoints s.drawn c.args.p entered c.self.invariant.0 below refl saved),
       c.self.invariant.1,
+      above_more s.breakpoints s.drawn c.self.invariant.2,
     )
 
 pub returns-in-Ok-clause-gives : goal.returns-in-Ok-clause-gives
@@ -43,14 +45,14 @@ returns-in-Ok-clause-gives c =
     let name = c.args.name.now in
     let saved = subst (λ t. SavesSpace c.args.p (c.self.inside.drawn + 1) c.self.inside.machine c.save_process.new.machine (Ok t)) c.in-Ok.ensures.kept.0 c.in-Ok.ensures.saves in
     subst (λ (s : InSession). GivesChange (on_process c.args.p (checkpoint_row c.args.p c.args.name.now) (registry_of s.state)) s.state (Saved c.args.p c.in-Ok.told (c.self.inside.drawn + 1))
-    (shown_state c.save_process.new.machine c.save_process.new.checkpoints (c.self.inside.drawn + 1))) c.self.view_is
-    (subst (λ t. GivesChange (on_process c.args.p (checkpoint_row c.args.p c.args.name.now) (registry_of (shown_state c.self.inside.machine c.self.inside.checkpoints c.self.inside.drawn)))
-    (shown_state c.self.inside.machine c.self.inside.checkpoints c.self.inside.drawn) (Saved c.args.p t (c.self.inside.drawn + 1))
-    (shown_state c.save_process.new.machine c.save_process.new.checkpoints (c.self.inside.drawn + 1))) (sym c.in-Ok.ensures.kept.0)
-    (subst (λ (xs : List Kept). GivesChange (on_process c.args.p (checkpoint_row c.args.p c.args.name.now) (registry_of (shown_state c.self.inside.machine c.self.inside.checkpoints c.self.inside.drawn)))
-    (shown_state c.self.inside.machine c.self.inside.checkpoints c.self.inside.drawn) (Saved c.args.p c.args.name.now (c.self.inside.drawn + 1))
-    (shown_state c.save_process.new.machine xs (c.self.inside.drawn + 1))) (sym c.in-Ok.ensures.kept.1)
-    (checkpoint_saved s.machine s.checkpoints s.drawn p name c.in-Some.process.now (sym c.in-Some.ensures.kept)
+    (shown_state c.save_process.new.machine c.save_process.new.checkpoints c.self.inside.breakpoints (c.self.inside.drawn + 1))) c.self.view_is
+    (subst (λ t. GivesChange (on_process c.args.p (checkpoint_row c.args.p c.args.name.now) (registry_of (shown_state c.self.inside.machine c.self.inside.checkpoints c.self.inside.breakpoints c.self.inside.drawn)))
+    (shown_state c.self.inside.machine c.self.inside.checkpoints c.self.inside.breakpoints c.self.inside.drawn) (Saved c.args.p t (c.self.inside.drawn + 1))
+    (shown_state c.save_process.new.machine c.save_process.new.checkpoints c.self.inside.breakpoints (c.self.inside.drawn + 1))) (sym c.in-Ok.ensures.kept.0)
+    (subst (λ (xs : List Kept). GivesChange (on_process c.args.p (checkpoint_row c.args.p c.args.name.now) (registry_of (shown_state c.self.inside.machine c.self.inside.checkpoints c.self.inside.breakpoints c.self.inside.drawn)))
+    (shown_state c.self.inside.machine c.self.inside.checkpoints c.self.inside.breakpoints c.self.inside.drawn) (Saved c.args.p c.args.name.now (c.self.inside.drawn + 1))
+    (shown_state c.save_process.new.machine xs c.self.inside.breakpoints (c.self.inside.drawn + 1))) (sym c.in-Ok.ensures.kept.1)
+    (checkpoint_saved s.machine s.checkpoints s.breakpoints s.drawn p name c.in-Some.process.now (sym c.in-Some.ensures.kept)
     c.is_speculating-speculating.result c.has-taken.result
     (told_mark s.machine p c.is_speculating-speculating.result c.memory.result.now c.is_speculating-speculating.ensures.mark c.memory.ensures)
     (taken_is s.checkpoints c.as_slice.result.now name c.has-taken.result c.as_slice.ensures c.has-taken.ensures)
@@ -65,6 +67,7 @@ invariant_of-self-in-Err c =
       subst (λ (xs : List Kept). IsSession c.save_process.new.machine (spaces_kept xs) c.self.inside.drawn) (sym c.in-Err.ensures.kept)
           (keeps.session (spaces_kept s.checkpoints) s.drawn c.self.invariant.0),
       c.self.invariant.1,
+      c.self.invariant.2,
     )
 
 pub returns-in-Err-clause-gives : goal.returns-in-Err-clause-gives
@@ -73,12 +76,12 @@ returns-in-Err-clause-gives c =
     let p = c.args.p in
     let name = c.args.name.now in
     subst (λ (s : InSession). GivesChange (on_process c.args.p (checkpoint_row c.args.p c.args.name.now) (registry_of s.state)) s.state c.not_made.result
-    (shown_state c.save_process.new.machine c.save_process.new.checkpoints c.self.inside.drawn)) c.self.view_is
-    (subst (λ a. GivesChange (on_process c.args.p (checkpoint_row c.args.p c.args.name.now) (registry_of (shown_state c.self.inside.machine c.self.inside.checkpoints c.self.inside.drawn)))
-    (shown_state c.self.inside.machine c.self.inside.checkpoints c.self.inside.drawn) a (shown_state c.save_process.new.machine c.save_process.new.checkpoints c.self.inside.drawn)) (sym c.not_made.ensures)
-    (subst (λ (xs : List Kept). GivesChange (on_process c.args.p (checkpoint_row c.args.p c.args.name.now) (registry_of (shown_state c.self.inside.machine c.self.inside.checkpoints c.self.inside.drawn)))
-    (shown_state c.self.inside.machine c.self.inside.checkpoints c.self.inside.drawn) (answer_of c.in-Err.error) (shown_state c.save_process.new.machine xs c.self.inside.drawn)) (sym c.in-Err.ensures.kept)
-    (checkpoint_unsaved s.machine s.checkpoints s.drawn p name c.in-Some.process.now (sym c.in-Some.ensures.kept)
+    (shown_state c.save_process.new.machine c.save_process.new.checkpoints c.self.inside.breakpoints c.self.inside.drawn)) c.self.view_is
+    (subst (λ a. GivesChange (on_process c.args.p (checkpoint_row c.args.p c.args.name.now) (registry_of (shown_state c.self.inside.machine c.self.inside.checkpoints c.self.inside.breakpoints c.self.inside.drawn)))
+    (shown_state c.self.inside.machine c.self.inside.checkpoints c.self.inside.breakpoints c.self.inside.drawn) a (shown_state c.save_process.new.machine c.save_process.new.checkpoints c.self.inside.breakpoints c.self.inside.drawn)) (sym c.not_made.ensures)
+    (subst (λ (xs : List Kept). GivesChange (on_process c.args.p (checkpoint_row c.args.p c.args.name.now) (registry_of (shown_state c.self.inside.machine c.self.inside.checkpoints c.self.inside.breakpoints c.self.inside.drawn)))
+    (shown_state c.self.inside.machine c.self.inside.checkpoints c.self.inside.breakpoints c.self.inside.drawn) (answer_of c.in-Err.error) (shown_state c.save_process.new.machine xs c.self.inside.breakpoints c.self.inside.drawn)) (sym c.in-Err.ensures.kept)
+    (checkpoint_unsaved s.machine s.checkpoints s.breakpoints s.drawn p name c.in-Some.process.now (sym c.in-Some.ensures.kept)
     c.is_speculating-speculating.result c.has-taken.result
     (told_mark s.machine p c.is_speculating-speculating.result c.memory.result.now c.is_speculating-speculating.ensures.mark c.memory.ensures)
     (taken_is s.checkpoints c.as_slice.result.now name c.has-taken.result c.as_slice.ensures c.has-taken.ensures)

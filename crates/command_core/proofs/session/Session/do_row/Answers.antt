@@ -16,5 +16,8 @@ returns-in_default-clause-gives c =
       map = c.in_default.not-Map;
       unmap = c.in_default.not-Unmap;
       drop = c.in_default.not-Drop;
+      poke = c.in_default.not-Poke;
       set = c.in_default.not-Set;
+      break_ = c.in_default.not-Break;
+      unbreak = c.in_default.not-Unbreak;
     })

@@ -1,17 +1,19 @@
 use Rattle.std.proofs.Common.{sym, ap, subst, ◌∙◌, refl}
 use Rattle.std.specs.Option.{is_some}
-use Rattle.std.specs.FinMap.{get}
+use Rattle.std.specs.FinMap.{get, remove}
+use Rattle.breakpoints.specs.Breakpoints.{Breaks}
 use Rattle.ovl_io.specs.Keys.{removed_same}
 use Rattle.machine_core.specs.Machine.{Machine, spaces_of}
 use Rattle.report_text.specs.declared.answer.Answer.TheVariants.{Done}
 use Rattle.command_core.specs.State.{registry_of}
-use Rattle.command_core.specs.Sessions.{InSession, state_of}
+use Rattle.command_core.specs.Sessions.{InSession, NoBreaksAbove, state_of}
 use Rattle.command_core.specs.Kept.{checkpoints_in, shown_state, spaces_kept}
 use Rattle.command_core.specs.Giving.{GivesChange}
 use Rattle.command_core.specs.Changes.{drop_row, on_process}
+use Rattle.command_core.proofs.Breaks.{above_removed}
 use Rattle.command_core.proofs.Dropping.{gives_dropped, keeps_dropped}
 use Rattle.command_core.proofs.Places.{free_same}
-use Rattle.command_core.proofs.Rows.{gives_found, gives_kept}
+use Rattle.command_core.proofs.Rows.{gives_found, gives_left}
 use Rattle.command_core.proofs.session.Session.drop_process.Goals as goal
 
 pub drop_space-requires-clause-no_process : goal.drop_space-requires-clause-no_process
@@ -21,8 +23,11 @@ drop_space-requires-clause-no_process c =
 pub invariant_of-self : goal.invariant_of-self
 invariant_of-self c =
     let s = c.self.inside in
-    let keeps = keeps_dropped s.machine c.remove.new.self c.drop_space.new.self c.args.p (ap is_some (sym c.in-Some.ensures.kept)) c.remove.ensures.removed c.drop_space.ensures.dropped in
-    (keeps.session (spaces_kept s.checkpoints) s.drawn c.self.invariant.0, c.self.invariant.1)
+    let keeps = keeps_dropped s.machine c.remove.new.self c.drop_space.new.self c.args.p (ap is_some (sym c.in-Some.ensures.kept)) c.remove.ensures.removed c.drop_space.ensures.dropped in (
+      keeps.session (spaces_kept s.checkpoints) s.drawn c.self.invariant.0,
+      c.self.invariant.1,
+      subst (NoBreaksAbove s.drawn) (sym c.clear.ensures) (above_removed s.breakpoints s.drawn c.args.p c.self.invariant.2),
+    )
 
 pub returns-clause-gives : goal.returns-clause-gives
 returns-clause-gives c =
@@ -32,8 +37,12 @@ returns-clause-gives c =
     let p = c.args.p in
     let kept = checkpoints_in (spaces_of old) s.checkpoints in
     let keeps = keeps_dropped old c.remove.new.self new p (ap is_some (sym c.in-Some.ensures.kept)) c.remove.ensures.removed c.drop_space.ensures.dropped in
-    subst (λ (s : InSession). GivesChange (on_process p (drop_row p) (registry_of s.state)) s.state Done (shown_state new c.self.inside.checkpoints c.self.inside.drawn)) c.self.view_is
-    (gives_kept (on_process p (drop_row p)) old new s.checkpoints s.drawn (free_same old new (spaces_kept s.checkpoints) keeps.free c.self.invariant.0.free) Done s.drawn
-    (gives_found old kept s.drawn p (drop_row p) c.in-Some.field-0.now Done (state_of new kept s.drawn) (sym c.in-Some.ensures.kept)
-    (gives_dropped old c.remove.new.self new kept s.drawn p c.in-Some.field-0.now c.remove.ensures.after
-    (ap (λ (m : Machine). get m.processes p) c.remove.ensures.removed ∙ removed_same old.processes p p refl) c.drop_space.ensures.dropped)))
+    subst (λ (s : InSession). GivesChange (on_process p (drop_row p) (registry_of s.state)) s.state Done (shown_state new c.self.inside.checkpoints c.clear.new.self c.self.inside.drawn)) c.self.view_is
+    (subst (λ (breaks : Breaks). GivesChange (on_process p (drop_row p) (registry_of (shown_state old c.self.inside.checkpoints c.self.inside.breakpoints c.self.inside.drawn)))
+    (shown_state old c.self.inside.checkpoints c.self.inside.breakpoints c.self.inside.drawn) Done (shown_state new c.self.inside.checkpoints breaks c.self.inside.drawn))
+    (sym c.clear.ensures)
+    (gives_left (on_process p (drop_row p)) old new s.checkpoints s.breakpoints s.drawn (free_same old new (spaces_kept s.checkpoints) keeps.free c.self.invariant.0.free) Done
+    (remove s.breakpoints p) s.drawn
+    (gives_found old kept s.breakpoints s.drawn p (drop_row p) c.in-Some.field-0.now Done (state_of new kept (remove s.breakpoints p) s.drawn) (sym c.in-Some.ensures.kept)
+    (gives_dropped old c.remove.new.self new kept s.breakpoints s.drawn p c.in-Some.field-0.now c.remove.ensures.after
+    (ap (λ (m : Machine). get m.processes p) c.remove.ensures.removed ∙ removed_same old.processes p p refl) c.drop_space.ensures.dropped))))

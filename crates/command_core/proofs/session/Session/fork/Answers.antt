@@ -1,4 +1,4 @@
-use Rattle.std.proofs.Common.{rules, ◌+◌, ◌≤◌, subst, sym, Some, None}
+use Rattle.std.proofs.Common.{rules, arith, ◌+◌, ◌≤◌, subst, sym, Some, None}
 use Rattle.sizes.specs.declared.TheConstants.{LAST_SPACE}
 use Rattle.command_core.specs.State.{registry_of}
 use Rattle.command_core.specs.Sessions.{InSession}
@@ -7,6 +7,7 @@ use Rattle.command_core.specs.Giving.{GivesChange}
 use Rattle.command_core.specs.Copies.{fork_row}
 use Rattle.command_core.specs.Changes.{on_process}
 use Rattle.report_text.specs.declared.answer.Answer.TheVariants.{Forked, Refused}
+use Rattle.command_core.proofs.Breaks.{above_more}
 use Rattle.command_core.proofs.Copies.{copy_keeps}
 use Rattle.command_core.proofs.Forkings.{fork_refused, forked, not_forked, refusal_by, session_forked}
 use Rattle.command_core.proofs.session.Session.fork.Goals as goal
@@ -18,13 +19,14 @@ invariant_of-self c =
       session_forked s.machine c.fork_process.new.machine (spaces_kept s.checkpoints) s.drawn c.args.p c.in-Some.process.now c.self.invariant.0 below
           (sym c.in-Some.ensures.kept) c.in-Ok.ensures,
       c.self.invariant.1,
+      above_more s.breakpoints s.drawn c.self.invariant.2,
     )
 
 pub invariant_of-self-in-Err : goal.invariant_of-self-in-Err
 invariant_of-self-in-Err c =
     let s = c.self.inside in
     let keeps = copy_keeps c.args.p (s.drawn + 1) s.machine c.fork_process.new.machine c.in-Err.error c.in-Err.ensures in
-    (keeps.session (spaces_kept s.checkpoints) s.drawn c.self.invariant.0, c.self.invariant.1)
+    (keeps.session (spaces_kept s.checkpoints) s.drawn c.self.invariant.0, c.self.invariant.1, c.self.invariant.2)
 
 pub returns-in-Some-fork_refusal-clause-gives : goal.returns-in-Some-fork_refusal-clause-gives
 returns-in-Some-fork_refusal-clause-gives c =
@@ -32,7 +34,7 @@ returns-in-Some-fork_refusal-clause-gives c =
     let p = c.args.p in
     let code = c.in-Some-fork_refusal.code in
     subst (λ (s : InSession). GivesChange (on_process c.args.p (fork_row c.args.p) (registry_of s.state)) s.state (Refused c.in-Some-fork_refusal.code) s.state) c.self.view_is
-    (fork_refused s.machine s.checkpoints s.drawn p c.in-Some.process.now code (sym c.in-Some.ensures.kept)
+    (fork_refused s.machine s.checkpoints s.breakpoints s.drawn p c.in-Some.process.now code (sym c.in-Some.ensures.kept)
     (refusal_by s.machine s.drawn p c.in-Some.process.now c.is_speculating-speculating.result c.memory.result.now (Some code)
     c.in-Some-fork_refusal.ensures c.is_speculating-speculating.ensures.mark c.memory.ensures))
 
@@ -41,19 +43,19 @@ returns-in-Ok-clause-gives c =
     let s = c.self.inside in
     let p = c.args.p in
     subst (λ (s : InSession). GivesChange (on_process c.args.p (fork_row c.args.p) (registry_of s.state)) s.state (Forked c.args.p (c.self.inside.drawn + 1))
-    (shown_state c.fork_process.new.machine c.self.inside.checkpoints (c.self.inside.drawn + 1))) c.self.view_is
-    (forked s.machine s.checkpoints s.drawn p c.in-Some.process.now c.fork_process.new.machine c.self.invariant.0 (sym c.in-Some.ensures.kept)
+    (shown_state c.fork_process.new.machine c.self.inside.checkpoints c.self.inside.breakpoints (c.self.inside.drawn + 1))) c.self.view_is
+    (forked s.machine s.checkpoints s.breakpoints s.drawn p c.in-Some.process.now c.fork_process.new.machine c.self.invariant.0 (sym c.in-Some.ensures.kept)
     (refusal_by s.machine s.drawn p c.in-Some.process.now c.is_speculating-speculating.result c.memory.result.now None
-    c.in-None-fork_refusal.ensures c.is_speculating-speculating.ensures.mark c.memory.ensures) c.in-Ok.ensures)
+    c.in-None-fork_refusal.ensures c.is_speculating-speculating.ensures.mark c.memory.ensures) (c.self.invariant.2 (s.drawn + 1) (omega arith)) c.in-Ok.ensures)
 
 pub returns-in-Err-clause-gives : goal.returns-in-Err-clause-gives
 returns-in-Err-clause-gives c =
     let s = c.self.inside in
     let p = c.args.p in
     subst (λ (s : InSession). GivesChange (on_process c.args.p (fork_row c.args.p) (registry_of s.state)) s.state c.not_made.result
-    (shown_state c.fork_process.new.machine c.self.inside.checkpoints c.self.inside.drawn)) c.self.view_is
-    (subst (λ a. GivesChange (on_process c.args.p (fork_row c.args.p) (registry_of (shown_state c.self.inside.machine c.self.inside.checkpoints c.self.inside.drawn)))
-    (shown_state c.self.inside.machine c.self.inside.checkpoints c.self.inside.drawn) a (shown_state c.fork_process.new.machine c.self.inside.checkpoints c.self.inside.drawn)) (sym c.not_made.ensures)
-    (not_forked s.machine s.checkpoints s.drawn p c.in-Some.process.now c.fork_process.new.machine c.self.invariant.0 (sym c.in-Some.ensures.kept)
+    (shown_state c.fork_process.new.machine c.self.inside.checkpoints c.self.inside.breakpoints c.self.inside.drawn)) c.self.view_is
+    (subst (λ a. GivesChange (on_process c.args.p (fork_row c.args.p) (registry_of (shown_state c.self.inside.machine c.self.inside.checkpoints c.self.inside.breakpoints c.self.inside.drawn)))
+    (shown_state c.self.inside.machine c.self.inside.checkpoints c.self.inside.breakpoints c.self.inside.drawn) a (shown_state c.fork_process.new.machine c.self.inside.checkpoints c.self.inside.breakpoints c.self.inside.drawn)) (sym c.not_made.ensures)
+    (not_forked s.machine s.checkpoints s.breakpoints s.drawn p c.in-Some.process.now c.fork_process.new.machine c.self.invariant.0 (sym c.in-Some.ensures.kept)
     (refusal_by s.machine s.drawn p c.in-Some.process.now c.is_speculating-speculating.result c.memory.result.now None
-    c.in-None-fork_refusal.ensures c.is_speculating-speculating.ensures.mark c.memory.ensures) c.in-Err.error c.in-Err.ensures))
+    c.in-None-fork_refusal.ensures c.is_speculating-speculating.ensures.mark c.memory.ensures) (c.self.invariant.2 (s.drawn + 1) (omega arith)) c.in-Err.error c.in-Err.ensures))

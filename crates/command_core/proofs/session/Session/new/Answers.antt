@@ -1,4 +1,7 @@
 use Rattle.std.proofs.Common.{ap, subst, sym, ◌∙◌, []}
+use Rattle.std.specs.Ordering.{nat_cmp}
+use Rattle.std.specs.FinMap.{empty, get, get-empty}
+use Rattle.breakpoints.specs.Breakpoints.{Breaks}
 use Rattle.machine_core.specs.Machine.{Wholes}
 use Rattle.command_core.specs.State.{State, fresh}
 use Rattle.command_core.specs.Sessions.{InSession, IsSession}
@@ -9,15 +12,17 @@ use Rattle.command_core.proofs.session.Session.new.Goals as goal
 
 pub returns-clause-session : goal.returns-clause-session
 returns-clause-session c =
-    let started : Wholes → InSession = λ w. record { state = record { wholes = w; checkpoints = []; drawn = 0 }; quantum = c.args.quantum } in
-    ap (λ xs. shown_session c.in_ok-new.field-0 xs 0 c.args.quantum) c.new-2.ensures
+    let started : Wholes → InSession = λ w. record { state = record { wholes = w; checkpoints = []; breakpoints = empty; drawn = 0 }; quantum = c.args.quantum } in
+    ap (λ xs. shown_session c.in_ok-new.field-0 xs c.new-3.result 0 c.args.quantum) c.new-2.ensures
+    ∙ ap (λ (breaks : Breaks). shown_session c.in_ok-new.field-0 [] breaks 0 c.args.quantum) c.new-3.ensures
     ∙ ap started (wholes_start c.in_ok-new.field-0 c.args.frames c.in_ok-new.ensures.spaces c.in_ok-new.ensures.processes)
 
 pub returns-clause-stands : goal.returns-clause-stands
 returns-clause-stands c =
-    let started : Wholes → State = λ w. record { wholes = w; checkpoints = []; drawn = 0 } in
+    let started : Wholes → State = λ w. record { wholes = w; checkpoints = []; breakpoints = empty; drawn = 0 } in
     states_same _ (fresh c.args.frames)
-    (ap (λ xs. shown_state c.in_ok-new.field-0 xs 0) c.new-2.ensures
+    (ap (λ xs. shown_state c.in_ok-new.field-0 xs c.new-3.result 0) c.new-2.ensures
+    ∙ ap (λ (breaks : Breaks). shown_state c.in_ok-new.field-0 [] breaks 0) c.new-3.ensures
     ∙ ap started (wholes_start c.in_ok-new.field-0 c.args.frames c.in_ok-new.ensures.spaces c.in_ok-new.ensures.processes))
 
 pub invariant_of-result : goal.invariant_of-result
@@ -25,4 +30,5 @@ invariant_of-result c = (
   subst (λ xs. IsSession c.in_ok-new.field-0 (spaces_kept xs) 0) (sym c.new-2.ensures)
       (session_start c.in_ok-new.field-0 c.args.frames c.in_ok-new.ensures.spaces c.in_ok-new.ensures.processes),
   c.requires.quantum,
+  λ p above. ap (λ (breaks : Breaks). get breaks p) c.new-3.ensures ∙ get-empty nat_cmp p,
 )

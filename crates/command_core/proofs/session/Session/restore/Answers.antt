@@ -20,7 +20,7 @@ pub returns-in-None-get-clause-gives : goal.returns-in-None-get-clause-gives
 returns-in-None-get-clause-gives c =
     let s = c.self.inside in
     subst (λ (s : InSession). GivesChange (on_process c.args.p (restore_row c.args.p c.args.name.now) (registry_of s.state)) s.state (Refused NoCheckpoint) s.state) c.self.view_is
-    (restore_unnamed s.machine s.checkpoints s.drawn c.args.p c.args.name.now c.in-Some.field-0.now (sym c.in-Some.ensures.kept)
+    (restore_unnamed s.machine s.checkpoints s.breakpoints s.drawn c.args.p c.args.name.now c.in-Some.field-0.now (sym c.in-Some.ensures.kept)
     (sym c.if-is_speculating.false ∙ told_mark s.machine c.args.p c.is_speculating.result c.memory.result.now c.is_speculating.ensures.mark c.memory.ensures)
     (sym (c.in-None-get.ensures ∙ ap (λ n. kept_named n s.checkpoints) c.as_slice.ensures)))
 
@@ -55,6 +55,7 @@ invariant_of-self-2 c =
       session_of_restored s.machine c.restore_process.new.machine (spaces_kept s.checkpoints) s.drawn c.args.p x c.self.invariant.0 (ap is_some (sym c.in-Some.ensures.kept))
           (found_has c.as_slice.result.now (IsFree s.machine) s.checkpoints x c.self.invariant.0.free (sym c.in-Some-get.ensures)) copied,
       c.self.invariant.1,
+      c.self.invariant.2,
     )
 
 pub returns-clause-gives : goal.returns-clause-gives
@@ -63,8 +64,8 @@ returns-clause-gives c =
     let x = c.in-Some-get.kept.now in
     let copied = subst (λ (y : declared.Process). CopiesProcess x.space c.args.p y s.machine c.restore_process.new.machine (Ok tt)) c.process-in-Some-get.ensures c.in-Ok.ensures in
     subst (λ (s : InSession). GivesChange (on_process c.args.p (restore_row c.args.p c.args.name.now) (registry_of s.state)) s.state Done
-    (shown_state c.restore_process.new.machine c.self.inside.checkpoints c.self.inside.drawn)) c.self.view_is
-    (restored_done s.machine s.checkpoints s.drawn c.args.p c.args.name.now c.in-Some.field-0.now (sym c.in-Some.ensures.kept) c.restore_process.new.machine x c.self.invariant.0
+    (shown_state c.restore_process.new.machine c.self.inside.checkpoints c.self.inside.breakpoints c.self.inside.drawn)) c.self.view_is
+    (restored_done s.machine s.checkpoints s.breakpoints s.drawn c.args.p c.args.name.now c.in-Some.field-0.now (sym c.in-Some.ensures.kept) c.restore_process.new.machine x c.self.invariant.0
     (sym c.if-is_speculating.false ∙ told_mark s.machine c.args.p c.is_speculating.result c.memory.result.now c.is_speculating.ensures.mark c.memory.ensures)
     (sym (c.in-Some-get.ensures ∙ ap (λ n. kept_named n s.checkpoints) c.as_slice.ensures)) copied)
 
@@ -74,16 +75,16 @@ pub invariant_of-self : goal.invariant_of-self
 invariant_of-self c =
     let s = c.self.inside in
     let keeps = copy_keeps c.in-Some-get.kept.now.space c.args.p s.machine c.restore_process.new.machine c.in-Err.error c.in-Err.ensures in
-    (keeps.session (spaces_kept s.checkpoints) s.drawn c.self.invariant.0, c.self.invariant.1)
+    (keeps.session (spaces_kept s.checkpoints) s.drawn c.self.invariant.0, c.self.invariant.1, c.self.invariant.2)
 
 pub returns-in-Err-clause-gives : goal.returns-in-Err-clause-gives
 returns-in-Err-clause-gives c =
     let s = c.self.inside in
     let x = c.in-Some-get.kept.now in
     subst (λ (s : InSession). GivesChange (on_process c.args.p (restore_row c.args.p c.args.name.now) (registry_of s.state)) s.state c.not_made.result
-    (shown_state c.restore_process.new.machine c.self.inside.checkpoints c.self.inside.drawn)) c.self.view_is
-    (subst (λ a. GivesChange (on_process c.args.p (restore_row c.args.p c.args.name.now) (registry_of (shown_state c.self.inside.machine c.self.inside.checkpoints c.self.inside.drawn)))
-    (shown_state c.self.inside.machine c.self.inside.checkpoints c.self.inside.drawn) a (shown_state c.restore_process.new.machine c.self.inside.checkpoints c.self.inside.drawn)) (sym c.not_made.ensures)
-    (not_restored s.machine s.checkpoints s.drawn c.args.p c.args.name.now c.in-Some.field-0.now (sym c.in-Some.ensures.kept) c.restore_process.new.machine x c.self.invariant.0
+    (shown_state c.restore_process.new.machine c.self.inside.checkpoints c.self.inside.breakpoints c.self.inside.drawn)) c.self.view_is
+    (subst (λ a. GivesChange (on_process c.args.p (restore_row c.args.p c.args.name.now) (registry_of (shown_state c.self.inside.machine c.self.inside.checkpoints c.self.inside.breakpoints c.self.inside.drawn)))
+    (shown_state c.self.inside.machine c.self.inside.checkpoints c.self.inside.breakpoints c.self.inside.drawn) a (shown_state c.restore_process.new.machine c.self.inside.checkpoints c.self.inside.breakpoints c.self.inside.drawn)) (sym c.not_made.ensures)
+    (not_restored s.machine s.checkpoints s.breakpoints s.drawn c.args.p c.args.name.now c.in-Some.field-0.now (sym c.in-Some.ensures.kept) c.restore_process.new.machine x c.self.invariant.0
     (sym c.if-is_speculating.false ∙ told_mark s.machine c.args.p c.is_speculating.result c.memory.result.now c.is_speculating.ensures.mark c.memory.ensures)
     (sym (c.in-Some-get.ensures ∙ ap (λ n. kept_named n s.checkpoints) c.as_slice.ensures)) c.in-Err.error c.in-Err.ensures))

@@ -8,20 +8,20 @@ unmapping-init c =
     subst (λ (m : MemoryView). IsUnmapping (state_of c.args.self.now) (state_of m) c.args.space c.args.page c.args.n c.args.page c.args.n) (sym c.self.view_is)
     (unmapping_none (state_of c.args.self.now) c.args.space c.args.page c.args.n c.requires.there)
 
-pub remove_some-gone-requires-clause-space : goal.remove_some-gone-requires-clause-space
-remove_some-gone-requires-clause-space c =
+pub remove_run-gone-requires-clause-space : goal.remove_run-gone-requires-clause-space
+remove_run-gone-requires-clause-space c =
     still_there (state_of c.args.self.now) c.args.space c.args.page c.args.n c.requires.there (state_of c.unmapping.self-inside.pages) c.unmapping.at c.unmapping.left c.unmapping.invariant c.unmapping-test.true
 
-pub remove_some-gone-requires-clause-settled : goal.remove_some-gone-requires-clause-settled
-remove_some-gone-requires-clause-settled c =
+pub remove_run-gone-requires-clause-settled : goal.remove_run-gone-requires-clause-settled
+remove_run-gone-requires-clause-settled c =
     still_settled (state_of c.args.self.now) c.args.space c.args.page c.args.n c.requires.there (state_of c.unmapping.self-inside.pages) c.unmapping.at c.unmapping.left c.unmapping.invariant c.unmapping-test.true c.requires.settled
 
-pub remove_some-gone-requires-clause-there : goal.remove_some-gone-requires-clause-there
-remove_some-gone-requires-clause-there c =
+pub remove_run-gone-requires-clause-there : goal.remove_run-gone-requires-clause-there
+remove_run-gone-requires-clause-there c =
     next_there (state_of c.args.self.now) c.args.space c.args.page c.args.n c.requires.there (state_of c.unmapping.self-inside.pages) c.unmapping.at c.unmapping.left c.unmapping.invariant c.unmapping-test.true
 
 pub unmapping-preserved : goal.unmapping-preserved
 unmapping-preserved c =
-    subst (λ k. IsUnmapping (state_of c.args.self.now) (state_of c.remove_some-gone.new.pages) c.args.space c.args.page c.args.n (c.unmapping.at + k) (c.unmapping.left - c.remove_some-gone.result)) (sym c.from-at.ensures)
+    subst (λ k. IsUnmapping (state_of c.args.self.now) (state_of c.remove_run-gone.new.self) c.args.space c.args.page c.args.n (c.unmapping.at + k) (c.unmapping.left - c.remove_run-gone.result)) (sym c.from-at.ensures)
     (unmapping_more (state_of c.args.self.now) c.args.space c.args.page c.args.n c.requires.there (state_of c.unmapping.self-inside.pages) c.unmapping.at c.unmapping.left c.unmapping.invariant c.unmapping-test.true
-    (state_of c.remove_some-gone.new.pages) c.remove_some-gone.result c.remove_some-gone.ensures.gone c.remove_some-gone.ensures.few)
+    (state_of c.remove_run-gone.new.self) c.remove_run-gone.result c.remove_run-gone.ensures.gone c.remove_run-gone.ensures.few)

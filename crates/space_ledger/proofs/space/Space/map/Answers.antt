@@ -3,7 +3,7 @@ use Rattle.std.specs.Prelude.{◌^◌, ◌-◌}
 use Rattle.std.specs.FinMap.{len}
 use Rattle.page_table.specs.declared.entry.PageEntry.{PageEntry}
 use Rattle.page_table.specs.Table.{IsFree}
-use Rattle.space_ledger.specs.Space.{SpaceTable, AreMapped, pages_below, pages_from}
+use Rattle.space_ledger.specs.Space.{SpaceTable, HasMapped, pages_below, pages_from}
 use Rattle.space_ledger.proofs.Parts.{all_inside, count_mapped, free_too, map_all}
 use Rattle.space_ledger.proofs.space.Space.map.Goals as goal
 
@@ -33,6 +33,6 @@ pub returns-in-Ok-clause-mapped : goal.returns-in-Ok-clause-mapped
 returns-in-Ok-clause-mapped c =
     let entry : PageEntry = record { perms = c.args.perms; frame = c.args.frame } in
     let new : SpaceTable = record { pages = pages_below c.map_pages.new.self (2 ^ 64 - 1); awaiting = pages_from c.map_pages.new.self (2 ^ 64 - 1); speculating = c.self.inside.speculating } in
-    subst (λ (s : SpaceTable). AreMapped s c.args.from c.args.n entry new) c.self.view_is
+    subst (λ (s : SpaceTable). HasMapped s c.args.from c.args.n entry new) c.self.view_is
     (map_all c.self.inside.table c.map_pages.new.self c.self.inside.end c.args.from c.args.n entry c.self.inside.speculating
     (ap (λ (s : SpaceTable). s.awaiting) c.self.view_is ∙ c.requires.settled) c.in-Ok.ensures.mapped c.in-Ok.ensures.count c.requires.low c.self.invariant.reach)

@@ -1,13 +1,13 @@
 use Rattle.std.proofs.Common.{ap, sym, subst, ◌∙◌}
 use Rattle.space_maps.specs.Spaces.{page_in}
 use Rattle.space_ledger.specs.View.{LedgerView}
-use Rattle.space_ledger.specs.Calls.{AreThere}
+use Rattle.space_maps.specs.Spaces.{AreMapped}
 use Rattle.space_ledger.proofs.Removing.{no_run_there, run_past, run_there}
 use Rattle.space_ledger.proofs.spaces.SpaceLedger.pages_from.Goals as goal
 
 pub returns-then-run-page-clause-there : goal.returns-then-run-page-clause-there
 returns-then-run-page-clause-there c =
-    subst (λ (v : LedgerView). AreThere v c.args.space c.args.page c.in-Some.run'.n) c.self.view_is
+    subst (λ (v : LedgerView). AreMapped v c.args.space c.args.page c.in-Some.run'.n) c.self.view_is
     (run_there c.self.inside.tables c.args.space c.args.page c.in-Some.run' c.in-Some.ensures c.if-run-page.true)
 
 pub returns-else-run-page-clause-none : goal.returns-else-run-page-clause-none

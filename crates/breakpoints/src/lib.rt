@@ -1,0 +1,13 @@
+//! Breakpoints: for each process, by its number, the addresses at which its turns stop.
+//!
+//! The model is a finite map from numbers to sets of addresses. Neither an address nor a process is searched for.
+//!
+//! - `addresses`: a set of addresses
+//! - `by_process`: such a set for each number that has one
+#![tactic(auto)]
+
+mod addresses;
+mod by_process;
+
+pub use addresses::Addresses;
+pub use by_process::Breakpoints;

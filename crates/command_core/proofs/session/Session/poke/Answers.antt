@@ -1,0 +1,29 @@
+use Rattle.std.proofs.Common.{subst, sym}
+use Rattle.machine_core.specs.Machine.{spaces_of, whole_in}
+use Rattle.command_core.specs.State.{registry_of}
+use Rattle.command_core.specs.Sessions.{InSession, state_of}
+use Rattle.command_core.specs.Kept.{checkpoints_in, shown_state, spaces_kept}
+use Rattle.command_core.specs.Giving.{GivesChange, MachineGives}
+use Rattle.command_core.specs.Debugging.{poke_row}
+use Rattle.command_core.specs.Changes.{on_process}
+use Rattle.command_core.proofs.Places.{free_same}
+use Rattle.command_core.proofs.Rows.{gives_found, gives_kept}
+use Rattle.command_core.proofs.session.Session.poke.Goals as goal
+
+pub invariant_of-self : goal.invariant_of-self
+invariant_of-self c =
+    (c.poke.ensures.done.keeps.session (spaces_kept c.self.inside.checkpoints) c.self.inside.drawn c.self.invariant.0, c.self.invariant.1, c.self.invariant.2)
+
+pub returns-in-Some-clause-gives : goal.returns-in-Some-clause-gives
+returns-in-Some-clause-gives c =
+    let s = c.self.inside in
+    let old = s.machine in
+    let new = c.poke.new.machine in
+    let row = poke_row c.args.p c.args.address c.args.bytes.now in
+    let kept = checkpoints_in (spaces_of old) s.checkpoints in
+    let done = subst (λ bytes. MachineGives (poke_row c.args.p c.args.address bytes (whole_in (spaces_of c.self.inside.machine) c.args.p c.in-Some.process.now))
+    c.self.inside.machine c.poke.result c.poke.new.machine) c.as_slice.ensures c.poke.ensures.done in
+    subst (λ (s : InSession). GivesChange (on_process c.args.p row (registry_of s.state)) s.state c.poke.result (shown_state new c.self.inside.checkpoints c.self.inside.breakpoints c.self.inside.drawn)) c.self.view_is
+    (gives_kept (on_process c.args.p row) old new s.checkpoints s.breakpoints s.drawn (free_same old new (spaces_kept s.checkpoints) done.keeps.free c.self.invariant.0.free) c.poke.result s.drawn
+    (gives_found old kept s.breakpoints s.drawn c.args.p row c.in-Some.process.now c.poke.result (state_of new kept s.breakpoints s.drawn) (sym c.in-Some.ensures.kept)
+    (done.gives kept s.breakpoints s.drawn)))

@@ -1,0 +1,33 @@
+use Rattle.std.proofs.Common.{sym, subst}
+use Rattle.breakpoints.specs.Breakpoints.{Breaks}
+use Rattle.report_text.specs.declared.answer.Answer.TheVariants.{Done}
+use Rattle.command_core.specs.State.{registry_of}
+use Rattle.command_core.specs.Sessions.{InSession, NoBreaksAbove}
+use Rattle.command_core.specs.Kept.{shown_state, spaces_kept}
+use Rattle.command_core.specs.Debugging.{unbreak_row}
+use Rattle.command_core.specs.Changes.{on_process}
+use Rattle.command_core.specs.Giving.{GivesChange}
+use Rattle.command_core.proofs.Breaks.{above_without, was_drawn}
+use Rattle.command_core.proofs.Debugging.{break_removed}
+use Rattle.command_core.proofs.session.Session.remove_breakpoint.Goals as goal
+
+pub invariant_of-self : goal.invariant_of-self
+invariant_of-self c =
+    let s = c.self.inside in
+    let there = was_drawn s.machine (spaces_kept s.checkpoints) s.drawn c.args.p c.in-Some.field-0.now c.self.invariant.0 (sym c.in-Some.ensures.kept) in (
+      c.self.invariant.0,
+      c.self.invariant.1,
+      subst (NoBreaksAbove s.drawn) (sym c.remove.ensures) (above_without s.breakpoints s.drawn c.args.p c.args.address there c.self.invariant.2),
+    )
+
+pub returns-clause-gives : goal.returns-clause-gives
+returns-clause-gives c =
+    let s = c.self.inside in
+    let p = c.args.p in
+    subst (λ (s : InSession). GivesChange (on_process p (unbreak_row p c.args.address) (registry_of s.state)) s.state Done
+    (shown_state c.self.inside.machine c.self.inside.checkpoints c.remove.new.self c.self.inside.drawn)) c.self.view_is
+    (subst (λ (breaks : Breaks). GivesChange (on_process p (unbreak_row p c.args.address)
+    (registry_of (shown_state c.self.inside.machine c.self.inside.checkpoints c.self.inside.breakpoints c.self.inside.drawn)))
+    (shown_state c.self.inside.machine c.self.inside.checkpoints c.self.inside.breakpoints c.self.inside.drawn) Done
+    (shown_state c.self.inside.machine c.self.inside.checkpoints breaks c.self.inside.drawn)) (sym c.remove.ensures)
+    (break_removed s.machine s.checkpoints s.breakpoints s.drawn p c.args.address c.in-Some.field-0.now (sym c.in-Some.ensures.kept)))

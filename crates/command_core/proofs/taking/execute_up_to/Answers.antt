@@ -1,0 +1,21 @@
+use Rattle.std.proofs.Common.{ap, ◌∙◌}
+use Rattle.machine_core.specs.Machine.{wholes}
+use Rattle.machine_core.specs.Executions.{after_executions, came_to_last, steps_to}
+use Rattle.breakpoints.specs.Breakpoints.{Addresses}
+use Rattle.command_core.proofs.Breaks.{stops_are}
+use Rattle.command_core.proofs.taking.execute_up_to.Goals as goal
+
+pub returns-clause-steps : goal.returns-clause-steps
+returns-clause-steps c =
+    c.execute_up_to.ensures.steps
+    ∙ ap (λ (stops : Addresses). steps_to stops c.args.most (wholes c.args.machine.now) c.args.p) (stops_are c.args.breakpoints.now c.args.p c.of.result c.of.ensures)
+
+pub returns-clause-outcome : goal.returns-clause-outcome
+returns-clause-outcome c =
+    c.execute_up_to.ensures.outcome
+    ∙ ap (λ (stops : Addresses). came_to_last stops c.args.most (wholes c.args.machine.now) c.args.p) (stops_are c.args.breakpoints.now c.args.p c.of.result c.of.ensures)
+
+pub returns-clause-after : goal.returns-clause-after
+returns-clause-after c =
+    c.execute_up_to.ensures.after
+    ∙ ap (λ (stops : Addresses). after_executions stops c.args.most (wholes c.args.machine.now) c.args.p) (stops_are c.args.breakpoints.now c.args.p c.of.result c.of.ensures)

@@ -1,0 +1,64 @@
+use Rattle.std.proofs.Common.{◌≡◌, ◌∙◌, ◌⊎◌, inl, inr, ℕ, true, false, List, [], ◌∷◌, Option, Ok, Err, ap, ap₂, codes, refl, rules, sym, subst}
+use Rattle.sizes.specs.declared.TheConstants.{MOST_FRAMES}
+use Rattle.clap.specs.Kinds.{IsAmong, Kinds}
+use Rattle.clap.specs.Walk.{Text, is_empty}
+use Rattle.clap.specs.Words.{fault_of, first_value, found_of, is_simple, is_simple_and_free, rows_of}
+use Rattle.clap.specs.declared.error.kind.ErrorKind.{ErrorKind}
+use Rattle.clap.specs.declared.error.kind.ErrorKind.TheVariants.{OutOfMemory}
+use Rattle.clap.specs.declared.parser.matches.ArgMatches.{ArgMatches}
+use Rattle.clap.proofs.WalkLemmas.{first_value-rows}
+use Rattle.clap.proofs.OnLiterals.{clap_on_literals}
+use Rattle.overlay_top.specs.declared.words.TheConstants.{FRAMES, QUANTUM, MOST_QUANTUM}
+use Rattle.overlay_top.specs.declared.words.WordsError.{WordsError}
+use Rattle.overlay_top.specs.declared.words.WordsError.TheVariants.{Refused, Memory}
+use Rattle.overlay_top.specs.Words.{MatchesWords, ReadsWords, command_line, number_of, refusal_of, settings_from, settings_in, settings_of}
+
+-- The command is one of which `clap` says everything.
+
+pub is_simple_line : is_simple command_line ≡ true
+unfolding clap_on_literals command_line
+is_simple_line = refl
+
+pub is_free_line : is_simple_and_free command_line ≡ true
+unfolding clap_on_literals command_line
+is_free_line = refl
+
+-- Words that it refuses.
+
+is_some_kind : (kind : ErrorKind) (kinds : Kinds) → IsAmong kind kinds → is_empty kinds ≡ false
+is_some_kind kind [] among = absurd among
+is_some_kind kind (other ∷ kinds) among = search rules
+
+unmatched : (words : List Text) (error : WordsError) → is_empty (fault_of command_line words) ≡ false → MatchesWords words (Err error)
+unmatched words Refused fails = fails
+unmatched words Memory fails = tt
+
+pub refused : (words : List Text) (kind : ErrorKind) → (kind ≡ OutOfMemory) ⊎ IsAmong kind (fault_of command_line words)
+    → MatchesWords words (Err (refusal_of kind))
+refused words kind has = elim has [
+  | inl memory ↦ subst (λ k. MatchesWords words (Err (refusal_of k))) (sym memory) tt
+  | inr among ↦ unmatched words (refusal_of kind) (is_some_kind kind (fault_of command_line words) among)
+]
+
+-- What reading them gives, by what it finds.
+
+pub unread : (words : List Text) (error : WordsError) → MatchesWords words (Err error) → ReadsWords words (Err error)
+unfolding settings_of
+unread words Refused fails = rw fails refl
+unread words Memory fails = tt
+
+pub set_by : (words : List Text) (matches : ArgMatches) → MatchesWords words (Ok matches)
+    → settings_of words ≡ settings_in (rows_of (found_of matches))
+unfolding settings_of
+set_by words matches found = rw found.0 (ap settings_in (sym found.1))
+
+-- What the options set, by the values that were looked up.
+
+pub values_set : (matches : ArgMatches) (first second : Option Text) (frames quantum : Option ℕ)
+    → first ≡ first_value (found_of matches) (codes "frames") → second ≡ first_value (found_of matches) (codes "quantum")
+    → frames ≡ number_of FRAMES MOST_FRAMES first → quantum ≡ number_of QUANTUM MOST_QUANTUM second
+    → settings_from frames quantum ≡ settings_in (rows_of (found_of matches))
+values_set matches first second frames quantum is_first is_second is_frames is_quantum =
+    ap₂ settings_from
+    (is_frames ∙ ap (number_of FRAMES MOST_FRAMES) (is_first ∙ first_value-rows (found_of matches) (codes "frames")))
+    (is_quantum ∙ ap (number_of QUANTUM MOST_QUANTUM) (is_second ∙ first_value-rows (found_of matches) (codes "quantum")))

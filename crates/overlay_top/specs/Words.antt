@@ -1,0 +1,68 @@
+use Rattle.std.specs.Prelude.{◌≡◌, ℕ, ◌≤◌, true, false, List, [], Option, Some, None, Result, Ok, Err, codes, if◌then◌else◌}
+use Rattle.sizes.specs.declared.TheConstants.{MOST_FRAMES}
+use Rattle.std.specs.Str.Parse.{digits_value, without_leading_plus}
+use Rattle.clap.specs.Words.{App, Row, Rule, Text, fault_of, first_of, found_of, matches_of, new_app, new_rule, rows_of, with_rule}
+use Rattle.clap.specs.Simple.{on_top}
+use Rattle.clap.specs.Walk.{is_empty}
+use Rattle.clap.specs.declared.error.kind.ErrorKind.{ErrorKind}
+use Rattle.clap.specs.declared.error.kind.ErrorKind.TheVariants.{OutOfMemory}
+use Rattle.clap.specs.declared.parser.matches.ArgMatches.{ArgMatches}
+use Rattle.clap.specs.ValueTests.{is_unsigned_in}
+use Rattle.clap.specs.declared.builder.action.ArgAction.TheVariants.{Set}
+use Rattle.overlay_top.specs.declared.words.Settings.{Settings}
+use Rattle.overlay_top.specs.declared.words.TheConstants.{FRAMES, QUANTUM, MOST_QUANTUM}
+use Rattle.overlay_top.specs.declared.words.WordsError.{WordsError}
+use Rattle.overlay_top.specs.declared.words.WordsError.TheVariants.{Refused, Memory}
+
+-- The command, as `clap` describes it: two options with a value each, and nothing else; its name isn't among the words.
+abbrev pub option_of : Text → Rule
+option_of name = record (new_rule name) { long = Some name; action = Some Set }
+
+unfoldable pub command_line : App
+command_line =
+    with_rule (with_rule (on_top (λ shape. record shape { no_binary_name = true; disable_help_flag = true }) (new_app (codes "overlay-run")))
+    (option_of (codes "frames"))) (option_of (codes "quantum"))
+
+-- The number of an option, from 1 on, as Rust's `parse` reads one: the default where it isn't given.
+abbrev pub number_in : ℕ → Text → Option ℕ
+number_in most text = if is_unsigned_in 1 most text then Some (digits_value 10 (without_leading_plus text)) else None
+
+abbrev pub number_of : ℕ → ℕ → Option Text → Option ℕ
+number_of default most None = Some default
+number_of default most (Some text) = number_in most text
+
+abbrev pub settings_from : Option ℕ → Option ℕ → Option Settings
+settings_from (Some frames) (Some quantum) = Some (record { frames = frames; quantum = quantum })
+settings_from (Some frames) None = None
+settings_from None quantum = None
+
+-- What the options set, by the values that `clap` found.
+abbrev pub settings_in : List Row → Option Settings
+settings_in rows =
+    settings_from (number_of FRAMES MOST_FRAMES (first_of (codes "frames") rows)) (number_of QUANTUM MOST_QUANTUM (first_of (codes "quantum") rows))
+
+-- What words set, where they are the command's.
+unfoldable pub settings_of : List Text → Option Settings
+settings_of words = if is_empty (fault_of command_line words) then settings_in (matches_of command_line words) else None
+
+-- the range of what is set
+abbrev pub IsFromOne : ℕ → ℕ → Type 0
+IsFromOne most number = (1 ≤ number) × (number ≤ most)
+
+abbrev pub AreInRange : Settings → Type 0
+AreInRange settings = IsFromOne MOST_FRAMES settings.frames × IsFromOne MOST_QUANTUM settings.quantum
+
+-- what `clap` finds in them, and what reading them gives; for want of memory neither says anything
+abbrev pub refusal_of : ErrorKind → WordsError
+refusal_of OutOfMemory = Memory
+refusal_of kind = Refused
+
+abbrev pub MatchesWords : List Text → Result ArgMatches WordsError → Type 0
+MatchesWords words (Ok matches) = (fault_of command_line words ≡ []) × (rows_of (found_of matches) ≡ matches_of command_line words)
+MatchesWords words (Err Refused) = is_empty (fault_of command_line words) ≡ false
+MatchesWords words (Err Memory) = Unit {0}
+
+abbrev pub ReadsWords : List Text → Result Settings WordsError → Type 0
+ReadsWords words (Ok settings) = settings_of words ≡ Some settings
+ReadsWords words (Err Refused) = settings_of words ≡ None
+ReadsWords words (Err Memory) = Unit {0}

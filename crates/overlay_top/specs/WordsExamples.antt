@@ -1,0 +1,49 @@
+use Rattle.std.specs.Prelude.{◌≡◌, [], ◌∷◌, Some, None, codes, refl}
+use Rattle.clap.proofs.OnLiterals.{clap_on_literals}
+use Rattle.overlay_top.specs.Words.{command_line, settings_of}
+
+-- What words set, as the checker computes it.
+
+no_words : settings_of [] ≡ Some (record { frames = 1024; quantum = 100 })
+unfolding clap_on_literals command_line settings_of
+no_words = refl
+
+frames_alone : settings_of (codes "--frames" ∷ codes "3" ∷ []) ≡ Some (record { frames = 3; quantum = 100 })
+unfolding clap_on_literals command_line settings_of
+frames_alone = refl
+
+both_in_one_word_each : settings_of (codes "--quantum=7" ∷ codes "--frames=+003" ∷ []) ≡ Some (record { frames = 3; quantum = 7 })
+unfolding clap_on_literals command_line settings_of
+both_in_one_word_each = refl
+
+lone_hyphens_last : settings_of (codes "--quantum" ∷ codes "7" ∷ codes "--" ∷ []) ≡ Some (record { frames = 1024; quantum = 7 })
+unfolding clap_on_literals command_line settings_of
+lone_hyphens_last = refl
+
+no_frames : settings_of (codes "--frames" ∷ codes "0" ∷ []) ≡ None
+unfolding clap_on_literals command_line settings_of
+no_frames = refl
+
+twice : settings_of (codes "--frames=3" ∷ codes "--frames=3" ∷ []) ≡ None
+unfolding clap_on_literals command_line settings_of
+twice = refl
+
+shortened : settings_of (codes "--frame" ∷ codes "3" ∷ []) ≡ None
+unfolding clap_on_literals command_line settings_of
+shortened = refl
+
+behind_hyphens : settings_of (codes "--" ∷ codes "--frames=3" ∷ []) ≡ None
+unfolding clap_on_literals command_line settings_of
+behind_hyphens = refl
+
+without_a_value : settings_of (codes "--frames" ∷ []) ≡ None
+unfolding clap_on_literals command_line settings_of
+without_a_value = refl
+
+help : settings_of (codes "--help" ∷ []) ≡ None
+unfolding clap_on_literals command_line settings_of
+help = refl
+
+empty_word : settings_of ([] ∷ []) ≡ None
+unfolding clap_on_literals command_line settings_of
+empty_word = refl

@@ -1,0 +1,90 @@
+//! Bytes of a process's memory, as lines.
+
+ghost use Rattle.std.specs.Prelude.{◌≡◌, ◌≤◌};
+ghost use Rattle.ovl_io.specs.Memory.{bytes_at};
+ghost use Rattle.report_text.specs.declared.TheConstants.{ROW_BYTES};
+ghost use Rattle.report_text.specs.Lines.{dump_line};
+ghost use Rattle.command_core.specs.declared.TheConstants.{WORD_BYTES};
+ghost use Rattle.command_core.specs.Commands.{disasm_row};
+ghost use Rattle.overlay_top.specs.Sending.{SendsText};
+ghost use Rattle.overlay_top.specs.Printing.{SeesBytes, SeesWords, bytes_text, memory_in, words_text};
+
+use crate::sending::Report;
+use byteorder::{ByteOrder, LittleEndian};
+use command_core::{Session, WORD_BYTES};
+use ovl_io::{Failed, Sink};
+use report_text::{Line, ROW_BYTES, disasm_line, dump_line};
+
+/// Makes the line of `n` bytes of a process from an address on; they were looked at.
+fn bytes_line(session: &Session, p: u16, address: u64, n: u32, line: &mut Line)
+    requires sees { SeesBytes p address n session.now.state }
+    requires few { n ≤ ROW_BYTES }
+    ensures { line.new.items ≡ dump_line address (bytes_at (memory_in p session.now.state) address n) }
+{
+    let mut row = [0; ROW_BYTES];
+    match session.read(p, address, &mut row[..n as usize]) {
+        Ok(()) => dump_line(address, &row[..n as usize], line),
+        Err(_) => unreachable!(),
+    }
+}
+
+/// Sends the lines of bytes of a process from an address on; they were looked at.
+pub(crate) fn send_bytes<K: Sink>(
+    session: &Session,
+    p: u16,
+    address: u64,
+    count: u32,
+    report: &mut Report<K>,
+) -> Result<(), Failed>
+    requires sees { SeesBytes p address count session.now.state }
+    ensures sends { SendsText K.Sink report.old.sink.now (bytes_text p address count session.now.state)
+        report.new.sink.now result }
+    ensures same { report.new.sink.ghost_name ≡ report.old.sink.ghost_name }
+{
+    let mut at = address;
+    let mut left = count;
+    'sending: while left > 0 {
+        let n = left.min(ROW_BYTES as u32);
+        bytes_line(session, p, at, n, &mut report.line);
+        report.send()?;
+        at += u64::from(n);
+        left -= n;
+    }
+    Ok(())
+}
+
+/// Makes the line of the word at an address of a process; its bytes were looked at.
+fn word_line(session: &Session, p: u16, address: u64, line: &mut Line)
+    requires sees { SeesBytes p address WORD_BYTES session.now.state }
+    ensures { line.new.items ≡ disasm_row (memory_in p session.now.state) address }
+{
+    let mut word = [0; WORD_BYTES as usize];
+    match session.read(p, address, &mut word) {
+        Ok(()) => disasm_line(address, LittleEndian::read_u32(&word), line),
+        Err(_) => unreachable!(),
+    }
+}
+
+/// Sends the lines of words of a process from an address on; their bytes were looked at.
+pub(crate) fn send_words<K: Sink>(
+    session: &Session,
+    p: u16,
+    address: u64,
+    words: u32,
+    report: &mut Report<K>,
+) -> Result<(), Failed>
+    requires sees { SeesWords p address words session.now.state }
+    ensures sends { SendsText K.Sink report.old.sink.now (words_text p address words session.now.state)
+        report.new.sink.now result }
+    ensures same { report.new.sink.ghost_name ≡ report.old.sink.ghost_name }
+{
+    let mut at = address;
+    let mut left = words;
+    'sending: while left > 0 {
+        word_line(session, p, at, &mut report.line);
+        report.send()?;
+        at += WORD_BYTES;
+        left -= 1;
+    }
+    Ok(())
+}

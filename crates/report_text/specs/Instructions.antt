@@ -1,0 +1,122 @@
+use Rattle.std.specs.Prelude.{ℕ, ◌%◌, ◌^◌, ◌==◌, ◌||◌, ℤ, pos, int_div, List, [], ◌++◌, Option, Some, None, codes, if◌then◌else◌}
+use Rattle.rv_decode.specs.declared.instruction.Instr.{Instr}
+use Rattle.rv_decode.specs.declared.names.Format.{Format}
+use Rattle.rv_decode.specs.declared.names.Format.TheVariants as format
+use Rattle.rv_decode.specs.declared.names.Name.{Name}
+use Rattle.rv_decode.specs.declared.names.Name.TheVariants as name
+use Rattle.rv_decode.specs.declared.rows.CaseRow.{CaseRow}
+use Rattle.rv_decode.specs.Meaning.{meaning}
+use Rattle.rv_decode.specs.Table.{row_of}
+use Rattle.report_text.specs.Digits.{in_decimal, signed_text}
+
+-- The text of a word as an instruction: the name of its row, and its operands by the row's format.
+
+-- the name of a row, in lower case
+abbrev pub name_text : Name → List ℕ
+name_text name.Lui = codes "lui"
+name_text name.Auipc = codes "auipc"
+name_text name.Jal = codes "jal"
+name_text name.Jalr = codes "jalr"
+name_text name.Beq = codes "beq"
+name_text name.Bne = codes "bne"
+name_text name.Blt = codes "blt"
+name_text name.Bge = codes "bge"
+name_text name.Bltu = codes "bltu"
+name_text name.Bgeu = codes "bgeu"
+name_text name.Lb = codes "lb"
+name_text name.Lh = codes "lh"
+name_text name.Lw = codes "lw"
+name_text name.Ld = codes "ld"
+name_text name.Lbu = codes "lbu"
+name_text name.Lhu = codes "lhu"
+name_text name.Lwu = codes "lwu"
+name_text name.Sb = codes "sb"
+name_text name.Sh = codes "sh"
+name_text name.Sw = codes "sw"
+name_text name.Sd = codes "sd"
+name_text name.Addi = codes "addi"
+name_text name.Slti = codes "slti"
+name_text name.Sltiu = codes "sltiu"
+name_text name.Xori = codes "xori"
+name_text name.Ori = codes "ori"
+name_text name.Andi = codes "andi"
+name_text name.Slli = codes "slli"
+name_text name.Srli = codes "srli"
+name_text name.Srai = codes "srai"
+name_text name.Add = codes "add"
+name_text name.Sub = codes "sub"
+name_text name.Sll = codes "sll"
+name_text name.Slt = codes "slt"
+name_text name.Sltu = codes "sltu"
+name_text name.Xor = codes "xor"
+name_text name.Srl = codes "srl"
+name_text name.Sra = codes "sra"
+name_text name.Or = codes "or"
+name_text name.And = codes "and"
+name_text name.Addiw = codes "addiw"
+name_text name.Slliw = codes "slliw"
+name_text name.Srliw = codes "srliw"
+name_text name.Sraiw = codes "sraiw"
+name_text name.Addw = codes "addw"
+name_text name.Subw = codes "subw"
+name_text name.Sllw = codes "sllw"
+name_text name.Srlw = codes "srlw"
+name_text name.Sraw = codes "sraw"
+name_text name.Fence = codes "fence"
+name_text name.Ecall = codes "ecall"
+name_text name.Ebreak = codes "ebreak"
+
+-- a register, by its number
+abbrev pub register_text : ℕ → List ℕ
+register_text n = codes "x" ++ in_decimal n
+
+-- three registers
+abbrev pub three_registers_text : ℕ → ℕ → ℕ → List ℕ
+three_registers_text a b c = codes " " ++ register_text a ++ codes ", " ++ register_text b ++ codes ", " ++ register_text c
+
+-- two registers and an immediate
+abbrev pub two_registers_text : ℕ → ℕ → ℤ → List ℕ
+two_registers_text a b n = codes " " ++ register_text a ++ codes ", " ++ register_text b ++ codes ", " ++ signed_text n
+
+-- a register, and the register of an address behind what is added to it
+abbrev pub offset_text : ℕ → ℤ → ℕ → List ℕ
+offset_text a n b = codes " " ++ register_text a ++ codes ", " ++ signed_text n ++ codes "(" ++ register_text b ++ codes ")"
+
+-- a register and an immediate
+abbrev pub one_register_text : ℕ → ℤ → List ℕ
+one_register_text a n = codes " " ++ register_text a ++ codes ", " ++ signed_text n
+
+-- The rows of the format I by their opcode, as the table "RISC-V base opcode map" of the RISC-V Unprivileged ISA manual
+-- names it: loads (LOAD) and the jump to a register (JALR) add the immediate to the address, of the fence (MISC-MEM)
+-- there is the name alone, and the others are arithmetic.
+abbrev pub opcode : CaseRow → ℕ
+opcode row = row.value % 2 ^ 7
+
+abbrev pub i_operands : CaseRow → Instr → List ℕ
+i_operands row i =
+    if opcode row == 0x03 || opcode row == 0x67 then offset_text i.rd i.imm i.rs1
+    else if opcode row == 0x0F then []
+    else two_registers_text i.rd i.rs1 i.imm
+
+-- the operands of an instruction by its row's format; the immediate of the format U is a multiple of 2^12
+abbrev pub operands_by : Format → CaseRow → Instr → List ℕ
+operands_by format.R row i = three_registers_text i.rd i.rs1 i.rs2
+operands_by format.I row i = i_operands row i
+operands_by format.S row i = offset_text i.rs2 i.imm i.rs1
+operands_by format.B row i = two_registers_text i.rs1 i.rs2 i.imm
+operands_by format.U row i = one_register_text i.rd (int_div i.imm (pos (2 ^ 12)))
+operands_by format.J row i = one_register_text i.rd i.imm
+operands_by format.H6 row i = two_registers_text i.rd i.rs1 i.imm
+operands_by format.H5 row i = two_registers_text i.rd i.rs1 i.imm
+operands_by format.N row i = []
+
+abbrev pub operands_text : CaseRow → Instr → List ℕ
+operands_text row i = operands_by row.format row i
+
+-- what a word means
+abbrev pub meaning_text : Option Instr → List ℕ
+meaning_text None = codes "illegal"
+meaning_text (Some i) = name_text i.name ++ operands_text (row_of i.name) i
+
+unfoldable pub instruction_text : ℕ → List ℕ
+instruction_text word = meaning_text (meaning word)

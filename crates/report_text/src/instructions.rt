@@ -1,0 +1,195 @@
+//! The text of a word of memory as an instruction. The opcode of a row is bits 0 to 6 of its word, as in the table
+//! "RISC-V base opcode map" of the RISC-V Unprivileged ISA manual.
+
+ghost use Rattle.std.specs.Prelude.{◌≡◌, ◌+◌, ◌≤◌, ◌++◌, length};
+ghost use Rattle.arrayvec.specs.ArrayVec.{array_vec_len};
+ghost use Rattle.rv_decode.specs.Table.{row_of};
+ghost use Rattle.report_text.specs.Instructions.{name_text, register_text, three_registers_text, two_registers_text, offset_text, one_register_text, opcode, i_operands, operands_text, instruction_text};
+
+use crate::push::{push_decimal, push_signed, push_text};
+use crate::{LINE_ROOM, Line};
+use rv_decode::{CaseRow, Format, Instr, Name, decode};
+
+/// The name of an instruction, in lower case.
+fn name_text(name: Name) -> &'static [u8]
+    ensures text { result.now ≡ name_text name }
+    ensures short { length result.now ≤ 8 }
+{
+    match name {
+        Name::Lui => b"lui",
+        Name::Auipc => b"auipc",
+        Name::Jal => b"jal",
+        Name::Jalr => b"jalr",
+        Name::Beq => b"beq",
+        Name::Bne => b"bne",
+        Name::Blt => b"blt",
+        Name::Bge => b"bge",
+        Name::Bltu => b"bltu",
+        Name::Bgeu => b"bgeu",
+        Name::Lb => b"lb",
+        Name::Lh => b"lh",
+        Name::Lw => b"lw",
+        Name::Ld => b"ld",
+        Name::Lbu => b"lbu",
+        Name::Lhu => b"lhu",
+        Name::Lwu => b"lwu",
+        Name::Sb => b"sb",
+        Name::Sh => b"sh",
+        Name::Sw => b"sw",
+        Name::Sd => b"sd",
+        Name::Addi => b"addi",
+        Name::Slti => b"slti",
+        Name::Sltiu => b"sltiu",
+        Name::Xori => b"xori",
+        Name::Ori => b"ori",
+        Name::Andi => b"andi",
+        Name::Slli => b"slli",
+        Name::Srli => b"srli",
+        Name::Srai => b"srai",
+        Name::Add => b"add",
+        Name::Sub => b"sub",
+        Name::Sll => b"sll",
+        Name::Slt => b"slt",
+        Name::Sltu => b"sltu",
+        Name::Xor => b"xor",
+        Name::Srl => b"srl",
+        Name::Sra => b"sra",
+        Name::Or => b"or",
+        Name::And => b"and",
+        Name::Addiw => b"addiw",
+        Name::Slliw => b"slliw",
+        Name::Srliw => b"srliw",
+        Name::Sraiw => b"sraiw",
+        Name::Addw => b"addw",
+        Name::Subw => b"subw",
+        Name::Sllw => b"sllw",
+        Name::Srlw => b"srlw",
+        Name::Sraw => b"sraw",
+        Name::Fence => b"fence",
+        Name::Ecall => b"ecall",
+        Name::Ebreak => b"ebreak",
+    }
+}
+
+/// A register, by its number.
+fn push_register(line: &mut Line, n: u8)
+    requires { array_vec_len line.old + 21 ≤ LINE_ROOM }
+    ensures text { line.new.items ≡ line.old.items ++ register_text n }
+    ensures len { array_vec_len line.new ≤ array_vec_len line.old + 21 }
+{
+    push_text(line, b"x");
+    push_decimal(line, u64::from(n));
+}
+
+/// Three registers.
+fn push_three_registers(line: &mut Line, a: u8, b: u8, c: u8)
+    requires { array_vec_len line.old + 96 ≤ LINE_ROOM }
+    ensures text { line.new.items ≡ line.old.items ++ three_registers_text a b c }
+    ensures len { array_vec_len line.new ≤ array_vec_len line.old + 96 }
+{
+    push_text(line, b" ");
+    push_register(line, a);
+    push_text(line, b", ");
+    push_register(line, b);
+    push_text(line, b", ");
+    push_register(line, c);
+}
+
+/// Two registers and an immediate.
+fn push_two_registers(line: &mut Line, a: u8, b: u8, n: i64)
+    requires { array_vec_len line.old + 96 ≤ LINE_ROOM }
+    ensures text { line.new.items ≡ line.old.items ++ two_registers_text a b n }
+    ensures len { array_vec_len line.new ≤ array_vec_len line.old + 96 }
+{
+    push_text(line, b" ");
+    push_register(line, a);
+    push_text(line, b", ");
+    push_register(line, b);
+    push_text(line, b", ");
+    push_signed(line, n);
+}
+
+/// A register, and the register of an address behind what is added to it.
+fn push_offset(line: &mut Line, a: u8, n: i64, b: u8)
+    requires { array_vec_len line.old + 96 ≤ LINE_ROOM }
+    ensures text { line.new.items ≡ line.old.items ++ offset_text a n b }
+    ensures len { array_vec_len line.new ≤ array_vec_len line.old + 96 }
+{
+    push_text(line, b" ");
+    push_register(line, a);
+    push_text(line, b", ");
+    push_signed(line, n);
+    push_text(line, b"(");
+    push_register(line, b);
+    push_text(line, b")");
+}
+
+/// A register and an immediate.
+fn push_one_register(line: &mut Line, a: u8, n: i64)
+    requires { array_vec_len line.old + 96 ≤ LINE_ROOM }
+    ensures text { line.new.items ≡ line.old.items ++ one_register_text a n }
+    ensures len { array_vec_len line.new ≤ array_vec_len line.old + 96 }
+{
+    push_text(line, b" ");
+    push_register(line, a);
+    push_text(line, b", ");
+    push_signed(line, n);
+}
+
+/// The major opcode of a row.
+fn opcode(row: CaseRow) -> u32
+    ensures { result ≡ opcode row }
+{
+    row.value % (1 << 7)
+}
+
+/// The operands of an instruction of the format I, by its row.
+fn push_i_operands(line: &mut Line, row: CaseRow, i: Instr)
+    requires { array_vec_len line.old + 96 ≤ LINE_ROOM }
+    ensures text { line.new.items ≡ line.old.items ++ i_operands row i }
+    ensures len { array_vec_len line.new ≤ array_vec_len line.old + 96 }
+{
+    let opcode = opcode(row);
+    if opcode == 0x03 || opcode == 0x67 {
+        // a load, or the jump to a register
+        push_offset(line, i.rd, i.imm, i.rs1);
+    } else if opcode != 0x0F {
+        // no fence
+        push_two_registers(line, i.rd, i.rs1, i.imm);
+    }
+}
+
+/// The operands of an instruction, by its row.
+fn push_operands(line: &mut Line, row: CaseRow, i: Instr)
+    requires { array_vec_len line.old + 96 ≤ LINE_ROOM }
+    ensures text { line.new.items ≡ line.old.items ++ operands_text row i }
+    ensures len { array_vec_len line.new ≤ array_vec_len line.old + 96 }
+{
+    match row.format {
+        Format::R => push_three_registers(line, i.rd, i.rs1, i.rs2),
+        Format::I => push_i_operands(line, row, i),
+        Format::S => push_offset(line, i.rs2, i.imm, i.rs1),
+        Format::B => push_two_registers(line, i.rs1, i.rs2, i.imm),
+        Format::U => push_one_register(line, i.rd, i.imm / (1 << 12)),
+        Format::J => push_one_register(line, i.rd, i.imm),
+        Format::H6 => push_two_registers(line, i.rd, i.rs1, i.imm),
+        Format::H5 => push_two_registers(line, i.rd, i.rs1, i.imm),
+        Format::N => {}
+    }
+}
+
+/// A word as an instruction.
+#[tactic(auto, unfolding(crate::specs::Instructions::instruction_text))]
+pub(crate) fn push_instruction(line: &mut Line, word: u32)
+    requires { array_vec_len line.old + 128 ≤ LINE_ROOM }
+    ensures text { line.new.items ≡ line.old.items ++ instruction_text word }
+    ensures len { array_vec_len line.new ≤ array_vec_len line.old + 128 }
+{
+    match decode(word) {
+        Some(i) => {
+            push_text(line, name_text(i.name));
+            push_operands(line, i.name.row(), i);
+        }
+        None => push_text(line, b"illegal"),
+    }
+}

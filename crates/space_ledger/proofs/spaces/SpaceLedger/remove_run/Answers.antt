@@ -1,0 +1,71 @@
+use Rattle.std.proofs.Common.{◌≡◌, ◌+◌, ◌-◌, ◌<◌, ◌⊎◌, sym, ap, subst, ◌∙◌}
+use Rattle.frame_pool.specs.Counts.{sharers_of}
+use Rattle.page_table.specs.Run.{entry_at}
+use Rattle.space_maps.specs.Spaces.{holds_space}
+use Rattle.ledger.specs.Units.{units}
+use Rattle.space_ledger.specs.View.{LedgerView, ledger_of}
+use Rattle.space_ledger.specs.Calls.{GivesNothingUp, GivesUpAtLast, IsBareRun, IsBooked}
+use Rattle.space_ledger.specs.Frames.{released_run}
+use Rattle.space_ledger.proofs.RunRemoved.{before_at, run_removed}
+use Rattle.space_ledger.proofs.spaces.SpaceLedger.remove_run.Goals as goal
+
+pub release_run-freed-requires-clause-some : goal.release_run-freed-requires-clause-some
+release_run-freed-requires-clause-some c i low =
+    subst (λ z. ((entry_at c.args.run.now i).frame ≡ z) ⊎ (0 < sharers_of (released_run z c.self.inside.pool c.args.run.now i) (entry_at c.args.run.now i).frame))
+    (sym c.zero-zero.ensures.zero)
+    (before_at c.self.inside.tables c.self.inside.pool c.self.inside.units c.self.inside.lines c.self.invariant
+    c.args.space c.args.run.now
+    (ap (λ (v : LedgerView). holds_space v c.args.space) c.self.view_is ∙ c.requires.there)
+    (subst (λ (v : LedgerView). IsBareRun v c.args.space c.args.run.now) (sym c.self.view_is) c.requires.bare) i low).1
+
+pub overflow_sub-self : goal.overflow_sub-self
+overflow_sub-self c =
+    (run_removed c.self.inside.tables c.self.inside.pool c.self.inside.units c.self.inside.lines c.self.invariant
+    c.args.space c.args.run.now
+    (ap (λ (v : LedgerView). holds_space v c.args.space) c.self.view_is ∙ c.requires.there)
+    (subst (λ (v : LedgerView). IsBareRun v c.args.space c.args.run.now) (sym c.self.view_is) c.requires.bare)
+    c.zero-zero.result c.release_run-freed.new.pool c.release_run-freed.result c.zero-zero.ensures.zero
+    c.release_run-freed.ensures.released c.release_run-freed.ensures.units).fits
+
+pub invariant_of-self : goal.invariant_of-self
+invariant_of-self c =
+    subst (λ (v : LedgerView). IsBooked v c.release_run-freed.new.pool (c.self.inside.units - c.release_run-freed.result) c.self.inside.lines) (sym c.remove_pages.ensures)
+    (run_removed c.self.inside.tables c.self.inside.pool c.self.inside.units c.self.inside.lines c.self.invariant
+    c.args.space c.args.run.now
+    (ap (λ (v : LedgerView). holds_space v c.args.space) c.self.view_is ∙ c.requires.there)
+    (subst (λ (v : LedgerView). IsBareRun v c.args.space c.args.run.now) (sym c.self.view_is) c.requires.bare)
+    c.zero-zero.result c.release_run-freed.new.pool c.release_run-freed.result c.zero-zero.ensures.zero
+    c.release_run-freed.ensures.released c.release_run-freed.ensures.units).booked
+
+pub returns-clause-given : goal.returns-clause-given
+returns-clause-given c =
+    subst (λ (v : LedgerView). GivesUpAtLast v c.remove_pages.new.self c.args.space c.args.run.now) c.self.view_is
+    (subst (λ (v : LedgerView). GivesUpAtLast c.self.inside.tables v c.args.space c.args.run.now) (sym c.remove_pages.ensures)
+    (run_removed c.self.inside.tables c.self.inside.pool c.self.inside.units c.self.inside.lines c.self.invariant
+    c.args.space c.args.run.now
+    (ap (λ (v : LedgerView). holds_space v c.args.space) c.self.view_is ∙ c.requires.there)
+    (subst (λ (v : LedgerView). IsBareRun v c.args.space c.args.run.now) (sym c.self.view_is) c.requires.bare)
+    c.zero-zero.result c.release_run-freed.new.pool c.release_run-freed.result c.zero-zero.ensures.zero
+    c.release_run-freed.ensures.released c.release_run-freed.ensures.units).given)
+
+pub returns-clause-none : goal.returns-clause-none
+returns-clause-none c none =
+    subst (λ (v : LedgerView). GivesNothingUp v c.remove_pages.new.self c.args.space c.args.run.now) c.self.view_is
+    (subst (λ (v : LedgerView). GivesNothingUp c.self.inside.tables v c.args.space c.args.run.now) (sym c.remove_pages.ensures)
+    ((run_removed c.self.inside.tables c.self.inside.pool c.self.inside.units c.self.inside.lines c.self.invariant
+    c.args.space c.args.run.now
+    (ap (λ (v : LedgerView). holds_space v c.args.space) c.self.view_is ∙ c.requires.there)
+    (subst (λ (v : LedgerView). IsBareRun v c.args.space c.args.run.now) (sym c.self.view_is) c.requires.bare)
+    c.zero-zero.result c.release_run-freed.new.pool c.release_run-freed.result c.zero-zero.ensures.zero
+    c.release_run-freed.ensures.released c.release_run-freed.ensures.units).nothing none))
+
+pub returns-clause-freed : goal.returns-clause-freed
+returns-clause-freed c =
+    subst (λ (v : LedgerView). units (ledger_of v) ≡ units (ledger_of c.remove_pages.new.self) + c.release_run-freed.result) c.self.view_is
+    (subst (λ (v : LedgerView). units (ledger_of c.self.inside.tables) ≡ units (ledger_of v) + c.release_run-freed.result) (sym c.remove_pages.ensures)
+    (run_removed c.self.inside.tables c.self.inside.pool c.self.inside.units c.self.inside.lines c.self.invariant
+    c.args.space c.args.run.now
+    (ap (λ (v : LedgerView). holds_space v c.args.space) c.self.view_is ∙ c.requires.there)
+    (subst (λ (v : LedgerView). IsBareRun v c.args.space c.args.run.now) (sym c.self.view_is) c.requires.bare)
+    c.zero-zero.result c.release_run-freed.new.pool c.release_run-freed.result c.zero-zero.ensures.zero
+    c.release_run-freed.ensures.released c.release_run-freed.ensures.units).count)
