@@ -138,13 +138,21 @@ fn execute_one(process: &mut Process, view: &mut View) -> Outcome
     outcome
 }
 
+/// Whether an address is among some. Apart, so that the loop over the instructions of a process without stops stays small.
+#[inline(never)]
+fn is_among(addresses: &Addresses, address: u64) -> bool
+    ensures { result ≡ contains addresses.now address }
+{
+    addresses.has(address)
+}
+
 /// Whether an address is among those at which executions stop.
 #[inline]
 fn is_stop(stops: Option<&Addresses>, address: u64) -> bool
     ensures { result ≡ contains (stops_in stops.entry) address }
 {
     match stops {
-        Some(addresses) => addresses.has(address),
+        Some(addresses) => is_among(addresses, address),
         None => false,
     }
 }
