@@ -12,6 +12,7 @@ use Rattle.rv_execute.specs.Registers.{Registers, register}
 use Rattle.rv_execute.specs.Step.{Request, buffered, request, write_count}
 use Rattle.rv_execute.specs.Calls.{load_at}
 use Rattle.machine_core.specs.Turns.{Guest, after_turn, asked_found, guest_at, turn_asked, turn_of}
+use Rattle.machine_core.specs.Ample.{is_full_turn}
 use Rattle.command_core.specs.declared.turns.Order.{Order}
 use Rattle.report_text.specs.declared.answer.Stop.{Stop}
 use Rattle.report_text.specs.declared.answer.Stop.TheVariants.{Full, Limit}
@@ -42,47 +43,18 @@ pub ran_first : (breaks : Breaks) (processes : Wholes) (run : Progress) (p : ℕ
 ran_first breaks processes run p unbroken below next =
     ap (λ left. ran breaks left processes run) (left_more run.turns run.taken below)
     ∙ ran_more breaks processes run unbroken (run.turns - (run.taken + 1))
-    ∙ ap (λ n. turns_by n (λ q. ran breaks (run.turns - (run.taken + 1)) (after_turn processes q) (run_after q run)) processes run) next
+    ∙ ap (λ n. turns_by (turn_of processes) n (λ q. ran breaks (run.turns - (run.taken + 1)) (after_turn processes q) (run_after q run)) processes run) next
 
 -- one that isn't answered Full is counted
-abbrev pub is_counted : Turn → Bool
-is_counted turn.Stepped = true
-is_counted (turn.Wrote written) = true
-is_counted (turn.Exited code) = true
-is_counted (turn.Faulted kind at) = true
-is_counted (turn.Full units limit) = false
-
-goes_on : (p : ℕ) (t : Turn) (others : Ran) (processes : Wholes) (run : Progress) → is_counted t ≡ true → event_then p t others processes run ≡ first_event p t others
+goes_on : (p : ℕ) (t : Turn) (others : Ran Wholes) (processes : Wholes) (run : Progress) → is_full_turn t ≡ false → event_then p t others processes run ≡ first_event p t others
 goes_on p turn.Stepped others processes run counted = refl
 goes_on p (turn.Wrote written) others processes run counted = refl
 goes_on p (turn.Exited code) others processes run counted = refl
 goes_on p (turn.Faulted kind at) others processes run counted = refl
 goes_on p (turn.Full units limit) others processes run counted = cc
 
--- what a process asked for is
-cond_counted : (b : Bool) (x y : Request) → is_counted x.turn ≡ true → is_counted y.turn ≡ true → is_counted (cond b x y).turn ≡ true
-cond_counted true x y h k = h
-cond_counted false x y h k = k
-
-buffered_counted : (o : Option ℕ) (n : ℕ) (regs : Registers) (memory : Memory) (accesses : List Access) → is_counted (buffered o n regs memory accesses).turn ≡ true
-buffered_counted None n regs memory accesses = cond_counted (n == 0) _ _ refl refl
-buffered_counted (Some at) n regs memory accesses = refl
-
-request_counted : (p : ℕ) (regs : Registers) (memory : Memory) → is_counted (request p regs memory).turn ≡ true
-request_counted p regs memory =
-    cond_counted (register regs 17 == 64) _ _
-    (cond_counted ((register regs 10 == 1) || (register regs 10 == 2)) _ _ (buffered_counted (denied_at memory (load_at (register regs 11) (write_count regs))) (write_count regs) regs memory (load_at (register regs 11) (write_count regs) ∷ [])) refl)
-    (cond_counted ((register regs 17 == 93) || (register regs 17 == 94)) _ _ refl (cond_counted (register regs 17 == 172) _ _ refl refl))
-
-pub asked_counted : (processes : Wholes) (p : ℕ) → is_counted (turn_asked processes p) ≡ true
-asked_counted processes p = by_found (guest_at processes p)
-  where
-    by_found : (o : Option Guest) → is_counted (asked_found p o) ≡ true
-    by_found None = refl
-    by_found (Some guest) = request_counted p guest.process.registers guest.process.memory
-
 -- the first of some turns, where it is counted
-pub ran_counted : (breaks : Breaks) (processes : Wholes) (run : Progress) (p : ℕ) → last_break breaks processes run ≡ None → run.taken < run.turns → next_of processes run.order ≡ Some p → is_counted (turn_of processes p) ≡ true
+pub ran_counted : (breaks : Breaks) (processes : Wholes) (run : Progress) (p : ℕ) → last_break breaks processes run ≡ None → run.taken < run.turns → next_of processes run.order ≡ Some p → is_full_turn (turn_of processes p) ≡ false
     → ran_from breaks processes run ≡ first_event p (turn_of processes p) (ran_from breaks (after_turn processes p) (run_after p run))
 ran_counted breaks processes run p unbroken below next counted =
     ran_first breaks processes run p unbroken below next
@@ -95,13 +67,13 @@ ran_full breaks processes run p units limit unbroken below next full =
     ran_first breaks processes run p unbroken below next
     ∙ ap (λ t. event_then p t (ran_from breaks (after_turn processes p) (run_after p run)) processes run) full
 
-pub text_first : (p : ℕ) (turn : Turn) (others : Ran) → ran_text (first_event p turn others) ≡ turn_text p turn ++ ran_text others
+pub text_first : (p : ℕ) (turn : Turn) (others : Ran Wholes) → ran_text (first_event p turn others) ≡ turn_text p turn ++ ran_text others
 text_first p turn others =
     append_assoc (turn_text p turn) (flat_map (λ event. turn_text event.0 event.1) others.events) (stop_text others.taken others.stop)
 
 -- a turn that has a line, and one that has none
 pub ran_says : (breaks : Breaks) (processes after : Wholes) (run : Progress) (p : ℕ) (line : List ℕ) → last_break breaks processes run ≡ None → run.taken < run.turns → next_of processes run.order ≡ Some p
-    → is_counted (turn_of processes p) ≡ true → line ≡ turn_text p (turn_of processes p) → after ≡ after_turn processes p
+    → is_full_turn (turn_of processes p) ≡ false → line ≡ turn_text p (turn_of processes p) → after ≡ after_turn processes p
     → ran_text (ran_from breaks processes run) ≡ line ++ ran_text (ran_from breaks after (run_after p run))
 ran_says breaks processes after run p line unbroken below next counted says turned =
     ap ran_text (ran_counted breaks processes run p unbroken below next counted)
@@ -110,16 +82,16 @@ ran_says breaks processes after run p line unbroken below next counted says turn
     ∙ ap (λ (ps : Wholes). line ++ ran_text (ran_from breaks ps (run_after p run))) (sym turned)
 
 pub ran_quiet : (breaks : Breaks) (processes after : Wholes) (run : Progress) (p : ℕ) → last_break breaks processes run ≡ None → run.taken < run.turns → next_of processes run.order ≡ Some p
-    → is_counted (turn_of processes p) ≡ true → turn_text p (turn_of processes p) ≡ [] → after ≡ after_turn processes p
+    → is_full_turn (turn_of processes p) ≡ false → turn_text p (turn_of processes p) ≡ [] → after ≡ after_turn processes p
     → ran_text (ran_from breaks processes run) ≡ ran_text (ran_from breaks after (run_after p run))
 ran_quiet breaks processes after run p unbroken below next counted quiet turned =
     ran_says breaks processes after run p [] unbroken below next counted (sym quiet) turned
 
 pub ran_after : (breaks : Breaks) (processes after : Wholes) (run : Progress) (p : ℕ) → last_break breaks processes run ≡ None → run.taken < run.turns → next_of processes run.order ≡ Some p
-    → is_counted (turn_of processes p) ≡ true → after ≡ after_turn processes p
+    → is_full_turn (turn_of processes p) ≡ false → after ≡ after_turn processes p
     → (ran_from breaks processes run).after ≡ (ran_from breaks after (run_after p run)).after
 ran_after breaks processes after run p unbroken below next counted turned =
-    ap (λ (r : Ran). r.after) (ran_counted breaks processes run p unbroken below next counted)
+    ap (λ (r : Ran Wholes). r.after) (ran_counted breaks processes run p unbroken below next counted)
     ∙ ap (λ (ps : Wholes). (ran_from breaks ps (run_after p run)).after) (sym turned)
 
 -- an ending holds where no process has the next turn, or none is left to be taken
@@ -167,7 +139,7 @@ speaks_on breaks old new running after line none still (text, left) =
     let before = left_all breaks old running none in
     let behind = left_all breaks new after still in (
       ap ran_text before ∙ text ∙ ap (λ r. line ++ ran_text r) (sym behind),
-      same_like _ _ (ap (λ (r : Ran). r.after) before ∙ left ∙ ap (λ (r : Ran). r.after) (sym behind)),
+      same_like _ _ (ap (λ (r : Ran Wholes). r.after) before ∙ left ∙ ap (λ (r : Ran Wholes). r.after) (sym behind)),
     )
 
 pub speaks_last : (breaks : Breaks) (old new : Wholes) (running after : InRun) (line : List ℕ) (stop : Stop) → running.stop ≡ None → after.stop ≡ Some stop
@@ -177,7 +149,7 @@ speaks_last breaks old new running after line stop none ended (text, left) =
     let before = left_all breaks old running none in
     let behind = ap (λ (o : Option Stop). left_by o breaks new after.run) ended in (
       ap ran_text before ∙ text ∙ ap (λ r. line ++ ran_text r) (sym behind),
-      same_like _ _ (ap (λ (r : Ran). r.after) before ∙ left ∙ ap (λ (r : Ran). r.after) (sym behind)),
+      same_like _ _ (ap (λ (r : Ran Wholes). r.after) before ∙ left ∙ ap (λ (r : Ran Wholes). r.after) (sym behind)),
     )
 
 -- fewer lines are left
@@ -197,13 +169,13 @@ run_ended breaks start processes first run found none is text after why below =
     let ends = has_ended breaks processes run why below in
     let all = ran_ended breaks processes run ends.0 below ends.1 in
     let left = left_all breaks start first none in
-    (ends.0, is ∙ ends.1, ap ran_text left ∙ text ∙ ap ran_text all, same_like _ _ (ap (λ (r : Ran). r.after) left ∙ after ∙ ap (λ (r : Ran). r.after) all))
+    (ends.0, is ∙ ends.1, ap ran_text left ∙ text ∙ ap ran_text all, same_like _ _ (ap (λ (r : Ran Wholes). r.after) left ∙ after ∙ ap (λ (r : Ran Wholes). r.after) all))
 
 -- one that had ended before
 pub ended_before : (breaks : Breaks) (processes : Wholes) (running : InRun) (stop : Stop) → running.stop ≡ Some stop → EndsRun breaks processes running processes running
 ended_before breaks processes running stop is =
     let left = ap (λ (o : Option Stop). left_by o breaks processes running.run) is in
-    (stop, is, ap ran_text left, same_like _ _ (ap (λ (r : Ran). r.after) left))
+    (stop, is, ap ran_text left, same_like _ _ (ap (λ (r : Ran Wholes). r.after) left))
 
 pub limit_is : (processes : Wholes) (run : Progress) (p : ℕ) → next_of processes run.order ≡ Some p → nat_lt run.taken run.turns ≡ false
     → run.taken ≤ run.turns → Some Limit ≡ ending_by (next_of processes run.order) run

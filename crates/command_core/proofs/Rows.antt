@@ -64,9 +64,9 @@ is_short e old memory needed limit full = record {
 
 -- What a row comes to, by its first refusal and its units.
 
-comes_to_be : (wanted given : Changed) (s : State) → wanted ≡ given → AreLikeStates s given.after → ComesTo wanted given.answer s
+comes_to_be : (wanted given : Changed State) (s : State) → wanted ≡ given → AreLikeStates s given.after → ComesTo wanted given.answer s
 comes_to_be wanted given s same like =
-    record { answer_is = sym (ap (λ (c : Changed). c.answer) same); after_is = subst (λ (c : Changed). AreLikeStates s c.after) (sym same) like }
+    record { answer_is = sym (ap (λ (c : Changed State). c.answer) same); after_is = subst (λ (c : Changed State). AreLikeStates s c.after) (sym same) like }
 
 module _ (row : Row) (old new : State) where
   by_refusal : (o : Option Code) → first_refusal row.refusals ≡ o → change_by row old ≡ option_map_or (λ code. refuses code old) o (within_units row old)

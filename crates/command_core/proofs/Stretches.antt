@@ -15,11 +15,12 @@ use Rattle.machine_core.specs.NumberLaws.{numbers_are}
 use Rattle.round_robin.specs.Turns.{after_turns_of}
 use Rattle.round_robin.specs.Laws.{goes_on_next, left_after, one_turn_more}
 use Rattle.report_text.specs.Answers.{turn_text}
+use Rattle.machine_core.specs.Ample.{is_full_turn}
 use Rattle.command_core.specs.declared.turns.Order.{Order}
 use Rattle.command_core.specs.declared.turns.Order.TheVariants.{ByTurns, Alone}
 use Rattle.command_core.specs.Turns.{GoesOn, Progress, last_break, last_took, next_of, order_after, order_left, order_took, ran_from, ran_text, run_after, run_took, stretch}
 use Rattle.command_core.proofs.Breaks.{unbroken_after}
-use Rattle.command_core.proofs.Rans.{is_counted, ran_after, ran_quiet}
+use Rattle.command_core.proofs.Rans.{ran_after, ran_quiet}
 
 -- Turns of one process, one after the other.
 
@@ -197,7 +198,7 @@ first_done breaks ps p most guest run e at running next unbroken below is rest =
     let law = turn_law outcome.Stepped ps p (is_there ps p guest at running) (came_there ps p guest at ∙ is) in
     let turned : with_guest ps p (executed p guest) ≡ after_turn ps p = sym (executed_there ps p guest at) ∙ sym law.after_is in
     let silent = ap (turn_text p) law.turn_is in
-    let counted = ap is_counted law.turn_is in
+    let counted = ap is_full_turn law.turn_is in
     let over = put_over ps p (executed p guest) e.before in
     let took = sym (took_first e.steps p run) in
     record {

@@ -12,10 +12,11 @@ use Rattle.machine_core.specs.Executions.{after_executions, all_executed, came_t
 use Rattle.machine_core.specs.Laws.{IsTurnOf, turn_law}
 use Rattle.report_text.specs.declared.answer.Stop.TheVariants.{Full}
 use Rattle.report_text.specs.Answers.{turn_text}
+use Rattle.machine_core.specs.Ample.{is_full_turn}
 use Rattle.command_core.specs.declared.turns.Order.{Order}
 use Rattle.command_core.specs.declared.turns.Order.TheVariants.{ByTurns, Alone}
 use Rattle.command_core.specs.Turns.{GoesOn, Progress, Ran, last_break, next_of, order_left, ran_from, ran_text, run_took, stopped, stretch}
-use Rattle.command_core.proofs.Rans.{is_counted, ran_after, ran_full, ran_says, text_first}
+use Rattle.command_core.proofs.Rans.{ran_after, ran_full, ran_says, text_first}
 use Rattle.command_core.proofs.Stretches.{IsAt, IsStretch, is_at, is_stretch, took_last}
 
 -- What a stretch of turns came to.
@@ -113,7 +114,7 @@ module _ (breaks : Breaks) (ps : Wholes) (p most steps : ℕ) (run : Progress) (
 
 -- its line, and what follows it
 pub says_last : (breaks : Breaks) (ps : Wholes) (p steps : ℕ) (run : Progress) (o : Outcome) (now new : Wholes) (line : List ℕ) (after : Progress)
-    → (t : IsLastTurn breaks ps p steps run o now) → is_counted (turn_of t.before p) ≡ true → line ≡ turn_text p (turn_of t.before p) → new ≡ after_turn t.before p
+    → (t : IsLastTurn breaks ps p steps run o now) → is_full_turn (turn_of t.before p) ≡ false → line ≡ turn_text p (turn_of t.before p) → new ≡ after_turn t.before p
     → after ≡ run_took (steps + 1) p run
     → (ran_text (ran_from breaks ps run) ≡ line ++ ran_text (ran_from breaks new after)) × ((ran_from breaks ps run).after ≡ (ran_from breaks new after).after)
 says_last breaks ps p steps run o now new line after t counted says turned took =
@@ -134,5 +135,5 @@ says_full breaks ps p steps run units limit now line after t says took =
       t.quiet.0 ∙ ap ran_text all ∙ text_first p (turn.Full units limit) (stopped Full t.before r)
           ∙ ap (λ bs. bs ++ ran_text (stopped Full t.before r)) (sym says)
           ∙ ap (λ (x : Progress). line ++ ran_text (stopped Full t.before x)) (sym took) ∙ ap (λ (w : Wholes). line ++ ran_text (stopped Full w after)) same,
-      t.quiet.1 ∙ ap (λ (x : Ran). x.after) all ∙ same,
+      t.quiet.1 ∙ ap (λ (x : Ran Wholes). x.after) all ∙ same,
     )

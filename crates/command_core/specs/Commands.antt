@@ -16,7 +16,7 @@ use Rattle.report_text.specs.Answers.{answer_text}
 use Rattle.report_text.specs.Lines.{checkpoint_line, disasm_line, dump_line, list_line, process_line, register_line, regs_line, stats_line}
 use Rattle.command_core.specs.declared.TheConstants.{WORD_BYTES}
 use Rattle.command_core.specs.declared.session.Counts.{Counts}
-use Rattle.command_core.specs.State.{Checkpoint, State, registry_of, with_wholes}
+use Rattle.command_core.specs.State.{Checkpoint, Registry, State, registry_of, with_wholes}
 use Rattle.command_core.specs.Sessions.{InSession}
 use Rattle.command_core.specs.Rows.{Changed, Row, change_by, may_want_memory, refuses}
 use Rattle.command_core.specs.Changes.{change_row, load_row}
@@ -58,28 +58,45 @@ abbrev pub file_in : FileAsked → List ℕ
 file_in (HasFile file) = file
 file_in other = []
 
--- What a command comes to: its text, the state after it, and whether it may want memory in place of both.
-pub record Performed : Type 0 where
+-- What a command comes to: its text, the state of a machine after it, and whether it may want memory in place of both.
+pub record Performed (S : Type 0) : Type 0 where
   pub text : List ℕ
-  pub after : State
+  pub after : S
   pub wants_memory : Bool
 
+-- By which rules a machine does commands: what is registered in it; what a row comes to, and whether that may want memory; turns; and the
+-- counts, printed.
+pub record Rules (S : Type 0) : Type 0 where
+  pub registry : S → Registry
+  pub change : Row → S → Changed S
+  pub wants : Row → S → Bool
+  pub turns : Progress → S → Performed S
+  pub counts : S → Performed S
+
 -- the line of an answer, and the state
-abbrev pub told : Bool → Changed → Performed
+abbrev pub told : {S : Type 0} → Bool → Changed S → Performed S
 told wants_memory changed = record { text = answer_text changed.answer; after = changed.after; wants_memory = wants_memory }
 
--- a change, by its row
-abbrev pub row_told : Row → State → Performed
-row_told row state = told (may_want_memory row state) (change_by row state)
+-- a text that is printed, and the state as it is
+abbrev pub printed : {S : Type 0} → List ℕ → S → Performed S
+printed text state = record { text = text; after = state; wants_memory = false }
 
-abbrev pub load_told : List ℕ → State → Performed
-load_told file state = row_told (load_row file (registry_of state)) state
+-- nothing more
+abbrev pub no_more : {S : Type 0} → S → Performed S
+no_more state = printed [] state
 
-abbrev pub change_told : List ℕ → Command → State → Performed
-change_told file command state = row_told (change_row file command (registry_of state)) state
+-- one thing after another
+abbrev pub then_performed : {S : Type 0} → Performed S → (S → Performed S) → Performed S
+then_performed first next = record {
+  text = first.text ++ (next first.after).text;
+  after = (next first.after).after;
+  wants_memory = first.wants_memory || (next first.after).wants_memory;
+}
+
+-- The rules of the copying machine: of a change and of a turn there may not be units enough.
 
 -- turns, with their lines
-abbrev pub takes_turns : Progress → State → Performed
+abbrev pub takes_turns : Progress → State → Performed State
 takes_turns run state = record {
   text = ran_text (ran_from state.breakpoints state.wholes run);
   after = with_wholes (ran_from state.breakpoints state.wholes run).after state;
@@ -87,57 +104,30 @@ takes_turns run state = record {
 }
 
 -- those that are left of a run in progress
-abbrev pub takes_left : InRun → State → Performed
+abbrev pub takes_left : InRun → State → Performed State
 takes_left running state = record {
   text = ran_text (left_of state.breakpoints state.wholes running);
   after = with_wholes (left_of state.breakpoints state.wholes running).after state;
   wants_memory = false;
 }
 
--- one thing after another
-abbrev pub then_performed : Performed → (State → Performed) → Performed
-then_performed first next = record {
-  text = first.text ++ (next first.after).text;
-  after = (next first.after).after;
-  wants_memory = first.wants_memory || (next first.after).wants_memory;
-}
+-- the line of the counts
+abbrev pub counts_text : Counts → List ℕ
+counts_text counts = stats_line counts.units counts.limit counts.lines counts.hits counts.misses
 
--- nothing more
-abbrev pub no_more : State → Performed
-no_more state = record { text = []; after = state; wants_memory = false }
+unfoldable pub stats_text : State → List ℕ
+stats_text state = counts_text (counts_of state.wholes)
 
--- what follows the load of an `exec`: the turns of its process, where it made one
-abbrev pub exec_turns : ℕ → Answer → State → Performed
-exec_turns turns (Loaded p pages entry) = takes_turns (alone p turns)
-exec_turns turns other = no_more
+abbrev pub stats_done : State → Performed State
+stats_done state = printed (stats_text state) state
 
-abbrev pub exec_done : List ℕ → ℕ → State → Performed
-exec_done file turns state = then_performed (load_told file state) (exec_turns turns (change_by (load_row file (registry_of state)) state).answer)
-
--- the line of a load's answer, and the turns that follow it
-abbrev pub tells_exec : ℕ → Answer → State → Performed
-tells_exec turns answer state = record {
-  text = answer_text answer ++ (exec_turns turns answer state).text;
-  after = (exec_turns turns answer state).after;
-  wants_memory = true;
-}
+abbrev pub rules : Rules State
+rules = record { registry = registry_of; change = change_by; wants = may_want_memory; turns = takes_turns; counts = stats_done }
 
 -- a process that was just loaded is there, and runs
 abbrev pub RunsLoaded : Answer → State → Type 0
 RunsLoaded (Loaded p pages entry) state = (process : Process) × (get state.wholes.processes p ≡ Some process) × (runs process.state ≡ true)
 RunsLoaded other state = Unit {0}
-
--- the turns of one process, which has to be there and to run
-abbrev pub steps : ℕ → ℕ → Option Process → State → Performed
-steps p turns None state = told false (refuses NoProcess state)
-steps p turns (Some process) state = if runs process.state then takes_turns (alone p turns) state else told false (refuses Ended state)
-
-abbrev pub step_done : ℕ → ℕ → State → Performed
-step_done p turns state = steps p turns (get state.wholes.processes p) state
-
--- the turns of all that run, by round robin
-abbrev pub run_done : ℕ → ℕ → State → Performed
-run_done quantum turns state = takes_turns (by_turns quantum turns) state
 
 -- the lines of all processes, by number, and of all checkpoints, in the order of making
 unfoldable pub process_text : ℕ × Process → List ℕ
@@ -146,20 +136,17 @@ process_text entry = process_line entry.0 entry.1.state (is_speculating entry.1)
 unfoldable pub checkpoint_text : Checkpoint → List ℕ
 checkpoint_text checkpoint = checkpoint_line checkpoint.name checkpoint.space (len checkpoint.whole.memory)
 
-unfoldable pub list_head : State → List ℕ
-list_head state = list_line (length (entries state.wholes.processes)) (length state.checkpoints)
+unfoldable pub list_head : Registry → List ℕ
+list_head registry = list_line (length (entries registry.processes)) (length registry.checkpoints)
 
-abbrev pub processes_text : State → List ℕ
-processes_text state = flat_map process_text (entries state.wholes.processes)
+abbrev pub processes_text : Registry → List ℕ
+processes_text registry = flat_map process_text (entries registry.processes)
 
-abbrev pub checkpoints_text : State → List ℕ
-checkpoints_text state = flat_map checkpoint_text state.checkpoints
+abbrev pub checkpoints_text : Registry → List ℕ
+checkpoints_text registry = flat_map checkpoint_text registry.checkpoints
 
-abbrev pub list_text : State → List ℕ
-list_text state = list_head state ++ (processes_text state ++ checkpoints_text state)
-
-abbrev pub list_done : State → Performed
-list_done state = record { text = list_text state; after = state; wants_memory = false }
+abbrev pub list_text : Registry → List ℕ
+list_text registry = list_head registry ++ (processes_text registry ++ checkpoints_text registry)
 
 -- the lines of a process's registers: its state, the pc, and x1 to x31
 unfoldable pub regs_head : ℕ → Process → List ℕ
@@ -179,12 +166,9 @@ abbrev pub regs_text : ℕ → Process → List ℕ
 regs_text p process = regs_head p process ++ registers_text process.registers
 
 -- the registers of a process, which has to be there
-abbrev pub regs_of : ℕ → Option Process → State → Performed
+abbrev pub regs_of : {S : Type 0} → ℕ → Option Process → S → Performed S
 regs_of p None state = told false (refuses NoProcess state)
-regs_of p (Some process) state = record { text = regs_text p process; after = state; wants_memory = false }
-
-abbrev pub regs_done : ℕ → State → Performed
-regs_done p state = regs_of p (get state.wholes.processes p) state
+regs_of p (Some process) state = printed (regs_text p process) state
 
 -- the lines of bytes of a memory from an address on, up to 16 a line; and those of words, as instructions
 abbrev pub dump_row : Memory → ℕ → ℕ → List ℕ
@@ -206,45 +190,88 @@ disasm_text memory address zero = []
 disasm_text memory address (suc words) = disasm_row memory address ++ disasm_text memory (address + WORD_BYTES) words
 
 -- what is printed of n bytes of a process from an address on: it has to be there, and so does each byte, whatever the permissions
-abbrev pub prints_read : (Memory → List ℕ) → Memory → Option ℕ → State → Performed
-prints_read text memory None state = record { text = text memory; after = state; wants_memory = false }
+abbrev pub prints_read : {S : Type 0} → (Memory → List ℕ) → Memory → Option ℕ → S → Performed S
+prints_read text memory None state = printed (text memory) state
 prints_read text memory (Some at) state = told false (refuses (Unmapped at) state)
 
-abbrev pub prints_of : ℕ → ℕ → (Memory → List ℕ) → Option Process → State → Performed
+abbrev pub prints_of : {S : Type 0} → ℕ → ℕ → (Memory → List ℕ) → Option Process → S → Performed S
 prints_of address n text None state = told false (refuses NoProcess state)
 prints_of address n text (Some process) state = prints_read text process.memory (first_denied process.memory 0 address n) state
 
-abbrev pub dump_done : ℕ → ℕ → ℕ → State → Performed
-dump_done p address count state =
-    prints_of address count (λ memory. dump_text memory address count) (get state.wholes.processes p) state
+-- What the commands come to by the rules of a machine.
+module _ {S : Type 0} (by : Rules S) where
+  -- a change, by its row
+  abbrev pub row_told : Row → S → Performed S
+  row_told row state = told (by.wants row state) (by.change row state)
 
-abbrev pub disasm_done : ℕ → ℕ → ℕ → State → Performed
-disasm_done p address words state =
-    prints_of address (WORD_BYTES * words) (λ memory. disasm_text memory address words) (get state.wholes.processes p) state
+  abbrev pub load_told : List ℕ → S → Performed S
+  load_told file state = row_told (load_row file (by.registry state)) state
 
--- the line of the counts
-abbrev pub counts_text : Counts → List ℕ
-counts_text counts = stats_line counts.units counts.limit counts.lines counts.hits counts.misses
+  abbrev pub change_told : List ℕ → Command → S → Performed S
+  change_told file command state = row_told (change_row file command (by.registry state)) state
 
-unfoldable pub stats_text : State → List ℕ
-stats_text state = counts_text (counts_of state.wholes)
+  -- what follows the load of an `exec`: the turns of its process, where it made one
+  abbrev pub exec_turns : ℕ → Answer → S → Performed S
+  exec_turns turns (Loaded p pages entry) = by.turns (alone p turns)
+  exec_turns turns other = no_more
 
-abbrev pub stats_done : State → Performed
-stats_done state = record { text = stats_text state; after = state; wants_memory = false }
+  abbrev pub exec_done : List ℕ → ℕ → S → Performed S
+  exec_done file turns state =
+      then_performed (load_told file state) (exec_turns turns (by.change (load_row file (by.registry state)) state).answer)
 
--- What each command comes to, with the file that it has, in turns of a quantum: turns and printed lines have a line here, all others are
--- changes.
-abbrev pub performed : ℕ → List ℕ → Command → State → Performed
-performed quantum file (Exec name turns) = exec_done file turns
-performed quantum file (Run turns) = run_done quantum turns
-performed quantum file (Step p turns) = step_done p turns
-performed quantum file command.List = list_done
-performed quantum file command.Stats = stats_done
-performed quantum file (command.Regs p) = regs_done p
-performed quantum file (command.Dump p address count) = dump_done p address count
-performed quantum file (command.Disasm p address words) = disasm_done p address words
-performed quantum file other = change_told file other
+  -- the line of a load's answer, and the turns that follow it
+  abbrev pub tells_exec : ℕ → Answer → S → Performed S
+  tells_exec turns answer state = record {
+    text = answer_text answer ++ (exec_turns turns answer state).text;
+    after = (exec_turns turns answer state).after;
+    wants_memory = true;
+  }
 
--- the same, in a session
-abbrev pub performed_in : InSession → List ℕ → Command → Performed
+  -- the turns of one process, which has to be there and to run
+  abbrev pub steps : ℕ → ℕ → Option Process → S → Performed S
+  steps p turns None state = told false (refuses NoProcess state)
+  steps p turns (Some process) state = if runs process.state then by.turns (alone p turns) state else told false (refuses Ended state)
+
+  abbrev pub process_in : ℕ → S → Option Process
+  process_in p state = get (by.registry state).processes p
+
+  abbrev pub step_done : ℕ → ℕ → S → Performed S
+  step_done p turns state = steps p turns (process_in p state) state
+
+  -- the turns of all that run, by round robin
+  abbrev pub run_done : ℕ → ℕ → S → Performed S
+  run_done quantum turns state = by.turns (by_turns quantum turns) state
+
+  -- what is printed
+  abbrev pub list_done : S → Performed S
+  list_done state = printed (list_text (by.registry state)) state
+
+  abbrev pub regs_done : ℕ → S → Performed S
+  regs_done p state = regs_of p (process_in p state) state
+
+  abbrev pub dump_done : ℕ → ℕ → ℕ → S → Performed S
+  dump_done p address count state = prints_of address count (λ memory. dump_text memory address count) (process_in p state) state
+
+  abbrev pub disasm_done : ℕ → ℕ → ℕ → S → Performed S
+  disasm_done p address words state =
+      prints_of address (WORD_BYTES * words) (λ memory. disasm_text memory address words) (process_in p state) state
+
+  -- What each command comes to, with the file that it has, in turns of a quantum: turns and printed lines have a line here, all others
+  -- are changes.
+  abbrev pub performed_by : ℕ → List ℕ → Command → S → Performed S
+  performed_by quantum file (Exec name turns) = exec_done file turns
+  performed_by quantum file (Run turns) = run_done quantum turns
+  performed_by quantum file (Step p turns) = step_done p turns
+  performed_by quantum file command.List = list_done
+  performed_by quantum file command.Stats = by.counts
+  performed_by quantum file (command.Regs p) = regs_done p
+  performed_by quantum file (command.Dump p address count) = dump_done p address count
+  performed_by quantum file (command.Disasm p address words) = disasm_done p address words
+  performed_by quantum file other = change_told file other
+
+-- by those of the copying machine; and the same in a session
+abbrev pub performed : ℕ → List ℕ → Command → State → Performed State
+performed quantum file command = performed_by rules quantum file command
+
+abbrev pub performed_in : InSession → List ℕ → Command → Performed State
 performed_in session file command = performed session.quantum file command session.state

@@ -10,7 +10,7 @@ use Rattle.command_core.specs.Rows.{Changed, Row, change_by, may_want_memory}
 -- What an object answers of a change.
 
 -- an object did what a change comes to
-pub record ComesTo (wanted : Changed) (answer : Answer) (new : State) : Type 0 where
+pub record ComesTo (wanted : Changed State) (answer : Answer) (new : State) : Type 0 where
   pub answer_is : answer ≡ wanted.answer
   pub after_is : AreLikeStates new wanted.after
 

@@ -19,3 +19,6 @@ pub mod Commands
 pub mod Looks
 pub mod Standing
 pub mod LikeLaws
+pub mod Ample
+pub mod Unbounded
+pub mod UnboundedLaws

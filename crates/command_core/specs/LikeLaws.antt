@@ -34,7 +34,7 @@ use Rattle.command_core.specs.Giving.{ComesTo, GivesChange}
 use Rattle.command_core.specs.Changes.{change_row, load_row}
 use Rattle.command_core.specs.Turns.{InRun, Progress, Ran, break_at, ending, ending_by, event_then, first_event, last_break, left_by, left_of, next_of, alone, by_turns, ran, ran_text, rest_of, run_after, run_found, stopped, turns_by, ran_from, unless_broken}
 use Rattle.command_core.specs.Looks.{counts_of}
-use Rattle.command_core.specs.Commands.{Performed, checkpoint_text, counts_text, disasm_text, dump_text, exec_done, exec_turns, list_head, list_text, performed, prints_of, prints_read, process_text, regs_done, regs_of, row_told, stats_text, step_done, steps, takes_turns, told}
+use Rattle.command_core.specs.Commands.{Performed, checkpoint_text, counts_text, disasm_text, dump_text, exec_done, exec_turns, list_head, list_text, performed, prints_of, prints_read, process_text, regs_done, regs_of, row_told, stats_text, step_done, steps, takes_turns, told, rules}
 use Rattle.command_core.specs.Standing.{GivesAs}
 
 -- States that differ in the numbers of origins alone come to the same texts, and stay so.
@@ -74,13 +74,13 @@ module _ (a b : Wholes) (like : AreLike a b) where
   pub like_found : (breaks : Breaks) (run : Progress) → run_found breaks a run ≡ run_found breaks b run
   like_found breaks run = ap (λ s. record { run = run; stop = s }) (like_ending breaks run)
 
-pub record AreLikeRans (r s : Ran) : Type 0 where
+pub record AreLikeRans (r s : Ran Wholes) : Type 0 where
   pub events : r.events ≡ s.events
   pub stop_is : r.stop ≡ s.stop
   pub taken : r.taken ≡ s.taken
   pub after : AreLike r.after s.after
 
-pub like_text : (r s : Ran) → AreLikeRans r s → ran_text r ≡ ran_text s
+pub like_text : (r s : Ran Wholes) → AreLikeRans r s → ran_text r ≡ ran_text s
 like_text r s like =
     ap (λ (es : List (ℕ × Turn)). flat_map (λ event. turn_text event.0 event.1) es ++ stop_text r.taken r.stop) like.events
     ∙ ap (λ n. flat_map (λ event. turn_text event.0 event.1) s.events ++ stop_text n r.stop) like.taken
@@ -89,28 +89,28 @@ like_text r s like =
 like_stopped : (why : Stop) (a b : Wholes) (run : Progress) → AreLike a b → AreLikeRans (stopped why a run) (stopped why b run)
 like_stopped why a b run like = record { events = refl; stop_is = refl; taken = refl; after = like }
 
-like_first : (p : ℕ) (t : Turn) (r s : Ran) → AreLikeRans r s → AreLikeRans (first_event p t r) (first_event p t s)
+like_first : (p : ℕ) (t : Turn) (r s : Ran Wholes) → AreLikeRans r s → AreLikeRans (first_event p t r) (first_event p t s)
 like_first p t r s like = record { events = ap (λ (es : List (ℕ × Turn)). (p, t) ∷ es) like.events; stop_is = like.stop_is; taken = like.taken; after = like.after }
 
-like_then : (p : ℕ) (t : Turn) (r s : Ran) (a b : Wholes) (run : Progress) → AreLikeRans r s → AreLike a b → AreLikeRans (event_then p t r a run) (event_then p t s b run)
+like_then : (p : ℕ) (t : Turn) (r s : Ran Wholes) (a b : Wholes) (run : Progress) → AreLikeRans r s → AreLike a b → AreLikeRans (event_then p t r a run) (event_then p t s b run)
 like_then p turn.Stepped r s a b run h like = like_first p turn.Stepped r s h
 like_then p (turn.Wrote written) r s a b run h like = like_first p (turn.Wrote written) r s h
 like_then p (turn.Exited code) r s a b run h like = like_first p (turn.Exited code) r s h
 like_then p (turn.Faulted kind at) r s a b run h like = like_first p (turn.Faulted kind at) r s h
 like_then p (turn.Full units limit) r s a b run h like = like_first p (turn.Full units limit) _ _ (like_stopped stop.Full a b run like)
 
-like_by : (next : Option ℕ) (f g : ℕ → Ran) (a b : Wholes) (run : Progress) → AreLike a b → ((p : ℕ) → AreLikeRans (f p) (g p)) → AreLikeRans (turns_by next f a run) (turns_by next g b run)
+like_by : (next : Option ℕ) (f g : ℕ → Ran Wholes) (a b : Wholes) (run : Progress) → AreLike a b → ((p : ℕ) → AreLikeRans (f p) (g p)) → AreLikeRans (turns_by (turn_of a) next f a run) (turns_by (turn_of b) next g b run)
 like_by None f g a b run like h = like_stopped (rest_of run.order) a b run like
 like_by (Some p) f g a b run like h =
     subst (λ t. AreLikeRans (event_then p (turn_of a p) (f p) a run) (event_then p t (g p) b run)) (like_turn p a b like)
     (like_then p (turn_of a p) (f p) (g p) a b run (h p) like)
 
-like_unless : (o : Option Stop) (r s : Ran) (a b : Wholes) (run : Progress) → AreLikeRans r s → AreLike a b → AreLikeRans (unless_broken o r a run) (unless_broken o s b run)
+like_unless : (o : Option Stop) (r s : Ran Wholes) (a b : Wholes) (run : Progress) → AreLikeRans r s → AreLike a b → AreLikeRans (unless_broken o r a run) (unless_broken o s b run)
 like_unless None r s a b run h like = h
 like_unless (Some why) r s a b run h like = like_stopped why a b run like
 
 module _ (breaks : Breaks) where
-  like_broken : (r s : Ran) (a b : Wholes) (run : Progress) → AreLike a b → AreLikeRans r s
+  like_broken : (r s : Ran Wholes) (a b : Wholes) (run : Progress) → AreLike a b → AreLikeRans r s
       → AreLikeRans (unless_broken (last_break breaks a run) r a run) (unless_broken (last_break breaks b run) s b run)
   like_broken r s a b run like h =
       subst (λ o. AreLikeRans (unless_broken (last_break breaks a run) r a run) (unless_broken o s b run)) (like_break a b like breaks run)
@@ -124,8 +124,8 @@ module _ (breaks : Breaks) where
       (like_stopped (option_map_or (λ p. stop.Limit) (next_of a run.order) (rest_of run.order)) a b run like))
   like_ran (suc left) a b run like =
       like_broken _ _ a b run like
-      (subst (λ (n : Option ℕ). AreLikeRans (turns_by (next_of a run.order) (λ p. ran breaks left (after_turn a p) (run_after p run)) a run)
-      (turns_by n (λ p. ran breaks left (after_turn b p) (run_after p run)) b run)) (like_next a b like run.order)
+      (subst (λ (n : Option ℕ). AreLikeRans (turns_by (turn_of a) (next_of a run.order) (λ p. ran breaks left (after_turn a p) (run_after p run)) a run)
+      (turns_by (turn_of b) n (λ p. ran breaks left (after_turn b p) (run_after p run)) b run)) (like_next a b like run.order)
       (like_by (next_of a run.order) (λ p. ran breaks left (after_turn a p) (run_after p run)) (λ p. ran breaks left (after_turn b p) (run_after p run)) a b run like
       (λ p. like_ran left (after_turn a p) (after_turn b p) (run_after p run) (like_after_turn p a b like))))
 
@@ -147,7 +147,7 @@ module _ (breaks : Breaks) (state : Wholes) (run : Progress) where
   ran_broken why zero is =
       ap (λ o. unless_broken o (stopped (option_map_or (λ p. stop.Limit) (next_of state run.order) (rest_of run.order)) state run) state run) is
   ran_broken why (suc left) is =
-      ap (λ o. unless_broken o (turns_by (next_of state run.order) (λ p. ran breaks left (after_turn state p) (run_after p run)) state run) state run) is
+      ap (λ o. unless_broken o (turns_by (turn_of state) (next_of state run.order) (λ p. ran breaks left (after_turn state p) (run_after p run)) state run) state run) is
 
   -- or to none
   module _ (none : last_break breaks state run ≡ None) where
@@ -155,8 +155,8 @@ module _ (breaks : Breaks) (state : Wholes) (run : Progress) where
     ran_none = ap (λ o. unless_broken o (stopped (option_map_or (λ p. stop.Limit) (next_of state run.order) (rest_of run.order)) state run) state run) none
 
     pub ran_more : (left : ℕ) → ran breaks (suc left) state run
-        ≡ turns_by (next_of state run.order) (λ p. ran breaks left (after_turn state p) (run_after p run)) state run
-    ran_more left = ap (λ o. unless_broken o (turns_by (next_of state run.order) (λ p. ran breaks left (after_turn state p) (run_after p run)) state run) state run) none
+        ≡ turns_by (turn_of state) (next_of state run.order) (λ p. ran breaks left (after_turn state p) (run_after p run)) state run
+    ran_more left = ap (λ o. unless_broken o (turns_by (turn_of state) (next_of state run.order) (λ p. ran breaks left (after_turn state p) (run_after p run)) state run) state run) none
 
     ran_by_next : (next : Option ℕ) (why : Stop) (left : ℕ) → next_of state run.order ≡ next
         → left ≡ run.turns - run.taken → run.taken ≤ run.turns → ending_by next run ≡ Some why → ran breaks left state run ≡ stopped why state run
@@ -165,7 +165,7 @@ module _ (breaks : Breaks) (state : Wholes) (run : Progress) where
         ran_none ∙ ap (λ n. stopped (option_map_or (λ p. stop.Limit) n (rest_of run.order)) state run) is ∙ ap (λ s. stopped s state run) same
     ran_by_next None why (suc left) is many below ends =
         let same : rest_of run.order ≡ why = cc in
-        ran_more left ∙ ap (λ n. turns_by n (λ p. ran breaks left (after_turn state p) (run_after p run)) state run) is ∙ ap (λ s. stopped s state run) same
+        ran_more left ∙ ap (λ n. turns_by (turn_of state) n (λ p. ran breaks left (after_turn state p) (run_after p run)) state run) is ∙ ap (λ s. stopped s state run) same
     ran_by_next (Some p) why left is many below ends =
         let parts = limit_stop (run.taken == run.turns) why ends in
         let none_left : left ≡ 0 = omega (arith, many, eqb-true run.taken run.turns parts.0) in
@@ -195,7 +195,7 @@ pub registries_same : (a b : State) → AreLikeStates a b → registry_of a ≡ 
 registries_same a b like = λ i. record { processes = like.wholes.processes i; checkpoints = like.checkpoints i; breakpoints = like.breakpoints i; drawn = like.drawn i }
 
 -- one comes to what another does
-abbrev pub AreLikeChanges : Changed → Changed → Type 0
+abbrev pub AreLikeChanges : Changed State → Changed State → Type 0
 AreLikeChanges c d = ComesTo d c.answer c.after
 
 -- one row, of states that are alike
@@ -266,18 +266,18 @@ module _ (row : Registry → Row) (old new : InSession) where
 
 -- Commands.
 
-pub record AreLikePerformed (x y : Performed) : Type 0 where
+pub record AreLikePerformed (x y : Performed State) : Type 0 where
   pub text : x.text ≡ y.text
   pub after : AreLikeStates x.after y.after
   pub wants : x.wants_memory ≡ y.wants_memory
 
-like_told : (row : Registry → Row) (a b : State) → AreLikeStates a b → AreLikePerformed (row_told (row (registry_of a)) a) (row_told (row (registry_of b)) b)
+like_told : (row : Registry → Row) (a b : State) → AreLikeStates a b → AreLikePerformed (row_told rules (row (registry_of a)) a) (row_told rules (row (registry_of b)) b)
 like_told row a b like =
     let change = like_change row a b like in
     record { text = ap answer_text change.answer_is; after = change.after_is; wants = like_wanting row a b like }
 
 -- the turns that there are with some breakpoints
-abbrev takes_by : Breaks → Progress → State → Performed
+abbrev takes_by : Breaks → Progress → State → Performed State
 takes_by breaks run state =
     record { text = ran_text (ran_from breaks state.wholes run); after = with_wholes (ran_from breaks state.wholes run).after state; wants_memory = false }
 
@@ -291,7 +291,7 @@ like_takes run a b like =
       wants = refl;
     })
 
-pub like_exec_turns : (turns : ℕ) (answer : Answer) (a b : State) → AreLikeStates a b → AreLikePerformed (exec_turns turns answer a) (exec_turns turns answer b)
+pub like_exec_turns : (turns : ℕ) (answer : Answer) (a b : State) → AreLikeStates a b → AreLikePerformed (exec_turns rules turns answer a) (exec_turns rules turns answer b)
 like_exec_turns turns (Loaded p pages entry) a b like = like_takes (alone p turns) a b like
 like_exec_turns turns Done a b like = record { text = refl; after = like; wants = refl }
 like_exec_turns turns (Forked p q) a b like = record { text = refl; after = like; wants = refl }
@@ -300,42 +300,42 @@ like_exec_turns turns (Refused code) a b like = record { text = refl; after = li
 like_exec_turns turns (Full units limit) a b like = record { text = refl; after = like; wants = refl }
 like_exec_turns turns Memory a b like = record { text = refl; after = like; wants = refl }
 
-like_exec : (file : List ℕ) (turns : ℕ) (a b : State) → AreLikeStates a b → AreLikePerformed (exec_done file turns a) (exec_done file turns b)
+like_exec : (file : List ℕ) (turns : ℕ) (a b : State) → AreLikeStates a b → AreLikePerformed (exec_done rules file turns a) (exec_done rules file turns b)
 like_exec file turns a b like =
     let x = change_by (load_row file (registry_of a)) a in
     let y = change_by (load_row file (registry_of b)) b in
     let first = like_change (load_row file) a b like in
     let next = like_exec_turns turns x.answer x.after y.after first.after_is in
     record {
-      text = ap (λ t. answer_text t ++ (exec_turns turns x.answer x.after).text) first.answer_is
-          ∙ ap (λ t. answer_text y.answer ++ t) next.text ∙ ap (λ t. answer_text y.answer ++ (exec_turns turns t y.after).text) first.answer_is;
-      after = subst (λ t. AreLikeStates (exec_turns turns x.answer x.after).after (exec_turns turns t y.after).after) first.answer_is next.after;
+      text = ap (λ t. answer_text t ++ (exec_turns rules turns x.answer x.after).text) first.answer_is
+          ∙ ap (λ t. answer_text y.answer ++ t) next.text ∙ ap (λ t. answer_text y.answer ++ (exec_turns rules turns t y.after).text) first.answer_is;
+      after = subst (λ t. AreLikeStates (exec_turns rules turns x.answer x.after).after (exec_turns rules turns t y.after).after) first.answer_is next.after;
       wants = refl;
     }
 
-like_step : (p turns : ℕ) (a b : State) → AreLikeStates a b → AreLikePerformed (step_done p turns a) (step_done p turns b)
+like_step : (p turns : ℕ) (a b : State) → AreLikeStates a b → AreLikePerformed (step_done rules p turns a) (step_done rules p turns b)
 like_step p turns a b like =
-    subst (λ (o : Option Process). AreLikePerformed (step_done p turns a) (steps p turns o b)) (ap (λ (ps : Processes). get ps p) like.wholes.processes) (by_found (get a.wholes.processes p))
+    subst (λ (o : Option Process). AreLikePerformed (step_done rules p turns a) (steps rules p turns o b)) (ap (λ (ps : Processes). get ps p) like.wholes.processes) (by_found (get a.wholes.processes p))
   where
     by_running : (r : Bool) → AreLikePerformed (cond r (takes_turns (alone p turns) a) (told false (record { answer = Refused Ended; after = a })))
         (cond r (takes_turns (alone p turns) b) (told false (record { answer = Refused Ended; after = b })))
     by_running true = like_takes (alone p turns) a b like
     by_running false = record { text = refl; after = like; wants = refl }
 
-    by_found : (o : Option Process) → AreLikePerformed (steps p turns o a) (steps p turns o b)
+    by_found : (o : Option Process) → AreLikePerformed (steps rules p turns o a) (steps rules p turns o b)
     by_found None = record { text = refl; after = like; wants = refl }
     by_found (Some process) = by_running (runs process.state)
 
-pub list_same : (a b : State) → AreLikeStates a b → list_text a ≡ list_text b
+pub list_same : (a b : State) → AreLikeStates a b → list_text (registry_of a) ≡ list_text (registry_of b)
 unfolding list_head
 list_same a b like =
     ap (λ (ps : Processes). list_line (length (entries ps)) (length a.checkpoints) ++ (flat_map process_text (entries ps) ++ flat_map checkpoint_text a.checkpoints)) like.wholes.processes
     ∙ ap (λ (cs : List Checkpoint). list_line (length (entries b.wholes.processes)) (length cs) ++ (flat_map process_text (entries b.wholes.processes) ++ flat_map checkpoint_text cs)) like.checkpoints
 
 -- the registers of a process
-like_regs : (p : ℕ) (a b : State) → AreLikeStates a b → AreLikePerformed (regs_done p a) (regs_done p b)
+like_regs : (p : ℕ) (a b : State) → AreLikeStates a b → AreLikePerformed (regs_done rules p a) (regs_done rules p b)
 like_regs p a b like =
-    subst (λ (o : Option Process). AreLikePerformed (regs_done p a) (regs_of p o b)) (ap (λ (ps : Processes). get ps p) like.wholes.processes) (by_found (get a.wholes.processes p))
+    subst (λ (o : Option Process). AreLikePerformed (regs_done rules p a) (regs_of p o b)) (ap (λ (ps : Processes). get ps p) like.wholes.processes) (by_found (get a.wholes.processes p))
   where
     by_found : (o : Option Process) → AreLikePerformed (regs_of p o a) (regs_of p o b)
     by_found None = record { text = refl; after = like; wants = refl }

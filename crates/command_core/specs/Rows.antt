@@ -63,26 +63,26 @@ is_event_full event wholes = nat_lt (limit_of wholes.frames) (event_needs event 
 abbrev pub is_full : Row → State → Bool
 is_full row state = row.may_need_units && is_event_full row.event state.wholes
 
--- What a change comes to: its answer, and the state after it.
-pub record Changed : Type 0 where
+-- What a change comes to: its answer, and the state of a machine after it.
+pub record Changed (S : Type 0) : Type 0 where
   pub answer : Answer
-  pub after : State
+  pub after : S
 
 -- a refusal changes nothing, and neither does a change for which there aren't units enough: both numbers are told
-abbrev pub refuses : Code → State → Changed
+abbrev pub refuses : {S : Type 0} → Code → S → Changed S
 refuses code state = record { answer = Refused code; after = state }
 
-abbrev pub falls_short : Row → State → Changed
+abbrev pub falls_short : Row → State → Changed State
 falls_short row state = record { answer = Full (event_needs row.event state.wholes) (limit_of state.wholes.frames); after = state }
 
-abbrev pub accepts : Row → State → Changed
+abbrev pub accepts : Row → State → Changed State
 accepts row state = record { answer = row.answer; after = with_registry row.after (ledger_by row.event state.wholes.ledger) state }
 
 -- The rule: the first refusal; or that there aren't units enough; or the row's answer, and the state after it.
-abbrev pub within_units : Row → State → Changed
+abbrev pub within_units : Row → State → Changed State
 within_units row state = if is_full row state then falls_short row state else accepts row state
 
-abbrev pub change_by : Row → State → Changed
+abbrev pub change_by : Row → State → Changed State
 change_by row state = option_map_or (λ code. refuses code state) (first_refusal row.refusals) (within_units row state)
 
 -- whether a change may want memory

@@ -8,7 +8,7 @@ use Rattle.machine_core.specs.declared.process.Process as declared
 use Rattle.ovl_io.specs.declared.turn.Turn.{Turn}
 use Rattle.ovl_io.specs.declared.turn.Turn.TheVariants as turn
 use Rattle.machine_core.specs.Process.{Process, runs}
-use Rattle.machine_core.specs.Machine.{AreLike, Wholes, is_running, running_numbers}
+use Rattle.machine_core.specs.Machine.{AreLike, Processes, Wholes, running_among, runs_among}
 use Rattle.machine_core.specs.Turns.{after_turn, turn_of}
 use Rattle.round_robin.specs.Turns.{next_number, after_turn_of, after_turns_of, left_for}
 use Rattle.command_core.specs.declared.turns.Order.{Order}
@@ -27,9 +27,12 @@ pub record Progress : Type 0 where
   pub last : Option ℕ
 
 -- the number whose turn is next
+abbrev pub next_among : Processes → Order → Option ℕ
+next_among processes (ByTurns turns) = next_number turns (running_among processes)
+next_among processes (Alone p) = if runs_among processes p then Some p else None
+
 abbrev pub next_of : Wholes → Order → Option ℕ
-next_of state (ByTurns turns) = next_number turns (running_numbers state)
-next_of state (Alone p) = if is_running state p then Some p else None
+next_of state order = next_among state.processes order
 
 abbrev pub order_after : ℕ → Order → Order
 order_after p (ByTurns turns) = ByTurns (after_turn_of p turns)
@@ -51,11 +54,17 @@ break_among addresses p process = break_by addresses p process.state process.reg
 abbrev pub break_at : Breaks → ℕ → Process → Option Stop
 break_at breaks p process = break_by (addresses_of breaks p) p process.state process.registers.pc
 
+abbrev pub reached_by : Breaks → Processes → ℕ → Option Stop
+reached_by breaks processes p = option_and_then (break_at breaks p) (get processes p)
+
 abbrev pub break_of : Breaks → Wholes → ℕ → Option Stop
-break_of breaks state p = option_and_then (break_at breaks p) (get state.processes p)
+break_of breaks state p = reached_by breaks state.processes p
+
+abbrev pub last_reached : Breaks → Processes → Progress → Option Stop
+last_reached breaks processes run = option_and_then (reached_by breaks processes) run.last
 
 abbrev pub last_break : Breaks → Wholes → Progress → Option Stop
-last_break breaks state run = option_and_then (break_of breaks state) run.last
+last_break breaks state run = last_reached breaks state.processes run
 
 abbrev pub ending_by : Option ℕ → Progress → Option Stop
 ending_by None run = Some (rest_of run.order)
@@ -88,52 +97,66 @@ last_took (suc n) p last = Some p
 abbrev pub run_took : ℕ → ℕ → Progress → Progress
 run_took n p run = record { order = order_took n p run.order; turns = run.turns; taken = run.taken + n; last = last_took n p run.last }
 
+-- How a machine takes turns: whose is next, the breakpoint that the last one led to, what comes of one, and the machine after it.
+pub record TurnRules (M : Type 0) : Type 0 where
+  pub next : M → Order → Option ℕ
+  pub broken : M → Progress → Option Stop
+  pub turn : M → ℕ → Turn
+  pub after : M → ℕ → M
+
 -- What turns come to: the events in order, each the process and what came of its turn; why they ended, how many
--- were taken, and the copying machine after them.
-pub record Ran : Type 0 where
+-- were taken, and the machine after them.
+pub record Ran (M : Type 0) : Type 0 where
   pub events : List (ℕ × Turn)
   pub stop : Stop
   pub taken : ℕ
-  pub after : Wholes
+  pub after : M
 
-abbrev pub stopped : Stop → Wholes → Progress → Ran
+abbrev pub stopped : {M : Type 0} → Stop → M → Progress → Ran M
 stopped stop state run = record { events = []; stop = stop; taken = run.taken; after = state }
 
 -- one event, and then the others
-abbrev pub first_event : ℕ → Turn → Ran → Ran
+abbrev pub first_event : {M : Type 0} → ℕ → Turn → Ran M → Ran M
 first_event p turn others = record { events = (p, turn) ∷ others.events; stop = others.stop; taken = others.taken; after = others.after }
 
 -- One that is answered Full ends the turns: it isn't counted, and nothing changed.
-abbrev pub event_then : ℕ → Turn → Ran → Wholes → Progress → Ran
+abbrev pub event_then : {M : Type 0} → ℕ → Turn → Ran M → M → Progress → Ran M
 event_then p turn.Stepped others state run = first_event p turn.Stepped others
 event_then p (turn.Wrote written) others state run = first_event p (turn.Wrote written) others
 event_then p (turn.Exited code) others state run = first_event p (turn.Exited code) others
 event_then p (turn.Faulted kind at) others state run = first_event p (turn.Faulted kind at) others
 event_then p (turn.Full units limit) others state run = first_event p (turn.Full units limit) (stopped Full state run)
 
-abbrev pub turns_by : Option ℕ → (ℕ → Ran) → Wholes → Progress → Ran
-turns_by None others state run = stopped (rest_of run.order) state run
-turns_by (Some p) others state run = event_then p (turn_of state p) (others p) state run
+abbrev pub turns_by : {M : Type 0} → (ℕ → Turn) → Option ℕ → (ℕ → Ran M) → M → Progress → Ran M
+turns_by came None others state run = stopped (rest_of run.order) state run
+turns_by came (Some p) others state run = event_then p (came p) (others p) state run
 
 -- none where the last turn reached a breakpoint
-abbrev pub unless_broken : Option Stop → Ran → Wholes → Progress → Ran
+abbrev pub unless_broken : {M : Type 0} → Option Stop → Ran M → M → Progress → Ran M
 unless_broken None others state run = others
 unless_broken (Some stop) others state run = stopped stop state run
 
 -- up to so many more turns
-abbrev pub ran : Breaks → ℕ → Wholes → Progress → Ran
-ran breaks zero state run =
-    unless_broken (last_break breaks state run) (stopped (option_map_or (λ p. Limit) (next_of state run.order) (rest_of run.order)) state run) state run
-ran breaks (suc left) state run =
-    unless_broken (last_break breaks state run)
-    (turns_by (next_of state run.order) (λ p. ran breaks left (after_turn state p) (run_after p run)) state run) state run
+abbrev pub ran_by : {M : Type 0} → TurnRules M → ℕ → M → Progress → Ran M
+ran_by rules zero state run =
+    unless_broken (rules.broken state run) (stopped (option_map_or (λ p. Limit) (rules.next state run.order) (rest_of run.order)) state run) state run
+ran_by rules (suc left) state run =
+    unless_broken (rules.broken state run)
+    (turns_by (rules.turn state) (rules.next state run.order) (λ p. ran_by rules left (rules.after state p) (run_after p run)) state run) state run
+
+-- those of the copying machine, of which a turn may be full
+abbrev pub turn_rules : Breaks → TurnRules Wholes
+turn_rules breaks = record { next = next_of; broken = last_break breaks; turn = turn_of; after = after_turn }
+
+abbrev pub ran : Breaks → ℕ → Wholes → Progress → Ran Wholes
+ran breaks left state run = ran_by (turn_rules breaks) left state run
 
 -- all that are left of a run
-abbrev pub ran_from : Breaks → Wholes → Progress → Ran
+abbrev pub ran_from : Breaks → Wholes → Progress → Ran Wholes
 ran_from breaks state run = ran breaks (run.turns - run.taken) state run
 
 -- the lines of turns, in their order, and the last one
-abbrev pub ran_text : Ran → List ℕ
+abbrev pub ran_text : {M : Type 0} → Ran M → List ℕ
 ran_text r = flat_map (λ event. turn_text event.0 event.1) r.events ++ stop_text r.taken r.stop
 
 -- turns that are begun
@@ -181,11 +204,11 @@ TakesTurn breaks old running (Some (p, turn)) new after =
     × (after ≡ run_turned breaks turn p new running.run)
 
 -- What is left of a run in progress: nothing, where an ending was found.
-abbrev pub left_by : Option Stop → Breaks → Wholes → Progress → Ran
+abbrev pub left_by : Option Stop → Breaks → Wholes → Progress → Ran Wholes
 left_by None breaks state run = ran_from breaks state run
 left_by (Some stop) breaks state run = stopped stop state run
 
-abbrev pub left_of : Breaks → Wholes → InRun → Ran
+abbrev pub left_of : Breaks → Wholes → InRun → Ran Wholes
 left_of breaks state running = left_by running.stop breaks state running.run
 
 -- how often a line may still come

@@ -13,6 +13,7 @@ ghost use Rattle.command_core.specs.Checkpoints.{checkpoint_row, forget_row, on_
 ghost use Rattle.command_core.specs.Changes.{CanBeTold, answer_of, change_row, drop_row, load_row, on_process};
 ghost use Rattle.command_core.specs.Commands.{RunsLoaded, asks};
 ghost use Rattle.command_core.specs.Looks.{BeginsStep, CanRead, LooksAt, LooksAtCheckpoint, NextProcess, ReadsBytes, counts_of, look_of, looked_at};
+ghost use Rattle.command_core.specs.Ample.{IsAmplyDone};
 ghost use Rattle.command_core.specs.Standing.{SessionAnswersAs, GivesAs, HoldsFor, SessionStandsFor, TurnsAs, begun_run, begun_step, ends_run, speaks, takes_turn};
 ghost use Rattle.std.specs.FinMap.{get};
 ghost use Rattle.command_core.specs.Turns.{begun_by, lines_left, run_found};
@@ -143,11 +144,13 @@ impl Session {
     }
 
     /// Makes a process of a file, under the next number: `Loaded`, or why not. `Full` exactly where the file is taken, a number is
-    /// left and the units after the load would exceed the limit. After want of memory everything is as before.
+    /// left and the units after the load would exceed the limit; never where the frames are at least one more than twice the pages
+    /// that all spaces would have. After want of memory everything is as before.
     pub fn load(&mut self, file: &[u8]) -> Answer
         ensures gives { GivesChange (load_row file.now (registry_of self.old.state)) self.old.state
             result self.new.state }
         ensures stands { GivesAs (load_row file.now) self.old result self.new }
+        ensures ample { IsAmplyDone (load_row file.now) self.old result }
         ensures told { CanBeTold result }
         ensures runs { RunsLoaded result self.new.state }
         ensures quantum { self.new.quantum ≡ self.old.quantum }
@@ -422,13 +425,15 @@ impl Session {
 
     /// Does a change: a command of a script that asks for no file, and that isn't `run`, `step` or a printing one, which change nothing
     /// here. Answers what came of it, or why it wasn't done. Want of memory comes only of a command that takes memory, that nothing refuses, and for
-    /// which there are units enough; then everything is as before.
+    /// which there are units enough; then everything is as before. `Full` never comes where the frames are at least one more than twice
+    /// the pages that all spaces would have.
     pub fn change(&mut self, command: &Command) -> Answer
         requires asks { asks command.now ≡ None }
         requires given { IsGiven command.now }
         ensures gives { GivesChange (change_row [] command.now (registry_of self.old.state)) self.old.state
             result self.new.state }
         ensures stands { GivesAs (change_row [] command.now) self.old result self.new }
+        ensures ample { IsAmplyDone (change_row [] command.now) self.old result }
         ensures told { CanBeTold result }
         ensures quantum { self.new.quantum ≡ self.old.quantum }
     {

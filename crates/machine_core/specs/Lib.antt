@@ -12,3 +12,4 @@ pub mod Laws
 pub mod LoadLaws
 pub mod Kept
 pub mod NumberLaws
+pub mod Ample

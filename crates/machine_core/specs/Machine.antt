@@ -138,16 +138,22 @@ pub record IsDropped (p : ℕ) (old new : Machine) : Type 0 where
   pub processes : new.processes ≡ old.processes
 
 -- the numbers of the processes that run, ascending
+abbrev pub running_among : Processes → List ℕ
+running_among processes = map (λ e. e.0) (filter (λ e. runs e.1.state) (entries processes))
+
 abbrev pub running_numbers : Wholes → List ℕ
-running_numbers state = map (λ e. e.0) (filter (λ e. runs e.1.state) (entries state.processes))
+running_numbers state = running_among state.processes
 
 -- the numbers of the processes that are not below one, ascending
 abbrev pub keys_from : ℕ → Wholes → List ℕ
 keys_from from state = map (λ e. e.0) (filter (λ e. nat_le from e.0) (entries state.processes))
 
 -- whether there is a process of that number, and it runs
+abbrev pub runs_among : Processes → ℕ → Bool
+runs_among processes p = option_map_or (λ process. runs process.state) (get processes p) false
+
 abbrev pub is_running : Wholes → ℕ → Bool
-is_running state p = option_map_or (λ process. runs process.state) (get state.processes p) false
+is_running state p = runs_among state.processes p
 
 abbrev pub shown_at : Wholes → ℕ → Option declared.Process
 shown_at state p = option_map shown_process (get state.processes p)

@@ -13,6 +13,7 @@ ghost use Rattle.space_maps.specs.Spaces.{space_in};
 ghost use Rattle.machine_core.specs.Machine.{AnswersAs, AreLike, HaveSpaces, IsDropped, KeepsPlaces, LeadsTo, StaysBut, has_saved, has_space, is_marked, is_running, keys_from, registers_at, registers_shown, running_numbers, shown_at, spaces_of, wholes, with_memory, with_process_at, without_pages, without_process, without_process_at};
 ghost use Rattle.machine_core.specs.Turns.{after_asked, after_execution, after_turn, came_to, turn_asked, turn_of};
 ghost use Rattle.machine_core.specs.Executions.{after_executions, came_to_last, steps_to, stops_in};
+ghost use Rattle.machine_core.specs.Ample.{IsAmplyTaken};
 ghost use Rattle.machine_core.specs.Play.{AreOwnTurns, after_number, run_over};
 ghost use Rattle.machine_core.specs.Load.{IsAsBefore, IsLoaded, Loads, LoadsAs, is_load_full, page_count, with_loaded};
 ghost use Rattle.machine_core.specs.contracts.machine.Machine.{the_row};
@@ -270,7 +271,8 @@ impl Machine {
     }
 
     /// One instruction of a running process, whose space is there, and what came of it: an execution, and then what it asked
-    /// for. Full exactly where the units after its store would exceed the limit; then nothing changes. Takes no memory.
+    /// for. Full exactly where the units after its store would exceed the limit; then nothing changes. Never full where the frames
+    /// are at least one more than twice the pages that all spaces have. Takes no memory.
     pub fn event(&mut self, p: u16) -> Turn
         requires runs { is_running (wholes self.old) p ≡ true }
         requires there { has_space self.old p ≡ true }
@@ -278,6 +280,7 @@ impl Machine {
         ensures after { wholes self.new ≡ after_turn (wholes self.old) p }
         ensures answers { AnswersAs (λ state. turn_of state p) self.old result }
         ensures stands { LeadsTo (λ state. after_turn state p) self.old self.new }
+        ensures ample { IsAmplyTaken p self.old result }
         ensures others { StaysBut p self.old self.new }
         ensures places { KeepsPlaces self.old self.new }
     {

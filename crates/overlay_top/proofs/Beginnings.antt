@@ -14,7 +14,7 @@ use Rattle.command_core.specs.Turns.{InRun, Progress, Ran, alone, ran_text, run_
 
 pub left_begun : (run : Progress) (state : State) → run.taken ≤ run.turns → takes_left (run_found state.breakpoints state.wholes run) state ≡ takes_turns run state
 left_begun run state within =
-    ap (λ (r : Ran). record { text = ran_text r; after = with_wholes r.after state; wants_memory = false }) (left_found state.breakpoints state.wholes run within)
+    ap (λ (r : Ran Wholes). record { text = ran_text r; after = with_wholes r.after state; wants_memory = false }) (left_found state.breakpoints state.wholes run within)
 
 pub takes_begun : (running : InRun) (run : Progress) (state : State) → running ≡ run_found state.breakpoints state.wholes run → run.taken ≤ run.turns
     → takes_left running state ≡ takes_turns run state

@@ -5,3 +5,4 @@ pub mod Texts
 pub mod Instructions
 pub mod Lines
 pub mod Answers
+pub mod FullLines

@@ -3,9 +3,10 @@ use Rattle.rv_execute.specs.declared.outcome.Outcome.TheVariants.{Asked, Fault, 
 use Rattle.report_text.specs.Answers.{turn_text}
 use Rattle.machine_core.specs.Machine.{Wholes, is_running, wholes}
 use Rattle.machine_core.specs.Turns.{after_asked, turn_asked}
+use Rattle.machine_core.specs.Ample.{asked_fits, is_full_turn}
 use Rattle.command_core.specs.Turns.{InRun}
 use Rattle.report_text.specs.declared.answer.Stop.TheVariants as stop
-use Rattle.command_core.proofs.Rans.{asked_counted, fewer_left, is_counted, speaks_last, speaks_on}
+use Rattle.command_core.proofs.Rans.{fewer_left, speaks_last, speaks_on}
 use Rattle.command_core.proofs.Places.{free_stays, free_then, process_there}
 use Rattle.command_core.proofs.Stretching.{all_taken, goes_on, last_turn, one_more, says_full, says_last}
 use Rattle.command_core.proofs.taking.take_turns.Goals as goal
@@ -76,7 +77,7 @@ returns-in-Asked-clause-says c spoke =
     (ap (λ (r : InRun). r.stop) c.took_turns-in-Asked.ensures.took ∙ c.requires.goes)
     (says_last c.args.breakpoints.now (wholes c.args.machine.now) p done.result.0 c.args.running.now.run Asked (wholes done.new.machine) (wholes c.answer_request.new.machine) c.answer_request.new.line.items
     c.took_turns-in-Asked.new.self.run last
-    (ap is_counted last.law.turn_is ∙ asked_counted _ p)
+    (ap is_full_turn last.law.turn_is ∙ asked_fits _ p)
     (c.answer_request.ensures.says spoke ∙ ap (λ (ps : Wholes). turn_text p (turn_asked ps p)) last.executed ∙ sym (ap (turn_text p) last.law.turn_is))
     (c.answer_request.ensures.after ∙ ap (λ (ps : Wholes). after_asked ps p) last.executed ∙ sym last.law.after_is) (ap (λ (r : InRun). r.run) c.took_turns-in-Asked.ensures.took))
 
@@ -88,7 +89,7 @@ returns-in-Asked-clause-quiet c silent =
     done.ensures.steps Asked (wholes done.new.machine) (sym c.in-Asked.is ∙ done.ensures.outcome) (λ same. cc) done.ensures.after in
     says_last c.args.breakpoints.now (wholes c.args.machine.now) p done.result.0 c.args.running.now.run Asked (wholes done.new.machine) (wholes c.answer_request.new.machine) []
     c.took_turns-in-Asked.new.self.run last
-    (ap is_counted last.law.turn_is ∙ asked_counted _ p)
+    (ap is_full_turn last.law.turn_is ∙ asked_fits _ p)
     (sym (c.answer_request.ensures.quiet silent) ∙ ap (λ (ps : Wholes). turn_text p (turn_asked ps p)) last.executed ∙ sym (ap (turn_text p) last.law.turn_is))
     (c.answer_request.ensures.after ∙ ap (λ (ps : Wholes). after_asked ps p) last.executed ∙ sym last.law.after_is) (ap (λ (r : InRun). r.run) c.took_turns-in-Asked.ensures.took)
 
@@ -121,7 +122,7 @@ returns-in-Fault-clause-says c spoke =
     speaks_on c.args.breakpoints.now (wholes c.args.machine.now) (wholes done.new.machine) c.args.running.now c.took_turns-in-Fault.new.self c.fault_line.new.line.items c.requires.goes
     (ap (λ (r : InRun). r.stop) c.took_turns-in-Fault.ensures.took ∙ c.requires.goes)
     (says_last c.args.breakpoints.now (wholes c.args.machine.now) p done.result.0 c.args.running.now.run fault (wholes done.new.machine) (wholes done.new.machine) c.fault_line.new.line.items
-    c.took_turns-in-Fault.new.self.run last (ap is_counted last.law.turn_is) (c.fault_line.ensures ∙ sym (ap (turn_text p) last.law.turn_is)) (last.executed ∙ sym last.law.after_is)
+    c.took_turns-in-Fault.new.self.run last (ap is_full_turn last.law.turn_is) (c.fault_line.ensures ∙ sym (ap (turn_text p) last.law.turn_is)) (last.executed ∙ sym last.law.after_is)
     (ap (λ (r : InRun). r.run) c.took_turns-in-Fault.ensures.took))
 
 -- one for which there weren't units enough isn't counted

@@ -7,6 +7,7 @@ use Rattle.command_core.specs.Kept.{checkpoints_in, shown_session, shown_state, 
 use Rattle.command_core.specs.Giving.{GivesChange}
 use Rattle.command_core.specs.Changes.{load_row}
 use Rattle.report_text.specs.declared.answer.Answer.TheVariants.{Loaded}
+use Rattle.command_core.specs.Ample.{amply_loaded}
 use Rattle.command_core.specs.LikeLaws.{gives_as}
 use Rattle.command_core.proofs.Breaks.{above_more}
 use Rattle.command_core.proofs.Loadings.{gives_loaded, gives_other, runs_loaded, session_other}
@@ -79,3 +80,8 @@ pub returns-clause-stands : goal.returns-clause-stands
 returns-clause-stands c =
     gives_as (load_row c.args.file.now) c.args.self.now (shown_session c.load.new.self c.self.inside.checkpoints c.self.inside.breakpoints c.self.inside.drawn c.self.inside.quantum)
     c.not_made.result (returns-clause-gives c)
+
+pub returns-clause-ample : goal.returns-clause-ample
+returns-clause-ample c =
+    amply_loaded c.args.file.now c.args.self.now
+    (shown_session c.load.new.self c.self.inside.checkpoints c.self.inside.breakpoints c.self.inside.drawn c.self.inside.quantum) c.not_made.result (returns-clause-stands c)

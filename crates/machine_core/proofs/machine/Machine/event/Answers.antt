@@ -3,6 +3,7 @@ use Rattle.rv_execute.specs.declared.outcome.Outcome.TheVariants.{Asked, Fault, 
 use Rattle.ovl_io.specs.declared.turn.Turn.TheVariants as turn
 use Rattle.machine_core.specs.Machine.{Wholes, is_running, wholes}
 use Rattle.machine_core.specs.Turns.{after_asked, after_turn, turn_asked, turn_of}
+use Rattle.machine_core.specs.Ample.{amply_taken}
 use Rattle.machine_core.specs.Laws.{answers, leads, like_after_turn, like_turn, turn_law}
 use Rattle.machine_core.proofs.machine.Machine.event.Goals as goal
 
@@ -85,3 +86,15 @@ returns-in-Full-clause-answers c =
 pub returns-in-Full-clause-stands : goal.returns-in-Full-clause-stands
 returns-in-Full-clause-stands c =
     leads (λ state. after_turn state c.args.p) c.args.self.now c.execute.new.self (λ a b like. like_after_turn c.args.p a b like) (returns-in-Full-clause-after c)
+
+pub returns-in-Asked-clause-ample : goal.returns-in-Asked-clause-ample
+returns-in-Asked-clause-ample c = amply_taken c.args.p c.args.self.now c.answer.result (returns-in-Asked-clause-answers c)
+
+pub returns-in-Stepped-clause-ample : goal.returns-in-Stepped-clause-ample
+returns-in-Stepped-clause-ample c = amply_taken c.args.p c.args.self.now turn.Stepped (returns-in-Stepped-clause-answers c)
+
+pub returns-in-Fault-clause-ample : goal.returns-in-Fault-clause-ample
+returns-in-Fault-clause-ample c = amply_taken c.args.p c.args.self.now (turn.Faulted c.in-Fault.kind c.in-Fault.address) (returns-in-Fault-clause-answers c)
+
+pub returns-in-Full-clause-ample : goal.returns-in-Full-clause-ample
+returns-in-Full-clause-ample c = amply_taken c.args.p c.args.self.now (turn.Full c.in-Full.units c.in-Full.limit) (returns-in-Full-clause-answers c)

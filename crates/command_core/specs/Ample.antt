@@ -1,0 +1,144 @@
+use Rattle.std.specs.Prelude.{◌≡◌, ℕ, ◌&&◌, nat_lt, Bool, true, false, cond, List, [], Option, Some, None, refl}
+use Rattle.std.proofs.Common.{sym, ap, subst, ◌∙◌}
+use Rattle.std.specs.Option.{option_map_or}
+use Rattle.std.specs.FinMap.{get}
+use Rattle.ledger.specs.Events as event
+use Rattle.ledger.specs.AmpleLaws.{AreAmple}
+use Rattle.machine_core.specs.Ample.{within_ample}
+use Rattle.machine_core.specs.Process.{Process, Whole}
+use Rattle.machine_core.specs.Machine.{limit_of}
+use Rattle.report_text.specs.declared.answer.Answer.{Answer}
+use Rattle.report_text.specs.declared.answer.Answer.TheVariants.{Done, Loaded, Forked, Saved, Refused, Full, Memory}
+use Rattle.report_text.specs.declared.answer.Code.{Code}
+use Rattle.report_text.specs.declared.answer.Code.TheVariants.{NoCheckpoint, NoProcess, NotSpeculating}
+use Rattle.script_text.specs.declared.command.Command.{Command}
+use Rattle.script_text.specs.declared.command.Command.TheVariants as command
+use Rattle.command_core.specs.declared.overlays.OverlayChange.{OverlayChange}
+use Rattle.command_core.specs.declared.overlays.OverlayChange.TheVariants.{Speculate, Commit, Discard, Promote, PromoteAll, Map, Unmap, Set}
+use Rattle.command_core.specs.State.{Checkpoint, Registry, State, registry_of}
+use Rattle.command_core.specs.Sessions.{InSession}
+use Rattle.command_core.specs.Rows.{Row, accepts, change_by, event_needs, falls_short, first_refusal, is_full, ledger_by, plain_row, refused_row, refuses}
+use Rattle.command_core.specs.Giving.{ComesTo}
+use Rattle.command_core.specs.Changes.{change_row, drop_row, load_row, on_process}
+use Rattle.command_core.specs.Copies.{fork_row}
+use Rattle.command_core.specs.Debugging.{break_row, poke_row, unbreak_row}
+use Rattle.command_core.specs.Checkpoints.{checkpoint_named, checkpoint_row, forget_row, on_checkpoint, restore_row}
+use Rattle.command_core.specs.Overlays.{after_discard, leaves, overlay_row}
+use Rattle.command_core.specs.Standing.{GivesAs, SessionStandsFor}
+
+-- Where the frames are ample for the ledger that a change leads to, the change isn't full.
+
+abbrev pub IsAmpleFor : Row → State → Type 0
+IsAmpleFor row state = AreAmple state.wholes.frames (ledger_by row.event state.wholes.ledger)
+
+abbrev pub is_full_answer : Answer → Bool
+is_full_answer Done = false
+is_full_answer (Loaded p pages entry) = false
+is_full_answer (Forked p q) = false
+is_full_answer (Saved p name space) = false
+is_full_answer (Refused code) = false
+is_full_answer (Full units limit) = true
+is_full_answer Memory = false
+
+-- so it is of a session, in any of the states that it stands for
+abbrev pub IsAmplyDone : (Registry → Row) → InSession → Answer → Type 0
+IsAmplyDone row session answer =
+    (state : State) → SessionStandsFor session state → IsAmpleFor (row (registry_of state)) state → is_full_answer answer ≡ false
+
+-- No row answers so by itself.
+
+on_process_itself : (p : ℕ) (row : Process → Registry → Row) → ((process : Process) (registry : Registry) → is_full_answer (row process registry).answer ≡ false)
+    → (registry : Registry) → is_full_answer (on_process p row registry).answer ≡ false
+on_process_itself p row each registry = by_found (get registry.processes p)
+  where
+    by_found : (o : Option Process) → is_full_answer (option_map_or (λ process. row process registry) o (refused_row NoProcess registry)).answer ≡ false
+    by_found None = refl
+    by_found (Some process) = each process registry
+
+on_checkpoint_itself : (name : List ℕ) (registry : Registry) → is_full_answer (on_checkpoint name (forget_row name) registry).answer ≡ false
+on_checkpoint_itself name registry = by_found (checkpoint_named name registry.checkpoints)
+  where
+    by_found : (o : Option Checkpoint) → is_full_answer (option_map_or (λ x. forget_row name x registry) o (refused_row NoCheckpoint registry)).answer ≡ false
+    by_found None = refl
+    by_found (Some x) = refl
+
+overlay_itself : (p : ℕ) (change : OverlayChange) (process : Process) (registry : Registry) → is_full_answer (overlay_row p change process registry).answer ≡ false
+overlay_itself p Speculate process registry = refl
+overlay_itself p Commit process registry = refl
+overlay_itself p Discard process registry = by_kept process.kept
+  where
+    by_kept : (o : Option Whole) → is_full_answer (option_map_or (λ whole. plain_row false [] (event.Discard p) (leaves p (after_discard whole) registry)) o (refused_row NotSpeculating registry)).answer ≡ false
+    by_kept None = refl
+    by_kept (Some whole) = refl
+overlay_itself p (Promote address) process registry = refl
+overlay_itself p PromoteAll process registry = refl
+overlay_itself p (Map address n perms) process registry = refl
+overlay_itself p (Unmap address n) process registry = refl
+overlay_itself p (Set register value) process registry = refl
+
+change_itself : (file : List ℕ) (c : Command) (registry : Registry) → is_full_answer (change_row file c registry).answer ≡ false
+change_itself file (command.Fork p) registry = on_process_itself p (fork_row p) (λ process registry. refl) registry
+change_itself file (command.Checkpoint p name) registry = on_process_itself p (checkpoint_row p name) (λ process registry. refl) registry
+change_itself file (command.Restore p name) registry = on_process_itself p (restore_row p name) (λ process registry. refl) registry
+change_itself file (command.Drop p) registry = on_process_itself p (drop_row p) (λ process registry. refl) registry
+change_itself file (command.Poke p address bytes) registry = on_process_itself p (poke_row p address bytes) (λ process registry. refl) registry
+change_itself file (command.Break p address) registry = on_process_itself p (break_row p address) (λ process registry. refl) registry
+change_itself file (command.Unbreak p address) registry = on_process_itself p (unbreak_row p address) (λ process registry. refl) registry
+change_itself file (command.Speculate p) registry = on_process_itself p (overlay_row p Speculate) (overlay_itself p Speculate) registry
+change_itself file (command.Commit p) registry = on_process_itself p (overlay_row p Commit) (overlay_itself p Commit) registry
+change_itself file (command.Discard p) registry = on_process_itself p (overlay_row p Discard) (overlay_itself p Discard) registry
+change_itself file (command.Promote p address) registry = on_process_itself p (overlay_row p (Promote address)) (overlay_itself p (Promote address)) registry
+change_itself file (command.PromoteAll p) registry = on_process_itself p (overlay_row p PromoteAll) (overlay_itself p PromoteAll) registry
+change_itself file (command.Map p address n perms) registry = on_process_itself p (overlay_row p (Map address n perms)) (overlay_itself p (Map address n perms)) registry
+change_itself file (command.Unmap p address n) registry = on_process_itself p (overlay_row p (Unmap address n)) (overlay_itself p (Unmap address n)) registry
+change_itself file (command.Set p register value) registry = on_process_itself p (overlay_row p (Set register value)) (overlay_itself p (Set register value)) registry
+change_itself file (command.Load name) registry = refl
+change_itself file (command.Forget name) registry = on_checkpoint_itself name registry
+change_itself file command.Compact registry = refl
+change_itself file (command.Exec name turns) registry = refl
+change_itself file (command.Run turns) registry = refl
+change_itself file (command.Step p turns) registry = refl
+change_itself file (command.Regs p) registry = refl
+change_itself file (command.Dump p address n) registry = refl
+change_itself file (command.Disasm p address n) registry = refl
+change_itself file command.List registry = refl
+change_itself file command.Stats registry = refl
+
+second_and : (x y : Bool) → y ≡ false → (x && y) ≡ false
+second_and true y h = h
+second_and false y h = refl
+
+-- what a row comes to
+ample_change : (row : Row) (state : State) → is_full_answer row.answer ≡ false → IsAmpleFor row state → is_full_answer (change_by row state).answer ≡ false
+ample_change row state itself ample = by_cases (first_refusal row.refusals) (is_full row state) fits
+  where
+    fits : is_full row state ≡ false
+    fits = second_and row.may_need_units _ (within_ample state.wholes.frames (ledger_by row.event state.wholes.ledger) ample)
+
+    by_cases : (o : Option Code) (full : Bool) → full ≡ false
+        → is_full_answer (option_map_or (λ code. refuses code state) o (cond full (falls_short row state) (accepts row state))).answer ≡ false
+    by_cases (Some code) full same = refl
+    by_cases None true same = cc
+    by_cases None false same = itself
+
+module _ (row : Registry → Row) (old new : InSession) (itself : (registry : Registry) → is_full_answer (row registry).answer ≡ false) where
+  amply_each : (answer : Answer) → ((state : State) → SessionStandsFor old state → ComesTo (change_by (row (registry_of state)) state) answer new.state)
+      → IsAmplyDone row old answer
+  amply_each answer comes state stands ample =
+      ap is_full_answer (comes state stands).answer_is ∙ ample_change (row (registry_of state)) state (itself (registry_of state)) ample
+
+  amply_done : (answer : Answer) → GivesAs row old answer new → IsAmplyDone row old answer
+  amply_done (Full units limit) gives state stands ample = amply_each (Full units limit) gives state stands ample
+  amply_done Done gives state stands ample = refl
+  amply_done (Loaded p pages entry) gives state stands ample = refl
+  amply_done (Forked p q) gives state stands ample = refl
+  amply_done (Saved p name space) gives state stands ample = refl
+  amply_done (Refused code) gives state stands ample = refl
+  amply_done Memory gives state stands ample = refl
+
+pub amply_changed : (file : List ℕ) (c : Command) (old new : InSession) (answer : Answer) → GivesAs (change_row file c) old answer new
+    → IsAmplyDone (change_row file c) old answer
+amply_changed file c old new answer gives = amply_done (change_row file c) old new (change_itself file c) answer gives
+
+pub amply_loaded : (file : List ℕ) (old new : InSession) (answer : Answer) → GivesAs (load_row file) old answer new → IsAmplyDone (load_row file) old answer
+amply_loaded file old new answer gives = amply_done (load_row file) old new (λ registry. refl) answer gives

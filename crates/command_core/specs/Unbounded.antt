@@ -1,0 +1,80 @@
+use Rattle.std.specs.Prelude.{ℕ, ◌-◌, Bool, false, List, [], ◌∷◌, Option, Some, None}
+use Rattle.std.specs.Option.{is_some, option_map_or}
+use Rattle.std.specs.FinMap.{empty, get, insert}
+use Rattle.breakpoints.specs.Breakpoints.{Breaks}
+use Rattle.ovl_io.specs.declared.turn.Turn.{Turn}
+use Rattle.ovl_io.specs.declared.turn.Turn.TheVariants.{Stepped}
+use Rattle.machine_core.specs.Machine.{Processes}
+use Rattle.machine_core.specs.Turns.{process_after, step_of}
+use Rattle.command_core.specs.State.{Registry}
+use Rattle.command_core.specs.Rows.{Changed, Row, first_refusal, refuses, wants_by}
+use Rattle.command_core.specs.Turns.{Progress, Ran, TurnRules, last_reached, next_among, ran_by, ran_text}
+use Rattle.command_core.specs.Commands.{Performed, Rules}
+
+-- The unbounded machine: it copies the whole memory at each fork, checkpoint and speculation start, and there is always room. It has
+-- no ledger, no frames and no limit, and nothing is ever full.
+
+-- Turns: each is the step of its process.
+abbrev pub step_among : Processes → ℕ → Turn
+step_among processes p = option_map_or (λ process. (step_of p process).turn) (get processes p) Stepped
+
+abbrev pub after_step_of : Processes → ℕ → Processes
+after_step_of processes p = option_map_or (λ process. insert processes p (process_after p process)) (get processes p) processes
+
+abbrev pub unbounded_turns : Breaks → TurnRules Processes
+unbounded_turns breaks = record { next = next_among; broken = last_reached breaks; turn = step_among; after = after_step_of }
+
+-- Its state: what is registered; and the lines that `stats` will print, one after the other, since those tell of a ledger.
+pub record Unbounded : Type 0 where
+  pub registry : Registry
+  pub counts : List (List ℕ)
+
+abbrev pub with_processes : Processes → Unbounded → Unbounded
+with_processes processes state = record {
+  registry = record {
+    processes = processes;
+    checkpoints = state.registry.checkpoints;
+    breakpoints = state.registry.breakpoints;
+    drawn = state.registry.drawn;
+  };
+  counts = state.counts;
+}
+
+-- all turns that are left of a run
+abbrev pub unbounded_ran : Breaks → Processes → Progress → Ran Processes
+unbounded_ran breaks processes run = ran_by (unbounded_turns breaks) (run.turns - run.taken) processes run
+
+abbrev pub takes_unbounded : Progress → Unbounded → Performed Unbounded
+takes_unbounded run state = record {
+  text = ran_text (unbounded_ran state.registry.breakpoints state.registry.processes run);
+  after = with_processes (unbounded_ran state.registry.breakpoints state.registry.processes run).after state;
+  wants_memory = false;
+}
+
+-- A change: the first refusal, or the row's answer and what it leaves.
+abbrev pub does_row : Row → Unbounded → Changed Unbounded
+does_row row state = record { answer = row.answer; after = record { registry = row.after; counts = state.counts } }
+
+abbrev pub change_unbounded : Row → Unbounded → Changed Unbounded
+change_unbounded row state = option_map_or (λ code. refuses code state) (first_refusal row.refusals) (does_row row state)
+
+abbrev pub wants_unbounded : Row → Unbounded → Bool
+wants_unbounded row state = wants_by row.memory (is_some (first_refusal row.refusals)) false
+
+-- `stats` prints the next of those lines
+abbrev pub next_counts : List (List ℕ) → Registry → Performed Unbounded
+next_counts [] registry = record { text = []; after = record { registry = registry; counts = [] }; wants_memory = false }
+next_counts (line ∷ counts) registry = record { text = line; after = record { registry = registry; counts = counts }; wants_memory = false }
+
+abbrev pub unbounded : Rules Unbounded
+unbounded = record {
+  registry = λ state. state.registry;
+  change = change_unbounded;
+  wants = wants_unbounded;
+  turns = takes_unbounded;
+  counts = λ state. next_counts state.counts state.registry;
+}
+
+-- it at the start
+abbrev pub fresh_unbounded : List (List ℕ) → Unbounded
+fresh_unbounded counts = record { registry = record { processes = empty; checkpoints = []; breakpoints = empty; drawn = 0 }; counts = counts }

@@ -1,0 +1,466 @@
+use Rattle.std.specs.Prelude.{◌≡◌, ℕ, zero, suc, ◌+◌, ◌-◌, ◌*◌, not, Bool, true, false, cond, List, [], ◌∷◌, ◌++◌, flat_map, Option, Some, None, refl}
+use Rattle.std.proofs.Common.{sym, ap, subst, ◌∙◌, append_assoc}
+use Rattle.std.specs.Option.{is_some, option_map, option_map_or}
+use Rattle.std.specs.FinMap.{entries, get, insert}
+use Rattle.breakpoints.specs.Breakpoints.{Breaks}
+use Rattle.ovl_io.specs.Memory.{Memory as Contents, first_denied}
+use Rattle.ovl_io.specs.declared.turn.Turn.{Turn}
+use Rattle.ovl_io.specs.declared.turn.Turn.TheVariants as turn
+use Rattle.rv_execute.specs.Registers.{Registers}
+use Rattle.machine_core.specs.Process.{Process, is_speculating, runs}
+use Rattle.machine_core.specs.Machine.{Processes, Wholes, limit_of}
+use Rattle.machine_core.specs.Turns.{Guest, after_turn, guest_after, guest_at, guest_of, is_full, ledger_executed, process_after, step_of, turn_in, turn_of, units_needed, with_guest}
+use Rattle.machine_core.specs.Ample.{is_full_turn, step_fits}
+use Rattle.report_text.specs.declared.answer.Answer.{Answer}
+use Rattle.report_text.specs.declared.answer.Answer.TheVariants.{Done, Loaded, Forked, Saved, Refused, Full, Memory}
+use Rattle.report_text.specs.declared.answer.Code.{Code}
+use Rattle.report_text.specs.declared.answer.Code.TheVariants.{Ended, NoProcess, Unmapped}
+use Rattle.report_text.specs.declared.answer.Stop.{Stop}
+use Rattle.report_text.specs.declared.answer.Stop.TheVariants as stop
+use Rattle.report_text.specs.Answers.{answer_text, stop_text, turn_text}
+use Rattle.report_text.specs.FullLines.{AreLines, answer_lines, answer_shows, behind_lines, ends_checkpoint, ends_disasm, ends_dump, ends_list, ends_process, ends_register, ends_regs, ends_stats, has_full_line, lines_both, no_lines, stop_lines, turn_lines, turn_shows}
+use Rattle.script_text.specs.declared.command.Command.{Command}
+use Rattle.script_text.specs.declared.command.Command.TheVariants as command
+use Rattle.command_core.specs.declared.TheConstants.{WORD_BYTES}
+use Rattle.command_core.specs.State.{Checkpoint, Registry, State, registry_of}
+use Rattle.command_core.specs.Rows.{Changed, MemoryTaken, Row, TakesFirst, TakesLast, TakesNone, accepts, change_by, event_needs, falls_short, first_refusal, is_full as is_row_full, may_want_memory, refuses, wants_by, within_units}
+use Rattle.command_core.specs.Changes.{change_row, load_row}
+use Rattle.command_core.specs.Turns.{Progress, Ran, alone, by_turns, event_then, first_event, last_break, next_of, ran, ran_by, ran_from, ran_text, rest_of, run_after, stopped, turns_by, unless_broken}
+use Rattle.command_core.specs.Commands.{Performed, checkpoint_text, checkpoints_text, disasm_text, dump_from, dump_text, exec_done, exec_turns, list_head, list_text, performed, performed_by, printed, prints_of, prints_read, process_text, processes_text, registers_from, regs_head, regs_of, regs_text, row_told, rules, stats_text, steps, takes_turns, told}
+use Rattle.command_core.specs.Unbounded.{Unbounded, change_unbounded, does_row, after_step_of, step_among, takes_unbounded, unbounded, unbounded_turns, wants_unbounded}
+
+-- As long as no line says `full`, the copying machine says and does what the unbounded one does.
+
+-- A turn: it is full, or it is the step.
+pub data ComesOut (state : Wholes) (p : ℕ) : Type 0 where
+  IsFullTurn : (units limit : ℕ) → turn_of state p ≡ turn.Full units limit → ComesOut state p
+  IsStep : turn_of state p ≡ step_among state.processes p → is_full_turn (step_among state.processes p) ≡ false
+      → (after_turn state p).processes ≡ after_step_of state.processes p → ComesOut state p
+
+-- the same of a process that may be there, where it is known whether there aren't units enough
+abbrev turn_found : Wholes → ℕ → Option Process → Turn
+turn_found state p o = option_map_or (turn_in p) (option_map (guest_of state) o) turn.Stepped
+
+abbrev step_found : ℕ → Option Process → Turn
+step_found p o = option_map_or (λ process. (step_of p process).turn) o turn.Stepped
+
+abbrev after_found : Wholes → ℕ → Option Process → Wholes
+after_found state p o = option_map_or (λ guest. with_guest state p (guest_after p guest)) (option_map (guest_of state) o) state
+
+abbrev step_left : Wholes → ℕ → Option Process → Processes
+step_left state p o = option_map_or (λ process. insert state.processes p (process_after p process)) o state.processes
+
+data Found (state : Wholes) (p : ℕ) (o : Option Process) : Type 0 where
+  FullThere : (units limit : ℕ) → turn_found state p o ≡ turn.Full units limit → Found state p o
+  StepThere : turn_found state p o ≡ step_found p o → is_full_turn (step_found p o) ≡ false
+      → (after_found state p o).processes ≡ step_left state p o → Found state p o
+
+module _ (state : Wholes) (p : ℕ) where
+  abbrev stepped : Process → Guest
+  stepped process = record { process = process_after p process; ledger = ledger_executed p (guest_of state process); frames = state.frames }
+
+  by_full : (process : Process) (full : Bool) → is_full p (guest_of state process) ≡ full → Found state p (Some process)
+  by_full process true is =
+      FullThere (units_needed p (guest_of state process)) (limit_of state.frames)
+      (ap (λ b. cond b (turn.Full (units_needed p (guest_of state process)) (limit_of state.frames)) (step_of p process).turn) is)
+  by_full process false is =
+      let guest = guest_of state process in
+      StepThere
+      (ap (λ b. cond b (turn.Full (units_needed p guest) (limit_of state.frames)) (step_of p process).turn) is)
+      (step_fits p process)
+      (ap (λ b. (with_guest state p (cond b guest (stepped process))).processes) is)
+
+  by_process : (o : Option Process) → Found state p o
+  by_process None = StepThere refl refl refl
+  by_process (Some process) = by_full process (is_full p (guest_of state process)) refl
+
+  out : Found state p (get state.processes p) → ComesOut state p
+  out (FullThere units limit is) = IsFullTurn units limit is
+  out (StepThere is fits after) = IsStep is fits after
+
+  pub comes_out : ComesOut state p
+  comes_out = out (by_process (get state.processes p))
+
+-- Turns, one after the other.
+pub record RanSame (r : Ran Wholes) (s : Ran Processes) : Type 0 where
+  pub events : r.events ≡ s.events
+  pub stop_is : r.stop ≡ s.stop
+  pub taken : r.taken ≡ s.taken
+  pub after : r.after.processes ≡ s.after
+
+abbrev SaysNoFull : Ran Wholes → List ℕ → Type 0
+SaysNoFull r behind = has_full_line (ran_text r ++ behind) ≡ false
+
+same_stopped : (why : Stop) (state : Wholes) (run : Progress) → RanSame (stopped why state run) (stopped why state.processes run)
+same_stopped why state run = record { events = refl; stop_is = refl; taken = refl; after = refl }
+
+same_first : (p : ℕ) (came : Turn) (r : Ran Wholes) (s : Ran Processes) → RanSame r s → RanSame (first_event p came r) (first_event p came s)
+same_first p came r s same = record {
+  events = ap (λ (es : List (ℕ × Turn)). (p, came) ∷ es) same.events;
+  stop_is = same.stop_is;
+  taken = same.taken;
+  after = same.after;
+}
+
+-- the text of an event, and then that of the others
+text_first : (p : ℕ) (came : Turn) (r : Ran Wholes) (behind : List ℕ) → ran_text (first_event p came r) ++ behind ≡ turn_text p came ++ (ran_text r ++ behind)
+text_first p came r behind =
+    ap (λ bs. bs ++ behind) (append_assoc (turn_text p came) (flat_map (λ event. turn_text event.0 event.1) r.events) (stop_text r.taken r.stop))
+    ∙ append_assoc (turn_text p came) (ran_text r) behind
+
+behind_first : (p : ℕ) (came : Turn) (r : Ran Wholes) (behind : List ℕ) → SaysNoFull (first_event p came r) behind → SaysNoFull r behind
+behind_first p came r behind none =
+    behind_lines (turn_text p came) (ran_text r ++ behind) (turn_lines p came) (sym (ap has_full_line (text_first p came r behind)) ∙ none)
+
+-- an event that is full has its line
+full_shows : (p units limit : ℕ) (others : Ran Wholes) (state : Wholes) (run : Progress) (behind : List ℕ)
+    → SaysNoFull (event_then p (turn.Full units limit) others state run) behind → ⊥
+full_shows p units limit others state run behind none =
+    let all = stopped stop.Full state run in
+    let shown : has_full_line (ran_text (first_event p (turn.Full units limit) all) ++ behind) ≡ true =
+        ap has_full_line (text_first p (turn.Full units limit) all behind) ∙ turn_shows p units limit (ran_text all ++ behind) in
+    let both : true ≡ false = sym shown ∙ none in
+    cc
+
+-- one that isn't is the first of them
+same_then : (p : ℕ) (came : Turn) (r : Ran Wholes) (s : Ran Processes) (state : Wholes) (processes : Processes) (run : Progress) (behind : List ℕ)
+    → is_full_turn came ≡ false → (SaysNoFull r behind → RanSame r s)
+    → SaysNoFull (event_then p came r state run) behind → RanSame (event_then p came r state run) (event_then p came s processes run)
+same_then p turn.Stepped r s state processes run behind fits rest none =
+    same_first p turn.Stepped r s (rest (behind_first p turn.Stepped r behind none))
+same_then p (turn.Wrote written) r s state processes run behind fits rest none =
+    same_first p (turn.Wrote written) r s (rest (behind_first p (turn.Wrote written) r behind none))
+same_then p (turn.Exited code) r s state processes run behind fits rest none =
+    same_first p (turn.Exited code) r s (rest (behind_first p (turn.Exited code) r behind none))
+same_then p (turn.Faulted kind at) r s state processes run behind fits rest none =
+    same_first p (turn.Faulted kind at) r s (rest (behind_first p (turn.Faulted kind at) r behind none))
+same_then p (turn.Full units limit) r s state processes run behind fits rest none = cc
+
+module _ (breaks : Breaks) (behind : List ℕ) where
+  -- whose turn comes out so
+  same_turn : (p : ℕ) (state : Wholes) (run : Progress) (others : Ran Wholes) (each : Processes → Ran Processes) → ComesOut state p
+      → (SaysNoFull others behind → RanSame others (each (after_turn state p).processes))
+      → SaysNoFull (event_then p (turn_of state p) others state run) behind
+      → RanSame (event_then p (turn_of state p) others state run) (event_then p (step_among state.processes p) (each (after_step_of state.processes p)) state.processes run)
+  same_turn p state run others each (IsFullTurn units limit is) rest none =
+      absurd (full_shows p units limit others state run behind (subst (λ t. SaysNoFull (event_then p t others state run) behind) is none))
+  same_turn p state run others each (IsStep is fits after) rest none =
+      let there = subst (λ t. SaysNoFull (event_then p t others state run) behind) is none in
+      subst (λ t. RanSame (event_then p t others state run) (event_then p (step_among state.processes p) (each (after_step_of state.processes p)) state.processes run)) (sym is)
+      (same_then p (step_among state.processes p) others (each (after_step_of state.processes p)) state state.processes run behind fits
+      (λ quiet. subst (λ ps. RanSame others (each ps)) after (rest quiet)) there)
+
+  same_next : (next : Option ℕ) (state : Wholes) (run : Progress) (r : ℕ → Ran Wholes) (s : ℕ → Processes → Ran Processes)
+      → ((p : ℕ) → SaysNoFull (r p) behind → RanSame (r p) (s p (after_turn state p).processes))
+      → SaysNoFull (turns_by (turn_of state) next r state run) behind
+      → RanSame (turns_by (turn_of state) next r state run) (turns_by (step_among state.processes) next (λ p. s p (after_step_of state.processes p)) state.processes run)
+  same_next None state run r s rest none = same_stopped (rest_of run.order) state run
+  same_next (Some p) state run r s rest none = same_turn p state run (r p) (s p) (comes_out state p) (rest p) none
+
+  same_unless : (broken : Option Stop) (state : Wholes) (run : Progress) (r : Ran Wholes) (s : Ran Processes) → (SaysNoFull r behind → RanSame r s)
+      → SaysNoFull (unless_broken broken r state run) behind → RanSame (unless_broken broken r state run) (unless_broken broken s state.processes run)
+  same_unless None state run r s rest none = rest none
+  same_unless (Some why) state run r s rest none = same_stopped why state run
+
+  pub same_ran : (left : ℕ) (state : Wholes) (run : Progress) → SaysNoFull (ran breaks left state run) behind
+      → RanSame (ran breaks left state run) (ran_by (unbounded_turns breaks) left state.processes run)
+  same_ran zero state run none =
+      let why = option_map_or (λ p. stop.Limit) (next_of state run.order) (rest_of run.order) in
+      same_unless (last_break breaks state run) state run (stopped why state run) (stopped why state.processes run) (λ quiet. same_stopped why state run) none
+  same_ran (suc left) state run none =
+      let next = next_of state run.order in
+      same_unless (last_break breaks state run) state run
+      (turns_by (turn_of state) next (λ p. ran breaks left (after_turn state p) (run_after p run)) state run)
+      (turns_by (step_among state.processes) next (λ p. ran_by (unbounded_turns breaks) left (after_step_of state.processes p) (run_after p run)) state.processes run)
+      (same_next next state run (λ p. ran breaks left (after_turn state p) (run_after p run)) (λ p ps. ran_by (unbounded_turns breaks) left ps (run_after p run))
+      (λ p quiet. same_ran left (after_turn state p) (run_after p run) quiet))
+      none
+
+-- What a command comes to.
+
+-- the unbounded machine that a state stands for, which has these lines of counts to print
+abbrev pub unbounded_of : List (List ℕ) → State → Unbounded
+unbounded_of counts state = record { registry = registry_of state; counts = counts }
+
+pub record PerformedSame (counts : List (List ℕ)) (x : Performed State) (y : Performed Unbounded) : Type 0 where
+  pub text : x.text ≡ y.text
+  pub after : unbounded_of counts x.after ≡ y.after
+  pub wants : x.wants_memory ≡ y.wants_memory
+
+abbrev ShowsNoFull : Performed State → List ℕ → Type 0
+ShowsNoFull x behind = has_full_line (x.text ++ behind) ≡ false
+
+same_text : (r : Ran Wholes) (s : Ran Processes) → RanSame r s → ran_text r ≡ ran_text s
+same_text r s same =
+    ap (λ (es : List (ℕ × Turn)). flat_map (λ event. turn_text event.0 event.1) es ++ stop_text r.taken r.stop) same.events
+    ∙ ap (λ n. flat_map (λ event. turn_text event.0 event.1) s.events ++ stop_text n r.stop) same.taken
+    ∙ ap (λ x. flat_map (λ event. turn_text event.0 event.1) s.events ++ stop_text s.taken x) same.stop_is
+
+not_wanted : (memory : MemoryTaken) (full : Bool) → wants_by memory true full ≡ wants_by memory true false
+not_wanted TakesNone full = refl
+not_wanted TakesLast full = refl
+not_wanted TakesFirst full = refl
+
+-- A change, where it is known whether it is refused, and whether there aren't units enough.
+abbrev given_by : Row → State → Option Code → Bool → Changed State
+given_by row state refusal full = option_map_or (λ code. refuses code state) refusal (cond full (falls_short row state) (accepts row state))
+
+abbrev unbounded_by : Row → Unbounded → Option Code → Changed Unbounded
+unbounded_by row state refusal = option_map_or (λ code. refuses code state) refusal (does_row row state)
+
+record ChangedSame (counts : List (List ℕ)) (c : Changed State) (d : Changed Unbounded) : Type 0 where
+  answer_is : c.answer ≡ d.answer
+  left : unbounded_of counts c.after ≡ d.after
+
+module _ (counts : List (List ℕ)) (behind : List ℕ) where
+  changed_by : (row : Row) (state : State) (refusal : Option Code) (full : Bool)
+      → has_full_line (answer_text (given_by row state refusal full).answer ++ behind) ≡ false
+      → ChangedSame counts (given_by row state refusal full) (unbounded_by row (unbounded_of counts state) refusal)
+      × (wants_by row.memory (is_some refusal) full ≡ wants_by row.memory (is_some refusal) false)
+  changed_by row state (Some code) full none = (record { answer_is = refl; left = refl }, not_wanted row.memory full)
+  changed_by row state None false none = (record { answer_is = refl; left = refl }, refl)
+  changed_by row state None true none =
+      let shown = answer_shows (event_needs row.event state.wholes) (limit_of state.wholes.frames) behind in
+      let both : true ≡ false = sym shown ∙ none in
+      cc
+
+  changed_same : (row : Row) (state : State) → has_full_line (answer_text (change_by row state).answer ++ behind) ≡ false
+      → ChangedSame counts (change_by row state) (change_unbounded row (unbounded_of counts state))
+      × (may_want_memory row state ≡ wants_unbounded row (unbounded_of counts state))
+  changed_same row state none = changed_by row state (first_refusal row.refusals) (is_row_full row state) none
+
+  same_told : (row : Row) (state : State) → ShowsNoFull (row_told rules row state) behind
+      → PerformedSame counts (row_told rules row state) (row_told unbounded row (unbounded_of counts state))
+  same_told row state none =
+      let same = changed_same row state none in
+      record { text = ap answer_text same.0.answer_is; after = same.0.left; wants = same.1 }
+
+  -- turns
+  same_takes : (run : Progress) (state : State) → ShowsNoFull (takes_turns run state) behind
+      → PerformedSame counts (takes_turns run state) (takes_unbounded run (unbounded_of counts state))
+  same_takes run state none =
+      let same = same_ran state.breakpoints behind (run.turns - run.taken) state.wholes run none in
+      record {
+        text = same_text _ _ same;
+        after = λ i. record {
+          registry = record {
+            processes = same.after i;
+            checkpoints = state.checkpoints;
+            breakpoints = state.breakpoints;
+            drawn = state.drawn;
+          };
+          counts = counts;
+        };
+        wants = refl;
+      }
+
+  -- what is printed
+  same_printed : (text : List ℕ) (state : State) → PerformedSame counts (printed text state) (printed text (unbounded_of counts state))
+  same_printed text state = record { text = refl; after = refl; wants = refl }
+
+  same_refused : (code : Code) (state : State) → PerformedSame counts (told false (refuses code state)) (told false (refuses code (unbounded_of counts state)))
+  same_refused code state = record { text = refl; after = refl; wants = refl }
+
+  same_exec_turns : (turns : ℕ) (answer : Answer) (state : State) → ShowsNoFull (exec_turns rules turns answer state) behind
+      → PerformedSame counts (exec_turns rules turns answer state) (exec_turns unbounded turns answer (unbounded_of counts state))
+  same_exec_turns turns (Loaded p pages entry) state none = same_takes (alone p turns) state none
+  same_exec_turns turns Done state none = same_printed [] state
+  same_exec_turns turns (Forked p q) state none = same_printed [] state
+  same_exec_turns turns (Saved p name space) state none = same_printed [] state
+  same_exec_turns turns (Refused code) state none = same_printed [] state
+  same_exec_turns turns (Full units limit) state none = same_printed [] state
+  same_exec_turns turns Memory state none = same_printed [] state
+
+  same_running : (p turns : ℕ) (state : State) (runs : Bool) → ShowsNoFull (cond runs (takes_turns (alone p turns) state) (told false (refuses Ended state))) behind
+      → PerformedSame counts (cond runs (takes_turns (alone p turns) state) (told false (refuses Ended state)))
+      (cond runs (takes_unbounded (alone p turns) (unbounded_of counts state)) (told false (refuses Ended (unbounded_of counts state))))
+  same_running p turns state true none = same_takes (alone p turns) state none
+  same_running p turns state false none = same_refused Ended state
+
+  same_steps : (p turns : ℕ) (o : Option Process) (state : State) → ShowsNoFull (steps rules p turns o state) behind
+      → PerformedSame counts (steps rules p turns o state) (steps unbounded p turns o (unbounded_of counts state))
+  same_steps p turns None state none = same_refused NoProcess state
+  same_steps p turns (Some process) state none = same_running p turns state (runs process.state) none
+
+  same_regs : (p : ℕ) (o : Option Process) (state : State) → PerformedSame counts (regs_of p o state) (regs_of p o (unbounded_of counts state))
+  same_regs p None state = same_refused NoProcess state
+  same_regs p (Some process) state = same_printed (regs_text p process) state
+
+  same_read : (text : Contents → List ℕ) (memory : Contents) (o : Option ℕ) (state : State)
+      → PerformedSame counts (prints_read text memory o state) (prints_read text memory o (unbounded_of counts state))
+  same_read text memory None state = same_printed (text memory) state
+  same_read text memory (Some at) state = same_refused (Unmapped at) state
+
+  same_prints : (address n : ℕ) (text : Contents → List ℕ) (o : Option Process) (state : State)
+      → PerformedSame counts (prints_of address n text o state) (prints_of address n text o (unbounded_of counts state))
+  same_prints address n text None state = same_refused NoProcess state
+  same_prints address n text (Some process) state = same_read text process.memory (first_denied process.memory 0 address n) state
+
+-- A load, and the turns that follow it.
+module _ (counts : List (List ℕ)) (behind : List ℕ) (file : List ℕ) (turns : ℕ) (state : State) where
+  abbrev here : Unbounded
+  here = unbounded_of counts state
+
+  abbrev loaded : Changed State
+  loaded = change_by (load_row file (registry_of state)) state
+
+  abbrev loaded_here : Changed Unbounded
+  loaded_here = change_unbounded (load_row file (registry_of state)) here
+
+  abbrev rest : Performed State
+  rest = exec_turns rules turns loaded.answer loaded.after
+
+  same_exec : ShowsNoFull (exec_done rules file turns state) behind → PerformedSame counts (exec_done rules file turns state) (exec_done unbounded file turns here)
+  same_exec none =
+      let apart : has_full_line (answer_text loaded.answer ++ (rest.text ++ behind)) ≡ false =
+          sym (ap has_full_line (append_assoc (answer_text loaded.answer) rest.text behind)) ∙ none in
+      let first = changed_same counts (rest.text ++ behind) (load_row file (registry_of state)) state apart in
+      let left = behind_lines (answer_text loaded.answer) (rest.text ++ behind) (answer_lines loaded.answer) apart in
+      let next = same_exec_turns counts behind turns loaded.answer loaded.after left in
+      let there : PerformedSame counts rest (exec_turns unbounded turns loaded_here.answer loaded_here.after) =
+          subst (λ a. PerformedSame counts rest (exec_turns unbounded turns a loaded_here.after)) first.0.answer_is
+          (subst (λ u. PerformedSame counts rest (exec_turns unbounded turns loaded.answer u)) first.0.left next) in
+      record {
+        text = ap (λ a. answer_text a ++ rest.text) first.0.answer_is ∙ ap (λ t. answer_text loaded_here.answer ++ t) there.text;
+        after = there.after;
+        wants = refl;
+      }
+
+-- the lines of counts that a command prints, before others
+abbrev pub counted : Command → State → List (List ℕ) → List (List ℕ)
+counted command.Stats state counts = stats_text state ∷ counts
+counted other state counts = counts
+
+-- Where a command's text has no line of `full`, it comes to what it comes to in the unbounded machine.
+pub same_performed : (counts : List (List ℕ)) (behind : List ℕ) (quantum : ℕ) (file : List ℕ) (c : Command) (state : State)
+    → ShowsNoFull (performed quantum file c state) behind
+    → PerformedSame counts (performed quantum file c state) (performed_by unbounded quantum file c (unbounded_of (counted c state counts) state))
+same_performed counts behind quantum file (command.Exec x y) state none = same_exec counts behind file y state none
+same_performed counts behind quantum file (command.Run x) state none = same_takes counts behind (by_turns quantum x) state none
+same_performed counts behind quantum file (command.Step x y) state none = same_steps counts behind x y (get state.wholes.processes x) state none
+same_performed counts behind quantum file command.List state none = same_printed counts behind (list_text (registry_of state)) state
+same_performed counts behind quantum file command.Stats state none = record { text = refl; after = refl; wants = refl }
+same_performed counts behind quantum file (command.Regs x) state none = same_regs counts behind x (get state.wholes.processes x) state
+same_performed counts behind quantum file (command.Dump x y z) state none =
+    same_prints counts behind y z (λ memory. dump_text memory y z) (get state.wholes.processes x) state
+same_performed counts behind quantum file (command.Disasm x y z) state none =
+    same_prints counts behind y (WORD_BYTES * z) (λ memory. disasm_text memory y z) (get state.wholes.processes x) state
+same_performed counts behind quantum file (command.Load x) state none = same_told counts behind (change_row file (command.Load x) (registry_of state)) state none
+same_performed counts behind quantum file (command.Fork x) state none = same_told counts behind (change_row file (command.Fork x) (registry_of state)) state none
+same_performed counts behind quantum file (command.Checkpoint x y) state none = same_told counts behind (change_row file (command.Checkpoint x y) (registry_of state)) state none
+same_performed counts behind quantum file (command.Restore x y) state none = same_told counts behind (change_row file (command.Restore x y) (registry_of state)) state none
+same_performed counts behind quantum file (command.Forget x) state none = same_told counts behind (change_row file (command.Forget x) (registry_of state)) state none
+same_performed counts behind quantum file (command.Speculate x) state none = same_told counts behind (change_row file (command.Speculate x) (registry_of state)) state none
+same_performed counts behind quantum file (command.Commit x) state none = same_told counts behind (change_row file (command.Commit x) (registry_of state)) state none
+same_performed counts behind quantum file (command.Discard x) state none = same_told counts behind (change_row file (command.Discard x) (registry_of state)) state none
+same_performed counts behind quantum file (command.Promote x y) state none = same_told counts behind (change_row file (command.Promote x y) (registry_of state)) state none
+same_performed counts behind quantum file (command.PromoteAll x) state none = same_told counts behind (change_row file (command.PromoteAll x) (registry_of state)) state none
+same_performed counts behind quantum file command.Compact state none = same_told counts behind (change_row file command.Compact (registry_of state)) state none
+same_performed counts behind quantum file (command.Map x y z w) state none = same_told counts behind (change_row file (command.Map x y z w) (registry_of state)) state none
+same_performed counts behind quantum file (command.Unmap x y z) state none = same_told counts behind (change_row file (command.Unmap x y z) (registry_of state)) state none
+same_performed counts behind quantum file (command.Drop x) state none = same_told counts behind (change_row file (command.Drop x) (registry_of state)) state none
+same_performed counts behind quantum file (command.Poke x y z) state none = same_told counts behind (change_row file (command.Poke x y z) (registry_of state)) state none
+same_performed counts behind quantum file (command.Set x y z) state none = same_told counts behind (change_row file (command.Set x y z) (registry_of state)) state none
+same_performed counts behind quantum file (command.Break x y) state none = same_told counts behind (change_row file (command.Break x y) (registry_of state)) state none
+same_performed counts behind quantum file (command.Unbreak x y) state none = same_told counts behind (change_row file (command.Unbreak x y) (registry_of state)) state none
+
+-- Each command's text is whole lines, or none.
+
+lines_of : {A : Type 0} (text : A → List ℕ) → ((x : A) → AreLines (text x)) → (xs : List A) → AreLines (flat_map text xs)
+lines_of text each [] = no_lines
+lines_of text each (x ∷ xs) = lines_both (text x) (flat_map text xs) (each x) (lines_of text each xs)
+
+ran_lines : {M : Type 0} (r : Ran M) → AreLines (ran_text r)
+ran_lines r = lines_both _ (stop_text r.taken r.stop) (lines_of _ (λ event. turn_lines event.0 event.1) r.events) (stop_lines r.taken r.stop)
+
+register_lines : (registers : Registers) (i n : ℕ) → AreLines (registers_from registers i n)
+unfolding registers_from
+register_lines registers i zero = no_lines
+register_lines registers i (suc n) = lines_both _ (registers_from registers (i + 1) n) (ends_register i _ true) (register_lines registers (i + 1) n)
+
+dump_lines : (rows : ℕ) (memory : Contents) (address count : ℕ) → AreLines (dump_from rows memory address count)
+unfolding dump_from
+dump_lines zero memory address count = no_lines
+dump_lines (suc rows) memory address count = lines_both _ _ (ends_dump address _ true) (dump_lines rows memory _ _)
+
+disasm_lines : (memory : Contents) (address words : ℕ) → AreLines (disasm_text memory address words)
+unfolding disasm_text
+disasm_lines memory address zero = no_lines
+disasm_lines memory address (suc words) = lines_both _ _ (ends_disasm address _ true) (disasm_lines memory (address + WORD_BYTES) words)
+
+list_lines : (registry : Registry) → AreLines (list_text registry)
+unfolding list_head process_text checkpoint_text
+list_lines registry =
+    lines_both (list_head registry) _ (ends_list _ _ true)
+    (lines_both (processes_text registry) (checkpoints_text registry)
+    (lines_of process_text (λ entry. ends_process entry.0 entry.1.state (is_speculating entry.1) _ true) _)
+    (lines_of checkpoint_text (λ checkpoint. ends_checkpoint checkpoint.name checkpoint.space _ true) _))
+
+regs_lines : (p : ℕ) (o : Option Process) (state : State) → AreLines (regs_of p o state).text
+unfolding regs_head
+regs_lines p None state = answer_lines (Refused NoProcess)
+regs_lines p (Some process) state =
+    lines_both (regs_head p process) _ (ends_regs p process.state (is_speculating process) true) (register_lines process.registers 0 32)
+
+read_lines : (text : Contents → List ℕ) → ((memory : Contents) → AreLines (text memory)) → (memory : Contents) (o : Option ℕ) (state : State)
+    → AreLines (prints_read text memory o state).text
+read_lines text each memory None state = each memory
+read_lines text each memory (Some at) state = answer_lines (Refused (Unmapped at))
+
+prints_lines : (address n : ℕ) (text : Contents → List ℕ) → ((memory : Contents) → AreLines (text memory)) → (o : Option Process) (state : State)
+    → AreLines (prints_of address n text o state).text
+prints_lines address n text each None state = answer_lines (Refused NoProcess)
+prints_lines address n text each (Some process) state = read_lines text each process.memory (first_denied process.memory 0 address n) state
+
+running_lines : (p turns : ℕ) (state : State) (runs : Bool) → AreLines (cond runs (takes_turns (alone p turns) state) (told false (refuses Ended state))).text
+running_lines p turns state true = ran_lines (ran_from state.breakpoints state.wholes (alone p turns))
+running_lines p turns state false = answer_lines (Refused Ended)
+
+steps_lines : (p turns : ℕ) (o : Option Process) (state : State) → AreLines (steps rules p turns o state).text
+steps_lines p turns None state = answer_lines (Refused NoProcess)
+steps_lines p turns (Some process) state = running_lines p turns state (runs process.state)
+
+exec_turns_lines : (turns : ℕ) (answer : Answer) (state : State) → AreLines (exec_turns rules turns answer state).text
+exec_turns_lines turns (Loaded p pages entry) state = ran_lines (ran_from state.breakpoints state.wholes (alone p turns))
+exec_turns_lines turns Done state = no_lines
+exec_turns_lines turns (Forked p q) state = no_lines
+exec_turns_lines turns (Saved p name space) state = no_lines
+exec_turns_lines turns (Refused code) state = no_lines
+exec_turns_lines turns (Full units limit) state = no_lines
+exec_turns_lines turns Memory state = no_lines
+
+stats_lines : (state : State) → AreLines (stats_text state)
+unfolding stats_text
+stats_lines state = ends_stats _ _ _ _ _ true
+
+pub performed_lines : (quantum : ℕ) (file : List ℕ) (c : Command) (state : State) → AreLines (performed quantum file c state).text
+performed_lines quantum file (command.Exec x y) state =
+    let loaded = change_by (load_row file (registry_of state)) state in
+    lines_both (answer_text loaded.answer) _ (answer_lines loaded.answer) (exec_turns_lines y loaded.answer loaded.after)
+performed_lines quantum file (command.Run x) state = ran_lines (ran_from state.breakpoints state.wholes (by_turns quantum x))
+performed_lines quantum file (command.Step x y) state = steps_lines x y (get state.wholes.processes x) state
+performed_lines quantum file command.List state = list_lines (registry_of state)
+performed_lines quantum file command.Stats state = stats_lines state
+performed_lines quantum file (command.Regs x) state = regs_lines x (get state.wholes.processes x) state
+performed_lines quantum file (command.Dump x y z) state =
+    prints_lines y z (λ memory. dump_text memory y z) (λ memory. dump_lines _ memory y z) (get state.wholes.processes x) state
+performed_lines quantum file (command.Disasm x y z) state =
+    prints_lines y (WORD_BYTES * z) (λ memory. disasm_text memory y z) (λ memory. disasm_lines memory y z) (get state.wholes.processes x) state
+performed_lines quantum file (command.Load x) state = answer_lines (change_by (change_row file (command.Load x) (registry_of state)) state).answer
+performed_lines quantum file (command.Fork x) state = answer_lines (change_by (change_row file (command.Fork x) (registry_of state)) state).answer
+performed_lines quantum file (command.Checkpoint x y) state = answer_lines (change_by (change_row file (command.Checkpoint x y) (registry_of state)) state).answer
+performed_lines quantum file (command.Restore x y) state = answer_lines (change_by (change_row file (command.Restore x y) (registry_of state)) state).answer
+performed_lines quantum file (command.Forget x) state = answer_lines (change_by (change_row file (command.Forget x) (registry_of state)) state).answer
+performed_lines quantum file (command.Speculate x) state = answer_lines (change_by (change_row file (command.Speculate x) (registry_of state)) state).answer
+performed_lines quantum file (command.Commit x) state = answer_lines (change_by (change_row file (command.Commit x) (registry_of state)) state).answer
+performed_lines quantum file (command.Discard x) state = answer_lines (change_by (change_row file (command.Discard x) (registry_of state)) state).answer
+performed_lines quantum file (command.Promote x y) state = answer_lines (change_by (change_row file (command.Promote x y) (registry_of state)) state).answer
+performed_lines quantum file (command.PromoteAll x) state = answer_lines (change_by (change_row file (command.PromoteAll x) (registry_of state)) state).answer
+performed_lines quantum file command.Compact state = answer_lines (change_by (change_row file command.Compact (registry_of state)) state).answer
+performed_lines quantum file (command.Map x y z w) state = answer_lines (change_by (change_row file (command.Map x y z w) (registry_of state)) state).answer
+performed_lines quantum file (command.Unmap x y z) state = answer_lines (change_by (change_row file (command.Unmap x y z) (registry_of state)) state).answer
+performed_lines quantum file (command.Drop x) state = answer_lines (change_by (change_row file (command.Drop x) (registry_of state)) state).answer
+performed_lines quantum file (command.Poke x y z) state = answer_lines (change_by (change_row file (command.Poke x y z) (registry_of state)) state).answer
+performed_lines quantum file (command.Set x y z) state = answer_lines (change_by (change_row file (command.Set x y z) (registry_of state)) state).answer
+performed_lines quantum file (command.Break x y) state = answer_lines (change_by (change_row file (command.Break x y) (registry_of state)) state).answer
+performed_lines quantum file (command.Unbreak x y) state = answer_lines (change_by (change_row file (command.Unbreak x y) (registry_of state)) state).answer

@@ -1,0 +1,177 @@
+use Rattle.std.specs.Prelude.{◌≡◌, ℕ, ◌==◌, ◌&&◌, ◌||◌, Bool, true, false, List, [], ◌∷◌, ◌++◌, codes, refl}
+use Rattle.std.proofs.Common.{sym, ap, ◌∙◌}
+use Rattle.ovl_io.specs.declared.process_state.FaultKind.{FaultKind}
+use Rattle.ovl_io.specs.declared.process_state.ProcessState.{ProcessState}
+use Rattle.ovl_io.specs.declared.turn.Turn.{Turn}
+use Rattle.ovl_io.specs.declared.turn.Turn.TheVariants as turn
+use Rattle.report_text.specs.declared.answer.Answer.{Answer}
+use Rattle.report_text.specs.declared.answer.Answer.TheVariants as answer
+use Rattle.report_text.specs.declared.answer.Code.{Code}
+use Rattle.report_text.specs.declared.answer.Stop.{Stop}
+use Rattle.report_text.specs.declared.answer.Stop.TheVariants as stop
+use Rattle.report_text.specs.Digits.{in_decimal, address_text, hex_places, word_text}
+use Rattle.report_text.specs.Names.{kind_text, code_text, stop_word}
+use Rattle.report_text.specs.Texts.{bytes_text, port_text, state_text, pages_text, dumped_text}
+use Rattle.report_text.specs.Instructions.{instruction_text}
+use Rattle.report_text.specs.Lines.{loaded_line, forked_line, saved_line, refused_line, full_line, bad_line, wrote_line, exited_line, faulted_line, full_turn_line, break_line, ran_line, list_line, process_line, checkpoint_line, stats_line, regs_line, register_name, register_line, dump_line, disasm_line}
+use Rattle.report_text.specs.Answers.{answer_text, turn_text, stop_text}
+
+-- Whether a line of a report begins with the word `full`, as those do that say that there weren't units enough.
+
+-- whether a text begins with a word
+pub begins_with : List ℕ → List ℕ → Bool
+begins_with [] text = true
+begins_with (a ∷ word) [] = false
+begins_with (a ∷ word) (b ∷ text) = (a == b) && begins_with word text
+
+-- whether such a line begins in a text, of which the first byte begins a line or doesn't
+pub full_from : Bool → List ℕ → Bool
+full_from begins [] = false
+full_from begins (b ∷ text) = (begins && begins_with (codes "full ") (b ∷ text)) || full_from (b == 10) text
+
+abbrev pub has_full_line : List ℕ → Bool
+has_full_line text = full_from true text
+
+-- Texts in which lines end.
+
+-- whether the next byte begins a line, behind a text of which the first byte begins one or doesn't
+pub ends : Bool → List ℕ → Bool
+ends begins [] = begins
+ends begins (b ∷ text) = ends (b == 10) text
+
+-- whole lines, or none
+abbrev pub AreLines : List ℕ → Type 0
+AreLines text = ends true text ≡ true
+
+-- a text that ends a line
+abbrev pub EndsLine : List ℕ → Type 0
+EndsLine text = (begins : Bool) → ends begins text ≡ true
+
+second_false : (x y : Bool) → (x || y) ≡ false → y ≡ false
+second_false true y h = cc
+second_false false y h = h
+
+-- where no such line begins in a text, none begins in what is behind a part of it
+pub full_behind : (front text : List ℕ) (begins : Bool) → full_from begins (front ++ text) ≡ false → full_from (ends begins front) text ≡ false
+unfolding full_from ends
+full_behind [] text begins none = none
+full_behind (b ∷ front) text begins none = full_behind front text (b == 10) (second_false _ _ none)
+
+pub behind_lines : (front text : List ℕ) → AreLines front → has_full_line (front ++ text) ≡ false → has_full_line text ≡ false
+behind_lines front text lines none = ap (λ b. full_from b text) (sym lines) ∙ full_behind front text true none
+
+ends_both : (front text : List ℕ) (begins : Bool) → ends begins (front ++ text) ≡ ends (ends begins front) text
+unfolding ends
+ends_both [] text begins = refl
+ends_both (b ∷ front) text begins = ends_both front text (b == 10)
+
+pub lines_both : (front text : List ℕ) → AreLines front → AreLines text → AreLines (front ++ text)
+lines_both front text h k = ends_both front text true ∙ ap (λ b. ends b text) h ∙ k
+
+pub no_lines : AreLines []
+unfolding ends
+no_lines = refl
+
+behind : (front text : List ℕ) → EndsLine text → EndsLine (front ++ text)
+behind front text h begins = ends_both front text begins ∙ h (ends begins front)
+
+line_end : EndsLine (codes "\n")
+unfolding ends
+line_end begins = refl
+
+-- The lines of the report, one by one.
+
+line : (word : List ℕ) → EndsLine (word ++ codes "\n")
+line word = behind word (codes "\n") line_end
+
+ends_loaded : (p pages entry : ℕ) → EndsLine (loaded_line p pages entry)
+ends_loaded p pages entry = line (codes "loaded " ++ in_decimal p ++ pages_text pages ++ codes " entry " ++ address_text entry)
+
+ends_forked : (p new : ℕ) → EndsLine (forked_line p new)
+ends_forked p new = line (codes "forked " ++ in_decimal p ++ codes " " ++ in_decimal new)
+
+ends_saved : (p : ℕ) (name : List ℕ) (space : ℕ) → EndsLine (saved_line p name space)
+ends_saved p name space = line (codes "saved " ++ in_decimal p ++ codes " " ++ name ++ codes " " ++ in_decimal space)
+
+ends_refused : (code : Code) → EndsLine (refused_line code)
+ends_refused code = line (codes "refused " ++ code_text code)
+
+ends_full : (units limit : ℕ) → EndsLine (full_line units limit)
+ends_full units limit = line (codes "full " ++ in_decimal units ++ codes " " ++ in_decimal limit)
+
+ends_wrote : (p port : ℕ) (bytes : List ℕ) → EndsLine (wrote_line p port bytes)
+ends_wrote p port bytes = line (port_text port ++ in_decimal p ++ codes " " ++ bytes_text bytes)
+
+ends_exited : (p exit : ℕ) → EndsLine (exited_line p exit)
+ends_exited p exit = line (codes "exited " ++ in_decimal p ++ codes " " ++ in_decimal exit)
+
+ends_faulted : (p : ℕ) (kind : FaultKind) (at : ℕ) → EndsLine (faulted_line p kind at)
+ends_faulted p kind at = line (codes "faulted " ++ in_decimal p ++ codes " " ++ kind_text kind ++ codes " " ++ address_text at)
+
+ends_full_turn : (p units limit : ℕ) → EndsLine (full_turn_line p units limit)
+ends_full_turn p units limit = line (codes "full " ++ in_decimal p ++ codes " " ++ in_decimal units ++ codes " " ++ in_decimal limit)
+
+ends_ran : (taken : ℕ) (why : Stop) → EndsLine (ran_line taken why)
+ends_ran taken why = line (codes "ran " ++ in_decimal taken ++ codes " " ++ stop_word why)
+
+pub ends_list : (processes checkpoints : ℕ) → EndsLine (list_line processes checkpoints)
+ends_list processes checkpoints = line (codes "list " ++ in_decimal processes ++ codes " " ++ in_decimal checkpoints)
+
+pub ends_process : (p : ℕ) (state : ProcessState) (speculating : Bool) (pages : ℕ) → EndsLine (process_line p state speculating pages)
+ends_process p state speculating pages =
+    line (codes "process " ++ in_decimal p ++ codes " " ++ state_text state speculating ++ pages_text pages)
+
+pub ends_checkpoint : (name : List ℕ) (space pages : ℕ) → EndsLine (checkpoint_line name space pages)
+ends_checkpoint name space pages = line (codes "checkpoint " ++ name ++ codes " " ++ in_decimal space ++ pages_text pages)
+
+pub ends_stats : (units limit lines hits misses : ℕ) → EndsLine (stats_line units limit lines hits misses)
+ends_stats units limit lines hits misses =
+    line (codes "units " ++ in_decimal units ++ codes " of " ++ in_decimal limit ++ codes " lines " ++ in_decimal lines ++ codes " hits " ++ in_decimal hits
+    ++ codes " misses " ++ in_decimal misses)
+
+pub ends_regs : (p : ℕ) (state : ProcessState) (speculating : Bool) → EndsLine (regs_line p state speculating)
+ends_regs p state speculating = line (codes "regs " ++ in_decimal p ++ codes " " ++ state_text state speculating)
+
+pub ends_register : (i value : ℕ) → EndsLine (register_line i value)
+ends_register i value = line (register_name i ++ codes " " ++ word_text value)
+
+pub ends_dump : (at : ℕ) (bytes : List ℕ) → EndsLine (dump_line at bytes)
+ends_dump at bytes = line (word_text at ++ dumped_text bytes)
+
+pub ends_disasm : (at word : ℕ) → EndsLine (disasm_line at word)
+ends_disasm at word = line (word_text at ++ codes " " ++ hex_places 8 word ++ codes " " ++ instruction_text word)
+
+-- Texts of answers, turns and endings are whole lines, or none.
+
+pub answer_lines : (result : Answer) → AreLines (answer_text result)
+answer_lines answer.Done = line (codes "ok") true
+answer_lines (answer.Loaded p pages entry) = ends_loaded p pages entry true
+answer_lines (answer.Forked p new) = ends_forked p new true
+answer_lines (answer.Saved p name space) = ends_saved p name space true
+answer_lines (answer.Refused code) = ends_refused code true
+answer_lines (answer.Full units limit) = ends_full units limit true
+answer_lines answer.Memory = no_lines
+
+pub turn_lines : (p : ℕ) (came : Turn) → AreLines (turn_text p came)
+turn_lines p turn.Stepped = no_lines
+turn_lines p (turn.Wrote written) = ends_wrote p written.0 written.1 true
+turn_lines p (turn.Exited exit) = ends_exited p exit true
+turn_lines p (turn.Faulted kind at) = ends_faulted p kind at true
+turn_lines p (turn.Full units limit) = ends_full_turn p units limit true
+
+pub stop_lines : (taken : ℕ) (why : Stop) → AreLines (stop_text taken why)
+stop_lines taken stop.Limit = ends_ran taken stop.Limit true
+stop_lines taken stop.Idle = ends_ran taken stop.Idle true
+stop_lines taken stop.Ended = ends_ran taken stop.Ended true
+stop_lines taken (stop.Break p at) = behind (break_line p at) (ran_line taken (stop.Break p at)) (ends_ran taken (stop.Break p at)) true
+stop_lines taken stop.Full = ends_ran taken stop.Full true
+
+-- What the lines of `full` show.
+
+pub answer_shows : (units limit : ℕ) (text : List ℕ) → has_full_line (answer_text (answer.Full units limit) ++ text) ≡ true
+unfolding full_from begins_with
+answer_shows units limit text = refl
+
+pub turn_shows : (p units limit : ℕ) (text : List ℕ) → has_full_line (turn_text p (turn.Full units limit) ++ text) ≡ true
+unfolding full_from begins_with
+turn_shows p units limit text = refl
