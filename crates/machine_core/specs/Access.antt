@@ -1,6 +1,6 @@
-use Rattle.std.specs.Prelude.{◌≡◌, ℕ, ◌<◌, true, List, length, Option, Some, None, Result, Ok, Err}
+use Rattle.std.specs.Prelude.{◌≡◌, ℕ, ◌<◌, true, List, [], ◌∷◌, length, Option, Some, None, Result, Ok, Err}
 use Rattle.ledger.specs.Units.{units}
-use Rattle.ovl_io.specs.Memory.{denied_at}
+use Rattle.ovl_io.specs.Memory.{Access, denied_at}
 use Rattle.rv_execute.specs.Calls.{store_at}
 use Rattle.rv_execute.specs.declared.memory.Refused.{Refused}
 use Rattle.rv_execute.specs.declared.memory.Refused.TheVariants as refused
@@ -9,7 +9,10 @@ use Rattle.overlay_memory.specs.declared.error.MemoryError.{MemoryError}
 use Rattle.overlay_memory.specs.declared.error.MemoryError.TheVariants.{Unmapped, Forbidden, Full}
 use Rattle.overlay_pages.specs.State.{State, memory_of}
 use Rattle.overlay_pages.specs.Changes.{Fits, limit_of}
-use Rattle.overlay_pages.specs.View.{MemoryView, state_of}
+use Rattle.overlay_pages.specs.View.{MemoryView}
+use Rattle.overlay_memory.specs.View.{state_of, translations_of}
+use Rattle.translation_cache.specs.Bare.{BareTranslations}
+use Rattle.translation_cache.specs.Counted.{counted}
 use Rattle.overlay_pages.specs.Spots.{IsFound}
 use Rattle.overlay_pages.specs.declared.spots.FoundLine.{FoundLine}
 use Rattle.space_maps.specs.Spaces.{holds_space}
@@ -33,6 +36,13 @@ refusal_of (Full needed limit) = refused.Full needed limit
 abbrev pub spaces_lent : View → State
 spaces_lent view = state_of view.memory.now
 
+-- and the pages that were translated last
+abbrev pub lists_lent : View → BareTranslations
+lists_lent view = translations_of view.memory.now
+
+abbrev pub lists_after : View → Access → BareTranslations
+lists_after view access = counted view.space (memory_of (spaces_lent view) view.space) (access ∷ []) (lists_lent view)
+
 -- The line in hand, where there is one, is of this space, and stands as it was found.
 abbrev pub IsInHand : MemoryView → ℕ → Option FoundLine → Type 0
 IsInHand view space None = Unit {0}
@@ -41,16 +51,16 @@ IsInHand view space (Some found) = (found.space ≡ space) × IsFound view found
 -- its space is there
 pub record IsReadyView (view : View) : Type 0 where
   pub there : holds_space (spaces_lent view) view.space ≡ true
-  pub in_hand : IsInHand view.memory.now view.space view.code
+  pub in_hand : IsInHand view.memory.now.pages view.space view.code
 
 -- the same loan of the same space
 pub record IsSameLoan (old new : View) : Type 0 where
   pub loan : new.memory.ghost_name ≡ old.memory.ghost_name
   pub space : new.space ≡ old.space
 
--- nothing changed of it
-abbrev pub IsUnchanged : View → View → Type 0
-IsUnchanged old new = IsSameLoan old new × (spaces_lent new ≡ spaces_lent old)
+-- nothing changed of it, but that an access was translated
+abbrev pub IsUnchanged : Access → View → View → Type 0
+IsUnchanged access old new = IsSameLoan old new × (spaces_lent new ≡ spaces_lent old) × (lists_lent new ≡ lists_after old access)
 
 -- what a store leaves, by its answer
 abbrev pub Leaves : ℕ → State → ℕ → List ℕ → Result (Unit {0}) Refused → State → Type 0
@@ -65,3 +75,4 @@ Leaves space old address bytes (Err (refused.Full needed limit)) new =
 abbrev pub IsStoredBy : View → ℕ → List ℕ → Result (Unit {0}) Refused → View → Type 0
 IsStoredBy old address bytes answer new =
     IsSameLoan old new × Leaves old.space (spaces_lent old) address bytes answer (spaces_lent new)
+    × (lists_lent new ≡ lists_after old (store_at address (length bytes)))

@@ -3,8 +3,8 @@ use Rattle.std.specs.Coded.{Coded, code_by, coded×, coded_ℕ, coded_list}
 use Rattle.std.specs.Ordering.{nat_cmp}
 use Rattle.std.specs.FinMap.{FinMap, code}
 use Rattle.ovl_io.specs.Memory.{Memory, Page}
-use Rattle.overlay_pages.specs.Codes as pages
-use Rattle.overlay_pages.specs.View.{MemoryView}
+use Rattle.overlay_memory.specs.Codes as memories
+use Rattle.overlay_memory.specs.View.{TranslatedView}
 use Rattle.machine_core.specs.Machine.{Machine}
 use Rattle.machine_core.specs.declared.process.Process as declared
 use Rattle.machine_core.specs.contracts.process.Process as process
@@ -19,6 +19,6 @@ memory_code = code coded_ℕ page_code
 
 abbrev pub machine_code : Coded Machine
 machine_code =
-    code_by (MemoryView × FinMap nat_cmp declared.Process)
-    (coded× pages.memory_code (code coded_ℕ process.the_row.coded))
+    code_by (TranslatedView × FinMap nat_cmp declared.Process)
+    (coded× memories.memory_code (code coded_ℕ process.the_row.coded))
     (λ m. (m.memory, m.processes)) (λ t. record { memory = t.0; processes = t.1 }) (λ _. refl)

@@ -7,7 +7,7 @@ use Rattle.std.specs.List.{list_any}
 use Rattle.std.specs.List.Sorted.{IsStrictlyIncreasing}
 use Rattle.std.specs.Vec.{vec_capacity}
 use Rattle.overlay_pages.specs.State.{State, books}
-use Rattle.overlay_pages.specs.View.{MemoryView}
+use Rattle.overlay_memory.specs.View.{TranslatedView, state_of, translations_of}
 use Rattle.space_maps.specs.Spaces.{holds_space, space_in}
 use Rattle.machine_core.specs.Process.{runs}
 use Rattle.machine_core.specs.Machine.{KeepsPlaces, Machine, StaysBut, Wholes, whole_in, wholes}
@@ -23,7 +23,7 @@ abbrev pub Kept : Type 0
 Kept = FinMap nat_cmp declared.Process
 
 -- the machine that they are with a memory
-abbrev pub machine_of : MemoryView → Kept → Machine
+abbrev pub machine_of : TranslatedView → Kept → Machine
 machine_of memory processes = record { memory = memory; processes = processes }
 
 -- whether there is a process of that number, and it runs
@@ -31,12 +31,17 @@ abbrev pub runs_at : Kept → ℕ → Bool
 runs_at processes p = option_map_or (λ (process : declared.Process). runs process.state) (get processes p) false
 
 -- a process that is kept, in its place
-abbrev pub guest_in : ℕ → State → declared.Process → Guest
-guest_in p spaces process = record { process = whole_in spaces p process; ledger = books spaces; frames = spaces.frames }
+abbrev pub guest_in : ℕ → TranslatedView → declared.Process → Guest
+guest_in p memory process = record {
+  process = whole_in (state_of memory) p process;
+  ledger = books (state_of memory);
+  frames = (state_of memory).frames;
+  translations = translations_of memory;
+}
 
 -- the same in the space that is lent
 abbrev pub guest_lent : View → declared.Process → Guest
-guest_lent view process = guest_in view.space (spaces_lent view) process
+guest_lent view process = guest_in view.space view.memory.now process
 
 -- each other space is as it was, and the same ones are there
 pub record IsBeside (p : ℕ) (old new : State) : Type 0 where

@@ -14,7 +14,7 @@ use Rattle.overlay_memory.specs.declared.error.SpaceError.TheVariants.{Full, Mem
 use Rattle.rv_execute.specs.Registers.{first_registers}
 use Rattle.space_maps.specs.Spaces.{space_in}
 use Rattle.machine_core.specs.Process.{Process}
-use Rattle.machine_core.specs.Machine.{AreLike, Machine, StandsFor, StaysBut, Wholes, has_space, limit_of, shown_process, spaces_of, wholes}
+use Rattle.machine_core.specs.Machine.{AreLike, Machine, StandsFor, StaysBut, Wholes, has_space, limit_of, lists_of, shown_process, spaces_of, wholes}
 
 -- What a load makes of a file that is taken.
 
@@ -67,7 +67,12 @@ is_load_full p file state = nat_lt (limit_of state.frames) (load_needs p file st
 -- the copying machine with that process under a number
 abbrev pub with_loaded : ℕ → List ℕ → Wholes → Wholes
 with_loaded p file state =
-    record { processes = insert state.processes p (loaded_process file); ledger = loaded_ledger p file state.ledger; frames = state.frames }
+    record {
+      processes = insert state.processes p (loaded_process file);
+      ledger = loaded_ledger p file state.ledger;
+      frames = state.frames;
+      translations = state.translations;
+    }
 
 -- a machine with that process, its space, and nothing else changed
 pub record IsLoaded (p : ℕ) (file : List ℕ) (old new : Machine) : Type 0 where
@@ -77,9 +82,9 @@ pub record IsLoaded (p : ℕ) (file : List ℕ) (old new : Machine) : Type 0 whe
   pub settled : (space_in (spaces_of new) p).awaiting ≡ empty
   pub others : StaysBut p old new
 
--- the same spaces and processes
+-- the same spaces, translations and processes
 abbrev pub IsAsBefore : Machine → Machine → Type 0
-IsAsBefore old new = (spaces_of new ≡ spaces_of old) × (new.processes ≡ old.processes)
+IsAsBefore old new = (spaces_of new ≡ spaces_of old) × (lists_of new ≡ lists_of old) × (new.processes ≡ old.processes)
 
 -- How a load comes out: full exactly where the units of the ledger after it exceed the limit, and then nothing changes. Want of
 -- memory comes only where they don't.

@@ -8,7 +8,9 @@ use Rattle.sizes.specs.declared.TheConstants.{FRAME_UNITS}
 use Rattle.ledger.specs.Ledger.{Ledger}
 use Rattle.ledger.specs.Alike.{AreAlike}
 use Rattle.overlay_pages.specs.State.{State, base_of, books, memory_of}
-use Rattle.overlay_pages.specs.View.{MemoryView, state_of}
+use Rattle.overlay_memory.specs.View.{TranslatedView, state_of, translations_of}
+use Rattle.translation_cache.specs.Bare.{BareTranslations}
+use Rattle.translation_cache.specs.Translations.{flushed}
 use Rattle.ovl_io.specs.Memory.{Memory}
 use Rattle.ovl_io.specs.declared.process_state.ProcessState.{ProcessState}
 use Rattle.ovl_io.specs.declared.process_state.ProcessState.TheVariants.{Running}
@@ -22,11 +24,13 @@ use Rattle.machine_core.specs.declared.process.SavedRegs.{SavedRegs}
 abbrev pub Processes : Type 0
 Processes = FinMap nat_cmp Process
 
--- The copying machine: whole processes by number, with the ledger of the pages of all spaces, and how many frames there are.
+-- The copying machine: whole processes by number, with the ledger of the pages of all spaces, how many frames there are, and the pages
+-- that were translated last, with their counts.
 pub record Wholes : Type 0 where
   pub processes : Processes
   pub ledger : Ledger
   pub frames : ℕ
+  pub translations : BareTranslations
 
 -- how many units there may be
 abbrev pub limit_of : ℕ → ℕ
@@ -35,12 +39,16 @@ limit_of frames = FRAME_UNITS * frames
 -- The machine has the memories of spaces by number, and processes by number, each with its registers and its state. A process
 -- has the space of its own number.
 pub record Machine : Type 0 where
-  pub memory : MemoryView
+  pub memory : TranslatedView
   pub processes : FinMap nat_cmp declared.Process
 
 -- what its memories are, page by page
 abbrev pub spaces_of : Machine → State
 spaces_of machine = state_of machine.memory
+
+-- and which pages were translated last
+abbrev pub lists_of : Machine → BareTranslations
+lists_of machine = translations_of machine.memory
 
 -- whether a space is there
 abbrev pub has_space : Machine → ℕ → Bool
@@ -78,16 +86,22 @@ processes_of machine = viewed (λ p process. whole_in (spaces_of machine) p proc
 
 abbrev pub wholes : Machine → Wholes
 wholes machine =
-    record { processes = processes_of machine; ledger = books (spaces_of machine); frames = (spaces_of machine).frames }
+    record {
+      processes = processes_of machine;
+      ledger = books (spaces_of machine);
+      frames = (spaces_of machine).frames;
+      translations = lists_of machine;
+    }
 
 -- states of the copying machine that differ in the numbers of origins alone
 pub record AreLike (a b : Wholes) : Type 0 where
   pub processes : a.processes ≡ b.processes
   pub ledger : AreAlike a.ledger b.ledger
   pub frames : a.frames ≡ b.frames
+  pub translations : a.translations ≡ b.translations
 
 -- The machine stands for a state of the copying machine: the processes are that state's, memories included, the frames are
--- as many, and the ledgers are alike.
+-- as many, the translations are the same, and the ledgers are alike.
 abbrev pub StandsFor : Machine → Wholes → Type 0
 StandsFor machine state = AreLike (wholes machine) state
 
@@ -129,12 +143,13 @@ abbrev pub without_process_at : Machine → ℕ → Machine
 without_process_at machine p = record { memory = machine.memory; processes = remove machine.processes p }
 
 -- with another memory
-abbrev pub with_memory : Machine → MemoryView → Machine
+abbrev pub with_memory : Machine → TranslatedView → Machine
 with_memory machine memory = record { memory = memory; processes = machine.processes }
 
 -- the space of a number is given up; nothing else changes
 pub record IsDropped (p : ℕ) (old new : Machine) : Type 0 where
   pub spaces : spaces_of new ≡ cut_space (spaces_of old) p
+  pub lists : lists_of new ≡ flushed p (lists_of old)
   pub processes : new.processes ≡ old.processes
 
 -- the numbers of the processes that run, ascending
@@ -174,8 +189,10 @@ HaveSpaces machine = (p : ℕ) → is_running (wholes machine) p ≡ true → ha
 
 -- the copying machine without a process
 abbrev pub without_process : ℕ → Wholes → Wholes
-without_process p state = record { processes = remove state.processes p; ledger = state.ledger; frames = state.frames }
+without_process p state =
+    record { processes = remove state.processes p; ledger = state.ledger; frames = state.frames; translations = state.translations }
 
--- without the pages of a space in the ledger
+-- without the pages of a space in the ledger, and without translations of them
 abbrev pub without_pages : ℕ → Wholes → Wholes
-without_pages p state = record { processes = state.processes; ledger = remove state.ledger p; frames = state.frames }
+without_pages p state =
+    record { processes = state.processes; ledger = remove state.ledger p; frames = state.frames; translations = flushed p state.translations }

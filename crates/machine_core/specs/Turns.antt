@@ -1,4 +1,4 @@
-use Rattle.std.specs.Prelude.{ℕ, nat_lt, Bool, false, if◌then◌else◌, List, [], ◌∷◌, length, Option, Some, None}
+use Rattle.std.specs.Prelude.{ℕ, nat_lt, Bool, false, if◌then◌else◌, List, [], ◌∷◌, length, map, Option, Some, None}
 use Rattle.std.specs.Option.{option_map, option_map_or}
 use Rattle.std.specs.FinMap.{get, insert}
 use Rattle.ledger.specs.Ledger.{Ledger}
@@ -6,12 +6,14 @@ use Rattle.ledger.specs.Events.{ledger_after}
 use Rattle.ledger.specs.Events as event
 use Rattle.ledger.specs.Touched.{touched}
 use Rattle.ledger.specs.Units.{units}
+use Rattle.translation_cache.specs.Bare.{BareTranslations}
+use Rattle.translation_cache.specs.Counted.{counted}
 use Rattle.ovl_io.specs.Memory.{Memory, denied_at}
 use Rattle.ovl_io.specs.declared.process_state.ProcessState.{ProcessState}
 use Rattle.ovl_io.specs.declared.process_state.ProcessState.TheVariants as state
 use Rattle.ovl_io.specs.declared.turn.Turn.{Turn}
 use Rattle.ovl_io.specs.declared.turn.Turn.TheVariants.{Stepped, Wrote, Exited, Faulted, Full}
-use Rattle.rv_execute.specs.Calls.{Call, Fetch, Load, Store, store_at}
+use Rattle.rv_execute.specs.Calls.{Call, Fetch, Load, Store, access_of, store_at}
 use Rattle.rv_execute.specs.Execution.{Execution, Upshot, Steps, Asks, Faults, execution, outcome_by}
 use Rattle.rv_execute.specs.declared.outcome.Outcome.{Outcome}
 use Rattle.rv_execute.specs.declared.outcome.Outcome.TheVariants as outcome
@@ -23,22 +25,29 @@ use Rattle.machine_core.specs.declared.process.SavedRegs.{SavedRegs}
 
 -- What an instruction of a process does in the copying machine.
 
--- A process in its place: with the ledger of all spaces, and how many frames there are.
+-- A process in its place: with the ledger of all spaces, how many frames there are, and the pages that were translated last.
 pub record Guest : Type 0 where
   pub process : Process
   pub ledger : Ledger
   pub frames : ℕ
+  pub translations : BareTranslations
 
 abbrev pub guest_of : Wholes → Process → Guest
-guest_of state process = record { process = process; ledger = state.ledger; frames = state.frames }
+guest_of state process =
+    record { process = process; ledger = state.ledger; frames = state.frames; translations = state.translations }
 
 abbrev pub guest_at : Wholes → ℕ → Option Guest
 guest_at state p = option_map (guest_of state) (get state.processes p)
 
--- the copying machine with a process and the ledger that it left
+-- the copying machine with a process, and the ledger and translations that it left
 abbrev pub with_guest : Wholes → ℕ → Guest → Wholes
 with_guest state p guest =
-    record { processes = insert state.processes p guest.process; ledger = guest.ledger; frames = guest.frames }
+    record {
+      processes = insert state.processes p guest.process;
+      ledger = guest.ledger;
+      frames = guest.frames;
+      translations = guest.translations;
+    }
 
 -- An instruction is done in two parts: its execution, and then what it asks for, where it is a request.
 
@@ -87,19 +96,35 @@ units_needed p guest = units (ledger_executed p guest)
 unfoldable pub is_full : ℕ → Guest → Bool
 is_full p guest = exceeds (store_of guest.process) (units_needed p guest) (limit_of guest.frames)
 
--- Where there aren't, nothing changes, and both numbers are told. Else it is what the execution says.
+-- the accesses that it tries are translated, also where it can't be done, or there aren't units enough
+unfoldable pub translations_executed : ℕ → Guest → BareTranslations
+translations_executed p guest =
+    counted p guest.process.memory (map access_of (execution_of guest.process).calls) guest.translations
+
+-- Where there aren't units enough, nothing else changes, and both numbers are told. Else it is what the execution says.
 abbrev pub outcome_of : ℕ → Guest → Outcome
 outcome_of p guest =
     if is_full p guest
     then outcome.Full (units_needed p guest) (limit_of guest.frames)
     else outcome_by (execution_of guest.process).upshot
 
+abbrev pub with_translations : BareTranslations → Guest → Guest
+with_translations translations guest =
+    record { process = guest.process; ledger = guest.ledger; frames = guest.frames; translations = translations }
+
+abbrev pub guest_refused : ℕ → Guest → Guest
+guest_refused p guest = with_translations (translations_executed p guest) guest
+
 abbrev pub guest_executed : ℕ → Guest → Guest
-guest_executed p guest =
-    record { process = process_executed guest.process; ledger = ledger_executed p guest; frames = guest.frames }
+guest_executed p guest = record {
+  process = process_executed guest.process;
+  ledger = ledger_executed p guest;
+  frames = guest.frames;
+  translations = translations_executed p guest;
+}
 
 abbrev pub executed : ℕ → Guest → Guest
-executed p guest = if is_full p guest then guest else guest_executed p guest
+executed p guest = if is_full p guest then guest_refused p guest else guest_executed p guest
 
 -- what the execution of a process's next instruction comes to
 abbrev pub outcome_found : ℕ → Option Guest → Outcome
@@ -141,11 +166,20 @@ abbrev pub turn_in : ℕ → Guest → Turn
 turn_in p guest =
     if is_full p guest then Full (units_needed p guest) (limit_of guest.frames) else (step_of p guest.process).turn
 
+unfoldable pub translations_after : ℕ → Guest → BareTranslations
+translations_after p guest = counted p guest.process.memory (step_of p guest.process).accesses guest.translations
+
+abbrev pub guest_stepped : ℕ → Guest → Guest
+guest_stepped p guest = record {
+  process = process_after p guest.process;
+  ledger = ledger_executed p guest;
+  frames = guest.frames;
+  translations = translations_after p guest;
+}
+
 abbrev pub guest_after : ℕ → Guest → Guest
 guest_after p guest =
-    if is_full p guest
-    then guest
-    else record { process = process_after p guest.process; ledger = ledger_executed p guest; frames = guest.frames }
+    if is_full p guest then with_translations (translations_after p guest) guest else guest_stepped p guest
 
 abbrev pub turn_of : Wholes → ℕ → Turn
 turn_of state p = option_map_or (turn_in p) (guest_at state p) Stepped
@@ -177,8 +211,17 @@ answered_process p process = after_request process.memory process (request_of p 
 abbrev pub asked_found : ℕ → Option Guest → Turn
 asked_found p found = option_map_or (λ guest. (request_of p guest.process).turn) found Stepped
 
+-- the accesses of a request are translated too
+unfoldable pub translations_asked : ℕ → Guest → BareTranslations
+translations_asked p guest = counted p guest.process.memory (request_of p guest.process).accesses guest.translations
+
 abbrev pub guest_answered : ℕ → Guest → Guest
-guest_answered p guest = record { process = answered_process p guest.process; ledger = guest.ledger; frames = guest.frames }
+guest_answered p guest = record {
+  process = answered_process p guest.process;
+  ledger = guest.ledger;
+  frames = guest.frames;
+  translations = translations_asked p guest;
+}
 
 abbrev pub turn_asked : Wholes → ℕ → Turn
 turn_asked state p = asked_found p (guest_at state p)
