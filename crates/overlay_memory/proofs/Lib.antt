@@ -12,3 +12,6 @@ pub mod Emptied
 pub mod Unmapping
 pub mod InOne
 pub mod InTwo
+pub mod Truths
+pub mod Counting
+pub mod Noting

@@ -15,7 +15,7 @@ use Rattle.overlay_pages.specs.Calls.{AreMapped, entries_in}
 use Rattle.overlay_pages.specs.View.{MemoryView, state_of}
 use Rattle.overlay_pages.specs.Spots.{FindsLine, IsFound, IsFoundAt}
 use Rattle.overlay_pages.specs.declared.spots.FoundLine.{FoundLine}
-use Rattle.overlay_memory.specs.Room.{IsFullAt}
+use Rattle.overlay_memory.specs.Room.{IsFullFor}
 use Rattle.overlay_memory.specs.declared.error.MemoryError.{MemoryError}
 use Rattle.overlay_memory.specs.declared.error.MemoryError.TheVariants.{Unmapped, Forbidden, Full}
 use Rattle.overlay_memory.specs.declared.error.SpaceError.{SpaceError}
@@ -84,7 +84,7 @@ Stores old new space address bytes (Ok done) =
 Stores old new space address bytes (Err (Unmapped at)) = IsUnmappedAt (state_of old) space writable address (length bytes) at × (new ≡ old)
 Stores old new space address bytes (Err (Forbidden at)) = IsForbiddenAt (state_of old) space writable address (length bytes) at × (new ≡ old)
 Stores old new space address bytes (Err (Full needed limit)) =
-    IsAllowed (state_of old) space writable address (length bytes) × IsFullAt old new (units (stored_books (state_of old) space address (length bytes))) needed limit
+    IsAllowed (state_of old) space writable address (length bytes) × IsFullFor state_of old new (units (stored_books (state_of old) space address (length bytes))) needed limit
 
 -- how a page is placed: in a new frame, with these bytes; after want of memory, which comes only where the units would have been
 -- within the limit, segments may have moved
@@ -92,7 +92,7 @@ abbrev pub Places : MemoryView → MemoryView → ℕ → ℕ → (ℕ → PageE
 Places old new space page entry bytes (Ok done) =
     IsPlaced (state_of old) (state_of new) space page (λ frame. whole_page (entry frame) (lines_of_bytes bytes))
     × (units_of (state_of new) ≡ units_of (state_of old) + FRAME_UNITS)
-Places old new space page entry bytes (Err (refused.Full needed limit)) = IsFullAt old new (units_of (state_of old) + FRAME_UNITS) needed limit
+Places old new space page entry bytes (Err (refused.Full needed limit)) = IsFullFor state_of old new (units_of (state_of old) + FRAME_UNITS) needed limit
 Places old new space page entry bytes (Err refused.Memory) =
     (units_of (state_of old) + FRAME_UNITS ≤ limit_of (state_of old)) × (state_of new ≡ state_of old)
 

@@ -1,5 +1,8 @@
--- In reading order: whether units fit, how reads and stores come out, and what they come to piece by piece; then laws: of states,
+-- In reading order: what memories are seen as, and what becomes of translations; whether units fit, how reads and stores come out, and what they come to piece by piece; then laws: of states,
 -- of pages that are there and of their frames, of what own lines count, and of what is true of every memory.
+pub mod View
+pub mod Codes
+pub mod Translated
 pub mod Room
 pub mod Access
 pub mod Pieces

@@ -5,7 +5,7 @@ use Rattle.ledger.specs.Ledger.{holding_at}
 use Rattle.ledger.specs.Units.{class, units}
 use Rattle.overlay_pages.specs.State.{State, books}
 use Rattle.overlay_pages.specs.Changes.{limit_of}
-use Rattle.overlay_pages.specs.View.{MemoryView, state_of}
+use Rattle.overlay_memory.specs.View.{TranslatedView, state_of}
 use Rattle.overlay_memory.specs.declared.error.Shortage.{Shortage}
 
 -- Whether units fit.
@@ -21,12 +21,16 @@ abbrev pub FallsShort : ℕ → ℕ → Option Shortage → Type 0
 FallsShort needed limit None = needed ≤ limit
 FallsShort needed limit (Some shortage) = IsShort needed limit shortage
 
--- the units that would be needed exceed the limit, and nothing changed
-pub record IsFullAt (old new : MemoryView) (after needed limit : ℕ) : Type 0 where
+-- the units that would be needed exceed the limit, and nothing changed of the pages, or of all
+pub record IsFullFor {V : Type 0} (state : V → State) (old new : V) (after needed limit : ℕ) : Type 0 where
   pub needed_is : needed ≡ after
-  pub limit_is : limit ≡ limit_of (state_of old)
+  pub limit_is : limit ≡ limit_of (state old)
   pub over : limit < needed
   pub kept : new ≡ old
+
+-- the same, and nothing changed at all
+abbrev pub IsFullAt : TranslatedView → TranslatedView → ℕ → ℕ → ℕ → Type 0
+IsFullAt old new after needed limit = IsFullFor state_of old new after needed limit
 
 -- the units after an event
 abbrev pub units_after : Event → State → ℕ

@@ -1,14 +1,16 @@
 //! Memories of pages with overlays: one for each space, over frames and segments that spaces share.
 //!
 //! The model of an `OverlayMemory` is that of the pages below it: the lines of the region, its blocks and
-//! segments, and the tables of all spaces. What calls do is said of the state that these stand for, and of the
-//! memory, the base and the ledger that are functions of it.
+//! segments, and the tables of all spaces; and the translation lists. What calls do is said of the state that the
+//! pages stand for, of the memory, the base and the ledger that are functions of it, and of the lists without what
+//! their entries hold.
 //!
 //! - `error`: why a call isn't done
 //! - `memory`: the public type
 //! - `reading`: bytes out of the lines of pages
 //! - `room`: whether there are as many units as a change needs
 //! - `storing`: bytes into the lines of pages, and what a store needs first
+//! - `translating`: pages that accesses go through, and what entries hold of them
 #![tactic(auto)]
 
 mod error;
@@ -16,6 +18,7 @@ mod memory;
 mod reading;
 mod room;
 mod storing;
+mod translating;
 
 pub use error::{MemoryError, Shortage, SpaceError};
 pub use memory::OverlayMemory;

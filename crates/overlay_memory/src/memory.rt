@@ -6,6 +6,7 @@ ghost use Rattle.std.specs.FinMap as map;
 ghost use Rattle.std.specs.Option.{option_map};
 ghost use Rattle.sizes.specs.declared.TheConstants.{LAST_SPACE, LINE_BYTES, MOST_FRAMES, MOST_SPACE_PAGES, MOST_UNITS, PAGE_BYTES, PAGE_END, PAGE_LINES};
 ghost use Rattle.ovl_io.specs.Memory.{bytes_at};
+ghost use Rattle.ovl_io.specs.Permissions.{writable};
 ghost use Rattle.ledger.specs.Ledger.{is_alone};
 ghost use Rattle.ledger.specs.Units.{own_lines};
 ghost use Rattle.space_maps.specs.Spaces.{bare_space, cut_pages, cut_space, holds_space, page_in, put_awaiting, put_mark, put_space, space_in, turned_page};
@@ -14,17 +15,24 @@ ghost use Rattle.space_ledger.specs.Calls.{IsNextOwn, NamesOnce};
 ghost use Rattle.overlay_pages.specs.Lines.{line_in_page};
 ghost use Rattle.overlay_pages.specs.State.{books, memory_of};
 ghost use Rattle.overlay_pages.specs.Changes.{AreAbsent, Fits, HasCopyRoom, HasShareRoom, IsPlaced, committed, copied, discarded, is_writable, limit_of, units_of, with_shared, with_written, with_zeros};
-ghost use Rattle.overlay_pages.specs.View.{HasOwnPlace, IsJoined, place_at, state_of};
-ghost use Rattle.overlay_pages.specs.Calls.{AreMapped, AreShared, AreZeros, AwaitBare, AwaitsLike, HasSettledBlocks, IsEmptyState, IsNextPage, KeepsWholeBlocks, NoneAwaitsBelow, entries_in, with_line_at_place};
+ghost use Rattle.overlay_pages.specs.View.{HasOwnPlace, IsJoined, place_at};
+ghost use Rattle.overlay_pages.specs.View as seen;
+ghost use Rattle.overlay_pages.specs.Calls.{AreMapped, AreShared, AreZeros, AwaitBare, AwaitsLike, HasSettledBlocks, IsEmptyState, IsNextPage, KeepsWholeBlocks, NoneAwaitsBelow, entries_in};
 ghost use Rattle.overlay_memory.specs.Access.{FindsIn, IsFirstAbsent, IsFoundIn, KeepsFound, Places, Reads, Stores};
 ghost use Rattle.overlay_memory.specs.Pieces.{IsEmptied, emptied_space};
 ghost use Rattle.overlay_memory.specs.Room.{FallsShort};
+ghost use Rattle.overlay_memory.specs.Translated.{access_of, after_access};
+ghost use Rattle.overlay_memory.specs.View.{state_of, translations_of, with_line_at_place};
+ghost use Rattle.translation_cache.specs.Bare.{bare};
+ghost use Rattle.translation_cache.specs.Formed.{IsFormed};
+ghost use Rattle.translation_cache.specs.Translations.{flushed, no_translations};
 ghost use Rattle.overlay_memory.specs.contracts.memory.OverlayMemory.{the_row};
 
 use crate::error::{MemoryError, Shortage, SpaceError};
 use crate::reading::{find_line, read_bytes, read_found};
 use crate::room::{shortage_by, shortage_of};
 use crate::storing::write_bytes;
+use crate::translating::{translate, translate_access};
 use bitflags::Flags;
 use overlay_bits::Bits;
 use overlay_pages::{FoundLine, OverlayPages};
@@ -33,23 +41,28 @@ use page_table::PageTable;
 use sizes::{FRAME_UNITS, PAGE_BYTES};
 use std::alloc::{AllocError, Global};
 use std::marker::Model;
+use translation_cache::Cache;
 
 /// The memories of all spaces. Spaces are numbered from 1 to 32,767, pages are below 2^26. A space that a call names is there,
 /// and no page of it awaits `share_page`, where the call doesn't say otherwise.
 #[derive(Drop)]
 pub struct OverlayMemory {
     pages: OverlayPages,
+    cache: Cache,
 }
 
 impl Model for OverlayMemory {
-    ghost use Rattle.overlay_pages.specs.View.{MemoryView};
-    ghost use Rattle.overlay_pages.specs.Codes.{memory_code};
+    ghost use Rattle.overlay_memory.specs.View.{AreTranslated, TranslatedView};
+    ghost use Rattle.overlay_memory.specs.Codes.{memory_code};
+    ghost use Rattle.overlay_pages.specs.View.{state_of};
 
-    ghost Value = { MemoryView };
+    ghost Value = { TranslatedView };
 
     ghost coded = { memory_code };
 
-    ghost view = { λ m. m.pages };
+    ghost view = { λ m. record { pages = m.pages; cache = m.cache } };
+
+    ghost invariant = { λ m. AreTranslated (state_of m.pages) m.cache };
 }
 
 impl OverlayMemory {
@@ -59,16 +72,21 @@ impl OverlayMemory {
         requires some { 0 < frames }
         requires few { frames ≤ MOST_FRAMES }
         ensures state { IfOk result (λ made. IsEmptyState frames (state_of made)) }
+        ensures translations { IfOk result (λ made. translations_of made ≡ no_translations) }
     {
-        Ok(OverlayMemory {
-            pages: OverlayPages::new(alloc, frames)?,
-        })
+        match OverlayPages::new(alloc, frames) {
+            Ok(pages) => Ok(OverlayMemory {
+                pages,
+                cache: Cache::new(),
+            }),
+            Err(AllocError) => Err(AllocError),
+        }
     }
 
     /// Whether a space is there. Costs a step.
     pub fn has_space(&self, space: u16) -> bool
         ensures here { result ≡ holds_space (state_of self.now) space }
-        ensures joined { IsJoined self.now }
+        ensures joined { IsJoined self.now.pages }
     {
         self.pages.has_space(space)
     }
@@ -82,8 +100,12 @@ impl OverlayMemory {
         ensures added { OnOk result
             (state_of self.new ≡ put_space (state_of self.old) space bare_space) }
         ensures kept { OnErr result (self.new ≡ self.old) }
+        ensures translations { translations_of self.new ≡ translations_of self.old }
     {
-        self.pages.add_space(space)
+        match self.pages.add_space(space) {
+            Ok(()) => Ok(()),
+            Err(AllocError) => Err(AllocError),
+        }
     }
 
     /// Gives a space up, with its pages. Takes no memory. Costs a few look-ups for each run of pages without own lines, and for each
@@ -92,19 +114,23 @@ impl OverlayMemory {
     pub fn drop_space(&mut self, space: u16)
         requires there { holds_space (state_of self.old) space ≡ true }
         requires settled { (space_in (state_of self.old) space).awaiting ≡ map.empty }
-        ensures { state_of self.new ≡ cut_space (state_of self.old) space }
+        ensures state { state_of self.new ≡ cut_space (state_of self.old) space }
+        ensures translations { translations_of self.new ≡ flushed space (translations_of self.old) }
     {
         remove_pages(&mut self.pages, space);
         self.pages.end_space(space);
+        self.cache.flush(space);
     }
 
     /// Gives the pages of a space up, and not the space, whose mark stays. Takes no memory. Costs as much as `drop_space`.
     pub fn clear_space(&mut self, space: u16)
         requires there { holds_space (state_of self.old) space ≡ true }
         requires settled { (space_in (state_of self.old) space).awaiting ≡ map.empty }
-        ensures { state_of self.new ≡ emptied_space (state_of self.old) space }
+        ensures state { state_of self.new ≡ emptied_space (state_of self.old) space }
+        ensures translations { translations_of self.new ≡ flushed space (translations_of self.old) }
     {
         remove_pages(&mut self.pages, space);
+        self.cache.flush(space);
     }
 
     /// Takes away the `n` pages from `page` on, which are all there, with their overlays. No page of the space awaits. Takes no memory.
@@ -112,15 +138,11 @@ impl OverlayMemory {
     pub fn unmap(&mut self, space: u16, page: u64, n: u32)
         requires there { AreMapped (state_of self.old) space page n }
         requires settled { (space_in (state_of self.old) space).awaiting ≡ map.empty }
-        ensures { state_of self.new ≡ cut_pages (state_of self.old) space page n }
+        ensures state { state_of self.new ≡ cut_pages (state_of self.old) space page n }
+        ensures translations { translations_of self.new ≡ flushed space (translations_of self.old) }
     {
-        let mut at = page;
-        let mut left = n;
-        'unmapping: while left > 0 {
-            let gone = self.pages.remove_run(space, at, left);
-            at += u64::from(gone);
-            left -= gone;
-        }
+        unmap_pages(&mut self.pages, space, page, n);
+        self.cache.flush(space);
     }
 
     /// Maps `n` pages from `page` on, which aren't there, on the zero frame and without own lines. After want of memory
@@ -141,8 +163,16 @@ impl OverlayMemory {
             (state_of self.new ≡ with_zeros (state_of self.old) space page n
             (record { perms = perms; frame = (state_of self.old).zero_frame })) }
         ensures kept { OnErr result (self.new ≡ self.old) }
+        ensures translations { OnOk result
+            (translations_of self.new ≡ flushed space (translations_of self.old)) }
     {
-        self.pages.map_zero(space, page, n, perms)
+        match self.pages.map_zero(space, page, n, perms) {
+            Ok(()) => {
+                self.cache.flush(space);
+                Ok(())
+            }
+            Err(AllocError) => Err(AllocError),
+        }
     }
 
     /// Places a page that isn't there in a frame of its own, with these bytes. Full exactly where the units after it would exceed
@@ -159,8 +189,9 @@ impl OverlayMemory {
         requires absent { page_in (state_of self.old) space page ≡ None }
         requires low { page < PAGE_END }
         requires few { map.len (space_in (state_of self.old) space).pages < MOST_SPACE_PAGES }
-        ensures { Places self.old self.new space page (λ frame. record { perms = perms; frame = frame })
-            bytes.now result }
+        ensures places { Places self.old.pages self.new.pages space page
+            (λ frame. record { perms = perms; frame = frame }) bytes.now result }
+        ensures translations { translations_of self.new ≡ translations_of self.old }
     {
         if let Some(shortage) = shortage_by(&self.pages, FRAME_UNITS) {
             return Err(SpaceError::Full(shortage.needed, shortage.limit));
@@ -189,9 +220,11 @@ impl OverlayMemory {
     pub fn write(&mut self, space: u16, address: u64, bytes: &[u8]) -> Result<(), MemoryError>
         requires there { holds_space (state_of self.old) space ≡ true }
         requires few { length bytes.now ≤ PAGE_BYTES }
-        ensures { Stores self.old self.new space address bytes.now result }
+        ensures stores { Stores self.old.pages self.new.pages space address bytes.now result }
+        ensures kept { OnErr result (self.new ≡ self.old) }
+        ensures translations { translations_of self.new ≡ translations_of self.old }
     {
-        write_bytes(&mut self.pages, space, address, bytes)
+        write_bytes(&mut self.pages, &mut self.cache, space, address, bytes)
     }
 
     /// Fills `into` with the bytes from an address on, for which each page needs the permission: X for a fetch, R for a load.
@@ -209,9 +242,18 @@ impl OverlayMemory {
         ensures bytes { OnOk result (into.new
             ≡ bytes_at (memory_of (state_of self.old) space) address (length into.old)) }
         ensures kept { length into.new ≡ length into.old }
-        ensures same { state_of self.new ≡ state_of self.old }
-        ensures found { KeepsFound self.old self.new }
+        ensures same { self.new.pages ≡ self.old.pages }
+        ensures translations { translations_of self.new
+            ≡ after_access self.old space (access_of need.0 address (length into.old)) }
     {
+        translate_access(
+            &self.pages,
+            &mut self.cache,
+            space,
+            address,
+            into.len(),
+            need,
+        );
         read_bytes(&self.pages, space, address, into, need)
     }
 
@@ -219,7 +261,7 @@ impl OverlayMemory {
     /// of its overlay. What was found stands until the memory is changed.
     #[inline]
     pub fn find(&self, space: u16, address: u64) -> Option<FoundLine>
-        ensures { FindsIn self.now space address result }
+        ensures { FindsIn self.now.pages space address result }
     {
         find_line(&self.pages, space, address)
     }
@@ -227,20 +269,24 @@ impl OverlayMemory {
     /// As `load`, of some bytes that are all in a line that was found. Costs a step.
     #[inline]
     pub fn load_found(
-        &self,
+        &mut self,
         found: FoundLine,
         address: u64,
         into: &mut [u8],
         need: Perms,
     ) -> Result<(), MemoryError>
-        requires found { IsFoundIn self.now found.space address found }
+        requires found { IsFoundIn self.old.pages found.space address found }
         requires some { 0 < length into.old }
         requires one_line { address % LINE_BYTES + length into.old ≤ LINE_BYTES }
-        ensures access { Reads (state_of self.now) found.space need.0 address (length into.old) result }
+        ensures access { Reads (state_of self.old) found.space need.0 address (length into.old) result }
         ensures bytes { OnOk result (into.new
-            ≡ bytes_at (memory_of (state_of self.now) found.space) address (length into.old)) }
+            ≡ bytes_at (memory_of (state_of self.old) found.space) address (length into.old)) }
         ensures kept { length into.new ≡ length into.old }
+        ensures same { self.new.pages ≡ self.old.pages }
+        ensures translations { translations_of self.new
+            ≡ after_access self.old found.space (access_of need.0 address (length into.old)) }
     {
+        translate(&self.pages, &mut self.cache, found.space, found.page, need);
         read_found(&self.pages, found, address, into, need)
     }
 
@@ -249,9 +295,19 @@ impl OverlayMemory {
     pub fn store(&mut self, space: u16, address: u64, bytes: &[u8]) -> Result<(), MemoryError>
         requires there { holds_space (state_of self.old) space ≡ true }
         requires few { length bytes.now ≤ PAGE_BYTES }
-        ensures { Stores self.old self.new space address bytes.now result }
+        ensures stores { Stores self.old.pages self.new.pages space address bytes.now result }
+        ensures translations { translations_of self.new
+            ≡ after_access self.old space (access_of writable address (length bytes.now)) }
     {
-        write_bytes(&mut self.pages, space, address, bytes)
+        translate_access(
+            &self.pages,
+            &mut self.cache,
+            space,
+            address,
+            bytes.len(),
+            Perms::W,
+        );
+        write_bytes(&mut self.pages, &mut self.cache, space, address, bytes)
     }
 
     /// Whether a page that is there is alone: its frame isn't the zero frame, and no other page of any space names it. Costs a
@@ -270,7 +326,7 @@ impl OverlayMemory {
         requires there { IsSome (page_in (state_of self.now) space page) }
         ensures own { option_map (λ x. x.own) (page_in (state_of self.now) space page)
             ≡ Some result }
-        ensures joined { IsJoined self.now }
+        ensures joined { IsJoined self.now.pages }
     {
         self.pages.lines_of(space, page)
     }
@@ -279,9 +335,11 @@ impl OverlayMemory {
     pub fn commit_page(&mut self, space: u16, page: u64)
         requires there { IsSome (page_in (state_of self.old) space page) }
         requires alone { is_alone (books (state_of self.old)) space page ≡ true }
-        ensures { state_of self.new ≡ turned_page committed (state_of self.old) space page }
+        ensures state { state_of self.new ≡ turned_page committed (state_of self.old) space page }
+        ensures translations { translations_of self.new ≡ flushed space (translations_of self.old) }
     {
         self.pages.commit_page(space, page);
+        self.cache.flush(space);
     }
 
     /// A page that is overlaid, and isn't alone, gets a new frame with its lines, and has no own lines any more. The units after
@@ -293,19 +351,23 @@ impl OverlayMemory {
         requires shared { is_alone (books (state_of self.old)) space page ≡ false }
         requires settled { (space_in (state_of self.old) space).awaiting ≡ map.empty }
         requires room { HasCopyRoom (state_of self.old) space page }
-        ensures { IfSome (page_in (state_of self.old) space page)
+        ensures copied { IfSome (page_in (state_of self.old) space page)
             (λ x. IsPlaced (state_of self.old) (state_of self.new) space page
             (λ frame. copied frame x)) }
+        ensures translations { translations_of self.new ≡ flushed space (translations_of self.old) }
     {
         self.pages.copy_commit_page(space, page);
+        self.cache.flush(space);
     }
 
     /// The overlay of a page that is there is given up. Takes no memory.
     pub fn discard_page(&mut self, space: u16, page: u64)
         requires there { IsSome (page_in (state_of self.old) space page) }
-        ensures { state_of self.new ≡ turned_page discarded (state_of self.old) space page }
+        ensures state { state_of self.new ≡ turned_page discarded (state_of self.old) space page }
+        ensures translations { translations_of self.new ≡ flushed space (translations_of self.old) }
     {
         self.pages.discard_page(space, page);
+        self.cache.flush(space);
     }
 
     /// Shares a page with a space in which it awaits as the least, with the frame that it has: it gets its lines, and an overlay
@@ -316,7 +378,8 @@ impl OverlayMemory {
         requires least { IsLeast (space_in (state_of self.old) to).awaiting page }
         requires frame { AwaitsLike (state_of self.old) from to page }
         requires room { HasShareRoom (state_of self.old) from page }
-        ensures { state_of self.new ≡ with_shared (state_of self.old) from to page }
+        ensures state { state_of self.new ≡ with_shared (state_of self.old) from to page }
+        ensures translations { translations_of self.new ≡ translations_of self.old }
     {
         self.pages.share_page(from, to, page);
     }
@@ -329,6 +392,7 @@ impl OverlayMemory {
         requires bare { AwaitBare (state_of self.old) from to until }
         ensures shared { AreShared from to until (state_of self.old) (state_of self.new) }
         ensures none { NoneAwaitsBelow (state_of self.new) to until }
+        ensures translations { translations_of self.new ≡ translations_of self.old }
     {
         self.pages.share_bare(from, to, until);
     }
@@ -338,8 +402,9 @@ impl OverlayMemory {
     /// free blocks.
     pub fn compact(&mut self)
         ensures state { state_of self.new ≡ state_of self.old }
-        ensures settled { HasSettledBlocks self.new }
-        ensures whole { KeepsWholeBlocks self.old self.new }
+        ensures settled { HasSettledBlocks self.new.pages }
+        ensures whole { KeepsWholeBlocks self.old.pages self.new.pages }
+        ensures translations { translations_of self.new ≡ translations_of self.old }
     {
         self.pages.compact();
     }
@@ -351,7 +416,7 @@ impl OverlayMemory {
         requires space { holds_space (state_of self.old) to ≡ true }
         ensures table { IfOk result (λ table. table ≡ entries_in (state_of self.old) from) }
         ensures once { IfOk result (λ table. NamesOnce (state_of self.old).zero_frame table) }
-        ensures same { state_of self.new ≡ state_of self.old }
+        ensures same { self.new ≡ self.old }
     {
         self.pages.copy_table(from)
     }
@@ -363,7 +428,8 @@ impl OverlayMemory {
         requires empty { (space_in (state_of self.old) to).pages ≡ map.empty }
         requires settled { (space_in (state_of self.old) to).awaiting ≡ map.empty }
         requires once { NamesOnce (state_of self.old).zero_frame table }
-        ensures { state_of self.new ≡ put_awaiting (state_of self.old) to table }
+        ensures state { state_of self.new ≡ put_awaiting (state_of self.old) to table }
+        ensures translations { translations_of self.new ≡ translations_of self.old }
     {
         self.pages.adopt_table(to, table);
     }
@@ -418,7 +484,7 @@ impl OverlayMemory {
     pub fn next_overlaid(&self, space: u16, page: u64) -> Option<u64>
         requires there { holds_space (state_of self.now) space ≡ true }
         ensures next { IsNextOwn (books (state_of self.now)) space page result }
-        ensures joined { IsJoined self.now }
+        ensures joined { IsJoined self.now.pages }
     {
         self.pages.next_overlaid(space, page)
     }
@@ -426,16 +492,18 @@ impl OverlayMemory {
     /// Sets or takes away the mark of a space. Takes no memory.
     pub fn set_speculating(&mut self, space: u16, on: bool)
         requires there { holds_space (state_of self.old) space ≡ true }
-        ensures { state_of self.new ≡ put_mark (state_of self.old) space on }
+        ensures state { state_of self.new ≡ put_mark (state_of self.old) space on }
+        ensures translations { translations_of self.new ≡ flushed space (translations_of self.old) }
     {
         self.pages.set_speculating(space, on);
+        self.cache.flush(space);
     }
 
     /// Whether a space is marked as speculating.
     #[inline]
     pub fn is_speculating(&self, space: u16) -> bool
         ensures mark { result ≡ (space_in (state_of self.now) space).speculating }
-        ensures joined { IsJoined self.now }
+        ensures joined { IsJoined self.now.pages }
     {
         self.pages.is_speculating(space)
     }
@@ -444,10 +512,10 @@ impl OverlayMemory {
     pub fn place(&self, space: u16, page: u64, line: u8) -> u32
         requires there { IsSome (page_in (state_of self.now) space page) }
         requires line { line < PAGE_LINES }
-        ensures place { result ≡ place_at self.now space page line }
-        ensures own { HasOwnPlace self.now space page line }
+        ensures place { result ≡ place_at self.now.pages space page line }
+        ensures own { HasOwnPlace self.now.pages space page line }
         ensures inside { result < PAGE_LINES * (state_of self.now).frames }
-        ensures joined { IsJoined self.now }
+        ensures joined { IsJoined self.now.pages }
     {
         self.pages.place(space, page, line)
     }
@@ -460,14 +528,30 @@ impl OverlayMemory {
         requires line { line < PAGE_LINES }
         requires writable { is_writable (state_of self.old) space page line ≡ true }
         ensures* writes_back { sem 𝓛 (Lends the_row (Array byte 0) self.entry result
-            (with_line_at_place self.old (place_at self.old space page line))) }
+            (with_line_at_place self.old (place_at self.old.pages space page line))) }
         ensures value { option_map (λ x. line_in_page x.lines line)
             (page_in (state_of self.old) space page) ≡ Some result.now }
         ensures state { (bytes : List ℕ)
-            → state_of (with_line_at_place self.old (place_at self.old space page line) bytes)
+            → state_of (with_line_at_place self.old (place_at self.old.pages space page line) bytes)
             ≡ with_written (state_of self.old) space page line bytes }
     {
         self.pages.line_mut(space, page, line)
+    }
+
+    /// How many pages accesses found the entry of. It stays at 2^64 - 1.
+    pub fn hits(&self) -> u64
+        ensures hits { result ≡ (translations_of self.now).hits }
+        ensures formed { IsFormed (translations_of self.now) }
+    {
+        self.cache.hits()
+    }
+
+    /// How many they didn't. It stays at 2^64 - 1.
+    pub fn misses(&self) -> u64
+        ensures misses { result ≡ (translations_of self.now).misses }
+        ensures formed { IsFormed (translations_of self.now) }
+    {
+        self.cache.misses()
     }
 
     /// The units of the ledger. Costs a step.
@@ -507,11 +591,26 @@ impl OverlayMemory {
 
 /// Takes away all pages of a space that is there, the least first.
 fn remove_pages(pages: &mut OverlayPages, space: u16)
-    requires there { holds_space (state_of pages.old) space ≡ true }
-    requires settled { (space_in (state_of pages.old) space).awaiting ≡ map.empty }
-    ensures { IsEmptied (state_of pages.old) (state_of pages.new) space }
+    requires there { holds_space (seen.state_of pages.old) space ≡ true }
+    requires settled { (space_in (seen.state_of pages.old) space).awaiting ≡ map.empty }
+    ensures { IsEmptied (seen.state_of pages.old) (seen.state_of pages.new) space }
 {
     'removing: while let Some(page) = pages.next_page(space, 0) {
         pages.remove_run(space, page, u32::MAX);
+    }
+}
+
+/// Takes away pages that are all there, with their overlays.
+fn unmap_pages(pages: &mut OverlayPages, space: u16, page: u64, n: u32)
+    requires there { AreMapped (seen.state_of pages.old) space page n }
+    requires settled { (space_in (seen.state_of pages.old) space).awaiting ≡ map.empty }
+    ensures { seen.state_of pages.new ≡ cut_pages (seen.state_of pages.old) space page n }
+{
+    let mut at = page;
+    let mut left = n;
+    'unmapping: while left > 0 {
+        let gone = pages.remove_run(space, at, left);
+        at += u64::from(gone);
+        left -= gone;
     }
 }

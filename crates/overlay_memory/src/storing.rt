@@ -1,6 +1,6 @@
 //! Bytes into the lines of pages, and what a store needs first.
 
-ghost use Rattle.std.specs.Prelude.{◌≡◌, ◌+◌, ◌-◌, ◌*◌, ◌/◌, ◌%◌, ◌<◌, ◌≤◌, IsSome, length, true};
+ghost use Rattle.std.specs.Prelude.{◌≡◌, ◌+◌, ◌-◌, ◌*◌, ◌/◌, ◌%◌, ◌<◌, ◌≤◌, IsSome, OnErr, length, true};
 ghost use Rattle.sizes.specs.declared.TheConstants.{LINE_BYTES, PAGE_BYTES, PAGE_LINES};
 ghost use Rattle.ovl_io.specs.Permissions.{writable};
 ghost use Rattle.overlay_pages.specs.Changes.{is_writable};
@@ -8,15 +8,19 @@ ghost use Rattle.overlay_pages.specs.View.{state_of};
 ghost use Rattle.overlay_pages.specs.Spots.{IsFound};
 ghost use Rattle.overlay_memory.specs.Access.{Stores};
 ghost use Rattle.overlay_memory.specs.Pieces.{AreWritable, IsFilled, Permits, lines_under};
+ghost use Rattle.overlay_memory.specs.View.{AreTrue};
 ghost use Rattle.space_maps.specs.Spaces.{page_in};
+ghost use Rattle.translation_cache.specs.Bare.{bare};
 
 use crate::error::MemoryError;
 use crate::reading::{find, permit};
 use crate::room::shortage_by;
+use crate::translating::bring_lines;
 use overlay_bits::Bits;
 use overlay_pages::{FoundLine, OverlayPages};
 use ovl_io::Perms;
 use sizes::{LINE_BYTES, PAGE_BYTES, PAGE_LINES};
+use translation_cache::Cache;
 
 /// Whether the byte at an address may be written.
 #[inline]
@@ -87,13 +91,18 @@ fn fill_page(pages: &mut OverlayPages, space: u16, page: u64, at: usize, bytes: 
 /// Stores bytes, some and all in one page: permission first, then units, then the lines, then the bytes.
 fn write_in_page(
     pages: &mut OverlayPages,
+    cache: &mut Cache,
     space: u16,
     address: u64,
     bytes: &[u8],
 ) -> Result<(), MemoryError>
     requires some { 0 < length bytes.now }
     requires one_page { address % PAGE_BYTES + length bytes.now ≤ PAGE_BYTES }
-    ensures { Stores pages.old pages.new space address bytes.now result }
+    requires held { AreTrue (state_of pages.old) cache.old }
+    ensures stores { Stores pages.old pages.new space address bytes.now result }
+    ensures held { AreTrue (state_of pages.new) cache.new }
+    ensures lists { bare cache.new ≡ bare cache.old }
+    ensures kept { OnErr result (cache.new ≡ cache.old) }
 {
     match permit_store(pages, space, address) {
         Ok(()) => {}
@@ -106,7 +115,7 @@ fn write_in_page(
     if let Some(shortage) = shortage_by(pages, rise) {
         return Err(MemoryError::Full(shortage.needed, shortage.limit));
     }
-    pages.bring(space, page, touched);
+    bring_lines(pages, cache, space, page, touched);
     fill_page(pages, space, page, at, bytes);
     Ok(())
 }
@@ -114,6 +123,7 @@ fn write_in_page(
 /// Stores bytes that lie in two pages, the first of them in as many as `front`.
 fn write_in_two(
     pages: &mut OverlayPages,
+    cache: &mut Cache,
     space: u16,
     address: u64,
     front: usize,
@@ -122,7 +132,11 @@ fn write_in_two(
     requires front { address % PAGE_BYTES + front ≡ PAGE_BYTES }
     requires over { front < length bytes.now }
     requires two_pages { length bytes.now ≤ PAGE_BYTES }
-    ensures { Stores pages.old pages.new space address bytes.now result }
+    requires held { AreTrue (state_of pages.old) cache.old }
+    ensures stores { Stores pages.old pages.new space address bytes.now result }
+    ensures held { AreTrue (state_of pages.new) cache.new }
+    ensures lists { bare cache.new ≡ bare cache.old }
+    ensures kept { OnErr result (cache.new ≡ cache.old) }
 {
     match permit_store(pages, space, address) {
         Ok(()) => {}
@@ -142,8 +156,8 @@ fn write_in_two(
     if let Some(shortage) = shortage_by(pages, one + two) {
         return Err(MemoryError::Full(shortage.needed, shortage.limit));
     }
-    pages.bring(space, page, lines);
-    pages.bring(space, page + 1, more);
+    bring_lines(pages, cache, space, page, lines);
+    bring_lines(pages, cache, space, page + 1, more);
     fill_page(pages, space, page, at, &bytes[..front]);
     fill_page(pages, space, page + 1, 0, &bytes[front..]);
     Ok(())
@@ -153,21 +167,26 @@ fn write_in_two(
 #[inline(never)]
 fn write_pages(
     pages: &mut OverlayPages,
+    cache: &mut Cache,
     space: u16,
     address: u64,
     bytes: &[u8],
 ) -> Result<(), MemoryError>
     requires few { length bytes.now ≤ PAGE_BYTES }
-    ensures { Stores pages.old pages.new space address bytes.now result }
+    requires held { AreTrue (state_of pages.old) cache.old }
+    ensures stores { Stores pages.old pages.new space address bytes.now result }
+    ensures held { AreTrue (state_of pages.new) cache.new }
+    ensures lists { bare cache.new ≡ bare cache.old }
+    ensures kept { OnErr result (cache.new ≡ cache.old) }
 {
     if bytes.is_empty() {
         return Ok(());
     }
     let front = PAGE_BYTES - (address % PAGE_BYTES as u64) as usize;
     if bytes.len() <= front {
-        write_in_page(pages, space, address, bytes)
+        write_in_page(pages, cache, space, address, bytes)
     } else {
-        write_in_two(pages, space, address, front, bytes)
+        write_in_two(pages, cache, space, address, front, bytes)
     }
 }
 
@@ -175,13 +194,18 @@ fn write_pages(
 #[inline]
 fn write_line(
     pages: &mut OverlayPages,
+    cache: &mut Cache,
     space: u16,
     address: u64,
     bytes: &[u8],
 ) -> Result<(), MemoryError>
     requires some { 0 < length bytes.now }
     requires one_line { address % LINE_BYTES + length bytes.now ≤ LINE_BYTES }
-    ensures { Stores pages.old pages.new space address bytes.now result }
+    requires held { AreTrue (state_of pages.old) cache.old }
+    ensures stores { Stores pages.old pages.new space address bytes.now result }
+    ensures held { AreTrue (state_of pages.new) cache.new }
+    ensures lists { bare cache.new ≡ bare cache.old }
+    ensures kept { OnErr result (cache.new ≡ cache.old) }
 {
     match find(pages, space, address, Perms::W) {
         Ok(found) => {
@@ -189,7 +213,7 @@ fn write_line(
                 put(pages, found, (address % LINE_BYTES as u64) as usize, bytes);
                 Ok(())
             } else {
-                write_pages(pages, space, address, bytes)
+                write_pages(pages, cache, space, address, bytes)
             }
         }
         Err(error) => Err(error),
@@ -200,16 +224,21 @@ fn write_line(
 #[inline]
 pub(crate) fn write_bytes(
     pages: &mut OverlayPages,
+    cache: &mut Cache,
     space: u16,
     address: u64,
     bytes: &[u8],
 ) -> Result<(), MemoryError>
     requires few { length bytes.now ≤ PAGE_BYTES }
-    ensures { Stores pages.old pages.new space address bytes.now result }
+    requires held { AreTrue (state_of pages.old) cache.old }
+    ensures stores { Stores pages.old pages.new space address bytes.now result }
+    ensures held { AreTrue (state_of pages.new) cache.new }
+    ensures lists { bare cache.new ≡ bare cache.old }
+    ensures kept { OnErr result (cache.new ≡ cache.old) }
 {
     let room = LINE_BYTES - (address % LINE_BYTES as u64) as usize;
     if 0 < bytes.len() && bytes.len() <= room {
-        return write_line(pages, space, address, bytes);
+        return write_line(pages, cache, space, address, bytes);
     }
-    write_pages(pages, space, address, bytes)
+    write_pages(pages, cache, space, address, bytes)
 }

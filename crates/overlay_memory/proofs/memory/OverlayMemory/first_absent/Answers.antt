@@ -1,6 +1,6 @@
 use Rattle.std.proofs.Common.{◌+◌, sym, subst}
 use Rattle.overlay_pages.specs.Calls.{AreMapped}
-use Rattle.overlay_pages.specs.View.{MemoryView, state_of}
+use Rattle.overlay_memory.specs.View.{TranslatedView, state_of}
 use Rattle.overlay_memory.proofs.Unmapping.{IsGoing, going_none, going_on}
 use Rattle.overlay_memory.proofs.memory.OverlayMemory.first_absent.Goals as goal
 
@@ -11,4 +11,4 @@ pub going-preserved : goal.going-preserved
 going-preserved c =
     subst (λ k. IsGoing (state_of c.args.self.now) c.args.space c.args.page (c.going.at + k)) (sym c.from-at.ensures)
     (going_on (state_of c.args.self.now) c.args.space c.args.page c.going.at c.pages_from-there.result c.going.invariant
-    (subst (λ (m : MemoryView). AreMapped (state_of m) c.args.space c.going.at c.pages_from-there.result) c.self.view_is c.pages_from-there.ensures.there))
+    (subst (λ (m : TranslatedView). AreMapped (state_of m) c.args.space c.going.at c.pages_from-there.result) c.self.view_is c.pages_from-there.ensures.there))

@@ -1,5 +1,5 @@
 use Rattle.std.proofs.Common.{◌-◌}
-use Rattle.overlay_pages.specs.View.{state_of}
+use Rattle.overlay_memory.specs.View.{state_of}
 use Rattle.overlay_memory.proofs.Unmapping.{IsGoing}
 use Rattle.overlay_memory.proofs.memory.OverlayMemory.first_absent.Given as goal
 

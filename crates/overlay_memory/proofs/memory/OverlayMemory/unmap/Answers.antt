@@ -1,27 +1,18 @@
-use Rattle.std.proofs.Common.{◌+◌, ◌-◌, sym, subst}
-use Rattle.overlay_pages.specs.View.{MemoryView, state_of}
-use Rattle.overlay_memory.proofs.Unmapping.{IsUnmapping, next_there, still_settled, still_there, unmapping_more, unmapping_none}
+use Rattle.std.proofs.Common.{sym, ap, subst, ◌∙◌}
+use Rattle.overlay_pages.specs.View as seen
+use Rattle.overlay_memory.specs.View.{state_of, view_of}
+use Rattle.space_maps.specs.Spaces.{space_in}
+use Rattle.overlay_pages.specs.Calls.{AreMapped}
+use Rattle.overlay_memory.proofs.Truths.{flushed_lists, unmapped_translated, with_cache}
 use Rattle.overlay_memory.proofs.memory.OverlayMemory.unmap.Goals as goal
 
-pub unmapping-init : goal.unmapping-init
-unmapping-init c =
-    subst (λ (m : MemoryView). IsUnmapping (state_of c.args.self.now) (state_of m) c.args.space c.args.page c.args.n c.args.page c.args.n) (sym c.self.view_is)
-    (unmapping_none (state_of c.args.self.now) c.args.space c.args.page c.args.n c.requires.there)
+pub invariant_of-self : goal.invariant_of-self
+invariant_of-self c =
+    with_cache (seen.state_of c.unmap_pages.new.pages) _ c.flush.new.self c.flush.ensures
+    (unmapped_translated (seen.state_of c.self.inside.pages) (seen.state_of c.unmap_pages.new.pages) c.args.space c.args.page c.args.n c.self.inside.cache c.unmap_pages.ensures
+    (ap (λ m. (space_in (state_of m) c.args.space).awaiting) c.self.view_is ∙ c.requires.settled)
+    (subst (λ m. AreMapped (state_of m) c.args.space c.args.page c.args.n) (sym c.self.view_is) c.requires.there) c.self.invariant)
 
-pub remove_run-gone-requires-clause-space : goal.remove_run-gone-requires-clause-space
-remove_run-gone-requires-clause-space c =
-    still_there (state_of c.args.self.now) c.args.space c.args.page c.args.n c.requires.there (state_of c.unmapping.self-inside.pages) c.unmapping.at c.unmapping.left c.unmapping.invariant c.unmapping-test.true
-
-pub remove_run-gone-requires-clause-settled : goal.remove_run-gone-requires-clause-settled
-remove_run-gone-requires-clause-settled c =
-    still_settled (state_of c.args.self.now) c.args.space c.args.page c.args.n c.requires.there (state_of c.unmapping.self-inside.pages) c.unmapping.at c.unmapping.left c.unmapping.invariant c.unmapping-test.true c.requires.settled
-
-pub remove_run-gone-requires-clause-there : goal.remove_run-gone-requires-clause-there
-remove_run-gone-requires-clause-there c =
-    next_there (state_of c.args.self.now) c.args.space c.args.page c.args.n c.requires.there (state_of c.unmapping.self-inside.pages) c.unmapping.at c.unmapping.left c.unmapping.invariant c.unmapping-test.true
-
-pub unmapping-preserved : goal.unmapping-preserved
-unmapping-preserved c =
-    subst (λ k. IsUnmapping (state_of c.args.self.now) (state_of c.remove_run-gone.new.self) c.args.space c.args.page c.args.n (c.unmapping.at + k) (c.unmapping.left - c.remove_run-gone.result)) (sym c.from-at.ensures)
-    (unmapping_more (state_of c.args.self.now) c.args.space c.args.page c.args.n c.requires.there (state_of c.unmapping.self-inside.pages) c.unmapping.at c.unmapping.left c.unmapping.invariant c.unmapping-test.true
-    (state_of c.remove_run-gone.new.self) c.remove_run-gone.result c.remove_run-gone.ensures.gone c.remove_run-gone.ensures.few)
+pub returns-clause-translations : goal.returns-clause-translations
+returns-clause-translations c =
+    flushed_lists c.args.space (view_of c.self.inside.pages c.self.inside.cache) c.args.self.now c.flush.new.self c.self.view_is c.flush.ensures

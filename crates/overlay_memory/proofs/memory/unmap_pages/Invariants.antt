@@ -1,9 +1,9 @@
 use Rattle.overlay_pages.specs.View.{state_of}
 use Rattle.overlay_memory.proofs.Unmapping.{IsUnmapping}
-use Rattle.overlay_memory.proofs.memory.OverlayMemory.unmap.Given as goal
+use Rattle.overlay_memory.proofs.memory.unmap_pages.Given as goal
 
 abbrev pub invariant-unmapping : goal.invariant-unmapping
-invariant-unmapping l = IsUnmapping (state_of l.fn.self) (state_of l.self-inside.pages) l.space l.fn.page l.fn.n l.at l.left
+invariant-unmapping l = IsUnmapping (state_of l.fn.pages) (state_of l.pages) l.space l.fn.page l.fn.n l.at l.left
 
 abbrev pub decreases-unmapping : goal.decreases-unmapping
 decreases-unmapping l = l.left

@@ -1,0 +1,12 @@
+use Rattle.std.proofs.Common.{ap, subst, ◌∙◌}
+use Rattle.overlay_memory.specs.View.{translations_of}
+use Rattle.translation_cache.specs.Bare.{bare, formed_bare}
+use Rattle.translation_cache.specs.Formed.{IsFormed}
+use Rattle.overlay_memory.proofs.memory.OverlayMemory.hits.Goals as goal
+
+pub returns-clause-hits : goal.returns-clause-hits
+unfolding bare
+returns-clause-hits c = c.hits.ensures.hits ∙ ap (λ m. (translations_of m).hits) c.self.view_is
+
+pub returns-clause-formed : goal.returns-clause-formed
+returns-clause-formed c = subst (λ m. IsFormed (translations_of m)) c.self.view_is (formed_bare c.self.inside.cache c.hits.ensures.formed)

@@ -1,0 +1,13 @@
+use Rattle.overlay_pages.specs.View as seen
+use Rattle.overlay_memory.specs.View.{view_of}
+use Rattle.overlay_memory.proofs.Truths.{flushed_lists, marked_translated, with_cache}
+use Rattle.overlay_memory.proofs.memory.OverlayMemory.set_speculating.Goals as goal
+
+pub invariant_of-self : goal.invariant_of-self
+invariant_of-self c =
+    with_cache (seen.state_of c.set_speculating.new.self) _ c.flush.new.self c.flush.ensures
+    (marked_translated (seen.state_of c.self.inside.pages) (seen.state_of c.set_speculating.new.self) c.args.space c.args.on c.self.inside.cache c.set_speculating.ensures c.self.invariant)
+
+pub returns-clause-translations : goal.returns-clause-translations
+returns-clause-translations c =
+    flushed_lists c.args.space (view_of c.self.inside.pages c.self.inside.cache) c.args.self.now c.flush.new.self c.self.view_is c.flush.ensures
