@@ -4,11 +4,11 @@ use Rattle.std.specs.Option.{is_some, option_map_or, unwrap_or}
 use Rattle.std.proofs.lemmas.Bool.Decides.{nat_tests}
 use Rattle.ledger.specs.Ledger.{Ledger}
 use Rattle.ledger.specs.Units.{units}
-use Rattle.ovl_io.specs.Memory.{Memory, denied_at}
+use Rattle.ovl_io.specs.Memory.{Access, Memory, denied_at}
 use Rattle.ovl_io.specs.declared.process_state.FaultKind.{FaultKind}
 use Rattle.ovl_io.specs.declared.process_state.ProcessState.{ProcessState}
 use Rattle.ovl_io.specs.declared.process_state.ProcessState.TheVariants as state
-use Rattle.rv_execute.specs.Calls.{Call, Fetch, Load, Store, Performs, full_of, store_at}
+use Rattle.rv_execute.specs.Calls.{Call, Fetch, Load, Store, Performs, fetch_at, full_of, load_at, store_at}
 use Rattle.rv_execute.specs.Registers.{Registers}
 use Rattle.rv_execute.specs.Execution.{Execution, Executes, execution, full_in, outcome_by}
 use Rattle.rv_execute.specs.declared.memory.Refused.{Refused}
@@ -24,9 +24,11 @@ use Rattle.machine_core.specs.declared.process.SavedRegs.{SavedRegs}
 use Rattle.machine_core.specs.declared.view.View.{View}
 use Rattle.machine_core.specs.Process.{Whole, is_speculating}
 use Rattle.machine_core.specs.Machine.{kept_in, kept_whole, none_saved}
-use Rattle.machine_core.specs.Access.{IsSameLoan, IsStoredBy, IsUnchanged, Leaves, spaces_lent}
-use Rattle.machine_core.specs.Turns.{Guest, executed, execution_of, exceeds, guest_executed, is_full, ledger_executed, ledger_stored, outcome_of, state_executed, store_made, store_of, units_needed}
-use Rattle.machine_core.specs.Kept.{IsBeside, guest_in, guest_lent}
+use Rattle.translation_cache.specs.Bare.{BareTranslations}
+use Rattle.machine_core.specs.Tried.{are_tried, each_counted, tried_counted}
+use Rattle.machine_core.specs.Access.{IsSameLoan, IsStoredBy, IsUnchanged, Leaves, lists_after, lists_lent, spaces_lent}
+use Rattle.machine_core.specs.Turns.{Guest, executed, execution_of, exceeds, guest_executed, guest_refused, is_full, ledger_executed, ledger_stored, outcome_of, state_executed, store_made, store_of, translations_executed, units_needed}
+use Rattle.machine_core.specs.Kept.{IsBeside, guest_in, guest_lent, guest_seen}
 
 -- What the calls of one instruction make of the memory of all spaces.
 
@@ -49,6 +51,7 @@ Came p old new (Some store) full = CameBy p old new store (nat_lt (limit_of old)
 pub record IsPerformed (calls : List Call) (old new : View) (full : Option (ℕ × ℕ)) : Type 0 where
   pub same : IsSameLoan old new
   pub came : Came old.space (spaces_lent old) (spaces_lent new) (store_made (memory_of (spaces_lent old) old.space) calls) full
+  pub lists : lists_lent new ≡ each_counted old.space (memory_of (spaces_lent old) old.space) calls (lists_lent old)
 
 is_over : (l u : ℕ) → l < u → nat_lt l u ≡ true
 is_over l u h = grind (arith, nat_tests)
@@ -87,33 +90,45 @@ stored_came p old new address bytes (Err (refused.Full needed limit)) full (allo
     (subst (λ b. CameBy p old new (address, length bytes) b full) (sym test)
     (is ∙ ap (λ n. Some (n, limit)) needed_is ∙ ap (λ n. Some (u, n)) limit_is, same))
 
-carried : (calls : List Call) (old next new : View) (full : Option (ℕ × ℕ)) → IsUnchanged old next → IsPerformed calls next new full → IsPerformed calls old new full
-carried calls old next new full (same, kept) done = record {
-  same = record { loan = done.same.loan ∙ same.loan; space = done.same.space ∙ same.space };
-  came = subst (λ (s : State). Came old.space s (spaces_lent new) (store_made (memory_of s old.space) calls) full) kept
-      (subst (λ p. Came p (spaces_lent next) (spaces_lent new) (store_made (memory_of (spaces_lent next) p) calls) full) same.space done.came);
-}
+carried : (calls : List Call) (old next new : View) (full : Option (ℕ × ℕ)) (access : Access) → IsUnchanged access old next → IsPerformed calls next new full
+    → IsSameLoan old new × Came old.space (spaces_lent old) (spaces_lent new) (store_made (memory_of (spaces_lent old) old.space) calls) full
+    × (lists_lent new ≡ each_counted old.space (memory_of (spaces_lent old) old.space) calls (lists_after old access))
+carried calls old next new full access (same, kept, counts) done = (
+
+  record { loan = done.same.loan ∙ same.loan; space = done.same.space ∙ same.space },
+  subst (λ (s : State). Came old.space s (spaces_lent new) (store_made (memory_of s old.space) calls) full) kept
+      (subst (λ p. Came p (spaces_lent next) (spaces_lent new) (store_made (memory_of (spaces_lent next) p) calls) full) same.space done.came),
+  done.lists ∙ ap (λ p. each_counted p (memory_of (spaces_lent next) p) calls (lists_lent next)) same.space
+      ∙ ap (λ (s : State). each_counted old.space (memory_of s old.space) calls (lists_lent next)) kept
+      ∙ ap (each_counted old.space (memory_of (spaces_lent old) old.space) calls) counts,
+)
 
 pub performed : (calls : List Call) (old new : View) (full : Option (ℕ × ℕ))
-    → Performs (λ old address new. IsUnchanged old new) (λ old address count new. IsUnchanged old new) (λ old address bytes answer new. IsStoredBy old address bytes answer new)
+    → Performs (λ old address new. IsUnchanged (fetch_at address) old new) (λ old address count new. IsUnchanged (load_at address count) old new) (λ old address bytes answer new. IsStoredBy old address bytes answer new)
     calls old full new
     → IsPerformed calls old new full
+unfolding each_counted
 performed [] old new full (none, is) = record {
   same = record { loan = ap (λ (v : View). v.memory.ghost_name) is; space = ap (λ (v : View). v.space) is };
   came = (none, ap spaces_lent is);
+  lists = ap lists_lent is;
 }
 performed (Fetch address ∷ calls) old new full (next, unchanged, more) =
-    let all = carried calls old next new full unchanged (performed calls next new full more) in record { same = all.same; came = all.came }
+    let all = carried calls old next new full (fetch_at address) unchanged (performed calls next new full more) in record { same = all.0; came = all.1; lists = all.2 }
 performed (Load address count ∷ calls) old new full (next, unchanged, more) =
-    let all = carried calls old next new full unchanged (performed calls next new full more) in record { same = all.same; came = all.came }
+    let all = carried calls old next new full (load_at address count) unchanged (performed calls next new full more) in record { same = all.0; came = all.1; lists = all.2 }
 performed (Store address bytes ∷ calls) old new full (answer, stored, is, last) =
-    record { same = stored.0; came = stored_came old.space (spaces_lent old) (spaces_lent new) address bytes answer full stored.1 is }
+    record {
+      same = stored.0;
+      came = stored_came old.space (spaces_lent old) (spaces_lent new) address bytes answer full stored.1 is;
+      lists = stored.2 ∙ ap (λ calls. each_counted old.space (memory_of (spaces_lent old) old.space) calls (lists_after old (store_at address (length bytes)))) (sym last);
+    }
 
 -- One execution.
 
-pub record IsExecuted (p : ℕ) (old new : State) (before after : declared.Process) (o : Outcome) : Type 0 where
-  pub outcome_is : o ≡ outcome_of p (guest_in p old before)
-  pub after_is : guest_in p new after ≡ executed p (guest_in p old before)
+pub record IsExecuted (p : ℕ) (old new : State) (t u : BareTranslations) (before after : declared.Process) (o : Outcome) : Type 0 where
+  pub outcome_is : o ≡ outcome_of p (guest_seen p old t before)
+  pub after_is : guest_seen p new u after ≡ executed p (guest_seen p old t before)
   pub beside : IsBeside p old new
 
 abbrev pub state_left : Outcome → ProcessState → ProcessState
@@ -158,22 +173,23 @@ full_by e old old_memory regs memory (outcome.Full n l) needed limit is (steps, 
       memory_is = m;
     }
 
-made : (r s : Registers) (t u : ProcessState) (m n : Memory) (c d : Option Whole) (k l : Ledger) (f g : ℕ)
-    → r ≡ s → t ≡ u → m ≡ n → c ≡ d → k ≡ l → f ≡ g
-    → ◌≡◌ {A = Guest} (record { process = record { registers = r; state = t; memory = m; kept = c }; ledger = k; frames = f })
-    (record { process = record { registers = s; state = u; memory = n; kept = d }; ledger = l; frames = g })
-made r s t u m n c d k l f g rs tu mn cd kl fg =
-    λ i. record { process = record { registers = rs i; state = tu i; memory = mn i; kept = cd i }; ledger = kl i; frames = fg i }
+made : (r s : Registers) (t u : ProcessState) (m n : Memory) (c d : Option Whole) (k l : Ledger) (f g : ℕ) (x y : BareTranslations)
+    → r ≡ s → t ≡ u → m ≡ n → c ≡ d → k ≡ l → f ≡ g → x ≡ y
+    → ◌≡◌ {A = Guest} (record { process = record { registers = r; state = t; memory = m; kept = c }; ledger = k; frames = f; translations = x })
+    (record { process = record { registers = s; state = u; memory = n; kept = d }; ledger = l; frames = g; translations = y })
+made r s t u m n c d k l f g x y rs tu mn cd kl fg xy =
+    λ i. record { process = record { registers = rs i; state = tu i; memory = mn i; kept = cd i }; ledger = kl i; frames = fg i; translations = xy i }
 
 -- a whole is kept where the mark is
 marked : (mark : Bool) (whole : Whole) → is_some (cond mark (Some whole) None) ≡ mark
 marked true whole = refl
 marked false whole = refl
 
-module _ (p : ℕ) (old new : State) (process : declared.Process) (regs : Registers) (o : Outcome)
-    (done : Executes (execution process.regs (memory_of old p)) process.regs (memory_of old p) regs (memory_of new p) o) (runs : process.state ≡ state.Running) where
+module _ (p : ℕ) (old new : State) (t u : BareTranslations) (process : declared.Process) (regs : Registers) (o : Outcome)
+    (done : Executes (execution process.regs (memory_of old p)) process.regs (memory_of old p) regs (memory_of new p) o) (runs : process.state ≡ state.Running)
+    (counts : u ≡ translations_executed p (guest_seen p old t process)) where
   abbrev guest : Guest
-  guest = guest_in p old process
+  guest = guest_seen p old t process
 
   abbrev left : declared.Process
   left = record { regs = regs; state = state_left o process.state; saved = process.saved }
@@ -195,41 +211,41 @@ module _ (p : ℕ) (old new : State) (process : declared.Process) (regs : Regist
 
   enough : (store : Option (ℕ × ℕ)) → store_of guest.process ≡ store → is_full p guest ≡ false → full_in o ≡ None → books new ≡ ledger_stored p (space_in old p).speculating store (books old)
       → kept_in new p process.saved ≡ kept_in old p process.saved → new.frames ≡ old.frames → IsBeside p old new
-      → IsExecuted p old new process left o
+      → IsExecuted p old new t u process left o
   enough store is not_full none ledger kept frames beside =
       let e = execution process.regs (memory_of old p) in
       let d = is_done e process.regs (memory_of old p) regs (memory_of new p) o none done in
       record {
         outcome_is = d.outcome_is ∙ sym (ap (λ b. cond b (outcome.Full (units_needed p guest) (limit_of old)) (outcome_by e.upshot)) not_full);
-        after_is = made regs e.registers (state_left o process.state) (state_executed e.upshot) (memory_of new p) e.memory (kept_in new p process.saved) (kept_in old p process.saved) (books new) (ledger_executed p guest) _ _
-            d.registers (ap (state_left o) runs ∙ d.state_is) d.memory_is kept (ledger ∙ sym (ledger_is store is)) frames
-            ∙ sym (ap (λ b. cond b guest (guest_executed p guest)) not_full);
+        after_is = made regs e.registers (state_left o process.state) (state_executed e.upshot) (memory_of new p) e.memory (kept_in new p process.saved) (kept_in old p process.saved) (books new) (ledger_executed p guest) _ _ u _
+            d.registers (ap (state_left o) runs ∙ d.state_is) d.memory_is kept (ledger ∙ sym (ledger_is store is)) frames counts
+            ∙ sym (ap (λ b. cond b (guest_refused p guest) (guest_executed p guest)) not_full);
         beside = beside;
       }
 
   same_beside : new ≡ old → IsBeside p old new
   same_beside same = subst (IsBeside p old) (sym same) (record { spaces = λ q other. refl; there = λ q. refl; awaiting = refl; mark = refl })
 
-  by_store : (store : Option (ℕ × ℕ)) → store_of guest.process ≡ store → Came p old new store (full_in o) → IsExecuted p old new process left o
+  by_store : (store : Option (ℕ × ℕ)) → store_of guest.process ≡ store → Came p old new store (full_in o) → IsExecuted p old new t u process left o
   by_store None is (none, same) =
       enough None is (full_is None is) none (ap books same) (ap (λ (s : State). kept_in s p process.saved) same) (ap (λ (s : State). s.frames) same) (same_beside same)
   by_store (Some store) is came = by_test (nat_lt (limit_of old) (units (stored_books old p store.0 store.1))) refl came
     where
-      by_test : (b : Bool) → nat_lt (limit_of old) (units (stored_books old p store.0 store.1)) ≡ b → CameBy p old new store b (full_in o) → IsExecuted p old new process left o
+      by_test : (b : Bool) → nat_lt (limit_of old) (units (stored_books old p store.0 store.1)) ≡ b → CameBy p old new store b (full_in o) → IsExecuted p old new t u process left o
       by_test true over (full, same) =
           let f = full_by (execution process.regs (memory_of old p)) process.regs (memory_of old p) regs (memory_of new p) o _ _ full done in
           let test = full_is (Some store) is ∙ over in
           record {
             outcome_is = f.outcome_is ∙ ap (λ l. outcome.Full (units l) (limit_of old)) (sym (ledger_is (Some store) is))
                 ∙ sym (ap (λ b. cond b (outcome.Full (units_needed p guest) (limit_of old)) (outcome_by (execution_of guest.process).upshot)) test);
-            after_is = made regs process.regs (state_left o process.state) process.state (memory_of new p) (memory_of old p) (kept_in new p process.saved) (kept_in old p process.saved) (books new) (books old) _ _
-                f.registers (ap (state_left o) runs ∙ f.state_is ∙ sym runs) f.memory_is (ap (λ (s : State). kept_in s p process.saved) same) (ap books same) (ap (λ (s : State). s.frames) same)
-                ∙ sym (ap (λ b. cond b guest (guest_executed p guest)) test);
+            after_is = made regs process.regs (state_left o process.state) process.state (memory_of new p) (memory_of old p) (kept_in new p process.saved) (kept_in old p process.saved) (books new) (books old) _ _ u _
+                f.registers (ap (state_left o) runs ∙ f.state_is ∙ sym runs) f.memory_is (ap (λ (s : State). kept_in s p process.saved) same) (ap books same) (ap (λ (s : State). s.frames) same) counts
+                ∙ sym (ap (λ b. cond b (guest_refused p guest) (guest_executed p guest)) test);
             beside = same_beside same;
           }
       by_test false under (none, has) = enough (Some store) is (full_is (Some store) is ∙ under) none has.ledger (has.kept process.saved) has.frames has.beside
 
-  pub executes : Came p old new (store_made (memory_of old p) (execution process.regs (memory_of old p)).calls) (full_in o) → IsExecuted p old new process left o
+  pub executes : Came p old new (store_made (memory_of old p) (execution process.regs (memory_of old p)).calls) (full_in o) → IsExecuted p old new t u process left o
   unfolding store_of
   executes came = by_store _ refl came
 
@@ -244,19 +260,24 @@ pub record IsExecutedLent (old new : View) (before after : declared.Process) (o 
 pub lent : (old new : View) (process : declared.Process) (regs : Registers) (o : Outcome)
     → Executes (execution process.regs (memory_of (spaces_lent old) old.space)) process.regs (memory_of (spaces_lent old) old.space) regs (memory_of (spaces_lent new) new.space) o
     → process.state ≡ state.Running
-    → Performs (λ old address new. IsUnchanged old new) (λ old address count new. IsUnchanged old new) (λ old address bytes answer new. IsStoredBy old address bytes answer new)
+    → Performs (λ old address new. IsUnchanged (fetch_at address) old new) (λ old address count new. IsUnchanged (load_at address count) old new)
+    (λ old address bytes answer new. IsStoredBy old address bytes answer new)
     (execution process.regs (memory_of (spaces_lent old) old.space)).calls old (full_in o) new
     → IsExecutedLent old new process (record { regs = regs; state = state_left o process.state; saved = process.saved }) o
+unfolding translations_executed
 lent old new process regs o done runs made =
     let all = performed _ old new (full_in o) made in
     let moved = ap (memory_of (spaces_lent new)) all.same.space in
-    let one = executes old.space (spaces_lent old) (spaces_lent new) process regs o
-    (subst (λ (m : Memory). Executes (execution process.regs (memory_of (spaces_lent old) old.space)) process.regs (memory_of (spaces_lent old) old.space) regs m o) moved done) runs all.came in
+    let memory = memory_of (spaces_lent old) old.space in
+    let counts = all.lists ∙ tried_counted old.space memory (execution process.regs memory).calls (lists_lent old) (are_tried process.regs memory) in
+    let one = executes old.space (spaces_lent old) (spaces_lent new) (lists_lent old) (lists_lent new) process regs o
+    (subst (λ (m : Memory). Executes (execution process.regs memory) process.regs memory regs m o) moved done) runs counts all.came in
     record {
       loan = all.same.loan;
       space = all.same.space;
       outcome_is = one.outcome_is;
-      after_is = ap (λ p. guest_in p (spaces_lent new) (record { regs = regs; state = state_left o process.state; saved = process.saved })) all.same.space ∙ one.after_is;
+      after_is = ap (λ p. guest_seen p (spaces_lent new) (lists_lent new) (record { regs = regs; state = state_left o process.state; saved = process.saved })) all.same.space
+          ∙ one.after_is;
       beside = one.beside;
     }
 

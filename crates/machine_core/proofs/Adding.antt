@@ -172,3 +172,10 @@ module _ (before now new : State) (p : ℕ) (content : ℕ → Page) (mark : ℕ
         (added.alike (fold (one_loaded p) a (map (λ q. (q, mark q)) pages)) (so_far.ledger a alike));
     rest = open_with p before now new page added.x so_far.rest added.put;
   }
+
+-- what is flushed of a space of which nothing was translated
+pub zero_lists : (result : Result (Unit {0}) AllocError) (p : ℕ) (old new : TranslatedView)
+    → OnOk result (translations_of new ≡ flushed p (translations_of old)) → OnErr result (new ≡ old) → IsUnseen p (translations_of old)
+    → translations_of new ≡ translations_of old
+zero_lists (Ok done) p old new flush kept unseen = flush ∙ unseen
+zero_lists (Err error) p old new flush kept unseen = ap translations_of kept

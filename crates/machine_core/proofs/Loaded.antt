@@ -56,7 +56,7 @@ module _ (file : List ℕ) (p : ℕ) (old new : Machine) (has : IsSpaceOf file p
 
   pub loaded : IsLoaded p file old new
   loaded = record {
-    like = record { processes = all_are; ledger = alike_turned _ _ has.ledger; frames = has.frames };
+    like = record { processes = all_are; ledger = alike_turned _ _ has.ledger; frames = has.frames; translations = lists };
     processes = processes;
     there = has.there;
     settled = has.settled;

@@ -11,7 +11,7 @@ use Rattle.by_number.specs.Values.{IsNextNumber}
 use Rattle.number_maps.specs.Keys.{alike, by_key, get_other, get_same}
 use Rattle.overlay_pages.specs.State.{SpaceState, State, base_of}
 use Rattle.ovl_io.specs.declared.process_state.ProcessState.TheVariants.{Running}
-use Rattle.overlay_pages.specs.View.{MemoryView, state_of}
+use Rattle.overlay_memory.specs.View.{TranslatedView, state_of}
 use Rattle.machine_core.specs.Process.{Process, runs}
 use Rattle.machine_core.specs.declared.process.Process as declared
 use Rattle.machine_core.specs.declared.process.SavedRegs.{SavedRegs}
@@ -29,7 +29,7 @@ use Rattle.machine_core.proofs.Rising.{rises, found_in, same_rising}
 
 -- a process that is there, in its place
 pub guest_is : (machine : Machine) (p : ℕ) (process : declared.Process) → get machine.processes p ≡ Some process
-    → guest_at (wholes machine) p ≡ Some (guest_in p (spaces_of machine) process)
+    → guest_at (wholes machine) p ≡ Some (guest_in p machine.memory process)
 guest_is machine p process there =
     ap (option_map (guest_of (wholes machine))) (processes_at machine p ∙ ap (option_map (whole_in (spaces_of machine) p)) there)
 
@@ -75,8 +75,8 @@ pub same_beside : (p : ℕ) (old new : State) → new ≡ old → IsBeside p old
 same_beside p old new same = subst (λ s. IsBeside p s new) same (record { spaces = λ q other. refl; there = λ q. refl; awaiting = refl; mark = refl })
 
 -- A process was changed with its space, but for what is saved of it.
-module _ (f : Guest → Guest) (p : ℕ) (old : Machine) (memory : MemoryView) (process next : declared.Process) (there : get old.processes p ≡ Some process)
-    (done : guest_in p (state_of memory) next ≡ f (guest_in p (spaces_of old) process))
+module _ (f : Guest → Guest) (p : ℕ) (old : Machine) (memory : TranslatedView) (process next : declared.Process) (there : get old.processes p ≡ Some process)
+    (done : guest_in p memory next ≡ f (guest_in p old.memory process))
     (saved : next.saved ≡ process.saved) (beside : IsBeside p (spaces_of old) (state_of memory)) where
   abbrev new : Machine
   new = machine_of memory (insert old.processes p next)
@@ -92,7 +92,7 @@ module _ (f : Guest → Guest) (p : ℕ) (old : Machine) (memory : MemoryView) (
   others_seen q other (Some process) = ap Some (whole_by (spaces_of new) (spaces_of old) q (beside.spaces q other) process)
 
   abbrev guest : Guest
-  guest = f (guest_in p (spaces_of old) process)
+  guest = f (guest_in p old.memory process)
 
   processes_put : processes_of new ≡ insert (processes_of old) p guest.process
   processes_put = alike _ _ (λ q. processes_at new q ∙ by_key q p
@@ -102,7 +102,7 @@ module _ (f : Guest → Guest) (p : ℕ) (old : Machine) (memory : MemoryView) (
       ∙ sym (processes_at old q) ∙ sym (get_other (processes_of old) p q guest.process other)))
 
   wholes_put : wholes new ≡ with_guest (wholes old) p guest
-  wholes_put = λ i. record { processes = processes_put i; ledger = (done i).ledger; frames = (done i).frames }
+  wholes_put = λ i. record { processes = processes_put i; ledger = (done i).ledger; frames = (done i).frames; translations = (done i).translations }
 
   pub changed : IsChanged p old new (option_map_or (λ g. with_guest (wholes old) p (f g)) (guest_at (wholes old) p) (wholes old))
   changed = record {

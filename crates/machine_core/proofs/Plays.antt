@@ -5,7 +5,7 @@ use Rattle.ovl_io.specs.Keys.{by_key, get_same, get_other}
 use Rattle.machine_core.specs.declared.process.Process as declared
 use Rattle.machine_core.specs.Process.{Process, runs}
 use Rattle.machine_core.specs.Machine.{HaveSpaces, KeepsPlaces, Machine, StaysBut, Wholes, has_space, is_running, wholes}
-use Rattle.machine_core.specs.Turns.{Guest, after_turn, guest_after, guest_of, is_full, ledger_executed, process_after, with_guest}
+use Rattle.machine_core.specs.Turns.{Guest, after_turn, guest_after, guest_of, guest_refused, guest_stepped, is_full, ledger_executed, process_after, with_guest}
 use Rattle.machine_core.specs.Laws.{runs_shown}
 use Rattle.machine_core.specs.Play.{AreOwnTurns, after_number, is_full_at, own_turns, run_over, turns_of}
 use Rattle.machine_core.specs.NumberLaws.{other_is, same_is}
@@ -33,11 +33,11 @@ module _ (state : Wholes) (p : ℕ) (process : Process) (there : get state.proce
       → own_turns p n (guest_after p guest).process ≡ own_turns p (cond (not b) 1 0 + n) process
   own_by n true full =
       let none : n ≡ 0 + n = omega arith in
-      ap (λ b. own_turns p n (cond b guest (record { process = process_after p process; ledger = ledger_executed p guest; frames = state.frames })).process) full
+      ap (λ b. own_turns p n (cond b (guest_refused p guest) (guest_stepped p guest)).process) full
       ∙ ap (λ k. own_turns p k process) none
   own_by n false enough =
       let one : suc n ≡ 1 + n = omega arith in
-      ap (λ b. own_turns p n (cond b guest (record { process = process_after p process; ledger = ledger_executed p guest; frames = state.frames })).process) enough
+      ap (λ b. own_turns p n (cond b (guest_refused p guest) (guest_stepped p guest)).process) enough
       ∙ ap (λ k. own_turns p k process) one
 
   own_there : (n : ℕ) → option_map (own_turns p n) (get (after_turn state p).processes p)

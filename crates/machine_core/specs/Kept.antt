@@ -8,6 +8,7 @@ use Rattle.std.specs.List.Sorted.{IsStrictlyIncreasing}
 use Rattle.std.specs.Vec.{vec_capacity}
 use Rattle.overlay_pages.specs.State.{State, books}
 use Rattle.overlay_memory.specs.View.{TranslatedView, state_of, translations_of}
+use Rattle.translation_cache.specs.Bare.{BareTranslations}
 use Rattle.space_maps.specs.Spaces.{holds_space, space_in}
 use Rattle.machine_core.specs.Process.{runs}
 use Rattle.machine_core.specs.Machine.{KeepsPlaces, Machine, StaysBut, Wholes, whole_in, wholes}
@@ -31,13 +32,12 @@ abbrev pub runs_at : Kept → ℕ → Bool
 runs_at processes p = option_map_or (λ (process : declared.Process). runs process.state) (get processes p) false
 
 -- a process that is kept, in its place
+abbrev pub guest_seen : ℕ → State → BareTranslations → declared.Process → Guest
+guest_seen p spaces translations process =
+    record { process = whole_in spaces p process; ledger = books spaces; frames = spaces.frames; translations = translations }
+
 abbrev pub guest_in : ℕ → TranslatedView → declared.Process → Guest
-guest_in p memory process = record {
-  process = whole_in (state_of memory) p process;
-  ledger = books (state_of memory);
-  frames = (state_of memory).frames;
-  translations = translations_of memory;
-}
+guest_in p memory process = guest_seen p (state_of memory) (translations_of memory) process
 
 -- the same in the space that is lent
 abbrev pub guest_lent : View → declared.Process → Guest

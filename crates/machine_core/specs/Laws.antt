@@ -1,4 +1,4 @@
-use Rattle.std.specs.Prelude.{◌≡◌, ℕ, zero, suc, ◌+◌, Bool, true, false, cond, List, [], ◌∷◌, Option, Some, None, refl, map}
+use Rattle.std.specs.Prelude.{◌≡◌, ℕ, zero, suc, ◌+◌, Bool, true, false, cond, List, [], ◌∷◌, ◌++◌, Option, Some, None, refl, map}
 use Rattle.std.proofs.Common.{sym, ap, subst, ◌∙◌}
 use Rattle.std.specs.Option.{option_map, option_map_or, unwrap_or}
 use Rattle.std.specs.FinMap.{FinMap, get, insert, remove}
@@ -24,12 +24,18 @@ use Rattle.ovl_io.specs.declared.turn.Turn.{Turn}
 use Rattle.ovl_io.specs.declared.turn.Turn.TheVariants as turn
 use Rattle.rv_execute.specs.declared.outcome.Outcome.{Outcome}
 use Rattle.rv_execute.specs.declared.outcome.Outcome.TheVariants as outcome
-use Rattle.rv_execute.specs.Calls.{access_of}
+use Rattle.ovl_io.specs.Memory.{Access}
+use Rattle.rv_execute.specs.Calls.{Call, access_of, fetch_at}
 use Rattle.rv_execute.specs.Execution.{Execution, Upshot, Steps, Asks, Faults, outcome_by}
 use Rattle.rv_execute.specs.Step.{Request, request, turned}
 use Rattle.machine_core.specs.Process.{Process, is_speculating, runs}
-use Rattle.machine_core.specs.Machine.{AnswersAs, AreLike, IsDropped, LeadsTo, Machine, Processes, Wholes, is_running, kept_in, kept_whole, limit_of, none_saved, processes_of, spaces_of, whole_in, wholes, with_process_at, without_pages, without_process, without_process_at}
-use Rattle.machine_core.specs.Turns.{Guest, asked_found, after_asked, after_execution, after_request, after_step, after_turn, came_to, exceeds, executed, execution_of, guest_after, guest_answered, guest_at, guest_executed, guest_of, is_full, ledger_executed, ledger_stored, outcome_found, outcome_of, process_after, process_executed, request_of, state_executed, step_of, store_of, turn_asked, turn_in, turn_of, units_needed, with_guest}
+use Rattle.translation_cache.specs.Bare.{BareTranslations}
+use Rattle.translation_cache.specs.Counted.{counted}
+use Rattle.translation_cache.specs.CountedLaws.{counted_next, counted_one}
+use Rattle.translation_cache.specs.Translations.{flushed}
+use Rattle.machine_core.specs.Tried.{is_requested}
+use Rattle.machine_core.specs.Machine.{AnswersAs, AreLike, IsDropped, LeadsTo, Machine, Processes, Wholes, is_running, kept_in, kept_whole, limit_of, lists_of, none_saved, processes_of, spaces_of, whole_in, wholes, with_process_at, without_pages, without_process, without_process_at}
+use Rattle.machine_core.specs.Turns.{Guest, after_asked, after_execution, after_request, after_step, after_turn, asked_found, came_to, exceeds, executed, execution_of, guest_after, guest_answered, guest_at, guest_executed, guest_of, guest_refused, guest_stepped, is_full, ledger_executed, ledger_stored, outcome_found, outcome_of, process_after, process_executed, request_of, state_executed, step_of, store_of, translations_after, translations_asked, translations_executed, turn_asked, turn_in, turn_of, units_needed, with_guest}
 use Rattle.std.specs.FinSet.{contains}
 use Rattle.breakpoints.specs.Breakpoints.{Addresses}
 use Rattle.machine_core.specs.Executions.{Executions, after_executions, all_executed, came_to_last, executions, first_execution, is_at_stop, more_executions, steps_to, stopped_execution}
@@ -68,7 +74,7 @@ pub wholes_without : (machine : Machine) (p : ℕ) → wholes (without_process_a
 unfolding processes_of
 wholes_without machine p =
     let gone = viewed_gone (λ q process. whole_in (spaces_of machine) q process) machine.processes p in
-    ap (λ (ps : Processes). record { processes = ps; ledger = (wholes machine).ledger; frames = (wholes machine).frames }) gone
+    ap (λ (ps : Processes). record { processes = ps; ledger = (wholes machine).ledger; frames = (wholes machine).frames; translations = lists_of machine }) gone
 
 -- whether a process runs, by what is kept of it
 pub runs_shown : (machine : Machine) (q : ℕ) → is_running (wholes machine) q ≡ option_map_or (λ (process : declared.Process). runs process.state) (get machine.processes q) false
@@ -93,7 +99,7 @@ wholes_dropped p old new absent dropped =
     ∙ sym (processes_at old q)) in
     let ledger : books (spaces_of new) ≡ remove (books (spaces_of old)) p = ap books dropped.spaces ∙ books_cut held_page (spaces_of old) p in
     let frames : (spaces_of new).frames ≡ (spaces_of old).frames = ap (λ (s : State). s.frames) dropped.spaces in
-    λ i. record { processes = processes i; ledger = ledger i; frames = frames i }
+    λ i. record { processes = processes i; ledger = ledger i; frames = frames i; translations = dropped.lists i }
   where
     by_process : (q : ℕ) → (q ≡ p → ⊥) → (o : Option declared.Process) → option_map (whole_in (spaces_of new) q) o ≡ option_map (whole_in (spaces_of old) q) o
     by_process q other None = refl
@@ -103,16 +109,22 @@ wholes_dropped p old new absent dropped =
 -- States that are like each other.
 
 pub like_itself : (a : Wholes) → AreLike a a
-like_itself a = record { processes = refl; ledger = alike_itself a.ledger; frames = refl }
+like_itself a = record { processes = refl; ledger = alike_itself a.ledger; frames = refl; translations = refl }
 
 pub like_back : (a b : Wholes) → AreLike a b → AreLike b a
-like_back a b like = record { processes = sym like.processes; ledger = alike_turned a.ledger b.ledger like.ledger; frames = sym like.frames }
+like_back a b like = record {
+  processes = sym like.processes;
+  ledger = alike_turned a.ledger b.ledger like.ledger;
+  frames = sym like.frames;
+  translations = sym like.translations;
+}
 
 pub like_chain : (a b c : Wholes) → AreLike a b → AreLike b c → AreLike a c
 like_chain a b c h k = record {
   processes = h.processes ∙ k.processes;
   ledger = alike_chain a.ledger b.ledger c.ledger h.ledger k.ledger;
   frames = h.frames ∙ k.frames;
+  translations = h.translations ∙ k.translations;
 }
 
 -- what holds of a machine's own state holds of each that it stands for
@@ -124,16 +136,49 @@ pub leads : (f : Wholes → Wholes) (old new : Machine) → ((a b : Wholes) → 
 leads f old new like is state stands = subst (λ (a : Wholes). AreLike a (f state)) (sym is) (like (wholes old) state stands)
 
 pub like_without : (p : ℕ) (a b : Wholes) → AreLike a b → AreLike (without_process p a) (without_process p b)
-like_without p a b like = record { processes = ap (λ (ps : Processes). remove ps p) like.processes; ledger = like.ledger; frames = like.frames }
+like_without p a b like = record {
+  processes = ap (λ (ps : Processes). remove ps p) like.processes;
+  ledger = like.ledger;
+  frames = like.frames;
+  translations = like.translations;
+}
 
 pub like_without_pages : (p : ℕ) (a b : Wholes) → AreLike a b → AreLike (without_pages p a) (without_pages p b)
-like_without_pages p a b like = record { processes = like.processes; ledger = alike_dropped a.ledger b.ledger like.ledger p; frames = like.frames }
+like_without_pages p a b like = record {
+  processes = like.processes;
+  ledger = alike_dropped a.ledger b.ledger like.ledger p;
+  frames = like.frames;
+  translations = ap (flushed p) like.translations;
+}
 
 -- processes in their places
 pub record AreLikeGuests (a b : Guest) : Type 0 where
   pub process : a.process ≡ b.process
   pub ledger : AreAlike a.ledger b.ledger
   pub frames : a.frames ≡ b.frames
+  pub translations : a.translations ≡ b.translations
+
+-- the accesses that they try
+like_tried : (p : ℕ) (a b : Guest) → AreLikeGuests a b → translations_executed p a ≡ translations_executed p b
+unfolding translations_executed
+like_tried p a b like =
+    ap (λ (process : Process). counted p process.memory (map access_of (execution_of process).calls) a.translations) like.process
+    ∙ ap (λ t. counted p b.process.memory (map access_of (execution_of b.process).calls) t) like.translations
+
+like_stepped : (p : ℕ) (a b : Guest) → AreLikeGuests a b → translations_after p a ≡ translations_after p b
+unfolding translations_after
+like_stepped p a b like =
+    ap (λ (process : Process). counted p process.memory (step_of p process).accesses a.translations) like.process
+    ∙ ap (λ t. counted p b.process.memory (step_of p b.process).accesses t) like.translations
+
+like_requested : (p : ℕ) (a b : Guest) → AreLikeGuests a b → translations_asked p a ≡ translations_asked p b
+unfolding translations_asked
+like_requested p a b like =
+    ap (λ (process : Process). counted p process.memory (request_of p process).accesses a.translations) like.process
+    ∙ ap (λ t. counted p b.process.memory (request_of p b.process).accesses t) like.translations
+
+like_refused : (p : ℕ) (a b : Guest) → AreLikeGuests a b → AreLikeGuests (guest_refused p a) (guest_refused p b)
+like_refused p a b like = record { process = like.process; ledger = like.ledger; frames = like.frames; translations = like_tried p a b like }
 
 alike_stored : (p : ℕ) (speculating : Bool) (store : Option (ℕ × ℕ)) (k l : Ledger) → AreAlike k l → AreAlike (ledger_stored p speculating store k) (ledger_stored p speculating store l)
 alike_stored p speculating None k l alike = alike
@@ -177,17 +222,24 @@ like_cond false true a b x y e h k = cc
 
 pub like_executed : (p : ℕ) (a b : Guest) → AreLikeGuests a b → AreLikeGuests (executed p a) (executed p b)
 like_executed p a b like =
-    like_cond (is_full p a) (is_full p b) a b (guest_executed p a) (guest_executed p b) (like_full p a b like) like
-    (record { process = ap process_executed like.process; ledger = like_ledger p a b like; frames = like.frames })
+    like_cond (is_full p a) (is_full p b) (guest_refused p a) (guest_refused p b) (guest_executed p a) (guest_executed p b) (like_full p a b like)
+    (like_refused p a b like)
+    (record { process = ap process_executed like.process; ledger = like_ledger p a b like; frames = like.frames; translations = like_tried p a b like })
 
 pub like_after : (p : ℕ) (a b : Guest) → AreLikeGuests a b → AreLikeGuests (guest_after p a) (guest_after p b)
 like_after p a b like =
-    like_cond (is_full p a) (is_full p b) a b _ _ (like_full p a b like) like
-    (record { process = ap (process_after p) like.process; ledger = like_ledger p a b like; frames = like.frames })
+    like_cond (is_full p a) (is_full p b) (guest_refused p a) (guest_refused p b) (guest_stepped p a) (guest_stepped p b) (like_full p a b like)
+    (like_refused p a b like)
+    (record { process = ap (process_after p) like.process; ledger = like_ledger p a b like; frames = like.frames; translations = like_stepped p a b like })
 
 pub like_answered : (p : ℕ) (a b : Guest) → AreLikeGuests a b → AreLikeGuests (guest_answered p a) (guest_answered p b)
 like_answered p a b like =
-    record { process = ap (λ (process : Process). after_request process.memory process (request_of p process)) like.process; ledger = like.ledger; frames = like.frames }
+    record {
+      process = ap (λ (process : Process). after_request process.memory process (request_of p process)) like.process;
+      ledger = like.ledger;
+      frames = like.frames;
+      translations = like_requested p a b like;
+    }
 
 -- executions one after the other
 pub record AreLikeExecutions (a b : Executions) : Type 0 where
@@ -226,7 +278,7 @@ module _ (p : ℕ) (a b : Wholes) (like : AreLike a b) where
     where
       by_found : (o : Option Process) → option_map_or f (option_map (guest_of a) o) d ≡ option_map_or f (option_map (guest_of b) o) d
       by_found None = refl
-      by_found (Some process) = same (guest_of a process) (guest_of b process) (record { process = refl; ledger = like.ledger; frames = like.frames })
+      by_found (Some process) = same (guest_of a process) (guest_of b process) (record { process = refl; ledger = like.ledger; frames = like.frames; translations = like.translations })
 
   after_both : (f : Guest → Guest) → ((g h : Guest) → AreLikeGuests g h → AreLikeGuests (f g) (f h))
       → AreLike (option_map_or (λ guest. with_guest a p (f guest)) (guest_at a p) a) (option_map_or (λ guest. with_guest b p (f guest)) (guest_at b p) b)
@@ -238,11 +290,12 @@ module _ (p : ℕ) (a b : Wholes) (like : AreLike a b) where
           → AreLike (option_map_or (λ guest. with_guest a p (f guest)) (option_map (guest_of a) o) a) (option_map_or (λ guest. with_guest b p (f guest)) (option_map (guest_of b) o) b)
       by_found None = like
       by_found (Some process) =
-          let more = same (guest_of a process) (guest_of b process) (record { process = refl; ledger = like.ledger; frames = like.frames }) in
+          let more = same (guest_of a process) (guest_of b process) (record { process = refl; ledger = like.ledger; frames = like.frames; translations = like.translations }) in
           record {
             processes = ap (λ (ps : Processes). insert ps p (f (guest_of a process)).process) like.processes ∙ ap (insert b.processes p) more.process;
             ledger = more.ledger;
             frames = more.frames;
+            translations = more.translations;
           }
 
   pub like_steps : (stops : Addresses) (most : ℕ) → steps_to stops most a p ≡ steps_to stops most b p
@@ -295,18 +348,12 @@ pub record IsRequest (state : Wholes) (p : ℕ) : Type 0 where
   pub after_is : after_turn state p ≡ after_asked (after_execution state p) p
   pub running : is_running (after_execution state p) p ≡ true
 
--- one for which there aren't units enough changes nothing
-pub record IsFullTurn (state : Wholes) (p units limit : ℕ) : Type 0 where
-  pub turn_is : turn_of state p ≡ turn.Full units limit
-  pub after_is : after_turn state p ≡ state
-  pub kept : after_execution state p ≡ state
-
 -- by the outcome of the execution
 abbrev pub IsTurnOf : Wholes → ℕ → Outcome → Type 0
 IsTurnOf state p outcome.Stepped = IsTurn state p turn.Stepped
 IsTurnOf state p outcome.Asked = IsRequest state p
 IsTurnOf state p (outcome.Fault kind address) = IsTurn state p (turn.Faulted kind address)
-IsTurnOf state p (outcome.Full units limit) = IsFullTurn state p units limit
+IsTurnOf state p (outcome.Full units limit) = IsTurn state p (turn.Full units limit)
 
 -- of a process that is there
 module _ (all : Wholes) (p : ℕ) (process : Process) (there : get all.processes p ≡ Some process) where
@@ -319,9 +366,6 @@ module _ (all : Wholes) (p : ℕ) (process : Process) (there : get all.processes
   at_there : {X : Type 0} (f : Option Guest → X) → f (guest_at all p) ≡ f (Some guest)
   at_there f = ap (λ (o : Option Process). f (option_map (guest_of all) o)) there
 
-  put_same : with_guest all p guest ≡ all
-  put_same = ap (λ (ps : Processes). record { processes = ps; ledger = all.ledger; frames = all.frames }) (insert_kept all.processes p process there)
-
   turn_there : turn_of all p ≡ turn_in p guest
   turn_there = at_there (λ o. option_map_or (turn_in p) o turn.Stepped)
 
@@ -332,12 +376,11 @@ module _ (all : Wholes) (p : ℕ) (process : Process) (there : get all.processes
   executed_there = at_there (λ o. option_map_or (λ g. with_guest all p (executed p g)) o all)
 
   -- where there aren't units enough
-  full_there : is_full p guest ≡ true → IsFullTurn all p (units_needed p guest) (limit_of all.frames)
+  full_there : is_full p guest ≡ true → IsTurn all p (turn.Full (units_needed p guest) (limit_of all.frames))
   full_there full = record {
     turn_is = turn_there ∙ ap (λ b. cond b (turn.Full (units_needed p guest) (limit_of all.frames)) (step_of p process).turn) full;
-    after_is = after_there
-        ∙ ap (λ b. with_guest all p (cond b guest (record { process = process_after p process; ledger = ledger_executed p guest; frames = all.frames }))) full ∙ put_same;
-    kept = executed_there ∙ ap (λ b. with_guest all p (cond b guest (guest_executed p guest))) full ∙ put_same;
+    after_is = after_there ∙ ap (λ b. with_guest all p (cond b (guest_refused p guest) (guest_stepped p guest))) full
+        ∙ sym (executed_there ∙ ap (λ b. with_guest all p (cond b (guest_refused p guest) (guest_executed p guest))) full);
   }
 
   -- where there are, by what comes of the execution
@@ -347,43 +390,65 @@ module _ (all : Wholes) (p : ℕ) (process : Process) (there : get all.processes
         turn_there ∙ ap (λ b. cond b (turn.Full (units_needed p guest) (limit_of all.frames)) (step_of p process).turn) enough
         ∙ ap (λ v. (turned p v e.registers e.memory (map access_of e.calls)).turn) is
 
-    left_by : Process → Wholes
-    left_by left = with_guest all p (record { process = left; ledger = ledger_executed p guest; frames = all.frames })
+    left_by : Process → BareTranslations → Wholes
+    left_by left translations =
+        with_guest all p (record { process = left; ledger = ledger_executed p guest; frames = all.frames; translations = translations })
+
+    -- the accesses of a request come behind the fetch
+    asked_counted : e.upshot ≡ Asks → (accesses : List Access)
+        → counted p process.memory (map access_of e.calls ++ accesses) all.translations ≡ counted p e.memory accesses (translations_executed p guest)
+    unfolding translations_executed
+    asked_counted is accesses =
+        let asked = is_requested process.registers process.memory is in
+        let fetch = fetch_at asked.at in
+        ap (λ (calls : List Call). counted p process.memory (map access_of calls ++ accesses) all.translations) asked.calls
+        ∙ counted_next p process.memory fetch accesses all.translations asked.may
+        ∙ ap (counted p process.memory accesses) (sym (counted_one p process.memory fetch all.translations))
+        ∙ ap (λ (calls : List Call). counted p process.memory accesses (counted p process.memory (map access_of calls) all.translations)) (sym asked.calls)
+        ∙ ap (λ m. counted p m accesses (counted p process.memory (map access_of e.calls) all.translations)) (sym asked.kept)
+
+    accesses_by : Upshot → List Access
+    accesses_by u = (turned p u e.registers e.memory (map access_of e.calls)).accesses
 
     after_by : (u : Upshot) → e.upshot ≡ u
-        → after_turn all p ≡ left_by (after_step process (turned p u e.registers e.memory (map access_of e.calls)))
-    unfolding left_by
+        → after_turn all p ≡ left_by (after_step process (turned p u e.registers e.memory (map access_of e.calls))) (counted p process.memory (accesses_by u) all.translations)
+    unfolding left_by accesses_by translations_after
     after_by u is =
         after_there
-        ∙ ap (λ b. with_guest all p (cond b guest (record { process = process_after p process; ledger = ledger_executed p guest; frames = all.frames }))) enough
-        ∙ ap (λ v. left_by (after_step process (turned p v e.registers e.memory (map access_of e.calls)))) is
+        ∙ ap (λ b. with_guest all p (cond b (guest_refused p guest) (guest_stepped p guest))) enough
+        ∙ ap (λ v. left_by (after_step process (turned p v e.registers e.memory (map access_of e.calls))) (counted p process.memory (accesses_by v) all.translations)) is
 
     executed_by : (u : Upshot) → e.upshot ≡ u
-        → after_execution all p ≡ left_by (record { registers = e.registers; state = state_executed u; memory = e.memory; kept = process.kept })
+        → after_execution all p ≡ left_by (record { registers = e.registers; state = state_executed u; memory = e.memory; kept = process.kept }) (translations_executed p guest)
     unfolding left_by
     executed_by u is =
-        executed_there ∙ ap (λ b. with_guest all p (cond b guest (guest_executed p guest))) enough
-        ∙ ap (λ v. left_by (record { registers = e.registers; state = state_executed v; memory = e.memory; kept = process.kept })) is
+        executed_there ∙ ap (λ b. with_guest all p (cond b (guest_refused p guest) (guest_executed p guest))) enough
+        ∙ ap (λ v. left_by (record { registers = e.registers; state = state_executed v; memory = e.memory; kept = process.kept }) (translations_executed p guest)) is
 
     asked_there : (u : Upshot) → e.upshot ≡ u → u ≡ Asks → IsRequest all p
-    unfolding left_by
+    unfolding left_by accesses_by translations_asked
     asked_there u is same =
         let left : Process = record { registers = e.registers; state = state.Running; memory = e.memory; kept = process.kept } in
-        let now : after_execution all p ≡ left_by left = executed_by Asks (is ∙ same) in
-        let found : get (left_by left).processes p ≡ Some left = get_same all.processes p p left refl in
+        let tried = translations_executed p guest in
+        let now : after_execution all p ≡ left_by left tried = executed_by Asks (is ∙ same) in
+        let found : get (left_by left tried).processes p ≡ Some left = get_same all.processes p p left refl in
         let asks : Request = request p e.registers e.memory in
+        let counts : counted p process.memory (accesses_by Asks) all.translations ≡ counted p e.memory asks.accesses tried =
+            asked_counted (is ∙ same) asks.accesses in
         record {
           turn_is = turn_by Asks (is ∙ same)
-              ∙ sym (ap (λ (s : Wholes). turn_asked s p) now ∙ ap (λ (o : Option Process). asked_found p (option_map (guest_of (left_by left)) o)) found);
+              ∙ sym (ap (λ (s : Wholes). turn_asked s p) now ∙ ap (λ (o : Option Process). asked_found p (option_map (guest_of (left_by left tried)) o)) found);
           after_is = after_by Asks (is ∙ same)
+              ∙ ap (left_by (after_step process (turned p Asks e.registers e.memory (map access_of e.calls)))) counts
               ∙ sym (ap (λ (s : Wholes). after_asked s p) now
-              ∙ ap (λ (o : Option Process). option_map_or (λ g. with_guest (left_by left) p (guest_answered p g)) (option_map (guest_of (left_by left)) o) (left_by left)) found
-              ∙ ap (λ (ps : Processes). record { processes = ps; ledger = ledger_executed p guest; frames = all.frames })
+              ∙ ap (λ (o : Option Process). option_map_or (λ g. with_guest (left_by left tried) p (guest_answered p g)) (option_map (guest_of (left_by left tried)) o) (left_by left tried)) found
+              ∙ ap (λ (ps : Processes). record { processes = ps; ledger = ledger_executed p guest; frames = all.frames; translations = counted p e.memory asks.accesses tried })
               (insert_over all.processes p left (after_request e.memory process asks)));
           running = ap (λ (s : Wholes). is_running s p) now ∙ ap (λ (o : Option Process). option_map_or (λ (q : Process). runs q.state) o false) found;
         }
 
     enough_there : (u : Upshot) → e.upshot ≡ u → IsTurnOf all p (outcome_by u)
+    unfolding left_by accesses_by translations_executed
     enough_there Steps is = record { turn_is = turn_by Steps is; after_is = after_by Steps is ∙ sym (executed_by Steps is) }
     enough_there (Faults kind address) is =
         record { turn_is = turn_by (Faults kind address) is; after_is = after_by (Faults kind address) is ∙ sym (executed_by (Faults kind address) is) }

@@ -8,6 +8,7 @@ pub mod Access
 pub mod Load
 pub mod Loading
 pub mod PageLines
+pub mod Tried
 pub mod Laws
 pub mod LoadLaws
 pub mod Kept

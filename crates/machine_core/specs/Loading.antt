@@ -10,6 +10,8 @@ use Rattle.ledger.specs.Alike.{AreAlike}
 use Rattle.ledger.specs.Changes.{without_own}
 use Rattle.ledger.specs.Origins.{new_origin}
 use Rattle.overlay_pages.specs.State.{PageState, State, books, memory_of, seen_page}
+use Rattle.translation_cache.specs.Bare.{BareTranslations}
+use Rattle.translation_cache.specs.Translations.{flushed}
 use Rattle.space_maps.specs.Spaces.{holds_space, page_in, put_page, space_in}
 use Rattle.machine_core.specs.Load.{image_memory, loaded_ledger, stack_page, stack_pages}
 
@@ -33,6 +35,10 @@ pub record IsAdded (old new : State) (p page : ℕ) (content : Page) (stored : B
   pub put : new ≡ put_page old p page x
   pub seen : seen_page x ≡ content
   pub alike : (ledger : Ledger) → AreAlike ledger (books old) → AreAlike (one_loaded p ledger (page, stored)) (books new)
+
+-- nothing of a space was translated: there is nothing to remove
+abbrev pub IsUnseen : ℕ → BareTranslations → Type 0
+IsUnseen p translations = flushed p translations ≡ translations
 
 -- only the pages of a space have changed
 pub record IsOpen (p : ℕ) (before now : State) : Type 0 where

@@ -179,7 +179,7 @@ guest_stepped p guest = record {
 
 abbrev pub guest_after : ℕ → Guest → Guest
 guest_after p guest =
-    if is_full p guest then with_translations (translations_after p guest) guest else guest_stepped p guest
+    if is_full p guest then guest_refused p guest else guest_stepped p guest
 
 abbrev pub turn_of : Wholes → ℕ → Turn
 turn_of state p = option_map_or (turn_in p) (guest_at state p) Stepped

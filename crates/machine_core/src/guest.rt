@@ -6,7 +6,8 @@ ghost use Rattle.sizes.specs.declared.TheConstants.{MOST_WRITTEN};
 ghost use Rattle.rv_execute.specs.Registers.{with_register};
 ghost use Rattle.rv_execute.specs.Step.{exit, request, write};
 ghost use Rattle.overlay_pages.specs.State.{memory_of};
-ghost use Rattle.overlay_pages.specs.View.{state_of};
+ghost use Rattle.overlay_memory.specs.View.{state_of, translations_of};
+ghost use Rattle.translation_cache.specs.Counted.{counted};
 ghost use Rattle.space_maps.specs.Spaces.{holds_space};
 ghost use Rattle.machine_core.specs.Turns.{answered_by, executed, outcome_of};
 ghost use Rattle.machine_core.specs.Executions.{all_executed, executions, stops_in};
@@ -69,6 +70,8 @@ fn write(process: &mut Process, memory: &mut OverlayMemory, p: u16) -> Turn
     ensures after { process.new
         ≡ answered_by process.old.saved (write process.old.regs (memory_of (state_of memory.old) p)) }
     ensures same { state_of memory.new ≡ state_of memory.old }
+    ensures lists { translations_of memory.new ≡ counted p (memory_of (state_of memory.old) p)
+        (write process.old.regs (memory_of (state_of memory.old) p)).accesses (translations_of memory.old) }
 {
     let descriptor = process.regs.get(10);
     if descriptor != 1 && descriptor != 2 {
@@ -107,6 +110,8 @@ pub(crate) fn answer_request(process: &mut Process, memory: &mut OverlayMemory, 
     ensures after { process.new
         ≡ answered_by process.old.saved (request p process.old.regs (memory_of (state_of memory.old) p)) }
     ensures same { state_of memory.new ≡ state_of memory.old }
+    ensures lists { translations_of memory.new ≡ counted p (memory_of (state_of memory.old) p)
+        (request p process.old.regs (memory_of (state_of memory.old) p)).accesses (translations_of memory.old) }
 {
     match process.regs.get(17) {
         WRITE => write(process, memory, p),
@@ -208,11 +213,11 @@ pub(crate) fn execute_up_to(
     requires runs { process.old.state ≡ ProcessState.Running }
     requires there { holds_space (state_of memory.old) p ≡ true }
     ensures steps { result.0
-        ≡ (executions (stops_in stops.entry) p most (guest_in p (state_of memory.old) process.old)).steps }
+        ≡ (executions (stops_in stops.entry) p most (guest_in p memory.old process.old)).steps }
     ensures outcome { result.1
-        ≡ (executions (stops_in stops.entry) p most (guest_in p (state_of memory.old) process.old)).outcome }
-    ensures after { guest_in p (state_of memory.new) process.new
-        ≡ all_executed (stops_in stops.entry) p most (guest_in p (state_of memory.old) process.old) }
+        ≡ (executions (stops_in stops.entry) p most (guest_in p memory.old process.old)).outcome }
+    ensures after { guest_in p memory.new process.new
+        ≡ all_executed (stops_in stops.entry) p most (guest_in p memory.old process.old) }
     ensures saved { process.new.saved ≡ process.old.saved }
     ensures beside { IsBeside p (state_of memory.old) (state_of memory.new) }
 {

@@ -7,10 +7,10 @@ ghost use Rattle.elf_loader.specs.Image.{IsImageOf, is_stored, page_bytes};
 ghost use Rattle.ledger.specs.Units.{units};
 ghost use Rattle.overlay_pages.specs.Changes.{limit_of, units_of};
 ghost use Rattle.overlay_pages.specs.State.{books};
-ghost use Rattle.overlay_pages.specs.View.{state_of};
+ghost use Rattle.overlay_memory.specs.View.{state_of, translations_of};
 ghost use Rattle.space_maps.specs.Spaces.{bare_space, holds_space, page_in, space_in};
 ghost use Rattle.machine_core.specs.Load.{loaded_ledger, stored_count, stored_pages, zero_content};
-ghost use Rattle.machine_core.specs.Loading.{HasImage, HasStack, IsAdded, IsOpen, IsReady, HasPages, IsSpaceOf};
+ghost use Rattle.machine_core.specs.Loading.{HasImage, HasStack, IsAdded, IsOpen, IsReady, HasPages, IsSpaceOf, IsUnseen};
 
 use bitflags::Flags;
 use elf_loader::{Image, ImagePage};
@@ -44,10 +44,12 @@ fn place(
     bytes: &[u8; PAGE_BYTES],
 ) -> Result<(), AllocError>
     requires ready { IsReady (state_of memory.old) p page }
+    requires unseen { IsUnseen p (translations_of memory.old) }
     requires fits { units_of (state_of memory.old) + FRAME_UNITS ≤ limit_of (state_of memory.old) }
     ensures added { OnOk result (IsAdded (state_of memory.old) (state_of memory.new) p page
         (record { perms = perms.0; bytes = bytes.now }) true) }
     ensures kept { OnErr result (state_of memory.new ≡ state_of memory.old) }
+    ensures lists { translations_of memory.new ≡ translations_of memory.old }
 {
     match memory.place_page(p, page, perms, bytes) {
         Ok(()) => Ok(()),
@@ -59,9 +61,11 @@ fn place(
 /// Maps a zero page that isn't there. After want of memory the spaces are as before.
 fn zero(memory: &mut OverlayMemory, p: u16, page: u64, perms: Perms) -> Result<(), AllocError>
     requires ready { IsReady (state_of memory.old) p page }
+    requires unseen { IsUnseen p (translations_of memory.old) }
     ensures added { OnOk result (IsAdded (state_of memory.old) (state_of memory.new) p page
         (zero_content perms.0) false) }
     ensures kept { OnErr result (state_of memory.new ≡ state_of memory.old) }
+    ensures lists { translations_of memory.new ≡ translations_of memory.old }
 {
     memory.map_zero(p, page, 1, perms)
 }
@@ -75,6 +79,7 @@ fn add_page(
     image_page: ImagePage,
 ) -> Result<(), AllocError>
     requires ready { IsReady (state_of memory.old) p image_page.page }
+    requires unseen { IsUnseen p (translations_of memory.old) }
     requires of_file { IsImageOf file.now image.now }
     requires there { Contains (map (λ p. p.page) image.now.pages) image_page.page }
     requires marked { image_page.stored ≡ is_stored file.now image_page.page }
@@ -83,6 +88,7 @@ fn add_page(
     ensures added { OnOk result (IsAdded (state_of memory.old) (state_of memory.new) p image_page.page
         (record { perms = image_page.perms.0; bytes = page_bytes file.now image_page.page }) image_page.stored) }
     ensures kept { OnErr result (state_of memory.new ≡ state_of memory.old) }
+    ensures lists { translations_of memory.new ≡ translations_of memory.old }
 {
     if image_page.stored {
         let mut bytes = [0; PAGE_BYTES];
@@ -102,11 +108,13 @@ fn add_image(
 ) -> Result<(), AllocError>
     requires of_file { IsImageOf file.now image.now }
     requires there { holds_space (state_of memory.old) p ≡ true }
+    requires unseen { IsUnseen p (translations_of memory.old) }
     requires bare { space_in (state_of memory.old) p ≡ bare_space }
     requires fits { units_of (state_of memory.old) + FRAME_UNITS * stored_pages file.now
         ≤ limit_of (state_of memory.old) }
     ensures added { OnOk result (HasImage file.now p (state_of memory.old) (state_of memory.new)) }
     ensures open { IsOpen p (state_of memory.old) (state_of memory.new) }
+    ensures lists { translations_of memory.new ≡ translations_of memory.old }
 {
     'adding: for image_page in image.pages() {
         add_page(memory, p, image, file, *image_page)?;
@@ -117,11 +125,13 @@ fn add_image(
 /// Adds the stack: zero pages.
 fn add_stack(memory: &mut OverlayMemory, p: u16) -> Result<(), AllocError>
     requires there { holds_space (state_of memory.old) p ≡ true }
+    requires unseen { IsUnseen p (translations_of memory.old) }
     requires settled { (space_in (state_of memory.old) p).awaiting ≡ map.empty }
     requires few { map.len (space_in (state_of memory.old) p).pages ≤ MOST_IMAGE_PAGES }
     requires absent { (q : ℕ) → STACK_PAGE ≤ q → page_in (state_of memory.old) p q ≡ None }
     ensures added { OnOk result (HasStack p (state_of memory.old) (state_of memory.new)) }
     ensures open { IsOpen p (state_of memory.old) (state_of memory.new) }
+    ensures lists { translations_of memory.new ≡ translations_of memory.old }
 {
     'adding: for page in STACK_PAGE..PAGE_END {
         zero(memory, p, page, Perms::R.union(Perms::W))?;
@@ -138,11 +148,13 @@ fn add_pages(
 ) -> Result<(), AllocError>
     requires of_file { IsImageOf file.now image.now }
     requires there { holds_space (state_of memory.old) p ≡ true }
+    requires unseen { IsUnseen p (translations_of memory.old) }
     requires bare { space_in (state_of memory.old) p ≡ bare_space }
     requires fits { units_of (state_of memory.old) + FRAME_UNITS * stored_pages file.now
         ≤ limit_of (state_of memory.old) }
     ensures added { OnOk result (HasPages file.now p (state_of memory.old) (state_of memory.new)) }
     ensures open { IsOpen p (state_of memory.old) (state_of memory.new) }
+    ensures lists { translations_of memory.new ≡ translations_of memory.old }
 {
     add_image(memory, p, image, file)?;
     add_stack(memory, p)
@@ -164,6 +176,7 @@ pub(crate) fn load_space(
         ≤ limit_of (state_of memory.old) }
     ensures made { OnOk result (IsSpaceOf file.now p (state_of memory.old) (state_of memory.new)) }
     ensures kept { OnErr result (state_of memory.new ≡ state_of memory.old) }
+    ensures lists { translations_of memory.new ≡ translations_of memory.old }
 {
     memory.add_space(p)?;
     match add_pages(memory, p, image, file) {

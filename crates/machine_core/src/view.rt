@@ -40,8 +40,8 @@ fn line_of(
     code: &Option<FoundLine>,
     address: u64,
 ) -> Option<FoundLine>
-    requires { IsInHand memory.now space code.now }
-    ensures { FindsIn memory.now space address result }
+    requires { IsInHand memory.now.pages space code.now }
+    ensures { FindsIn memory.now.pages space address result }
 {
     if let Some(found) = code {
         if is_in(found, address) {
@@ -78,15 +78,16 @@ fn refused(error: MemoryError) -> Refused
 
 impl<'a> GuestMemory for View<'a> {
     ghost use Rattle.overlay_pages.specs.State.{memory_of};
+    ghost use Rattle.rv_execute.specs.Calls.{fetch_at, load_at};
     ghost use Rattle.machine_core.specs.Access.{IsReadyView, IsStoredBy, IsUnchanged, spaces_lent};
 
     ghost memory = { λ v. memory_of (spaces_lent v) v.space };
 
     ghost ready = { λ v. IsReadyView v };
 
-    ghost fetched = { λ old address new. IsUnchanged old new };
+    ghost fetched = { λ old address new. IsUnchanged (fetch_at address) old new };
 
-    ghost loaded = { λ old address count new. IsUnchanged old new };
+    ghost loaded = { λ old address count new. IsUnchanged (load_at address count) old new };
 
     ghost stored = { λ old address bytes answer new. IsStoredBy old address bytes answer new };
 

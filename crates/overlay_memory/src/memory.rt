@@ -91,8 +91,8 @@ impl OverlayMemory {
         self.pages.has_space(space)
     }
 
-    /// Makes a space of a number from 1 to 32,767 that isn't there: without a page and without a mark. After want of memory
-    /// everything is as before.
+    /// Makes a space of a number from 1 to 32,767 that isn't there: without a page, without a mark, and without translations, of which
+    /// there were none. After want of memory everything is as before.
     pub fn add_space(&mut self, space: u16) -> Result<(), AllocError>
         requires some { 0 < space }
         requires last { space ≤ LAST_SPACE }
@@ -101,9 +101,14 @@ impl OverlayMemory {
             (state_of self.new ≡ put_space (state_of self.old) space bare_space) }
         ensures kept { OnErr result (self.new ≡ self.old) }
         ensures translations { translations_of self.new ≡ translations_of self.old }
+        ensures unseen { OnOk result
+            (flushed space (translations_of self.old) ≡ translations_of self.old) }
     {
         match self.pages.add_space(space) {
-            Ok(()) => Ok(()),
+            Ok(()) => {
+                self.cache.flush(space);
+                Ok(())
+            }
             Err(AllocError) => Err(AllocError),
         }
     }

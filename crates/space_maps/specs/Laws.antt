@@ -174,7 +174,7 @@ module _ {P : Type 0} where
 
   -- A space without a page put in where none was, or taken away, leaves each page as it was.
 
-  no_space : (o : Option (SpaceOf P)) → is_some o ≡ false → o ≡ None
+  pub no_space : (o : Option (SpaceOf P)) → is_some o ≡ false → o ≡ None
   no_space None h = refl
   no_space (Some x) h = cc
 

@@ -9,3 +9,4 @@ pub mod Finding
 pub mod Bare
 pub mod Counted
 pub mod CountedLaws
+pub mod Unseen

@@ -1,5 +1,5 @@
 //! The lists and the counts.
-ghost use Rattle.std.specs.Prelude.{◌≡◌, ◌%◌, ◌<◌, None, map};
+ghost use Rattle.std.specs.Prelude.{◌≡◌, ℕ, ◌%◌, ◌<◌, None, map};
 ghost use Rattle.sizes.specs.declared.TheConstants.{PAGE_LINES};
 ghost use Rattle.translation_cache.specs.Formed.{IsFormed};
 ghost use Rattle.translation_cache.specs.Translations.{entered, flushed, found, looked, no_translations, with_bit, with_hits, without_space};
@@ -82,9 +82,10 @@ impl Cache {
         entries.set_bit(space, page, line);
     }
 
-    /// Removes the entries of a space. Costs a step for each entry.
+    /// Removes the entries of a space, which changes nothing where it has none. Costs a step for each entry.
     pub fn flush(&mut self, space: u16)
-        ensures { self.new ≡ flushed space self.old }
+        ensures flushed { self.new ≡ flushed space self.old }
+        ensures unseen { ((page : ℕ) → found space page self.old ≡ None) → self.new ≡ self.old }
     {
         flush_all(&mut self.sets, space);
     }

@@ -1,10 +1,10 @@
 use Rattle.std.proofs.Common.{sym, ap, ◌∙◌}
 use Rattle.rv_execute.specs.Step.{request}
 use Rattle.overlay_pages.specs.State.{memory_of}
-use Rattle.overlay_pages.specs.View.{state_of}
+use Rattle.overlay_memory.specs.View.{state_of}
 use Rattle.machine_core.specs.declared.process.Process as declared
-use Rattle.machine_core.specs.Turns.{answered_by, asked_found, guest_answered}
-use Rattle.machine_core.specs.Kept.{guest_in, machine_of}
+use Rattle.machine_core.specs.Turns.{answered_by, asked_found, guest_answered, translations_asked}
+use Rattle.machine_core.specs.Kept.{guest_in, guest_seen, machine_of}
 use Rattle.machine_core.proofs.Listed.{runs_put}
 use Rattle.machine_core.proofs.Machines.{changed, guest_is, none_runs, same_beside, state_is}
 use Rattle.machine_core.proofs.keeping.answer_in.Goals as goal
@@ -22,13 +22,15 @@ returns-clause-turn c =
     c.answer_request-turn.ensures.turn ∙ sym (ap (asked_found c.args.p) is)
 
 pub returns-clause-changed : goal.returns-clause-changed
+unfolding translations_asked
 returns-clause-changed c =
     let process = c.in-Some.process.now in
     let spaces = state_of c.args.memory.now in
     let done = c.answer_request-turn.ensures in
     changed (guest_answered c.args.p) c.args.p (machine_of c.args.memory.now c.args.processes.now) c.answer_request-turn.new.memory
     process c.answer_request-turn.new.process (sym c.in-Some.ensures.value)
-    (ap (guest_in c.args.p (state_of c.answer_request-turn.new.memory)) done.after ∙ ap (λ s. guest_in c.args.p s (answered_by process.saved (request c.args.p process.regs (memory_of spaces c.args.p)))) done.same)
+    (ap (guest_in c.args.p c.answer_request-turn.new.memory) done.after
+    ∙ (λ i. guest_seen c.args.p (done.same i) (done.lists i) (answered_by process.saved (request c.args.p process.regs (memory_of spaces c.args.p)))))
     (ap (λ (x : declared.Process). x.saved) done.after) (same_beside c.args.p spaces (state_of c.answer_request-turn.new.memory) done.same)
 
 pub returns-clause-runs : goal.returns-clause-runs

@@ -1,4 +1,4 @@
-use Rattle.overlay_pages.specs.View.{state_of}
+use Rattle.overlay_memory.specs.View.{state_of}
 use Rattle.machine_core.proofs.Adding.{unstored_added}
 use Rattle.std.proofs.lemmas.Result.{on_ok_weaker}
 use Rattle.machine_core.proofs.load.add_page.Goals as goal

@@ -1,4 +1,4 @@
-use Rattle.overlay_pages.specs.View.{state_of}
+use Rattle.overlay_memory.specs.View.{state_of}
 use Rattle.machine_core.proofs.Adding.{open_chain}
 use Rattle.machine_core.proofs.Images.{image_few, stack_absent}
 use Rattle.std.proofs.lemmas.Result.{on_ok_weaker}

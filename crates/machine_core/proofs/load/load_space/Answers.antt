@@ -1,4 +1,4 @@
-use Rattle.overlay_pages.specs.View.{state_of}
+use Rattle.overlay_memory.specs.View.{state_of}
 use Rattle.machine_core.proofs.Spaces.{begun_bare, begun_fits, begun_there, given_up, made}
 use Rattle.machine_core.proofs.load.load_space.Goals as goal
 
@@ -21,4 +21,4 @@ returns-in-Ok-clause-made c =
 pub returns-in-Err-clause-kept : goal.returns-in-Err-clause-kept
 returns-in-Err-clause-kept c =
     given_up c.args.file.now c.args.p (state_of c.args.memory.now) (state_of c.add_space.new.self) c.requires.of_file.taken c.requires.absent c.in_ok-add_space.ensures.added
-    (state_of c.add_pages.new.memory) (state_of c.drop_space.new.self) c.add_pages.ensures.open c.drop_space.ensures
+    (state_of c.add_pages.new.memory) (state_of c.drop_space.new.self) c.add_pages.ensures.open c.drop_space.ensures.state

@@ -77,7 +77,7 @@ returns-in-Full-clause-turn c =
 pub returns-in-Full-clause-after : goal.returns-in-Full-clause-after
 returns-in-Full-clause-after c =
     let law = turn_law (Full c.in-Full.units c.in-Full.limit) (wholes c.args.self.now) c.args.p c.requires.runs (sym c.in-Full.ensures.outcome) in
-    c.in-Full.ensures.after ∙ law.kept ∙ sym law.after_is
+    c.in-Full.ensures.after ∙ sym law.after_is
 
 pub returns-in-Full-clause-answers : goal.returns-in-Full-clause-answers
 returns-in-Full-clause-answers c =

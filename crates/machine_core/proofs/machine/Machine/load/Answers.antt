@@ -3,7 +3,7 @@ use Rattle.std.proofs.lemmas.List.{length-map}
 use Rattle.elf_loader.specs.declared.image.ImagePage.{ImagePage}
 use Rattle.elf_loader.specs.Image.{image_pages, listed_page}
 use Rattle.overlay_memory.specs.declared.error.SpaceError.TheVariants.{Full, Memory}
-use Rattle.overlay_pages.specs.View.{state_of}
+use Rattle.overlay_memory.specs.View.{state_of}
 use Rattle.machine_core.specs.Machine.{Machine, spaces_of}
 use Rattle.machine_core.specs.LoadLaws.{loads_as, same_stays}
 use Rattle.machine_core.proofs.Images.{few_items}

@@ -3,7 +3,7 @@ use Rattle.std.specs.FinMap.{insert}
 use Rattle.sizes.specs.declared.TheConstants.{STACK_POINTER}
 use Rattle.ovl_io.specs.declared.process_state.ProcessState.TheVariants.{Running}
 use Rattle.rv_execute.specs.Registers.{first_registers}
-use Rattle.overlay_pages.specs.View.{state_of}
+use Rattle.overlay_memory.specs.View.{state_of}
 use Rattle.machine_core.specs.declared.process.Process as declared
 use Rattle.machine_core.specs.Machine.{Machine, spaces_of}
 use Rattle.machine_core.specs.Kept.{machine_of}

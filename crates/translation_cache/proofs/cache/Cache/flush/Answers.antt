@@ -2,13 +2,18 @@ use Rattle.std.proofs.Common.{ap, sym, subst, ◌∙◌}
 use Rattle.translation_cache.specs.Formed.{IsFormed}
 use Rattle.translation_cache.specs.Translations.{flushed}
 use Rattle.translation_cache.specs.Laws.{formed_flushed}
+use Rattle.translation_cache.specs.Unseen.{flushed_unseen}
 use Rattle.translation_cache.proofs.Caches.{flushed_is, translations_of}
 use Rattle.translation_cache.proofs.cache.Cache.flush.Goals as goal
 
-pub returns : goal.returns
-returns c =
+pub returns-clause-flushed : goal.returns-clause-flushed
+returns-clause-flushed c =
     flushed_is (translations_of c.self.inside.sets c.self.inside.hits c.self.inside.misses) c.args.space c.flush_all.new.sets c.flush_all.ensures
     ∙ ap (flushed c.args.space) c.self.view_is
+
+pub returns-clause-unseen : goal.returns-clause-unseen
+returns-clause-unseen c none =
+    returns-clause-flushed c ∙ flushed_unseen c.args.space c.args.self.now (subst IsFormed c.self.view_is c.self.invariant) none
 
 pub invariant_of-self : goal.invariant_of-self
 invariant_of-self c =
