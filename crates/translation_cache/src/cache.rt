@@ -84,7 +84,8 @@ impl Cache {
 
     /// Removes the entries of a space. Costs a step for each entry.
     pub fn flush(&mut self, space: u16)
-        ensures { self.new ≡ flushed space self.old }
+        ensures flushed { self.new ≡ flushed space self.old }
+        ensures formed { IsFormed self.old }
     {
         flush_all(&mut self.sets, space);
     }

@@ -9,7 +9,7 @@ use Rattle.overlay_memory.proofs.memory.OverlayMemory.copy_commit_page.Goals as 
 
 pub invariant_of-self : goal.invariant_of-self
 invariant_of-self c =
-    with_cache (seen.state_of c.copy_commit_page.new.self) _ c.flush.new.self c.flush.ensures
+    with_cache (seen.state_of c.copy_commit_page.new.self) _ c.flush.new.self c.flush.ensures.flushed
     (copied_translated (seen.state_of c.self.inside.pages) (seen.state_of c.copy_commit_page.new.self) c.args.space c.args.page (λ x frame. copied frame x) c.self.inside.cache
     c.copy_commit_page.ensures
     (ap (λ m. is_some (page_in (state_of m) c.args.space c.args.page)) c.self.view_is ∙ c.requires.there)
@@ -17,4 +17,4 @@ invariant_of-self c =
 
 pub returns-clause-translations : goal.returns-clause-translations
 returns-clause-translations c =
-    flushed_lists c.args.space (view_of c.self.inside.pages c.self.inside.cache) c.args.self.now c.flush.new.self c.self.view_is c.flush.ensures
+    flushed_lists c.args.space (view_of c.self.inside.pages c.self.inside.cache) c.args.self.now c.flush.new.self c.self.view_is c.flush.ensures.flushed

@@ -9,10 +9,10 @@ use Rattle.overlay_memory.proofs.memory.OverlayMemory.discard_page.Goals as goal
 
 pub invariant_of-self : goal.invariant_of-self
 invariant_of-self c =
-    with_cache (seen.state_of c.discard_page.new.self) _ c.flush.new.self c.flush.ensures
+    with_cache (seen.state_of c.discard_page.new.self) _ c.flush.new.self c.flush.ensures.flushed
     (turned_translated discarded (seen.state_of c.self.inside.pages) (seen.state_of c.discard_page.new.self) c.args.space c.args.page c.self.inside.cache c.discard_page.ensures
     (ap (λ m. is_some (page_in (state_of m) c.args.space c.args.page)) c.self.view_is ∙ c.requires.there) c.self.invariant)
 
 pub returns-clause-translations : goal.returns-clause-translations
 returns-clause-translations c =
-    flushed_lists c.args.space (view_of c.self.inside.pages c.self.inside.cache) c.args.self.now c.flush.new.self c.self.view_is c.flush.ensures
+    flushed_lists c.args.space (view_of c.self.inside.pages c.self.inside.cache) c.args.self.now c.flush.new.self c.self.view_is c.flush.ensures.flushed

@@ -7,11 +7,11 @@ use Rattle.overlay_memory.proofs.memory.OverlayMemory.map_zero.Goals as goal
 
 pub invariant_of-self : goal.invariant_of-self
 invariant_of-self c =
-    with_cache (seen.state_of c.map_zero.new.self) _ c.flush.new.self c.flush.ensures
+    with_cache (seen.state_of c.map_zero.new.self) _ c.flush.new.self c.flush.ensures.flushed
     (zeros_translated (seen.state_of c.self.inside.pages) (seen.state_of c.map_zero.new.self) c.args.space c.args.page c.args.n _ c.self.inside.cache c.in-Ok.ensures.mapped
     (ap (λ m. holds_space (state_of m) c.args.space) c.self.view_is ∙ c.requires.there)
     (ap (λ m. (space_in (state_of m) c.args.space).awaiting) c.self.view_is ∙ c.requires.settled) c.self.invariant)
 
 pub returns-in-Ok-clause-translations : goal.returns-in-Ok-clause-translations
 returns-in-Ok-clause-translations c =
-    flushed_lists c.args.space (view_of c.self.inside.pages c.self.inside.cache) c.args.self.now c.flush.new.self c.self.view_is c.flush.ensures
+    flushed_lists c.args.space (view_of c.self.inside.pages c.self.inside.cache) c.args.self.now c.flush.new.self c.self.view_is c.flush.ensures.flushed

@@ -5,9 +5,9 @@ use Rattle.overlay_memory.proofs.memory.OverlayMemory.set_speculating.Goals as g
 
 pub invariant_of-self : goal.invariant_of-self
 invariant_of-self c =
-    with_cache (seen.state_of c.set_speculating.new.self) _ c.flush.new.self c.flush.ensures
+    with_cache (seen.state_of c.set_speculating.new.self) _ c.flush.new.self c.flush.ensures.flushed
     (marked_translated (seen.state_of c.self.inside.pages) (seen.state_of c.set_speculating.new.self) c.args.space c.args.on c.self.inside.cache c.set_speculating.ensures c.self.invariant)
 
 pub returns-clause-translations : goal.returns-clause-translations
 returns-clause-translations c =
-    flushed_lists c.args.space (view_of c.self.inside.pages c.self.inside.cache) c.args.self.now c.flush.new.self c.self.view_is c.flush.ensures
+    flushed_lists c.args.space (view_of c.self.inside.pages c.self.inside.cache) c.args.self.now c.flush.new.self c.self.view_is c.flush.ensures.flushed

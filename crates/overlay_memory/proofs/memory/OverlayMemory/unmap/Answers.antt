@@ -8,11 +8,11 @@ use Rattle.overlay_memory.proofs.memory.OverlayMemory.unmap.Goals as goal
 
 pub invariant_of-self : goal.invariant_of-self
 invariant_of-self c =
-    with_cache (seen.state_of c.unmap_pages.new.pages) _ c.flush.new.self c.flush.ensures
+    with_cache (seen.state_of c.unmap_pages.new.pages) _ c.flush.new.self c.flush.ensures.flushed
     (unmapped_translated (seen.state_of c.self.inside.pages) (seen.state_of c.unmap_pages.new.pages) c.args.space c.args.page c.args.n c.self.inside.cache c.unmap_pages.ensures
     (ap (λ m. (space_in (state_of m) c.args.space).awaiting) c.self.view_is ∙ c.requires.settled)
     (subst (λ m. AreMapped (state_of m) c.args.space c.args.page c.args.n) (sym c.self.view_is) c.requires.there) c.self.invariant)
 
 pub returns-clause-translations : goal.returns-clause-translations
 returns-clause-translations c =
-    flushed_lists c.args.space (view_of c.self.inside.pages c.self.inside.cache) c.args.self.now c.flush.new.self c.self.view_is c.flush.ensures
+    flushed_lists c.args.space (view_of c.self.inside.pages c.self.inside.cache) c.args.self.now c.flush.new.self c.self.view_is c.flush.ensures.flushed

@@ -5,8 +5,8 @@ use Rattle.translation_cache.specs.Laws.{formed_flushed}
 use Rattle.translation_cache.proofs.Caches.{flushed_is, translations_of}
 use Rattle.translation_cache.proofs.cache.Cache.flush.Goals as goal
 
-pub returns : goal.returns
-returns c =
+pub returns-clause-flushed : goal.returns-clause-flushed
+returns-clause-flushed c =
     flushed_is (translations_of c.self.inside.sets c.self.inside.hits c.self.inside.misses) c.args.space c.flush_all.new.sets c.flush_all.ensures
     ∙ ap (flushed c.args.space) c.self.view_is
 
