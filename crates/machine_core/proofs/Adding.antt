@@ -26,7 +26,11 @@ use Rattle.space_maps.specs.Books.{books_put_page}
 use Rattle.space_maps.specs.Laws.{page_of, space_put}
 use Rattle.space_maps.specs.Spaces.{holds_space, of_pages, page_in, put_page, put_pages, put_space, space_in}
 use Rattle.machine_core.specs.Load.{zero_content}
-use Rattle.machine_core.specs.Loading.{HasAdded, IsAdded, IsOpen, is_among, one_loaded}
+use Rattle.overlay_memory.specs.View.{TranslatedView, translations_of}
+use Rattle.translation_cache.specs.Translations.{flushed}
+use Rattle.std.specs.declared.alloc.AllocError.{AllocError}
+use Rattle.std.specs.Prelude.{Result, Ok, Err, OnOk, OnErr}
+use Rattle.machine_core.specs.Loading.{IsUnseen, HasAdded, IsAdded, IsOpen, is_among, one_loaded}
 use Rattle.machine_core.specs.PageLines.{lines_joined, page_length_is, zero_bytes_are}
 
 -- Pages added to a space, one after the other.

@@ -20,7 +20,7 @@ use Rattle.overlay_memory.specs.declared.error.SpaceError.TheVariants.{Full}
 use Rattle.overlay_pages.specs.State.{SpaceState, State, base_of, books}
 use Rattle.space_maps.specs.Spaces.{bare_space, cut_space, holds_space, space_in}
 use Rattle.machine_core.specs.declared.process.Process as declared
-use Rattle.machine_core.specs.Machine.{Machine, has_space, kept_whole, none_saved, processes_of, shown_process, spaces_of, whole_in, wholes}
+use Rattle.machine_core.specs.Machine.{Machine, has_space, kept_whole, lists_of, none_saved, processes_of, shown_process, spaces_of, whole_in, wholes}
 use Rattle.machine_core.specs.Laws.{processes_at, whole_by}
 use Rattle.machine_core.specs.Load.{IsLoaded, Loads, is_load_full, load_needs, loaded_process, stored_count, stored_pages}
 use Rattle.machine_core.specs.Loading.{IsSpaceOf}
@@ -33,7 +33,7 @@ space_by : (x y : State) (q : ℕ) → get x.spaces q ≡ get y.spaces q → spa
 unfolding space_in
 space_by x y q same = ap (λ (o : Option SpaceState). unwrap_or o bare_space) same
 
-module _ (file : List ℕ) (p : ℕ) (old new : Machine) (has : IsSpaceOf file p (spaces_of old) (spaces_of new))
+module _ (file : List ℕ) (p : ℕ) (old new : Machine) (lists : lists_of new ≡ lists_of old) (has : IsSpaceOf file p (spaces_of old) (spaces_of new))
     (processes : new.processes ≡ insert old.processes p (shown_process (loaded_process file))) where
   whole_is : whole_in (spaces_of new) p (shown_process (loaded_process file)) ≡ loaded_process file
   whole_is =

@@ -177,6 +177,7 @@ pub(crate) fn load_space(
     ensures made { OnOk result (IsSpaceOf file.now p (state_of memory.old) (state_of memory.new)) }
     ensures kept { OnErr result (state_of memory.new ≡ state_of memory.old) }
     ensures lists { translations_of memory.new ≡ translations_of memory.old }
+    ensures unseen { OnOk result (IsUnseen p (translations_of memory.old)) }
 {
     memory.add_space(p)?;
     match add_pages(memory, p, image, file) {

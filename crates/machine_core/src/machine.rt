@@ -10,7 +10,8 @@ ghost use Rattle.sizes.specs.declared.TheConstants.{LAST_SPACE, MOST_FRAMES};
 ghost use Rattle.elf_loader.specs.Image.{IsImageOf};
 ghost use Rattle.overlay_pages.specs.Calls.{IsEmptyState};
 ghost use Rattle.space_maps.specs.Spaces.{space_in};
-ghost use Rattle.machine_core.specs.Machine.{AnswersAs, AreLike, HaveSpaces, IsDropped, KeepsPlaces, LeadsTo, StaysBut, has_saved, has_space, is_marked, is_running, keys_from, registers_at, registers_shown, running_numbers, shown_at, spaces_of, wholes, with_memory, with_process_at, without_pages, without_process, without_process_at};
+ghost use Rattle.translation_cache.specs.Translations.{no_translations};
+ghost use Rattle.machine_core.specs.Machine.{AnswersAs, AreLike, HaveSpaces, IsDropped, KeepsPlaces, LeadsTo, StaysBut, has_saved, has_space, is_marked, is_running, keys_from, lists_of, registers_at, registers_shown, running_numbers, shown_at, spaces_of, wholes, with_memory, with_process_at, without_pages, without_process, without_process_at};
 ghost use Rattle.machine_core.specs.Turns.{after_asked, after_execution, after_turn, came_to, turn_asked, turn_of};
 ghost use Rattle.machine_core.specs.Executions.{after_executions, came_to_last, steps_to, stops_in};
 ghost use Rattle.machine_core.specs.Ample.{IsAmplyTaken};
@@ -63,6 +64,7 @@ impl Machine {
         requires few { frames ≤ MOST_FRAMES }
         ensures spaces { IfOk result (λ machine. IsEmptyState frames (spaces_of machine)) }
         ensures processes { IfOk result (λ machine. machine.processes ≡ map.empty) }
+        ensures lists { IfOk result (λ machine. lists_of machine ≡ no_translations) }
     {
         Ok(Machine {
             memory: OverlayMemory::new(alloc, frames)?,

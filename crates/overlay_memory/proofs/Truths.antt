@@ -21,12 +21,13 @@ use Rattle.overlay_memory.specs.declared.error.MemoryError.TheVariants.{Unmapped
 use Rattle.overlay_memory.specs.PageLaws.{HasPage, has_page, held_there, some_is}
 use Rattle.overlay_memory.specs.Pieces.{AreBeside, IsFilled, emptied_space}
 use Rattle.overlay_memory.specs.StateMemory.{entries_at}
-use Rattle.overlay_memory.specs.View.{AreTranslated, AreTrue, AwaitApart, TranslatedView, cached_page, translations_of}
+use Rattle.overlay_memory.specs.View.{AreTranslated, AreTrue, AwaitApart, TranslatedView, cached_page, state_of, translations_of}
 use Rattle.space_ledger.specs.View.{PageView}
 use Rattle.space_maps.specs.Laws.{KeepsSpaces, are_cut, are_put, changed_there, in_space, keeps_page_put, no_space, page_absent, page_added, page_awaited, page_marked, page_of, page_put_beside, page_shared_beside, space_beside, space_left, space_put, there_space}
 use Rattle.space_maps.specs.Spaces.{bare_space, cut_pages, cut_space, holds_space, of_pages, page_in, put_awaiting, put_mark, put_page, put_shared, put_space, space_in, turned_page}
 use Rattle.translation_cache.specs.Bare.{bare, bare_flushed}
-use Rattle.translation_cache.specs.Finding.{found_flushed, found_none, found_unflushed}
+use Rattle.translation_cache.specs.Finding.{flushed_none, found_flushed, found_none, found_unflushed}
+use Rattle.translation_cache.specs.Formed.{IsFormed}
 use Rattle.translation_cache.specs.Translations.{Translations, flushed, found, no_translations}
 use Rattle.translation_cache.specs.declared.cached.Cached.{Cached}
 
@@ -59,6 +60,22 @@ true_flushed old new s t beside entries q r held is = by_key q s
   where
     no_entry : (x : Cached) → None ≡ Some x → ⊥
     no_entry x e = let none = ap is_some e in cc
+
+-- a space without pages has no entry
+pub no_entries : (v : State) (s : ℕ) (t : Translations Cached) → (space_in v s).pages ≡ empty → AreTrue v t → (page : ℕ) → found s page t ≡ None
+no_entries v s t none entries page = by_found (found s page t) refl
+  where
+    by_found : (o : Option Cached) → found s page t ≡ o → o ≡ None
+    by_found None is = refl
+    by_found (Some held) is =
+        let no_page = sym (ap is_some (entries s page held is))
+        ∙ ap (λ (o : Option PageState). is_some (option_map cached_page o)) (page_of v s page ∙ ap (λ m. get m page) none ∙ get-empty {X = PageState} nat_cmp page) in cc
+
+-- so to remove its entries is to remove none
+pub nothing_flushed : (s : ℕ) (view old : TranslatedView) (new : Translations Cached) → view ≡ old → new ≡ flushed s view.cache → IsFormed view.cache
+    → (space_in (state_of view) s).pages ≡ empty → AreTrue (state_of view) view.cache → bare new ≡ translations_of old
+nothing_flushed s view old new same is formed none entries =
+    ap bare (is ∙ flushed_none s view.cache formed (no_entries (state_of view) s view.cache none entries)) ∙ ap translations_of same
 
 -- Pages that await.
 

@@ -121,6 +121,8 @@ impl OverlayMemory {
         requires settled { (space_in (state_of self.old) space).awaiting ≡ map.empty }
         ensures state { state_of self.new ≡ cut_space (state_of self.old) space }
         ensures translations { translations_of self.new ≡ flushed space (translations_of self.old) }
+        ensures none { (space_in (state_of self.old) space).pages ≡ map.empty
+            → translations_of self.new ≡ translations_of self.old }
     {
         remove_pages(&mut self.pages, space);
         self.pages.end_space(space);

@@ -1,9 +1,9 @@
-use Rattle.std.proofs.Common.{◌≡◌, ℕ, zero, suc, ◌%◌, ◌⊎◌, inl, inr, Bool, true, false, cond, not, ◌&&◌, nat_eq, List, [], ◌∷◌, take, get_or, Option, Some, None, sym, ap, subst, ◌∙◌, refl, arith, eqb-true, eq-eqb}
+use Rattle.std.proofs.Common.{◌≡◌, ℕ, zero, suc, ◌%◌, ◌<◌, ◌⊎◌, inl, inr, Bool, true, false, cond, not, ◌&&◌, nat_eq, List, [], ◌∷◌, take, get_or, length, map, Option, Some, None, sym, ap, subst, ◌∙◌, refl, arith, eqb-true, eq-eqb}
 use Rattle.std.specs.Option.{option_map}
 use Rattle.std.proofs.Math.ListN as math
-use Rattle.std.proofs.lemmas.List.{get_or-set_same, get_or-set_other}
-use Rattle.translation_cache.specs.Formed.{IsFormed}
-use Rattle.translation_cache.specs.Laws.{is_same, none_at, of_page, of_space}
+use Rattle.std.proofs.lemmas.List.{get_or-set_other, get_or-set_same, get_or_default, length-map, same_lists}
+use Rattle.translation_cache.specs.Formed.{AreOfSet, IsFormed}
+use Rattle.translation_cache.specs.Laws.{is_same, none_at, not_first, not_rest, of_page, of_space}
 use Rattle.translation_cache.specs.Translations.{Entry, Translations, changed, entered, entry_of, flushed, found, found_in, is_of, looked, looked_by, no_translations, put_first, set_of, updated, with_hits, with_misses, with_set, without, without_space}
 use Rattle.translation_cache.specs.declared.TheConstants.{SETS, SET_ENTRIES}
 
@@ -222,3 +222,66 @@ module _ {A : Type 0} where
   pub found_unflushed : (space s p : ℕ) (t : Translations A) → (s ≡ space → ⊥) → found s p (flushed space t) ≡ found s p t
   unfolding found
   found_unflushed space s p t other = flushed_at space s p t ∙ found_left_other space s p (set_of p t) other
+
+  -- To remove the entries of a space twice is to remove them once.
+
+  left_twice : (space : ℕ) (es : List (Entry A)) → without_space space (without_space space es) ≡ without_space space es
+  left_twice space [] = refl
+  left_twice space (e ∷ es) = by_test (nat_eq e.space space) refl (left_twice space es)
+    where
+      by_test : (b : Bool) → nat_eq e.space space ≡ b → without_space space (without_space space es) ≡ without_space space es
+          → without_space space (cond (not b) (e ∷ without_space space es) (without_space space es)) ≡ cond (not b) (e ∷ without_space space es) (without_space space es)
+      by_test true is rest = rest
+      by_test false is rest =
+          ap (λ (b : Bool). cond (not b) (e ∷ without_space space (without_space space es)) (without_space space (without_space space es))) is ∙ ap (λ xs. e ∷ xs) rest
+
+  pub flushed_twice : (space : ℕ) (t : Translations A) → flushed space (flushed space t) ≡ flushed space t
+  unfolding flushed
+  flushed_twice space t = ap (λ sets. record { sets = sets; hits = t.hits; misses = t.misses }) (each t.sets)
+    where
+      each : (sets : List (List (Entry A))) → map (without_space space) (map (without_space space) sets) ≡ map (without_space space) sets
+      each [] = refl
+      each (es ∷ sets) = λ i. left_twice space es i ∷ each sets i
+
+  -- Where nothing is found of a space, there is nothing to remove.
+
+  stays_in : (space : ℕ) (es : List (Entry A)) → ((page : ℕ) → found_in space page es ≡ None) → without_space space es ≡ es
+  stays_in space [] none = refl
+  stays_in space (e ∷ es) none = by_test (nat_eq e.space space) refl (stays_in space es (λ page. not_rest (is_of space page e) e.held (found_in space page es) (none page)))
+    where
+      no_entry : nat_eq e.space space ≡ true → ⊥
+      no_entry is =
+          let itself : is_of space e.page e ≡ true = λ i. is i && eq-eqb e.page e.page refl i in
+          let other = sym itself ∙ not_first (is_of space e.page e) e.held (found_in space e.page es) (none e.page) in cc
+
+      by_test : (b : Bool) → nat_eq e.space space ≡ b → without_space space es ≡ es → cond (not b) (e ∷ without_space space es) (without_space space es) ≡ e ∷ es
+      by_test true is rest = absurd (no_entry is)
+      by_test false is rest = ap (λ xs. e ∷ xs) rest
+
+  elsewhere : (set space page : ℕ) (es : List (Entry A)) → AreOfSet set es → (page % SETS ≡ set → ⊥) → found_in space page es ≡ None
+  elsewhere set space page [] are other = refl
+  elsewhere set space page (e ∷ es) are other = by_test (is_of space page e) refl (elsewhere set space page es are.1 other)
+    where
+      by_test : (b : Bool) → is_of space page e ≡ b → found_in space page es ≡ None → cond b (Some e.held) (found_in space page es) ≡ None
+      by_test true is rest = absurd (other (ap (λ n. n % SETS) (sym (of_page space page e is)) ∙ are.0))
+      by_test false is rest = rest
+
+  pub flushed_none : (space : ℕ) (t : Translations A) → IsFormed t → ((page : ℕ) → found space page t ≡ None) → flushed space t ≡ t
+  unfolding flushed found
+  flushed_none space t formed none =
+      ap (λ sets. record { sets = sets; hits = t.hits; misses = t.misses })
+      (same_lists (map (without_space space) t.sets) t.sets (length-map t.sets (without_space space)) (λ k d less. at k d (omega (arith, less, length-map t.sets (without_space space)))))
+    where
+      in_set : (set page : ℕ) → found_in space page (get_or t.sets set []) ≡ None
+      in_set set page = by_test (nat_eq (page % SETS) set) refl
+        where
+          by_test : (b : Bool) → nat_eq (page % SETS) set ≡ b → found_in space page (get_or t.sets set []) ≡ None
+          by_test true is = ap (λ n. found_in space page (get_or t.sets n [])) (sym (eqb-true (page % SETS) set is)) ∙ none page
+          by_test false is =
+              elsewhere set space page (get_or t.sets set []) (formed.each set).placed (λ same. let no_set = sym is ∙ eq-eqb (page % SETS) set same in cc)
+
+      at : (k : ℕ) (d : List (Entry A)) → k < length t.sets → get_or (map (without_space space) t.sets) k d ≡ get_or t.sets k d
+      at k d less =
+          get_or_default (map (without_space space) t.sets) k d [] (omega (arith, less, length-map t.sets (without_space space)))
+          ∙ math.get_or-map (without_space space) t.sets k [] ∙ stays_in space (get_or t.sets k []) (in_set k)
+          ∙ get_or_default t.sets k [] d less

@@ -86,6 +86,7 @@ impl Cache {
     pub fn flush(&mut self, space: u16)
         ensures flushed { self.new ≡ flushed space self.old }
         ensures unseen { ((page : ℕ) → found space page self.old ≡ None) → self.new ≡ self.old }
+        ensures formed { IsFormed self.old }
     {
         flush_all(&mut self.sets, space);
     }

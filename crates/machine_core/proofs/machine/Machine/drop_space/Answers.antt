@@ -7,7 +7,7 @@ use Rattle.machine_core.proofs.machine.Machine.drop_space.Goals as goal
 pub returns-clause-dropped : goal.returns-clause-dropped
 returns-clause-dropped c =
     subst (λ (m : Machine). IsDropped c.args.p m (machine_of c.drop_space.new.self c.self.inside.processes)) c.self.view_is
-    (record { spaces = c.drop_space.ensures; processes = refl })
+    (record { spaces = c.drop_space.ensures.state; lists = c.drop_space.ensures.translations; processes = refl })
 
 pub returns-clause-stands : goal.returns-clause-stands
 returns-clause-stands c =
