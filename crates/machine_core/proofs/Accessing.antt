@@ -25,7 +25,8 @@ use Rattle.machine_core.specs.declared.view.View.{View}
 use Rattle.machine_core.specs.Process.{Whole, is_speculating}
 use Rattle.machine_core.specs.Machine.{kept_in, kept_whole, none_saved}
 use Rattle.translation_cache.specs.Bare.{BareTranslations}
-use Rattle.machine_core.specs.Tried.{are_tried, each_counted, tried_counted}
+use Rattle.rv_execute.specs.CallLaws.{are_tried}
+use Rattle.machine_core.specs.Tried.{each_counted, tried_counted}
 use Rattle.machine_core.specs.Access.{IsSameLoan, IsStoredBy, IsUnchanged, Leaves, lists_after, lists_lent, spaces_lent}
 use Rattle.machine_core.specs.Turns.{Guest, executed, execution_of, exceeds, guest_executed, guest_refused, is_full, ledger_executed, ledger_stored, outcome_of, state_executed, store_made, store_of, translations_executed, units_needed}
 use Rattle.machine_core.specs.Kept.{IsBeside, guest_in, guest_lent, guest_seen}

@@ -1,3 +1,4 @@
+pub mod Requests
 pub mod Rising
 pub mod Listed
 pub mod Accessing

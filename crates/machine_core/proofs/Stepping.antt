@@ -7,7 +7,7 @@ use Rattle.rv_execute.specs.declared.outcome.Outcome.TheVariants as outcome
 use Rattle.rv_execute.specs.Execution.{Upshot, Steps, Asks, Faults, outcome_by}
 use Rattle.machine_core.specs.Process.{runs}
 use Rattle.machine_core.specs.Machine.{Wholes, limit_of}
-use Rattle.machine_core.specs.Turns.{Guest, after_execution, execution_of, executed, guest_at, guest_executed, is_full, outcome_found, outcome_of, state_executed, units_needed, with_guest}
+use Rattle.machine_core.specs.Turns.{Guest, after_execution, executed, execution_of, guest_at, guest_executed, guest_refused, is_full, outcome_found, outcome_of, state_executed, units_needed, with_guest}
 use Rattle.breakpoints.specs.Breakpoints.{Addresses}
 use Rattle.machine_core.specs.Executions.{Executions, after_executions, all_executed, executions, first_execution, is_at_stop, last_outcome, more_executions, no_execution, stopped_execution}
 
@@ -161,7 +161,7 @@ module _ (p : ℕ) where
   runs_after_one : (guest : Guest) → guest.process.state ≡ state.Running → runs (executed p guest).process.state ≡ runs_on (outcome_of p guest)
   runs_after_one guest running = by_test (is_full p guest)
     where
-      by_test : (b : Bool) → runs (cond b guest (guest_executed p guest)).process.state
+      by_test : (b : Bool) → runs (cond b (guest_refused p guest) (guest_executed p guest)).process.state
           ≡ runs_on (cond b (outcome.Full (units_needed p guest) (limit_of guest.frames)) (outcome_by (execution_of guest.process).upshot))
       by_test true = ap runs running
       by_test false = runs_by (execution_of guest.process).upshot

@@ -1,79 +1,14 @@
-use Rattle.std.specs.Prelude.{◌≡◌, ℕ, ◌%◌, ◌==◌, Bool, true, false, cond, List, [], ◌∷◌, map, Option, Some, None, refl}
+use Rattle.std.specs.Prelude.{◌≡◌, ℕ, List, [], ◌∷◌, map, refl}
 use Rattle.std.proofs.Common.{ap, sym, ◌∙◌}
-use Rattle.ovl_io.specs.Memory.{Access, Memory, denied_at}
-use Rattle.ovl_io.specs.declared.process_state.FaultKind.TheVariants as kind
-use Rattle.rv_decode.specs.declared.instruction.Instr.{Instr}
-use Rattle.rv_decode.specs.Meaning.{meaning}
-use Rattle.rv_execute.specs.declared.action.Action.{Action}
-use Rattle.rv_execute.specs.declared.action.Action.TheVariants as action
-use Rattle.rv_execute.specs.declared.action.Extension.{Extension}
-use Rattle.rv_execute.specs.declared.action.Size.{Size}
-use Rattle.rv_execute.specs.Registers.{Registers, next, next_pc, with_pc, with_register}
-use Rattle.rv_execute.specs.Calls.{Call, Fetch, Load, Store, access_of, fetch_at, load_at, store_at, word_at}
-use Rattle.rv_execute.specs.Execution.{Asks, Execution, action_on, after, completed, count_of, decoded, effect, execution, fault, fetch_effect, load_effect, store_effect}
+use Rattle.ovl_io.specs.Memory.{Memory}
+use Rattle.rv_execute.specs.Calls.{Call, access_of}
+use Rattle.rv_execute.specs.CallLaws.{AreTried}
+use Rattle.rv_execute.specs.CallLaws.AreTried.{NoneTried, OneTried, TwoTried}
 use Rattle.translation_cache.specs.Bare.{BareTranslations}
-use Rattle.translation_cache.specs.Counted.{access_translated, counted}
+use Rattle.translation_cache.specs.Counted.{counted}
 use Rattle.translation_cache.specs.CountedLaws.{counted_next, counted_none, counted_one}
 
--- Laws: the calls that an execution makes, and the accesses that are translated for them. Only the last may fail.
-
--- the calls of an effect: none, or one
-pub data AtMostOne : List Call → Type 0 where
-  NoCall : AtMostOne []
-  OneCall : (c : Call) → AtMostOne (c ∷ [])
-
--- the calls of an execution: none; the fetch, which may fail; or it doesn't, and another one is behind it
-pub data AreTried (memory : Memory) : List Call → Type 0 where
-  NoneTried : AreTried memory []
-  OneTried : (c : Call) → AreTried memory (c ∷ [])
-  TwoTried : (c d : Call) → denied_at memory (access_of c) ≡ None → AreTried memory (c ∷ d ∷ [])
-
-one_either : (b : Bool) (x y : Execution) → AtMostOne x.calls → AtMostOne y.calls → AtMostOne (cond b x y).calls
-one_either true x y h k = h
-one_either false x y h k = k
-
-one_load : (o : Option ℕ) (address : ℕ) (size : Size) (extension : Extension) (rd : ℕ) (regs : Registers) (memory : Memory) (c : Call)
-    → AtMostOne (load_effect o address size extension rd regs memory (c ∷ [])).calls
-one_load None address size extension rd regs memory c = OneCall c
-one_load (Some at) address size extension rd regs memory c = OneCall c
-
-one_store : (o : Option ℕ) (address : ℕ) (bytes : List ℕ) (regs : Registers) (memory : Memory) (c : Call)
-    → AtMostOne (store_effect o address bytes regs memory (c ∷ [])).calls
-one_store None address bytes regs memory c = OneCall c
-one_store (Some at) address bytes regs memory c = OneCall c
-
-one_effect : (a : Action) (rd : ℕ) (regs : Registers) (memory : Memory) → AtMostOne (effect a rd regs memory).calls
-one_effect (action.Write value) rd regs memory = NoCall
-one_effect (action.Link target) rd regs memory =
-    one_either (target % 4 == 0) (completed (with_pc (with_register regs rd (next_pc regs)) target) memory []) (fault regs memory kind.Align target []) NoCall NoCall
-one_effect (action.Goto target) rd regs memory =
-    one_either (target % 4 == 0) (completed (with_pc regs target) memory []) (fault regs memory kind.Align target []) NoCall NoCall
-one_effect (action.Load address size extension) rd regs memory = one_load (denied_at memory (load_at address (count_of size))) address size extension rd regs memory _
-one_effect (action.Store address size value) rd regs memory = one_store (denied_at memory (store_at address (count_of size))) address _ regs memory _
-one_effect action.Next rd regs memory = NoCall
-one_effect action.Ask rd regs memory = NoCall
-one_effect action.Stop rd regs memory = NoCall
-
-one_decoded : (o : Option Instr) (regs : Registers) (memory : Memory) → AtMostOne (decoded o regs memory).calls
-one_decoded None regs memory = NoCall
-one_decoded (Some i) regs memory = one_effect (action_on i regs) i.rd regs memory
-
-behind_fetch : (memory : Memory) (c : Call) (calls : List Call) → denied_at memory (access_of c) ≡ None → AtMostOne calls → AreTried memory (c ∷ calls)
-behind_fetch memory c calls may NoCall = OneTried c
-behind_fetch memory c calls may (OneCall d) = TwoTried c d may
-
-tried_fetch : (o : Option ℕ) (regs : Registers) (memory : Memory) → denied_at memory (fetch_at regs.pc) ≡ o → AreTried memory (Fetch regs.pc ∷ (fetch_effect o regs memory).calls)
-tried_fetch (Some at) regs memory is = OneTried (Fetch regs.pc)
-tried_fetch None regs memory is =
-    behind_fetch memory (Fetch regs.pc) (decoded (meaning (word_at memory regs.pc)) regs memory).calls is (one_decoded (meaning (word_at memory regs.pc)) regs memory)
-
-pub are_tried : (regs : Registers) (memory : Memory) → AreTried memory (execution regs memory).calls
-are_tried regs memory = by_test (regs.pc % 4 == 0)
-  where
-    by_test : (b : Bool)
-        → AreTried memory (cond b (after (Fetch regs.pc) (fetch_effect (denied_at memory (fetch_at regs.pc)) regs memory)) (fault regs memory kind.Align regs.pc [])).calls
-    by_test true = tried_fetch (denied_at memory (fetch_at regs.pc)) regs memory refl
-    by_test false = NoneTried
+-- Laws: the accesses of an execution, translated one by one.
 
 -- one access after the other
 unfoldable pub each_counted : ℕ → Memory → List Call → BareTranslations → BareTranslations
@@ -88,62 +23,4 @@ tried_counted p memory (c ∷ []) t (OneTried d) = refl
 tried_counted p memory (c ∷ d ∷ []) t (TwoTried x y may) =
     ap (counted p memory (access_of d ∷ [])) (counted_one p memory (access_of c) t)
     ∙ sym (counted_next p memory (access_of c) (access_of d ∷ []) t may)
-
--- An execution that is a request has fetched its word, and left the memory as it was.
-pub record IsRequested (memory : Memory) (e : Execution) : Type 0 where
-  pub at : ℕ
-  pub calls : e.calls ≡ Fetch at ∷ []
-  pub may : denied_at memory (fetch_at at) ≡ None
-  pub kept : e.memory ≡ memory
-
-record AsksAlone (memory : Memory) (e : Execution) : Type 0 where
-  calls : e.calls ≡ []
-  kept : e.memory ≡ memory
-
-asks_either : (memory : Memory) (b : Bool) (x y : Execution) → (x.upshot ≡ Asks → AsksAlone memory x) → (y.upshot ≡ Asks → AsksAlone memory y)
-    → (cond b x y).upshot ≡ Asks → AsksAlone memory (cond b x y)
-asks_either memory true x y h k = h
-asks_either memory false x y h k = k
-
-asks_load : (o : Option ℕ) (address : ℕ) (size : Size) (extension : Extension) (rd : ℕ) (regs : Registers) (memory : Memory) (calls : List Call)
-    → (load_effect o address size extension rd regs memory calls).upshot ≡ Asks → AsksAlone memory (load_effect o address size extension rd regs memory calls)
-asks_load None address size extension rd regs memory calls is = cc
-asks_load (Some at) address size extension rd regs memory calls is = cc
-
-asks_store : (o : Option ℕ) (address : ℕ) (bytes : List ℕ) (regs : Registers) (memory : Memory) (calls : List Call)
-    → (store_effect o address bytes regs memory calls).upshot ≡ Asks → AsksAlone memory (store_effect o address bytes regs memory calls)
-asks_store None address bytes regs memory calls is = cc
-asks_store (Some at) address bytes regs memory calls is = cc
-
-asks_effect : (a : Action) (rd : ℕ) (regs : Registers) (memory : Memory) → (effect a rd regs memory).upshot ≡ Asks → AsksAlone memory (effect a rd regs memory)
-asks_effect (action.Write value) rd regs memory is = cc
-asks_effect (action.Link target) rd regs memory is =
-    asks_either memory (target % 4 == 0) (completed (with_pc (with_register regs rd (next_pc regs)) target) memory []) (fault regs memory kind.Align target [])
-    (λ h. cc) (λ h. cc) is
-asks_effect (action.Goto target) rd regs memory is =
-    asks_either memory (target % 4 == 0) (completed (with_pc regs target) memory []) (fault regs memory kind.Align target []) (λ h. cc) (λ h. cc) is
-asks_effect (action.Load address size extension) rd regs memory is = asks_load (denied_at memory (load_at address (count_of size))) address size extension rd regs memory _ is
-asks_effect (action.Store address size value) rd regs memory is = asks_store (denied_at memory (store_at address (count_of size))) address _ regs memory _ is
-asks_effect action.Next rd regs memory is = cc
-asks_effect action.Ask rd regs memory is = record { calls = refl; kept = refl }
-asks_effect action.Stop rd regs memory is = cc
-
-asks_decoded : (o : Option Instr) (regs : Registers) (memory : Memory) → (decoded o regs memory).upshot ≡ Asks → AsksAlone memory (decoded o regs memory)
-asks_decoded None regs memory is = cc
-asks_decoded (Some i) regs memory is = asks_effect (action_on i regs) i.rd regs memory is
-
-asks_fetch : (o : Option ℕ) (regs : Registers) (memory : Memory) → denied_at memory (fetch_at regs.pc) ≡ o → (fetch_effect o regs memory).upshot ≡ Asks
-    → IsRequested memory (after (Fetch regs.pc) (fetch_effect o regs memory))
-asks_fetch (Some at) regs memory may is = cc
-asks_fetch None regs memory may is =
-    let alone = asks_decoded (meaning (word_at memory regs.pc)) regs memory is in
-    record { at = regs.pc; calls = ap (λ calls. Fetch regs.pc ∷ calls) alone.calls; may = may; kept = alone.kept }
-
-pub is_requested : (regs : Registers) (memory : Memory) → (execution regs memory).upshot ≡ Asks → IsRequested memory (execution regs memory)
-is_requested regs memory = by_test (regs.pc % 4 == 0)
-  where
-    by_test : (b : Bool)
-        → (cond b (after (Fetch regs.pc) (fetch_effect (denied_at memory (fetch_at regs.pc)) regs memory)) (fault regs memory kind.Align regs.pc [])).upshot ≡ Asks
-        → IsRequested memory (cond b (after (Fetch regs.pc) (fetch_effect (denied_at memory (fetch_at regs.pc)) regs memory)) (fault regs memory kind.Align regs.pc []))
-    by_test true is = asks_fetch (denied_at memory (fetch_at regs.pc)) regs memory refl is
-    by_test false is = cc
+tried_counted p memory (c ∷ (d ∷ (x ∷ xs))) t tried = elim tried [ ]

@@ -9,3 +9,4 @@ pub mod Step
 pub use Rattle.ovl_io.specs.Memory
 pub use Rattle.ovl_io.specs.Permissions
 pub use Rattle.rv_decode.specs.Meaning
+pub mod CallLaws

@@ -13,7 +13,7 @@ invariant-stepping l = record {
   loan : l.view.memory.ghost_name ≡ l.fn.view.memory.ghost_name;
   space : l.view.space ≡ l.fn.view.space;
   there : holds_space (spaces_lent l.view) l.fn.view.space ≡ true;
-  in_hand : IsInHand l.view.memory.now l.view.space l.view.code;
+  in_hand : IsInHand l.view.memory.now.pages l.view.space l.view.code;
   all : executions (stops_in l.stops) l.fn.view.space l.most (guest_lent l.fn.view l.fn.process)
       ≡ behind l.steps (executions (stops_in l.stops) l.fn.view.space (l.most - l.steps) (guest_lent l.view l.process));
   running : l.process.state ≡ Running;
