@@ -3,7 +3,7 @@
 ghost use Rattle.std.specs.Prelude.{◌≡◌, ◌<◌, ◌≤◌, true, false};
 ghost use Rattle.std.specs.FinMap as map;
 ghost use Rattle.sizes.specs.declared.TheConstants.{LAST_SPACE};
-ghost use Rattle.overlay_pages.specs.View.{state_of};
+ghost use Rattle.overlay_memory.specs.View.{state_of, translations_of};
 ghost use Rattle.space_maps.specs.Spaces.{holds_space, space_in};
 ghost use Rattle.fork_checkpoint.specs.Copied.{Copies};
 
@@ -22,7 +22,8 @@ pub fn fork_space(mem: &mut OverlayMemory, from: u16, to: u16) -> Result<(), Spa
     requires some { 0 < to }
     requires last { to ≤ LAST_SPACE }
     requires absent { holds_space (state_of mem.old) to ≡ false }
-    ensures { Copies mem.old mem.new from to result }
+    ensures copies { Copies mem.old mem.new from to result }
+    ensures translations { translations_of mem.new ≡ translations_of mem.old }
 {
     let units = mem.units();
     let needed = units_copied(mem, from, units);

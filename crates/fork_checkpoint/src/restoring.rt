@@ -1,9 +1,10 @@
 //! The pages of a space in the place of those that another one had.
 
-ghost use Rattle.std.specs.Prelude.{◌≡◌, ◌≢◌, true, false};
+ghost use Rattle.std.specs.Prelude.{◌≡◌, ◌≢◌, OnErr, OnOk, true, false};
 ghost use Rattle.std.specs.FinMap as map;
-ghost use Rattle.overlay_pages.specs.View.{state_of};
+ghost use Rattle.overlay_memory.specs.View.{state_of, translations_of};
 ghost use Rattle.space_maps.specs.Spaces.{holds_space, space_in};
+ghost use Rattle.translation_cache.specs.Translations.{flushed};
 ghost use Rattle.fork_checkpoint.specs.Copied.{Copies};
 
 use crate::sharing::refill_space;
@@ -23,7 +24,10 @@ pub fn restore_space(mem: &mut OverlayMemory, saved: u16, into: u16) -> Result<(
     requires there { holds_space (state_of mem.old) into ≡ true }
     requires settled { (space_in (state_of mem.old) into).awaiting ≡ map.empty }
     requires unmarked { (space_in (state_of mem.old) into).speculating ≡ false }
-    ensures { Copies mem.old mem.new saved into result }
+    ensures copies { Copies mem.old mem.new saved into result }
+    ensures translations { OnOk result
+        (translations_of mem.new ≡ flushed into (translations_of mem.old)) }
+    ensures kept { OnErr result (translations_of mem.new ≡ translations_of mem.old) }
 {
     let needed = units_restored(mem, saved, into);
     if let Some(shortage) = mem.shortage(needed) {

@@ -1,11 +1,12 @@
 //! The pages of a space are shared with another one.
 
-ghost use Rattle.std.specs.Prelude.{◌≡◌, ◌≢◌, true};
+ghost use Rattle.std.specs.Prelude.{◌≡◌, ◌≢◌, OnErr, OnOk, true};
 ghost use Rattle.std.specs.FinMap as map;
 ghost use Rattle.ledger.specs.Events.{Copy};
-ghost use Rattle.overlay_pages.specs.View.{state_of};
+ghost use Rattle.overlay_memory.specs.View.{state_of, translations_of};
 ghost use Rattle.overlay_memory.specs.Room.{FitsAfter};
 ghost use Rattle.space_maps.specs.Spaces.{bare_space, holds_space, space_in};
+ghost use Rattle.translation_cache.specs.Translations.{flushed};
 ghost use Rattle.fork_checkpoint.specs.Copied.{ArePagesLow, AwaitsAll, CanHave, FillsSpace, RefillsSpace, with_copy};
 
 use overlay_memory::OverlayMemory;
@@ -23,7 +24,8 @@ fn share_all(mem: &mut OverlayMemory, from: u16, to: u16)
     requires awaits { AwaitsAll (state_of mem.old) from to }
     requires low { ArePagesLow (state_of mem.old) from }
     requires fits { FitsAfter (Copy from to) (state_of mem.old) }
-    ensures { state_of mem.new ≡ with_copy (state_of mem.old) from to }
+    ensures shared { state_of mem.new ≡ with_copy (state_of mem.old) from to }
+    ensures translations { translations_of mem.new ≡ translations_of mem.old }
 {
     let mut at = 0;
     'sharing: while let Some(page) = mem.next_overlaid(from, at) {
@@ -37,7 +39,8 @@ fn share_all(mem: &mut OverlayMemory, from: u16, to: u16)
 // A space without a page gets those of another one, whose entries the table has.
 fn share_table(mem: &mut OverlayMemory, from: u16, to: u16, table: PageTable)
     requires ready { CanHave (state_of mem.old) from to table }
-    ensures { state_of mem.new ≡ with_copy (state_of mem.old) from to }
+    ensures shared { state_of mem.new ≡ with_copy (state_of mem.old) from to }
+    ensures translations { translations_of mem.new ≡ translations_of mem.old }
 {
     mem.adopt_table(to, table);
     share_all(mem, from, to);
@@ -53,7 +56,8 @@ pub(crate) fn fill_space(mem: &mut OverlayMemory, from: u16, to: u16) -> Result<
     requires bare { space_in (state_of mem.old) to ≡ bare_space }
     requires low { ArePagesLow (state_of mem.old) from }
     requires fits { FitsAfter (Copy from to) (state_of mem.old) }
-    ensures { FillsSpace (state_of mem.old) (state_of mem.new) from to result }
+    ensures fills { FillsSpace (state_of mem.old) (state_of mem.new) from to result }
+    ensures translations { translations_of mem.new ≡ translations_of mem.old }
 {
     match mem.copy_table(from, to) {
         Ok(table) => {
@@ -78,7 +82,10 @@ pub(crate) fn refill_space(mem: &mut OverlayMemory, from: u16, to: u16) -> Resul
     requires settled { (space_in (state_of mem.old) to).awaiting ≡ map.empty }
     requires low { ArePagesLow (state_of mem.old) from }
     requires fits { FitsAfter (Copy from to) (state_of mem.old) }
-    ensures { RefillsSpace (state_of mem.old) (state_of mem.new) from to result }
+    ensures refills { RefillsSpace (state_of mem.old) (state_of mem.new) from to result }
+    ensures translations { OnOk result
+        (translations_of mem.new ≡ flushed to (translations_of mem.old)) }
+    ensures kept { OnErr result (translations_of mem.new ≡ translations_of mem.old) }
 {
     match mem.copy_table(from, to) {
         Ok(table) => {

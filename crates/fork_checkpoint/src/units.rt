@@ -5,7 +5,7 @@ ghost use Rattle.std.specs.FinMap as map;
 ghost use Rattle.sizes.specs.declared.TheConstants.{FRAME_UNITS, PAGE_END};
 ghost use Rattle.ledger.specs.Events.{Copy, Drop};
 ghost use Rattle.overlay_pages.specs.Changes.{limit_of};
-ghost use Rattle.overlay_pages.specs.View.{state_of};
+ghost use Rattle.overlay_memory.specs.View.{state_of};
 ghost use Rattle.overlay_memory.specs.ApartLaws.{ArePagesApart};
 ghost use Rattle.overlay_memory.specs.Room.{class_at, units_after};
 ghost use Rattle.space_maps.specs.Spaces.{holds_space, page_in, space_in};

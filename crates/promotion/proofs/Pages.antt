@@ -13,14 +13,14 @@ use Rattle.ledger.specs.UnitLaws.{units_at}
 use Rattle.ledger.specs.ClassLaws.{class_none}
 use Rattle.overlay_pages.specs.State.{PageState, State, books, held_page, seen_page}
 use Rattle.overlay_pages.specs.Changes.{HasCopyRoom, IsPlaced, committed, copied, limit_of}
-use Rattle.overlay_pages.specs.View.{MemoryView, state_of}
+use Rattle.overlay_memory.specs.View.{TranslatedView, state_of}
 use Rattle.overlay_memory.specs.CountLaws.{HasLines, class_there, has_lines, has_own_is}
 use Rattle.overlay_memory.specs.Joined.{IsBare, all_bare}
 use Rattle.overlay_memory.specs.PageLaws.{held_there, own_is, some_is}
 use Rattle.overlay_memory.specs.Room.{FitsAfter, IsFullAt, IsShort, class_at, units_after}
 use Rattle.overlay_memory.specs.declared.error.Shortage.{Shortage}
-use Rattle.space_maps.specs.Laws.{changed_there}
-use Rattle.space_maps.specs.Spaces.{page_in, put_page, turned_page}
+use Rattle.space_maps.specs.Laws.{changed_there, same_spaces}
+use Rattle.space_maps.specs.Spaces.{holds_space, page_in, put_mark, put_page, put_space, space_in, turned_page}
 use Rattle.promotion.specs.Counted.{new_frame_at}
 use Rattle.promotion.specs.Settled.{AreSettled, IsAfter, alone_in, mark_of}
 use Rattle.promotion.specs.Promoted.{HasPromoted, one_page}
@@ -155,7 +155,7 @@ module _ (v : State) (space page n : ℕ) (own : List ℕ) (count segment : ℕ)
       omega (arith, after, frame, fits)
 
 -- How settling the page comes out.
-module _ (m : MemoryView) (space page n : ℕ) (own : List ℕ) (count segment : ℕ)
+module _ (m : TranslatedView) (space page n : ℕ) (own : List ℕ) (count segment : ℕ)
     (lines : option_map (λ (x : PageState). x.own) (page_in (state_of m) space page) ≡ Some own)
     (count_is : count ≡ length own) (units_is : n ≡ units (books (state_of m))) (fits : units (books (state_of m)) ≤ limit_of (state_of m)) where
   abbrev v : State
@@ -169,12 +169,12 @@ module _ (m : MemoryView) (space page n : ℕ) (own : List ℕ) (count segment :
 
   pub stays : count ≡ 0 → HasPromoted v v space page
   stays none =
-      promoted_bare v space page x.x (all_bare m space) x.there (fits_bare v space page n own count (class count) lines count_is refl units_is none fits)
+      promoted_bare v space page x.x (all_bare m.pages space) x.there (fits_bare v space page n own count (class count) lines count_is refl units_is none fits)
       (has_own_is v space page own count lines count_is ∙ ap (nat_lt 0) none)
 
   pub commits : (new : State) → (count ≡ 0 → ⊥) → is_alone (books v) space page ≡ true → new ≡ turned_page committed v space page → HasPromoted v new space page
   commits new some alone is =
-      promoted_alone v space page x.x (all_bare m space) x.there (fits_alone v space page n own count (class count) lines count_is refl units_is alone fits) new (owned some) alone is
+      promoted_alone v space page x.x (all_bare m.pages space) x.there (fits_alone v space page n own count (class count) lines count_is refl units_is alone fits) new (owned some) alone is
 
   module _ (segment_is : segment ≡ class count) (some : count ≡ 0 → ⊥) (shared : is_alone (books v) space page ≡ false) where
     pub fits_copied : n + FRAME_UNITS - segment ≤ limit_of v → FitsAfter (SettlePage space page) v
@@ -182,7 +182,7 @@ module _ (m : MemoryView) (space page n : ℕ) (own : List ℕ) (count segment :
 
     pub copies : (new : State) → n + FRAME_UNITS - segment ≤ limit_of v → IfSome (page_in v space page) (λ x. IsPlaced v new space page (λ frame. copied frame x)) → HasPromoted v new space page
     copies new le placed =
-        promoted_shared v space page x.x (all_bare m space) x.there (fits_copied le) new (owned some) shared
+        promoted_shared v space page x.x (all_bare m.pages space) x.there (fits_copied le) new (owned some) shared
         (subst (λ (o : Option PageState). IfSome o (λ x. IsPlaced v new space page (λ frame. copied frame x))) x.there placed)
 
     pub has_room : n + FRAME_UNITS - segment ≤ limit_of v → HasCopyRoom v space page
@@ -200,3 +200,9 @@ module _ (m : MemoryView) (space page n : ℕ) (own : List ℕ) (count segment :
       over = short.over;
       kept = refl;
     }
+
+-- The mark that a space has, put in again.
+pub mark_again : (v : State) (s : ℕ) (on : Bool) → holds_space v s ≡ true → (space_in v s).speculating ≡ on → put_mark v s on ≡ v
+unfolding put_mark
+mark_again v s on there is =
+    ap (λ (b : Bool). put_space v s (record { pages = (space_in v s).pages; awaiting = (space_in v s).awaiting; speculating = b })) (sym is) ∙ same_spaces v s there

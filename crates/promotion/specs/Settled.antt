@@ -6,7 +6,7 @@ use Rattle.ledger.specs.Events.{Event, Commit, Settle, ledger_after}
 use Rattle.ledger.specs.Ledger.{is_alone}
 use Rattle.overlay_pages.specs.State.{State, base_of, books, memory_of}
 use Rattle.overlay_pages.specs.Changes.{HasCopyRoom, IsPlaced, committed, copied}
-use Rattle.overlay_pages.specs.View.{MemoryView, state_of}
+use Rattle.overlay_memory.specs.View.{TranslatedView, state_of}
 use Rattle.overlay_memory.specs.Room.{FitsAfter, IsFullAt, units_after}
 use Rattle.overlay_memory.specs.declared.error.Shortage.{Shortage}
 use Rattle.space_maps.specs.Spaces.{holds_space, page_in, space_in, turned_page}
@@ -57,7 +57,7 @@ pub record HasSettled (old new : State) (space : ℕ) : Type 0 where
   pub ledger : IsAfter (Settle space) old new
 
 -- how settling a space comes out: each page is settled, or the units after that exceed the limit and nothing changed
-abbrev pub Settles : MemoryView → MemoryView → ℕ → Result (Unit {0}) Shortage → Type 0
+abbrev pub Settles : TranslatedView → TranslatedView → ℕ → Result (Unit {0}) Shortage → Type 0
 Settles old new space (Ok done) = FitsAfter (Settle space) (state_of old) × HasSettled (state_of old) (state_of new) space
 Settles old new space (Err shortage) = IsFullAt old new (units_after (Settle space) (state_of old)) shortage.needed shortage.limit
 

@@ -1,7 +1,9 @@
-ghost use Rattle.std.specs.Prelude.{◌≡◌, ◌<◌, ◌^◌, true, IsSome, is_some};
+ghost use Rattle.std.specs.Prelude.{◌≡◌, ◌<◌, ◌^◌, false, true, IsSome, OnOk, is_some};
 ghost use Rattle.std.specs.FinMap as map;
-ghost use Rattle.overlay_pages.specs.View.{state_of};
+ghost use Rattle.overlay_memory.specs.Translated.{KeepsOtherTranslations};
+ghost use Rattle.overlay_memory.specs.View.{state_of, translations_of};
 ghost use Rattle.space_maps.specs.Spaces.{holds_space, page_in, space_in};
+ghost use Rattle.translation_cache.specs.Translations.{flushed};
 ghost use Rattle.promotion.specs.Promoted.{Promotes, PromotesAll, SettlesPage};
 
 use crate::error::PromoteError;
@@ -23,7 +25,8 @@ fn has_page(mem: &OverlayMemory, space: u16, page: u64) -> bool
 fn settle_page(mem: &mut OverlayMemory, space: u16, page: u64) -> Result<(), Shortage>
     requires there { IsSome (page_in (state_of mem.old) space page) }
     requires settled { (space_in (state_of mem.old) space).awaiting ≡ map.empty }
-    ensures { SettlesPage mem.old mem.new space page result }
+    ensures settles { SettlesPage mem.old mem.new space page result }
+    ensures lists { KeepsOtherTranslations space mem.old mem.new }
 {
     let own = mem.lines_of(space, page).len();
     let units = mem.units();
@@ -42,15 +45,28 @@ fn settle_page(mem: &mut OverlayMemory, space: u16, page: u64) -> Result<(), Sho
     Ok(())
 }
 
+// Removes the translations of a space that isn't speculating.
+fn forget_translations(mem: &mut OverlayMemory, space: u16)
+    requires there { holds_space (state_of mem.old) space ≡ true }
+    requires unmarked { (space_in (state_of mem.old) space).speculating ≡ false }
+    ensures state { state_of mem.new ≡ state_of mem.old }
+    ensures translations { translations_of mem.new ≡ flushed space (translations_of mem.old) }
+{
+    mem.set_speculating(space, false);
+}
+
 /// Settles a page: one without own lines stays; the own lines of one that is alone go into its frame; any other gets a new frame with
 /// its lines. The space is there, and no page of it awaits; the page is below 2^52. Speculating exactly where the space is, else
 /// Unmapped with the page's address exactly where it isn't there, else Full exactly where the units after it would exceed the limit.
-/// After an error everything is as before. Takes no memory. Costs a copy of the page.
+/// After an error everything is as before, and else
+/// the space has no translations any more. Takes no memory. Costs a copy of the page.
 pub fn promote(mem: &mut OverlayMemory, space: u16, page: u64) -> Result<(), PromoteError>
     requires there { holds_space (state_of mem.old) space ≡ true }
     requires settled { (space_in (state_of mem.old) space).awaiting ≡ map.empty }
     requires low { page < 2 ^ 52 }
-    ensures { Promotes mem.old mem.new space page result }
+    ensures promotes { Promotes mem.old mem.new space page result }
+    ensures translations { OnOk result
+        (translations_of mem.new ≡ flushed space (translations_of mem.old)) }
 {
     if mem.is_speculating(space) {
         return Err(PromoteError::Speculating);
@@ -59,25 +75,33 @@ pub fn promote(mem: &mut OverlayMemory, space: u16, page: u64) -> Result<(), Pro
         return Err(PromoteError::Unmapped(page * PAGE_BYTES as u64));
     }
     match settle_page(mem, space, page) {
-        Ok(()) => Ok(()),
+        Ok(()) => {
+            forget_translations(mem, space);
+            Ok(())
+        }
         Err(shortage) => Err(PromoteError::Full(shortage.needed, shortage.limit)),
     }
 }
 
 /// Settles each page of a space. The space is there, and no page of it awaits. Speculating exactly where the space is, else Full
-/// exactly where the units after it would exceed the limit; Unmapped never. After an error everything is as before. No state on the
-/// way needs more units than the greater of those before and those after. Takes no memory. Costs a few look-ups for each page with
+/// exactly where the units after it would exceed the limit; Unmapped never. After an error everything is as before, and else the space has no
+/// translations any more. No state on the way needs more units than the greater of those before and those after. Takes no memory. Costs a few look-ups for each page with
 /// own lines, a copy of each own line, and a page for each new frame.
 pub fn promote_all(mem: &mut OverlayMemory, space: u16) -> Result<(), PromoteError>
     requires there { holds_space (state_of mem.old) space ≡ true }
     requires settled { (space_in (state_of mem.old) space).awaiting ≡ map.empty }
-    ensures { PromotesAll mem.old mem.new space result }
+    ensures promotes { PromotesAll mem.old mem.new space result }
+    ensures translations { OnOk result
+        (translations_of mem.new ≡ flushed space (translations_of mem.old)) }
 {
     if mem.is_speculating(space) {
         return Err(PromoteError::Speculating);
     }
     match settle(mem, space) {
-        Ok(()) => Ok(()),
+        Ok(()) => {
+            forget_translations(mem, space);
+            Ok(())
+        }
         Err(shortage) => Err(PromoteError::Full(shortage.needed, shortage.limit)),
     }
 }

@@ -4,8 +4,9 @@ ghost use Rattle.std.specs.Prelude.{◌≡◌, ◌<◌, true, IsSome};
 ghost use Rattle.std.specs.FinMap as map;
 ghost use Rattle.sizes.specs.declared.TheConstants.{PAGE_END};
 ghost use Rattle.ledger.specs.Events.{Settle};
-ghost use Rattle.overlay_pages.specs.View.{state_of};
+ghost use Rattle.overlay_memory.specs.View.{state_of};
 ghost use Rattle.overlay_memory.specs.Room.{FitsAfter};
+ghost use Rattle.overlay_memory.specs.Translated.{KeepsOtherTranslations};
 ghost use Rattle.space_maps.specs.Spaces.{holds_space, page_in, space_in};
 ghost use Rattle.promotion.specs.Settled.{CanCopyOwn, HasCommittedAlone, HasSettled, IsCopied, NoneAlone, Settles, with_committed};
 
@@ -16,6 +17,7 @@ use overlay_memory::{OverlayMemory, Shortage};
 fn commit_one(mem: &mut OverlayMemory, space: u16, page: u64)
     requires there { IsSome (page_in (state_of mem.old) space page) }
     ensures committed { state_of mem.new ≡ with_committed (state_of mem.old) space page }
+    ensures lists { KeepsOtherTranslations space mem.old mem.new }
     ensures low { page < PAGE_END }
 {
     if mem.lines_of(space, page).len() == 0 {
@@ -31,7 +33,8 @@ fn commit_one(mem: &mut OverlayMemory, space: u16, page: u64)
 /// memory. Costs a few look-ups for each page with own lines, and a copy of each own line of those that are alone.
 pub fn commit_alone(mem: &mut OverlayMemory, space: u16)
     requires there { holds_space (state_of mem.old) space ≡ true }
-    ensures { HasCommittedAlone (state_of mem.old) (state_of mem.new) space }
+    ensures committed { HasCommittedAlone (state_of mem.old) (state_of mem.new) space }
+    ensures lists { KeepsOtherTranslations space mem.old mem.new }
 {
     see_apart(mem, space);
     let mut from = 0;
@@ -47,6 +50,7 @@ fn copy_one(mem: &mut OverlayMemory, space: u16, page: u64)
     requires settled { (space_in (state_of mem.old) space).awaiting ≡ map.empty }
     requires fits { CanCopyOwn (state_of mem.old) space page }
     ensures copied { IsCopied (state_of mem.old) (state_of mem.new) space page }
+    ensures lists { KeepsOtherTranslations space mem.old mem.new }
     ensures low { page < PAGE_END }
 {
     if mem.lines_of(space, page).len() == 0 {
@@ -62,7 +66,8 @@ fn copy_overlaid(mem: &mut OverlayMemory, space: u16)
     requires settled { (space_in (state_of mem.old) space).awaiting ≡ map.empty }
     requires shared { NoneAlone (state_of mem.old) space }
     requires fits { FitsAfter (Settle space) (state_of mem.old) }
-    ensures { HasSettled (state_of mem.old) (state_of mem.new) space }
+    ensures settled { HasSettled (state_of mem.old) (state_of mem.new) space }
+    ensures lists { KeepsOtherTranslations space mem.old mem.new }
 {
     see_apart(mem, space);
     let mut from = 0;
@@ -80,7 +85,8 @@ fn copy_overlaid(mem: &mut OverlayMemory, space: u16)
 pub fn settle(mem: &mut OverlayMemory, space: u16) -> Result<(), Shortage>
     requires there { holds_space (state_of mem.old) space ≡ true }
     requires settled { (space_in (state_of mem.old) space).awaiting ≡ map.empty }
-    ensures { Settles mem.old mem.new space result }
+    ensures settles { Settles mem.old mem.new space result }
+    ensures lists { KeepsOtherTranslations space mem.old mem.new }
 {
     see_apart(mem, space);
     let needed = units_settled(mem, space);

@@ -3,7 +3,7 @@ use Rattle.ledger.specs.Changes.{has_own}
 use Rattle.ledger.specs.Events.{Commit, Discard, Settle, ledger_after}
 use Rattle.overlay_pages.specs.Changes.{discarded}
 use Rattle.overlay_pages.specs.State.{State, base_of, books, memory_of}
-use Rattle.overlay_pages.specs.View.{MemoryView, state_of}
+use Rattle.overlay_memory.specs.View.{TranslatedView, state_of}
 use Rattle.overlay_memory.specs.Room.{FitsAfter, IsFullAt, units_after}
 use Rattle.space_maps.specs.Spaces.{holds_space, space_in, turned_page}
 use Rattle.promotion.specs.Settled.{AreSettled, IsAfter, alone_in, every_page, mark_of}
@@ -13,7 +13,7 @@ use Rattle.speculation.specs.declared.error.SpeculationError.TheVariants.{Specul
 -- What speculation does.
 
 -- the space has a mark, or none, and nothing changed
-pub record HadMark (mark : Bool) (old new : MemoryView) (space : ℕ) : Type 0 where
+pub record HadMark (mark : Bool) (old new : TranslatedView) (space : ℕ) : Type 0 where
   pub mark_is : mark_of (state_of old) space ≡ mark
   pub kept : new ≡ old
 
@@ -43,7 +43,7 @@ pub record HasDiscarded (mark : Bool) (old new : State) (space : ℕ) : Type 0 w
 
 -- How the calls come out.
 
-abbrev pub Starts : MemoryView → MemoryView → ℕ → Result (Unit {0}) SpeculationError → Type 0
+abbrev pub Starts : TranslatedView → TranslatedView → ℕ → Result (Unit {0}) SpeculationError → Type 0
 Starts old new space (Ok done) =
     (mark_of (state_of old) space ≡ false) × FitsAfter (Settle space) (state_of old) × HasStarted (state_of old) (state_of new) space
 Starts old new space (Err Speculating) = HadMark true old new space
@@ -51,13 +51,13 @@ Starts old new space (Err NotSpeculating) = ⊥
 Starts old new space (Err (Full needed limit)) =
     (mark_of (state_of old) space ≡ false) × IsFullAt old new (units_after (Settle space) (state_of old)) needed limit
 
-abbrev pub Commits : MemoryView → MemoryView → ℕ → Result (Unit {0}) SpeculationError → Type 0
+abbrev pub Commits : TranslatedView → TranslatedView → ℕ → Result (Unit {0}) SpeculationError → Type 0
 Commits old new space (Ok done) = (mark_of (state_of old) space ≡ true) × HasCommitted (state_of old) (state_of new) space
 Commits old new space (Err Speculating) = ⊥
 Commits old new space (Err NotSpeculating) = HadMark false old new space
 Commits old new space (Err (Full needed limit)) = ⊥
 
-abbrev pub Discards : MemoryView → MemoryView → ℕ → Result (Unit {0}) SpeculationError → Type 0
+abbrev pub Discards : TranslatedView → TranslatedView → ℕ → Result (Unit {0}) SpeculationError → Type 0
 Discards old new space (Ok done) = (mark_of (state_of old) space ≡ true) × HasDiscarded false (state_of old) (state_of new) space
 Discards old new space (Err Speculating) = ⊥
 Discards old new space (Err NotSpeculating) = HadMark false old new space

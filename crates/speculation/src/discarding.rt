@@ -2,7 +2,8 @@
 
 ghost use Rattle.std.specs.Prelude.{◌≡◌, ◌<◌, true, IsSome};
 ghost use Rattle.sizes.specs.declared.TheConstants.{PAGE_END};
-ghost use Rattle.overlay_pages.specs.View.{state_of};
+ghost use Rattle.overlay_memory.specs.Translated.{KeepsOtherTranslations};
+ghost use Rattle.overlay_memory.specs.View.{state_of};
 ghost use Rattle.space_maps.specs.Spaces.{holds_space, page_in};
 ghost use Rattle.speculation.specs.Speculated.{DiscardsAll, with_discarded};
 
@@ -12,6 +13,7 @@ use overlay_memory::OverlayMemory;
 fn discard_one(mem: &mut OverlayMemory, space: u16, page: u64)
     requires there { IsSome (page_in (state_of mem.old) space page) }
     ensures discarded { state_of mem.new ≡ with_discarded (state_of mem.old) space page }
+    ensures lists { KeepsOtherTranslations space mem.old mem.new }
     ensures low { page < PAGE_END }
 {
     if mem.lines_of(space, page).len() == 0 {
@@ -23,7 +25,8 @@ fn discard_one(mem: &mut OverlayMemory, space: u16, page: u64)
 /// Gives up each overlay of a space. Takes no memory. Costs a few look-ups for each page with own lines.
 pub(crate) fn discard_all(mem: &mut OverlayMemory, space: u16)
     requires there { holds_space (state_of mem.old) space ≡ true }
-    ensures { DiscardsAll (state_of mem.old) (state_of mem.new) space }
+    ensures discarded { DiscardsAll (state_of mem.old) (state_of mem.new) space }
+    ensures lists { KeepsOtherTranslations space mem.old mem.new }
 {
     let mut from = 0;
     'discarding: while let Some(page) = mem.next_overlaid(space, from) {

@@ -1,9 +1,10 @@
 //! Start, commit and discard.
 
-ghost use Rattle.std.specs.Prelude.{◌≡◌, true};
+ghost use Rattle.std.specs.Prelude.{◌≡◌, OnOk, true};
 ghost use Rattle.std.specs.FinMap as map;
-ghost use Rattle.overlay_pages.specs.View.{state_of};
+ghost use Rattle.overlay_memory.specs.View.{state_of, translations_of};
 ghost use Rattle.space_maps.specs.Spaces.{holds_space, space_in};
+ghost use Rattle.translation_cache.specs.Translations.{flushed};
 ghost use Rattle.speculation.specs.Speculated.{Commits, Discards, Starts};
 
 use crate::discarding::discard_all;
@@ -13,12 +14,14 @@ use promotion::{commit_alone, settle};
 
 /// Settles each page of a space, of which no page awaits, and marks the space as speculating: from then on its stores change no
 /// base. Speculating exactly where it is marked, else Full exactly where the units after it would exceed the limit; NotSpeculating
-/// never. After an error everything is as before. Takes no memory. Costs a few look-ups for each page with own lines, a copy of
+/// never. After an error everything is as before, and else the space has no translations any more. Takes no memory. Costs a few look-ups for each page with own lines, a copy of
 /// each own line, and a page for each new frame.
 pub fn start(mem: &mut OverlayMemory, space: u16) -> Result<(), SpeculationError>
     requires there { holds_space (state_of mem.old) space ≡ true }
     requires settled { (space_in (state_of mem.old) space).awaiting ≡ map.empty }
-    ensures { Starts mem.old mem.new space result }
+    ensures starts { Starts mem.old mem.new space result }
+    ensures translations { OnOk result
+        (translations_of mem.new ≡ flushed space (translations_of mem.old)) }
 {
     if mem.is_speculating(space) {
         return Err(SpeculationError::Speculating);
@@ -33,11 +36,14 @@ pub fn start(mem: &mut OverlayMemory, space: u16) -> Result<(), SpeculationError
 }
 
 /// The own lines of each page that is alone go into its frame, the other pages keep their overlays as ordinary ones, and the mark
-/// is taken away. NotSpeculating exactly where the space isn't marked; then everything is as before. Never full. Takes no memory.
+/// is taken away. NotSpeculating exactly where the space isn't marked; then everything is as before. Else the space
+/// has no translations any more. Never full. Takes no memory.
 /// Costs a few look-ups for each page with own lines, and a copy of each own line of those that are alone.
 pub fn commit(mem: &mut OverlayMemory, space: u16) -> Result<(), SpeculationError>
     requires there { holds_space (state_of mem.old) space ≡ true }
-    ensures { Commits mem.old mem.new space result }
+    ensures commits { Commits mem.old mem.new space result }
+    ensures translations { OnOk result
+        (translations_of mem.new ≡ flushed space (translations_of mem.old)) }
 {
     if !mem.is_speculating(space) {
         return Err(SpeculationError::NotSpeculating);
@@ -48,11 +54,14 @@ pub fn commit(mem: &mut OverlayMemory, space: u16) -> Result<(), SpeculationErro
 }
 
 /// Every overlay of a space is given up, so that its base is what processes see, and the mark is taken away. NotSpeculating exactly
-/// where the space isn't marked; then everything is as before. Never full. Takes no memory. Costs a few look-ups for each page with
+/// where the space isn't marked; then everything is as before. Else the space
+/// has no translations any more. Never full. Takes no memory. Costs a few look-ups for each page with
 /// own lines.
 pub fn discard(mem: &mut OverlayMemory, space: u16) -> Result<(), SpeculationError>
     requires there { holds_space (state_of mem.old) space ≡ true }
-    ensures { Discards mem.old mem.new space result }
+    ensures discards { Discards mem.old mem.new space result }
+    ensures translations { OnOk result
+        (translations_of mem.new ≡ flushed space (translations_of mem.old)) }
 {
     if !mem.is_speculating(space) {
         return Err(SpeculationError::NotSpeculating);

@@ -1,7 +1,7 @@
 use Rattle.std.proofs.Common.{◌≤◌, sym, subst, ◌∙◌, ap, refl}
 use Rattle.overlay_pages.specs.State.{State}
 use Rattle.overlay_pages.specs.Changes.{limit_of}
-use Rattle.overlay_pages.specs.View.{state_of}
+use Rattle.overlay_memory.specs.View.{state_of}
 use Rattle.space_maps.specs.Spaces.{bare_space, cut_space}
 use Rattle.fork_checkpoint.specs.Copied.{with_copy}
 use Rattle.fork_checkpoint.proofs.Shares.{HasAdded, cut_put, fits_before, has_added, has_forked, needed_is, two_spaces}
@@ -10,8 +10,8 @@ use Rattle.fork_checkpoint.proofs.forking.fork_space.Goals as goal
 pub units_copied-needed-requires-clause-few : goal.units_copied-needed-requires-clause-few
 units_copied-needed-requires-clause-few c = subst (λ n. n ≤ limit_of (state_of c.args.mem.now)) (sym c.units-units.ensures.sum) c.units-units.ensures.fits
 
-pub returns-in-Some : goal.returns-in-Some
-returns-in-Some c = record {
+pub returns-in-Some-clause-copies : goal.returns-in-Some-clause-copies
+returns-in-Some-clause-copies c = record {
   needed_is =
       c.in-Some.ensures.needed_is
       ∙ needed_is (state_of c.args.mem.now) c.args.from c.args.to c.units_copied-needed.result c.units-units.result c.requires.there c.requires.absent
@@ -50,25 +50,25 @@ fill_space-requires-clause-fits c =
     (fits_before (state_of c.args.mem.now) c.args.from c.args.to c.units_copied-needed.result c.units-units.result c.requires.there c.requires.absent
     c.units-units.ensures.sum c.units_copied-needed.ensures.sum c.in_default.ensures)
 
-pub returns-in-Ok-fill_space : goal.returns-in-Ok-fill_space
-returns-in-Ok-fill_space c = (
+pub returns-in-Ok-fill_space-clause-copies : goal.returns-in-Ok-fill_space-clause-copies
+returns-in-Ok-fill_space-clause-copies c = (
   fits_before (state_of c.args.mem.now) c.args.from c.args.to c.units_copied-needed.result c.units-units.result c.requires.there c.requires.absent
       c.units-units.ensures.sum c.units_copied-needed.ensures.sum c.in_default.ensures,
   has_forked (state_of c.args.mem.now) (state_of c.fill_space.new.mem) c.args.from c.args.to
       (two_spaces (state_of c.args.mem.now) c.args.from c.args.to c.requires.there c.requires.absent)
-      (c.in-Ok-fill_space.ensures ∙ ap (λ (v : State). with_copy v c.args.from c.args.to) c.in-Ok.ensures.added),
+      (c.in-Ok-fill_space.ensures.fills ∙ ap (λ (v : State). with_copy v c.args.from c.args.to) c.in-Ok.ensures.added),
 )
 
-pub returns-in-Err-fill_space : goal.returns-in-Err-fill_space
-returns-in-Err-fill_space c = (
+pub returns-in-Err-fill_space-clause-copies : goal.returns-in-Err-fill_space-clause-copies
+returns-in-Err-fill_space-clause-copies c = (
   fits_before (state_of c.args.mem.now) c.args.from c.args.to c.units_copied-needed.result c.units-units.result c.requires.there c.requires.absent
       c.units-units.ensures.sum c.units_copied-needed.ensures.sum c.in_default.ensures,
-  c.in-Err-fill_space.ensures ∙ ap (λ (v : State). cut_space v c.args.to) c.in-Ok.ensures.added
+  c.in-Err-fill_space.ensures.fills ∙ ap (λ (v : State). cut_space v c.args.to) c.in-Ok.ensures.added
       ∙ cut_put (state_of c.args.mem.now) c.args.to bare_space c.requires.absent,
 )
 
-pub returns-in-Err : goal.returns-in-Err
-returns-in-Err c = (
+pub returns-in-Err-clause-copies : goal.returns-in-Err-clause-copies
+returns-in-Err-clause-copies c = (
   fits_before (state_of c.args.mem.now) c.args.from c.args.to c.units_copied-needed.result c.units-units.result c.requires.there c.requires.absent
       c.units-units.ensures.sum c.units_copied-needed.ensures.sum c.in_default.ensures,
   ap state_of c.in-Err.ensures.kept,

@@ -1,7 +1,7 @@
-use Rattle.std.proofs.Common.{◌<◌, ap, ◌∙◌, arith}
+use Rattle.std.proofs.Common.{refl, ◌<◌, ap, ◌∙◌, arith}
 use Rattle.sizes.specs.declared.TheConstants.{PAGE_END}
 use Rattle.overlay_pages.specs.State.{State}
-use Rattle.overlay_pages.specs.View.{state_of}
+use Rattle.overlay_memory.specs.View.{state_of}
 use Rattle.space_maps.specs.Spaces.{holds_space}
 use Rattle.fork_checkpoint.proofs.Shares.{partly_none, to_there}
 use Rattle.fork_checkpoint.proofs.Runs.{HasReached, bare_until, from_there, reached, reached_all}
@@ -16,6 +16,7 @@ pub sharing-init : goal.sharing-init
 sharing-init c = record {
   shared = partly_none (state_of c.args.mem.now) c.args.from c.args.to c.requires.differ c.requires.empty c.requires.awaits c.requires.space;
   low = omega arith;
+  lists = refl;
 }
 
 pub next_overlaid-requires : goal.next_overlaid-requires
@@ -65,8 +66,9 @@ sharing-preserved c =
     let t = reached (state_of c.args.mem.now) c.args.from c.args.to c.requires.differ (state_of c.sharing.mem) (state_of c.share_bare.new.self) c.sharing.at c.in-Some.page c.sharing.invariant.shared
     c.in-Some.ensures.next c.share_bare.ensures.shared c.share_bare.ensures.none in
     let low : c.in-Some.page < PAGE_END = t.step.low c.requires.low in record {
-      shared = t.step.shared (state_of c.share_page.new.self) c.share_page.ensures;
+      shared = t.step.shared (state_of c.share_page.new.self) c.share_page.ensures.state;
       low = omega (arith, low);
+      lists = c.share_page.ensures.translations ∙ c.share_bare.ensures.translations ∙ c.sharing.invariant.lists;
     }
 
 pub share_bare-requires-2-clause-space : goal.share_bare-requires-2-clause-space
@@ -78,7 +80,10 @@ share_bare-requires-2-clause-bare c =
     bare_until (state_of c.args.mem.now) c.args.from c.args.to c.requires.differ (state_of c.sharing.mem) PAGE_END c.sharing.at c.sharing.invariant.shared
     (λ q le lt. c.in_default.ensures.next q le)
 
-pub returns : goal.returns
-returns c =
+pub returns-clause-shared : goal.returns-clause-shared
+returns-clause-shared c =
     reached_all (state_of c.args.mem.now) c.args.from c.args.to c.requires.differ (state_of c.sharing.mem) (state_of c.share_bare-2.new.self) c.sharing.at c.sharing.invariant.shared
     c.sharing.invariant.low c.requires.low c.share_bare-2.ensures.shared c.share_bare-2.ensures.none
+
+pub returns-clause-translations : goal.returns-clause-translations
+returns-clause-translations c = c.share_bare-2.ensures.translations ∙ c.sharing.invariant.lists

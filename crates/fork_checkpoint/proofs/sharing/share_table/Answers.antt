@@ -1,10 +1,10 @@
 use Rattle.std.proofs.Common.{◌∙◌}
-use Rattle.overlay_pages.specs.View.{state_of}
+use Rattle.overlay_memory.specs.View.{state_of}
 use Rattle.fork_checkpoint.proofs.Shares.{HasAdopted, has_adopted}
 use Rattle.fork_checkpoint.proofs.sharing.share_table.Goals as goal
 
 abbrev adopted : (c : goal.After-share_all-arg-1) → HasAdopted (state_of c.args.mem.now) (state_of c.adopt_table.new.self) c.args.from c.args.to
-adopted c = has_adopted (state_of c.args.mem.now) (state_of c.adopt_table.new.self) c.args.from c.args.to c.args.table c.requires.ready c.adopt_table.ensures
+adopted c = has_adopted (state_of c.args.mem.now) (state_of c.adopt_table.new.self) c.args.from c.args.to c.args.table c.requires.ready c.adopt_table.ensures.state
 
 pub share_all-requires-clause-there : goal.share_all-requires-clause-there
 share_all-requires-clause-there c = (adopted c).beside.there c.requires.ready.there
@@ -24,7 +24,7 @@ share_all-requires-clause-low c = (adopted c).beside.low c.requires.ready.low
 pub share_all-requires-clause-fits : goal.share_all-requires-clause-fits
 share_all-requires-clause-fits c = (adopted c).beside.fits c.requires.ready.fits
 
-pub returns : goal.returns
-returns c =
-    c.share_all.ensures
-    ∙ (has_adopted (state_of c.args.mem.now) (state_of c.adopt_table.new.self) c.args.from c.args.to c.args.table c.requires.ready c.adopt_table.ensures).copy
+pub returns-clause-shared : goal.returns-clause-shared
+returns-clause-shared c =
+    c.share_all.ensures.shared
+    ∙ (has_adopted (state_of c.args.mem.now) (state_of c.adopt_table.new.self) c.args.from c.args.to c.args.table c.requires.ready c.adopt_table.ensures.state).copy

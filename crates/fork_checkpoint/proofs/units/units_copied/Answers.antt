@@ -1,4 +1,4 @@
-use Rattle.overlay_pages.specs.View.{state_of}
+use Rattle.overlay_memory.specs.View.{state_of}
 use Rattle.overlay_memory.specs.Joined.{page_low}
 use Rattle.overlay_memory.specs.PageLaws.{has_page, own_there}
 use Rattle.fork_checkpoint.proofs.Sums.{summed_all, summing_few, summing_more, summing_none}
@@ -23,7 +23,7 @@ counting-preserved c =
 pub returns-clause-sum : goal.returns-clause-sum
 returns-clause-sum c =
     summed_all (state_of c.args.mem.now) c.args.space c.args.kept c.counting.units c.counting.from c.counting.invariant
-    (page_low c.args.mem.now c.in_default.ensures.joined c.args.space) c.in_default.ensures.next
+    (page_low c.args.mem.now.pages c.in_default.ensures.joined c.args.space) c.in_default.ensures.next
 
 pub returns-clause-low : goal.returns-clause-low
-returns-clause-low c = page_low c.args.mem.now c.in_default.ensures.joined c.args.space
+returns-clause-low c = page_low c.args.mem.now.pages c.in_default.ensures.joined c.args.space

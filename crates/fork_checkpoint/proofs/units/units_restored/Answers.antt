@@ -1,4 +1,4 @@
-use Rattle.overlay_pages.specs.View.{state_of}
+use Rattle.overlay_memory.specs.View.{state_of}
 use Rattle.fork_checkpoint.proofs.Shares.{restored_units}
 use Rattle.fork_checkpoint.proofs.units.units_restored.Goals as goal
 

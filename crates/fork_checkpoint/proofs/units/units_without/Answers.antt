@@ -1,5 +1,5 @@
 use Rattle.std.proofs.Common.{◌+◌, sym, subst, arith}
-use Rattle.overlay_pages.specs.View.{state_of}
+use Rattle.overlay_memory.specs.View.{state_of}
 use Rattle.fork_checkpoint.proofs.Leaving.{IsLeaving, leaving_all, leaving_enough, leaving_more, leaving_none, leaving_zeros}
 use Rattle.fork_checkpoint.proofs.units.units_without.Goals as goal
 

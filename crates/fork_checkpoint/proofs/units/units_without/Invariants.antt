@@ -1,6 +1,6 @@
 use Rattle.std.proofs.Common.{◌-◌}
 use Rattle.sizes.specs.declared.TheConstants.{PAGE_END}
-use Rattle.overlay_pages.specs.View.{state_of}
+use Rattle.overlay_memory.specs.View.{state_of}
 use Rattle.fork_checkpoint.proofs.Leaving.{IsLeaving}
 use Rattle.fork_checkpoint.proofs.units.units_without.Given as goal
 

@@ -1,5 +1,5 @@
 use Rattle.std.proofs.Common.{sym, ◌∙◌}
-use Rattle.overlay_pages.specs.View.{state_of}
+use Rattle.overlay_memory.specs.View.{state_of}
 use Rattle.overlay_memory.specs.Joined.{page_low}
 use Rattle.fork_checkpoint.proofs.Leaving.{enough_for_frame, enough_for_segment, sum_alone, sum_shared}
 use Rattle.fork_checkpoint.proofs.units.without_page.Goals as goal
@@ -20,7 +20,7 @@ returns-then-is_alone-clause-sum c =
     c.class_of.ensures c.requires.enough (sym c.is_alone.ensures ∙ c.if-is_alone.true)
 
 pub returns-then-is_alone-clause-low : goal.returns-then-is_alone-clause-low
-returns-then-is_alone-clause-low c = page_low c.args.mem.now c.lines_of.ensures.joined c.args.space c.args.page c.requires.there
+returns-then-is_alone-clause-low c = page_low c.args.mem.now.pages c.lines_of.ensures.joined c.args.space c.args.page c.requires.there
 
 pub returns-clause-sum : goal.returns-clause-sum
 returns-clause-sum c =
@@ -28,4 +28,4 @@ returns-clause-sum c =
     c.class_of.ensures c.requires.enough (sym c.is_alone.ensures ∙ c.if-is_alone.false)
 
 pub returns-clause-low : goal.returns-clause-low
-returns-clause-low c = page_low c.args.mem.now c.lines_of.ensures.joined c.args.space c.args.page c.requires.there
+returns-clause-low c = page_low c.args.mem.now.pages c.lines_of.ensures.joined c.args.space c.args.page c.requires.there

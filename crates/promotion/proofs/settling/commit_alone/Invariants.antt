@@ -1,11 +1,13 @@
 use Rattle.std.proofs.Common.{◌-◌}
 use Rattle.sizes.specs.declared.TheConstants.{PAGE_END}
-use Rattle.overlay_pages.specs.View.{state_of}
+use Rattle.overlay_memory.specs.Translated.{KeepsOtherTranslations}
+use Rattle.overlay_memory.specs.View.{state_of}
 use Rattle.promotion.proofs.CommitWalk.{IsCommitting}
 use Rattle.promotion.proofs.settling.commit_alone.Given as goal
 
 abbrev pub invariant-committing : goal.invariant-committing
-invariant-committing l = IsCommitting (state_of l.fn.mem) (state_of l.mem) l.space l.from
+invariant-committing l =
+    record { walked : IsCommitting (state_of l.fn.mem) (state_of l.mem) l.space l.from; lists : KeepsOtherTranslations l.space l.fn.mem l.mem }
 
 abbrev pub decreases-committing : goal.decreases-committing
 decreases-committing l = PAGE_END - l.from

@@ -1,4 +1,4 @@
-use Rattle.overlay_pages.specs.View.{state_of}
+use Rattle.overlay_memory.specs.View.{state_of}
 use Rattle.overlay_memory.specs.PageLaws.{own_there}
 use Rattle.promotion.proofs.Counts.{counted_all, counted_few, counting_more, counting_none, segment_there}
 use Rattle.promotion.proofs.units.units_settled.Goals as goal

@@ -1,6 +1,6 @@
 use Rattle.std.proofs.Common.{◌-◌}
 use Rattle.sizes.specs.declared.TheConstants.{PAGE_END}
-use Rattle.overlay_pages.specs.View.{state_of}
+use Rattle.overlay_memory.specs.View.{state_of}
 use Rattle.promotion.proofs.Counts.{IsCounting}
 use Rattle.promotion.proofs.units.units_settled.Given as goal
 
