@@ -7,7 +7,8 @@ use Rattle.ovl_io.specs.Memory.{Memory, Page, allows, bytes_at, first_denied}
 use Rattle.ovl_io.specs.MemoryLaws.{denied_back, denied_front}
 use Rattle.ovl_io.specs.Permissions.{permits}
 use Rattle.overlay_pages.specs.State.{PageState, memory_of, seen_page}
-use Rattle.overlay_pages.specs.View.{IsJoined, MemoryView, state_of}
+use Rattle.overlay_pages.specs.View.{IsJoined}
+use Rattle.overlay_memory.specs.View.{TranslatedView, state_of}
 use Rattle.overlay_memory.specs.Joined.{page_low}
 use Rattle.overlay_memory.specs.StateMemory.{memory_at}
 use Rattle.space_maps.specs.Spaces.{page_in}
@@ -65,25 +66,25 @@ seen_there None is = cc
 seen_there (Some x) is = refl
 
 -- and so they end where user addresses end
-pub ends_low : (m : MemoryView) (p address n : ℕ) → IsJoined m → first_denied (memory_of (state_of m) p) 0 address n ≡ None → 0 < n → address + n ≤ ADDRESS_END
+pub ends_low : (m : TranslatedView) (p address n : ℕ) → IsJoined m.pages → first_denied (memory_of (state_of m) p) 0 address n ≡ None → 0 < n → address + n ≤ ADDRESS_END
 ends_low m p address n joined none some =
     let last = each_there (memory_of (state_of m) p) address n (n - 1) none (omega (arith, some)) in
     let page = (address + (n - 1)) / PAGE_BYTES in
     let here = is_there (get (memory_of (state_of m) p) page) last in
-    let low = page_low m joined p page (seen_there (page_in (state_of m) p page) (sym (ap is_some (memory_at (state_of m) p page)) ∙ here)) in
+    let low = page_low m.pages joined p page (seen_there (page_in (state_of m) p page) (sym (ap is_some (memory_at (state_of m) p page)) ∙ here)) in
     omega (arith, low, some)
 
 -- What a session answers of a process that is there.
-module _ (machine : Machine) (memory : MemoryView) (p address n : ℕ) (process : declared.Process) (same : memory ≡ machine.memory) (there : Some process ≡ get machine.processes p) where
+module _ (machine : Machine) (memory : TranslatedView) (p address n : ℕ) (process : declared.Process) (same : memory ≡ machine.memory) (there : Some process ≡ get machine.processes p) where
   found_is : get (wholes machine).processes p ≡ Some (whole_in (spaces_of machine) p process)
   found_is = processes_at machine p ∙ ap (option_map (whole_in (spaces_of machine) p)) (sym there)
 
   pub looks_are : (result : Result (Unit {0}) Code) → result ≡ look_denied (first_denied (memory_of (state_of memory) p) 0 address n)
       → CanRead (wholes machine).processes p address n result
   looks_are result is =
-      is ∙ ap (λ (m : MemoryView). look_denied (first_denied (memory_of (state_of m) p) 0 address n)) same ∙ sym (ap (look_of address n) found_is)
+      is ∙ ap (λ (m : TranslatedView). look_denied (first_denied (memory_of (state_of m) p) 0 address n)) same ∙ sym (ap (look_of address n) found_is)
 
   pub bytes_are : (result : Result (Unit {0}) Code) (into : List ℕ) → OnOk result (into ≡ bytes_at (memory_of (state_of memory) p) address n)
       → ReadsBytes (wholes machine).processes p address n into result
-  bytes_are (Ok done) into is = is ∙ ap (λ (m : MemoryView). bytes_at (memory_of (state_of m) p) address n) same ∙ sym (ap (bytes_in address n) found_is)
+  bytes_are (Ok done) into is = is ∙ ap (λ (m : TranslatedView). bytes_at (memory_of (state_of m) p) address n) same ∙ sym (ap (bytes_in address n) found_is)
   bytes_are (Err code) into is = tt

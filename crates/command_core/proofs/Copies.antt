@@ -7,18 +7,20 @@ use Rattle.std.proofs.lemmas.Bool.Decides.{nat_tests}
 use Rattle.number_maps.specs.Keys.{alike, by_key, get_other, get_same, removed_other, removed_same}
 use Rattle.ledger.specs.Events.{Copy}
 use Rattle.overlay_pages.specs.State.{SpaceState, State, base_of}
-use Rattle.overlay_pages.specs.View.{MemoryView, state_of}
+use Rattle.overlay_memory.specs.View.{TranslatedView, state_of, translations_of}
 use Rattle.overlay_memory.specs.declared.error.SpaceError.{SpaceError}
 use Rattle.overlay_memory.specs.declared.error.SpaceError.TheVariants as error
 use Rattle.space_maps.specs.Spaces.{bare_space, cut_space, holds_space, space_in}
 use Rattle.fork_checkpoint.specs.Copied.{Copies, HasCopied}
 use Rattle.machine_core.specs.declared.process.Process as declared
-use Rattle.machine_core.specs.Machine.{IsDropped, Machine, Wholes, has_space, kept_whole, none_saved, spaces_of, whole_in, wholes, with_memory, with_process_at}
+use Rattle.machine_core.specs.Machine.{IsDropped, Machine, Wholes, has_space, kept_whole, none_saved, spaces_of, whole_in, wholes, with_memory, with_process_at, lists_of}
 use Rattle.machine_core.specs.Load.{IsAsBefore}
 use Rattle.machine_core.specs.LoadLaws.{same_wholes}
+use Rattle.translation_cache.specs.Translations.{flushed}
+use Rattle.translation_cache.specs.Bare.{BareTranslations}
 use Rattle.command_core.specs.State.{AreLikeStates, Checkpoint, State as Shown}
 use Rattle.command_core.specs.Sessions.{KeepsSession, state_of as shown_by}
-use Rattle.command_core.specs.Rows.{Row, TakesLast, event_needs, first_refusal, is_event_full, ledger_by}
+use Rattle.command_core.specs.Rows.{Row, TakesLast, event_needs, first_refusal, is_event_full, ledger_by, flushed_by}
 use Rattle.command_core.specs.Giving.{GivesChange}
 use Rattle.command_core.specs.Changes.{answer_of}
 use Rattle.command_core.specs.LikeLaws.{states_itself}
@@ -53,7 +55,8 @@ number_other r q other = by_test (r == q) refl
     by_test false e = e
     by_test true e = absurd (other (is_same e))
 
-module _ (from to : ℕ) (old : Machine) (memory : MemoryView) (copied : HasCopied (spaces_of old) (state_of memory) from to) where
+module _ (flushes : Option ℕ) (from to : ℕ) (old : Machine) (memory : TranslatedView) (copied : HasCopied (spaces_of old) (state_of memory) from to)
+    (lists : translations_of memory ≡ flushed_by flushes (lists_of old)) where
   abbrev mid : Machine
   mid = with_memory old memory
 
@@ -64,22 +67,22 @@ module _ (from to : ℕ) (old : Machine) (memory : MemoryView) (copied : HasCopi
   others_there r other = copied.spaces r ∙ ap (λ b. b || holds_space (spaces_of old) r) (number_other r to other)
 
   -- the space given up again
-  taken_back : (new : Machine) → has_space old to ≡ false → IsDropped to mid new → IsAsBefore old new
+  taken_back : (new : Machine) → has_space old to ≡ false → flushed to (translations_of memory) ≡ lists_of old → IsDropped to mid new → IsAsBefore old new
   unfolding cut_space
-  taken_back new absent dropped =
+  taken_back new absent unseen dropped =
       let spaces : remove (state_of memory).spaces to ≡ (spaces_of old).spaces = alike _ _ (λ r. by_key r to
       (λ same. removed_same (state_of memory).spaces to r same ∙ sym (ap (get (spaces_of old).spaces) same ∙ none_is (get (spaces_of old).spaces to) absent))
       (λ other. removed_other (state_of memory).spaces to r other ∙ space_same (state_of memory) (spaces_of old) r (others_there r other) (copied.others r other))) in
-      (dropped.spaces ∙ (λ i. record { spaces = spaces i; frames = copied.frames i; zero_frame = copied.zero_frame i }), dropped.processes)
+      (dropped.spaces ∙ (λ i. record { spaces = spaces i; frames = copied.frames i; zero_frame = copied.zero_frame i }), dropped.lists ∙ unseen, dropped.processes)
 
   -- the space alone
-  is_saved : get old.processes to ≡ None → IsSaved from to old mid
+  is_saved : translations_of memory ≡ lists_of old → get old.processes to ≡ None → IsSaved from to old mid
   unfolding ledger_by
-  is_saved absent =
+  is_saved same absent =
       let processes = processes_kept old memory to copied.others absent in
       record {
         memory = copied.memory;
-        after = λ i. record { processes = processes i; ledger = copied.ledger i; frames = copied.frames i };
+        after = λ i. record { processes = processes i; ledger = copied.ledger i; frames = copied.frames i; translations = same i };
         there = space_made;
         settled = copied.awaiting;
         unmarked = copied.mark;
@@ -96,12 +99,12 @@ module _ (from to : ℕ) (old : Machine) (memory : MemoryView) (copied : HasCopi
         ∙ sym (ap (λ b. cond b (Some (kept_whole (base_of (spaces_of old) from) saved)) None) unmarked) in
         λ i. record { registers = process.regs; state = process.state; memory = copied.memory i; kept = kept i }
 
-    is_copied : IsCopied from to process old (with_process_at mid to process)
+    is_copied : IsCopied flushes from to process old (with_process_at mid to process)
     unfolding ledger_by
     is_copied =
         let all_are = processes_put old memory to copied.others process (whole_in (spaces_of old) from process) whole_is in
         record {
-          after = λ i. record { processes = all_are i; ledger = copied.ledger i; frames = copied.frames i };
+          after = λ i. record { processes = all_are i; ledger = copied.ledger i; frames = copied.frames i; translations = lists i };
           adopted = get_same old.processes to to process refl;
           there = space_made;
           settled = copied.awaiting;
@@ -112,39 +115,46 @@ module _ (from to : ℕ) (old : Machine) (memory : MemoryView) (copied : HasCopi
           };
         }
 
-module _ (from to : ℕ) (old new : Machine) (memory : MemoryView) where
+-- where the lists stay, and nothing of the space was translated
+unseen_by : (to : ℕ) (t u : BareTranslations) → t ≡ u → flushed to u ≡ u → flushed to t ≡ u
+unseen_by to t u same unseen = ap (flushed to) same ∙ unseen
+
+module _ (from to : ℕ) (old new : Machine) (memory : TranslatedView) where
   -- how a fork comes out, where the space was made
   pub forks_made : (process : declared.Process) (r : Result (Unit {0}) SpaceError)
-      → Copies old.memory memory from to (Ok tt) → (space_in (spaces_of old) from).speculating ≡ false → has_space old to ≡ false
-      → Adopts to process (with_memory old memory) new r → CopiesProcess from to process old new r
-  forks_made process (Ok done) (within, copied) unmarked no_space same =
-      (fits (Copy from to) old within, subst (IsCopied from to process old) (sym same) (is_copied from to old memory copied process unmarked))
-  forks_made process (Err (error.Full needed limit)) (within, copied) unmarked no_space h = absurd h
-  forks_made process (Err error.Memory) (within, copied) unmarked no_space dropped =
-      (fits (Copy from to) old within, taken_back from to old memory copied new no_space dropped)
+      → Copies old.memory memory from to (Ok tt) → translations_of memory ≡ lists_of old → flushed to (lists_of old) ≡ lists_of old
+      → (space_in (spaces_of old) from).speculating ≡ false → has_space old to ≡ false
+      → Adopts to process (with_memory old memory) new r → CopiesProcess None from to process old new r
+  forks_made process (Ok done) (within, copied) lists unseen unmarked no_space same =
+      (fits (Copy from to) old within, subst (IsCopied None from to process old) (sym same) (is_copied None from to old memory copied lists process unmarked))
+  forks_made process (Err (error.Full needed limit)) (within, copied) lists unseen unmarked no_space h = absurd h
+  forks_made process (Err error.Memory) (within, copied) lists unseen unmarked no_space dropped =
+      (fits (Copy from to) old within, taken_back None from to old memory copied lists new no_space (unseen_by to _ _ lists unseen) dropped)
 
   -- how a restore does
-  pub restores_made : (process : declared.Process) → Copies old.memory memory from to (Ok tt) → (space_in (spaces_of old) from).speculating ≡ false
-      → new ≡ with_process_at (with_memory old memory) to process → CopiesProcess from to process old new (Ok tt)
-  restores_made process (within, copied) unmarked same =
-      (fits (Copy from to) old within, subst (IsCopied from to process old) (sym same) (is_copied from to old memory copied process unmarked))
+  pub restores_made : (process : declared.Process) → Copies old.memory memory from to (Ok tt) → translations_of memory ≡ flushed to (lists_of old)
+      → (space_in (spaces_of old) from).speculating ≡ false
+      → new ≡ with_process_at (with_memory old memory) to process → CopiesProcess (Some to) from to process old new (Ok tt)
+  restores_made process (within, copied) lists unmarked same =
+      (fits (Copy from to) old within, subst (IsCopied (Some to) from to process old) (sym same) (is_copied (Some to) from to old memory copied lists process unmarked))
 
   -- and a checkpoint
-  pub saves_made : {T : Type 0} (r : Result T SpaceError) → Copies old.memory memory from to (Ok tt) → has_space old to ≡ false → get old.processes to ≡ None
+  pub saves_made : {T : Type 0} (r : Result T SpaceError) → Copies old.memory memory from to (Ok tt) → translations_of memory ≡ lists_of old
+      → flushed to (lists_of old) ≡ lists_of old → has_space old to ≡ false → get old.processes to ≡ None
       → Enters to (with_memory old memory) new r → SavesSpace from to old new r
-  saves_made (Ok done) (within, copied) no_space no_process same =
-      (fits (Copy from to) old within, subst (IsSaved from to old) (sym same) (is_saved from to old memory copied no_process))
-  saves_made (Err (error.Full needed limit)) (within, copied) no_space no_process h = absurd h
-  saves_made (Err error.Memory) (within, copied) no_space no_process dropped =
-      (fits (Copy from to) old within, taken_back from to old memory copied new no_space dropped)
+  saves_made (Ok done) (within, copied) lists unseen no_space no_process same =
+      (fits (Copy from to) old within, subst (IsSaved from to old) (sym same) (is_saved None from to old memory copied lists lists no_process))
+  saves_made (Err (error.Full needed limit)) (within, copied) lists unseen no_space no_process h = absurd h
+  saves_made (Err error.Memory) (within, copied) lists unseen no_space no_process dropped =
+      (fits (Copy from to) old within, taken_back None from to old memory copied lists new no_space (unseen_by to _ _ lists unseen) dropped)
 
 -- and where it wasn't made
-pub copies_not : (from to : ℕ) (old : Machine) (memory : MemoryView) (e : SpaceError) → Copies old.memory memory from to (Err e)
-    → CopyFails from to old (with_memory old memory) e
-copies_not from to old memory (error.Full needed limit) full =
+pub copies_not : (from to : ℕ) (old : Machine) (memory : TranslatedView) (e : SpaceError) → Copies old.memory memory from to (Err e)
+    → translations_of memory ≡ lists_of old → CopyFails from to old (with_memory old memory) e
+copies_not from to old memory (error.Full needed limit) full lists =
     let f = is_short (Copy from to) old memory needed limit full in
     (f.needed_is, f.limit_is, f.full, f.same)
-copies_not from to old memory error.Memory (within, same) = (fits (Copy from to) old within, (same, refl))
+copies_not from to old memory error.Memory (within, same) lists = (fits (Copy from to) old within, (same, lists, refl))
 
 -- What stays where nothing was made, and what a row comes to that copies a space.
 

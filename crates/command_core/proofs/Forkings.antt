@@ -5,7 +5,7 @@ use Rattle.std.specs.Option.{is_some, option_map_or}
 use Rattle.std.specs.FinMap.{get}
 use Rattle.number_maps.specs.Keys.{get_same}
 use Rattle.sizes.specs.declared.TheConstants.{LAST_SPACE}
-use Rattle.overlay_pages.specs.View.{MemoryView, state_of as spaces_in}
+use Rattle.overlay_memory.specs.View.{TranslatedView, state_of as spaces_in}
 use Rattle.overlay_memory.specs.declared.error.SpaceError.{SpaceError}
 use Rattle.space_maps.specs.Spaces.{space_in}
 use Rattle.machine_core.specs.Process.{Process}
@@ -34,11 +34,11 @@ abbrev pub mark_in : Machine → ℕ → Bool
 mark_in machine p = (space_in (spaces_of machine) p).speculating
 
 -- why it is refused, by what the memory tells
-pub refusal_by : (old : Machine) (drawn p : ℕ) (process : declared.Process) (mark : Bool) (memory : MemoryView) (o : Option Code)
+pub refusal_by : (old : Machine) (drawn p : ℕ) (process : declared.Process) (mark : Bool) (memory : TranslatedView) (o : Option Code)
     → o ≡ first_refusal (fork_refusals process.state mark drawn) → mark ≡ (space_in (spaces_in memory) p).speculating → memory ≡ old.memory
     → first_refusal (fork_refusals process.state (mark_in old p) drawn) ≡ o
 refusal_by old drawn p process mark memory o is marked same =
-    let here : mark ≡ mark_in old p = marked ∙ ap (λ (m : MemoryView). (space_in (spaces_in m) p).speculating) same in
+    let here : mark ≡ mark_in old p = marked ∙ ap (λ (m : TranslatedView). (space_in (spaces_in m) p).speculating) same in
     sym (is ∙ ap (λ b. first_refusal (fork_refusals process.state b drawn)) here)
 
 module _ (old : Machine) (xs : List Kept) (breaks : Breaks) (drawn p : ℕ) (process : declared.Process) where
@@ -61,7 +61,7 @@ module _ (old : Machine) (xs : List Kept) (breaks : Breaks) (drawn p : ℕ) (pro
   -- it isn't refused
   module _ (new : Machine) (is : IsSession old (spaces_kept xs) drawn) (there : get old.processes p ≡ Some process)
       (taken : first_refusal (fork_refusals process.state (mark_in old p) drawn) ≡ None) (unbroken : get breaks (drawn + 1) ≡ None) where
-    pub forked : CopiesProcess p (drawn + 1) process old new (Ok tt)
+    pub forked : CopiesProcess None p (drawn + 1) process old new (Ok tt)
         → GivesChange (on_process p (fork_row p) (registry_of before)) before (Forked p (drawn + 1)) (shown_state new xs breaks (drawn + 1))
     forked (enough, copied) =
         let after = state_of new kept breaks (drawn + 1) in
@@ -83,7 +83,7 @@ abbrev saved_of : Option declared.Process → Bool
 saved_of found = option_map_or (λ (x : declared.Process). is_some x.saved) found false
 
 pub session_forked : (old new : Machine) (spaces : List ℕ) (drawn p : ℕ) (process : declared.Process) → IsSession old spaces drawn → drawn + 1 ≤ LAST_SPACE
-    → get old.processes p ≡ Some process → CopiesProcess p (drawn + 1) process old new (Ok tt) → IsSession new spaces (drawn + 1)
+    → get old.processes p ≡ Some process → CopiesProcess None p (drawn + 1) process old new (Ok tt) → IsSession new spaces (drawn + 1)
 session_forked old new spaces drawn p process is below there (enough, copied) =
     let q = drawn + 1 in
     let whole : Process = whole_in (spaces_of old) p process in

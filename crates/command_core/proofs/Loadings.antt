@@ -39,7 +39,12 @@ load_full : (p : ℕ) (file : List ℕ) (w : Wholes) → is_load_full p file w �
 load_full p file w = ap (nat_lt (limit_of w.frames)) (load_needed p file w)
 
 like_accepted : (p : ℕ) (file : List ℕ) (a w : Wholes) → AreLike a (with_loaded p file w)
-    → AreLike a (record { processes = insert w.processes p (loaded_process file); ledger = ledger_by (event.Load p (load_pages file)) w.ledger; frames = w.frames })
+    → AreLike a (record {
+      processes = insert w.processes p (loaded_process file);
+      ledger = ledger_by (event.Load p (load_pages file)) w.ledger;
+      frames = w.frames;
+      translations = w.translations;
+    })
 unfolding ledger_by loaded_ledger
 like_accepted p file a w like = like
 

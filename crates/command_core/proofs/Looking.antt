@@ -14,7 +14,7 @@ use Rattle.ovl_io.specs.declared.process_state.ProcessState.{ProcessState}
 use Rattle.rv_execute.specs.Registers.{Registers}
 use Rattle.ledger.specs.Units.{own_lines, units}
 use Rattle.overlay_pages.specs.State.{State, books, memory_of, seen_page}
-use Rattle.overlay_pages.specs.View.{MemoryView, state_of}
+use Rattle.overlay_memory.specs.View.{TranslatedView, state_of, translations_of}
 use Rattle.space_maps.specs.Spaces.{space_in}
 use Rattle.machine_core.specs.declared.process.Process as declared
 use Rattle.machine_core.specs.Machine.{Machine, Wholes, keys_from, limit_of, registers_at, registers_of, registers_shown, spaces_of, whole_in, wholes}
@@ -165,11 +165,9 @@ kept_within machine xs drawn index x is found =
     omega (arith, inside, count, same, is.few)
 
 -- The counts, by those of the memory.
-pub counts_are : (machine : Machine) (memory : MemoryView) (used most own : ℕ) → memory ≡ machine.memory → used ≡ units (books (state_of memory))
-    → most ≡ limit_of (state_of memory).frames → own ≡ own_lines (books (state_of memory))
-    → ◌≡◌ {A = Counts} (record { units = used; limit = most; lines = own; hits = 0; misses = 0 }) (counts_of (wholes machine))
-counts_are machine memory used most own same is_used is_most is_own =
-    ap (λ n. record { units = n; limit = most; lines = own; hits = 0; misses = 0 }) is_used
-    ∙ ap (λ n. record { units = units (books (state_of memory)); limit = n; lines = own; hits = 0; misses = 0 }) is_most
-    ∙ ap (λ n. record { units = units (books (state_of memory)); limit = limit_of (state_of memory).frames; lines = n; hits = 0; misses = 0 }) is_own
-    ∙ ap (λ (m : MemoryView). counts_of (wholes (record { memory = m; processes = machine.processes }))) same
+pub counts_are : (machine : Machine) (memory : TranslatedView) (used most own hits misses : ℕ) → memory ≡ machine.memory → used ≡ units (books (state_of memory))
+    → most ≡ limit_of (state_of memory).frames → own ≡ own_lines (books (state_of memory)) → hits ≡ (translations_of memory).hits → misses ≡ (translations_of memory).misses
+    → ◌≡◌ {A = Counts} (record { units = used; limit = most; lines = own; hits = hits; misses = misses }) (counts_of (wholes machine))
+counts_are machine memory used most own hits misses same is_used is_most is_own is_hits is_misses =
+    (λ i. record { units = is_used i; limit = is_most i; lines = is_own i; hits = is_hits i; misses = is_misses i })
+    ∙ ap (λ (m : TranslatedView). counts_of (wholes (record { memory = m; processes = machine.processes }))) same

@@ -19,7 +19,7 @@ use Rattle.overlay_pages.specs.Calls.{IsNextPage}
 use Rattle.overlay_pages.specs.Changes.{whole_page, with_zeros}
 use Rattle.overlay_pages.specs.Lines.{zero_page}
 use Rattle.overlay_pages.specs.State.{PageState, SpaceState, State, base_of, books, held_page, memory_of, seen_page}
-use Rattle.overlay_pages.specs.View.{MemoryView, state_of}
+use Rattle.overlay_memory.specs.View.{TranslatedView, state_of, translations_of}
 use Rattle.overlay_memory.specs.Access.{IsFirstAbsent}
 use Rattle.overlay_memory.specs.StateMemory.{memory_at, memory_put}
 use Rattle.page_table.specs.declared.entry.PageEntry.{PageEntry}
@@ -31,10 +31,11 @@ use Rattle.machine_core.specs.Load.{zero_content}
 use Rattle.machine_core.specs.PageLines.{zero_bytes_are}
 use Rattle.machine_core.specs.Process.{Process}
 use Rattle.machine_core.specs.declared.process.Process as declared
-use Rattle.machine_core.specs.Machine.{AreLike, Machine, is_marked, processes_of, spaces_of, whole_in, wholes, with_memory}
+use Rattle.machine_core.specs.Machine.{AreLike, Machine, is_marked, processes_of, spaces_of, whole_in, wholes, with_memory, lists_of}
 use Rattle.report_text.specs.declared.answer.Answer.TheVariants.{Done, Refused}
 use Rattle.report_text.specs.declared.answer.Code.{Code}
 use Rattle.report_text.specs.declared.answer.Code.TheVariants.{Mapped, Outside}
+use Rattle.translation_cache.specs.Translations.{flushed}
 use Rattle.command_core.specs.declared.overlays.OverlayChange.TheVariants.{Map, Unmap}
 use Rattle.command_core.specs.State.{Registry}
 use Rattle.command_core.specs.Sessions.{KeepsSession}
@@ -43,7 +44,7 @@ use Rattle.command_core.specs.Refusals.{are_too_many, has_page, lacks_page, lie_
 use Rattle.command_core.specs.Mapping.{FindsGap, FindsPage, RefusesMap, RefusesUnmap}
 use Rattle.command_core.specs.Overlays.{ChangesOverlays, overlay_row, pages_gone, pages_mapped, with_pages}
 use Rattle.command_core.proofs.Rows.{machine_done, machine_refused}
-use Rattle.command_core.proofs.Speculating.{kept_before, kept_by, put_again, saved_here, speculates, stays, wholes_are}
+use Rattle.command_core.proofs.Speculating.{kept_before, kept_by, put_again, saved_here, speculates, stays, wholes_are, wholes_left}
 
 -- Pages that are mapped, and that are given up.
 
@@ -285,14 +286,14 @@ pages_cut old p page n there = record {
 }
 
 -- The process, with its memory so.
-module _ (p : ℕ) (process : declared.Process) (old : Machine) (memory : MemoryView) (there : get old.processes p ≡ Some process) where
+module _ (p : ℕ) (process : declared.Process) (old : Machine) (memory : TranslatedView) (there : get old.processes p ≡ Some process) where
   abbrev before : Process
   before = whole_in (spaces_of old) p process
 
   abbrev mid : Machine
   mid = with_memory old memory
 
-  module _ (e : Event) (left : Memory) (is : IsRemade e left (spaces_of old) (state_of memory) p) where
+  module _ (e : Event) (left : Memory) (is : IsRemade e left (spaces_of old) (state_of memory) p) (lists : translations_of memory ≡ flushed p (lists_of old)) where
     whole_is : is_marked old p ≡ false → whole_in (state_of memory) p process ≡ with_pages left before
     whole_is unmarked =
         let kept = kept_by p process old memory there process.saved false (base_of (state_of memory) p) (is.keeps.marks p ∙ unmarked) refl
@@ -300,13 +301,13 @@ module _ (p : ℕ) (process : declared.Process) (old : Machine) (memory : Memory
         λ i. record { registers = process.regs; state = process.state; memory = is.memory i; kept = kept i }
 
     remade_like : is_marked old p ≡ false → AreLike (wholes mid)
-        (record { processes = insert (processes_of old) p (with_pages left before); ledger = ledger_by e (books (spaces_of old)); frames = (spaces_of old).frames })
+        (wholes_left e (Some p) old (insert (processes_of old) p (with_pages left before)))
     remade_like unmarked =
         subst (λ (m : Machine). AreLike (wholes m)
-        (record { processes = insert (processes_of old) p (with_pages left before); ledger = ledger_by e (books (spaces_of old)); frames = (spaces_of old).frames }))
+        (wholes_left e (Some p) old (insert (processes_of old) p (with_pages left before))))
         (put_again p process old memory there)
-        (wholes_are p process old memory there e process (with_pages left before) (whole_is unmarked) is.others
-        (subst (AreAlike (books (state_of memory))) is.ledger (alike_itself (books (state_of memory)))) is.keeps.frames)
+        (wholes_are p process old memory there e process (with_pages left before) (whole_is unmarked) is.others (Some p)
+        (subst (AreAlike (books (state_of memory))) is.ledger (alike_itself (books (state_of memory)))) is.keeps.frames lists)
 
     remade_stays : is_marked old p ≡ false → KeepsSession old mid
     remade_stays unmarked =
@@ -340,14 +341,14 @@ module _ (p : ℕ) (process : declared.Process) (old : Machine) (memory : Memory
 
       pub mapped : holds_space (spaces_of old) p ≡ true → RefusesMap (spaces_of old) p address n None
           → state_of memory ≡ with_zeros (spaces_of old) p page n (record { perms = perms; frame = (spaces_of old).zero_frame })
-          → ChangesOverlays p (Map address n perms) process old Done mid
-      mapped here (is, free) put =
+          → translations_of memory ≡ flushed p (lists_of old) → ChangesOverlays p (Map address n perms) process old Done mid
+      mapped here (is, free) put lists =
           let e = event.Map p page n in
           let left = pages_mapped perms.0 page n (memory_of (spaces_of old) p) in
           let unmarked = unmarked_by _ _ _ is in
           let remade = remade_by e left (spaces_of old) _ (state_of memory) p put (zeros_put (spaces_of old) p page n perms here) in
-          machine_done maps old mid (map_refusal_is address n perms None is) (λ kept breaks drawn. refl) (λ r. refl) (λ kept breaks drawn. remade_like e left remade unmarked)
-          (λ r. refl) (λ r. refl) (λ r. refl) (remade_stays e left remade unmarked)
+          machine_done maps old mid (map_refusal_is address n perms None is) (λ kept breaks drawn. refl) (λ r. refl) (λ kept breaks drawn. remade_like e left remade lists unmarked)
+          (λ r. refl) (λ r. refl) (λ r. refl) (remade_stays e left remade lists unmarked)
 
       pub map_refused : (code : Code) → RefusesMap (spaces_of old) p address n (Some code) → ChangesOverlays p (Map address n perms) process old (Refused code) old
       map_refused code (is, told) = machine_refused maps old old code (map_refusal_is address n perms (Some code) is) refl
@@ -356,14 +357,14 @@ module _ (p : ℕ) (process : declared.Process) (old : Machine) (memory : Memory
     gives_up = overlay_row p (Unmap address n) before
 
     pub unmapped : holds_space (spaces_of old) p ≡ true → RefusesUnmap (spaces_of old) p address n None → state_of memory ≡ cut_pages (spaces_of old) p page n
-        → ChangesOverlays p (Unmap address n) process old Done mid
-    unmapped here (is, all) cut =
+        → translations_of memory ≡ flushed p (lists_of old) → ChangesOverlays p (Unmap address n) process old Done mid
+    unmapped here (is, all) cut lists =
         let e = event.Unmap p page n in
         let left = pages_gone page n (memory_of (spaces_of old) p) in
         let unmarked = unmarked_by _ _ _ is in
         let remade = remade_by e left (spaces_of old) _ (state_of memory) p cut (pages_cut (spaces_of old) p page n here) in
-        machine_done gives_up old mid (unmap_refusal_is address n None is) (λ kept breaks drawn. refl) (λ r. refl) (λ kept breaks drawn. remade_like e left remade unmarked)
-        (λ r. refl) (λ r. refl) (λ r. refl) (remade_stays e left remade unmarked)
+        machine_done gives_up old mid (unmap_refusal_is address n None is) (λ kept breaks drawn. refl) (λ r. refl) (λ kept breaks drawn. remade_like e left remade lists unmarked)
+        (λ r. refl) (λ r. refl) (λ r. refl) (remade_stays e left remade lists unmarked)
 
     pub unmap_refused : (code : Code) → RefusesUnmap (spaces_of old) p address n (Some code) → ChangesOverlays p (Unmap address n) process old (Refused code) old
     unmap_refused code (is, told) = machine_refused gives_up old old code (unmap_refusal_is address n (Some code) is) refl

@@ -9,13 +9,16 @@ use Rattle.number_maps.specs.Keys.{alike, by_key, get_other, get_same, removed_o
 use Rattle.sizes.specs.declared.TheConstants.{LAST_SPACE}
 use Rattle.overlay_pages.specs.Calls.{IsEmptyState}
 use Rattle.overlay_pages.specs.State.{SpaceState, State, base_of, books, held_page}
-use Rattle.overlay_pages.specs.View.{MemoryView, state_of as spaces_in}
+use Rattle.translation_cache.specs.Translations.{no_translations}
+use Rattle.command_core.specs.State.{fresh}
+use Rattle.overlay_memory.specs.View.{state_of as spaces_in}
+use Rattle.overlay_memory.specs.View.{TranslatedView}
 use Rattle.space_maps.specs.Books.{books_empty}
 use Rattle.space_maps.specs.Laws.{space_absent, space_left}
 use Rattle.space_maps.specs.Spaces.{cut_space, holds_space, space_in}
 use Rattle.machine_core.specs.Process.{Process, is_speculating, runs}
 use Rattle.machine_core.specs.declared.process.Process as declared
-use Rattle.machine_core.specs.Machine.{KeepsPlaces, Machine, Processes, StaysBut, has_saved, has_space, is_marked, is_running, kept_whole, none_saved, processes_of, shown_process, spaces_of, whole_in, wholes, with_memory, with_process_at, Wholes}
+use Rattle.machine_core.specs.Machine.{KeepsPlaces, Machine, Processes, StaysBut, has_saved, has_space, is_marked, is_running, kept_whole, lists_of, none_saved, processes_of, shown_process, spaces_of, whole_in, wholes, with_memory, with_process_at, Wholes}
 use Rattle.machine_core.specs.Laws.{processes_at, runs_shown, whole_by}
 use Rattle.machine_core.specs.Load.{IsAsBefore, IsLoaded, loaded_process}
 use Rattle.round_robin.specs.MemberLaws.{next_has}
@@ -141,8 +144,8 @@ module _ (machine : Machine) (frames : ℕ) (none : IsEmptyState frames (spaces_
   no_wholes : processes_of machine ≡ empty
   no_wholes = alike _ _ (λ q. processes_at machine q ∙ ap (option_map (whole_in (spaces_of machine) q)) (no_process_yet q) ∙ sym (get-empty nat_cmp q))
 
-  pub wholes_start : wholes machine ≡ record { processes = empty; ledger = empty; frames = frames }
-  wholes_start = λ i. record { processes = no_wholes i; ledger = no_books i; frames = none.count i }
+  pub wholes_start : lists_of machine ≡ no_translations → wholes machine ≡ (fresh frames).wholes
+  wholes_start no_lists = λ i. record { processes = no_wholes i; ledger = no_books i; frames = none.count i; translations = no_lists i }
 
 -- a free space isn't the next one
 not_next : (machine : Machine) (spaces : List ℕ) (drawn q : ℕ) → IsSession machine spaces drawn → IsFree machine q → q ≡ drawn + 1 → ⊥
@@ -211,7 +214,7 @@ keeps_same old new same = record {
 
 pub keeps_before : (old new : Machine) → IsAsBefore old new → KeepsSession old new
 keeps_before old new same = record {
-  session = λ spaces drawn is. session_same old new spaces drawn is same.0 same.1;
+  session = λ spaces drawn is. session_same old new spaces drawn is same.0 same.2;
   free = λ q none. ap (λ (s : State). space_in s q) same.0;
 }
 
@@ -272,7 +275,7 @@ next_same old new spaces drawn is others =
     each (IsFree old) (λ q. space_in (spaces_of new) q ≡ space_in (spaces_of old) q) spaces (λ q h. others.spaces q (not_next old spaces drawn q is h)) is.free
 
 -- A process put where its space alone changed.
-module _ (old : Machine) (memory : MemoryView) (p : ℕ) (others : (q : ℕ) → (q ≡ p → ⊥) → space_in (spaces_in memory) q ≡ space_in (spaces_of old) q) where
+module _ (old : Machine) (memory : TranslatedView) (p : ℕ) (others : (q : ℕ) → (q ≡ p → ⊥) → space_in (spaces_in memory) q ≡ space_in (spaces_of old) q) where
   others_by : (q : ℕ) → (q ≡ p → ⊥) → (o : Option declared.Process) → option_map (whole_in (spaces_in memory) q) o ≡ option_map (whole_in (spaces_of old) q) o
   others_by q other None = refl
   others_by q other (Some x) = ap Some (whole_by (spaces_in memory) (spaces_of old) q (others q other) x)

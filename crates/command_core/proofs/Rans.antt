@@ -39,11 +39,11 @@ left_more turns taken h = omega arith
 -- the first of some turns
 pub ran_first : (breaks : Breaks) (processes : Wholes) (run : Progress) (p : ℕ) → last_break breaks processes run ≡ None → run.taken < run.turns
     → next_of processes run.order ≡ Some p
-    → ran_from breaks processes run ≡ event_then p (turn_of processes p) (ran_from breaks (after_turn processes p) (run_after p run)) processes run
+    → ran_from breaks processes run ≡ event_then p (turn_of processes p) (ran_from breaks (after_turn processes p) (run_after p run)) (after_turn processes p) run
 ran_first breaks processes run p unbroken below next =
     ap (λ left. ran breaks left processes run) (left_more run.turns run.taken below)
     ∙ ran_more breaks processes run unbroken (run.turns - (run.taken + 1))
-    ∙ ap (λ n. turns_by (turn_of processes) n (λ q. ran breaks (run.turns - (run.taken + 1)) (after_turn processes q) (run_after q run)) processes run) next
+    ∙ ap (λ n. turns_by (turn_of processes) (after_turn processes) n (λ q. ran breaks (run.turns - (run.taken + 1)) (after_turn processes q) (run_after q run)) processes run) next
 
 -- one that isn't answered Full is counted
 goes_on : (p : ℕ) (t : Turn) (others : Ran Wholes) (processes : Wholes) (run : Progress) → is_full_turn t ≡ false → event_then p t others processes run ≡ first_event p t others
@@ -58,14 +58,14 @@ pub ran_counted : (breaks : Breaks) (processes : Wholes) (run : Progress) (p : �
     → ran_from breaks processes run ≡ first_event p (turn_of processes p) (ran_from breaks (after_turn processes p) (run_after p run))
 ran_counted breaks processes run p unbroken below next counted =
     ran_first breaks processes run p unbroken below next
-    ∙ goes_on p (turn_of processes p) (ran_from breaks (after_turn processes p) (run_after p run)) processes run counted
+    ∙ goes_on p (turn_of processes p) (ran_from breaks (after_turn processes p) (run_after p run)) (after_turn processes p) run counted
 
 -- one that is answered Full is the last
 pub ran_full : (breaks : Breaks) (processes : Wholes) (run : Progress) (p units limit : ℕ) → last_break breaks processes run ≡ None → run.taken < run.turns → next_of processes run.order ≡ Some p → turn_of processes p ≡ turn.Full units limit
-    → ran_from breaks processes run ≡ first_event p (turn.Full units limit) (stopped Full processes run)
+    → ran_from breaks processes run ≡ first_event p (turn.Full units limit) (stopped Full (after_turn processes p) run)
 ran_full breaks processes run p units limit unbroken below next full =
     ran_first breaks processes run p unbroken below next
-    ∙ ap (λ t. event_then p t (ran_from breaks (after_turn processes p) (run_after p run)) processes run) full
+    ∙ ap (λ t. event_then p t (ran_from breaks (after_turn processes p) (run_after p run)) (after_turn processes p) run) full
 
 pub text_first : (p : ℕ) (turn : Turn) (others : Ran Wholes) → ran_text (first_event p turn others) ≡ turn_text p turn ++ ran_text others
 text_first p turn others =

@@ -1,4 +1,4 @@
-use Rattle.std.proofs.Common.{◌≡◌, ℕ, ap, ◌∙◌, refl, Some}
+use Rattle.std.proofs.Common.{◌≡◌, ℕ, ap, ◌∙◌, refl, Some, None}
 use Rattle.std.specs.FinMap.{get}
 use Rattle.ledger.specs.AlikeLaws.{alike_itself}
 use Rattle.ledger.specs.Events as event
@@ -29,7 +29,7 @@ module _ (p register value : ℕ) (process : declared.Process) (old : Machine) (
   pub register_set : ChangesOverlays p (Set register value) process old Done (with_process_at old p put)
   register_set =
       machine_done (overlay_row p (Set register value) before) old (with_process_at old p put) (λ r. refl) (λ kept breaks drawn. refl) (λ r. refl)
-      (λ kept breaks drawn. wholes_are p process old old.memory there event.Other put (after_set register value before) put_is (λ q other. refl) (alike_itself (books (spaces_of old))) refl)
+      (λ kept breaks drawn. wholes_are p process old old.memory there event.Other put (after_set register value before) put_is (λ q other. refl) None (alike_itself (books (spaces_of old))) refl refl)
       (λ r. refl) (λ r. refl) (λ r. refl)
       (stays p process old old.memory there event.Other put (after_set register value before) put_is (λ q other. refl) (λ q. refl) refl
       (λ h. h ∙ saved_here p process old old.memory there))

@@ -8,7 +8,7 @@ use Rattle.machine_core.specs.Process.{Process}
 use Rattle.machine_core.specs.declared.process.Process as declared
 use Rattle.ledger.specs.Events.{Event}
 use Rattle.overlay_pages.specs.Changes.{limit_of as limit_in}
-use Rattle.overlay_pages.specs.View.{MemoryView}
+use Rattle.overlay_memory.specs.View.{TranslatedView}
 use Rattle.overlay_memory.specs.Room.{FitsAfter, IsFullAt, units_after}
 use Rattle.machine_core.specs.Machine.{AreLike, Machine, limit_of, spaces_of, whole_in, wholes, with_memory}
 use Rattle.machine_core.specs.Laws.{processes_at}
@@ -46,13 +46,13 @@ pub fits : (e : Event) (old : Machine) → FitsAfter e (spaces_of old) → is_ev
 unfolding ledger_by
 fits e old within = not_over (limit_in (spaces_of old)) (units_after e (spaces_of old)) within
 
-pub record IsShort (e : Event) (old : Machine) (memory : MemoryView) (needed limit : ℕ) : Type 0 where
+pub record IsShort (e : Event) (old : Machine) (memory : TranslatedView) (needed limit : ℕ) : Type 0 where
   pub needed_is : needed ≡ event_needs e (wholes old)
   pub limit_is : limit ≡ limit_in (spaces_of old)
   pub full : is_event_full e (wholes old) ≡ true
   pub same : with_memory old memory ≡ old
 
-pub is_short : (e : Event) (old : Machine) (memory : MemoryView) (needed limit : ℕ) → IsFullAt old.memory memory (units_after e (spaces_of old)) needed limit
+pub is_short : (e : Event) (old : Machine) (memory : TranslatedView) (needed limit : ℕ) → IsFullAt old.memory memory (units_after e (spaces_of old)) needed limit
     → IsShort e old memory needed limit
 unfolding ledger_by
 is_short e old memory needed limit full = record {

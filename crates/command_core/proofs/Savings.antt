@@ -6,7 +6,7 @@ use Rattle.std.specs.FinMap.{get}
 use Rattle.number_maps.specs.Keys.{by_key, get_same}
 use Rattle.sizes.specs.declared.TheConstants.{LAST_SPACE}
 use Rattle.overlay_pages.specs.State.{SpaceState, base_of, memory_of}
-use Rattle.overlay_pages.specs.View.{MemoryView, state_of as spaces_in}
+use Rattle.overlay_memory.specs.View.{TranslatedView, state_of as spaces_in}
 use Rattle.overlay_memory.specs.declared.error.SpaceError.{SpaceError}
 use Rattle.space_maps.specs.Spaces.{space_in}
 use Rattle.machine_core.specs.Process.{Process}
@@ -61,8 +61,8 @@ pub taken_is : (xs : List Kept) (told name : List ℕ) (taken : Bool) → told �
 taken_is xs told name taken same is = is ∙ ap (λ n. is_some (kept_named n xs)) same
 
 -- what the memory tells of a mark
-pub told_mark : (old : Machine) (p : ℕ) (mark : Bool) (memory : MemoryView) → mark ≡ (space_in (spaces_in memory) p).speculating → memory ≡ old.memory → mark ≡ mark_in old p
-told_mark old p mark memory marked same = marked ∙ ap (λ (m : MemoryView). (space_in (spaces_in m) p).speculating) same
+pub told_mark : (old : Machine) (p : ℕ) (mark : Bool) (memory : TranslatedView) → mark ≡ (space_in (spaces_in memory) p).speculating → memory ≡ old.memory → mark ≡ mark_in old p
+told_mark old p mark memory marked same = marked ∙ ap (λ (m : TranslatedView). (space_in (spaces_in m) p).speculating) same
 
 module _ (old : Machine) (xs : List Kept) (breaks : Breaks) (drawn p : ℕ) (name : List ℕ) (process : declared.Process) (there : get old.processes p ≡ Some process) where
   abbrev before : State
@@ -149,7 +149,7 @@ module _ (old : Machine) (xs : List Kept) (breaks : Breaks) (drawn p : ℕ) (nam
     abbrev after : State
     after = state_of new kept breaks drawn
 
-    pub restored_done : CopiesProcess x.space p (kept_process x) old new (Ok tt)
+    pub restored_done : CopiesProcess (Some p) x.space p (kept_process x) old new (Ok tt)
         → GivesChange (on_process p (restore_row p name) (registry_of before)) before Done (shown_state new xs breaks drawn)
     restored_done (enough, copied) =
         let row = restores_by false (Some x) in
@@ -161,7 +161,7 @@ module _ (old : Machine) (xs : List Kept) (breaks : Breaks) (drawn p : ℕ) (nam
         (row_accepted row before after refl enough
         (states_same after (accepts row before).after
         (ap (λ (w : Wholes). record { wholes = w; checkpoints = kept; breakpoints = breaks; drawn = drawn })
-        (copied.after ∙ ap (λ (y : Process). with_copied x.space p y (wholes old)) put)))))
+        (copied.after ∙ ap (λ (y : Process). with_copied (Some p) x.space p y (wholes old)) put)))))
 
     pub not_restored : (e : SpaceError) → CopyFails x.space p old new e
         → GivesChange (on_process p (restore_row p name) (registry_of before)) before (answer_of e) (shown_state new xs breaks drawn)
@@ -182,7 +182,7 @@ session_of_saved old new xs drawn p x is below space (enough, saved) =
 
 -- a process put in its place with a copy of a free space
 pub session_of_restored : (old new : Machine) (spaces : List ℕ) (drawn p : ℕ) (x : Kept) → IsSession old spaces drawn → is_some (get old.processes p) ≡ true → IsFree old x.space
-    → CopiesProcess x.space p (kept_process x) old new (Ok tt) → IsSession new spaces drawn
+    → CopiesProcess (Some p) x.space p (kept_process x) old new (Ok tt) → IsSession new spaces drawn
 session_of_restored old new spaces drawn p x is there free (enough, copied) =
     let others = copied.others in
     let whole : Process = whole_in (spaces_of old) x.space (kept_process x) in

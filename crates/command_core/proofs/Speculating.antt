@@ -11,7 +11,8 @@ use Rattle.ledger.specs.Events.{Event, ledger_after}
 use Rattle.ledger.specs.Events as event
 use Rattle.ovl_io.specs.Memory.{Memory, Page}
 use Rattle.overlay_pages.specs.State.{PageState, SpaceState, base_of, books, memory_of, seen_page}
-use Rattle.overlay_pages.specs.View.{MemoryView, state_of}
+use Rattle.overlay_memory.specs.View.{TranslatedView, state_of, translations_of}
+use Rattle.translation_cache.specs.Translations.{flushed}
 use Rattle.overlay_memory.specs.StateMemory.{memory_at}
 use Rattle.space_maps.specs.Spaces.{holds_space, page_in, space_in}
 use Rattle.promotion.specs.Settled.{AreSettled}
@@ -24,7 +25,7 @@ use Rattle.speculation.specs.declared.error.SpeculationError.TheVariants as spec
 use Rattle.machine_core.specs.Process.{Process, Whole, is_speculating, runs}
 use Rattle.machine_core.specs.declared.process.Process as declared
 use Rattle.machine_core.specs.declared.process.SavedRegs.{SavedRegs}
-use Rattle.machine_core.specs.Machine.{AreLike, Machine, Processes, has_saved, is_marked, kept_in, kept_whole, none_saved, processes_of, spaces_of, whole_in, wholes, with_memory, with_process_at}
+use Rattle.machine_core.specs.Machine.{AreLike, Machine, Processes, has_saved, is_marked, kept_in, kept_whole, none_saved, processes_of, spaces_of, whole_in, wholes, with_memory, with_process_at, Wholes, lists_of}
 use Rattle.machine_core.specs.Laws.{processes_at}
 use Rattle.report_text.specs.declared.answer.Answer.TheVariants.{Done, Refused}
 use Rattle.report_text.specs.declared.answer.Code.{Code}
@@ -33,7 +34,7 @@ use Rattle.command_core.specs.declared.overlays.OverlayChange.{OverlayChange}
 use Rattle.command_core.specs.declared.overlays.OverlayChange.TheVariants.{Speculate, Commit, Discard, Promote, PromoteAll}
 use Rattle.command_core.specs.State.{Registry}
 use Rattle.command_core.specs.Sessions.{IsFree, KeepsSession}
-use Rattle.command_core.specs.Rows.{Row, first_refusal, ledger_by, plain_row, refused_if, refused_row}
+use Rattle.command_core.specs.Rows.{Row, first_refusal, flushed_by, ledger_by, plain_row, refused_if, refused_row}
 use Rattle.command_core.specs.Giving.{MachineGives}
 use Rattle.command_core.specs.Refusals.{by_not_speculating, by_speculating}
 use Rattle.command_core.specs.Overlays.{ChangesOverlays, after_commit, after_discard, after_speculate, leaves, overlay_row, promotion_answer, speculation_answer}
@@ -43,11 +44,20 @@ use Rattle.command_core.proofs.Rows.{fits, is_short, machine_done, machine_full,
 
 -- A machine of which the overlays of one process were changed.
 
+-- the copying machine after an event, with these processes, where the translations of a process go
+abbrev pub wholes_left : Event → Option ℕ → Machine → Processes → Wholes
+wholes_left e flushes old processes = record {
+  processes = processes;
+  ledger = ledger_by e (books (spaces_of old));
+  frames = (spaces_of old).frames;
+  translations = flushed_by flushes (lists_of old);
+}
+
 -- what is seen of a process: whether registers and state are kept
 abbrev saved_of : Option declared.Process → Bool
 saved_of found = option_map_or (λ (x : declared.Process). is_some x.saved) found false
 
-module _ (p : ℕ) (process : declared.Process) (old : Machine) (memory : MemoryView) (there : get old.processes p ≡ Some process) where
+module _ (p : ℕ) (process : declared.Process) (old : Machine) (memory : TranslatedView) (there : get old.processes p ≡ Some process) where
   abbrev before : Process
   before = whole_in (spaces_of old) p process
 
@@ -67,10 +77,11 @@ module _ (p : ℕ) (process : declared.Process) (old : Machine) (memory : Memory
     processes_are : processes_of new ≡ insert (processes_of old) p left
     processes_are = processes_put old memory p others put left is
 
-    pub wholes_are : AreAlike (books (state_of memory)) (ledger_after e (books (spaces_of old))) → (state_of memory).frames ≡ (spaces_of old).frames
-        → AreLike (wholes new) (record { processes = insert (processes_of old) p left; ledger = ledger_by e (books (spaces_of old)); frames = (spaces_of old).frames })
+    pub wholes_are : (flushes : Option ℕ) → AreAlike (books (state_of memory)) (ledger_after e (books (spaces_of old)))
+        → (state_of memory).frames ≡ (spaces_of old).frames → translations_of memory ≡ flushed_by flushes (lists_of old)
+        → AreLike (wholes new) (wholes_left e flushes old (insert (processes_of old) p left))
     unfolding ledger_by
-    wholes_are ledger frames = record { processes = processes_are; ledger = ledger; frames = frames }
+    wholes_are flushes ledger frames lists = record { processes = processes_are; ledger = ledger; frames = frames; translations = lists }
 
     pub stays : ((q : ℕ) → holds_space (state_of memory) q ≡ holds_space (spaces_of old) q)
         → (space_in (state_of memory) p).awaiting ≡ (space_in (spaces_of old) p).awaiting
@@ -133,14 +144,14 @@ module _ (p : ℕ) (process : declared.Process) (old : Machine) (memory : Memory
   abbrev begun : declared.Process
   begun = record { regs = process.regs; state = process.state; saved = Some saved }
 
-  pub started : Starts old.memory memory p (Ok tt) → runs process.state ≡ true → ChangesOverlays p Speculate process old Done (with_process_at mid p begun)
-  started (unmarked, within, has) run =
+  pub started : Starts old.memory memory p (Ok tt) → translations_of memory ≡ flushed p (lists_of old) → runs process.state ≡ true → ChangesOverlays p Speculate process old Done (with_process_at mid p begun)
+  started (unmarked, within, has) lists run =
       let s = has.settled in
       let kept = kept_by (Some saved) true (memory_of (spaces_of old) p) s.marked (has.base ∙ s.memory) in
       let is : whole_in (state_of memory) p begun ≡ after_speculate before =
       λ i. record { registers = process.regs; state = process.state; memory = s.memory i; kept = kept i } in
       machine_done begins old (with_process_at mid p begun) (start_refusal false run unmarked) (λ kept breaks drawn. fits (event.Settle p) old within) (λ r. refl)
-      (λ kept breaks drawn. wholes_are (event.Settle p) begun (after_speculate before) is s.others has.ledger s.frames) (λ r. refl) (λ r. refl) (λ r. refl)
+      (λ kept breaks drawn. wholes_are (event.Settle p) begun (after_speculate before) is s.others (Some p) has.ledger s.frames lists) (λ r. refl) (λ r. refl) (λ r. refl)
       (stays (event.Settle p) begun (after_speculate before) is s.others s.spaces s.awaiting (λ h. s.marked))
 
   pub not_started : (e : SpeculationError) → Starts old.memory memory p (Err e) → runs process.state ≡ true → ChangesOverlays p Speculate process old (speculation_answer e) mid
@@ -160,15 +171,15 @@ module _ (p : ℕ) (process : declared.Process) (old : Machine) (memory : Memory
   abbrev forgotten : declared.Process
   forgotten = record { regs = process.regs; state = process.state; saved = None }
 
-  pub has_committed : Commits old.memory memory p (Ok tt) → ChangesOverlays p Commit process old Done (with_process_at mid p forgotten)
-  has_committed (marked, has) =
+  pub has_committed : Commits old.memory memory p (Ok tt) → translations_of memory ≡ flushed p (lists_of old) → ChangesOverlays p Commit process old Done (with_process_at mid p forgotten)
+  has_committed (marked, has) lists =
       let s = has.settled in
       let kept = kept_by None false (base_of (state_of memory) p) s.marked refl in
       let is : whole_in (state_of memory) p forgotten ≡ after_commit before =
       λ i. record { registers = process.regs; state = process.state; memory = s.memory i; kept = kept i } in
       let ledger = subst (AreAlike (books (state_of memory))) has.ledger (alike_itself (books (state_of memory))) in
       machine_done (ends Commit) old (with_process_at mid p forgotten) (λ r. end_refusal true marked) (λ kept breaks drawn. refl) (λ r. refl)
-      (λ kept breaks drawn. wholes_are (event.Commit p) forgotten (after_commit before) is s.others ledger s.frames) (λ r. refl) (λ r. refl) (λ r. refl)
+      (λ kept breaks drawn. wholes_are (event.Commit p) forgotten (after_commit before) is s.others (Some p) ledger s.frames lists) (λ r. refl) (λ r. refl) (λ r. refl)
       (stays (event.Commit p) forgotten (after_commit before) is s.others s.spaces s.awaiting (λ h. s.marked))
 
   pub not_committed : (e : SpeculationError) → Commits old.memory memory p (Err e) → ChangesOverlays p Commit process old (speculation_answer e) mid
@@ -178,7 +189,7 @@ module _ (p : ℕ) (process : declared.Process) (old : Machine) (memory : Memory
 
   -- the row of one that ends as if it hadn't begun, by what is kept
   abbrev goes_back : Option Whole → Registry → Row
-  goes_back kept r = option_map_or (λ whole. plain_row false [] (event.Discard p) (leaves p (after_discard whole) r)) kept (refused_row NotSpeculating r)
+  goes_back kept r = option_map_or (λ whole. plain_row false (Some p) [] (event.Discard p) (leaves p (after_discard whole) r)) kept (refused_row NotSpeculating r)
 
   not_kept : is_marked old p ≡ false → (new : Machine) → new ≡ old → ChangesOverlays p Discard process old (Refused NotSpeculating) new
   not_kept unmarked new same =
@@ -189,8 +200,8 @@ module _ (p : ℕ) (process : declared.Process) (old : Machine) (memory : Memory
   again saved = record { regs = saved.regs; state = saved.state; saved = None }
 
   pub has_discarded : (saved : SavedRegs) → process.saved ≡ Some saved → Discards old.memory memory p (Ok tt)
-      → ChangesOverlays p Discard process old Done (with_process_at mid p (again saved))
-  has_discarded saved here (marked, has) =
+      → translations_of memory ≡ flushed p (lists_of old) → ChangesOverlays p Discard process old Done (with_process_at mid p (again saved))
+  has_discarded saved here (marked, has) lists =
       let kept = kept_by None false (base_of (state_of memory) p) has.marked refl in
       let whole = kept_whole (base_of (spaces_of old) p) saved in
       let was : before.kept ≡ Some whole =
@@ -200,7 +211,7 @@ module _ (p : ℕ) (process : declared.Process) (old : Machine) (memory : Memory
       let ledger = subst (AreAlike (books (state_of memory))) has.ledger (alike_itself (books (state_of memory))) in
       subst (λ (o : Option Whole). MachineGives (goes_back o) old Done (with_process_at mid p (again saved))) (sym was)
       (machine_done (goes_back (Some whole)) old (with_process_at mid p (again saved)) (λ r. refl) (λ kept breaks drawn. refl) (λ r. refl)
-      (λ kept breaks drawn. wholes_are (event.Discard p) (again saved) (after_discard whole) is has.others ledger has.frames) (λ r. refl) (λ r. refl) (λ r. refl)
+      (λ kept breaks drawn. wholes_are (event.Discard p) (again saved) (after_discard whole) is has.others (Some p) ledger has.frames lists) (λ r. refl) (λ r. refl) (λ r. refl)
       (stays (event.Discard p) (again saved) (after_discard whole) is has.others has.spaces has.awaiting (λ h. has.marked)))
 
   pub not_discarded : (e : SpeculationError) → Discards old.memory memory p (Err e) → ChangesOverlays p Discard process old (speculation_answer e) mid
@@ -213,17 +224,17 @@ module _ (p : ℕ) (process : declared.Process) (old : Machine) (memory : Memory
 
   -- Pages are promoted.
   module _ (which : ℕ → Bool) (s : AreSettled which (is_marked old p) (spaces_of old) (state_of memory) p) (unmarked : is_marked old p ≡ false) (e : Event)
-      (ledger : AreAlike (books (state_of memory)) (ledger_after e (books (spaces_of old)))) where
+      (lists : translations_of memory ≡ flushed p (lists_of old)) (ledger : AreAlike (books (state_of memory)) (ledger_after e (books (spaces_of old)))) where
     process_is : whole_in (state_of memory) p process ≡ before
     process_is =
         let kept = kept_by process.saved false (base_of (state_of memory) p) (s.marked ∙ unmarked) refl ∙ sym (kept_before false unmarked) in
         λ i. record { registers = process.regs; state = process.state; memory = s.memory i; kept = kept i }
 
-    promoted : AreLike (wholes mid) (record { processes = processes_of old; ledger = ledger_by e (books (spaces_of old)); frames = (spaces_of old).frames })
+    promoted : AreLike (wholes mid) (wholes_left e (Some p) old (processes_of old))
     promoted =
-        subst (λ (m : Machine). AreLike (wholes m) (record { processes = processes_of old; ledger = ledger_by e (books (spaces_of old)); frames = (spaces_of old).frames })) put_again
-        (subst (λ (ps : Processes). AreLike (wholes (with_process_at mid p process)) (record { processes = ps; ledger = ledger_by e (books (spaces_of old)); frames = (spaces_of old).frames })) left_again
-        (wholes_are e process before process_is s.others ledger s.frames))
+        subst (λ (m : Machine). AreLike (wholes m) (wholes_left e (Some p) old (processes_of old))) put_again
+        (subst (λ (ps : Processes). AreLike (wholes (with_process_at mid p process)) (wholes_left e (Some p) old ps)) left_again
+        (wholes_are e process before process_is s.others (Some p) ledger s.frames lists))
 
     promoted_stays : KeepsSession old mid
     promoted_stays = subst (KeepsSession old) put_again (stays e process before process_is s.others s.spaces s.awaiting (λ h. s.marked ∙ h ∙ saved_here))
@@ -231,10 +242,10 @@ module _ (p : ℕ) (process : declared.Process) (old : Machine) (memory : Memory
   all_refusal : (mark : Bool) → is_marked old p ≡ mark → (r : Registry) → first_refusal (overlay_row p PromoteAll before r).refusals ≡ first_refusal (by_speculating mark ∷ [])
   all_refusal mark is r = ap (λ b. first_refusal (by_speculating b ∷ [])) (speculates mark is)
 
-  pub all_promoted : PromotesAll old.memory memory p (Ok tt) → ChangesOverlays p PromoteAll process old Done mid
-  all_promoted (unmarked, within, has) =
+  pub all_promoted : PromotesAll old.memory memory p (Ok tt) → translations_of memory ≡ flushed p (lists_of old) → ChangesOverlays p PromoteAll process old Done mid
+  all_promoted (unmarked, within, has) lists =
       machine_done (overlay_row p PromoteAll before) old mid (all_refusal false unmarked) (λ kept breaks drawn. fits (event.Settle p) old within) (λ r. refl)
-      (λ kept breaks drawn. promoted _ has.settled unmarked (event.Settle p) has.ledger) (λ r. refl) (λ r. refl) (λ r. refl) (promoted_stays _ has.settled unmarked (event.Settle p) has.ledger)
+      (λ kept breaks drawn. promoted _ has.settled unmarked (event.Settle p) lists has.ledger) (λ r. refl) (λ r. refl) (λ r. refl) (promoted_stays _ has.settled unmarked (event.Settle p) lists has.ledger)
 
   pub none_promoted : (e : PromoteError) (address : ℕ) → PromotesAll old.memory memory p (Err e) → ChangesOverlays p PromoteAll process old (promotion_answer address e) mid
   none_promoted (promote.Unmapped at) address h = absurd h
@@ -266,11 +277,11 @@ module _ (p : ℕ) (process : declared.Process) (old : Machine) (memory : Memory
     here_refusal : is_marked old p ≡ false → is_some found ≡ true → (r : Registry) → first_refusal (one r).refusals ≡ None
     here_refusal unmarked here r = page_refusal false found unmarked refl r ∙ ap (refusal_of false) here
 
-    pub page_promoted : Promotes old.memory memory p (address / PAGE_BYTES) (Ok tt) → ChangesOverlays p (Promote address) process old Done mid
-    page_promoted (unmarked, has) =
+    pub page_promoted : Promotes old.memory memory p (address / PAGE_BYTES) (Ok tt) → translations_of memory ≡ flushed p (lists_of old) → ChangesOverlays p (Promote address) process old Done mid
+    page_promoted (unmarked, has) lists =
         let e = event.SettlePage p (address / PAGE_BYTES) in
         machine_done one old mid (here_refusal unmarked has.there) (λ kept breaks drawn. fits e old has.fits) (λ r. refl)
-        (λ kept breaks drawn. promoted _ has.settled unmarked e has.ledger) (λ r. refl) (λ r. refl) (λ r. refl) (promoted_stays _ has.settled unmarked e has.ledger)
+        (λ kept breaks drawn. promoted _ has.settled unmarked e lists has.ledger) (λ r. refl) (λ r. refl) (λ r. refl) (promoted_stays _ has.settled unmarked e lists has.ledger)
 
     pub not_promoted : (e : PromoteError) → Promotes old.memory memory p (address / PAGE_BYTES) (Err e)
         → ChangesOverlays p (Promote address) process old (promotion_answer address e) mid

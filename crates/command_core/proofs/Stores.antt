@@ -14,14 +14,14 @@ use Rattle.ovl_io.specs.Memory.{first_denied, with_bytes}
 use Rattle.ovl_io.specs.Permissions.{writable}
 use Rattle.overlay_pages.specs.State.{base_of, books, memory_of}
 use Rattle.overlay_pages.specs.Changes.{Fits, limit_of}
-use Rattle.overlay_pages.specs.View.{MemoryView, state_of}
+use Rattle.overlay_memory.specs.View.{TranslatedView, state_of, translations_of}
 use Rattle.overlay_memory.specs.Access.{IsStored, Stores}
 use Rattle.overlay_memory.specs.Room.{FitsAfter}
 use Rattle.overlay_memory.specs.declared.error.MemoryError.{MemoryError}
 use Rattle.overlay_memory.specs.declared.error.MemoryError.TheVariants as access
 use Rattle.machine_core.specs.Process.{Process, is_speculating}
 use Rattle.machine_core.specs.declared.process.Process as declared
-use Rattle.machine_core.specs.Machine.{AreLike, Machine, is_marked, kept_in, processes_of, spaces_of, whole_in, wholes, with_memory}
+use Rattle.machine_core.specs.Machine.{AreLike, Machine, is_marked, kept_in, processes_of, spaces_of, whole_in, wholes, with_memory, lists_of}
 use Rattle.report_text.specs.declared.answer.Answer.TheVariants.{Done}
 use Rattle.report_text.specs.declared.answer.Code.{Code}
 use Rattle.report_text.specs.declared.answer.Code.TheVariants.{Forbidden, Unmapped}
@@ -32,11 +32,11 @@ use Rattle.command_core.specs.Giving.{MachineGives}
 use Rattle.command_core.specs.Overlays.{with_pages}
 use Rattle.command_core.specs.Debugging.{poke_answer, poke_refused, poke_row}
 use Rattle.command_core.proofs.Rows.{fits, is_short, machine_done, machine_full, machine_refused}
-use Rattle.command_core.proofs.Speculating.{kept_before, kept_by, put_again, saved_here, speculates, stays, wholes_are}
+use Rattle.command_core.proofs.Speculating.{kept_before, kept_by, put_again, saved_here, speculates, stays, wholes_are, wholes_left}
 
 -- Bytes that are stored in the memory of a process.
 
-module _ (p : ℕ) (process : declared.Process) (old : Machine) (memory : MemoryView) (there : get old.processes p ≡ Some process) (address : ℕ) (bytes : List ℕ) where
+module _ (p : ℕ) (process : declared.Process) (old : Machine) (memory : TranslatedView) (there : get old.processes p ≡ Some process) (address : ℕ) (bytes : List ℕ) where
   abbrev before : Process
   before = whole_in (spaces_of old) p process
 
@@ -65,7 +65,7 @@ module _ (p : ℕ) (process : declared.Process) (old : Machine) (memory : Memory
       → poke_refused (memory_of (spaces_of old) p) at ≡ code
   refused_as at b code is same = ap (λ t. cond t (Forbidden at) (Unmapped at)) is ∙ same
 
-  module _ (s : IsStored (spaces_of old) (state_of memory) p address bytes) where
+  module _ (s : IsStored (spaces_of old) (state_of memory) p address bytes) (lists : translations_of memory ≡ lists_of old) where
     abbrev left : Process
     left = with_pages (with_bytes before.memory address bytes) before
 
@@ -79,13 +79,13 @@ module _ (p : ℕ) (process : declared.Process) (old : Machine) (memory : Memory
     whole_is = λ i. record { registers = process.regs; state = process.state; memory = s.memory i; kept = kept_is (is_marked old p) refl i }
 
     poked_like : AreLike (wholes mid)
-        (record { processes = insert (processes_of old) p left; ledger = ledger_by stored (books (spaces_of old)); frames = (spaces_of old).frames })
+        (wholes_left stored None old (insert (processes_of old) p left))
     poked_like =
         subst (λ (m : Machine). AreLike (wholes m)
-        (record { processes = insert (processes_of old) p left; ledger = ledger_by stored (books (spaces_of old)); frames = (spaces_of old).frames }))
+        (wholes_left stored None old (insert (processes_of old) p left)))
         (put_again p process old memory there)
-        (wholes_are p process old memory there stored process left whole_is s.others
-        (subst (AreAlike (books (state_of memory))) s.ledger (alike_itself (books (state_of memory)))) s.frames)
+        (wholes_are p process old memory there stored process left whole_is s.others None
+        (subst (AreAlike (books (state_of memory))) s.ledger (alike_itself (books (state_of memory)))) s.frames lists)
 
     poked_stays : KeepsSession old mid
     poked_stays =
@@ -98,21 +98,21 @@ module _ (p : ℕ) (process : declared.Process) (old : Machine) (memory : Memory
         subst (λ n. units (ledger_after stored (books (spaces_of old))) ≤ FRAME_UNITS * n) s.frames
         (subst (λ (b : Ledger). units b ≤ limit_of (state_of memory)) s.ledger enough)
 
-  pub poked : Stores old.memory memory p address bytes (Ok tt) → Fits (state_of memory) → MachineGives poking old Done mid
-  poked (allowed, s) enough =
+  pub poked : Stores old.memory.pages memory.pages p address bytes (Ok tt) → translations_of memory ≡ lists_of old → Fits (state_of memory) → MachineGives poking old Done mid
+  poked (allowed, s) lists enough =
       machine_done poking old mid (refusal_is None allowed)
-      (λ kept breaks drawn. ap (λ e. is_event_full e (wholes old)) (sym event_is) ∙ fits stored old (within s enough)) (λ r. refl)
+      (λ kept breaks drawn. ap (λ e. is_event_full e (wholes old)) (sym event_is) ∙ fits stored old (within s lists enough)) (λ r. refl)
       (λ kept breaks drawn. subst (λ e. AreLike (wholes mid)
-      (record { processes = insert (processes_of old) p (left s); ledger = ledger_by e (books (spaces_of old)); frames = (spaces_of old).frames })) event_is (poked_like s))
-      (λ r. refl) (λ r. refl) (λ r. refl) (poked_stays s)
+      (wholes_left e None old (insert (processes_of old) p (left s lists)))) event_is (poked_like s lists))
+      (λ r. refl) (λ r. refl) (λ r. refl) (poked_stays s lists)
 
-  pub not_poked : (e : MemoryError) → Stores old.memory memory p address bytes (Err e) → MachineGives poking old (poke_answer e) mid
-  not_poked (access.Unmapped at) (is, same) =
+  pub not_poked : (e : MemoryError) → Stores old.memory.pages memory.pages p address bytes (Err e) → memory ≡ old.memory → MachineGives poking old (poke_answer e) mid
+  not_poked (access.Unmapped at) (is, kept) same =
       machine_refused poking old mid (Unmapped at)
       (λ r. refusal_is (Some at) is.first r ∙ ap Some (refused_as at false (Unmapped at) (ap is_some is.absent) refl)) (ap (with_memory old) same)
-  not_poked (access.Forbidden at) (is, same) =
+  not_poked (access.Forbidden at) (is, kept) same =
       machine_refused poking old mid (Forbidden at)
       (λ r. refusal_is (Some at) is.first r ∙ ap Some (refused_as at true (Forbidden at) is.there refl)) (ap (with_memory old) same)
-  not_poked (access.Full needed limit) (allowed, full) =
-      let f = is_short stored old memory needed limit full in
+  not_poked (access.Full needed limit) (allowed, full) same =
+      let f = is_short stored old memory needed limit (record { needed_is = full.needed_is; limit_is = full.limit_is; over = full.over; kept = same }) in
       machine_full poking old mid stored needed limit (refusal_is None allowed) (λ r. refl) (λ r. sym event_is) f.needed_is f.limit_is f.full f.same

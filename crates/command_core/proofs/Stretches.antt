@@ -7,7 +7,7 @@ use Rattle.rv_execute.specs.declared.outcome.Outcome.TheVariants as outcome
 use Rattle.rv_execute.specs.Execution.{Upshot, Steps, Asks, Faults, outcome_by}
 use Rattle.machine_core.specs.Process.{Process, runs}
 use Rattle.machine_core.specs.Machine.{Processes, Wholes, is_running, limit_of, running_numbers}
-use Rattle.machine_core.specs.Turns.{Guest, after_execution, after_turn, came_to, executed, execution_of, guest_at, guest_executed, guest_of, is_full, outcome_found, outcome_of, state_executed, units_needed, with_guest}
+use Rattle.machine_core.specs.Turns.{Guest, after_execution, after_turn, came_to, executed, execution_of, guest_at, guest_executed, guest_of, guest_refused, is_full, outcome_found, outcome_of, state_executed, units_needed, with_guest}
 use Rattle.breakpoints.specs.Breakpoints.{Breaks, addresses_of}
 use Rattle.machine_core.specs.Executions.{Executions, executions, first_execution, is_at_stop, last_execution, more_executions, no_execution, stopped_execution}
 use Rattle.machine_core.specs.Laws.{turn_law}
@@ -100,11 +100,11 @@ pub record IsAt (ps : Wholes) (p : ℕ) (guest : Guest) : Type 0 where
 pub is_at : (ps : Wholes) (p : ℕ) (process : Process) → get ps.processes p ≡ Some process → IsAt ps p (guest_of ps process)
 is_at ps p process there = record {
   there = ap (option_map (guest_of ps)) there;
-  same = ap (λ (m : Processes). record { processes = m; ledger = ps.ledger; frames = ps.frames }) (insert_kept ps.processes p process there);
+  same = ap (λ (m : Processes). record { processes = m; ledger = ps.ledger; frames = ps.frames; translations = ps.translations }) (insert_kept ps.processes p process there);
 }
 
 put_over : (ps : Wholes) (p : ℕ) (a b : Guest) → with_guest (with_guest ps p a) p b ≡ with_guest ps p b
-put_over ps p a b = ap (λ (m : Processes). record { processes = m; ledger = b.ledger; frames = b.frames }) (insert_over ps.processes p a.process b.process)
+put_over ps p a b = ap (λ (m : Processes). record { processes = m; ledger = b.ledger; frames = b.frames; translations = b.translations }) (insert_over ps.processes p a.process b.process)
 
 put_at : (ps : Wholes) (p : ℕ) (guest : Guest) → IsAt (with_guest ps p guest) p guest
 put_at ps p guest = record {
@@ -135,7 +135,7 @@ steps_by false (Faults kind address) needed limit is = cc
 still_runs : (p : ℕ) (guest : Guest) → outcome_of p guest ≡ outcome.Stepped → runs (executed p guest).process.state ≡ true
 still_runs p guest is =
     let parts = steps_by (is_full p guest) (execution_of guest.process).upshot (units_needed p guest) (limit_of guest.frames) is in
-    ap (λ b. runs (cond b guest (guest_executed p guest)).process.state) parts.0 ∙ ap (λ u. runs (state_executed u)) parts.1
+    ap (λ b. runs (cond b (guest_refused p guest) (guest_executed p guest)).process.state) parts.0 ∙ ap (λ u. runs (state_executed u)) parts.1
 
 -- The steps of some executions are turns without a line; the last one, where it is no step, is the next turn's.
 pub record IsStretch (breaks : Breaks) (ps : Wholes) (p most : ℕ) (run : Progress) (e : Executions) : Type 0 where

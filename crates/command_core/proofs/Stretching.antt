@@ -130,10 +130,11 @@ pub says_full : (breaks : Breaks) (ps : Wholes) (p steps : ℕ) (run : Progress)
     → (ran_text (ran_from breaks ps run) ≡ line ++ ran_text (stopped Full now after)) × ((ran_from breaks ps run).after ≡ now)
 says_full breaks ps p steps run units limit now line after t says took =
     let r = run_took steps p run in
-    let same : t.before ≡ now = sym (t.executed ∙ t.law.kept) in
+    let left = after_turn t.before p in
+    let same : left ≡ now = t.law.after_is ∙ sym t.executed in
     let all = ran_full breaks t.before r p units limit t.unbroken t.below t.next t.law.turn_is in (
-      t.quiet.0 ∙ ap ran_text all ∙ text_first p (turn.Full units limit) (stopped Full t.before r)
-          ∙ ap (λ bs. bs ++ ran_text (stopped Full t.before r)) (sym says)
-          ∙ ap (λ (x : Progress). line ++ ran_text (stopped Full t.before x)) (sym took) ∙ ap (λ (w : Wholes). line ++ ran_text (stopped Full w after)) same,
+      t.quiet.0 ∙ ap ran_text all ∙ text_first p (turn.Full units limit) (stopped Full left r)
+          ∙ ap (λ bs. bs ++ ran_text (stopped Full left r)) (sym says)
+          ∙ ap (λ (x : Progress). line ++ ran_text (stopped Full left x)) (sym took) ∙ ap (λ (w : Wholes). line ++ ran_text (stopped Full w after)) same,
       t.quiet.1 ∙ ap (λ (x : Ran Wholes). x.after) all ∙ same,
     )

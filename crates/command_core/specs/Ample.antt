@@ -67,7 +67,7 @@ overlay_itself p Speculate process registry = refl
 overlay_itself p Commit process registry = refl
 overlay_itself p Discard process registry = by_kept process.kept
   where
-    by_kept : (o : Option Whole) → is_full_answer (option_map_or (λ whole. plain_row false [] (event.Discard p) (leaves p (after_discard whole) registry)) o (refused_row NotSpeculating registry)).answer ≡ false
+    by_kept : (o : Option Whole) → is_full_answer (option_map_or (λ whole. plain_row false (Some p) [] (event.Discard p) (leaves p (after_discard whole) registry)) o (refused_row NotSpeculating registry)).answer ≡ false
     by_kept None = refl
     by_kept (Some whole) = refl
 overlay_itself p (Promote address) process registry = refl

@@ -1,4 +1,4 @@
-use Rattle.std.specs.Prelude.{ℕ, ◌+◌, true, false, List, [], ◌∷◌}
+use Rattle.std.specs.Prelude.{ℕ, ◌+◌, true, false, List, [], ◌∷◌, Some, None}
 use Rattle.std.specs.Option.{option_map, option_map_or}
 use Rattle.std.specs.FinMap.{get, remove}
 use Rattle.elf_loader.specs.Accepted.{file_refusal}
@@ -36,14 +36,15 @@ load_row file registry = record {
   memory = TakesFirst;
   event = event.Load (registry.drawn + 1) (load_pages file);
   may_need_units = true;
+  flushes = None;
   answer = Loaded (registry.drawn + 1) (page_count file) (entry_of file);
   after = draws (loaded_process file) registry;
 }
 
--- `drop`: the process goes, with its pages and its breakpoints
+-- `drop`: the process goes, with its pages, their translations and its breakpoints
 abbrev pub drop_row : ℕ → Process → Registry → Row
 drop_row p process registry =
-    plain_row false [] (event.Drop p)
+    plain_row false (Some p) [] (event.Drop p)
     (record {
       processes = remove registry.processes p;
       checkpoints = registry.checkpoints;

@@ -49,6 +49,7 @@ checkpoint_row p name process registry = record {
   memory = TakesLast;
   event = Copy p (registry.drawn + 1);
   may_need_units = true;
+  flushes = None;
   answer = Saved p name (registry.drawn + 1);
   after = saves name process registry;
 }
@@ -70,6 +71,7 @@ restores p speculating found registry = record {
   memory = TakesLast;
   event = restored_pages p found;
   may_need_units = true;
+  flushes = Some p;
   answer = Done;
   after = restored p found registry;
 }
@@ -82,10 +84,10 @@ restore_row p name process registry = restores p (is_speculating process) (check
 abbrev pub on_checkpoint : List ℕ → (Checkpoint → Registry → Row) → Registry → Row
 on_checkpoint name row registry = option_map_or (λ x. row x registry) (checkpoint_named name registry.checkpoints) (refused_row NoCheckpoint registry)
 
--- `forget`: the checkpoint goes, and its pages; the others keep their order
+-- `forget`: the checkpoint goes, and its pages, of which nothing was translated; the others keep their order
 abbrev pub forget_row : List ℕ → Checkpoint → Registry → Row
 forget_row name x registry =
-    plain_row false [] (event.Drop x.space)
+    plain_row false (Some x.space) [] (event.Drop x.space)
     (record {
       processes = registry.processes;
       checkpoints = checkpoints_but name registry.checkpoints;
@@ -98,7 +100,12 @@ forget_row name x registry =
 -- the copying machine with a copy of the pages of a space
 abbrev pub with_pages_copied : ℕ → ℕ → Wholes → Wholes
 with_pages_copied from to state =
-    record { processes = state.processes; ledger = ledger_by (Copy from to) state.ledger; frames = state.frames }
+    record {
+      processes = state.processes;
+      ledger = ledger_by (Copy from to) state.ledger;
+      frames = state.frames;
+      translations = state.translations;
+    }
 
 -- a machine with a space that has the memory of another one, and nothing else changed
 pub record IsSaved (from to : ℕ) (old new : Machine) : Type 0 where

@@ -11,6 +11,9 @@ use Rattle.machine_core.specs.Process.{Process, Whole}
 use Rattle.ledger.specs.Ledger.{Holding, Ledger}
 use Rattle.machine_core.specs.Machine.{Processes, Wholes}
 use Rattle.machine_core.specs.Codes.{memory_code}
+use Rattle.translation_cache.specs.Bare.{BareTranslations}
+use Rattle.translation_cache.specs.Codes.{translations_code}
+use base.Stored.{coded_unit}
 use Rattle.command_core.specs.State.{Checkpoint, State}
 use Rattle.command_core.specs.Sessions.{InSession}
 
@@ -42,8 +45,10 @@ ledger_code = code coded_ℕ (code coded_ℕ holding_code)
 
 abbrev pub wholes_code : Coded Wholes
 wholes_code =
-    code_by (Processes × (Ledger × ℕ)) (coded× processes_code (coded× ledger_code coded_ℕ)) (λ w. (w.processes, (w.ledger, w.frames)))
-    (λ t. record { processes = t.0; ledger = t.1.0; frames = t.1.1 }) (λ _. refl)
+    code_by (Processes × (Ledger × (ℕ × BareTranslations)))
+    (coded× processes_code (coded× ledger_code (coded× coded_ℕ (translations_code coded_unit))))
+    (λ w. (w.processes, (w.ledger, (w.frames, w.translations))))
+    (λ t. record { processes = t.0; ledger = t.1.0; frames = t.1.1.0; translations = t.1.1.1 }) (λ _. refl)
 
 abbrev pub checkpoint_code : Coded Checkpoint
 checkpoint_code =

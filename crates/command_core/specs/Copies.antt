@@ -1,4 +1,4 @@
-use Rattle.std.specs.Prelude.{◌≡◌, ℕ, ◌+◌, Bool, true, false, List, [], ◌∷◌, Option, Some, Result, Ok, Err}
+use Rattle.std.specs.Prelude.{◌≡◌, ℕ, ◌+◌, Bool, true, false, List, [], ◌∷◌, Option, Some, None, Result, Ok, Err}
 use Rattle.std.specs.FinMap.{empty, get, insert, remove}
 use Rattle.ovl_io.specs.declared.process_state.ProcessState.{ProcessState}
 use Rattle.ledger.specs.Events.{Copy}
@@ -12,7 +12,7 @@ use Rattle.machine_core.specs.Load.{IsAsBefore}
 use Rattle.report_text.specs.declared.answer.Answer.TheVariants.{Forked}
 use Rattle.report_text.specs.declared.answer.Code.{Code}
 use Rattle.command_core.specs.State.{Registry}
-use Rattle.command_core.specs.Rows.{Row, TakesLast, event_needs, is_event_full, ledger_by}
+use Rattle.command_core.specs.Rows.{Row, TakesLast, event_needs, flushed_by, is_event_full, ledger_by}
 use Rattle.command_core.specs.Refusals.{by_ended, by_numbers_used, by_speculating}
 
 -- What a fork makes of a process that is there.
@@ -36,6 +36,7 @@ fork_row p process registry = record {
   memory = TakesLast;
   event = Copy p (registry.drawn + 1);
   may_need_units = true;
+  flushes = None;
   answer = Forked p (registry.drawn + 1);
   after = draws process registry;
 }
@@ -51,22 +52,26 @@ abbrev pub CopyEnds : {T : Type 0} → ℕ → ℕ → Machine → Machine → T
 CopyEnds from to old new Done (Ok done) = (is_event_full (Copy from to) (wholes old) ≡ false) × Done
 CopyEnds from to old new Done (Err error) = CopyFails from to old new error
 
--- the copying machine with a process under a number, and a copy of the pages of another one
-abbrev pub with_copied : ℕ → ℕ → Process → Wholes → Wholes
-with_copied from to process state =
-    record { processes = insert state.processes to process; ledger = ledger_by (Copy from to) state.ledger; frames = state.frames }
+-- the copying machine with a process under a number, and a copy of the pages of another one, where the translations of a process go
+abbrev pub with_copied : Option ℕ → ℕ → ℕ → Process → Wholes → Wholes
+with_copied flushes from to process state = record {
+  processes = insert state.processes to process;
+  ledger = ledger_by (Copy from to) state.ledger;
+  frames = state.frames;
+  translations = flushed_by flushes state.translations;
+}
 
 -- a machine with that process, its space, and nothing else changed
-pub record IsCopied (from to : ℕ) (process : declared.Process) (old new : Machine) : Type 0 where
-  pub after : wholes new ≡ with_copied from to (whole_in (spaces_of old) from process) (wholes old)
+pub record IsCopied (flushes : Option ℕ) (from to : ℕ) (process : declared.Process) (old new : Machine) : Type 0 where
+  pub after : wholes new ≡ with_copied flushes from to (whole_in (spaces_of old) from process) (wholes old)
   pub adopted : get new.processes to ≡ Some process
   pub there : has_space new to ≡ true
   pub settled : (space_in (spaces_of new) to).awaiting ≡ empty
   pub others : StaysBut to old new
 
 -- a process with a copy of a space, under a number that had none or in the place of the process that it had
-abbrev pub CopiesProcess : ℕ → ℕ → declared.Process → Machine → Machine → Result (Unit {0}) SpaceError → Type 0
-CopiesProcess from to process old new result = CopyEnds from to old new (IsCopied from to process old new) result
+abbrev pub CopiesProcess : Option ℕ → ℕ → ℕ → declared.Process → Machine → Machine → Result (Unit {0}) SpaceError → Type 0
+CopiesProcess flushes from to process old new result = CopyEnds from to old new (IsCopied flushes from to process old new) result
 
 -- how a space that was just made is given a process: after want of memory the space is gone
 abbrev pub Adopts : ℕ → declared.Process → Machine → Machine → Result (Unit {0}) SpaceError → Type 0

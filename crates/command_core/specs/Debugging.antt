@@ -1,4 +1,4 @@
-use Rattle.std.specs.Prelude.{ℕ, ◌/◌, Bool, true, false, if◌then◌else◌, List, [], ◌∷◌, length, Option}
+use Rattle.std.specs.Prelude.{ℕ, ◌/◌, Bool, true, false, if◌then◌else◌, List, [], ◌∷◌, length, Option, None}
 use Rattle.std.specs.Option.{option_map}
 use Rattle.sizes.specs.declared.TheConstants.{PAGE_BYTES}
 use Rattle.ovl_io.specs.Memory.{Memory, first_denied, with_bytes}
@@ -30,7 +30,7 @@ by_unwritable address n memory = option_map (poke_refused memory) (first_denied 
 -- `poke`: a store of bytes, whatever state the process is in
 abbrev pub poke_row : ℕ → ℕ → List ℕ → Process → Registry → Row
 poke_row p address bytes process registry =
-    plain_row true (by_unwritable address (length bytes) process.memory ∷ []) (event.Store (is_speculating process) p (touched address (length bytes)))
+    plain_row true None (by_unwritable address (length bytes) process.memory ∷ []) (event.Store (is_speculating process) p (touched address (length bytes)))
     (leaves p (with_pages (with_bytes process.memory address bytes) process) registry)
 
 -- what is answered where bytes aren't stored
@@ -59,6 +59,7 @@ break_row p address process registry = record {
   memory = break_memory (has_break registry.breakpoints p address);
   event = event.Other;
   may_need_units = false;
+  flushes = None;
   answer = Done;
   after = with_breaks (with_break registry.breakpoints p address) registry;
 }
@@ -66,4 +67,4 @@ break_row p address process registry = record {
 -- `unbreak`: it hasn't it any more
 abbrev pub unbreak_row : ℕ → ℕ → Process → Registry → Row
 unbreak_row p address process registry =
-    plain_row false [] event.Other (with_breaks (without_break registry.breakpoints p address) registry)
+    plain_row false None [] event.Other (with_breaks (without_break registry.breakpoints p address) registry)

@@ -10,7 +10,7 @@ use Rattle.ledger.specs.Alike.{AreAlike}
 use Rattle.ledger.specs.AlikeUnits.{lines_alike, units_alike}
 use Rattle.ledger.specs.RowLaws.{alike_after}
 use Rattle.machine_core.specs.Process.{Process, runs}
-use Rattle.machine_core.specs.Machine.{AreLike, Processes, Wholes, limit_of, running_numbers}
+use Rattle.machine_core.specs.Machine.{AreLike, Processes, Wholes, limit_of, running_among, running_numbers}
 use Rattle.machine_core.specs.Turns.{after_turn, turn_of}
 use Rattle.machine_core.specs.Laws.{like_after_turn, like_chain, like_itself, like_running, like_turn}
 use Rattle.round_robin.specs.Turns.{next_number}
@@ -29,7 +29,7 @@ use Rattle.command_core.specs.declared.turns.Order.TheVariants.{ByTurns, Alone}
 use Rattle.command_core.specs.declared.TheConstants.{WORD_BYTES}
 use Rattle.command_core.specs.State.{AreLikeStates, Checkpoint, Registry, State, registry_of, with_wholes}
 use Rattle.command_core.specs.Sessions.{InSession}
-use Rattle.command_core.specs.Rows.{Changed, Row, accepts, change_by, event_needs, falls_short, first_refusal, is_full, ledger_by, may_want_memory, refuses, wants_by, within_units}
+use Rattle.command_core.specs.Rows.{Changed, Row, accepts, change_by, event_needs, falls_short, first_refusal, flushed_by, is_full, ledger_by, may_want_memory, refuses, wants_by, within_units}
 use Rattle.command_core.specs.Giving.{ComesTo, GivesChange}
 use Rattle.command_core.specs.Changes.{change_row, load_row}
 use Rattle.command_core.specs.Turns.{InRun, Progress, Ran, break_at, ending, ending_by, event_then, first_event, last_break, left_by, left_of, next_of, alone, by_turns, ran, ran_text, rest_of, run_after, run_found, stopped, turns_by, ran_from, unless_broken}
@@ -60,7 +60,7 @@ processes_same a b like = like.wholes.processes
 
 module _ (a b : Wholes) (like : AreLike a b) where
   pub like_next : (order : Order) → next_of a order ≡ next_of b order
-  like_next (ByTurns turns) = ap (λ (ps : Processes). next_number turns (running_numbers (record { processes = ps; ledger = a.ledger; frames = a.frames }))) like.processes
+  like_next (ByTurns turns) = ap (λ (ps : Processes). next_number turns (running_among ps)) like.processes
   like_next (Alone p) = ap (λ c. cond c (Some p) None) (like_running p a b like)
 
   pub like_break : (breaks : Breaks) (run : Progress) → last_break breaks a run ≡ last_break breaks b run
@@ -99,11 +99,11 @@ like_then p (turn.Exited code) r s a b run h like = like_first p (turn.Exited co
 like_then p (turn.Faulted kind at) r s a b run h like = like_first p (turn.Faulted kind at) r s h
 like_then p (turn.Full units limit) r s a b run h like = like_first p (turn.Full units limit) _ _ (like_stopped stop.Full a b run like)
 
-like_by : (next : Option ℕ) (f g : ℕ → Ran Wholes) (a b : Wholes) (run : Progress) → AreLike a b → ((p : ℕ) → AreLikeRans (f p) (g p)) → AreLikeRans (turns_by (turn_of a) next f a run) (turns_by (turn_of b) next g b run)
+like_by : (next : Option ℕ) (f g : ℕ → Ran Wholes) (a b : Wholes) (run : Progress) → AreLike a b → ((p : ℕ) → AreLikeRans (f p) (g p)) → AreLikeRans (turns_by (turn_of a) (after_turn a) next f a run) (turns_by (turn_of b) (after_turn b) next g b run)
 like_by None f g a b run like h = like_stopped (rest_of run.order) a b run like
 like_by (Some p) f g a b run like h =
-    subst (λ t. AreLikeRans (event_then p (turn_of a p) (f p) a run) (event_then p t (g p) b run)) (like_turn p a b like)
-    (like_then p (turn_of a p) (f p) (g p) a b run (h p) like)
+    subst (λ t. AreLikeRans (event_then p (turn_of a p) (f p) (after_turn a p) run) (event_then p t (g p) (after_turn b p) run)) (like_turn p a b like)
+    (like_then p (turn_of a p) (f p) (g p) (after_turn a p) (after_turn b p) run (h p) (like_after_turn p a b like))
 
 like_unless : (o : Option Stop) (r s : Ran Wholes) (a b : Wholes) (run : Progress) → AreLikeRans r s → AreLike a b → AreLikeRans (unless_broken o r a run) (unless_broken o s b run)
 like_unless None r s a b run h like = h
@@ -124,8 +124,8 @@ module _ (breaks : Breaks) where
       (like_stopped (option_map_or (λ p. stop.Limit) (next_of a run.order) (rest_of run.order)) a b run like))
   like_ran (suc left) a b run like =
       like_broken _ _ a b run like
-      (subst (λ (n : Option ℕ). AreLikeRans (turns_by (turn_of a) (next_of a run.order) (λ p. ran breaks left (after_turn a p) (run_after p run)) a run)
-      (turns_by (turn_of b) n (λ p. ran breaks left (after_turn b p) (run_after p run)) b run)) (like_next a b like run.order)
+      (subst (λ (n : Option ℕ). AreLikeRans (turns_by (turn_of a) (after_turn a) (next_of a run.order) (λ p. ran breaks left (after_turn a p) (run_after p run)) a run)
+      (turns_by (turn_of b) (after_turn b) n (λ p. ran breaks left (after_turn b p) (run_after p run)) b run)) (like_next a b like run.order)
       (like_by (next_of a run.order) (λ p. ran breaks left (after_turn a p) (run_after p run)) (λ p. ran breaks left (after_turn b p) (run_after p run)) a b run like
       (λ p. like_ran left (after_turn a p) (after_turn b p) (run_after p run) (like_after_turn p a b like))))
 
@@ -147,7 +147,7 @@ module _ (breaks : Breaks) (state : Wholes) (run : Progress) where
   ran_broken why zero is =
       ap (λ o. unless_broken o (stopped (option_map_or (λ p. stop.Limit) (next_of state run.order) (rest_of run.order)) state run) state run) is
   ran_broken why (suc left) is =
-      ap (λ o. unless_broken o (turns_by (turn_of state) (next_of state run.order) (λ p. ran breaks left (after_turn state p) (run_after p run)) state run) state run) is
+      ap (λ o. unless_broken o (turns_by (turn_of state) (after_turn state) (next_of state run.order) (λ p. ran breaks left (after_turn state p) (run_after p run)) state run) state run) is
 
   -- or to none
   module _ (none : last_break breaks state run ≡ None) where
@@ -155,8 +155,8 @@ module _ (breaks : Breaks) (state : Wholes) (run : Progress) where
     ran_none = ap (λ o. unless_broken o (stopped (option_map_or (λ p. stop.Limit) (next_of state run.order) (rest_of run.order)) state run) state run) none
 
     pub ran_more : (left : ℕ) → ran breaks (suc left) state run
-        ≡ turns_by (turn_of state) (next_of state run.order) (λ p. ran breaks left (after_turn state p) (run_after p run)) state run
-    ran_more left = ap (λ o. unless_broken o (turns_by (turn_of state) (next_of state run.order) (λ p. ran breaks left (after_turn state p) (run_after p run)) state run) state run) none
+        ≡ turns_by (turn_of state) (after_turn state) (next_of state run.order) (λ p. ran breaks left (after_turn state p) (run_after p run)) state run
+    ran_more left = ap (λ o. unless_broken o (turns_by (turn_of state) (after_turn state) (next_of state run.order) (λ p. ran breaks left (after_turn state p) (run_after p run)) state run) state run) none
 
     ran_by_next : (next : Option ℕ) (why : Stop) (left : ℕ) → next_of state run.order ≡ next
         → left ≡ run.turns - run.taken → run.taken ≤ run.turns → ending_by next run ≡ Some why → ran breaks left state run ≡ stopped why state run
@@ -165,7 +165,7 @@ module _ (breaks : Breaks) (state : Wholes) (run : Progress) where
         ran_none ∙ ap (λ n. stopped (option_map_or (λ p. stop.Limit) n (rest_of run.order)) state run) is ∙ ap (λ s. stopped s state run) same
     ran_by_next None why (suc left) is many below ends =
         let same : rest_of run.order ≡ why = cc in
-        ran_more left ∙ ap (λ n. turns_by (turn_of state) n (λ p. ran breaks left (after_turn state p) (run_after p run)) state run) is ∙ ap (λ s. stopped s state run) same
+        ran_more left ∙ ap (λ n. turns_by (turn_of state) (after_turn state) n (λ p. ran breaks left (after_turn state p) (run_after p run)) state run) is ∙ ap (λ s. stopped s state run) same
     ran_by_next (Some p) why left is many below ends =
         let parts = limit_stop (run.taken == run.turns) why ends in
         let none_left : left ≡ 0 = omega (arith, many, eqb-true run.taken run.turns parts.0) in
@@ -223,7 +223,14 @@ module _ (row : Row) (a b : State) (like : AreLikeStates a b) where
   like_within false false same =
       record {
         answer_is = refl;
-        after_is = record { wholes = record { processes = refl; ledger = like_ledger; frames = like.wholes.frames }; checkpoints = refl; breakpoints = refl; drawn = refl };
+        after_is = record {
+          wholes = record {
+            processes = refl;
+            ledger = like_ledger;
+            frames = like.wholes.frames;
+            translations = ap (flushed_by row.flushes) like.wholes.translations;
+          };
+          checkpoints = refl; breakpoints = refl; drawn = refl };
       }
   like_within true false same = cc
   like_within false true same = cc
@@ -362,8 +369,8 @@ counts_same a b like = λ i. record {
   units = units_alike a.ledger b.ledger like.ledger i;
   limit = limit_of (like.frames i);
   lines = lines_alike a.ledger b.ledger like.ledger i;
-  hits = 0;
-  misses = 0;
+  hits = (like.translations i).hits;
+  misses = (like.translations i).misses;
 }
 
 stats_same : (a b : State) → AreLikeStates a b → stats_text a ≡ stats_text b

@@ -39,9 +39,15 @@ LooksAtCheckpoint checkpoints index None = slice_get checkpoints index ≡ None
 LooksAtCheckpoint checkpoints index (Some view) =
     (checkpoint : Checkpoint) × (slice_get checkpoints index ≡ Some checkpoint) × ShowsCheckpoint checkpoint view
 
--- the counts: units of all pages, how many there may be, and own lines; translations aren't counted
+-- the counts: units of all pages, how many there may be, own lines, and the translations that were there and that weren't
 abbrev pub counts_of : Wholes → Counts
-counts_of all = record { units = units all.ledger; limit = limit_of all.frames; lines = own_lines all.ledger; hits = 0; misses = 0 }
+counts_of all = record {
+  units = units all.ledger;
+  limit = limit_of all.frames;
+  lines = own_lines all.ledger;
+  hits = all.translations.hits;
+  misses = all.translations.misses;
+}
 
 -- the turns of one process are begun: refused where it isn't there, or has ended
 abbrev pub begun : Breaks → Wholes → ℕ → ℕ → Option Process → Result InRun Code

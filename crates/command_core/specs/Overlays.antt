@@ -73,29 +73,31 @@ leaves p process registry =
       drawn = registry.drawn;
     }
 
--- The changes, a row each: whether it may need units, its refusals, what happens to the ledger, and what it leaves.
+-- The changes, a row each: whether it may need units, whose translations it removes, its refusals, what happens to the ledger, and what it
+-- leaves.
 abbrev pub overlay_row : ℕ → OverlayChange → Process → Registry → Row
 overlay_row p Speculate process registry =
-    plain_row true (by_ended process.state ∷ by_speculating (is_speculating process) ∷ []) (event.Settle p) (leaves p (after_speculate process) registry)
+    plain_row true (Some p) (by_ended process.state ∷ by_speculating (is_speculating process) ∷ []) (event.Settle p) (leaves p (after_speculate process) registry)
 overlay_row p Commit process registry =
-    plain_row false (by_not_speculating (is_speculating process) ∷ []) (event.Commit p) (leaves p (after_commit process) registry)
+    plain_row false (Some p) (by_not_speculating (is_speculating process) ∷ []) (event.Commit p) (leaves p (after_commit process) registry)
 overlay_row p Discard process registry =
-    option_map_or (λ whole. plain_row false [] (event.Discard p) (leaves p (after_discard whole) registry)) process.kept (refused_row NotSpeculating registry)
+    option_map_or (λ whole. plain_row false (Some p) [] (event.Discard p) (leaves p (after_discard whole) registry)) process.kept (refused_row NotSpeculating registry)
 overlay_row p (Promote address) process registry =
-    plain_row true (by_speculating (is_speculating process) ∷ by_unmapped address process.memory ∷ []) (event.SettlePage p (address / PAGE_BYTES)) registry
-overlay_row p PromoteAll process registry = plain_row true (by_speculating (is_speculating process) ∷ []) (event.Settle p) registry
+    plain_row true (Some p) (by_speculating (is_speculating process) ∷ by_unmapped address process.memory ∷ []) (event.SettlePage p (address / PAGE_BYTES)) registry
+overlay_row p PromoteAll process registry = plain_row true (Some p) (by_speculating (is_speculating process) ∷ []) (event.Settle p) registry
 overlay_row p (Map address n perms) process registry = record {
   refusals = map_refusals address n (is_speculating process) process.memory;
   memory = TakesLast;
   event = event.Map p (address / PAGE_BYTES) n;
   may_need_units = false;
+  flushes = Some p;
   answer = Done;
   after = leaves p (with_pages (pages_mapped perms.0 (address / PAGE_BYTES) n process.memory) process) registry;
 }
 overlay_row p (Unmap address n) process registry =
-    plain_row false (unmap_refusals address n (is_speculating process) process.memory) (event.Unmap p (address / PAGE_BYTES) n)
+    plain_row false (Some p) (unmap_refusals address n (is_speculating process) process.memory) (event.Unmap p (address / PAGE_BYTES) n)
     (leaves p (with_pages (pages_gone (address / PAGE_BYTES) n process.memory) process) registry)
-overlay_row p (Set register value) process registry = plain_row false [] event.Other (leaves p (after_set register value process) registry)
+overlay_row p (Set register value) process registry = plain_row false None [] event.Other (leaves p (after_set register value process) registry)
 
 -- what a machine answers of one of them, at a process that stood in its place
 abbrev pub ChangesOverlays : ℕ → OverlayChange → declared.Process → Machine → Answer → Machine → Type 0

@@ -3,6 +3,8 @@ use Rattle.std.specs.Option.{is_some, option_map_or}
 use Rattle.ledger.specs.Ledger.{Ledger}
 use Rattle.ledger.specs.Events.{Event, Other, ledger_after}
 use Rattle.ledger.specs.Units.{units}
+use Rattle.translation_cache.specs.Bare.{BareTranslations}
+use Rattle.translation_cache.specs.Translations.{flushed}
 use Rattle.machine_core.specs.Machine.{Wholes, limit_of}
 use Rattle.report_text.specs.declared.answer.Answer.{Answer}
 use Rattle.report_text.specs.declared.answer.Answer.TheVariants.{Done, Refused, Full}
@@ -18,27 +20,35 @@ pub data MemoryTaken : Type 0 where
   TakesLast : MemoryTaken
   TakesFirst : MemoryTaken
 
--- A change: its refusals in their order, when it may want memory, what happens to the ledger and whether that may need units, what it
--- answers, and what it leaves.
+-- A change: its refusals in their order, when it may want memory, what happens to the ledger and whether that may need units, the process
+-- whose translations it removes, what it answers, and what it leaves.
 pub record Row : Type 0 where
   pub refusals : List (Option Code)
   pub memory : MemoryTaken
   pub event : Event
   pub may_need_units : Bool
+  pub flushes : Option ℕ
   pub answer : Answer
   pub after : Registry
 
 -- one that takes no memory and answers that it is done
-abbrev pub plain_row : Bool → List (Option Code) → Event → Registry → Row
-plain_row may_need_units refusals event after =
-    record { refusals = refusals; memory = TakesNone; event = event; may_need_units = may_need_units; answer = Done; after = after }
+abbrev pub plain_row : Bool → Option ℕ → List (Option Code) → Event → Registry → Row
+plain_row may_need_units flushes refusals event after = record {
+  refusals = refusals;
+  memory = TakesNone;
+  event = event;
+  may_need_units = may_need_units;
+  flushes = flushes;
+  answer = Done;
+  after = after;
+}
 
 -- nothing is done, and nothing refused; and nothing but a refusal
 abbrev pub still_row : Registry → Row
-still_row = plain_row false [] Other
+still_row = plain_row false None [] Other
 
 abbrev pub refused_row : Code → Registry → Row
-refused_row code = plain_row false (Some code ∷ []) Other
+refused_row code = plain_row false None (Some code ∷ []) Other
 
 -- a refusal with its condition
 abbrev pub refused_if : Bool → Code → Option Code
@@ -53,6 +63,11 @@ first_refusal (Some code ∷ refusals) = Some code
 -- the ledger after an event, how many units that needs, and whether there aren't as many
 unfoldable pub ledger_by : Event → Ledger → Ledger
 ledger_by event ledger = ledger_after event ledger
+
+-- the translations without those of a process
+abbrev pub flushed_by : Option ℕ → BareTranslations → BareTranslations
+flushed_by None translations = translations
+flushed_by (Some p) translations = flushed p translations
 
 abbrev pub event_needs : Event → Wholes → ℕ
 event_needs event wholes = units (ledger_by event wholes.ledger)
@@ -76,7 +91,10 @@ abbrev pub falls_short : Row → State → Changed State
 falls_short row state = record { answer = Full (event_needs row.event state.wholes) (limit_of state.wholes.frames); after = state }
 
 abbrev pub accepts : Row → State → Changed State
-accepts row state = record { answer = row.answer; after = with_registry row.after (ledger_by row.event state.wholes.ledger) state }
+accepts row state = record {
+  answer = row.answer;
+  after = with_registry row.after (ledger_by row.event state.wholes.ledger) (flushed_by row.flushes state.wholes.translations) state;
+}
 
 -- The rule: the first refusal; or that there aren't units enough; or the row's answer, and the state after it.
 abbrev pub within_units : Row → State → Changed State

@@ -2,6 +2,8 @@ use Rattle.std.specs.Prelude.{◌≡◌, ℕ, List, [], None}
 use Rattle.std.specs.FinMap.{empty}
 use Rattle.breakpoints.specs.Breakpoints.{Breaks}
 use Rattle.ledger.specs.Ledger.{Ledger}
+use Rattle.translation_cache.specs.Bare.{BareTranslations}
+use Rattle.translation_cache.specs.Translations.{no_translations}
 use Rattle.machine_core.specs.Process.{Process, Whole}
 use Rattle.machine_core.specs.Machine.{AreLike, Processes, Wholes}
 
@@ -21,12 +23,18 @@ pub record State : Type 0 where
 
 -- the state at the start, with so many frames
 abbrev pub fresh : ℕ → State
-fresh frames = record { wholes = record { processes = empty; ledger = empty; frames = frames }; checkpoints = []; breakpoints = empty; drawn = 0 }
+fresh frames = record {
+  wholes = record { processes = empty; ledger = empty; frames = frames; translations = no_translations };
+  checkpoints = [];
+  breakpoints = empty;
+  drawn = 0;
+}
 
 abbrev pub with_wholes : Wholes → State → State
 with_wholes wholes state = record { wholes = wholes; checkpoints = state.checkpoints; breakpoints = state.breakpoints; drawn = state.drawn }
 
--- What a command looks at and leaves: all of the state but the ledger and the frames. Those say only whether there are units enough.
+-- What a command looks at and leaves: all of the state but the ledger, the frames and the translations. Those say only whether there are
+-- units enough, and what is counted.
 pub record Registry : Type 0 where
   pub processes : Processes
   pub checkpoints : List Checkpoint
@@ -37,10 +45,10 @@ abbrev pub registry_of : State → Registry
 registry_of state =
     record { processes = state.wholes.processes; checkpoints = state.checkpoints; breakpoints = state.breakpoints; drawn = state.drawn }
 
--- the state with another registry and another ledger
-abbrev pub with_registry : Registry → Ledger → State → State
-with_registry registry ledger state = record {
-  wholes = record { processes = registry.processes; ledger = ledger; frames = state.wholes.frames };
+-- the state with another registry, another ledger and other translations
+abbrev pub with_registry : Registry → Ledger → BareTranslations → State → State
+with_registry registry ledger translations state = record {
+  wholes = record { processes = registry.processes; ledger = ledger; frames = state.wholes.frames; translations = translations };
   checkpoints = registry.checkpoints;
   breakpoints = registry.breakpoints;
   drawn = registry.drawn;

@@ -119,17 +119,17 @@ stopped stop state run = record { events = []; stop = stop; taken = run.taken; a
 abbrev pub first_event : {M : Type 0} → ℕ → Turn → Ran M → Ran M
 first_event p turn others = record { events = (p, turn) ∷ others.events; stop = others.stop; taken = others.taken; after = others.after }
 
--- One that is answered Full ends the turns: it isn't counted, and nothing changed.
+-- One that is answered Full ends the turns, in the state that it left: it isn't counted.
 abbrev pub event_then : {M : Type 0} → ℕ → Turn → Ran M → M → Progress → Ran M
-event_then p turn.Stepped others state run = first_event p turn.Stepped others
-event_then p (turn.Wrote written) others state run = first_event p (turn.Wrote written) others
-event_then p (turn.Exited code) others state run = first_event p (turn.Exited code) others
-event_then p (turn.Faulted kind at) others state run = first_event p (turn.Faulted kind at) others
-event_then p (turn.Full units limit) others state run = first_event p (turn.Full units limit) (stopped Full state run)
+event_then p turn.Stepped others left run = first_event p turn.Stepped others
+event_then p (turn.Wrote written) others left run = first_event p (turn.Wrote written) others
+event_then p (turn.Exited code) others left run = first_event p (turn.Exited code) others
+event_then p (turn.Faulted kind at) others left run = first_event p (turn.Faulted kind at) others
+event_then p (turn.Full units limit) others left run = first_event p (turn.Full units limit) (stopped Full left run)
 
-abbrev pub turns_by : {M : Type 0} → (ℕ → Turn) → Option ℕ → (ℕ → Ran M) → M → Progress → Ran M
-turns_by came None others state run = stopped (rest_of run.order) state run
-turns_by came (Some p) others state run = event_then p (came p) (others p) state run
+abbrev pub turns_by : {M : Type 0} → (ℕ → Turn) → (ℕ → M) → Option ℕ → (ℕ → Ran M) → M → Progress → Ran M
+turns_by came after None others state run = stopped (rest_of run.order) state run
+turns_by came after (Some p) others state run = event_then p (came p) (others p) (after p) run
 
 -- none where the last turn reached a breakpoint
 abbrev pub unless_broken : {M : Type 0} → Option Stop → Ran M → M → Progress → Ran M
@@ -142,7 +142,7 @@ ran_by rules zero state run =
     unless_broken (rules.broken state run) (stopped (option_map_or (λ p. Limit) (rules.next state run.order) (rest_of run.order)) state run) state run
 ran_by rules (suc left) state run =
     unless_broken (rules.broken state run)
-    (turns_by (rules.turn state) (rules.next state run.order) (λ p. ran_by rules left (rules.after state p) (run_after p run)) state run) state run
+    (turns_by (rules.turn state) (rules.after state) (rules.next state run.order) (λ p. ran_by rules left (rules.after state p) (run_after p run)) state run) state run
 
 -- those of the copying machine, of which a turn may be full
 abbrev pub turn_rules : Breaks → TurnRules Wholes

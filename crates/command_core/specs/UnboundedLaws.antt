@@ -9,7 +9,7 @@ use Rattle.ovl_io.specs.declared.turn.Turn.TheVariants as turn
 use Rattle.rv_execute.specs.Registers.{Registers}
 use Rattle.machine_core.specs.Process.{Process, is_speculating, runs}
 use Rattle.machine_core.specs.Machine.{Processes, Wholes, limit_of}
-use Rattle.machine_core.specs.Turns.{Guest, after_turn, guest_after, guest_at, guest_of, is_full, ledger_executed, process_after, step_of, turn_in, turn_of, units_needed, with_guest}
+use Rattle.machine_core.specs.Turns.{Guest, after_turn, guest_after, guest_at, guest_of, guest_refused, guest_stepped, is_full, process_after, step_of, turn_in, turn_of, units_needed, with_guest}
 use Rattle.machine_core.specs.Ample.{is_full_turn, step_fits}
 use Rattle.report_text.specs.declared.answer.Answer.{Answer}
 use Rattle.report_text.specs.declared.answer.Answer.TheVariants.{Done, Loaded, Forked, Saved, Refused, Full, Memory}
@@ -56,9 +56,6 @@ data Found (state : Wholes) (p : ℕ) (o : Option Process) : Type 0 where
       → (after_found state p o).processes ≡ step_left state p o → Found state p o
 
 module _ (state : Wholes) (p : ℕ) where
-  abbrev stepped : Process → Guest
-  stepped process = record { process = process_after p process; ledger = ledger_executed p (guest_of state process); frames = state.frames }
-
   by_full : (process : Process) (full : Bool) → is_full p (guest_of state process) ≡ full → Found state p (Some process)
   by_full process true is =
       FullThere (units_needed p (guest_of state process)) (limit_of state.frames)
@@ -68,7 +65,7 @@ module _ (state : Wholes) (p : ℕ) where
       StepThere
       (ap (λ b. cond b (turn.Full (units_needed p guest) (limit_of state.frames)) (step_of p process).turn) is)
       (step_fits p process)
-      (ap (λ b. (with_guest state p (cond b guest (stepped process))).processes) is)
+      (ap (λ b. (with_guest state p (cond b (guest_refused p guest) (guest_stepped p guest))).processes) is)
 
   by_process : (o : Option Process) → Found state p o
   by_process None = StepThere refl refl refl
@@ -140,20 +137,20 @@ module _ (breaks : Breaks) (behind : List ℕ) where
   -- whose turn comes out so
   same_turn : (p : ℕ) (state : Wholes) (run : Progress) (others : Ran Wholes) (each : Processes → Ran Processes) → ComesOut state p
       → (SaysNoFull others behind → RanSame others (each (after_turn state p).processes))
-      → SaysNoFull (event_then p (turn_of state p) others state run) behind
-      → RanSame (event_then p (turn_of state p) others state run) (event_then p (step_among state.processes p) (each (after_step_of state.processes p)) state.processes run)
+      → SaysNoFull (event_then p (turn_of state p) others (after_turn state p) run) behind
+      → RanSame (event_then p (turn_of state p) others (after_turn state p) run) (event_then p (step_among state.processes p) (each (after_step_of state.processes p)) (after_step_of state.processes p) run)
   same_turn p state run others each (IsFullTurn units limit is) rest none =
-      absurd (full_shows p units limit others state run behind (subst (λ t. SaysNoFull (event_then p t others state run) behind) is none))
+      absurd (full_shows p units limit others (after_turn state p) run behind (subst (λ t. SaysNoFull (event_then p t others (after_turn state p) run) behind) is none))
   same_turn p state run others each (IsStep is fits after) rest none =
-      let there = subst (λ t. SaysNoFull (event_then p t others state run) behind) is none in
-      subst (λ t. RanSame (event_then p t others state run) (event_then p (step_among state.processes p) (each (after_step_of state.processes p)) state.processes run)) (sym is)
-      (same_then p (step_among state.processes p) others (each (after_step_of state.processes p)) state state.processes run behind fits
+      let there = subst (λ t. SaysNoFull (event_then p t others (after_turn state p) run) behind) is none in
+      subst (λ t. RanSame (event_then p t others (after_turn state p) run) (event_then p (step_among state.processes p) (each (after_step_of state.processes p)) (after_step_of state.processes p) run)) (sym is)
+      (same_then p (step_among state.processes p) others (each (after_step_of state.processes p)) (after_turn state p) (after_step_of state.processes p) run behind fits
       (λ quiet. subst (λ ps. RanSame others (each ps)) after (rest quiet)) there)
 
   same_next : (next : Option ℕ) (state : Wholes) (run : Progress) (r : ℕ → Ran Wholes) (s : ℕ → Processes → Ran Processes)
       → ((p : ℕ) → SaysNoFull (r p) behind → RanSame (r p) (s p (after_turn state p).processes))
-      → SaysNoFull (turns_by (turn_of state) next r state run) behind
-      → RanSame (turns_by (turn_of state) next r state run) (turns_by (step_among state.processes) next (λ p. s p (after_step_of state.processes p)) state.processes run)
+      → SaysNoFull (turns_by (turn_of state) (after_turn state) next r state run) behind
+      → RanSame (turns_by (turn_of state) (after_turn state) next r state run) (turns_by (step_among state.processes) (after_step_of state.processes) next (λ p. s p (after_step_of state.processes p)) state.processes run)
   same_next None state run r s rest none = same_stopped (rest_of run.order) state run
   same_next (Some p) state run r s rest none = same_turn p state run (r p) (s p) (comes_out state p) (rest p) none
 
@@ -170,8 +167,8 @@ module _ (breaks : Breaks) (behind : List ℕ) where
   same_ran (suc left) state run none =
       let next = next_of state run.order in
       same_unless (last_break breaks state run) state run
-      (turns_by (turn_of state) next (λ p. ran breaks left (after_turn state p) (run_after p run)) state run)
-      (turns_by (step_among state.processes) next (λ p. ran_by (unbounded_turns breaks) left (after_step_of state.processes p) (run_after p run)) state.processes run)
+      (turns_by (turn_of state) (after_turn state) next (λ p. ran breaks left (after_turn state p) (run_after p run)) state run)
+      (turns_by (step_among state.processes) (after_step_of state.processes) next (λ p. ran_by (unbounded_turns breaks) left (after_step_of state.processes p) (run_after p run)) state.processes run)
       (same_next next state run (λ p. ran breaks left (after_turn state p) (run_after p run)) (λ p ps. ran_by (unbounded_turns breaks) left ps (run_after p run))
       (λ p quiet. same_ran left (after_turn state p) (run_after p run) quiet))
       none

@@ -63,7 +63,7 @@ pub(crate) fn fork_process(
     requires number { (0 < q) × (q ≤ LAST_SPACE) }
     requires no_space { has_space machine.old q ≡ false }
     requires no_process { get machine.old.processes q ≡ None }
-    ensures { CopiesProcess p q process machine.old machine.new result }
+    ensures { CopiesProcess None p q process machine.old machine.new result }
 {
     match fork_space(machine.memory_mut(), p, q) {
         Ok(()) => adopt_or_drop(machine, q, process),

@@ -3,7 +3,7 @@
 ghost use Rattle.std.specs.Prelude.{◌≡◌, ◌≤◌, ◌+◌, ◌*◌, Some, true};
 ghost use Rattle.std.specs.FinMap.{empty, get};
 ghost use Rattle.sizes.specs.declared.TheConstants.{PAGE_BYTES, PAGE_END};
-ghost use Rattle.overlay_pages.specs.View.{state_of};
+ghost use Rattle.overlay_memory.specs.View.{state_of};
 ghost use Rattle.space_maps.specs.Spaces.{holds_space, space_in};
 ghost use Rattle.machine_core.specs.Machine.{has_space, spaces_of};
 ghost use Rattle.command_core.specs.Changes.{CanBeTold};

@@ -4,7 +4,7 @@ ghost use Rattle.std.specs.Prelude.{◌≡◌, ◌+◌, ◌<◌, ◌≤◌, None
 ghost use Rattle.sizes.specs.declared.TheConstants.{ADDRESS_END};
 ghost use Rattle.ovl_io.specs.Memory.{bytes_at, first_denied};
 ghost use Rattle.overlay_pages.specs.State.{memory_of};
-ghost use Rattle.overlay_pages.specs.View.{state_of};
+ghost use Rattle.overlay_memory.specs.View.{state_of};
 ghost use Rattle.space_maps.specs.Spaces.{holds_space};
 ghost use Rattle.command_core.specs.Looks.{look_denied};
 

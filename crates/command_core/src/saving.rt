@@ -109,7 +109,7 @@ pub(crate) fn restore_process(
     requires own_settled { (space_in (spaces_of machine.old) p).awaiting ≡ empty }
     requires own_unmarked { (space_in (spaces_of machine.old) p).speculating ≡ false }
     requires found { is_some (get machine.old.processes p) ≡ true }
-    ensures { CopiesProcess q p process machine.old machine.new result }
+    ensures { CopiesProcess (Some p) q p process machine.old machine.new result }
 {
     match restore_space(machine.memory_mut(), q, p) {
         Ok(()) => {

@@ -579,8 +579,8 @@ impl Session {
             units: memory.units(),
             limit: memory.limit(),
             lines: memory.lines(),
-            hits: 0,
-            misses: 0,
+            hits: memory.hits(),
+            misses: memory.misses(),
         }
     }
 }

@@ -1,10 +1,11 @@
 //! A new space with the pages of another one.
 
-ghost use Rattle.std.specs.Prelude.{◌≡◌, ◌<◌, ◌≤◌, true, false};
+ghost use Rattle.std.specs.Prelude.{◌≡◌, ◌<◌, ◌≤◌, true, false, OnOk};
 ghost use Rattle.std.specs.FinMap as map;
 ghost use Rattle.sizes.specs.declared.TheConstants.{LAST_SPACE};
 ghost use Rattle.overlay_memory.specs.View.{state_of, translations_of};
 ghost use Rattle.space_maps.specs.Spaces.{holds_space, space_in};
+ghost use Rattle.translation_cache.specs.Translations.{flushed};
 ghost use Rattle.fork_checkpoint.specs.Copied.{Copies};
 
 use crate::sharing::fill_space;
@@ -24,6 +25,8 @@ pub fn fork_space(mem: &mut OverlayMemory, from: u16, to: u16) -> Result<(), Spa
     requires absent { holds_space (state_of mem.old) to ≡ false }
     ensures copies { Copies mem.old mem.new from to result }
     ensures translations { translations_of mem.new ≡ translations_of mem.old }
+    ensures unseen { OnOk result
+        (flushed to (translations_of mem.old) ≡ translations_of mem.old) }
 {
     let units = mem.units();
     let needed = units_copied(mem, from, units);

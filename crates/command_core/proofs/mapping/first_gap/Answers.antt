@@ -1,4 +1,4 @@
-use Rattle.overlay_pages.specs.View.{state_of}
+use Rattle.overlay_memory.specs.View.{state_of}
 use Rattle.command_core.proofs.Pages.{finds_gap, finds_no_gap}
 use Rattle.command_core.proofs.mapping.first_gap.Goals as goal
 

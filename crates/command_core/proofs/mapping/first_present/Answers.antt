@@ -1,5 +1,5 @@
 use Rattle.std.proofs.Common.{arith}
-use Rattle.overlay_pages.specs.View.{state_of}
+use Rattle.overlay_memory.specs.View.{state_of}
 use Rattle.command_core.proofs.Pages.{finds_later, finds_none, finds_page}
 use Rattle.command_core.proofs.mapping.first_present.Goals as goal
 

@@ -1,5 +1,5 @@
 use Rattle.std.proofs.Common.{arith}
-use Rattle.overlay_pages.specs.View.{state_of}
+use Rattle.overlay_memory.specs.View.{state_of}
 use Rattle.command_core.proofs.Pages.{map_free, map_here, map_many}
 use Rattle.command_core.proofs.mapping.map_refusal.Goals as goal
 

@@ -3,7 +3,7 @@ use Rattle.std.specs.Prelude.{length, take}
 use Rattle.std.proofs.lemmas.List.{length-take-le}
 use Rattle.ovl_io.specs.Memory.{first_denied}
 use Rattle.overlay_pages.specs.State.{memory_of}
-use Rattle.overlay_pages.specs.View.{state_of}
+use Rattle.overlay_memory.specs.View.{state_of}
 use Rattle.command_core.proofs.Bytes.{ends_low, look_err, look_ok, look_on}
 use Rattle.command_core.proofs.reading.can_read.Goals as goal
 

@@ -2,7 +2,7 @@ use Rattle.std.proofs.Common.{◌≡◌, ◌+◌, ◌-◌, ◌<◌, ◌≤◌, N
 use Rattle.sizes.specs.declared.TheConstants.{ADDRESS_END}
 use Rattle.ovl_io.specs.Memory.{first_denied}
 use Rattle.overlay_pages.specs.State.{memory_of}
-use Rattle.overlay_pages.specs.View.{state_of}
+use Rattle.overlay_memory.specs.View.{state_of}
 use Rattle.command_core.proofs.reading.can_read.Given as goal
 
 -- those so far are there

@@ -1,5 +1,5 @@
 use Rattle.std.proofs.Common.{ap, subst, ◌∙◌, refl}
-use Rattle.overlay_pages.specs.View.{state_of}
+use Rattle.overlay_memory.specs.View.{state_of, translations_of}
 use Rattle.machine_core.specs.Machine.{with_memory}
 use Rattle.report_text.specs.declared.answer.Answer.TheVariants.{Done}
 use Rattle.command_core.specs.State.{registry_of}
@@ -15,4 +15,5 @@ returns-clause-gives c =
     let s = c.self.inside in
     subst (λ (s : InSession). GivesChange (still_row (registry_of s.state)) s.state Done
     (shown_state (with_memory c.self.inside.machine c.compact.new.self) c.self.inside.checkpoints c.self.inside.breakpoints c.self.inside.drawn)) c.self.view_is
-    (gives_moved s.machine (with_memory s.machine c.compact.new.self) s.checkpoints s.breakpoints s.drawn (c.compact.ensures.state ∙ ap state_of c.memory_mut.ensures.value, refl))
+    (gives_moved s.machine (with_memory s.machine c.compact.new.self) s.checkpoints s.breakpoints s.drawn
+    (c.compact.ensures.state ∙ ap state_of c.memory_mut.ensures.value, c.compact.ensures.translations ∙ ap translations_of c.memory_mut.ensures.value, refl))

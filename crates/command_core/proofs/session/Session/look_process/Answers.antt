@@ -1,5 +1,5 @@
 use Rattle.std.proofs.Common.{ap, subst, ◌∙◌, Ok}
-use Rattle.overlay_pages.specs.View.{MemoryView, state_of}
+use Rattle.overlay_memory.specs.View.{TranslatedView, state_of}
 use Rattle.std.specs.FinMap.{len}
 use Rattle.space_maps.specs.Spaces.{space_in}
 use Rattle.machine_core.specs.Machine.{Processes}
@@ -15,8 +15,8 @@ returns-clause-looks c =
     subst (λ (processes : Processes). LooksAt processes p (Ok (shown c.in-Some.process.now c.is_speculating.result c.pages.result)))
     (ap (λ (s : InSession). s.state.wholes.processes) c.self.view_is)
     (looked_is c.self.inside.machine p c.in-Some.process.now c.is_speculating.result c.pages.result c.in-Some.ensures.registers
-    (c.is_speculating.ensures.mark ∙ ap (λ (m : MemoryView). (space_in (state_of m) p).speculating) c.memory.ensures)
-    (c.pages.ensures.count ∙ ap (λ (m : MemoryView). len (space_in (state_of m) p).pages) c.memory-in-Some.ensures))
+    (c.is_speculating.ensures.mark ∙ ap (λ (m : TranslatedView). (space_in (state_of m) p).speculating) c.memory.ensures)
+    (c.pages.ensures.count ∙ ap (λ (m : TranslatedView). len (space_in (state_of m) p).pages) c.memory-in-Some.ensures))
 
 pub returns-clause-stands : goal.returns-clause-stands
 returns-clause-stands c =

@@ -15,7 +15,7 @@ returns-clause-session c =
     let started : Wholes → InSession = λ w. record { state = record { wholes = w; checkpoints = []; breakpoints = empty; drawn = 0 }; quantum = c.args.quantum } in
     ap (λ xs. shown_session c.in_ok-new.field-0 xs c.new-3.result 0 c.args.quantum) c.new-2.ensures
     ∙ ap (λ (breaks : Breaks). shown_session c.in_ok-new.field-0 [] breaks 0 c.args.quantum) c.new-3.ensures
-    ∙ ap started (wholes_start c.in_ok-new.field-0 c.args.frames c.in_ok-new.ensures.spaces c.in_ok-new.ensures.processes)
+    ∙ ap started (wholes_start c.in_ok-new.field-0 c.args.frames c.in_ok-new.ensures.spaces c.in_ok-new.ensures.processes c.in_ok-new.ensures.lists)
 
 pub returns-clause-stands : goal.returns-clause-stands
 returns-clause-stands c =
@@ -23,7 +23,7 @@ returns-clause-stands c =
     states_same _ (fresh c.args.frames)
     (ap (λ xs. shown_state c.in_ok-new.field-0 xs c.new-3.result 0) c.new-2.ensures
     ∙ ap (λ (breaks : Breaks). shown_state c.in_ok-new.field-0 [] breaks 0) c.new-3.ensures
-    ∙ ap started (wholes_start c.in_ok-new.field-0 c.args.frames c.in_ok-new.ensures.spaces c.in_ok-new.ensures.processes))
+    ∙ ap started (wholes_start c.in_ok-new.field-0 c.args.frames c.in_ok-new.ensures.spaces c.in_ok-new.ensures.processes c.in_ok-new.ensures.lists))
 
 pub invariant_of-result : goal.invariant_of-result
 invariant_of-result c = (

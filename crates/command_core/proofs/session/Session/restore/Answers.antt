@@ -1,4 +1,4 @@
-use Rattle.std.proofs.Common.{ap, subst, sym, ◌∙◌, Ok}
+use Rattle.std.proofs.Common.{ap, subst, sym, ◌∙◌, Ok, Some}
 use Rattle.std.specs.Option.{is_some}
 use Rattle.machine_core.specs.declared.process.Process as declared
 use Rattle.report_text.specs.declared.answer.Answer.TheVariants.{Done, Refused}
@@ -51,7 +51,7 @@ pub invariant_of-self-2 : goal.invariant_of-self-2
 invariant_of-self-2 c =
     let s = c.self.inside in
     let x = c.in-Some-get.kept.now in
-    let copied = subst (λ (y : declared.Process). CopiesProcess x.space c.args.p y s.machine c.restore_process.new.machine (Ok tt)) c.process-in-Some-get.ensures c.in-Ok.ensures in (
+    let copied = subst (λ (y : declared.Process). CopiesProcess (Some c.args.p) x.space c.args.p y s.machine c.restore_process.new.machine (Ok tt)) c.process-in-Some-get.ensures c.in-Ok.ensures in (
       session_of_restored s.machine c.restore_process.new.machine (spaces_kept s.checkpoints) s.drawn c.args.p x c.self.invariant.0 (ap is_some (sym c.in-Some.ensures.kept))
           (found_has c.as_slice.result.now (IsFree s.machine) s.checkpoints x c.self.invariant.0.free (sym c.in-Some-get.ensures)) copied,
       c.self.invariant.1,
@@ -62,7 +62,7 @@ pub returns-clause-gives : goal.returns-clause-gives
 returns-clause-gives c =
     let s = c.self.inside in
     let x = c.in-Some-get.kept.now in
-    let copied = subst (λ (y : declared.Process). CopiesProcess x.space c.args.p y s.machine c.restore_process.new.machine (Ok tt)) c.process-in-Some-get.ensures c.in-Ok.ensures in
+    let copied = subst (λ (y : declared.Process). CopiesProcess (Some c.args.p) x.space c.args.p y s.machine c.restore_process.new.machine (Ok tt)) c.process-in-Some-get.ensures c.in-Ok.ensures in
     subst (λ (s : InSession). GivesChange (on_process c.args.p (restore_row c.args.p c.args.name.now) (registry_of s.state)) s.state Done
     (shown_state c.restore_process.new.machine c.self.inside.checkpoints c.self.inside.breakpoints c.self.inside.drawn)) c.self.view_is
     (restored_done s.machine s.checkpoints s.breakpoints s.drawn c.args.p c.args.name.now c.in-Some.field-0.now (sym c.in-Some.ensures.kept) c.restore_process.new.machine x c.self.invariant.0
