@@ -9,7 +9,7 @@ use Rattle.ovl_io.specs.Permissions.{permits}
 use Rattle.overlay_pages.specs.State.{PageState, State, memory_of, seen_page}
 use Rattle.overlay_memory.specs.PageLaws.{some_is}
 use Rattle.overlay_memory.specs.StateMemory.{memory_at}
-use Rattle.overlay_memory.specs.Translated.{access_of}
+use Rattle.overlay_memory.specs.Translated.{access_at}
 use Rattle.overlay_memory.specs.View.{AreTrue, cached_page}
 use Rattle.overlay_memory.proofs.Truths.{cached_in}
 use Rattle.space_maps.specs.Spaces.{page_in}
@@ -138,21 +138,21 @@ module _ (v : State) (s need : ℕ) (pages : List ℕ) (start : BareTranslations
       sym (no_page s need (memory_of v s) (bare now)) ∙ ap (λ k. translated_pages s (memory_of v s) need (range_with_len at k) (bare now)) (sym none) ∙ sym so.rest
 
 pub access_is : (s need address count : ℕ) (memory : Memory) (start now : BareTranslations) → now ≡ translated_pages s memory need (pages_under address count) start
-    → now ≡ access_translated s memory (access_of need address count) start
+    → now ≡ access_translated s memory (access_at need address count) start
 unfolding access_translated
 access_is s need address count memory start now is = is
 
-pub nothing_translated : (s need address count : ℕ) (memory : Memory) (t : BareTranslations) → count ≡ 0 → t ≡ access_translated s memory (access_of need address count) t
-nothing_translated s need address count memory t none = sym (access_of_none s memory (access_of need address count) t none)
+pub nothing_translated : (s need address count : ℕ) (memory : Memory) (t : BareTranslations) → count ≡ 0 → t ≡ access_translated s memory (access_at need address count) t
+nothing_translated s need address count memory t none = sym (access_of_none s memory (access_at need address count) t none)
 
 -- an access is all that is counted
-pub counted_is : (s need address count : ℕ) (memory : Memory) (t u : BareTranslations) → u ≡ access_translated s memory (access_of need address count) t
-    → u ≡ counted s memory (access_of need address count ∷ []) t
-counted_is s need address count memory t u is = is ∙ sym (counted_one s memory (access_of need address count) t)
+pub counted_is : (s need address count : ℕ) (memory : Memory) (t u : BareTranslations) → u ≡ access_translated s memory (access_at need address count) t
+    → u ≡ counted s memory (access_at need address count ∷ []) t
+counted_is s need address count memory t u is = is ∙ sym (counted_one s memory (access_at need address count) t)
 
 -- an access within a line
 pub counted_in_page : (s need address count page : ℕ) (memory : Memory) (t u : BareTranslations) → 0 < count → address % 64 + count ≤ 64 → page ≡ address / PAGE_BYTES
-    → u ≡ translated s memory page t → u ≡ counted s memory (access_of need address count ∷ []) t
+    → u ≡ translated s memory page t → u ≡ counted s memory (access_at need address count ∷ []) t
 counted_in_page s need address count page memory t u some fits page_is is =
     is ∙ ap (λ k. translated s memory k t) page_is
-    ∙ sym (counted_one s memory (access_of need address count) t ∙ access_in_page s memory (access_of need address count) t some (omega (arith, fits)))
+    ∙ sym (counted_one s memory (access_at need address count) t ∙ access_in_page s memory (access_at need address count) t some (omega (arith, fits)))

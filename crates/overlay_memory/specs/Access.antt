@@ -13,7 +13,7 @@ use Rattle.overlay_pages.specs.State.{State, base_of, books, memory_of}
 use Rattle.overlay_pages.specs.Changes.{IsPlaced, limit_of, units_of, whole_page}
 use Rattle.overlay_pages.specs.Calls.{AreMapped, entries_in}
 use Rattle.overlay_pages.specs.View.{MemoryView, state_of}
-use Rattle.overlay_pages.specs.Spots.{FindsLine, IsFound, IsFoundAt}
+use Rattle.overlay_pages.specs.Spots.{FindsLine, IsFoundAt}
 use Rattle.overlay_pages.specs.declared.spots.FoundLine.{FoundLine}
 use Rattle.overlay_memory.specs.Room.{IsFullFor}
 use Rattle.overlay_memory.specs.declared.error.MemoryError.{MemoryError}
@@ -49,10 +49,6 @@ IsFoundIn view space address found = IsFoundAt view space (address / PAGE_BYTES)
 
 abbrev pub FindsIn : MemoryView → ℕ → ℕ → Option FoundLine → Type 0
 FindsIn view space address result = FindsLine view space (address / PAGE_BYTES) (address / LINE_BYTES % PAGE_LINES) result
-
--- what was found stands as it was found
-abbrev pub KeepsFound : MemoryView → MemoryView → Type 0
-KeepsFound old new = (found : FoundLine) → IsFound old found → IsFound new found
 
 -- the ledger after a store
 abbrev pub stored_books : State → ℕ → ℕ → ℕ → Ledger

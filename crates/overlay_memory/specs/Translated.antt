@@ -17,8 +17,8 @@ KeepsOtherTranslations space old new = flushed space (translations_of new) ≡ f
 pub keeps_flushed : (space : ℕ) (old new : TranslatedView) → translations_of new ≡ flushed space (translations_of old) → KeepsOtherTranslations space old new
 keeps_flushed space old new is = ap (flushed space) is ∙ flushed_twice space (translations_of old)
 
-abbrev pub access_of : ℕ → ℕ → ℕ → Access
-access_of need address length = record { need = need; address = address; length = length }
+abbrev pub access_at : ℕ → ℕ → ℕ → Access
+access_at need address length = record { need = need; address = address; length = length }
 
 -- after an access of a space
 abbrev pub after_access : TranslatedView → ℕ → Access → BareTranslations

@@ -8,6 +8,7 @@
 //! - `error`: why a call isn't done
 //! - `memory`: the public type
 //! - `reading`: bytes out of the lines of pages
+//! - `removing`: pages that are taken away
 //! - `room`: whether there are as many units as a change needs
 //! - `storing`: bytes into the lines of pages, and what a store needs first
 //! - `translating`: pages that accesses go through, and what entries hold of them
@@ -16,6 +17,7 @@
 mod error;
 mod memory;
 mod reading;
+mod removing;
 mod room;
 mod storing;
 mod translating;

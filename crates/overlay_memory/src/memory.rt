@@ -16,13 +16,12 @@ ghost use Rattle.overlay_pages.specs.Lines.{line_in_page};
 ghost use Rattle.overlay_pages.specs.State.{books, memory_of};
 ghost use Rattle.overlay_pages.specs.Changes.{AreAbsent, Fits, HasCopyRoom, HasShareRoom, IsPlaced, committed, copied, discarded, is_writable, limit_of, units_of, with_shared, with_written, with_zeros};
 ghost use Rattle.overlay_pages.specs.View.{HasOwnPlace, IsJoined, place_at};
-ghost use Rattle.overlay_pages.specs.View as seen;
 ghost use Rattle.overlay_pages.specs.Calls.{AreMapped, AreShared, AreZeros, AwaitBare, AwaitsLike, HasSettledBlocks, IsEmptyState, IsNextPage, KeepsWholeBlocks, NoneAwaitsBelow, entries_in};
-ghost use Rattle.overlay_memory.specs.Access.{FindsIn, IsFirstAbsent, IsFoundIn, KeepsFound, Places, Reads, Stores};
-ghost use Rattle.overlay_memory.specs.Pieces.{IsEmptied, emptied_space};
+ghost use Rattle.overlay_memory.specs.Access.{FindsIn, IsFirstAbsent, IsFoundIn, Places, Reads, Stores};
+ghost use Rattle.overlay_memory.specs.Pieces.{emptied_space};
 ghost use Rattle.overlay_memory.specs.Room.{FallsShort};
-ghost use Rattle.overlay_memory.specs.Translated.{access_of, after_access};
-ghost use Rattle.overlay_memory.specs.View.{state_of, translations_of, with_line_at_place};
+ghost use Rattle.overlay_memory.specs.Translated.{access_at, after_access};
+ghost use Rattle.overlay_memory.specs.View.{AreTrue, state_of, translations_of, with_line_at_place};
 ghost use Rattle.translation_cache.specs.Bare.{bare};
 ghost use Rattle.translation_cache.specs.Formed.{IsFormed};
 ghost use Rattle.translation_cache.specs.Translations.{flushed, no_translations};
@@ -30,6 +29,7 @@ ghost use Rattle.overlay_memory.specs.contracts.memory.OverlayMemory.{the_row};
 
 use crate::error::{MemoryError, Shortage, SpaceError};
 use crate::reading::{find_line, read_bytes, read_found};
+use crate::removing::{remove_pages, unmap_pages};
 use crate::room::{shortage_by, shortage_of};
 use crate::storing::write_bytes;
 use crate::translating::{translate, translate_access};
@@ -251,7 +251,7 @@ impl OverlayMemory {
         ensures kept { length into.new ≡ length into.old }
         ensures same { self.new.pages ≡ self.old.pages }
         ensures translations { translations_of self.new
-            ≡ after_access self.old space (access_of need.0 address (length into.old)) }
+            ≡ after_access self.old space (access_at need.0 address (length into.old)) }
     {
         translate_access(
             &self.pages,
@@ -291,7 +291,7 @@ impl OverlayMemory {
         ensures kept { length into.new ≡ length into.old }
         ensures same { self.new.pages ≡ self.old.pages }
         ensures translations { translations_of self.new
-            ≡ after_access self.old found.space (access_of need.0 address (length into.old)) }
+            ≡ after_access self.old found.space (access_at need.0 address (length into.old)) }
     {
         translate(&self.pages, &mut self.cache, found.space, found.page, need);
         read_found(&self.pages, found, address, into, need)
@@ -304,7 +304,7 @@ impl OverlayMemory {
         requires few { length bytes.now ≤ PAGE_BYTES }
         ensures stores { Stores self.old.pages self.new.pages space address bytes.now result }
         ensures translations { translations_of self.new
-            ≡ after_access self.old space (access_of writable address (length bytes.now)) }
+            ≡ after_access self.old space (access_at writable address (length bytes.now)) }
     {
         translate_access(
             &self.pages,
@@ -549,6 +549,7 @@ impl OverlayMemory {
     pub fn hits(&self) -> u64
         ensures hits { result ≡ (translations_of self.now).hits }
         ensures formed { IsFormed (translations_of self.now) }
+        ensures held { AreTrue (state_of self.now) self.now.cache }
     {
         self.cache.hits()
     }
@@ -557,6 +558,7 @@ impl OverlayMemory {
     pub fn misses(&self) -> u64
         ensures misses { result ≡ (translations_of self.now).misses }
         ensures formed { IsFormed (translations_of self.now) }
+        ensures held { AreTrue (state_of self.now) self.now.cache }
     {
         self.cache.misses()
     }
@@ -593,31 +595,5 @@ impl OverlayMemory {
         ensures { result ≡ own_lines (books (state_of self.now)) }
     {
         self.pages.lines()
-    }
-}
-
-/// Takes away all pages of a space that is there, the least first.
-fn remove_pages(pages: &mut OverlayPages, space: u16)
-    requires there { holds_space (seen.state_of pages.old) space ≡ true }
-    requires settled { (space_in (seen.state_of pages.old) space).awaiting ≡ map.empty }
-    ensures { IsEmptied (seen.state_of pages.old) (seen.state_of pages.new) space }
-{
-    'removing: while let Some(page) = pages.next_page(space, 0) {
-        pages.remove_run(space, page, u32::MAX);
-    }
-}
-
-/// Takes away pages that are all there, with their overlays.
-fn unmap_pages(pages: &mut OverlayPages, space: u16, page: u64, n: u32)
-    requires there { AreMapped (seen.state_of pages.old) space page n }
-    requires settled { (space_in (seen.state_of pages.old) space).awaiting ≡ map.empty }
-    ensures { seen.state_of pages.new ≡ cut_pages (seen.state_of pages.old) space page n }
-{
-    let mut at = page;
-    let mut left = n;
-    'unmapping: while left > 0 {
-        let gone = pages.remove_run(space, at, left);
-        at += u64::from(gone);
-        left -= gone;
     }
 }

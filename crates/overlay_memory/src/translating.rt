@@ -9,7 +9,7 @@ ghost use Rattle.overlay_bits.specs.Lines.{AreLines};
 ghost use Rattle.overlay_pages.specs.Changes.{Fits, with_brought, writes_frame};
 ghost use Rattle.overlay_pages.specs.State.{memory_of};
 ghost use Rattle.overlay_pages.specs.View.{IsJoined, state_of};
-ghost use Rattle.overlay_memory.specs.Translated.{access_of};
+ghost use Rattle.overlay_memory.specs.Translated.{access_at};
 ghost use Rattle.overlay_memory.specs.View.{AreTrue, cached_page};
 ghost use Rattle.space_maps.specs.Spaces.{page_in};
 ghost use Rattle.translation_cache.specs.Bare.{bare};
@@ -78,7 +78,7 @@ pub(crate) fn translate_access(
 )
     requires held { AreTrue (state_of pages.now) cache.old }
     ensures translated { bare cache.new ≡ access_translated space (memory_of (state_of pages.now) space)
-        (access_of need.0 address count) (bare cache.old) }
+        (access_at need.0 address count) (bare cache.old) }
     ensures held { AreTrue (state_of pages.now) cache.new }
 {
     if count == 0 {

@@ -1,5 +1,5 @@
 use Rattle.std.proofs.Common.{ap, subst, ◌∙◌}
-use Rattle.overlay_memory.specs.View.{translations_of}
+use Rattle.overlay_memory.specs.View.{AreTrue, state_of, translations_of}
 use Rattle.translation_cache.specs.Bare.{bare, formed_bare}
 use Rattle.translation_cache.specs.Formed.{IsFormed}
 use Rattle.overlay_memory.proofs.memory.OverlayMemory.hits.Goals as goal
@@ -10,3 +10,6 @@ returns-clause-hits c = c.hits.ensures.hits ∙ ap (λ m. (translations_of m).hi
 
 pub returns-clause-formed : goal.returns-clause-formed
 returns-clause-formed c = subst (λ m. IsFormed (translations_of m)) c.self.view_is (formed_bare c.self.inside.cache c.hits.ensures.formed)
+
+pub returns-clause-held : goal.returns-clause-held
+returns-clause-held c = subst (λ m. AreTrue (state_of m) m.cache) c.self.view_is c.self.invariant.entries

@@ -1,7 +1,7 @@
 use Rattle.std.proofs.Common.{length, ap, ◌∙◌}
 use Rattle.overlay_pages.specs.State.{memory_of}
 use Rattle.overlay_pages.specs.View.{state_of}
-use Rattle.overlay_memory.specs.Translated.{access_of, after_access}
+use Rattle.overlay_memory.specs.Translated.{access_at, after_access}
 use Rattle.overlay_memory.proofs.Counting.{counted_is}
 use Rattle.translation_cache.specs.Bare.{bare}
 use Rattle.overlay_memory.proofs.memory.OverlayMemory.load.Goals as goal
@@ -11,4 +11,4 @@ returns-clause-translations c =
     let n = length c.args.into.now in
     counted_is c.args.space c.args.need.0 c.args.address n (memory_of (state_of c.self.inside.pages) c.args.space) (bare c.self.inside.cache)
     (bare c.translate_access.new.cache) c.translate_access.ensures.translated
-    ∙ ap (λ m. after_access m c.args.space (access_of c.args.need.0 c.args.address n)) c.self.view_is
+    ∙ ap (λ m. after_access m c.args.space (access_at c.args.need.0 c.args.address n)) c.self.view_is

@@ -2,7 +2,7 @@ use Rattle.std.proofs.Common.{length, ap, ◌∙◌}
 use Rattle.ovl_io.specs.Permissions.{writable}
 use Rattle.overlay_pages.specs.State.{memory_of}
 use Rattle.overlay_pages.specs.View.{state_of}
-use Rattle.overlay_memory.specs.Translated.{access_of, after_access}
+use Rattle.overlay_memory.specs.Translated.{access_at, after_access}
 use Rattle.overlay_memory.proofs.Counting.{counted_is}
 use Rattle.overlay_memory.proofs.Truths.{stored_translated}
 use Rattle.translation_cache.specs.Bare.{bare}
@@ -19,4 +19,4 @@ returns-clause-translations c =
     c.write_bytes.ensures.lists
     ∙ counted_is c.args.space writable c.args.address n (memory_of (state_of c.self.inside.pages) c.args.space) (bare c.self.inside.cache)
     (bare c.translate_access.new.cache) c.translate_access.ensures.translated
-    ∙ ap (λ m. after_access m c.args.space (access_of writable c.args.address n)) c.self.view_is
+    ∙ ap (λ m. after_access m c.args.space (access_at writable c.args.address n)) c.self.view_is

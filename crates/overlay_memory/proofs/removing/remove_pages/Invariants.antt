@@ -1,7 +1,7 @@
 use Rattle.std.specs.FinMap.{len}
 use Rattle.overlay_pages.specs.View.{state_of}
 use Rattle.overlay_memory.proofs.Emptied.{IsEmptying}
-use Rattle.overlay_memory.proofs.memory.remove_pages.Given as goal
+use Rattle.overlay_memory.proofs.removing.remove_pages.Given as goal
 use Rattle.space_maps.specs.Spaces.{space_in}
 
 abbrev pub invariant-removing : goal.invariant-removing

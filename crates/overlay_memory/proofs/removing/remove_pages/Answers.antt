@@ -1,6 +1,6 @@
 use Rattle.overlay_pages.specs.View.{state_of}
 use Rattle.overlay_memory.proofs.Emptied.{emptied, emptying_more, fewer}
-use Rattle.overlay_memory.proofs.memory.remove_pages.Goals as goal
+use Rattle.overlay_memory.proofs.removing.remove_pages.Goals as goal
 
 pub removing-smaller : goal.removing-smaller
 removing-smaller c =

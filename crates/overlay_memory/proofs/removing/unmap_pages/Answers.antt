@@ -1,7 +1,7 @@
 use Rattle.std.proofs.Common.{◌+◌, ◌-◌, sym, subst}
 use Rattle.overlay_pages.specs.View.{state_of}
 use Rattle.overlay_memory.proofs.Unmapping.{IsUnmapping, next_there, still_settled, still_there, unmapping_more, unmapping_none}
-use Rattle.overlay_memory.proofs.memory.unmap_pages.Goals as goal
+use Rattle.overlay_memory.proofs.removing.unmap_pages.Goals as goal
 
 pub unmapping-init : goal.unmapping-init
 unmapping-init c = unmapping_none (state_of c.args.pages.now) c.args.space c.args.page c.args.n c.requires.there
