@@ -15,6 +15,7 @@
 //! - `segments`: calls of `segment_store`
 //! - `ledgers`: calls of `space_ledger`
 //! - `memory`: calls of `overlay_memory` and `fork_checkpoint`
+//! - `workloads`: calls of `workload`
 //! - `spaces`: a memory in which no page awaits
 #![tactic(auto)]
 

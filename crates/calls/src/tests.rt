@@ -16,3 +16,4 @@ mod segments;
 mod spaces;
 mod turns;
 mod words;
+mod workloads;

@@ -1,4 +1,4 @@
-use Rattle.std.proofs.Common.{◌≡◌, ℕ, ◌+◌, ◌<◌, ◌≤◌, Bool, true, false, cond, List, [], ◌++◌, length, sym, ap, subst, ◌∙◌, refl, arith, append-nil, length-append, Option, Some, None, Result, Ok, Err, inl, inr, ◌||◌}
+use Rattle.std.proofs.Common.{◌≡◌, ℕ, ◌+◌, ◌<◌, ◌≤◌, Bool, true, false, cond, List, [], ◌++◌, length, sym, ap, subst, ◌∙◌, refl, arith, append-nil, length-append, Option, Result, Ok, Err, inl, inr, ◌||◌}
 use Rattle.std.proofs.lemmas.Bool.Decides.{nat_tests}
 use Rattle.std.specs.Prelude.{nat_lt}
 use Rattle.sizes.specs.declared.TheConstants.{MOST_SCRIPT_BYTES, MOST_SCRIPT_LINES}
@@ -19,10 +19,9 @@ use Rattle.report_text.specs.Lines.{bad_line}
 use Rattle.script_text.specs.Script.{commands_of, Parses}
 use Rattle.script_text.specs.Lines.{line_count}
 use Rattle.overlay_top.specs.declared.words.Settings.{Settings}
-use Rattle.overlay_top.specs.Outcome.{RunOutcome, ScriptSays, is_too_much, SaysTooMuch, ended, names_said, outcome_set, run_outcome, said, read_by, said_outcome}
+use Rattle.overlay_top.specs.Outcome.{RunOutcome, ScriptSays, is_too_much, SaysTooMuch, ended, names_said, said, read_by, said_outcome}
 use Rattle.overlay_top.specs.Outside.{ShelfBy, SinkBy, SourceSound}
 use Rattle.overlay_top.specs.Running.{Reported, RunEnds}
-use Rattle.overlay_top.specs.Words.{settings_of}
 use Rattle.overlay_top.specs.Status.{code_of}
 use Rattle.overlay_top.specs.Ends.{Ends, IsTaken, IsCompleteWith, NoFault, Refuses, SaysAt, World, status_of}
 use Rattle.overlay_top.specs.Ends.Ends.{Untouched, Whole, SourceFailed, ShelfFailed, SinkFailed, OutOfMemory}
@@ -166,12 +165,3 @@ complete s h k outcome names old new _ (SourceFailed rose files report taken) is
 complete s h k outcome names old new _ (ShelfFailed j name within at source rose sink taken asked refused first) is none = absurd (none.1 rose)
 complete s h k outcome names old new _ (SinkFailed j within source shelf rose taken asked cut) is none = absurd (none.2 rose)
 complete s h k outcome names old new _ (OutOfMemory j begun within few source shelf sink asked first) is none = inl refl
-
--- the words
-pub outcome_by : (words : List (List ℕ)) (set : Settings) (left : List ℕ) (files : List ℕ → Option (List ℕ)) → settings_of words ≡ Some set
-    → run_outcome words left files ≡ said_outcome set (said left) files
-outcome_by words set left files is = ap (λ found. outcome_set found left files) is
-
-pub outcome_refused : (words : List (List ℕ)) (left : List ℕ) (files : List ℕ → Option (List ℕ)) → settings_of words ≡ None
-    → run_outcome words left files ≡ ended [] ending.BadWords
-outcome_refused words left files is = ap (λ found. outcome_set found left files) is

@@ -6,6 +6,7 @@ pub mod Errors
 pub mod Asks
 pub mod Runs
 pub mod Calls
+pub mod Chosen
 pub mod Codes
 pub mod Listing
 pub mod MemoryRows

@@ -1,19 +1,15 @@
-use Rattle.std.proofs.Common.{◌≡◌, ℕ, zero, suc, ◌+◌, ◌-◌, ◌/◌, ◌<◌, ◌≤◌, List, [], ◌++◌, ap, sym, subst, ◌∙◌, refl, arith, Option, Some, None, Result, Ok, Err}
+use Rattle.std.proofs.Common.{◌≡◌, ℕ, zero, suc, ◌+◌, ◌-◌, ◌/◌, ◌<◌, ◌≤◌, List, [], ◌++◌, ap, sym, ◌∙◌, refl, arith, Option, Some, None, Result, Ok}
 use Rattle.std.specs.Prelude.{min}
 use Rattle.ovl_io.specs.Memory.{Memory, bytes_at, first_denied}
 use Rattle.ovl_io.specs.MemoryLaws.{denied_back, denied_front}
 use Rattle.machine_core.specs.Process.{Process}
 use Rattle.report_text.specs.declared.TheConstants.{ROW_BYTES}
-use Rattle.report_text.specs.declared.answer.Answer.TheVariants.{Refused}
 use Rattle.report_text.specs.declared.answer.Code.{Code}
-use Rattle.report_text.specs.declared.answer.Code.TheVariants.{NoProcess, Unmapped}
-use Rattle.report_text.specs.Answers.{HasCodeLine, answer_text}
 use Rattle.report_text.specs.Lines.{dump_line}
 use Rattle.command_core.specs.declared.TheConstants.{WORD_BYTES}
-use Rattle.command_core.specs.Commands.{disasm_row, disasm_text, dump_from, dump_text, prints_of, prints_read}
+use Rattle.command_core.specs.Commands.{disasm_row, disasm_text, dump_from, dump_text}
 use Rattle.command_core.specs.Looks.{look_denied, look_of}
-use Rattle.command_core.specs.State.{State}
-use Rattle.overlay_top.specs.Printing.{Sees, memory_of}
+use Rattle.overlay_top.specs.Printing.{Sees}
 
 -- Bytes that were looked at, and parts of them.
 

@@ -9,12 +9,12 @@ use Rattle.overlay_top.specs.Words.{number_in}
 
 -- The number of a text, where it is one of the range, and where it isn't.
 
-pub in_range : (most n : ℕ) (text : List ℕ) → IsUnsignedIn 1 most text → n ≡ digits_value 10 (without_leading_plus text) → Some n ≡ number_in most text
-in_range most n text passes is = rw (Accepts-accepts false (vp.Unsigned 1 most) text passes) (ap Some is)
+pub in_range : (least most n : ℕ) (text : List ℕ) → IsUnsignedIn least most text → n ≡ digits_value 10 (without_leading_plus text) → Some n ≡ number_in least most text
+in_range least most n text passes is = rw (Accepts-accepts false (vp.Unsigned least most) text passes) (ap Some is)
 
-pub out_of_range : (most : ℕ) (text : List ℕ) → (IsUnsignedIn 1 most text → ⊥) → None ≡ number_in most text
-out_of_range most text fails = tested (is_unsigned_in 1 most text) refl
+pub out_of_range : (least most : ℕ) (text : List ℕ) → (IsUnsignedIn least most text → ⊥) → None ≡ number_in least most text
+out_of_range least most text fails = tested (is_unsigned_in least most text) refl
   where
-    tested : (b : Bool) → is_unsigned_in 1 most text ≡ b → None ≡ (if b then Some (digits_value 10 (without_leading_plus text)) else None)
-    tested true e = absurd (fails (accepts-Accepts false (vp.Unsigned 1 most) text e))
+    tested : (b : Bool) → is_unsigned_in least most text ≡ b → None ≡ (if b then Some (digits_value 10 (without_leading_plus text)) else None)
+    tested true e = absurd (fails (accepts-Accepts false (vp.Unsigned least most) text e))
     tested false e = refl

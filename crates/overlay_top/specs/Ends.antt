@@ -1,4 +1,4 @@
-use Rattle.std.specs.Prelude.{◌≡◌, ℕ, ◌+◌, ◌<◌, ◌≤◌, List, [], length, take, slice_get, Option, Some, ◌⊎◌}
+use Rattle.std.specs.Prelude.{◌≡◌, ℕ, ◌+◌, ◌<◌, ◌≤◌, List, [], length, take, slice_get, Option, Some, None, ◌⊎◌}
 use Rattle.sizes.specs.declared.TheConstants.{MOST_SCRIPT_BYTES}
 use Rattle.ovl_io.specs.Outside.{AsksFor}
 use Rattle.ovl_io.specs.declared.shelf.ShelfError.TheVariants as shelf
@@ -13,7 +13,7 @@ use Rattle.script_text.specs.declared.command.ScriptError.TheVariants as script
 use Rattle.overlay_top.specs.declared.status.Status.{Status}
 use Rattle.overlay_top.specs.declared.status.Status.TheVariants.{Done, NoMemory, BadWords, ReadFailed, WriteFailed, BadLine, TooLong}
 use Rattle.report_text.specs.Lines.{bad_line}
-use Rattle.overlay_top.specs.Outcome.{RunOutcome, SaysOutside, SaysCommands, SaysTooMuch, said, named, report_of, first_report, passage_after, MayLackMemory}
+use Rattle.overlay_top.specs.Outcome.{Asking, OfNothing, OfOutside, RunOutcome, SaysOutside, SaysCommands, SaysTooMuch, said, named, report_of, first_report, passage_after, MayLackMemory}
 use Rattle.overlay_top.specs.Reading.{Took, TookAtMost}
 use Rattle.overlay_top.specs.Running.{Reported, ReportedCut}
 use Rattle.overlay_top.specs.Outside.{SourceRose, SourceSound, ShelfRose, ShelfSound, SinkRose, SinkSound, RefusedFor, WasRefused}
@@ -63,9 +63,32 @@ pub data Ends {S H K : Type 0} (s : SourceOf S) (h : ShelfOf H) (k : SinkOf K) (
       → AsksFor h.fetched (named (take begun names)) old.files new.files
       → Reported k old.report (first_report j outcome) new.report → Ends s h k outcome names old new NoMemory
 
+-- How a call may end that asks nothing of the outside: with the whole report and the outcome's status; or the sink failed; or there was no
+-- memory. What was reported is said as above.
+pub data EndsMade {K : Type 0} (k : SinkOf K) (outcome : RunOutcome) (old new : K) : Status → Type 0 where
+  MadeWhole : SinkSound k old new → Reported k old (report_of outcome) new → EndsMade k outcome old new outcome.status
+  MadeSinkFailed : (j : ℕ) → j ≤ length outcome.passages → SinkRose k old new
+      → ReportedCut k old (first_report j outcome) (passage_after j outcome).text new → EndsMade k outcome old new WriteFailed
+  MadeOutOfMemory : (j begun : ℕ) → j ≤ length outcome.passages → MayLackMemory outcome j begun → SinkSound k old new
+      → Reported k old (first_report j outcome) new → EndsMade k outcome old new NoMemory
+
+-- source and shelf are as they were, their faults too, and no file was asked for
+abbrev pub IsUnasked : {S H K : Type 0} → World S H K → World S H K → Type 0
+IsUnasked old new = (new.script ≡ old.script) × (new.files ≡ old.files)
+
+-- how a call may end, by what it asks of the outside
+abbrev pub EndsAs : {S H K : Type 0} → SourceOf S → ShelfOf H → SinkOf K → RunOutcome → Asking → World S H K → World S H K → Status → Type 0
+EndsAs s h k outcome (OfOutside names) old new status = Ends s h k outcome names old new status
+EndsAs s h k outcome OfNothing old new status = IsUnasked old new × EndsMade k outcome old.report new.report status
+
 -- the same, of the number that the call answers
-abbrev pub EndsWith : {S H K : Type 0} → SourceOf S → ShelfOf H → SinkOf K → RunOutcome → List (Option (List ℕ)) → World S H K → World S H K → ℕ → Type 0
-EndsWith s h k outcome names old new number = (status : Status) × (number ≡ code_of status) × Ends s h k outcome names old new status
+abbrev pub EndsWith : {S H K : Type 0} → SourceOf S → ShelfOf H → SinkOf K → RunOutcome → Asking → World S H K → World S H K → ℕ → Type 0
+EndsWith s h k outcome asking old new number = (status : Status) × (number ≡ code_of status) × EndsAs s h k outcome asking old new status
+
+-- what source and shelf have to tell for that to be known: nothing, where nothing is asked of them
+abbrev pub IsTold : Option ℕ → Type 0 → Type 0 → Type 0
+IsTold None source shelf = source × shelf
+IsTold (Some seed) source shelf = Unit {0}
 
 -- How a call ends for which the outcome's status is 0, and in which no fault rose.
 abbrev pub IsCompleteWith : {K : Type 0} → SinkOf K → RunOutcome → K → K → ℕ → Type 0
@@ -95,8 +118,12 @@ TakesAt s h old new ReadFailed =
 TakesAt s h old new NoMemory = Unit {0}
 TakesAt s h old new BadWords = s.left new.script ≡ s.left old.script
 
-abbrev pub TakesWith : {S H K : Type 0} → SourceOf S → ShelfOf H → World S H K → World S H K → ℕ → Type 0
-TakesWith s h old new number = (status : Status) × (number ≡ code_of status) × TakesAt s h old new status
+abbrev pub TakesAs : {S H K : Type 0} → SourceOf S → ShelfOf H → Asking → World S H K → World S H K → Status → Type 0
+TakesAs s h (OfOutside names) old new status = TakesAt s h old new status
+TakesAs s h OfNothing old new status = IsUnasked old new
+
+abbrev pub TakesWith : {S H K : Type 0} → SourceOf S → ShelfOf H → Asking → World S H K → World S H K → ℕ → Type 0
+TakesWith s h asking old new number = (status : Status) × (number ≡ code_of status) × TakesAs s h asking old new status
 
 -- What the script says where the status is one of its own, also where the shelf tells nothing: the first line
 -- outside is the one that is printed; and it is too long, or all of it are commands (and a file was too long).

@@ -3,11 +3,13 @@ use Rattle.sizes.specs.declared.TheConstants.{MOST_SCRIPT_BYTES, MOST_SCRIPT_LIN
 use Rattle.script_text.specs.declared.command.Command.{Command}
 use Rattle.script_text.specs.Lines.{line_count}
 use Rattle.script_text.specs.Script.{commands_of}
+use Rattle.workload.specs.Script.{made_script}
+use Rattle.workload.specs.File.{made_file}
 use Rattle.report_text.specs.Lines.{bad_line}
 use Rattle.command_core.specs.State.{State, fresh}
 use Rattle.command_core.specs.Commands.{FileAsked, AsksNothing, HasFile, IsMissing, IsTooLong, Performed, asks, file_asked, file_in, performed}
 use Rattle.overlay_top.specs.declared.words.Settings.{Settings}
-use Rattle.overlay_top.specs.Words.{settings_of}
+use Rattle.overlay_top.specs.Words.{seed_set, settings_of}
 use Rattle.overlay_top.specs.declared.status.Status.{Status}
 use Rattle.overlay_top.specs.declared.status.Status.TheVariants.{Done, BadWords, ReadFailed, BadLine, TooLong}
 
@@ -107,8 +109,17 @@ said_outcome settings (SaysCommands commands) files = run_all settings commands 
 said_outcome settings (SaysOutside line) files = ended (bad_line line) BadLine
 
 -- The outcome of words, a script and files by name. What isn't the command's sets nothing, and nothing is done.
+-- The script and the files of a call: those that are made, the file under every name, where a seed is set; else those of the outside.
+abbrev pub chosen_script : Option ℕ → List ℕ → List ℕ
+chosen_script None script = script
+chosen_script (Some seed) script = made_script seed
+
+abbrev pub chosen_files : Option ℕ → (List ℕ → Option (List ℕ)) → List ℕ → Option (List ℕ)
+chosen_files None files = files
+chosen_files (Some seed) files = λ name. Some made_file
+
 abbrev pub outcome_set : Option Settings → List ℕ → (List ℕ → Option (List ℕ)) → RunOutcome
-outcome_set (Some settings) script files = said_outcome settings (said script) files
+outcome_set (Some settings) script files = said_outcome settings (said (chosen_script settings.seed script)) (chosen_files settings.seed files)
 outcome_set None script files = ended [] BadWords
 
 abbrev pub run_outcome : List (List ℕ) → List ℕ → (List ℕ → Option (List ℕ)) → RunOutcome
@@ -122,6 +133,18 @@ names_said (SaysOutside line) = []
 
 abbrev pub names_asked : List ℕ → List (Option (List ℕ))
 names_asked script = names_said (said script)
+
+-- What a call asks of the outside: its script, and the files of these names, with none where a command asks for no file; or nothing at all.
+pub data Asking : Type 0 where
+  OfOutside : List (Option (List ℕ)) → Asking
+  OfNothing : Asking
+
+abbrev pub asking_of : Option ℕ → List ℕ → Asking
+asking_of None script = OfOutside (names_asked script)
+asking_of (Some seed) script = OfNothing
+
+abbrev pub run_asking : List (List ℕ) → List ℕ → Asking
+run_asking words script = asking_of (seed_set words) script
 
 -- the names among those
 abbrev pub named : List (Option (List ℕ)) → List (List ℕ)

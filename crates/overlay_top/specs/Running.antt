@@ -13,7 +13,7 @@ use Rattle.report_text.specs.Answers.{answer_text}
 use Rattle.command_core.specs.State.{AreLikeStates, State}
 use Rattle.command_core.specs.Sessions.{InSession}
 use Rattle.command_core.specs.Commands.{Performed, FileAsked, AsksNothing, HasFile, IsMissing, IsTooLong, file_in, has_all}
-use Rattle.overlay_top.specs.Outcome.{RunOutcome, named, report_of, first_report, passage_after, MayLackMemory}
+use Rattle.overlay_top.specs.Outcome.{Asking, OfNothing, OfOutside, RunOutcome, named, report_of, first_report, passage_after, MayLackMemory}
 use Rattle.overlay_top.specs.Outside.{RefusedFor, SinkRose, SinkSound}
 
 -- How the parts of a call end, by what their part of the outcome is.
@@ -142,3 +142,8 @@ RunEnds h k outcome names shelf_old shelf_new old new (Err SendFailed) =
 -- the names of some commands of the script were asked for, from the first on, in order, and no others
 abbrev pub AsksInOrder : {H : Type 0} → ShelfOf H → List (Option (List ℕ)) → H → H → Type 0
 AsksInOrder h names old new = (begun : ℕ) × AsksFor h.fetched (named (take begun names)) old new
+
+-- the same, of what a call asks
+abbrev pub AsksAs : {H : Type 0} → ShelfOf H → Asking → H → H → Type 0
+AsksAs h (OfOutside names) old new = AsksInOrder h names old new
+AsksAs h OfNothing old new = new ≡ old

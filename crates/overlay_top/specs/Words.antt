@@ -1,4 +1,4 @@
-use Rattle.std.specs.Prelude.{◌≡◌, ℕ, ◌≤◌, true, false, List, [], Option, Some, None, Result, Ok, Err, codes, if◌then◌else◌}
+use Rattle.std.specs.Prelude.{◌≡◌, ℕ, ◌-◌, ◌^◌, ◌≤◌, true, false, List, [], Option, Some, None, option_map, Result, Ok, Err, codes, if◌then◌else◌}
 use Rattle.sizes.specs.declared.TheConstants.{MOST_FRAMES}
 use Rattle.std.specs.Str.Parse.{digits_value, without_leading_plus}
 use Rattle.clap.specs.Words.{App, Row, Rule, Text, fault_of, first_of, found_of, matches_of, new_app, new_rule, rows_of, with_rule}
@@ -14,36 +14,52 @@ use Rattle.overlay_top.specs.declared.words.TheConstants.{FRAMES, QUANTUM, MOST_
 use Rattle.overlay_top.specs.declared.words.WordsError.{WordsError}
 use Rattle.overlay_top.specs.declared.words.WordsError.TheVariants.{Refused, Memory}
 
--- The command, as `clap` describes it: two options with a value each, and nothing else; its name isn't among the words.
+-- The command, as `clap` describes it: three options with a value each, and nothing else; its name isn't among the words.
 abbrev pub option_of : Text → Rule
 option_of name = record (new_rule name) { long = Some name; action = Some Set }
 
 unfoldable pub command_line : App
 command_line =
-    with_rule (with_rule (on_top (λ shape. record shape { no_binary_name = true; disable_help_flag = true }) (new_app (codes "overlay-run")))
-    (option_of (codes "frames"))) (option_of (codes "quantum"))
+    with_rule (with_rule (with_rule (on_top (λ shape. record shape { no_binary_name = true; disable_help_flag = true }) (new_app (codes "overlay-run")))
+    (option_of (codes "frames"))) (option_of (codes "quantum"))) (option_of (codes "make"))
 
--- The number of an option, from 1 on, as Rust's `parse` reads one: the default where it isn't given.
-abbrev pub number_in : ℕ → Text → Option ℕ
-number_in most text = if is_unsigned_in 1 most text then Some (digits_value 10 (without_leading_plus text)) else None
+-- The number of a text within a range, as Rust's `parse` reads one.
+abbrev pub number_in : ℕ → ℕ → Text → Option ℕ
+number_in least most text = if is_unsigned_in least most text then Some (digits_value 10 (without_leading_plus text)) else None
 
+-- the number of an option, from 1 on: the default where it isn't given
 abbrev pub number_of : ℕ → ℕ → Option Text → Option ℕ
 number_of default most None = Some default
-number_of default most (Some text) = number_in most text
+number_of default most (Some text) = number_in 1 most text
 
-abbrev pub settings_from : Option ℕ → Option ℕ → Option Settings
-settings_from (Some frames) (Some quantum) = Some (record { frames = frames; quantum = quantum })
-settings_from (Some frames) None = None
-settings_from None quantum = None
+-- the seed of an option, of 64 bits: none is set where it isn't given
+abbrev pub seed_of : Option Text → Option (Option ℕ)
+seed_of None = Some None
+seed_of (Some text) = option_map Some (number_in 0 (2 ^ 64 - 1) text)
+
+abbrev pub settings_from : Option ℕ → Option ℕ → Option (Option ℕ) → Option Settings
+settings_from (Some frames) (Some quantum) (Some seed) = Some (record { frames = frames; quantum = quantum; seed = seed })
+settings_from (Some frames) (Some quantum) None = None
+settings_from (Some frames) None seed = None
+settings_from None quantum seed = None
 
 -- What the options set, by the values that `clap` found.
 abbrev pub settings_in : List Row → Option Settings
 settings_in rows =
     settings_from (number_of FRAMES MOST_FRAMES (first_of (codes "frames") rows)) (number_of QUANTUM MOST_QUANTUM (first_of (codes "quantum") rows))
+    (seed_of (first_of (codes "make") rows))
 
 -- What words set, where they are the command's.
 unfoldable pub settings_of : List Text → Option Settings
 settings_of words = if is_empty (fault_of command_line words) then settings_in (matches_of command_line words) else None
+
+-- the seed that they set, if any
+abbrev pub seed_in : Option Settings → Option ℕ
+seed_in None = None
+seed_in (Some settings) = settings.seed
+
+abbrev pub seed_set : List Text → Option ℕ
+seed_set words = seed_in (settings_of words)
 
 -- the range of what is set
 abbrev pub IsFromOne : ℕ → ℕ → Type 0

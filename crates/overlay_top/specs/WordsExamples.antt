@@ -1,24 +1,41 @@
-use Rattle.std.specs.Prelude.{◌≡◌, [], ◌∷◌, Some, None, codes, refl}
+use Rattle.std.specs.Prelude.{◌≡◌, ◌-◌, ◌^◌, [], ◌∷◌, Some, None, codes, refl}
 use Rattle.clap.proofs.OnLiterals.{clap_on_literals}
 use Rattle.overlay_top.specs.Words.{command_line, settings_of}
 
 -- What words set, as the checker computes it.
 
-no_words : settings_of [] ≡ Some (record { frames = 1024; quantum = 100 })
+no_words : settings_of [] ≡ Some (record { frames = 1024; quantum = 100; seed = None })
 unfolding clap_on_literals command_line settings_of
 no_words = refl
 
-frames_alone : settings_of (codes "--frames" ∷ codes "3" ∷ []) ≡ Some (record { frames = 3; quantum = 100 })
+frames_alone : settings_of (codes "--frames" ∷ codes "3" ∷ []) ≡ Some (record { frames = 3; quantum = 100; seed = None })
 unfolding clap_on_literals command_line settings_of
 frames_alone = refl
 
-both_in_one_word_each : settings_of (codes "--quantum=7" ∷ codes "--frames=+003" ∷ []) ≡ Some (record { frames = 3; quantum = 7 })
+both_in_one_word_each : settings_of (codes "--quantum=7" ∷ codes "--frames=+003" ∷ []) ≡ Some (record { frames = 3; quantum = 7; seed = None })
 unfolding clap_on_literals command_line settings_of
 both_in_one_word_each = refl
 
-lone_hyphens_last : settings_of (codes "--quantum" ∷ codes "7" ∷ codes "--" ∷ []) ≡ Some (record { frames = 1024; quantum = 7 })
+lone_hyphens_last : settings_of (codes "--quantum" ∷ codes "7" ∷ codes "--" ∷ []) ≡ Some (record { frames = 1024; quantum = 7; seed = None })
 unfolding clap_on_literals command_line settings_of
 lone_hyphens_last = refl
+
+seed_alone : settings_of (codes "--make" ∷ codes "3" ∷ []) ≡ Some (record { frames = 1024; quantum = 100; seed = Some 3 })
+unfolding clap_on_literals command_line settings_of
+seed_alone = refl
+
+all_three : settings_of (codes "--quantum" ∷ codes "7" ∷ codes "--make=18446744073709551615" ∷ codes "--frames=3" ∷ [])
+    ≡ Some (record { frames = 3; quantum = 7; seed = Some (2 ^ 64 - 1) })
+unfolding clap_on_literals command_line settings_of
+all_three = refl
+
+no_seed_of_64_bits : settings_of (codes "--make" ∷ codes "18446744073709551616" ∷ []) ≡ None
+unfolding clap_on_literals command_line settings_of
+no_seed_of_64_bits = refl
+
+seed_twice : settings_of (codes "--make" ∷ codes "1" ∷ codes "--make=1" ∷ []) ≡ None
+unfolding clap_on_literals command_line settings_of
+seed_twice = refl
 
 no_frames : settings_of (codes "--frames" ∷ codes "0" ∷ []) ≡ None
 unfolding clap_on_literals command_line settings_of

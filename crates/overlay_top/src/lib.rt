@@ -6,6 +6,7 @@
 //!
 //! - `words`: the words of the command line
 //! - `reading`: the script, from the source
+//! - `making`: script and file out of a seed, in place of those of the outside
 //! - `sending`: texts, to the sink
 //! - `commands`: one command, on the session
 //! - `printing`: bytes of a process, as lines
@@ -15,6 +16,7 @@
 #![tactic(auto)]
 
 mod commands;
+mod making;
 mod printing;
 mod reading;
 mod running;

@@ -1,6 +1,6 @@
 ghost use Rattle.std.specs.Prelude.{◌≡◌, IfOk, IfSome, false, map, option_map, string_bytes};
 ghost use Rattle.clap.specs.Words.{app_of, found_of, kind_of, rows_of, rule_of};
-ghost use Rattle.overlay_top.specs.Words.{AreInRange, IsFromOne, MatchesWords, ReadsWords, command_line, number_of, option_of, refusal_of, settings_in};
+ghost use Rattle.overlay_top.specs.Words.{AreInRange, IsFromOne, MatchesWords, ReadsWords, command_line, number_of, option_of, refusal_of, seed_of, settings_in};
 
 use clap::error::ErrorKind;
 use clap::{Arg, ArgAction, ArgMatches, Command, Error};
@@ -23,6 +23,8 @@ pub struct Settings {
     pub frames: u32,
     /// How many turns a process takes before the next one does: 1 to 1,000,000.
     pub quantum: u32,
+    /// What the script and its file are made of, in place of those of the outside.
+    pub seed: Option<u64>,
 }
 
 /// Why words give no settings.
@@ -60,7 +62,8 @@ fn command<'a>(alloc: Global) -> Result<Command<'a>, AllocError>
         .no_binary_name(true)
         .disable_help_flag(true)
         .arg(option(alloc, "frames"))?
-        .arg(option(alloc, "quantum"))
+        .arg(option(alloc, "quantum"))?
+        .arg(option(alloc, "make"))
 }
 
 /// The number of an option, from 1 on: the default where it isn't given, and none where its value is no number of the range.
@@ -74,6 +77,19 @@ fn number(value: Option<&str>, default: u32, most: u32) -> Option<u32>
         Some(text) => match text.parse::<u32>() {
             Ok(number) if 1 <= number && number <= most => Some(number),
             _ => None,
+        },
+    }
+}
+
+/// The seed of an option: none is set where it isn't given. Answers none where its value is no number of 64 bits.
+fn seed_from(value: Option<&str>) -> Option<Option<u64>>
+    ensures { result ≡ seed_of (option_map (λ text. text.now) value.entry) }
+{
+    match value {
+        None => Some(None),
+        Some(text) => match text.parse::<u64>() {
+            Ok(seed) => Some(Some(seed)),
+            Err(_) => None,
         },
     }
 }
@@ -105,9 +121,11 @@ fn settings_in(matches: &ArgMatches<'_>) -> Option<Settings>
 {
     let frames = number(matches.get_str("frames"), FRAMES, MOST_FRAMES);
     let quantum = number(matches.get_str("quantum"), QUANTUM, MOST_QUANTUM);
+    let seed = seed_from(matches.get_str("make"));
     Some(Settings {
         frames: frames?,
         quantum: quantum?,
+        seed: seed?,
     })
 }
 

@@ -1,20 +1,65 @@
-use Rattle.std.proofs.Common.{refl, map, string_bytes, subst, Err, []}
+use Rattle.std.proofs.Common.{map, string_bytes, subst, Err}
 use Rattle.overlay_top.specs.declared.status.Status.TheVariants.{BadWords, NoMemory}
-use Rattle.overlay_top.specs.Outcome.{ended, said, said_outcome}
+use Rattle.overlay_top.specs.Outcome.{run_asking, run_outcome}
 use Rattle.overlay_top.specs.Words.{ReadsWords}
-use Rattle.overlay_top.specs.Ends.Ends.{Untouched}
-use Rattle.overlay_top.proofs.Calls.{ends_as, no_memory, outcome_by, outcome_refused}
+use Rattle.overlay_top.specs.Ends.{world_of}
+use Rattle.overlay_top.proofs.Chosen.{asks_none, asks_set, complete_as, ends_refused, ends_set, memory_as, memory_takes, no_seed, says_set, seed_is, takes_set, told_both, told_made, words_take}
+use Rattle.overlay_top.proofs.Codes.{other_number}
 use Rattle.overlay_top.proofs.top.run_program.Goals as goal
 
+-- The words set something.
+
 pub returns-in-Ok-clause-headline : goal.returns-in-Ok-clause-headline
-returns-in-Ok-clause-headline g c s h =
+returns-in-Ok-clause-headline g c s h = (
+  c.run_chosen.result,
+  c.code.ensures,
+  ends_set (map string_bytes c.args.words.now) c.in-Ok.settings (g.S.Source.left c.args.script.now) c.in-Ok.ensures.reads g.S.Source g.H.Shelf g.K.Sink
+      (g.H.Shelf.files c.args.shelf.now) _ _ c.run_chosen.result (c.run_chosen.ensures.ends (told_both c.in-Ok.settings.seed s h)),
+)
+
+pub returns-in-Ok-clause-made : goal.returns-in-Ok-clause-made
+returns-in-Ok-clause-made g c some = (
+  c.run_chosen.result,
+  c.code.ensures,
+  ends_set (map string_bytes c.args.words.now) c.in-Ok.settings (g.S.Source.left c.args.script.now) c.in-Ok.ensures.reads g.S.Source g.H.Shelf g.K.Sink
+      (g.H.Shelf.files c.args.shelf.now) _ _ c.run_chosen.result
+      (c.run_chosen.ensures.ends (told_made g.S.Source.tells g.H.Shelf.tells c.in-Ok.settings.seed (seed_is (map string_bytes c.args.words.now) c.in-Ok.settings c.in-Ok.ensures.reads some))),
+)
+
+pub returns-in-Ok-clause-made_unread : goal.returns-in-Ok-clause-made_unread
+returns-in-Ok-clause-made_unread g c some =
+    other_number c.code.result c.run_chosen.result c.code.ensures
+    (c.run_chosen.ensures.read (seed_is (map string_bytes c.args.words.now) c.in-Ok.settings c.in-Ok.ensures.reads some))
+
+pub returns-in-Ok-clause-takes : goal.returns-in-Ok-clause-takes
+returns-in-Ok-clause-takes g c s = (
+  c.run_chosen.result,
+  c.code.ensures,
+  takes_set (map string_bytes c.args.words.now) c.in-Ok.settings (g.S.Source.left c.args.script.now) c.in-Ok.ensures.reads g.S.Source g.H.Shelf _ _ c.run_chosen.result
+      (c.run_chosen.ensures.takes s),
+)
+
+pub returns-in-Ok-clause-says : goal.returns-in-Ok-clause-says
+returns-in-Ok-clause-says g c s = (
+  c.run_chosen.result,
+  c.code.ensures,
+  says_set (map string_bytes c.args.words.now) c.in-Ok.settings (g.S.Source.left c.args.script.now) c.in-Ok.ensures.reads g.K.Sink _ _ c.run_chosen.result
+      (c.run_chosen.ensures.says s),
+)
+
+pub returns-in-Ok-clause-asked : goal.returns-in-Ok-clause-asked
+returns-in-Ok-clause-asked g c s =
+    asks_set (map string_bytes c.args.words.now) c.in-Ok.settings (g.S.Source.left c.args.script.now) c.in-Ok.ensures.reads g.H.Shelf _ _ (c.run_chosen.ensures.asked s)
+
+pub returns-in-Ok-clause-complete : goal.returns-in-Ok-clause-complete
+returns-in-Ok-clause-complete g c s h =
+    let words = map string_bytes c.args.words.now in
     let left = g.S.Source.left c.args.script.now in
-    let files = g.H.Shelf.files c.args.shelf.now in (
-      c.run_script.result,
-      c.code.ensures,
-      ends_as g.S.Source g.H.Shelf g.K.Sink _ (said_outcome c.in-Ok.settings (said left) files) _ _ _ _ _
-          (outcome_by (map string_bytes c.args.words.now) c.in-Ok.settings left files c.in-Ok.ensures.reads) refl (c.run_script.ensures.ends s h),
-    )
+    complete_as g.S.Source g.H.Shelf g.K.Sink (run_outcome words left (g.H.Shelf.files c.args.shelf.now)) (run_asking words left) _ _ c.run_chosen.result c.code.result c.code.ensures
+    (ends_set words c.in-Ok.settings left c.in-Ok.ensures.reads g.S.Source g.H.Shelf g.K.Sink
+    (g.H.Shelf.files c.args.shelf.now) _ _ c.run_chosen.result (c.run_chosen.ensures.ends (told_both c.in-Ok.settings.seed s h)))
+
+-- They aren't the command's.
 
 pub returns-in-Err-Refused-clause-headline : goal.returns-in-Err-Refused-clause-headline
 returns-in-Err-Refused-clause-headline g c s h =
@@ -22,14 +67,40 @@ returns-in-Err-Refused-clause-headline g c s h =
     let refused = subst (λ error. ReadsWords words (Err error)) c.in-Err-Refused.field-0-is c.in-Err-Refused.ensures.reads in (
       BadWords,
       c.code-in-Err-Refused.ensures,
-      ends_as g.S.Source g.H.Shelf g.K.Sink _ (ended [] BadWords) _ _ _ _ _
-          (outcome_refused words (g.S.Source.left c.args.script.now) (g.H.Shelf.files c.args.shelf.now) refused) refl
-          (Untouched refl refl refl),
+      ends_refused words (g.S.Source.left c.args.script.now) g.S.Source g.H.Shelf g.K.Sink (g.H.Shelf.files c.args.shelf.now) _ refused,
     )
 
+pub returns-in-Err-Refused-clause-made : goal.returns-in-Err-Refused-clause-made
+returns-in-Err-Refused-clause-made g c some =
+    let words = map string_bytes c.args.words.now in
+    absurd (no_seed words (subst (λ error. ReadsWords words (Err error)) c.in-Err-Refused.field-0-is c.in-Err-Refused.ensures.reads) some)
+
+pub returns-in-Err-Refused-clause-takes : goal.returns-in-Err-Refused-clause-takes
+returns-in-Err-Refused-clause-takes g c s = (
+  BadWords,
+  c.code-in-Err-Refused.ensures,
+  words_take g.S.Source g.H.Shelf (run_asking (map string_bytes c.args.words.now) (g.S.Source.left c.args.script.now)) (world_of c.args.script.now c.args.shelf.now c.args.sink.now),
+)
+
+pub returns-in-Err-Refused-clause-asked : goal.returns-in-Err-Refused-clause-asked
+returns-in-Err-Refused-clause-asked g c s = asks_none g.H.Shelf (run_asking (map string_bytes c.args.words.now) (g.S.Source.left c.args.script.now)) c.args.shelf.now
+
+-- There was no memory to read them.
+
 pub returns-in-Err-Memory-clause-headline : goal.returns-in-Err-Memory-clause-headline
-returns-in-Err-Memory-clause-headline g c s h = (
+returns-in-Err-Memory-clause-headline g c s h =
+    (NoMemory, c.code-in-Err-Memory.ensures, memory_as g.S.Source g.H.Shelf g.K.Sink _ _ c.args.script.now c.args.shelf.now c.args.sink.now)
+
+pub returns-in-Err-Memory-clause-made : goal.returns-in-Err-Memory-clause-made
+returns-in-Err-Memory-clause-made g c some =
+    (NoMemory, c.code-in-Err-Memory.ensures, memory_as g.S.Source g.H.Shelf g.K.Sink _ _ c.args.script.now c.args.shelf.now c.args.sink.now)
+
+pub returns-in-Err-Memory-clause-takes : goal.returns-in-Err-Memory-clause-takes
+returns-in-Err-Memory-clause-takes g c s = (
   NoMemory,
   c.code-in-Err-Memory.ensures,
-  no_memory g.S.Source g.H.Shelf g.K.Sink _ _ c.args.script.now c.args.script.now c.args.shelf.now c.args.sink.now refl,
+  memory_takes g.S.Source g.H.Shelf (run_asking (map string_bytes c.args.words.now) (g.S.Source.left c.args.script.now)) (world_of c.args.script.now c.args.shelf.now c.args.sink.now),
 )
+
+pub returns-in-Err-Memory-clause-asked : goal.returns-in-Err-Memory-clause-asked
+returns-in-Err-Memory-clause-asked g c s = asks_none g.H.Shelf (run_asking (map string_bytes c.args.words.now) (g.S.Source.left c.args.script.now)) c.args.shelf.now
