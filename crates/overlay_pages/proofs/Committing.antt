@@ -1,5 +1,6 @@
 use Rattle.std.specs.Prelude.{◌≡◌, ℕ, ◌+◌, ◌*◌, ◌<◌, ◌≤◌, ◌⊎◌, ◌||◌, ◌&&◌, Bool, true, false, cond, nat_eq, List, [], Option, Some, None, IfSome, IsSome, is_some, length, drop, take, get_or, refl}
 use Rattle.std.proofs.Common.{sym, ap, subst, ◌∙◌, arith, inr}
+use Rattle.std.proofs.lemmas.Option.{same_Some}
 use Rattle.std.specs.Option.{option_and_then, option_map, option_map_or}
 use Rattle.std.specs.FinMap.{empty, insert}
 use Rattle.unit_map.specs.Pieces.{free_units, units_in}
@@ -26,7 +27,7 @@ use Rattle.overlay_pages.specs.Changes.{HasCopyRoom, IsNewFrame, IsPlaced, commi
 use Rattle.overlay_pages.specs.Steps.{FillsFrame}
 use Rattle.overlay_pages.specs.View.{IsHeld, IsJoined, IsOwned, MemoryView, line_seen, page_state, segment_of, state_of, view_of}
 use Rattle.overlay_pages.specs.ViewLaws.{state_awaiting, state_books, state_holds, state_page_some, state_page_there}
-use Rattle.overlay_pages.proofs.Steps.{Step, some_page, state_stepped, stepped}
+use Rattle.overlay_pages.proofs.Steps.{Rewrites, rewritten_joined, rewritten_state, seen_bare, seen_inside, seen_outside}
 use Rattle.overlay_pages.proofs.Joining.{Has, page_with}
 use Rattle.overlay_pages.proofs.Growing.{free_is, turn_is, turned_limit, turned_units}
 use Rattle.overlay_pages.proofs.Lending.{alone_frame, alone_not_zero}
@@ -35,60 +36,33 @@ use Rattle.overlay_pages.proofs.Lending.{alone_frame, alone_not_zero}
 
 module _ (v : MemoryView) (new : Store) (s p : ℕ) (x : PageView) (frame : ℕ) (is : IsJoined v) (there : page_in v.table s p ≡ Some x) (frame_is : x.entry.frame ≡ frame)
     (alone : is_alone (ledger_of v.table) s p ≡ true) (fills : FillsFrame v.store new frame) where
-  fills_table : v.table ≡ set_page v.table s p (Some x)
-  fills_table = sym (set_some v.table s p x ∙ page_again v.table s p x there)
-
-  fills_step : Step v (view_of new v.table) s p (Some x)
-  fills_step = record {
-    there = there_space v.table s p x there;
-    number = (is.held s p x there).number;
-    low = (is.held s p x there).low;
-    table_is = fills_table;
+  fills_rewrites : Rewrites v new s p
+  fills_rewrites = record {
+    blocks = fills.blocks;
+    same = fills.same;
     store = fills.store;
-    whole = ap units_in fills.blocks;
     segments = λ q r y e d at_y over. fills.segments e.block.unit (segment_of q r e) ((is.held q r y at_y).segment e over);
     frames = λ q r y d at_y. fills.frames y.entry.frame (λ e. alone_frame v s p x q r y there alone at_y d (e ∙ sym frame_is)) (is.held q r y at_y).frame;
     zero = fills.frames v.table.zero_frame (λ e. alone_not_zero v s p x there alone (frame_is ∙ sym e)) is.zero;
-    held = λ y same. subst (IsHeld new s p) (some_page x y same) held_now;
-    owned = λ unit segment at_unit.
-        let before = sym (ap (λ l. Rattle.std.specs.Prelude.slice_index_or l unit None) fills.same) ∙ at_unit in
-        inr (subst (λ (t : LedgerView). IsOwned t unit segment) fills_table (is.owned unit segment before));
-    count = ap (λ n. n + units (ledger_of v.table)) (ap free_units fills.blocks) ∙ is.count ∙ sym (ap units_in fills.blocks);
   }
-    where
-      held_now : IsHeld new s p x
-      held_now =
-          let was = is.held s p x there in
-          record {
-            number = was.number;
-            low = was.low;
-            frame = subst (IsFrame new) (sym frame_is) fills.stays;
-            segment = λ e over. (fills.segments e.block.unit (segment_of s p e) (was.segment e over)).there ∙ was.segment e over;
-            lined = was.lined;
-            size = was.size;
-          }
 
   pub fills_joined : IsJoined (view_of new v.table)
-  fills_joined = stepped v (view_of new v.table) s p (Some x) is fills_step
+  fills_joined = rewritten_joined v new s p x is there fills_rewrites
 
   pub fills_state : state_of (view_of new v.table) ≡ put_page (state_of v) s p (page_state new x)
-  unfolding set_page
-  fills_state = state_stepped v (view_of new v.table) s p (Some x) is fills_step
+  fills_state = rewritten_state v new s p x is there fills_rewrites
 
 -- The lines of the overlay are in the frame; once the overlay ended, the page is committed.
 pub committed_page : (old new : Store) (x : PageView) (e : Entry) (frame : ℕ) → x.overlay ≡ Some e → x.entry.frame ≡ frame
     → ((i : ℕ) → i < 64 → frame_line new frame i ≡ cond (has_line e.bits i) (line_in old e.block i) (frame_line old frame i)) → discarded (page_state new x) ≡ committed (page_state old x)
 unfolding page_state
 committed_page old new x e frame over frame_is lines =
-    let same = lines_same (frame_line new x.entry.frame) (line_seen old x) (λ i low. ap (λ f. frame_line new f i) frame_is ∙ lines i low ∙ pulled (has_line e.bits i) i ∙ seen i) in
+    let same = lines_same (frame_line new x.entry.frame) (line_seen old x) (λ i low. ap (λ f. frame_line new f i) frame_is ∙ lines i low ∙ seen i (has_line e.bits i) refl) in
     λ i. record { entry = x.entry; own = []; lines = same i; base = same i }
   where
-    pulled : (b : Bool) (i : ℕ) → cond b (line_in old e.block i) (frame_line old frame i) ≡ line_of old.lines (cond b (place_of old e.block i) (frame_place x.entry.frame i))
-    pulled true i = refl
-    pulled false i = ap (λ f. frame_line old f i) (sym frame_is)
-
-    seen : (i : ℕ) → line_of old.lines (cond (has_line e.bits i) (place_of old e.block i) (frame_place x.entry.frame i)) ≡ line_seen old x i
-    seen i = ap (λ (o : Option Entry). line_seen old (record { entry = x.entry; overlay = o }) i) (sym over)
+    seen : (i : ℕ) (b : Bool) → has_line e.bits i ≡ b → cond b (line_in old e.block i) (frame_line old frame i) ≡ line_seen old x i
+    seen i true has = sym (seen_inside old x e i over has)
+    seen i false lacks = ap (λ f. frame_line old f i) (sym frame_is) ∙ sym (seen_outside old x i (ap (λ (o : Option Entry). has_line (lines_of o) i) over ∙ lacks))
 
 pub bare_committed : (v : MemoryView) (s p : ℕ) → Has v.table s p None → state_of v ≡ turned_page committed (state_of v) s p
 unfolding page_state
@@ -100,9 +74,8 @@ bare_committed v s p has =
 
     same : committed (page_state v.store has.x) ≡ page_state v.store has.x
     same =
-        let lines : page_lines (frame_line v.store has.x.entry.frame) ≡ page_lines (line_seen v.store has.x) = sym (ap (λ (o : Option Entry). page_lines (line_seen v.store (record { entry = has.x.entry; overlay = o }))) has.is) in
-        let own : [] ≡ lines_of has.x.overlay = sym (ap lines_of has.is) in
-        λ i. record { entry = has.x.entry; own = own i; lines = page_lines (line_seen v.store has.x); base = sym lines i }
+        let lines = seen_bare v.store has.x has.is in
+        λ i. record { entry = has.x.entry; own = lines_of (sym has.is i); lines = page_lines (line_seen v.store has.x); base = lines i }
 
 pub commits : (a b c : MemoryView) (s p : ℕ) (x : PageView) → page_in a.table s p ≡ Some x → state_of b ≡ put_page (state_of a) s p (page_state b.store x) → discarded (page_state b.store x) ≡ committed (page_state a.store x)
     → state_of c ≡ turned_page discarded (state_of b) s p → state_of c ≡ turned_page committed (state_of a) s p
@@ -131,10 +104,6 @@ module _ (a : MemoryView) (s p : ℕ) (e : Entry) (is : IsJoined a) (there : IsS
 
   was_there : page_in (state_of a) s p ≡ Some was
   was_there = state_page_there a s p own.x own.there
-
-  was_own : was.own ≡ e.bits
-  unfolding page_state
-  was_own = ap lines_of own.is
 
   abbrev bare_state : State
   bare_state = put_page (state_of a) s p (discarded was)
@@ -202,15 +171,15 @@ module _ (a : MemoryView) (s p : ℕ) (e : Entry) (is : IsJoined a) (there : IsS
       held : IsHeld a.store s p own.x
       held = is.held s p own.x own.there
 
-      pulled : (t : Bool) (i : ℕ) → has_line e.bits i ≡ t → i < 64
-          → cond t (get_or (scratch_page d.store) i []) (get_or (frame_page d.store frame) i []) ≡ line_of a.store.lines (cond t (place_of a.store e.block i) (frame_place own.x.entry.frame i))
-      pulled true i has low = page_line 64 (Rattle.segment_store.specs.Store.scratch_place d.store) i d.store.lines low ∙ scratch i low ∙ lifts.lifted i has
-      pulled false i has low = page_line 64 (64 * frame) i d.store.lines low ∙ ap (λ f. frame_line d.store f i) (sym frame_is) ∙ (frames own.x.entry.frame held.frame).lines i low
+      pulled : (t : Bool) (i : ℕ) → has_line e.bits i ≡ t → i < 64 → cond t (get_or (scratch_page d.store) i []) (get_or (frame_page d.store frame) i []) ≡ line_seen a.store own.x i
+      pulled true i has low =
+          page_line 64 (Rattle.segment_store.specs.Store.scratch_place d.store) i d.store.lines low ∙ scratch i low ∙ lifts.lifted i has ∙ sym (seen_inside a.store own.x e i own.is has)
+      pulled false i has low =
+          page_line 64 (64 * frame) i d.store.lines low ∙ ap (λ f. frame_line d.store f i) (sym frame_is) ∙ (frames own.x.entry.frame held.frame).lines i low
+          ∙ sym (seen_outside a.store own.x i (ap (λ (o : Option Entry). has_line (lines_of o) i) own.is ∙ has))
 
       each : (i : ℕ) → i < 64 → line_in_page out i ≡ line_seen a.store own.x i
-      each i low =
-          ap (λ l. get_or l i []) out_is ∙ composed_at (frame_page d.store frame) (scratch_page d.store) e.bits 64 i [] low ∙ pulled (has_line e.bits i) i refl low
-          ∙ ap (λ (o : Option Entry). line_seen a.store (record { entry = own.x.entry; overlay = o }) i) (sym own.is)
+      each i low = ap (λ l. get_or l i []) out_is ∙ composed_at (frame_page d.store frame) (scratch_page d.store) e.bits 64 i [] low ∙ pulled (has_line e.bits i) i refl low
 
   pub copied_at : (d new : MemoryView) (out : List (List ℕ)) → state_of d ≡ turned_page discarded (state_of a) s p → same_lines out ≡ was.lines
       → IfSome (page_in (state_of d) s p) (λ x. IsPlaced (state_of d) (state_of new) s p (moved_to x (same_lines out)))

@@ -27,7 +27,7 @@ use Rattle.overlay_pages.specs.Changes.{Fits, discarded, limit_of, units_of}
 use Rattle.overlay_pages.specs.Steps.{joins, laid, laid_line}
 use Rattle.overlay_pages.specs.View.{IsHeld, IsJoined, MemoryView, line_seen, page_state, segment_of, state_of, view_of}
 use Rattle.overlay_pages.specs.ViewLaws.{state_books, state_frames, state_page, state_page_some, state_page_there}
-use Rattle.overlay_pages.proofs.Steps.{held_kept, page_kept, state_keeps}
+use Rattle.overlay_pages.proofs.Steps.{held_kept, map_alike, page_kept, seen_bare, seen_inside, seen_outside, state_keeps}
 use Rattle.overlay_pages.proofs.Joining.{Has, order_low, overlay_segment, overlay_set, page_with, sets_are}
 use Rattle.overlay_pages.proofs.Sizes.{can_grow, next_place, next_size}
 
@@ -105,10 +105,8 @@ begins_room v s p line bytes is there bare fits =
 pub laid_first : (store : Store) (x : PageView) (line : ℕ) (bytes : List ℕ) → x.overlay ≡ None → line < 64 → laid store [] line bytes (page_state store x) ≡ joins line bytes (page_state store x)
 unfolding page_state
 laid_first store x line bytes bare low =
-    let own : with_line [] line ≡ with_line (lines_of x.overlay) line = ap (λ (o : Option Entry). with_line (lines_of o) line) (sym bare) in
-    let seen : page_lines (frame_line store x.entry.frame) ≡ page_lines (line_seen store x) = ap (λ (o : Option Entry). page_lines (line_seen store (record { entry = x.entry; overlay = o }))) (sym bare) in
-    let lines = sym (set_line (frame_line store x.entry.frame) line bytes low) ∙ ap (λ l. slice_set l line bytes) seen in
-    λ i. record { entry = x.entry; own = own i; lines = lines i; base = page_lines (frame_line store x.entry.frame) }
+    let lines = sym (set_line (frame_line store x.entry.frame) line bytes low) ∙ ap (λ l. slice_set l line bytes) (sym (seen_bare store x bare)) in
+    λ i. record { entry = x.entry; own = with_line (lines_of (sym bare i)) line; lines = lines i; base = page_lines (frame_line store x.entry.frame) }
 
 pub begun_first : (a b c : MemoryView) (s p line : ℕ) (bytes : List ℕ) → state_of b ≡ state_of a → IsSome (page_in b.table s p) → overlay_at b.table s p ≡ None → line < 64
     → state_of c ≡ turned_page (laid b.store [] line bytes) (state_of b) s p → state_of c ≡ turned_page (joins line bytes) (state_of a) s p
@@ -136,15 +134,13 @@ all_kept old new table is segments frames blocks same store = (
   },
   spaces_alike (state_of (view_of old table)) (state_of (view_of new table)) (state_of (view_of old table))
       (state_keeps (view_of old table) (view_of new table) (keeps_still table)) (keeps_still (state_of (view_of old table)))
-      (λ q r. state_page (view_of new table) q r ∙ at q r (page_in table q r) refl ∙ sym (state_page (view_of old table) q r)),
+      (λ q r. state_page (view_of new table) q r ∙ map_alike (page_state new) (page_state old) (page_in table q r) (kept q r) ∙ sym (state_page (view_of old table) q r)),
 )
   where
-    at : (q r : ℕ) (o : Option PageView) → page_in table q r ≡ o → option_map (page_state new) (page_in table q r) ≡ option_map (page_state old) (page_in table q r)
-    at q r None e = ap (option_map (page_state new)) e ∙ sym (ap (option_map (page_state old)) e)
-    at q r (Some x) e =
-        ap (option_map (page_state new)) e
-        ∙ ap Some (page_kept old new q r x (is.held q r x e) (frames x.entry.frame (is.held q r x e).frame) (λ f over. segments f.block.unit (segment_of q r f) ((is.held q r x e).segment f over)))
-        ∙ sym (ap (option_map (page_state old)) e)
+    kept : (q r : ℕ) (x : PageView) → page_in table q r ≡ Some x → page_state new x ≡ page_state old x
+    kept q r x e =
+        let held = is.held q r x e in
+        page_kept old new q r x held (frames x.entry.frame held.frame) (λ f over. segments f.block.unit (segment_of q r f) (held.segment f over))
 
 -- The overlay that grows: it has lines of scratch, which are those that it had.
 module _ (a : MemoryView) (s p : ℕ) (e : Entry) (line : ℕ) (bytes : List ℕ) (is : IsJoined a) (there : IsSome (page_in a.table s p)) (over : overlay_at a.table s p ≡ Some e)
@@ -207,19 +203,13 @@ module _ (a : MemoryView) (s p : ℕ) (e : Entry) (line : ℕ) (bytes : List ℕ
       last_is ∙ ap (λ st. turned_page (laid d.store e.bits line bytes) st s p) d_state ∙ turned_twice (laid d.store e.bits line bytes) discarded (state_of a) s p y y_there
       ∙ ap (put_page (state_of a) s p) same ∙ sym (turn_is (joins line bytes) (state_of a) s p y y_there)
     where
-      frame : ℕ
-      frame = has.x.entry.frame
-
-      each : (b : Bool) (i : ℕ) → has_line e.bits i ≡ b → i < 64 → cond b (scratch_line d.store i) (frame_line d.store has.x.entry.frame i) ≡ line_of a.store.lines (cond b (place_of a.store e.block i) (frame_place has.x.entry.frame i))
-      each true i h below = scratch i below ∙ lifts.lifted i h
-      each false i h below = (frames has.x.entry.frame held.frame).lines i below
-
-      seen : (i : ℕ) → line_seen a.store (record { entry = has.x.entry; overlay = Some e }) i ≡ line_seen a.store has.x i
-      seen i = ap (λ (o : Option Entry). line_seen a.store (record { entry = has.x.entry; overlay = o }) i) (sym has.is)
+      each : (b : Bool) (i : ℕ) → has_line e.bits i ≡ b → i < 64 → cond b (scratch_line d.store i) (frame_line d.store has.x.entry.frame i) ≡ line_seen a.store has.x i
+      each true i h below = scratch i below ∙ lifts.lifted i h ∙ sym (seen_inside a.store has.x e i has.is h)
+      each false i h below = (frames has.x.entry.frame held.frame).lines i below ∙ sym (seen_outside a.store has.x i (ap (λ (o : Option Entry). has_line (lines_of o) i) has.is ∙ h))
 
       lines : page_lines (laid_line d.store e.bits line bytes has.x.entry.frame) ≡ slice_set (page_lines (line_seen a.store has.x)) line bytes
       lines =
-          lines_same (laid_line d.store e.bits line bytes has.x.entry.frame) (λ i. cond (nat_eq line i) bytes (line_seen a.store has.x i)) (λ i below. ap (λ l. cond (nat_eq line i) bytes l) (each (has_line e.bits i) i refl below ∙ seen i))
+          lines_same (laid_line d.store e.bits line bytes has.x.entry.frame) (λ i. cond (nat_eq line i) bytes (line_seen a.store has.x i)) (λ i below. ap (λ l. cond (nat_eq line i) bytes l) (each (has_line e.bits i) i refl below))
           ∙ sym (set_line (line_seen a.store has.x) line bytes low)
 
       own : with_line e.bits line ≡ with_line (lines_of has.x.overlay) line

@@ -1,5 +1,7 @@
 use Rattle.std.specs.Prelude.{◌≡◌, ℕ, ◌+◌, ◌*◌, ◌<◌, ◌≤◌, ◌⊎◌, ◌||◌, Bool, true, false, cond, not, nat_eq, List, [], Option, Some, None, IfSome, IsSome, is_some, length, refl}
 use Rattle.std.proofs.Common.{sym, ap, subst, ◌∙◌, arith, inl}
+use Rattle.std.proofs.lemmas.Bool.{true≢false}
+use Rattle.std.proofs.lemmas.Option.{same_Some}
 use Rattle.std.proofs.lemmas.Bool.Decides.{nat_tests}
 use Rattle.std.specs.Option.{option_and_then, option_map, option_map_or}
 use Rattle.sizes.specs.declared.TheConstants.{FRAME_UNITS}
@@ -27,9 +29,8 @@ use Rattle.overlay_pages.specs.Changes.{IsNewFrame, IsPlaced, moved_to}
 use Rattle.overlay_pages.specs.Steps.{FillsFrame}
 use Rattle.overlay_pages.specs.View.{IsHeld, IsJoined, MemoryView, page_state, segment_of, state_of, view_of}
 use Rattle.overlay_pages.specs.ViewLaws.{state_books, state_frames, state_page_there, state_zero}
-use Rattle.overlay_pages.proofs.Steps.{Step, names_apart, some_page, state_stepped, stepped}
+use Rattle.overlay_pages.proofs.Steps.{Step, names_apart, state_stepped, stepped}
 use Rattle.overlay_pages.proofs.Filling.{segments_twice}
-use Rattle.overlay_pages.proofs.Lending.{true_false}
 
 -- A page that has no overlay names no segment.
 pub not_bare : (v : MemoryView) (s p : ℕ) (x : PageView) (unit : ℕ) (segment : Segment) → IsJoined v → page_in v.table s p ≡ Some x → x.overlay ≡ None → segment_at v.store unit ≡ Some segment
@@ -40,7 +41,7 @@ not_bare v s p x unit segment is there bare at_unit named =
     let theirs = is.held own.space own.page own.x own.there in
     names_apart s p own.space own.page mine.number mine.low theirs.number theirs.low (sym own.owner ∙ named)
     (λ qq rr.
-    let same : own.x ≡ x = some_page own.x x (sym own.there ∙ ap (λ n. page_in v.table n own.page) qq ∙ ap (page_in v.table s) rr ∙ there) in
+    let same : own.x ≡ x = same_Some own.x x (sym own.there ∙ ap (λ n. page_in v.table n own.page) qq ∙ ap (page_in v.table s) rr ∙ there) in
     nothing own.overlay (sym bare ∙ ap (λ (y : PageView). y.overlay) (sym same) ∙ own.is))
   where
     nothing : (e : Entry) → None ≡ Some e → ⊥
@@ -55,7 +56,7 @@ origin_named z f g h = at (nat_eq g z) refl
     at true e =
         let none : view.origin_of z g ≡ 0 = ap (λ b. cond b 0 (g + 1)) e in
         let no : nat_eq (view.origin_of z g) (f + 1) ≡ false = ap (λ n. nat_eq n (f + 1)) none ∙ zero_isnt f in
-        absurd (true_false (sym h ∙ no))
+        absurd (true≢false (sym h ∙ no))
       where
         zero_isnt : (n : ℕ) → nat_eq 0 (n + 1) ≡ false
         zero_isnt n = grind (arith, nat_tests)
@@ -85,7 +86,7 @@ nobody_names v frame none isnt q r y there same =
     let zero_no : nat_eq y.entry.frame v.zero_frame ≡ false = grind_ne y.entry.frame v.zero_frame (λ e. isnt (sym same ∙ e)) in
     let origin : view.origin_of v.zero_frame y.entry.frame ≡ frame + 1 = ap (λ b. cond b 0 (y.entry.frame + 1)) zero_no ∙ ap (λ n. n + 1) same in
     let has = origin_of (ledger_of v) q r (holding_of v.zero_frame y) (books_page holding_of v q r ∙ ap (option_map (holding_of v.zero_frame)) there) in
-    true_false (sym has ∙ ap (has_origin (ledger_of v)) origin ∙ none)
+    true≢false (sym has ∙ ap (has_origin (ledger_of v)) origin ∙ none)
   where
     grind_ne : (a b : ℕ) → (a ≡ b → ⊥) → nat_eq a b ≡ false
     grind_ne a b d = grind (arith, nat_tests, d)
@@ -174,7 +175,7 @@ module _ (a : MemoryView) (taken filled : Store) (table : LedgerView) (s p : ℕ
     segments = λ q r y e d at_y over. segments_kept e.block.unit (segment_of q r e) ((is.held q r y at_y).segment e over);
     frames = λ q r y d at_y. frame_kept y.entry.frame (is.held q r y at_y).frame;
     zero = frame_kept a.table.zero_frame is.zero;
-    held = λ y same. subst (IsHeld filled s p) (some_page placed y same) held_now;
+    held = λ y same. subst (IsHeld filled s p) (same_Some placed y same) held_now;
     owned = λ unit segment at_unit.
         let before = sym (ap (λ l. Rattle.std.specs.Prelude.slice_index_or l unit None) (takes.fills.same ∙ takes.same)) ∙ at_unit in
         inl (before, not_bare a s p x unit segment is there bare before);

@@ -1,5 +1,6 @@
 use Rattle.std.specs.Prelude.{◌≡◌, ℕ, ◌+◌, ◌^◌, ◌<◌, ◌⊎◌, Option, Some, None, length, refl}
 use Rattle.std.proofs.Common.{sym, ap, subst, ◌∙◌, arith, inl, inr}
+use Rattle.std.proofs.lemmas.Option.{same_Some}
 use Rattle.std.proofs.lemmas.Bool.{cases_eq}
 use Rattle.std.specs.Option.{option_map, option_map_or}
 use Rattle.unit_map.specs.Pieces.{free_units, units_in}
@@ -19,7 +20,7 @@ use Rattle.space_ledger.specs.View.{PageView, holding_of, ledger_of, lines_of, w
 use Rattle.overlay_pages.specs.State.{PageState}
 use Rattle.overlay_pages.specs.View.{IsHeld, IsJoined, IsOwned, MemoryView, page_state, segment_of, state_of}
 use Rattle.overlay_pages.specs.ViewLaws.{state_page_there}
-use Rattle.overlay_pages.proofs.Steps.{Step, names_apart, some_page, state_stepped, stepped}
+use Rattle.overlay_pages.proofs.Steps.{Step, names_apart, state_stepped, stepped}
 
 -- An overlay begins, ends, or gets other lines.
 
@@ -72,7 +73,7 @@ module _ (old new : MemoryView) (s p : ℕ) (x : PageView) (o : Option Entry) (u
       let own = is.owned unit segment there in
       let theirs = is.held own.space own.page own.x own.there in
       names_apart s p own.space own.page mine.number mine.low theirs.number theirs.low (sym own.owner ∙ named) (λ qq rr.
-      let same : own.x ≡ x = some_page own.x x (sym own.there ∙ ap (λ n. page_in old.table n own.page) qq ∙ ap (page_in old.table s) rr ∙ so.there) in
+      let same : own.x ≡ x = same_Some own.x x (sym own.there ∙ ap (λ n. page_in old.table n own.page) qq ∙ ap (page_in old.table s) rr ∙ so.there) in
       away (sym own.unit_is ∙ so.was_there own.overlay (ap (λ (y : PageView). y.overlay) (sym same) ∙ own.is)))
 
   books_now : ledger_of new.table ≡ with_page (ledger_of old.table) s p (holding_of old.table.zero_frame (with_own x o))
@@ -100,7 +101,7 @@ module _ (old new : MemoryView) (s p : ℕ) (x : PageView) (o : Option Entry) (u
     segments = λ q r y e d there over. so.kept e.block.unit (segment_of q r e) (not_there q r y e d there over) ((is.held q r y there).segment e over);
     frames = λ q r y d there. so.frames y.entry.frame (is.held q r y there).frame;
     zero = so.frames old.table.zero_frame is.zero;
-    held = λ y same. subst (IsHeld new.store s p) (some_page (record { entry = x.entry; overlay = o }) y same) held_now;
+    held = λ y same. subst (IsHeld new.store s p) (same_Some (record { entry = x.entry; overlay = o }) y same) held_now;
     owned = owned;
     count = omega (arith, is.count, so.whole, so.free, units_now);
   }

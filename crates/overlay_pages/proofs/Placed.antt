@@ -1,5 +1,6 @@
 use Rattle.std.specs.Prelude.{◌≡◌, ℕ, zero, suc, ◌+◌, ◌*◌, ◌<◌, ◌||◌, Bool, true, false, cond, nat_eq, IsSome, List, [], Option, Some, None, is_some, replicate, slice_index_or, refl}
 use Rattle.std.proofs.Common.{sym, ap, subst, ◌∙◌, arith, inl}
+use Rattle.std.proofs.lemmas.Bool.{true≢false}
 use Rattle.std.proofs.lemmas.Bool.Decides.{nat_tests}
 use Rattle.std.proofs.lemmas.List.{get_or-replicate}
 use Rattle.std.specs.Option.{option_and_then, option_map}
@@ -35,7 +36,6 @@ use Rattle.overlay_pages.specs.View.{IsJoined, MemoryView, page_state, state_of,
 use Rattle.overlay_pages.specs.ViewLaws.{state_page_there}
 use Rattle.overlay_pages.proofs.Growing.{turn_is}
 use Rattle.overlay_pages.proofs.Joining.{page_with}
-use Rattle.overlay_pages.proofs.Lending.{true_false}
 
 -- A page that was dropped and goes.
 
@@ -101,7 +101,7 @@ module _ (st : State) (s p : ℕ) (entry : PageEntry) (there : holds_space st s 
           at true h =
               let now = ap (λ (l : Ledger). has_origin l (frame + 1)) (books_put_page held_page st s p (whole_page entry zero_page)) ∙ origin_with (books st) s p (held_page st.zero_frame (whole_page entry zero_page)) (frame + 1) in
               let some : has_origin (without_page (books st) s p) (frame + 1) ≡ true = ap (λ (l : Ledger). has_origin l (frame + 1)) without ∙ h in
-              absurd (true_false (sym (ap (λ b. nat_eq (view.origin_of st.zero_frame entry.frame) (frame + 1) || b) some ∙ or_true (nat_eq (view.origin_of st.zero_frame entry.frame) (frame + 1))) ∙ sym now ∙ parts.1))
+              absurd (true≢false (sym (ap (λ b. nat_eq (view.origin_of st.zero_frame entry.frame) (frame + 1) || b) some ∙ or_true (nat_eq (view.origin_of st.zero_frame entry.frame) (frame + 1))) ∙ sym now ∙ parts.1))
             where
               or_true : (b : Bool) → (b || true) ≡ true
               or_true true = refl
@@ -180,7 +180,7 @@ module _ (empty_store taken : Store) (table : LedgerView) (frames frame : ℕ) (
     store = store;
     frames = omega (arith, whole_is, frames_are);
     count = omega (arith, whole_is, units_are, free, ap free_units is.blocks, frames_free frames 0);
-    numbers = λ s there. let no_ = sym there ∙ ap is_some (no_space s) in absurd (true_false no_);
+    numbers = λ s there. let no_ = sym there ∙ ap is_some (no_space s) in absurd (true≢false no_);
     zero = subst (IsFrame taken) (sym zero_is) frame_is;
     zeros = λ i low. ap (λ f. frame_line taken f i) zero_is ∙ ap (λ l. line_of l (64 * frame + i)) (lines ∙ is.lines) ∙ zeros_at (PAGE_LINES * (frames + 1)) (64 * frame + i) (omega (arith, low, whole_is, frame_inside taken store frame frame_is)) ∙ sym line_is;
     held = λ s p x there. absurd (nothing x (sym (no_page s p) ∙ there));

@@ -1,5 +1,6 @@
 use Rattle.std.specs.Prelude.{◌≡◌, ℕ, ◌+◌, ◌*◌, ◌^◌, ◌<◌, ◌≤◌, ◌⊎◌, ◌&&◌, not, Bool, true, false, cond, nat_eq, List, [], Option, Some, None, IsSome, is_some, length, refl}
 use Rattle.std.proofs.Common.{sym, ap, subst, ◌∙◌, arith, inl, inr}
+use Rattle.std.proofs.lemmas.Option.{same_Some}
 use Rattle.std.proofs.lemmas.Bool.{cases_eq}
 use Rattle.std.specs.Option.{option_and_then, option_map, option_map_or}
 use Rattle.std.specs.FinMap.{get, insert, remove}
@@ -33,7 +34,7 @@ use Rattle.overlay_pages.specs.Changes.{HasShareRoom, limit_of, shared_page, uni
 use Rattle.overlay_pages.specs.TableLaws.{state_awaiting_put}
 use Rattle.overlay_pages.specs.View.{IsHeld, IsJoined, IsOwned, MemoryView, line_seen, page_state, segment_of, state_of, view_of}
 use Rattle.overlay_pages.specs.ViewLaws.{state_awaiting, state_holds, state_page_there}
-use Rattle.overlay_pages.proofs.Steps.{Step, names_apart, some_page, state_stepped, stepped}
+use Rattle.overlay_pages.proofs.Steps.{Step, names_apart, state_stepped, stepped}
 use Rattle.segment_store.specs.Pointers.{capacity_of}
 use Rattle.segment_store.specs.Laws.{count_fits, refilled, stays_twice}
 use Rattle.overlay_pages.proofs.Joining.{Has, frames_twice, order_low, overlay_segment, overlay_set, page_with, segment_beside, sets_are, unit_low}
@@ -151,7 +152,7 @@ module _ (m : MemoryView) (new : Store) (from to p : ℕ) (was now : Option Entr
     segments = λ q r y e d at_y over. so.segments e.block.unit (segment_of q r e) ((is.held q r y at_y).segment e over);
     frames = λ q r y d at_y. so.frames y.entry.frame (is.held q r y at_y).frame;
     zero = so.frames m.table.zero_frame is.zero;
-    held = λ y same. subst (IsHeld new to p) (some_page (record { entry = w.entry; overlay = now }) y same) held_now;
+    held = λ y same. subst (IsHeld new to p) (same_Some (record { entry = w.entry; overlay = now }) y same) held_now;
     owned = λ unit segment at_unit. at unit segment at_unit (so.others unit segment at_unit);
     count = omega (arith, is.count, units_now, so.free, so.whole);
   }

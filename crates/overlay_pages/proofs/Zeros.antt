@@ -1,5 +1,6 @@
 use Rattle.std.specs.Prelude.{◌≡◌, ℕ, zero, suc, ◌+◌, ◌*◌, ◌≤◌, ◌<◌, ◌&&◌, ◌⊎◌, Bool, true, false, IsTrue, List, [], ◌∷◌, Option, Some, None, IsSome, is_some, nat_le, nat_lt, length, refl}
 use Rattle.std.proofs.Common.{sym, ap, subst, ◌∙◌, arith, inl}
+use Rattle.std.proofs.lemmas.Option.{same_Some}
 use Rattle.std.proofs.lemmas.Bool.Decides.{nat_tests}
 use Rattle.std.specs.List.{fold, range_with_len}
 use Rattle.std.specs.Option.{option_map}
@@ -24,7 +25,7 @@ use Rattle.overlay_pages.specs.Lines.{zero_line, zero_page}
 use Rattle.overlay_pages.specs.LineLaws.{lines_same}
 use Rattle.overlay_pages.specs.Changes.{whole_page, with_zeros}
 use Rattle.overlay_pages.specs.View.{IsHeld, IsJoined, page_state, state_of, view_of}
-use Rattle.overlay_pages.proofs.Steps.{Step, names_apart, some_page, state_stepped, stepped}
+use Rattle.overlay_pages.proofs.Steps.{Step, names_apart, state_stepped, stepped}
 
 -- Pages that are mapped on the zero frame.
 
@@ -52,7 +53,7 @@ zero_step st v s p entry is there low absent zero_is = record {
   segments = λ q r y e d at_y over. record { there = refl; places = λ line has. refl; lines = λ line has. refl };
   frames = λ q r y d at_y. kept y.entry.frame (is.held q r y at_y).frame;
   zero = kept v.zero_frame is.zero;
-  held = λ y same. subst (IsHeld st s p) (some_page (mapped_page entry) y same) held_now;
+  held = λ y same. subst (IsHeld st s p) (same_Some (mapped_page entry) y same) held_now;
   owned = λ unit segment at_unit. inl (at_unit, not_mine unit segment at_unit);
   count = omega (arith, is.count, same_units);
 }
