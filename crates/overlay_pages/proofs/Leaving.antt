@@ -2,7 +2,7 @@ use Rattle.std.specs.Prelude.{◌≡◌, ℕ, ◌+◌, ◌||◌, Bool, true, fal
 use Rattle.std.proofs.Common.{sym, ap, subst, ◌∙◌, arith, inl}
 use Rattle.std.proofs.lemmas.Bool.{true≢false}
 use Rattle.std.proofs.lemmas.Option.{none-some}
-use Rattle.std.specs.Option.{option_map}
+use Rattle.std.specs.Option.{option_and_then, option_map}
 use Rattle.unit_map.specs.Pieces.{free_units, units_in}
 use Rattle.overlay_mapping_table.specs.declared.entry.Entry.{Entry}
 use Rattle.ledger.specs.AloneLaws.{are, origin_of, unused_parts}
@@ -12,7 +12,7 @@ use Rattle.ledger.specs.ClassLaws.{class_none}
 use Rattle.ledger.specs.UnitLaws.{alone_is, frame_for, units_at}
 use Rattle.segment_store.specs.Kept.{IsStore}
 use Rattle.segment_store.specs.Store.{Store, IsFrame}
-use Rattle.segment_store.specs.Changes.{KeepsFrame, KeepsOtherFrames, KeepsSegments}
+use Rattle.segment_store.specs.Changes.{KeepsFrame, KeepsOtherFrames, KeepsSegments, block_of}
 use Rattle.space_maps.specs.Books.{books_cut_page, books_page}
 use Rattle.space_maps.specs.Laws.{page_set_beside, there_space}
 use Rattle.space_maps.specs.Spaces.{cut_page, page_in, put_space, set_page}
@@ -21,9 +21,8 @@ use Rattle.space_ledger.specs.View.{LedgerView, PageView, holding_of, ledger_of,
 use Rattle.space_ledger.specs.ViewLaws.{unused_is}
 use Rattle.space_ledger.specs.Calls.{given_up}
 use Rattle.overlay_pages.specs.View.{IsJoined, MemoryView, segment_of, state_of, view_of}
-use Rattle.overlay_pages.proofs.Steps.{Step, state_stepped, stepped}
+use Rattle.overlay_pages.proofs.Steps.{Step, frame_still, not_owned, segment_still, state_stepped, stepped}
 use Rattle.overlay_pages.proofs.Joining.{Has}
-use Rattle.overlay_pages.proofs.NewFrames.{not_bare}
 
 -- A page that goes, and with it its frame, where no page names it any more.
 
@@ -67,8 +66,8 @@ pub leaves_none : (store : Store) (frame : ℕ) → IsStore store → LeavesStor
 unfolding frame_for
 leaves_none store frame is = record {
   same = refl;
-  segments = λ unit segment there. record { there = refl; places = λ line has. refl; lines = λ line has. refl };
-  frames = λ other away f. record { stays = f; lines = λ line low. refl };
+  segments = λ unit segment there. segment_still store (block_of unit segment);
+  frames = λ other away f. frame_still store other f;
   free = omega arith;
   whole = refl;
   store = is;
@@ -139,7 +138,7 @@ module _ (a : MemoryView) (store : Store) (table : LedgerView) (s p : ℕ) (x : 
     held = λ y h. absurd (none-some y h);
     owned = λ unit segment at_unit.
         let before = sym (ap (λ l. Rattle.std.specs.Prelude.slice_index_or l unit None) leaves.same) ∙ at_unit in
-        inl (before, not_bare a s p x unit segment is there bare before);
+        inl (before, not_owned a s p unit segment is (is.held s p x there).number (is.held s p x there).low (ap (option_and_then (λ (y : PageView). y.overlay)) there ∙ bare) before);
     count = units_now;
   }
 

@@ -27,7 +27,7 @@ use Rattle.overlay_pages.specs.Calls.{with_line_at_place}
 use Rattle.overlay_pages.specs.Spots.{IsInFrame, IsInSegment}
 use Rattle.overlay_pages.specs.View.{IsHeld, IsJoined, IsOwned, MemoryView, line_seen, page_state, place_at, place_in_page, segment_of, state_of, view_of}
 use Rattle.overlay_pages.specs.ViewLaws.{state_page_there}
-use Rattle.overlay_pages.proofs.Steps.{Rewrites, by_spot, names_apart, overlay_lines, overlay_there, place_inside, place_outside, rewritten_joined, rewritten_state, seen_inside, seen_outside, set_lines}
+use Rattle.overlay_pages.proofs.Steps.{Rewrites, by_spot, overlay_lines, overlay_there, place_inside, place_outside, rewritten_joined, rewritten_state, seen_inside, seen_outside, set_lines, units_apart}
 use Rattle.overlay_pages.proofs.Growing.{turn_is}
 use Rattle.overlay_pages.proofs.Tables.{frame_state}
 
@@ -85,15 +85,6 @@ module _ (v : MemoryView) (s p line frame : ℕ) (is : IsJoined v) (so : IsInFra
 
   pub outside_inside : line < 64 → 64 * frame + line < 64 * v.table.frames
   outside_inside low = omega (arith, low, frame_low, is.frames)
-
--- Two overlaid pages have their segments at different units.
-pub units_apart : (v : MemoryView) (s p : ℕ) (x : PageView) (e : Entry) (q r : ℕ) (y : PageView) (f : Entry) → IsJoined v → page_in v.table s p ≡ Some x → x.overlay ≡ Some e
-    → page_in v.table q r ≡ Some y → y.overlay ≡ Some f → (q ≡ s → r ≡ p → ⊥) → f.block.unit ≡ e.block.unit → ⊥
-units_apart v s p x e q r y f is at_x over at_y other d same =
-    let one = is.held s p x at_x in
-    let two = is.held q r y at_y in
-    let found : Some (segment_of q r f) ≡ Some (segment_of s p e) = sym (two.segment f other) ∙ ap (segment_at v.store) same ∙ one.segment e over in
-    names_apart s p q r one.number one.low two.number two.low (ap (λ (t : Option Segment). option_map_or (λ (g : Segment). g.owner) t 0) found) d
 
 -- What a borrower left: one page's line is another one, and all else stays.
 

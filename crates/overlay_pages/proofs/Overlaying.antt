@@ -1,6 +1,6 @@
 use Rattle.std.specs.Prelude.{◌≡◌, ℕ, ◌+◌, ◌^◌, ◌<◌, ◌⊎◌, Option, Some, None, length, refl}
 use Rattle.std.proofs.Common.{sym, ap, subst, ◌∙◌, arith, inl, inr}
-use Rattle.std.proofs.lemmas.Option.{same_Some}
+use Rattle.std.proofs.lemmas.Option.{none-some, same_Some}
 use Rattle.std.proofs.lemmas.Bool.{cases_eq}
 use Rattle.std.specs.Option.{option_map, option_map_or}
 use Rattle.unit_map.specs.Pieces.{free_units, units_in}
@@ -20,7 +20,7 @@ use Rattle.space_ledger.specs.View.{PageView, holding_of, ledger_of, lines_of, w
 use Rattle.overlay_pages.specs.State.{PageState}
 use Rattle.overlay_pages.specs.View.{IsHeld, IsJoined, IsOwned, MemoryView, page_state, segment_of, state_of}
 use Rattle.overlay_pages.specs.ViewLaws.{state_page_there}
-use Rattle.overlay_pages.proofs.Steps.{Step, names_apart, state_stepped, stepped}
+use Rattle.overlay_pages.proofs.Steps.{Step, names_apart, state_stepped, stepped, units_apart}
 
 -- An overlay begins, ends, or gets other lines.
 
@@ -52,20 +52,9 @@ module _ (old new : MemoryView) (s p : ℕ) (x : PageView) (o : Option Entry) (u
   not_there : (q r : ℕ) (y : PageView) (e : Entry) → (q ≡ s → r ≡ p → ⊥) → page_in old.table q r ≡ Some y → y.overlay ≡ Some e → e.block.unit ≡ u → ⊥
   not_there q r y e d there over at_unit = at x.overlay refl
     where
-      theirs : IsHeld old.store q r y
-      theirs = is.held q r y there
-
-      found : segment_at old.store u ≡ Some (segment_of q r e)
-      found = ap (segment_at old.store) (sym at_unit) ∙ theirs.segment e over
-
       at : (f : Option Entry) → x.overlay ≡ f → ⊥
-      at None bare = some_none (segment_of q r e) (sym found ∙ so.was_free bare)
-        where
-          some_none : (t : Segment) → Some t ≡ None → ⊥
-          some_none t h = cc
-      at (Some f) mine_over =
-          let own : Some (segment_of q r e) ≡ Some (segment_of s p f) = sym found ∙ ap (segment_at old.store) (sym (so.was_there f mine_over)) ∙ mine.segment f mine_over in
-          names_apart s p q r mine.number mine.low theirs.number theirs.low (ap (λ (t : Option Segment). option_map_or (λ (g : Segment). g.owner) t 0) own) d
+      at None bare = none-some (segment_of q r e) (sym (so.was_free bare) ∙ ap (segment_at old.store) (sym at_unit) ∙ (is.held q r y there).segment e over)
+      at (Some f) mine_over = units_apart old s p x f q r y e is so.there mine_over there over d (at_unit ∙ sym (so.was_there f mine_over))
 
   -- and no other segment is this page's
   not_mine : (unit : ℕ) (segment : Segment) → (unit ≡ u → ⊥) → segment_at old.store unit ≡ Some segment → segment.owner ≡ overlay_page s p → ⊥
@@ -117,10 +106,7 @@ module _ (old new : MemoryView) (s p : ℕ) (x : PageView) (o : Option Entry) (u
       }
 
       by_now : (unit : ℕ) (segment : Segment) → unit ≡ u → segment_at new.store unit ≡ Some segment → (f : Option Entry) → o ≡ f → IsOwned (put_page old.table s p (record { entry = x.entry; overlay = o })) unit segment
-      by_now unit segment same there None e = absurd_none (sym (ap (segment_at new.store) same ∙ so.here ∙ ap (option_map (segment_of s p)) e) ∙ there)
-        where
-          absurd_none : None ≡ Some segment → IsOwned (put_page old.table s p (record { entry = x.entry; overlay = o })) unit segment
-          absurd_none h = cc
+      by_now unit segment same there None e = absurd (none-some segment (sym (ap (segment_at new.store) same ∙ so.here ∙ ap (option_map (segment_of s p)) e) ∙ there))
       by_now unit segment same there (Some f) e = record {
         space = s;
         page = p;

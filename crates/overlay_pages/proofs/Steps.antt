@@ -2,8 +2,9 @@ use Rattle.std.specs.Prelude.{◌≡◌, ℕ, ◌+◌, ◌*◌, ◌<◌, ◌≤�
 use Rattle.std.proofs.lemmas.Bool.{cases_eq}
 use Rattle.std.proofs.lemmas.Option.{none-some, same_Some}
 use Rattle.std.proofs.Common.{sym, ap, subst, ◌∙◌, arith, inl, inr}
-use Rattle.std.specs.Option.{option_map}
+use Rattle.std.specs.Option.{option_and_then, option_map}
 use Rattle.sizes.specs.declared.TheConstants.{FRAME_UNITS, LAST_SPACE, PAGE_END}
+use Rattle.unit_map.specs.declared.block.Block.{Block}
 use Rattle.unit_map.specs.Pieces.{IsPiece, free_units, taken_at, units_in}
 use Rattle.overlay_bits.specs.Lines.{has_line}
 use Rattle.overlay_address.specs.Names.{overlay_page}
@@ -20,7 +21,7 @@ use Rattle.segment_store.specs.Changes.{KeepsFrame, KeepsSegment}
 use Rattle.segment_store.specs.Laws.{lines_there}
 use Rattle.space_maps.specs.Laws.{KeepsSpaces, keeps_page_set, page_again, page_set_beside, page_set_here, set_some, spaces_alike, there_space}
 use Rattle.space_maps.specs.Spaces.{holds_space, page_in, put_page, set_page}
-use Rattle.space_ledger.specs.View.{LedgerView, PageView, ledger_of, lines_of}
+use Rattle.space_ledger.specs.View.{LedgerView, PageView, ledger_of, lines_of, overlay_at}
 use Rattle.overlay_pages.specs.LineLaws.{lines_same, set_line}
 use Rattle.overlay_pages.specs.Lines.{page_lines}
 use Rattle.overlay_pages.specs.State.{PageState}
@@ -125,6 +126,31 @@ pub names_apart : {P : Type 0} (s p q r : ℕ) → s ≤ LAST_SPACE → p < PAGE
 names_apart s p q r hs hp hq hr same go =
     go (same_space q r s p (omega (arith, hq)) (omega (arith, hr)) (omega (arith, hs)) (omega (arith, hp)) same)
     (same_page q r s p (omega (arith, hq)) (omega (arith, hr)) (omega (arith, hs)) (omega (arith, hp)) same)
+
+-- no segment is that of a page without an overlay
+pub not_owned : (v : MemoryView) (s p unit : ℕ) (segment : Segment) → IsJoined v → s ≤ LAST_SPACE → p < PAGE_END → overlay_at v.table s p ≡ None → segment_at v.store unit ≡ Some segment
+    → segment.owner ≡ overlay_page s p → ⊥
+not_owned v s p unit segment is number low bare at_unit named =
+    let own = is.owned unit segment at_unit in
+    let theirs = is.held own.space own.page own.x own.there in
+    names_apart s p own.space own.page number low theirs.number theirs.low (sym own.owner ∙ named)
+    (λ qq rr. none-some own.overlay (sym bare ∙ (λ i. overlay_at v.table (sym qq i) (sym rr i)) ∙ ap (option_and_then (λ (x : PageView). x.overlay)) own.there ∙ own.is))
+
+-- and two overlaid pages have their segments at different units
+pub units_apart : (v : MemoryView) (s p : ℕ) (x : PageView) (e : Entry) (q r : ℕ) (y : PageView) (f : Entry) → IsJoined v → page_in v.table s p ≡ Some x → x.overlay ≡ Some e
+    → page_in v.table q r ≡ Some y → y.overlay ≡ Some f → (q ≡ s → r ≡ p → ⊥) → f.block.unit ≡ e.block.unit → ⊥
+units_apart v s p x e q r y f is at_x over at_y other d same =
+    let one = is.held s p x at_x in
+    let two = is.held q r y at_y in
+    let found : Some (segment_of q r f) ≡ Some (segment_of s p e) = sym (two.segment f other) ∙ ap (segment_at v.store) same ∙ one.segment e over in
+    names_apart s p q r one.number one.low two.number two.low (ap (λ (g : Segment). g.owner) (same_Some _ _ found)) d
+
+-- A store keeps what it has.
+pub frame_still : (store : Store) (frame : ℕ) → IsFrame store frame → KeepsFrame store store frame
+frame_still store frame is = record { stays = is; lines = λ line low. refl }
+
+pub segment_still : (store : Store) (block : Block) → KeepsSegment store store block
+segment_still store block = record { there = refl; places = λ line has. refl; lines = λ line has. refl }
 
 -- One page is another one now, and all that the others need stays.
 pub record Step (old new : MemoryView) (s p : ℕ) (x : Option PageView) : Type 0 where
