@@ -23,7 +23,8 @@ use Rattle.overlay_pages.specs.Calls.{AreShared, AwaitBare, AwaitsLike}
 use Rattle.overlay_pages.specs.Calls.AreShared.{Still as unchanged, Then as one_shared}
 use Rattle.overlay_pages.specs.View.{IsJoined, MemoryView, page_state, state_of, view_of}
 use Rattle.overlay_pages.specs.ViewLaws.{state_awaiting, state_holds, state_page, state_page_some}
-use Rattle.overlay_pages.proofs.SharedPages.{awaits, bare_shared, share_joined, share_state, shared_table, shares_none}
+use Rattle.overlay_pages.proofs.Coming.{place_for_bare}
+use Rattle.overlay_pages.proofs.SharedPages.{awaits, bare_shared, share_joined, share_state, shared_table}
 use Rattle.overlay_pages.proofs.Tables.{frame_of_page}
 
 -- Pages without own lines that are shared one after the other.
@@ -117,7 +118,7 @@ pub bare_step : (store : Store) (v : LedgerView) (from to page : ℕ) → IsJoin
     × (state_of (view_of store (with_page_shared v from to page None)) ≡ with_shared (state_of (view_of store v)) from to page)
 bare_step store v from to page joined there bare frame space absent =
     let w = awaits v from to page None there bare frame in
-    let none = shares_none (view_of store v) to page joined in
+    let none = place_for_bare (view_of store v) to page joined in
     let table = shared_table v from to page None None w in (
       subst (λ (t : LedgerView). IsJoined (view_of store t)) (sym table) (share_joined (view_of store v) store from to page None None joined w space absent none),
       ap (λ (t : LedgerView). state_of (view_of store t)) table
