@@ -33,6 +33,14 @@ pub map_alike : {X Y : Type 0} (f g : X → Y) (o : Option X) → ((x : X) → o
 map_alike f g None same = refl
 map_alike f g (Some x) same = ap Some (same x refl)
 
+pub map_twice : {X Y Z : Type 0} (f : Y → Z) (g : X → Y) (h : X → Z) (o : Option X) → ((x : X) → o ≡ Some x → f (g x) ≡ h x) → option_map f (option_map g o) ≡ option_map h o
+map_twice f g h None same = refl
+map_twice f g h (Some x) same = ap Some (same x refl)
+
+pub map_still : {X : Type 0} (f : X → X) → ((x : X) → f x ≡ x) → (o : Option X) → o ≡ option_map f o
+map_still f same None = refl
+map_still f same (Some x) = ap Some (sym (same x))
+
 pub map_from : {X Y P : Type 0} (f : X → Y) (o : Option X) (y : Y) → option_map f o ≡ Some y → ((x : X) → o ≡ Some x → f x ≡ y → P) → P
 map_from f None y h go = absurd (none-some y h)
 map_from f (Some x) y h go = go x refl (same_Some (f x) y h)
