@@ -40,7 +40,7 @@ use Rattle.segment_store.specs.Pointers.{capacity_of}
 use Rattle.segment_store.specs.Laws.{count_fits, refilled, stays_twice}
 use Rattle.overlay_pages.proofs.Joining.{Has, frames_twice, order_low, overlay_segment, overlay_set, page_with, segment_beside, sets_are, unit_low}
 use Rattle.overlay_pages.proofs.Growing.{free_is, there_still}
-use Rattle.overlay_pages.proofs.Tables.{awaiting_joined, entry_state, own_state}
+use Rattle.overlay_pages.proofs.Tables.{awaiting_joined, frame_of_page, own_state}
 
 -- The page that is shared, and how it awaits.
 pub record Awaits (v : LedgerView) (from to p : ℕ) (o : Option Entry) : Type 0 where
@@ -236,7 +236,7 @@ module _ (a m : MemoryView) (from to p : ℕ) (e : Entry) (is : IsJoined a) (m_i
   own_now : (o : Option Entry) → overlay_at m.table from p ≡ o → lines_of o ≡ e.bits
   own_now o over_m =
       ap lines_of (sym over_m)
-      ∙ ap (λ (f : Option (List ℕ)). option_map_or (λ (l : List ℕ). l) f []) (sym (own_state m from p share_there) ∙ ap (λ s. option_map (λ (x : PageState). x.own) (page_in s from p)) same ∙ own_state a from p there)
+      ∙ same_Some _ _ (sym (own_state m from p share_there) ∙ ap (λ s. option_map (λ (x : PageState). x.own) (page_in s from p)) same ∙ own_state a from p there)
       ∙ ap lines_of over
 
   pub share_over : is_some (overlay_at m.table from p) ≡ true
@@ -253,13 +253,7 @@ module _ (a m : MemoryView) (from to p : ℕ) (e : Entry) (is : IsJoined a) (m_i
   share_waits = sym (state_awaiting m to) ∙ ap (λ (s : State). (space_in s to).awaiting) same ∙ state_awaiting a to
 
   frame_same : frame_at m.table from p ≡ frame_at a.table from p
-  frame_same =
-      framed_of (page_in m.table from p) ∙ ap (option_map (λ (f : PageEntry). f.frame)) (entry_state m from p ∙ ap (λ s. option_map (λ (x : PageState). x.entry) (page_in s from p)) same ∙ sym (entry_state a from p))
-      ∙ sym (framed_of (page_in a.table from p))
-    where
-      framed_of : (o : Option PageView) → option_map (λ (x : PageView). x.entry.frame) o ≡ option_map (λ (f : PageEntry). f.frame) (option_map (λ (x : PageView). x.entry) o)
-      framed_of None = refl
-      framed_of (Some x) = refl
+  frame_same = sym (frame_of_page m from p) ∙ ap (λ s. option_map (λ (x : PageState). x.entry.frame) (page_in s from p)) same ∙ frame_of_page a from p
 
   pub share_frame : frame_awaiting m.table to p ≡ frame_at m.table from p
   share_frame = ap (λ (t : Rattle.page_table.specs.Table.Pages). option_map (λ (f : PageEntry). f.frame) (get t p)) share_waits ∙ framed ∙ sym frame_same
@@ -275,8 +269,7 @@ module _ (a m : MemoryView) (from to p : ℕ) (e : Entry) (is : IsJoined a) (m_i
 
   pub share_same : page_state m.store then_waits.x ≡ page_state a.store first.x
   share_same =
-      ap (λ (o : Option PageState). option_map_or (λ (y : PageState). y) o (page_state a.store first.x))
-      (sym (state_page_there m from p then_waits.x then_waits.there) ∙ ap (λ s. page_in s from p) same ∙ state_page_there a from p first.x first.there)
+      same_Some _ _ (sym (state_page_there m from p then_waits.x then_waits.there) ∙ ap (λ s. page_in s from p) same ∙ state_page_there a from p first.x first.there)
 
 -- The page with its overlay, once it is shared.
 module _ (a m : MemoryView) (lifted began new : Store) (from to p : ℕ) (e : Entry) (block : Block) (is : IsJoined a) (m_is : IsJoined m) (same : state_of m ≡ state_of a) (there : IsSome (page_in a.table from p)) (over : overlay_at a.table from p ≡ Some e)

@@ -1,5 +1,6 @@
 use Rattle.std.specs.Prelude.{◌≡◌, ℕ, ◌+◌, ◌*◌, ◌≤◌, ◌<◌, ◌&&◌, Bool, true, false, cond, not, List, [], ◌∷◌, Option, Some, None, IfSome, IsSome, is_some, length, refl}
 use Rattle.std.proofs.Common.{sym, ap, subst, ◌∙◌, arith}
+use Rattle.std.proofs.lemmas.Option.{none-some}
 use Rattle.std.specs.Option.{option_and_then, option_map, option_map_or}
 use Rattle.std.specs.Ordering.{nat_cmp}
 use Rattle.std.specs.FinMap.{FinMap, empty, get, get-empty, len}
@@ -28,25 +29,19 @@ use Rattle.overlay_pages.specs.Changes.{brought, with_brought, writes_frame}
 use Rattle.overlay_pages.specs.Calls.{IsNextPage, RisesBy, entries_in}
 use Rattle.overlay_pages.specs.View.{IsJoined, MemoryView, page_state, state_of, view_of}
 use Rattle.overlay_pages.specs.ViewLaws.{state_books, state_mark, state_page, state_page_some, state_pages}
+use Rattle.overlay_pages.proofs.Steps.{map_twice}
 
 -- What calls that only read the tables answer, said of the state.
 
 pub entry_state : (v : MemoryView) (q r : ℕ) → option_map (λ (x : PageView). x.entry) (page_in v.table q r) ≡ option_map (λ (x : PageState). x.entry) (page_in (state_of v) q r)
 unfolding page_state
-entry_state v q r = at (page_in v.table q r) ∙ sym (ap (option_map (λ (x : PageState). x.entry)) (state_page v q r))
-  where
-    at : (o : Option PageView) → option_map (λ (x : PageView). x.entry) o ≡ option_map (λ (x : PageState). x.entry) (option_map (page_state v.store) o)
-    at None = refl
-    at (Some x) = refl
+entry_state v q r = sym (ap (option_map (λ (x : PageState). x.entry)) (state_page v q r) ∙ map_twice (λ (x : PageState). x.entry) (page_state v.store) (λ (x : PageView). x.entry) (page_in v.table q r) (λ x e. refl))
 
 pub perms_state : (v : MemoryView) (q r : ℕ) (e : PageEntry) → Some e ≡ option_map (λ (x : PageView). x.entry) (page_in v.table q r)
     → option_map (λ (x : PageState). x.entry.perms) (page_in (state_of v) q r) ≡ Some e.perms
 perms_state v q r e is =
-    mapped (page_in (state_of v) q r) ∙ ap (option_map (λ (k : PageEntry). k.perms)) (sym (is ∙ entry_state v q r))
-  where
-    mapped : (o : Option PageState) → option_map (λ (x : PageState). x.entry.perms) o ≡ option_map (λ (k : PageEntry). k.perms) (option_map (λ (x : PageState). x.entry) o)
-    mapped None = refl
-    mapped (Some x) = refl
+    sym (map_twice (λ (k : PageEntry). k.perms) (λ (x : PageState). x.entry) (λ (x : PageState). x.entry.perms) (page_in (state_of v) q r) (λ x e. refl))
+    ∙ ap (option_map (λ (k : PageEntry). k.perms)) (sym (is ∙ entry_state v q r))
 
 pub absent_state : (v : MemoryView) (q r : ℕ) → None ≡ option_map (λ (x : PageView). x.entry) (page_in v.table q r) → page_in (state_of v) q r ≡ None
 absent_state v q r is = at (page_in (state_of v) q r) (is ∙ entry_state v q r)
@@ -60,19 +55,14 @@ unfolding page_state
 own_state v q r there = ap (option_map (λ (x : PageState). x.own)) (state_page v q r) ∙ at (page_in v.table q r) there
   where
     at : (o : Option PageView) → IsSome o → option_map (λ (x : PageState). x.own) (option_map (page_state v.store) o) ≡ Some (lines_of (option_and_then (λ (x : PageView). x.overlay) o))
-    at None h = absurd (not_some h)
-      where
-        not_some : IsSome {T = PageView} None → ⊥
-        not_some k = cc
+    at None h = cc
     at (Some x) h = refl
 
 pub frame_of_page : (v : MemoryView) (q r : ℕ) → option_map (λ (x : PageState). x.entry.frame) (page_in (state_of v) q r) ≡ frame_at v.table q r
 unfolding page_state
-frame_of_page v q r = ap (option_map (λ (x : PageState). x.entry.frame)) (state_page v q r) ∙ at (page_in v.table q r)
-  where
-    at : (o : Option PageView) → option_map (λ (x : PageState). x.entry.frame) (option_map (page_state v.store) o) ≡ option_map (λ (x : PageView). x.entry.frame) o
-    at None = refl
-    at (Some x) = refl
+frame_of_page v q r =
+    ap (option_map (λ (x : PageState). x.entry.frame)) (state_page v q r)
+    ∙ map_twice (λ (x : PageState). x.entry.frame) (page_state v.store) (λ (x : PageView). x.entry.frame) (page_in v.table q r) (λ x e. refl)
 
 pub overlaid_bare : (v : MemoryView) (q r : ℕ) → IsSome (page_in v.table q r) → overlay_at v.table q r ≡ None → IfSome (page_in (state_of v) q r) (λ (x : PageState). 0 < length x.own) → ⊥
 overlaid_bare v q r there bare has = at (page_in (state_of v) q r) refl
@@ -197,13 +187,10 @@ pub entries_state : (v : MemoryView) (s : ℕ) → calls.entries_of v.table s �
 unfolding calls.entries_of entries_in page_state
 entries_state v s =
     alike _ _ (λ q.
-    get_viewed (λ _ (x : PageView). x.entry) (space_in v.table s).pages q ∙ at (get (space_in v.table s).pages q)
+    get_viewed (λ _ (x : PageView). x.entry) (space_in v.table s).pages q
+    ∙ sym (map_twice (λ (x : PageState). x.entry) (page_state v.store) (λ (x : PageView). x.entry) (get (space_in v.table s).pages q) (λ x e. refl))
     ∙ ap (option_map (λ (x : PageState). x.entry)) (sym (get_viewed (λ _ (x : PageView). page_state v.store x) (space_in v.table s).pages q) ∙ ap (λ (m : FinMap nat_cmp PageState). get m q) (sym (state_pages v s)))
     ∙ sym (get_viewed (λ _ (x : PageState). x.entry) (space_in (state_of v) s).pages q))
-  where
-    at : (o : Option PageView) → option_map (λ (x : PageView). x.entry) o ≡ option_map (λ (x : PageState). x.entry) (option_map (page_state v.store) o)
-    at None = refl
-    at (Some x) = refl
 
 pub no_pages_state : (v : MemoryView) (s : ℕ) → (space_in (state_of v) s).pages ≡ empty → (space_in v.table s).pages ≡ empty
 no_pages_state v s none = alike _ _ (λ q. at q (get (space_in v.table s).pages q) refl ∙ sym (get-empty nat_cmp q))
@@ -212,10 +199,7 @@ no_pages_state v s none = alike _ _ (λ q. at q (get (space_in v.table s).pages 
     at q None e = e
     at q (Some x) e =
         let there = sym (get-empty nat_cmp q) ∙ ap (λ (m : FinMap nat_cmp PageState). get m q) (sym none ∙ state_pages v s) ∙ get_viewed (λ _ (y : PageView). page_state v.store y) (space_in v.table s).pages q ∙ ap (option_map (page_state v.store)) e in
-        absurd (nothing (page_state v.store x) there)
-      where
-        nothing : (y : PageState) → None ≡ Some y → ⊥
-        nothing y h = cc
+        absurd (none-some (page_state v.store x) there)
 
 -- a page that the state hasn't isn't in the tables
 pub none_back : (v : MemoryView) (q r : ℕ) → page_in (state_of v) q r ≡ None → page_in v.table q r ≡ None
