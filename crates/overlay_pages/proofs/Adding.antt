@@ -1,7 +1,5 @@
-use Rattle.std.specs.Prelude.{◌≡◌, ℕ, ◌+◌, ◌<◌, ◌≤◌, true, false, IfSome, IsSome, IsTrue, List, Option, Some, None, is_some, refl}
-use Rattle.std.proofs.Common.{sym, ap, subst, ◌∙◌, arith}
+use Rattle.std.proofs.Common.{◌≡◌, ℕ, ◌+◌, ◌<◌, ◌≤◌, true, false, IfSome, IsSome, IsTrue, List, Option, Some, None, is_some, refl, option_and_then, sym, ap, subst, ◌∙◌, arith}
 use Rattle.std.proofs.lemmas.Bool.Decides.{nat_tests}
-use Rattle.std.specs.Option.{option_and_then}
 use Rattle.std.specs.FinMap.{empty}
 use Rattle.sizes.specs.declared.TheConstants.{FRAME_UNITS, PAGE_END}
 use Rattle.unit_map.specs.Pieces.{free_units}

@@ -1,7 +1,5 @@
-use Rattle.std.specs.Prelude.{◌≡◌, ℕ, ◌+◌, ◌*◌, ◌<◌, ◌≤◌, ◌⊎◌, ◌||◌, ◌&&◌, Bool, true, false, cond, nat_eq, List, [], Option, Some, None, IfSome, IsSome, is_some, length, drop, take, get_or, refl}
-use Rattle.std.proofs.Common.{sym, ap, subst, ◌∙◌, arith, inr}
+use Rattle.std.proofs.Common.{option_and_then, option_map, ◌≡◌, ℕ, ◌+◌, ◌*◌, ◌<◌, ◌≤◌, ◌⊎◌, ◌||◌, ◌&&◌, Bool, true, false, cond, nat_eq, List, [], Option, Some, None, IfSome, IsSome, is_some, length, drop, take, get_or, refl, sym, ap, subst, ◌∙◌, arith, inr}
 use Rattle.std.proofs.lemmas.Option.{same_Some}
-use Rattle.std.specs.Option.{option_and_then, option_map, option_map_or}
 use Rattle.std.specs.FinMap.{empty, insert}
 use Rattle.unit_map.specs.Pieces.{free_units, units_in}
 use Rattle.overlay_bits.specs.Lines.{has_line}
@@ -86,7 +84,7 @@ commits a b c s p x there b_is same c_is =
     ∙ sym (turn_is committed (state_of a) s p (page_state a.store x) (state_page_there a s p x there))
 
 pub page_frame : (v : LedgerView) (s p : ℕ) (x : PageView) (frame : ℕ) → page_in v s p ≡ Some x → option_map (λ (y : PageView). y.entry.frame) (page_in v s p) ≡ Some frame → x.entry.frame ≡ frame
-page_frame v s p x frame there framed = ap (λ (o : Option ℕ). option_map_or (λ (n : ℕ). n) o 0) (sym (ap (option_map (λ (y : PageView). y.entry.frame)) there) ∙ framed)
+page_frame v s p x frame there framed = same_Some _ _ (sym (ap (option_map (λ (y : PageView). y.entry.frame)) there) ∙ framed)
 
 -- A page that is copied: its overlay ends, and it gets a frame with its lines.
 

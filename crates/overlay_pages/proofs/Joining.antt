@@ -1,10 +1,7 @@
-use Rattle.std.specs.Prelude.{◌≡◌, ℕ, ◌+◌, ◌*◌, ◌^◌, ◌<◌, ◌≤◌, ◌⊎◌, ◌||◌, Bool, true, false, cond, nat_eq, List, [], Option, Some, None, IsSome, length, get_or, slice_index_or, slice_set, refl}
-use Rattle.std.proofs.Common.{sym, ap, subst, ◌∙◌, arith, inl, inr, pow_pos}
-use Rattle.std.proofs.lemmas.Bool.{true≢false}
+use Rattle.std.proofs.Common.{option_and_then, ◌≡◌, ℕ, ◌+◌, ◌*◌, ◌^◌, ◌<◌, ◌≤◌, ◌⊎◌, ◌||◌, Bool, true, false, cond, nat_eq, List, [], Option, Some, None, IsSome, length, get_or, slice_index_or, slice_set, refl, true≢false, sym, ap, subst, ◌∙◌, arith, inl, inr, pow_pos}
 use Rattle.std.proofs.lemmas.Bool.Decides.{nat_tests}
 use Rattle.std.proofs.lemmas.Option.{none-some, same_Some}
 use Rattle.std.proofs.lemmas.List.{get_or-set_other, get_or-set_same}
-use Rattle.std.specs.Option.{option_and_then, option_map_or}
 use Rattle.unit_map.specs.Pieces.{free_units, units_in}
 use Rattle.unit_map.specs.declared.block.Block.{Block}
 use Rattle.overlay_bits.specs.Lines.{AreLines, has_line, with_line}
@@ -71,7 +68,7 @@ dropped old store table s p x e is there over ends kept frames free whole is_sto
     record {
       there = there;
       table_is = table_is;
-      was_there = λ f same. ap (λ (o : Option Entry). option_map_or (λ (y : Entry). y.block.unit) o 0) (sym same ∙ over);
+      was_there = λ f same. ap (λ (y : Entry). y.block.unit) (same_Some _ _ (sym same ∙ over));
       was_free = λ none. absurd (none-some e (sym none ∙ over));
       now_there = λ f h. absurd (none-some f h);
       here = segment_set old.store e.block.unit store.segments None (unit_low old.store is.store e.block.unit (segment_of s p e) (held.segment e over)) ends.segments;
@@ -179,9 +176,9 @@ inserted old store table s p x e line is there over low absent fits now kept fra
     record {
       there = there;
       table_is = table_is;
-      was_there = λ f same. ap (λ (o : Option Entry). option_map_or (λ (y : Entry). y.block.unit) o 0) (sym same ∙ over);
+      was_there = λ f same. ap (λ (y : Entry). y.block.unit) (same_Some _ _ (sym same ∙ over));
       was_free = λ none. absurd (none-some e (sym none ∙ over));
-      now_there = λ f same. ap (λ (o : Option Entry). option_map_or (λ (y : Entry). y.block.unit) o 0) (sym same);
+      now_there = λ f same. ap (λ (y : Entry). y.block.unit) (same_Some _ _ (sym same));
       here = ap (λ l. get_or l e.block.unit None) now.segments
           ∙ refilled old.store.segments e.block.unit (segment_of s p e) (lines_with old.store e.block line) (held.segment e over) (unit_low old.store is.store e.block.unit (segment_of s p e) (held.segment e over))
           ∙ ap (λ l. Some (record { owner = overlay_page s p; order = e.block.order; bits = with_line l line })) (overlay_lines old.store s p x e held over);
@@ -282,7 +279,7 @@ module _ (old : MemoryView) (began filled store : Store) (table : LedgerView) (s
     table_is = table_is;
     was_there = λ f over. absurd (none-some f (sym bare ∙ over));
     was_free = λ none. so.begins.fresh;
-    now_there = λ f same. ap (λ (o : Option Entry). option_map_or (λ (y : Entry). y.block.unit) o 0) (sym same);
+    now_there = λ f same. ap (λ (y : Entry). y.block.unit) (same_Some _ _ (sym same));
     here = now_there;
     elsewhere = λ unit away. segment_beside filled block.unit store.segments _ so.lines_now.segments unit away ∙ segment_beside began block.unit filled.segments _ so.laid_lines.segments unit away
         ∙ segment_beside old.store block.unit began.segments _ so.begins.segments unit away;

@@ -1,8 +1,6 @@
-use Rattle.std.specs.Prelude.{◌≡◌, ℕ, ◌+◌, ◌^◌, ◌<◌, ◌⊎◌, Option, Some, None, length, refl}
-use Rattle.std.proofs.Common.{sym, ap, subst, ◌∙◌, arith, inl, inr}
+use Rattle.std.proofs.Common.{option_map, ◌≡◌, ℕ, ◌+◌, ◌^◌, ◌<◌, ◌⊎◌, Option, Some, None, length, refl, sym, ap, subst, ◌∙◌, arith, inl, inr}
 use Rattle.std.proofs.lemmas.Option.{none-some, same_Some}
 use Rattle.std.proofs.lemmas.Bool.{cases_eq}
-use Rattle.std.specs.Option.{option_map, option_map_or}
 use Rattle.unit_map.specs.Pieces.{free_units, units_in}
 use Rattle.overlay_address.specs.Names.{overlay_page}
 use Rattle.overlay_mapping_table.specs.declared.entry.Entry.{Entry}
@@ -115,7 +113,7 @@ module _ (old new : MemoryView) (s p : ℕ) (x : PageView) (o : Option Entry) (u
         there = page_put_here old.table s p (record { entry = x.entry; overlay = o }) s p refl refl;
         is = e;
         unit_is = so.now_there f e ∙ sym same;
-        owner = ap (λ (t : Option Segment). option_map_or (λ (g : Segment). g.owner) t 0) (sym there ∙ ap (segment_at new.store) same ∙ so.here ∙ ap (option_map (segment_of s p)) e);
+        owner = ap (λ (g : Segment). g.owner) (same_Some _ _ (sym there ∙ ap (segment_at new.store) same ∙ so.here ∙ ap (option_map (segment_of s p)) e));
       }
 
       owned : (unit : ℕ) (segment : Segment) → segment_at new.store unit ≡ Some segment

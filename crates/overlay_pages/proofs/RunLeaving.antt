@@ -1,6 +1,5 @@
-use Rattle.std.specs.Prelude.{◌≡◌, ℕ, zero, suc, ◌+◌, ◌≤◌, ◌<◌, ◌||◌, Bool, true, false, cond, not, nat_eq, Option, Some, None, is_some, refl}
-use Rattle.std.proofs.Common.{sym, ap, subst, ◌∙◌, arith}
-use Rattle.std.specs.Option.{option_and_then, option_map, option_map_or}
+use Rattle.std.proofs.Common.{option_and_then, option_map, ◌≡◌, ℕ, zero, suc, ◌+◌, ◌≤◌, ◌<◌, ◌||◌, Bool, true, false, cond, not, nat_eq, Option, Some, None, is_some, refl, sym, ap, subst, ◌∙◌, arith}
+use Rattle.std.proofs.lemmas.Option.{same_Some}
 use Rattle.page_table.specs.Run.{entry_at}
 use Rattle.page_table.specs.declared.entry.PageEntry.{PageEntry}
 use Rattle.page_table.specs.declared.run.PageRun.{PageRun}
@@ -33,7 +32,7 @@ one_of v s p entry has = at (page_in v s p) refl has
   where
     at : (o : Option PageView) → page_in v s p ≡ o → option_map (λ (x : PageView). x.entry) o ≡ Some entry → IsOne v s p entry
     at None there h = let no = ap is_some h in cc
-    at (Some x) there h = record { x = x; there = there; is = ap (λ (o : Option PageEntry). option_map_or (λ (e : PageEntry). e) o entry) (sym h) }
+    at (Some x) there h = record { x = x; there = there; is = same_Some _ _ (sym h) }
 
 module _ (old : Store) (v : LedgerView) (s : ℕ) (run : PageRun) (is : IsJoined (view_of old v)) (has : holds_space v s ≡ true) (bare : IsBareRun v s run) where
   pub none_left : HasLeft old old v s run 0

@@ -1,9 +1,7 @@
-use Rattle.std.specs.Prelude.{◌≡◌, ℕ, ◌+◌, ◌≤◌, ◌<◌, ◌⊎◌, Bool, true, false, nat_eq, List, length, Option, Some, None, is_some, refl}
-use Rattle.std.proofs.Common.{sym, ap, subst, ◌∙◌, arith, inl, inr}
+use Rattle.std.proofs.Common.{◌≡◌, ℕ, ◌+◌, ◌≤◌, ◌<◌, ◌⊎◌, Bool, true, false, nat_eq, List, length, Option, Some, None, is_some, refl, nat_cmp, sym, ap, subst, ◌∙◌, arith, inl, inr}
+use Rattle.std.proofs.lemmas.Option.{same_Some}
 use Rattle.std.proofs.lemmas.Bool.Decides.{nat_tests}
-use Rattle.std.specs.Option.{option_map_or}
 use Rattle.std.specs.FinMap.{empty, get, get-empty, insert, remove}
-use Rattle.std.specs.Ordering.{nat_cmp}
 use Rattle.number_maps.specs.Keys.{by_key, get_other, get_same, removed_other, removed_same}
 use Rattle.number_maps.specs.Values.{remove_absent}
 use Rattle.number_maps.specs.Views.{viewed, viewed_empty}
@@ -32,7 +30,7 @@ nothing_apart z = record {
 }
 
 same_value : {X : Type 0} (x y : X) → Some x ≡ Some y → x ≡ y
-same_value {X = X} x y e = ap (λ (o : Option X). option_map_or (λ (z : X). z) o x) e
+same_value {X = X} x y e = same_Some _ _ e
 
 -- what another page has to be, for a frame to be named once
 abbrev pub FitsIn : ℕ → SpaceView → ℕ → PageView → Type 0

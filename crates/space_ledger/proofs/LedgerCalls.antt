@@ -1,5 +1,5 @@
-use Rattle.std.specs.Prelude.{◌≡◌, ℕ, ◌+◌, ◌-◌, ◌^◌, ◌==◌, ◌≤◌, ◌<◌, ◌⊎◌, Bool, true, false, cond, not, ◌&&◌, nat_lt, List, length, Option, Some, None, is_some, IsSome, Result, Ok, Err, IfOk, refl}
-use Rattle.std.proofs.Common.{sym, ap, subst, ◌∙◌, arith}
+use Rattle.std.proofs.Common.{◌≡◌, ℕ, ◌+◌, ◌-◌, ◌^◌, ◌==◌, ◌≤◌, ◌<◌, ◌⊎◌, Bool, true, false, cond, not, ◌&&◌, nat_lt, List, length, Option, Some, None, is_some, IsSome, Result, Ok, Err, IfOk, refl, sym, ap, subst, ◌∙◌, arith}
+use Rattle.std.proofs.lemmas.Option.{same_Some}
 use Rattle.std.specs.Option.{option_and_then, option_map, option_map_or}
 use Rattle.std.specs.FinMap.{empty, get}
 use Rattle.number_maps.specs.Views.{get_viewed}
@@ -20,7 +20,6 @@ use Rattle.space_ledger.specs.View.{LedgerView, PageView, frame_at, frame_awaiti
 use Rattle.space_ledger.specs.Calls.{IsBooked, IsFreeFor, IsSound, NamesOnce, entries_of, given_up}
 use Rattle.space_ledger.specs.Frames.{frame_units, held_by, released_by}
 use Rattle.space_ledger.proofs.Booking.{alone_frame, units_by_count}
-use Rattle.space_ledger.proofs.Booked.{}
 use Rattle.space_ledger.proofs.Numbers.{added_is, class_fits, entry_page, frame_low, frame_most, framed_answer, framed_books, framed_fits, freed_fits, freed_is, held_few, held_low, lines_fit, lines_less, over_books, own_is, removed_answer, removed_books, shared_books, shared_few, some_left, units_fit}
 
 -- What the calls leave, in the words of the calls below them.
@@ -40,7 +39,7 @@ on_frame v s p f is = at (page_in v s p) refl is
   where
     at : (o : Option PageView) → page_in v s p ≡ o → option_map (λ (x : PageView). x.entry.frame) o ≡ Some f → (x : PageView) × (page_in v s p ≡ Some x) × (f ≡ x.entry.frame)
     at None there h = let no = ap is_some h in cc
-    at (Some x) there h = (x, there, ap (λ (o : Option ℕ). option_map_or (λ (n : ℕ). n) o f) (sym h))
+    at (Some x) there h = (x, there, same_Some _ _ (sym h))
 
 pub entry_inside : (v : LedgerView) (counts : List ℕ) (u n : ℕ) → IsBooked v counts u n → (s p : ℕ) (e : PageEntry)
     → Some e ≡ option_map (λ (x : PageView). x.entry) (page_in v s p) → e.frame < v.frames
@@ -202,7 +201,7 @@ shared_frame v counts u n kept from to p entry there waiting same =
     (x.0, x.1, frames, subst (λ k. k < v.frames) (sym frames) (kept.inside from p x.0 x.1))
   where
     some_frame : {a b : ℕ} → Some a ≡ Some b → a ≡ b
-    some_frame {a = a} e = ap (λ (o : Option ℕ). option_map_or (λ (k : ℕ). k) o a) e
+    some_frame {a = a} e = same_Some _ _ e
 
 pub record Shared (v : LedgerView) (counts more : List ℕ) (u n s p z added lines : ℕ) (entry : PageEntry) (o : Option Entry) : Type 0 where
   pub small : u + added + class lines < 2 ^ 32
@@ -278,4 +277,4 @@ copied_once v w counts u n kept s (Ok table) same is =
   where
     entry_of : {e : PageEntry} (o : Option PageView) → option_map (λ (y : PageView). y.entry) o ≡ Some e → (x : PageView) × (o ≡ Some x) × (x.entry ≡ e)
     entry_of None h = let no = ap is_some h in cc
-    entry_of (Some x) h = (x, refl, ap (λ (o : Option PageEntry). option_map_or (λ (k : PageEntry). k) o x.entry) h)
+    entry_of (Some x) h = (x, refl, same_Some _ _ h)

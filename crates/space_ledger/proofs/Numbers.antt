@@ -1,10 +1,9 @@
-use Rattle.std.specs.Prelude.{◌≡◌, ℕ, zero, suc, ◌+◌, ◌-◌, ◌*◌, ◌^◌, ◌==◌, ◌≤◌, ◌<◌, ◌⊎◌, Bool, true, false, cond, not, ◌&&◌, ◌||◌, nat_eq, nat_lt, List, [], length, Option, Some, None, is_some, IsSome, Result, Ok, Err, OnOk, OnErr, refl}
-use Rattle.std.proofs.Common.{sym, ap, subst, ◌∙◌, arith, inl, inr}
+use Rattle.std.proofs.Common.{◌≡◌, ℕ, zero, suc, ◌+◌, ◌-◌, ◌*◌, ◌^◌, ◌==◌, ◌≤◌, ◌<◌, ◌⊎◌, Bool, true, false, cond, not, ◌&&◌, ◌||◌, nat_eq, nat_lt, List, [], length, Option, Some, None, is_some, IsSome, Result, Ok, Err, OnOk, OnErr, refl, nat_cmp, sym, ap, subst, ◌∙◌, arith, inl, inr}
+use Rattle.std.proofs.lemmas.Option.{same_Some}
 use Rattle.std.proofs.lemmas.Bool.Decides.{nat_tests}
 use Rattle.std.proofs.lemmas.List.{length-set}
 use Rattle.std.specs.Option.{option_and_then, option_map, option_map_or}
 use Rattle.std.specs.FinMap.{empty, get, get-empty, len}
-use Rattle.std.specs.Ordering.{nat_cmp}
 use Rattle.sizes.specs.declared.TheConstants.{FRAME_UNITS, LAST_SPACE, MOST_FRAMES, PAGE_LINES}
 use Rattle.page_table.specs.Table.{is_within}
 use Rattle.page_table.specs.declared.entry.PageEntry.{PageEntry}
@@ -66,7 +65,7 @@ held_page v s p h there = at (page_in v s p) refl (sym (books_page holding_of v 
     at (Some x) is e = (x, is, same_holding (sym e ∙ ap (option_map (holding_of v.zero_frame)) is))
       where
         same_holding : Some h ≡ Some (holding_of v.zero_frame x) → h ≡ holding_of v.zero_frame x
-        same_holding q = ap (λ (o : Option Holding). option_map_or (λ (y : Holding). y) o h) q
+        same_holding q = same_Some _ _ q
 
 module _ (v : LedgerView) (counts : List ℕ) (u n : ℕ) (kept : IsBooked v counts u n) (sound : IsSound v) where
   -- bounds
@@ -481,7 +480,7 @@ entry_page v s p e is = at (page_in v s p) refl is
   where
     at : (o : Option PageView) → page_in v s p ≡ o → Some e ≡ option_map (λ (x : PageView). x.entry) o → (x : PageView) × (page_in v s p ≡ Some x) × (e ≡ x.entry)
     at None there h = let no = ap is_some h in cc
-    at (Some x) there h = (x, there, ap (λ (o : Option PageEntry). option_map_or (λ (y : PageEntry). y) o e) h)
+    at (Some x) there h = (x, there, same_Some _ _ h)
 
 pub no_entry : (v : LedgerView) (s p : ℕ) → None ≡ option_map (λ (x : PageView). x.entry) (page_in v s p) → IsSome (page_in v s p) → ⊥
 no_entry v s p is there = at (page_in v s p) is there

@@ -1,8 +1,5 @@
-use Rattle.std.specs.Prelude.{◌≡◌, ℕ, zero, suc, ◌+◌, ◌-◌, ◌≤◌, ◌<◌, Bool, true, false, cond, nat_le, nat_lt, Option, Some, None, is_some, IsSome, refl}
-use Rattle.std.proofs.Common.{sym, ap, subst, ◌∙◌, arith}
+use Rattle.std.proofs.Common.{◌≡◌, ℕ, zero, suc, ◌+◌, ◌-◌, ◌≤◌, ◌<◌, Bool, true, false, cond, nat_le, nat_lt, Option, Some, None, is_some, IsSome, refl, option_and_then, option_map, nat_cmp, sym, ap, subst, ◌∙◌, arith}
 use Rattle.std.proofs.lemmas.Bool.Decides.{nat_tests}
-use Rattle.std.specs.Option.{option_and_then, option_map}
-use Rattle.std.specs.Ordering.{nat_cmp}
 use Rattle.std.specs.FinMap.{FinMap, empty, get, get-empty, insert, len}
 use Rattle.number_maps.specs.Keys.{alike, by_key, get_same, insert_over, removed_other, removed_same}
 use Rattle.number_maps.specs.Views.{get_viewed}

@@ -1,5 +1,4 @@
-use Rattle.std.specs.Prelude.{◌≡◌, ℕ, zero, suc, ◌+◌, ◌*◌, ◌≤◌, ◌<◌, ◌^◌, ◌⊎◌, false, List, length, refl}
-use Rattle.std.proofs.Common.{sym, ap, subst, ◌∙◌, arith}
+use Rattle.std.proofs.Common.{◌≡◌, ℕ, zero, suc, ◌+◌, ◌*◌, ◌≤◌, ◌<◌, ◌^◌, ◌⊎◌, false, List, length, refl, sym, ap, subst, ◌∙◌, arith}
 use Rattle.sizes.specs.declared.TheConstants.{PAGE_END}
 use Rattle.frame_pool.specs.Counts.{sharers_of}
 use Rattle.frame_pool.specs.Laws.{released_other}

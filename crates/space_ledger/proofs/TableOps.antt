@@ -1,7 +1,4 @@
-use Rattle.std.specs.Prelude.{◌≡◌, ℕ, ◌+◌, ◌*◌, ◌≤◌, ◌<◌, Bool, true, false, cond, nat_lt, [], length, Option, Some, None, is_some, IsSome, Result, Ok, Err, OnOk, OnErr, refl}
-use Rattle.std.proofs.Common.{sym, ap, subst, ◌∙◌, arith}
-use Rattle.std.specs.Option.{option_map, option_and_then}
-use Rattle.std.specs.Ordering.{nat_cmp}
+use Rattle.std.proofs.Common.{◌≡◌, ℕ, ◌+◌, ◌*◌, ◌≤◌, ◌<◌, Bool, true, false, cond, nat_lt, [], length, Option, Some, None, is_some, IsSome, Result, Ok, Err, OnOk, OnErr, refl, option_map, option_and_then, nat_cmp, sym, ap, subst, ◌∙◌, arith}
 use Rattle.std.specs.FinMap.{FinMap, empty, get, get-empty, insert, len, len-empty, remove}
 use Rattle.number_maps.specs.Keys.{alike, insert_kept}
 use Rattle.number_maps.specs.Values.{len_low}

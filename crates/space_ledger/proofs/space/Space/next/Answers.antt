@@ -1,5 +1,4 @@
-use Rattle.std.proofs.Common.{subst}
-use Rattle.std.specs.Prelude.{Some, None}
+use Rattle.std.proofs.Common.{Some, None, subst}
 use Rattle.space_ledger.specs.Space.{SpaceTable, IsNextPage}
 use Rattle.space_ledger.proofs.Parts.{next_inside, next_none, next_waits}
 use Rattle.space_ledger.proofs.space.Space.next.Goals as goal

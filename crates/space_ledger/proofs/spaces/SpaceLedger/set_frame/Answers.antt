@@ -1,9 +1,6 @@
-use Rattle.std.proofs.Common.{sym, ap, subst, ◌∙◌, arith}
+use Rattle.std.proofs.Common.{ℕ, ◌<◌, ◌-◌, ◌+◌, ◌==◌, cond, Some, None, option_and_then, sym, ap, subst, ◌∙◌, arith}
 use Rattle.space_maps.specs.Spaces.{page_in, space_in}
-use Rattle.space_ledger.specs.View.{LedgerView}
-use Rattle.std.specs.Prelude.{ℕ, ◌<◌, ◌-◌, ◌+◌, ◌==◌, cond, Some, None}
-use Rattle.std.specs.Option.{option_and_then}
-use Rattle.space_ledger.specs.View.{with_frame}
+use Rattle.space_ledger.specs.View.{LedgerView, with_frame}
 use Rattle.space_ledger.specs.Calls.{IsBooked, IsFreeFor, given_up}
 use Rattle.space_ledger.proofs.LedgerCalls.{before_hold, before_release, entry_is_frame, framed_call}
 use Rattle.space_ledger.proofs.spaces.SpaceLedger.set_frame.Goals as goal
