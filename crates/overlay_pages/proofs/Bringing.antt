@@ -1,6 +1,6 @@
 use Rattle.std.proofs.Common.{◌≡◌, ℕ, ◌+◌, ◌*◌, ◌<◌, ◌≤◌, Bool, true, false, cond, nat_eq, List, [], ◌∷◌, ◌++◌, Option, Some, None, IsSome, is_some, length, slice_set, refl, sym, ap, subst, ◌∙◌, arith}
 use Rattle.std.proofs.lemmas.Option.{same_Some}
-use Rattle.std.specs.Option.{option_and_then, option_map, option_map_or}
+use Rattle.std.specs.Option.{option_map}
 use Rattle.overlay_bits.specs.Lines as bits
 use Rattle.overlay_bits.specs.Lines.{AreLines, has_line}
 use Rattle.overlay_bits.specs.Laws.{has_next, with_there}
@@ -9,7 +9,7 @@ use Rattle.ledger.specs.Changes.{with_line, with_lines}
 use Rattle.ledger.specs.Units.{class}
 use Rattle.ledger.specs.ClassLaws.{class_le}
 use Rattle.ledger.specs.StoreLaws.{longer}
-use Rattle.segment_store.specs.Store.{frame_line, frame_place, place_of}
+use Rattle.segment_store.specs.Store.{frame_line}
 use Rattle.segment_store.specs.Laws.{frame_inside}
 use Rattle.unit_map.specs.Pieces.{units_in}
 use Rattle.page_table.specs.declared.entry.PageEntry.{PageEntry}
@@ -18,7 +18,6 @@ use Rattle.space_maps.specs.Spaces.{page_in, put_page, turned_page}
 use Rattle.space_ledger.specs.Joined.{put_same}
 use Rattle.space_ledger.specs.View.{LedgerView, PageView, lines_of, overlay_at}
 use Rattle.overlay_pages.specs.Lines.{page_lines}
-use Rattle.overlay_pages.specs.LineLaws.{lines_same, set_line}
 use Rattle.overlay_pages.specs.State.{PageState}
 use Rattle.overlay_pages.specs.Changes.{Fits, brought, limit_of, units_of}
 use Rattle.overlay_pages.specs.Steps.{joins}

@@ -1,4 +1,4 @@
-use Rattle.std.proofs.Common.{option_and_then, ◌≡◌, ℕ, ◌+◌, ◌*◌, ◌^◌, ◌<◌, ◌≤◌, ◌⊎◌, ◌||◌, Bool, true, false, cond, nat_eq, List, [], Option, Some, None, IsSome, length, get_or, slice_index_or, slice_set, refl, true≢false, sym, ap, subst, ◌∙◌, arith, inl, inr, pow_pos}
+use Rattle.std.proofs.Common.{option_and_then, ◌≡◌, ℕ, ◌+◌, ◌*◌, ◌^◌, ◌<◌, ◌≤◌, ◌||◌, Bool, true, false, cond, nat_eq, List, [], Option, Some, None, IsSome, length, get_or, slice_index_or, slice_set, refl, true≢false, sym, ap, subst, ◌∙◌, arith, pow_pos}
 use Rattle.std.proofs.lemmas.Bool.Decides.{nat_tests}
 use Rattle.std.proofs.lemmas.Option.{none-some, same_Some}
 use Rattle.std.proofs.lemmas.List.{get_or-set_other, get_or-set_same}
@@ -8,7 +8,6 @@ use Rattle.overlay_bits.specs.Lines.{AreLines, has_line, with_line}
 use Rattle.overlay_bits.specs.Laws.{count_with, has_with}
 use Rattle.overlay_address.specs.Names.{overlay_page}
 use Rattle.overlay_mapping_table.specs.declared.entry.Entry.{Entry}
-use Rattle.line_store.specs.Lines.{line_of}
 use Rattle.ledger.specs.AloneLaws.{are}
 use Rattle.ledger.specs.Units.{class, overlaid_pages}
 use Rattle.ledger.specs.TallyLaws.{overlaid_few}
@@ -16,7 +15,7 @@ use Rattle.ledger.specs.ClassLaws.{class_none}
 use Rattle.segment_store.specs.declared.segment.Segment.{Segment}
 use Rattle.segment_store.specs.Kept.{IsStore}
 use Rattle.segment_store.specs.Pointers.{capacity_of}
-use Rattle.segment_store.specs.Store.{Store, IsSegment, frame_line, frame_place, line_in, lines_at, lines_with, place_of, scratch_line, segment_at}
+use Rattle.segment_store.specs.Store.{Store, IsSegment, frame_line, line_in, lines_at, lines_with, scratch_line, segment_at}
 use Rattle.segment_store.specs.Changes.{Begins, Ends, HasLinesNow, Inserts, KeepsFrame, KeepsFrames, KeepsOtherSegments, KeepsScratch, KeepsSegments, Lays, block_of}
 use Rattle.segment_store.specs.Laws.{inside_of, lines_there, order_of, refilled, stays_twice}
 use Rattle.overlay_pages.proofs.Sizes.{still_fits}

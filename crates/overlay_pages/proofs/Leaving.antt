@@ -3,7 +3,7 @@ use Rattle.std.proofs.lemmas.Option.{none-some}
 use Rattle.unit_map.specs.Pieces.{free_units, units_in}
 use Rattle.overlay_mapping_table.specs.declared.entry.Entry.{Entry}
 use Rattle.ledger.specs.AloneLaws.{are, origin_of, unused_parts}
-use Rattle.ledger.specs.Ledger.{Ledger, has_origin, holding_at, is_alone, is_unused, without_page}
+use Rattle.ledger.specs.Ledger.{has_origin, is_alone, is_unused, without_page}
 use Rattle.ledger.specs.Units.{class, units}
 use Rattle.ledger.specs.ClassLaws.{class_none}
 use Rattle.ledger.specs.UnitLaws.{alone_is, frame_for, units_at}

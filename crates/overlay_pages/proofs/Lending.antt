@@ -1,4 +1,4 @@
-use Rattle.std.proofs.Common.{◌≡◌, ℕ, ◌+◌, ◌*◌, ◌^◌, ◌<◌, ◌≤◌, ◌⊎◌, ◌&&◌, Bool, true, false, cond, not, nat_eq, List, [], Option, Some, None, slice_set, refl, true≢false, sym, ap, subst, ◌∙◌, arith, inl, inr}
+use Rattle.std.proofs.Common.{◌≡◌, ℕ, ◌+◌, ◌*◌, ◌^◌, ◌<◌, ◌≤◌, ◌&&◌, Bool, true, false, cond, not, List, [], Option, Some, slice_set, refl, true≢false, sym, ap, subst, ◌∙◌, arith}
 use Rattle.std.proofs.lemmas.Option.{same_Some}
 use Rattle.std.proofs.lemmas.List.{get_or-set_other}
 use Rattle.std.specs.Option.{option_map, option_map_or}
@@ -9,21 +9,19 @@ use Rattle.overlay_mapping_table.specs.declared.entry.Entry.{Entry}
 use Rattle.line_store.specs.Lines.{line_of}
 use Rattle.ledger.specs.Ledger.{Holding, is_alone}
 use Rattle.ledger.specs.AloneLaws.{alone_apart, are}
-use Rattle.segment_store.specs.declared.segment.Segment.{Segment}
-use Rattle.segment_store.specs.Store.{Store, IsFrame, IsSegment, frame_line, frame_place, line_in, lines_at, place_of, segment_at, with_frame_line, with_segment_line}
+use Rattle.segment_store.specs.Store.{Store, IsFrame, IsSegment, frame_line, frame_place, line_in, lines_at, place_of, with_frame_line, with_segment_line}
 use Rattle.segment_store.specs.Changes.{KeepsFrame, KeepsFrames, KeepsOtherSegments, KeepsSegments}
 use Rattle.segment_store.specs.Laws.{frame_alters, frame_inside, frame_set_here, frame_set_store, frame_stays, frames_stay, inside_of, lies_at, line_alters, line_set_store, others_stay, segments_stay, set_beside, set_here}
 use Rattle.space_maps.specs.Books.{books_page}
-use Rattle.space_maps.specs.Laws.{page_again, set_some, there_space}
-use Rattle.space_maps.specs.Spaces.{page_in, put_page, set_page, space_in}
-use Rattle.space_ledger.specs.View.{LedgerView, PageView, holding_of, ledger_of, lines_of, origin_of}
+use Rattle.space_maps.specs.Spaces.{page_in, put_page, space_in}
+use Rattle.space_ledger.specs.View.{PageView, holding_of, ledger_of, lines_of, origin_of}
 use Rattle.overlay_pages.specs.Lines.{line_in_page, page_lines}
-use Rattle.overlay_pages.specs.LineLaws.{line_at, lines_same, set_line}
+use Rattle.overlay_pages.specs.LineLaws.{line_at, lines_same}
 use Rattle.overlay_pages.specs.State.{PageState}
 use Rattle.overlay_pages.specs.Changes.{is_writable, with_written, writes_frame, written}
 use Rattle.overlay_pages.specs.Calls.{with_line_at_place}
 use Rattle.overlay_pages.specs.Spots.{IsInFrame, IsInSegment}
-use Rattle.overlay_pages.specs.View.{IsHeld, IsJoined, IsOwned, MemoryView, line_seen, page_state, place_at, place_in_page, segment_of, state_of, view_of}
+use Rattle.overlay_pages.specs.View.{IsHeld, IsJoined, MemoryView, line_seen, page_state, place_at, place_in_page, segment_of, state_of, view_of}
 use Rattle.overlay_pages.specs.ViewLaws.{state_page_there}
 use Rattle.overlay_pages.proofs.Steps.{Rewrites, by_spot, overlay_lines, overlay_there, place_inside, place_outside, rewritten_joined, rewritten_state, seen_inside, seen_outside, set_lines, units_apart}
 use Rattle.overlay_pages.proofs.Growing.{turn_is}

@@ -1,19 +1,17 @@
-use Rattle.std.proofs.Common.{◌≡◌, ℕ, ◌+◌, ◌*◌, ◌<◌, ◌≤◌, ◌⊎◌, ◌||◌, Bool, true, false, cond, not, nat_eq, List, [], Option, Some, None, IfSome, IsSome, is_some, length, refl, true≢false, sym, ap, subst, ◌∙◌, arith, inl}
+use Rattle.std.proofs.Common.{◌≡◌, ℕ, ◌+◌, ◌<◌, Bool, true, false, cond, nat_eq, List, [], Option, Some, None, IfSome, length, refl, true≢false, sym, ap, subst, ◌∙◌, arith, inl}
 use Rattle.std.proofs.lemmas.Option.{none-some, same_Some}
 use Rattle.std.proofs.lemmas.Bool.Decides.{nat_tests}
 use Rattle.std.specs.Option.{option_and_then, option_map, option_map_or}
 use Rattle.sizes.specs.declared.TheConstants.{FRAME_UNITS}
 use Rattle.unit_map.specs.Pieces.{free_units, units_in}
-use Rattle.overlay_address.specs.Names.{overlay_page}
 use Rattle.overlay_mapping_table.specs.declared.entry.Entry.{Entry}
 use Rattle.ledger.specs.Ledger.{Holding, Ledger, has_origin, holding_at, is_alone, is_unused, with_page, without_page}
 use Rattle.ledger.specs.Units.{class, units}
 use Rattle.ledger.specs.ClassLaws.{class_none}
 use Rattle.ledger.specs.UnitLaws.{frame_for, units_changed}
-use Rattle.ledger.specs.AloneLaws.{arent, holder, not_true, origin_of, unused_from, unused_without}
-use Rattle.segment_store.specs.declared.segment.Segment.{Segment}
+use Rattle.ledger.specs.AloneLaws.{arent, holder, not_true, unused_from, unused_without}
 use Rattle.segment_store.specs.Kept.{IsStore}
-use Rattle.segment_store.specs.Store.{Store, IsFrame, frame_line, segment_at}
+use Rattle.segment_store.specs.Store.{Store, IsFrame, frame_line}
 use Rattle.segment_store.specs.Changes.{KeepsFrame, KeepsFrames, KeepsSegments}
 use Rattle.segment_store.specs.Laws.{frame_inside}
 use Rattle.space_maps.specs.Books.{books_page, books_put_page}

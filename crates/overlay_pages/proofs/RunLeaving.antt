@@ -1,15 +1,14 @@
-use Rattle.std.proofs.Common.{option_and_then, option_map, ◌≡◌, ℕ, zero, suc, ◌+◌, ◌≤◌, ◌<◌, ◌||◌, Bool, true, false, cond, not, nat_eq, Option, Some, None, is_some, refl, sym, ap, subst, ◌∙◌, arith}
+use Rattle.std.proofs.Common.{option_and_then, option_map, ◌≡◌, ℕ, zero, suc, ◌+◌, ◌≤◌, ◌<◌, Bool, true, false, Option, Some, None, is_some, refl, sym, ap, subst, ◌∙◌, arith}
 use Rattle.std.proofs.lemmas.Option.{same_Some}
 use Rattle.page_table.specs.Run.{entry_at}
 use Rattle.page_table.specs.declared.entry.PageEntry.{PageEntry}
 use Rattle.page_table.specs.declared.run.PageRun.{PageRun}
-use Rattle.ledger.specs.Ledger.{has_origin, is_unused}
+use Rattle.ledger.specs.Ledger.{is_unused}
 use Rattle.segment_store.specs.Store.{Store, IsFrame}
 use Rattle.segment_store.specs.Laws.{frame_inside}
 use Rattle.space_maps.specs.Laws.{after_cut, are_cut}
 use Rattle.space_maps.specs.Spaces.{cut_page, cut_pages, holds_space, page_in}
 use Rattle.space_ledger.specs.View.{LedgerView, PageView, ledger_of, origin_of}
-use Rattle.space_ledger.specs.ViewLaws.{unused_is}
 use Rattle.space_ledger.specs.Calls.{GivesNothingUp, GivesUpAtLast, IsBareRun, given_up}
 use Rattle.overlay_pages.specs.State.{State}
 use Rattle.overlay_pages.specs.View.{IsJoined, state_of, view_of}

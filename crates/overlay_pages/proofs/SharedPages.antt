@@ -1,4 +1,4 @@
-use Rattle.std.proofs.Common.{◌≡◌, ℕ, ◌+◌, ◌*◌, ◌^◌, ◌<◌, ◌≤◌, ◌⊎◌, ◌&&◌, not, Bool, true, false, cond, nat_eq, List, [], Option, Some, None, IsSome, is_some, length, refl, sym, ap, subst, ◌∙◌, arith, inl, inr}
+use Rattle.std.proofs.Common.{◌≡◌, ℕ, ◌+◌, ◌^◌, ◌<◌, ◌≤◌, ◌⊎◌, ◌&&◌, not, Bool, true, false, cond, nat_eq, List, [], Option, Some, None, IsSome, is_some, length, refl, sym, ap, subst, ◌∙◌, arith, inl, inr}
 use Rattle.std.proofs.lemmas.Option.{none-some, same_Some}
 use Rattle.std.proofs.lemmas.Bool.{cases_eq}
 use Rattle.std.specs.Option.{option_and_then, option_map, option_map_or}
@@ -9,20 +9,18 @@ use Rattle.unit_map.specs.declared.block.Block.{Block}
 use Rattle.overlay_bits.specs.Lines.{AreLines, has_line}
 use Rattle.overlay_address.specs.Names.{overlay_page}
 use Rattle.overlay_mapping_table.specs.declared.entry.Entry.{Entry}
-use Rattle.line_store.specs.Lines.{line_of}
 use Rattle.page_table.specs.declared.entry.PageEntry.{PageEntry}
 use Rattle.ledger.specs.Ledger.{has_origin, is_unused}
-use Rattle.ledger.specs.Units.{class, units}
-use Rattle.ledger.specs.ClassLaws.{class_none}
-use Rattle.ledger.specs.UnitLaws.{frame_for, units_new}
-use Rattle.ledger.specs.AloneLaws.{origin_of, without_absent}
+use Rattle.ledger.specs.Units.{class}
+use Rattle.ledger.specs.UnitLaws.{frame_for}
+use Rattle.ledger.specs.AloneLaws.{origin_of}
 use Rattle.segment_store.specs.declared.segment.Segment.{Segment}
 use Rattle.segment_store.specs.Kept.{IsStore}
-use Rattle.segment_store.specs.Store.{Store, IsFrame, frame_line, frame_place, line_in, place_of, segment_at}
+use Rattle.segment_store.specs.Store.{Store, IsFrame, frame_line, segment_at}
 use Rattle.segment_store.specs.Changes.{Begins, HasLinesNow, KeepsFrames, KeepsOtherSegments, KeepsScratch, KeepsSegments, Lays, Lifts, block_of}
-use Rattle.space_maps.specs.Books.{books_page, books_put_page, books_spaces}
-use Rattle.space_maps.specs.Laws.{page_put_here, put_shared_as, set_some, there_space}
-use Rattle.space_maps.specs.Spaces.{holds_space, page_in, put_awaiting, put_page, put_shared, set_page, space_in}
+use Rattle.space_maps.specs.Books.{books_page}
+use Rattle.space_maps.specs.Laws.{page_put_here, put_shared_as, there_space}
+use Rattle.space_maps.specs.Spaces.{holds_space, page_in, put_awaiting, put_page, put_shared, space_in}
 use Rattle.space_ledger.specs.View as view
 use Rattle.space_ledger.specs.View.{LedgerView, PageView, SpaceView, frame_at, frame_awaiting, holding_of, ledger_of, lines_of, overlay_at, with_page_shared}
 use Rattle.overlay_pages.specs.Lines.{line_in_page, page_lines}
@@ -31,10 +29,10 @@ use Rattle.overlay_pages.specs.State.{PageState, State}
 use Rattle.overlay_pages.specs.Changes as changes
 use Rattle.overlay_pages.specs.Changes.{HasShareRoom, limit_of, shared_page, units_of}
 use Rattle.overlay_pages.specs.TableLaws.{state_awaiting_put}
-use Rattle.overlay_pages.specs.View.{IsHeld, IsJoined, IsOwned, MemoryView, line_seen, page_state, segment_of, state_of, view_of}
+use Rattle.overlay_pages.specs.View.{IsHeld, IsJoined, MemoryView, line_seen, page_state, segment_of, state_of, view_of}
 use Rattle.overlay_pages.specs.ViewLaws.{state_awaiting, state_holds, state_page_there}
 use Rattle.overlay_pages.proofs.Steps.{map_from, seen_bare, seen_inside, seen_outside}
-use Rattle.overlay_pages.proofs.Coming.{HasPlaceFor, came_joined, came_state, place_for_bare}
+use Rattle.overlay_pages.proofs.Coming.{HasPlaceFor, came_joined, came_state}
 use Rattle.segment_store.specs.Pointers.{capacity_of}
 use Rattle.segment_store.specs.Laws.{count_fits, refilled, stays_twice}
 use Rattle.overlay_pages.proofs.Joining.{Has, frames_twice, order_low, overlay_segment, overlay_set, page_with, segment_beside, sets_are, unit_low}

@@ -2,7 +2,7 @@ use Rattle.std.proofs.Common.{◌≡◌, ℕ, ◌+◌, ◌-◌, ◌*◌, ◌^◌
 use Rattle.std.proofs.lemmas.Bool.{cases_lt}
 use Rattle.std.proofs.lemmas.Option.{none-some, same_Some}
 use Rattle.std.proofs.lemmas.Bool.Decides.{nat_tests}
-use Rattle.std.specs.Option.{option_and_then, option_map, option_map_or}
+use Rattle.std.specs.Option.{option_and_then, option_map}
 use Rattle.unit_map.specs.Pieces.{free_at, free_units, units_in}
 use Rattle.unit_map.specs.Laws.{by_order, within as inside_piece}
 use Rattle.unit_map.specs.declared.block.Block.{Block}
@@ -11,12 +11,11 @@ use Rattle.overlay_bits.specs.Lines.{has_line}
 use Rattle.overlay_address.specs.Names.{overlay_page, page_of, space_of}
 use Rattle.overlay_address.specs.Laws.{page_back, space_back}
 use Rattle.overlay_mapping_table.specs.declared.entry.Entry.{Entry}
-use Rattle.line_store.specs.Lines.{line_of}
 use Rattle.ledger.specs.PlaceLaws.{by_place}
 use Rattle.ledger.specs.Units.{class, units}
 use Rattle.segment_store.specs.declared.segment.Segment.{Segment}
 use Rattle.segment_store.specs.Kept.{IsStore}
-use Rattle.segment_store.specs.Store.{Store, IsFrame, frame_line, frame_place, line_in, place_of, segment_at}
+use Rattle.segment_store.specs.Store.{Store, IsFrame, frame_line, line_in, segment_at}
 use Rattle.segment_store.specs.Changes.{KeepsFrames, MakesMove}
 use Rattle.space_maps.specs.Laws.{KeepsSpaces, changed_there, keeps_page_set, keeps_still, keeps_twice, page_set_beside, page_set_here, set_some, spaces_alike, there_space}
 use Rattle.space_maps.specs.Spaces.{holds_space, page_in, set_page}
@@ -24,7 +23,7 @@ use Rattle.space_ledger.specs.View.{LedgerView, PageView, ledger_of, lines_of, o
 use Rattle.overlay_pages.specs.LineLaws.{lines_same}
 use Rattle.overlay_pages.specs.State.{books}
 use Rattle.overlay_pages.specs.Steps.{HasMoved, IsOfPage, Moved, relocated}
-use Rattle.overlay_pages.specs.View.{IsHeld, IsJoined, IsOwned, line_seen, page_state, place_in_page, segment_of, state_of, view_of}
+use Rattle.overlay_pages.specs.View.{IsHeld, IsJoined, IsOwned, line_seen, page_state, segment_of, state_of, view_of}
 use Rattle.overlay_pages.specs.ViewLaws.{state_books, state_page}
 use Rattle.overlay_pages.proofs.Steps.{by_spot, map_alike, map_from, map_still, map_twice, names_apart, overlay_lines, seen_inside, seen_outside, state_keeps}
 

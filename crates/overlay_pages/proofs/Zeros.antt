@@ -1,28 +1,19 @@
-use Rattle.std.proofs.Common.{◌≡◌, ℕ, zero, suc, ◌+◌, ◌*◌, ◌≤◌, ◌<◌, ◌&&◌, ◌⊎◌, Bool, true, false, cond, IsTrue, List, [], ◌∷◌, Option, Some, None, IsSome, is_some, nat_le, nat_lt, length, refl, option_map, sym, ap, subst, ◌∙◌, arith, inl}
-use Rattle.std.proofs.lemmas.Option.{same_Some}
+use Rattle.std.proofs.Common.{◌≡◌, ℕ, zero, suc, ◌+◌, ◌≤◌, ◌<◌, true, cond, [], None, refl, sym, ap, subst, ◌∙◌, arith}
 use Rattle.std.proofs.lemmas.Bool.Decides.{nat_tests}
-use Rattle.std.specs.List.{fold, range_with_len}
 use Rattle.sizes.specs.declared.TheConstants.{PAGE_END}
-use Rattle.overlay_mapping_table.specs.declared.entry.Entry.{Entry}
 use Rattle.page_table.specs.Table.{is_within}
 use Rattle.page_table.specs.declared.entry.PageEntry.{PageEntry}
-use Rattle.ledger.specs.Ledger.{Ledger, holding_at, is_unused}
-use Rattle.ledger.specs.Units.{units}
-use Rattle.ledger.specs.ClassLaws.{class_none}
-use Rattle.ledger.specs.UnitLaws.{frame_for, units_new}
+use Rattle.ledger.specs.Ledger.{is_unused}
+use Rattle.ledger.specs.UnitLaws.{frame_for}
 use Rattle.ledger.specs.AloneLaws.{are}
-use Rattle.segment_store.specs.declared.segment.Segment.{Segment}
-use Rattle.segment_store.specs.Store.{Store, IsFrame, frame_line, segment_at}
-use Rattle.segment_store.specs.Changes.{KeepsFrame}
-use Rattle.overlay_address.specs.Names.{overlay_page}
-use Rattle.space_maps.specs.Books.{books_page, books_put_page, books_spaces}
-use Rattle.space_maps.specs.Laws.{keeps_page_put, page_put_beside, set_some}
-use Rattle.space_maps.specs.Spaces.{holds_space, page_in, put_page, put_pages, put_space, set_page}
-use Rattle.space_ledger.specs.View.{LedgerView, PageView, holding_of, ledger_of, origin_of, with_zero_pages}
+use Rattle.segment_store.specs.Store.{Store, IsFrame, frame_line}
+use Rattle.space_maps.specs.Laws.{keeps_page_put, page_put_beside}
+use Rattle.space_maps.specs.Spaces.{holds_space, page_in, put_page, put_pages, put_space}
+use Rattle.space_ledger.specs.View.{LedgerView, PageView, ledger_of, origin_of, with_zero_pages}
 use Rattle.overlay_pages.specs.Lines.{zero_line, zero_page}
 use Rattle.overlay_pages.specs.LineLaws.{lines_same}
 use Rattle.overlay_pages.specs.Changes.{whole_page, with_zeros}
-use Rattle.overlay_pages.specs.View.{IsHeld, IsJoined, page_state, state_of, view_of}
+use Rattle.overlay_pages.specs.View.{IsJoined, page_state, state_of, view_of}
 use Rattle.overlay_pages.proofs.Coming.{came_joined, came_state, place_for_bare}
 
 -- Pages that are mapped on the zero frame.

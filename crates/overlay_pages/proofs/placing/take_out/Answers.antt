@@ -1,6 +1,6 @@
 use Rattle.std.proofs.Common.{None}
 use Rattle.overlay_pages.specs.View.{view_of}
-use Rattle.overlay_pages.proofs.Joining.{Has, page_with}
+use Rattle.overlay_pages.proofs.Joining.{page_with}
 use Rattle.overlay_pages.proofs.Leaving.{freed_there, gives_frame, went_none, went_some}
 use Rattle.overlay_pages.proofs.placing.take_out.Goals as goal
 

@@ -1,4 +1,4 @@
-use Rattle.std.proofs.Common.{◌+◌, Some, refl, sym, ap, subst, ◌∙◌}
+use Rattle.std.proofs.Common.{◌+◌, sym, ap, subst, ◌∙◌}
 use Rattle.segment_store.specs.Store.{Store}
 use Rattle.space_ledger.specs.View.{LedgerView}
 use Rattle.overlay_pages.specs.View.{IsJoined, state_of, view_of}

@@ -1,4 +1,4 @@
-use Rattle.std.proofs.Common.{ℕ, ◌≡◌, ◌+◌, ◌-◌, ◌^◌, ◌<◌, ◌⊎◌, length, Some, sym, ap, subst, ◌∙◌, refl, arith}
+use Rattle.std.proofs.Common.{◌≡◌, ◌+◌, ◌-◌, ◌^◌, ◌<◌, ◌⊎◌, length, Some, sym, ap, subst, ◌∙◌, refl, arith}
 use Rattle.std.specs.Option.{is_some}
 use Rattle.frame_pool.specs.Counts.{sharers_of}
 use Rattle.ledger.specs.Ledger.{holding_at}
