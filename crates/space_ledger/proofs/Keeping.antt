@@ -1,4 +1,5 @@
 use Rattle.std.proofs.Common.{◌≡◌, ℕ, ◌+◌, ◌*◌, ◌≤◌, ◌<◌, Bool, true, false, cond, nat_lt, [], length, Option, Some, None, is_some, refl, nat_cmp, sym, ap, subst, ◌∙◌, arith}
+use Rattle.std.proofs.lemmas.Option.{none-some, same_Some}
 use Rattle.std.proofs.lemmas.Bool.Decides.{nat_tests}
 use Rattle.std.specs.FinMap.{empty, get, get-empty, insert, len, remove}
 use Rattle.number_maps.specs.Keys.{by_key, get_other, removed_other, removed_same}
@@ -43,15 +44,9 @@ by_overlay : (zero_frame : ℕ) (x : PageView) → ((o : Entry) → x.overlay �
 unfolding has_lines
 by_overlay zero_frame x lined = at x.overlay lined
   where
-    count : Bool → ℕ
-    count b = cond b 1 0
-
     at : (o : Option Entry) → ((e : Entry) → o ≡ Some e → 0 < length e.bits) → cond (nat_lt 0 (length (lines_of o))) 1 0 ≡ one_if o
-    at None h = ap count no_line
-      where
-        no_line : nat_lt 0 (length {A = ℕ} []) ≡ false
-        no_line = grind (arith, nat_tests)
-    at (Some e) h = let some = h e refl in let yes : nat_lt 0 (length e.bits) ≡ true = grind (arith, nat_tests) in ap count yes
+    at None h = refl
+    at (Some e) h = let some = h e refl in let yes : nat_lt 0 (length e.bits) ≡ true = grind (arith, nat_tests) in ap (λ b. cond b 1 0) yes
 
 -- how many pages have own lines, with a page put in another's place
 overlaid_changed : (v : LedgerView) (s p : ℕ) (x y : PageView) → page_in v s p ≡ Some x
@@ -95,50 +90,41 @@ at_put v s p y q r o is here other = by_place s p q r
     (λ ss pp. here ss pp (sym is ∙ page_put_here v s p y q r ss pp))
     (λ d. other d (sym (page_put_beside v s p y q r d) ∙ is))
 
-same_some : {X : Type 0} (x y : X) → Some x ≡ Some y → x ≡ y
-same_some x y e = ap (λ o. elim o [ None ↦ x | Some z ↦ z ]) e
-
 module _ {v : LedgerView} {overlays : Table} (kept : IsKept v overlays) where
   lined : (s p : ℕ) (x : PageView) → page_in v s p ≡ Some x → has_lines (held v x) ≡ one_if x.overlay
   lined s p x there = by_overlay v.zero_frame x (λ o is. (kept.lines s p x o there is).0)
+
+  -- a page put, with the overlay under its name
+  kept_put : (s p : ℕ) (y : PageView) (new : Table) → holds_space v s ≡ true → p < PAGE_END → AreOthers overlays.entries new.entries (overlay_page s p)
+      → ((o : Entry) → y.overlay ≡ Some o → (0 < length o.bits) × (length o.bits ≤ PAGE_LINES)) → len new.entries ≡ overlaid_pages (ledger_of (put_page v s p y))
+      → len new.entries ≤ FRAME_UNITS * v.frames → new.room ≡ overlays.room → IsKept (put_page v s p y) new
+  unfolding put_page put_space
+  kept_put s p y new has low others lines_ok count most room = record {
+    numbers = λ q some. kept.numbers q (sym ((keeps_page_put v s p y has).there q) ∙ some);
+    low = λ q r some. at_put v s p y q r (page_in (put_page v s p y) q r) refl
+        (λ ss pp is. subst (λ n. n < PAGE_END) (sym pp) low)
+        (λ d is. kept.low q r (ap is_some is ∙ some));
+    placed = λ q r lq lr none. at_put v s p y q r None none (λ ss pp is. absurd (none-some y is))
+        (λ d is. others (overlay_page q r) (apart s p q r (kept.numbers s has) low lq lr d) ∙ kept.placed q r lq lr is);
+    lines = λ q r z o at is. at_put v s p y q r (Some z) at
+        (λ ss pp e. lines_ok o (ap (λ (w : PageView). w.overlay) (sym (same_Some z y e)) ∙ is))
+        (λ d e. kept.lines q r z o e is);
+    count = count;
+    roomy = room ∙ kept.roomy;
+    most = most;
+  }
 
   -- a page with another overlay, or none: another entry too, where the overlay is the same
   pub kept_overlay : (s p : ℕ) (x y : PageView) (new : Table) → page_in v s p ≡ Some x → AreOthers overlays.entries new.entries (overlay_page s p)
       → ((o : Entry) → y.overlay ≡ Some o → (0 < length o.bits) × (length o.bits ≤ PAGE_LINES))
       → len new.entries + one_if x.overlay ≡ len overlays.entries + one_if y.overlay
       → len new.entries ≤ FRAME_UNITS * v.frames → new.room ≡ overlays.room → IsKept (put_page v s p y) new
-  unfolding put_page put_space
-  kept_overlay s p x y new there others lines_ok counted most room = record {
-    numbers = λ q some. kept.numbers q (sym (keeps.there q) ∙ some);
-    low = λ q r some. at_put v s p y q r (page_in (put_page v s p y) q r) refl
-        (λ ss pp is. subst (λ n. n < PAGE_END) (sym pp) (kept.low s p (ap is_some there)))
-        (λ d is. kept.low q r (ap is_some is ∙ some));
-    placed = λ q r lq lr none. at_put v s p y q r None none (λ ss pp is. let no = ap is_some is in cc)
-        (λ d is. others (overlay_page q r) (apart s p q r ls (kept.low s p (ap is_some there)) lq lr d) ∙ kept.placed q r lq lr is);
-    lines = λ q r z o at is. at_put v s p y q r (Some z) at
-        (λ ss pp e. lines_ok o (ap (λ (w : PageView). w.overlay) (sym (same_some z y e)) ∙ is))
-        (λ d e. kept.lines q r z o e is);
-    count = grows;
-    roomy = room ∙ kept.roomy;
-    most = most;
-  }
-    where
-      has : holds_space v s ≡ true
-      has = there_space v s p x there
-
-      ls : s ≤ LAST_SPACE
-      ls = kept.numbers s has
-
-      keeps : KeepsSpaces v (put_page v s p y)
-      keeps = keeps_page_put v s p y has
-
-      grows : len new.entries ≡ overlaid_pages (ledger_of (put_page v s p y))
-      grows =
-          let changed = overlaid_changed v s p x y there in
-          let was = lined s p x there in
-          let is = by_overlay v.zero_frame y (λ o e. (lines_ok o e).0) in
-          let before = kept.count in
-          omega (arith, changed, was, is, before, counted)
+  kept_overlay s p x y new there others lines_ok counted most room =
+      let changed = overlaid_changed v s p x y there in
+      let was = lined s p x there in
+      let is = by_overlay v.zero_frame y (λ o e. (lines_ok o e).0) in
+      let before = kept.count in
+      kept_put s p y new (there_space v s p x there) (kept.low s p (ap is_some there)) others lines_ok (omega (arith, changed, was, is, before, counted)) most room
 
   pub kept_entry : (s p : ℕ) (x y : PageView) → page_in v s p ≡ Some x → y.overlay ≡ x.overlay → IsKept (put_page v s p y) overlays
   kept_entry s p x y there same = kept_overlay s p x y overlays there (λ n d. refl)
@@ -146,27 +132,12 @@ module _ {v : LedgerView} {overlays : Table} (kept : IsKept v overlays) where
 
   -- a page without an overlay, where none was
   pub kept_new : (s p : ℕ) (y : PageView) → holds_space v s ≡ true → page_in v s p ≡ None → y.overlay ≡ None → p < PAGE_END → IsKept (put_page v s p y) overlays
-  unfolding put_page put_space
-  kept_new s p y there absent bare low = record {
-    numbers = λ q some. kept.numbers q (sym ((keeps_page_put v s p y there).there q) ∙ some);
-    low = λ q r some. at_put v s p y q r (page_in (put_page v s p y) q r) refl
-        (λ ss pp is. subst (λ n. n < PAGE_END) (sym pp) low)
-        (λ d is. kept.low q r (ap is_some is ∙ some));
-    placed = λ q r lq lr none. at_put v s p y q r None none (λ ss pp is. let no = ap is_some is in cc) (λ d is. kept.placed q r lq lr is);
-    lines = λ q r z o at is. at_put v s p y q r (Some z) at
-        (λ ss pp e. let no = ap is_some (sym (ap (λ (w : PageView). w.overlay) (sym (same_some z y e)) ∙ is) ∙ bare) in cc)
-        (λ d e. kept.lines q r z o e is);
-    count = kept.count ∙ stays;
-    roomy = kept.roomy;
-    most = kept.most;
-  }
-    where
-      stays : overlaid_pages (ledger_of v) ≡ overlaid_pages (ledger_of (put_page v s p y))
-      stays =
-          let new = overlaid_new v s p y there absent in
-          let is = by_overlay v.zero_frame y (λ o e. let no = ap is_some (sym e ∙ bare) in cc) in
-          let flag = ap one_if bare in
-          omega (arith, new, is, flag)
+  kept_new s p y there absent bare low =
+      let new = overlaid_new v s p y there absent in
+      let is = by_overlay v.zero_frame y (λ o e. absurd (none-some o (sym bare ∙ e))) in
+      let flag = ap one_if bare in
+      let before = kept.count in
+      kept_put s p y overlays there low (λ n d. refl) (λ o e. absurd (none-some o (sym bare ∙ e))) (omega (arith, new, is, flag, before)) kept.most refl
 
   -- a page without an overlay taken away
   pub kept_gone : (s p : ℕ) (x : PageView) → page_in v s p ≡ Some x → x.overlay ≡ None → get overlays.entries (overlay_page s p) ≡ None → IsKept (cut_page v s p) overlays
