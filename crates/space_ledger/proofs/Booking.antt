@@ -39,7 +39,7 @@ by_two {P = P} a b same other = at (nat_eq a b) refl
     at true e = same (eq_true a b e)
     at false e = other (eq_false a b e)
 
-held_zero : (z : ℕ) (counts : List ℕ) (f : ℕ) → f ≡ z → held_by z counts f ≡ counts
+pub held_zero : (z : ℕ) (counts : List ℕ) (f : ℕ) → f ≡ z → held_by z counts f ≡ counts
 unfolding held_by
 held_zero z counts f same = let yes : nat_eq f z ≡ true = grind (arith, nat_tests) in ap (λ (b : Bool). cond b counts (held counts f)) yes
 

@@ -13,7 +13,7 @@ use Rattle.space_maps.specs.Laws.{page_shared_beside, page_shared_here}
 use Rattle.space_maps.specs.Spaces.{holds_space, page_in, put_shared, put_space, space_in}
 use Rattle.space_ledger.specs.View.{LedgerView, PageView, SpaceView, with_run_shared}
 use Rattle.space_ledger.specs.Calls.{AreBareBelow, IsBooked, IsSound}
-use Rattle.space_ledger.specs.Frames.{frame_units, held_by, held_run, run_units}
+use Rattle.space_ledger.specs.Frames.{counted_run, counted_units, frame_units, held_by, held_run, run_units}
 use Rattle.space_ledger.proofs.Keeping.{overlaid_shared}
 use Rattle.space_ledger.proofs.Numbers.{units_fit}
 use Rattle.space_ledger.proofs.RunViews.{HasReached, reached}
@@ -87,7 +87,7 @@ module _ (v : LedgerView) (counts : List ℕ) (u n : ℕ) (kept : IsBooked v cou
     frame_at_step k low = subst (λ m. (entry_at run k).frame < m) (sym (at k).frames) (frame_in k low)
 
     one_more : (k : ℕ) → k < run.n → IsKeptAt k → IsKeptAt (suc k)
-    unfolding with_run_shared held_run run_units
+    unfolding with_run_shared counted_run counted_units
     one_more k low here =
         let z = v.zero_frame in
         let w = with_run_shared v to run k in
@@ -104,7 +104,7 @@ module _ (v : LedgerView) (counts : List ℕ) (u n : ℕ) (kept : IsBooked v cou
         }
 
     kept_at : (k : ℕ) → k ≤ run.n → IsKeptAt k
-    unfolding with_run_shared held_run run_units
+    unfolding with_run_shared counted_run counted_units
     kept_at zero few = let same : u ≡ u + 0 = omega arith in record { booked = subst (λ m. IsBooked v counts m n) same kept; holds = sound }
     kept_at (suc k) few = one_more k (omega (arith, few)) (kept_at k (omega (arith, few)))
 

@@ -9,7 +9,7 @@ use Rattle.page_table.specs.declared.entry.PageEntry.{PageEntry}
 use Rattle.page_table.specs.declared.run.PageRun.{PageRun}
 use Rattle.space_maps.specs.Laws.{after_cut, are_cut}
 use Rattle.space_maps.specs.Spaces.{cut_page, cut_pages, holds_space, page_in}
-use Rattle.space_ledger.specs.Frames.{frame_units, released_run, run_freed}
+use Rattle.space_ledger.specs.Frames.{counted_run, counted_units, frame_units, released_run, run_freed}
 use Rattle.space_ledger.specs.View.{LedgerView, PageView, ledger_of, origin_of, overlay_at}
 use Rattle.space_ledger.specs.ViewLaws.{unused_is}
 use Rattle.space_ledger.specs.Calls.{GivesNothingUp, GivesUpAtLast, IsBareFrom, IsBareRun, IsBooked, entries_of, given_up}
@@ -132,14 +132,14 @@ module _ (v : LedgerView) (counts : List ℕ) (u n : ℕ) (kept : IsBooked v cou
   freed_next k = frame_units v.zero_frame (counts_left (suc k)) (frame_of k)
 
   step : (k : ℕ) → k < run.n → IsFreedAt k → Released (left k) (counts_left (suc k)) (u - freed k) n s (run.page + k) (freed_next k) (frame_of k)
-  unfolding released_run
+  unfolding counted_run
   step k low so_far =
       removed_call (left k) (counts_left k) (counts_left (suc k)) (u - freed k) n so_far.booked
       s (run.page + k) v.zero_frame (freed_next k) (entry_at run k) (zero_is k) (entry_is k low) refl refl
       (ap (option_and_then (λ (x : PageView). x.overlay)) (after_cut k run.page v s has) ∙ is.bare k low)
 
   one_more : (k : ℕ) → k < run.n → IsFreedAt k → IsFreedAt (suc k)
-  unfolding cut_pages run_freed
+  unfolding cut_pages counted_units
   one_more k low so_far =
       let made = step k low so_far in
       let before = so_far.fits in
@@ -150,7 +150,7 @@ module _ (v : LedgerView) (counts : List ℕ) (u n : ℕ) (kept : IsBooked v cou
       }
 
   freed_at : (k : ℕ) → k ≤ run.n → IsFreedAt k
-  unfolding cut_pages released_run run_freed
+  unfolding cut_pages counted_run counted_units
   freed_at zero low = record { fits = omega arith; booked = let all : u ≡ u - 0 = omega arith in subst (λ m. IsBooked v counts m n) all kept }
   freed_at (suc k) low = one_more k (omega (arith, low)) (freed_at k (omega (arith, low)))
 
