@@ -30,7 +30,7 @@ is_left table x = is_unused (ledger_of table) (view.origin_of table.zero_frame x
 pub given_as : (table : LedgerView) (x : PageView) → given_up table (Some x) ≡ cond (is_left table x) (Some x.entry.frame) None
 given_as table x =
     turned (nat_eq x.entry.frame table.zero_frame || has_origin (ledger_of table) (x.entry.frame + 1))
-    ∙ ap (λ b. cond b (Some x.entry.frame) None) (sym (unused_is table x.entry.frame))
+    ∙ ap (λ b. cond b (Some x.entry.frame) None) (sym (unused_is (ledger_of table) table.zero_frame x.entry.frame))
   where
     turned : (b : Bool) → ◌≡◌ {A = Option ℕ} (cond b None (Some x.entry.frame)) (cond (not b) (Some x.entry.frame) None)
     turned true = refl

@@ -6,7 +6,7 @@ use Rattle.page_table.specs.Run.{entry_at}
 use Rattle.page_table.specs.declared.entry.PageEntry.{PageEntry}
 use Rattle.page_table.specs.declared.run.PageRun.{PageRun}
 use Rattle.space_ledger.specs.Frames.{counted_run, counted_units, frame_units, released_by, released_run, run_freed, units_released}
-use Rattle.space_ledger.proofs.Booking.{by_two, released_less, released_zero}
+use Rattle.space_ledger.proofs.Booking.{by_two, released_beside}
 use Rattle.space_ledger.proofs.RunCounts.{HasCounted}
 
 -- The counts of a run whose pages go.
@@ -50,15 +50,10 @@ nothing_freed z counts run n i none low =
 
 -- A count that no later page of the run changes.
 
-other_stays : (z : ℕ) (counts : List ℕ) (f g : ℕ) → (g ≡ f → ⊥) → sharers_of (released_by z counts g) f ≡ sharers_of counts f
-other_stays z counts f g differ = by_two g z
-    (λ same. ap (λ (c : List ℕ). sharers_of c f) (released_zero z counts g same))
-    (λ other. ap (λ (c : List ℕ). sharers_of c f) (released_less z counts g other) ∙ released_other counts g f (λ e. differ (sym e)))
-
 count_step : (z : ℕ) (counts : List ℕ) (run : PageRun) (f m : ℕ) → ((entry_at run m).frame ≡ f → ⊥)
     → sharers_of (released_run z counts run (suc m)) f ≡ sharers_of (released_run z counts run m) f
 unfolding counted_run
-count_step z counts run f m differ = other_stays z (released_run z counts run m) f (entry_at run m).frame differ
+count_step z counts run f m differ = released_beside z (released_run z counts run m) (entry_at run m).frame f (λ e. differ (sym e))
 
 pub count_stays : (z : ℕ) (counts : List ℕ) (run : PageRun) (f n i : ℕ) → i < n → ((j : ℕ) → i < j → j < n → (entry_at run j).frame ≡ f → ⊥)
     → sharers_of (released_run z counts run n) f ≡ sharers_of (released_run z counts run (suc i)) f

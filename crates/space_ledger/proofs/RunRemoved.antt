@@ -15,7 +15,8 @@ use Rattle.space_ledger.specs.ViewLaws.{unused_is}
 use Rattle.space_ledger.specs.Calls.{GivesNothingUp, GivesUpAtLast, IsBareFrom, IsBareRun, IsBooked, entries_of, given_up}
 use Rattle.space_ledger.specs.Space.{IsStartOf}
 use Rattle.space_ledger.proofs.Booked.{in_pages}
-use Rattle.space_ledger.proofs.Booking.{eq_false, eq_true}
+use Rattle.ledger.specs.AloneLaws.{are, arent}
+use Rattle.space_ledger.proofs.Booking.{by_two, unused_by_count}
 use Rattle.space_ledger.proofs.LedgerCalls.{Released, before_release, removed_call}
 use Rattle.space_ledger.proofs.Numbers.{entry_page}
 use Rattle.space_ledger.proofs.Removing.{entry_of}
@@ -23,40 +24,16 @@ use Rattle.space_ledger.proofs.RunReleases.{count_stays, nothing_freed}
 
 -- What is kept beside the tables while the pages of a run go, one after the other.
 
--- a frame that a page named is given up where no count is left of it
-pub unused_by_count : (v : LedgerView) (counts : List ℕ) (u n : ℕ) → IsBooked v counts u n → (f : ℕ) → f < v.frames
-    → (not (nat_eq f v.zero_frame) && nat_eq (sharers_of counts f) 0) ≡ not (nat_eq f v.zero_frame || has_origin (ledger_of v) (f + 1))
-unused_by_count v counts u n kept f low = at (nat_eq f v.zero_frame) refl
-  where
-    at : (b : Bool) → nat_eq f v.zero_frame ≡ b → (not b && nat_eq (sharers_of counts f) 0) ≡ not (b || has_origin (ledger_of v) (f + 1))
-    at true e = refl
-    at false e = by (sharers (ledger_of v) (f + 1)) (kept.counted f low (eq_false f v.zero_frame e)) (had_by_count (ledger_of v) (f + 1))
-      where
-        by : (k : ℕ) → sharers_of counts f ≡ k → has_origin (ledger_of v) (f + 1) ≡ nat_lt 0 k
-            → nat_eq (sharers_of counts f) 0 ≡ not (has_origin (ledger_of v) (f + 1))
-        by zero is had =
-            let left : nat_eq (sharers_of counts f) 0 ≡ true = grind (arith, nat_tests) in
-            let right : nat_lt 0 0 ≡ false = grind (arith, nat_tests) in left ∙ sym (ap not (had ∙ right))
-        by (suc k) is had =
-            let left : nat_eq (sharers_of counts f) 0 ≡ false = grind (arith, nat_tests) in
-            let right : nat_lt 0 (suc k) ≡ true = grind (arith, nat_tests) in left ∙ sym (ap not (had ∙ right))
-
+-- a frame is unused by the count that is left of it
 pub unused_call : (v : LedgerView) (counts : List ℕ) (u n : ℕ) → IsBooked v counts u n → (f z count : ℕ) → f < v.frames → z ≡ v.zero_frame → (f ≡ z → ⊥)
     → count ≡ sharers_of counts f → nat_eq count 0 ≡ is_unused (ledger_of v) (origin_of v.zero_frame f)
 unused_call v counts u n kept f z count low zero_is other is =
-    let isnt : nat_eq f v.zero_frame ≡ false = at (nat_eq f v.zero_frame) refl in
-    ap (λ k. nat_eq k 0) is ∙ ap (λ (b : Bool). not b && nat_eq (sharers_of counts f) 0) (sym isnt)
-    ∙ unused_by_count v counts u n kept f low ∙ sym (unused_is v f)
-  where
-    at : (b : Bool) → nat_eq f v.zero_frame ≡ b → nat_eq f v.zero_frame ≡ false
-    at true e = absurd (other (eq_true f v.zero_frame e ∙ sym zero_is))
-    at false e = e
+    ap (λ k. nat_eq k 0) is ∙ ap (λ (b : Bool). not b && nat_eq (sharers_of counts f) 0) (sym (arent f v.zero_frame (λ e. other (e ∙ sym zero_is))))
+    ∙ unused_by_count (ledger_of v) v.zero_frame v.frames f counts kept.counted low
 
 pub zero_used : (v : LedgerView) (f z : ℕ) → z ≡ v.zero_frame → f ≡ z → not (nat_eq f z) ≡ is_unused (ledger_of v) (origin_of v.zero_frame f)
 zero_used v f z zero_is same =
-    let here : nat_eq f z ≡ true = grind (arith, nat_tests) in
-    let kept : nat_eq f v.zero_frame ≡ true = grind (arith, nat_tests) in
-    ap not here ∙ ap (λ (b : Bool). not (b || has_origin (ledger_of v) (f + 1))) (sym kept) ∙ sym (unused_is v f)
+    ap not (are f z same) ∙ ap (λ (b : Bool). not (b || has_origin (ledger_of v) (f + 1))) (sym (are f v.zero_frame (same ∙ zero_is))) ∙ sym (unused_is (ledger_of v) v.zero_frame f)
 
 -- so what is given up of a page is told by the count of its frame
 given_by : ℕ → List ℕ → ℕ → Option ℕ
@@ -67,7 +44,7 @@ given_by_count : (v : LedgerView) (counts : List ℕ) (u n : ℕ) → IsBooked v
 unfolding given_by
 given_by_count v counts u n kept x low =
     turned (nat_eq x.entry.frame v.zero_frame || has_origin (ledger_of v) (x.entry.frame + 1))
-    ∙ ap (λ b. cond b (Some x.entry.frame) None) (sym (unused_by_count v counts u n kept x.entry.frame low))
+    ∙ ap (λ b. cond b (Some x.entry.frame) None) (sym (unused_is (ledger_of v) v.zero_frame x.entry.frame) ∙ sym (unused_by_count (ledger_of v) v.zero_frame v.frames x.entry.frame counts kept.counted low))
   where
     turned : (b : Bool) → ◌≡◌ {A = Option ℕ} (cond b None (Some x.entry.frame)) (cond (not b) (Some x.entry.frame) None)
     turned true = refl
@@ -75,12 +52,9 @@ given_by_count v counts u n kept x low =
 
 given_still : (z f : ℕ) (a b : List ℕ) → ((f ≡ z → ⊥) → sharers_of a f ≡ sharers_of b f) → given_by z a f ≡ given_by z b f
 unfolding given_by
-given_still z f a b same = at (nat_eq f z) refl
-  where
-    at : (e : Bool) → nat_eq f z ≡ e
-        → ◌≡◌ {A = Option ℕ} (cond (not e && nat_eq (sharers_of a f) 0) (Some f) None) (cond (not e && nat_eq (sharers_of b f) 0) (Some f) None)
-    at true e = refl
-    at false e = ap (λ c. cond (nat_eq c 0) (Some f) None) (same (eq_false f z e))
+given_still z f a b same = by_two f z
+    (λ e. (λ i. cond (not (are f z e i) && nat_eq (sharers_of a f) 0) (Some f) None) ∙ (λ i. cond (not (sym (are f z e) i) && nat_eq (sharers_of b f) 0) (Some f) None))
+    (λ d. ap (λ c. cond (not (nat_eq f z) && nat_eq c 0) (Some f) None) (same d))
 
 -- The first pages of a run that come before one with own lines.
 pub bare_of_run : (v : LedgerView) (s page most few : ℕ) (run : PageRun) (part : Option PageRun) → IsRunFrom (entries_of v s) page run → few ≤ run.n → few ≤ most

@@ -4,8 +4,8 @@ use Rattle.std.proofs.lemmas.Bool.Decides.{nat_tests}
 use Rattle.std.specs.Option.{option_map}
 use Rattle.page_table.specs.declared.entry.PageEntry.{PageEntry}
 use Rattle.space_maps.specs.Spaces.{page_in}
-use Rattle.ledger.specs.Ledger.{has_origin, is_unused}
-use Rattle.space_ledger.specs.View.{LedgerView, PageView, frame_at, ledger_of, origin_of}
+use Rattle.ledger.specs.Ledger.{Ledger, has_origin, is_unused}
+use Rattle.space_ledger.specs.View.{LedgerView, PageView, frame_at, origin_of}
 
 -- The frame of an entry that was looked up, and whether one is unused.
 
@@ -17,10 +17,10 @@ entry_frame v s p e is = at (page_in v s p) is
     at (Some x) h = sym (ap (option_map (λ (k : PageEntry). k.frame)) h)
 
 -- a frame is unused where it isn't the zero frame, and no page has its origin
-pub unused_is : (v : LedgerView) (f : ℕ) → is_unused (ledger_of v) (origin_of v.zero_frame f) ≡ not (nat_eq f v.zero_frame || has_origin (ledger_of v) (f + 1))
+pub unused_is : (l : Ledger) (z f : ℕ) → is_unused l (origin_of z f) ≡ not (nat_eq f z || has_origin l (f + 1))
 unfolding is_unused
-unused_is v f = at (nat_eq f v.zero_frame)
+unused_is l z f = at (nat_eq f z)
   where
-    at : (b : Bool) → (not (nat_eq (cond b 0 (f + 1)) 0) && not (has_origin (ledger_of v) (cond b 0 (f + 1)))) ≡ not (b || has_origin (ledger_of v) (f + 1))
+    at : (b : Bool) → (not (nat_eq (cond b 0 (f + 1)) 0) && not (has_origin l (cond b 0 (f + 1)))) ≡ not (b || has_origin l (f + 1))
     at true = refl
-    at false = let isnt : nat_eq (f + 1) 0 ≡ false = grind (arith, nat_tests) in ap (λ (c : Bool). not c && not (has_origin (ledger_of v) (f + 1))) isnt
+    at false = let isnt : nat_eq (f + 1) 0 ≡ false = grind (arith, nat_tests) in ap (λ (c : Bool). not c && not (has_origin l (f + 1))) isnt
