@@ -13,6 +13,7 @@ use Rattle.segment_store.specs.Store.{frame_line}
 use Rattle.segment_store.specs.Laws.{frame_inside}
 use Rattle.unit_map.specs.Pieces.{units_in}
 use Rattle.page_table.specs.declared.entry.PageEntry.{PageEntry}
+use Rattle.space_maps.specs.Options.{map_from, by_option}
 use Rattle.space_maps.specs.Laws.{page_again, page_put_here}
 use Rattle.space_maps.specs.Spaces.{page_in, put_page, turned_page}
 use Rattle.space_ledger.specs.Joined.{put_same}
@@ -23,7 +24,7 @@ use Rattle.overlay_pages.specs.Changes.{Fits, brought, limit_of, units_of}
 use Rattle.overlay_pages.specs.Steps.{joins}
 use Rattle.overlay_pages.specs.View.{IsJoined, MemoryView, line_seen, page_state, state_of}
 use Rattle.overlay_pages.specs.ViewLaws.{state_page_some, state_page_there}
-use Rattle.overlay_pages.proofs.Steps.{map_from, seen_outside, set_lines}
+use Rattle.overlay_pages.proofs.Steps.{seen_outside, set_lines}
 use Rattle.overlay_pages.proofs.Joining.{Has, page_with, sets_are}
 use Rattle.overlay_pages.proofs.Growing.{turn_is, turned_limit, turned_twice, turned_units}
 
@@ -44,11 +45,9 @@ unfolding with_lines
 none_more lines = refl
 
 page_own : (v : MemoryView) (s p : ℕ) → IsJoined v → (x : PageView) → page_in v.table s p ≡ Some x → AreLines (lines_of x.overlay)
-page_own v s p is x there = at x.overlay refl
-  where
-    at : (o : Option Entry) → x.overlay ≡ o → AreLines (lines_of x.overlay)
-    at None e = subst (λ o. AreLines (lines_of o)) (sym e) Rattle.overlay_bits.specs.Laws.are_none
-    at (Some e) over = subst (λ o. AreLines (lines_of o)) (sym over) (sets_are v.store s p x e is.store (is.held s p x there) over)
+page_own v s p is x there = by_option x.overlay
+    (λ e. subst (λ o. AreLines (lines_of o)) (sym e) Rattle.overlay_bits.specs.Laws.are_none)
+    (λ e over. subst (λ o. AreLines (lines_of o)) (sym over) (sets_are v.store s p x e is.store (is.held s p x there) over))
 
 -- A line that is there already: nothing is brought.
 pub brought_already : (v : MemoryView) (s p line : ℕ) → IsJoined v → IsSome (page_in v.table s p) → line < 64 → has_line (lines_of (overlay_at v.table s p)) line ≡ true

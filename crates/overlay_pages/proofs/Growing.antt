@@ -14,6 +14,7 @@ use Rattle.segment_store.specs.Pointers.{capacity_of}
 use Rattle.segment_store.specs.Store.{Store, frame_line, scratch_line}
 use Rattle.segment_store.specs.Changes.{KeepsFrames, KeepsScratch, KeepsSegments, Lifts}
 use Rattle.segment_store.specs.Laws.{count_fits}
+use Rattle.space_maps.specs.Options.{map_alike, by_option}
 use Rattle.space_maps.specs.Books.{books_page, books_put_page}
 use Rattle.space_maps.specs.Laws.{changed_there, keeps_still, page_over, page_put_here, spaces_alike}
 use Rattle.space_maps.specs.Spaces.{page_in, put_page, put_space, turned_page}
@@ -25,7 +26,7 @@ use Rattle.overlay_pages.specs.Changes.{Fits, discarded, limit_of, units_of}
 use Rattle.overlay_pages.specs.Steps.{joins, laid, laid_line}
 use Rattle.overlay_pages.specs.View.{IsHeld, IsJoined, MemoryView, line_seen, page_state, segment_of, state_of, view_of}
 use Rattle.overlay_pages.specs.ViewLaws.{state_books, state_frames, state_page, state_page_some, state_page_there}
-use Rattle.overlay_pages.proofs.Steps.{held_kept, map_alike, page_kept, seen_bare, seen_inside, seen_outside, state_keeps}
+use Rattle.overlay_pages.proofs.Steps.{held_kept, page_kept, seen_bare, seen_inside, seen_outside, state_keeps}
 use Rattle.overlay_pages.proofs.Joining.{Has, order_low, overlay_segment, overlay_set, page_with, sets_are}
 use Rattle.overlay_pages.proofs.Sizes.{can_grow, next_place, next_size}
 
@@ -67,14 +68,12 @@ own_none v s p has y there =
 
 pub bare_by : (v : MemoryView) (s p : ℕ) → IsJoined v → (y : PageState) → page_in (state_of v) s p ≡ Some y → y.own ≡ [] → IsSome (page_in v.table s p) → overlay_at v.table s p ≡ None
 unfolding page_state
-bare_by v s p is y there none found = at (overlay_at v.table s p) refl
-  where
-    at : (o : Option Entry) → overlay_at v.table s p ≡ o → overlay_at v.table s p ≡ None
-    at None e = e
-    at (Some e) over =
-        let has = page_with v.table s p found (Some e) over in
-        let own : e.bits ≡ [] = sym (ap lines_of has.is) ∙ ap (λ (o : Option PageState). option_map_or (λ (z : PageState). z.own) o []) (sym (state_page_there v s p has.x has.there) ∙ there) ∙ none in
-        absurd (omega (arith, (is.held s p has.x has.there).lined e has.is, ap length own))
+bare_by v s p is y there none found = by_option (overlay_at v.table s p)
+    (λ e. e)
+    (λ e over.
+    let has = page_with v.table s p found (Some e) over in
+    let own : e.bits ≡ [] = sym (ap lines_of has.is) ∙ ap (λ (o : Option PageState). option_map_or (λ (z : PageState). z.own) o []) (sym (state_page_there v s p has.x has.there) ∙ there) ∙ none in
+    absurd (omega (arith, (is.held s p has.x has.there).lined e has.is, ap length own)))
 
 pub bare_still : (a b : MemoryView) (s p : ℕ) → IsJoined b → state_of b ≡ state_of a → IsSome (page_in a.table s p) → overlay_at a.table s p ≡ None → overlay_at b.table s p ≡ None
 bare_still a b s p is same there bare =

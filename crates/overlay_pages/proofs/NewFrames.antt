@@ -14,6 +14,7 @@ use Rattle.segment_store.specs.Kept.{IsStore}
 use Rattle.segment_store.specs.Store.{Store, IsFrame, frame_line}
 use Rattle.segment_store.specs.Changes.{KeepsFrame, KeepsFrames, KeepsSegments}
 use Rattle.segment_store.specs.Laws.{frame_inside}
+use Rattle.space_maps.specs.Options.{map_from}
 use Rattle.space_maps.specs.Books.{books_page, books_put_page}
 use Rattle.space_maps.specs.Laws.{changed_there, set_some, there_space}
 use Rattle.space_maps.specs.Spaces.{page_in, put_page, set_page}
@@ -25,7 +26,7 @@ use Rattle.overlay_pages.specs.Changes.{IsNewFrame, IsPlaced, moved_to}
 use Rattle.overlay_pages.specs.Steps.{FillsFrame}
 use Rattle.overlay_pages.specs.View.{IsHeld, IsJoined, MemoryView, page_state, segment_of, state_of, view_of}
 use Rattle.overlay_pages.specs.ViewLaws.{state_books, state_frames, state_page_there, state_zero}
-use Rattle.overlay_pages.proofs.Steps.{Step, map_from, not_owned, state_stepped, stepped}
+use Rattle.overlay_pages.proofs.Steps.{Step, not_owned, state_stepped, stepped}
 use Rattle.overlay_pages.proofs.Filling.{segments_twice}
 
 -- A frame that wasn't taken is named by no page.

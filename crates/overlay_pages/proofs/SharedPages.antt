@@ -18,6 +18,7 @@ use Rattle.segment_store.specs.declared.segment.Segment.{Segment}
 use Rattle.segment_store.specs.Kept.{IsStore}
 use Rattle.segment_store.specs.Store.{Store, IsFrame, frame_line, segment_at}
 use Rattle.segment_store.specs.Changes.{Begins, HasLinesNow, KeepsFrames, KeepsOtherSegments, KeepsScratch, KeepsSegments, Lays, Lifts, block_of}
+use Rattle.space_maps.specs.Options.{map_from, by_option}
 use Rattle.space_maps.specs.Books.{books_page}
 use Rattle.space_maps.specs.Laws.{page_put_here, put_shared_as, there_space}
 use Rattle.space_maps.specs.Spaces.{holds_space, page_in, put_awaiting, put_page, put_shared, space_in}
@@ -31,7 +32,7 @@ use Rattle.overlay_pages.specs.Changes.{HasShareRoom, limit_of, shared_page, uni
 use Rattle.overlay_pages.specs.TableLaws.{state_awaiting_put}
 use Rattle.overlay_pages.specs.View.{IsHeld, IsJoined, MemoryView, line_seen, page_state, segment_of, state_of, view_of}
 use Rattle.overlay_pages.specs.ViewLaws.{state_awaiting, state_holds, state_page_there}
-use Rattle.overlay_pages.proofs.Steps.{map_from, seen_bare, seen_inside, seen_outside}
+use Rattle.overlay_pages.proofs.Steps.{seen_bare, seen_inside, seen_outside}
 use Rattle.overlay_pages.proofs.Coming.{HasPlaceFor, came_joined, came_state}
 use Rattle.segment_store.specs.Pointers.{capacity_of}
 use Rattle.segment_store.specs.Laws.{count_fits, refilled, stays_twice}
@@ -237,11 +238,9 @@ module _ (a m : MemoryView) (from to p : ℕ) (e : Entry) (is : IsJoined a) (m_i
       ∙ ap lines_of over
 
   pub share_over : is_some (overlay_at m.table from p) ≡ true
-  share_over = at (overlay_at m.table from p) refl
-    where
-      at : (o : Option Entry) → overlay_at m.table from p ≡ o → is_some (overlay_at m.table from p) ≡ true
-      at None none = absurd (omega (arith, share_some, ap length (own_now None none)))
-      at (Some f) h = ap is_some h
+  share_over = by_option (overlay_at m.table from p)
+      (λ none. absurd (omega (arith, share_some, ap length (own_now None none))))
+      (λ f h. ap is_some h)
 
   pub share_bits : lines_of (overlay_at m.table from p) ≡ e.bits
   share_bits = own_now (overlay_at m.table from p) refl

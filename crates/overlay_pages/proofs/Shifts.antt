@@ -17,6 +17,7 @@ use Rattle.segment_store.specs.declared.segment.Segment.{Segment}
 use Rattle.segment_store.specs.Kept.{IsStore}
 use Rattle.segment_store.specs.Store.{Store, IsFrame, frame_line, line_in, segment_at}
 use Rattle.segment_store.specs.Changes.{KeepsFrames, MakesMove}
+use Rattle.space_maps.specs.Options.{map_alike, map_twice, map_still, map_from}
 use Rattle.space_maps.specs.Laws.{KeepsSpaces, changed_there, keeps_page_set, keeps_still, keeps_twice, page_set_beside, page_set_here, set_some, spaces_alike, there_space}
 use Rattle.space_maps.specs.Spaces.{holds_space, page_in, set_page}
 use Rattle.space_ledger.specs.View.{LedgerView, PageView, ledger_of, lines_of, overlay_at, with_block}
@@ -25,7 +26,7 @@ use Rattle.overlay_pages.specs.State.{books}
 use Rattle.overlay_pages.specs.Steps.{HasMoved, IsOfPage, Moved, relocated}
 use Rattle.overlay_pages.specs.View.{IsHeld, IsJoined, IsOwned, line_seen, page_state, segment_of, state_of, view_of}
 use Rattle.overlay_pages.specs.ViewLaws.{state_books, state_page}
-use Rattle.overlay_pages.proofs.Steps.{by_spot, map_alike, map_from, map_still, map_twice, names_apart, overlay_lines, seen_inside, seen_outside, state_keeps}
+use Rattle.overlay_pages.proofs.Steps.{by_spot, names_apart, overlay_lines, seen_inside, seen_outside, state_keeps}
 
 -- A move: the blocks of overlays in a range are in another one.
 

@@ -17,6 +17,7 @@ use Rattle.segment_store.specs.Kept.{IsStore}
 use Rattle.segment_store.specs.Store.{Store, IsFrame, IsSegment, frame_line, frame_place, line_in, lines_at, place_of, segment_at}
 use Rattle.segment_store.specs.Changes.{KeepsFrame, KeepsSegment}
 use Rattle.segment_store.specs.Laws.{lines_there}
+use Rattle.space_maps.specs.Options.{map_alike, by_option}
 use Rattle.space_maps.specs.Laws.{KeepsSpaces, keeps_page_set, page_again, page_set_beside, page_set_here, set_some, spaces_alike, there_space}
 use Rattle.space_maps.specs.Spaces.{holds_space, page_in, put_page, set_page}
 use Rattle.space_ledger.specs.View.{LedgerView, PageView, ledger_of, lines_of, overlay_at}
@@ -25,23 +26,6 @@ use Rattle.overlay_pages.specs.Lines.{page_lines}
 use Rattle.overlay_pages.specs.State.{PageState}
 use Rattle.overlay_pages.specs.View.{IsHeld, IsJoined, IsOwned, MemoryView, line_seen, page_state, place_in_page, segment_of, state_of, view_of}
 use Rattle.overlay_pages.specs.ViewLaws.{state_awaiting, state_frames, state_holds, state_mark, state_page, state_zero}
-
--- An option that is mapped by two functions which agree on it, and what a mapped one comes from.
-pub map_alike : {X Y : Type 0} (f g : X → Y) (o : Option X) → ((x : X) → o ≡ Some x → f x ≡ g x) → option_map f o ≡ option_map g o
-map_alike f g None same = refl
-map_alike f g (Some x) same = ap Some (same x refl)
-
-pub map_twice : {X Y Z : Type 0} (f : Y → Z) (g : X → Y) (h : X → Z) (o : Option X) → ((x : X) → o ≡ Some x → f (g x) ≡ h x) → option_map f (option_map g o) ≡ option_map h o
-map_twice f g h None same = refl
-map_twice f g h (Some x) same = ap Some (same x refl)
-
-pub map_still : {X : Type 0} (f : X → X) → ((x : X) → f x ≡ x) → (o : Option X) → o ≡ option_map f o
-map_still f same None = refl
-map_still f same (Some x) = ap Some (sym (same x))
-
-pub map_from : {X Y P : Type 0} (f : X → Y) (o : Option X) (y : Y) → option_map f o ≡ Some y → ((x : X) → o ≡ Some x → f x ≡ y → P) → P
-map_from f None y h go = absurd (none-some y h)
-map_from f (Some x) y h go = go x refl (same_Some (f x) y h)
 
 -- A line of a page: it stands in the segment of the overlay that has it, or in the frame.
 pub by_spot : {P : Type 0} (x : PageView) (i : ℕ) → ((e : Entry) → x.overlay ≡ Some e → has_line e.bits i ≡ true → P) → (has_line (lines_of x.overlay) i ≡ false → P) → P
@@ -61,13 +45,11 @@ place_inside store x e i over has =
     ∙ ap (λ b. cond b (place_of store e.block i) (frame_place x.entry.frame i)) has
 
 pub place_outside : (store : Store) (x : PageView) (i : ℕ) → has_line (lines_of x.overlay) i ≡ false → place_in_page store x i ≡ frame_place x.entry.frame i
-place_outside store x i lacks = at x.overlay refl
-  where
-    at : (o : Option Entry) → x.overlay ≡ o → place_in_page store x i ≡ frame_place x.entry.frame i
-    at None e = ap (λ (o : Option Entry). place_in_page store (record { entry = x.entry; overlay = o }) i) e
-    at (Some f) e =
-        ap (λ (o : Option Entry). place_in_page store (record { entry = x.entry; overlay = o }) i) e
-        ∙ ap (λ b. cond b (place_of store f.block i) (frame_place x.entry.frame i)) (ap (λ (o : Option Entry). has_line (lines_of o) i) (sym e) ∙ lacks)
+place_outside store x i lacks = by_option x.overlay
+    (λ e. ap (λ (o : Option Entry). place_in_page store (record { entry = x.entry; overlay = o }) i) e)
+    (λ f e.
+    ap (λ (o : Option Entry). place_in_page store (record { entry = x.entry; overlay = o }) i) e
+    ∙ ap (λ b. cond b (place_of store f.block i) (frame_place x.entry.frame i)) (ap (λ (o : Option Entry). has_line (lines_of o) i) (sym e) ∙ lacks))
 
 pub seen_inside : (store : Store) (x : PageView) (e : Entry) (i : ℕ) → x.overlay ≡ Some e → has_line e.bits i ≡ true → line_seen store x i ≡ line_in store e.block i
 seen_inside store x e i over has = ap (line_of store.lines) (place_inside store x e i over has)

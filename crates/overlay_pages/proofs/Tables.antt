@@ -17,6 +17,7 @@ use Rattle.ledger.specs.Events.{Store, ledger_after}
 use Rattle.ledger.specs.StoreLaws.{store_joins, store_nothing, units_joined}
 use Rattle.ledger.specs.Changes.{with_lines}
 use Rattle.segment_store.specs.Store as store
+use Rattle.space_maps.specs.Options.{map_twice, by_option}
 use Rattle.space_maps.specs.Books.{books_added, books_awaiting, books_lost, books_marked, books_page}
 use Rattle.space_maps.specs.Laws.{page_added, page_awaited, page_lost, page_marked, there_cut, there_put}
 use Rattle.space_maps.specs.Spaces.{bare_space, cut_space, holds_space, page_in, put_awaiting, put_mark, put_space, space_in, turned_page}
@@ -27,7 +28,6 @@ use Rattle.overlay_pages.specs.Changes.{brought, with_brought, writes_frame}
 use Rattle.overlay_pages.specs.Calls.{IsNextPage, RisesBy, entries_in}
 use Rattle.overlay_pages.specs.View.{IsJoined, MemoryView, page_state, state_of, view_of}
 use Rattle.overlay_pages.specs.ViewLaws.{state_books, state_mark, state_page, state_page_some, state_pages}
-use Rattle.overlay_pages.proofs.Steps.{map_twice}
 
 -- What calls that only read the tables answer, said of the state.
 
@@ -63,16 +63,14 @@ frame_of_page v q r =
     ∙ map_twice (λ (x : PageState). x.entry.frame) (page_state v.store) (λ (x : PageView). x.entry.frame) (page_in v.table q r) (λ x e. refl)
 
 pub overlaid_bare : (v : MemoryView) (q r : ℕ) → IsSome (page_in v.table q r) → overlay_at v.table q r ≡ None → IfSome (page_in (state_of v) q r) (λ (x : PageState). 0 < length x.own) → ⊥
-overlaid_bare v q r there bare has = at (page_in (state_of v) q r) refl
-  where
-    at : (o : Option PageState) → page_in (state_of v) q r ≡ o → ⊥
-    at None e = let no = sym (ap (option_map (λ (x : PageState). x.own)) e) ∙ own_state v q r there in cc
-    at (Some x) e =
-        omega (
-          arith,
-          subst (λ o. IfSome o (λ (x : PageState). 0 < length x.own)) e has,
-          ap (λ (o : Option (List ℕ)). length (option_map_or (λ (l : List ℕ). l) o [])) (sym (ap (option_map (λ (x : PageState). x.own)) e) ∙ own_state v q r there ∙ ap (λ o. Some (lines_of o)) bare),
-        )
+overlaid_bare v q r there bare has = by_option (page_in (state_of v) q r)
+    (λ e. let no = sym (ap (option_map (λ (x : PageState). x.own)) e) ∙ own_state v q r there in cc)
+    (λ x e.
+    omega (
+      arith,
+      subst (λ o. IfSome o (λ (x : PageState). 0 < length x.own)) e has,
+      ap (λ (o : Option (List ℕ)). length (option_map_or (λ (l : List ℕ). l) o [])) (sym (ap (option_map (λ (x : PageState). x.own)) e) ∙ own_state v q r there ∙ ap (λ o. Some (lines_of o)) bare),
+    ))
 
 pub page_some : (v : MemoryView) (q r : ℕ) → IsSome (page_in (state_of v) q r) → IsSome (page_in v.table q r)
 page_some v q r there = sym (state_page_some v q r) ∙ there
@@ -201,8 +199,6 @@ no_pages_state v s none = alike _ _ (λ q. at q (get (space_in v.table s).pages 
 
 -- a page that the state hasn't isn't in the tables
 pub none_back : (v : MemoryView) (q r : ℕ) → page_in (state_of v) q r ≡ None → page_in v.table q r ≡ None
-none_back v q r none = at (page_in v.table q r) refl
-  where
-    at : (o : Option PageView) → page_in v.table q r ≡ o → page_in v.table q r ≡ None
-    at None e = e
-    at (Some x) e = let no = sym (state_page_some v q r ∙ ap is_some e) ∙ ap is_some none in cc
+none_back v q r none = by_option (page_in v.table q r)
+    (λ e. e)
+    (λ x e. let no = sym (state_page_some v q r ∙ ap is_some e) ∙ ap is_some none in cc)

@@ -11,6 +11,7 @@ use Rattle.ledger.specs.Ledger.{Ledger, all_holdings, with_page, without_page}
 use Rattle.ledger.specs.PlaceLaws.{by_place}
 use Rattle.ledger.specs.Units.{own_lines, units}
 use Rattle.ledger.specs.TallyLaws.{empty_holdings, same_lines, same_sharers, same_units}
+use Rattle.space_maps.specs.Options.{none_by}
 use Rattle.space_maps.specs.Books.{books_awaiting, books_cut, books_cut_page, books_kept, books_marked, books_put, books_put_page, books_put_shared, books_spaces}
 use Rattle.space_maps.specs.Laws.{beside_space, in_space, page_awaited, page_cut_beside, page_cut_here, page_marked, page_of, page_put_beside, page_put_here, page_shared_beside, page_shared_here, space_absent, space_beside, space_left, space_put}
 use Rattle.space_maps.specs.Spaces.{bare_space, cut_page, cut_space, holds_space, of_pages, page_in, put_awaiting, put_mark, put_page, put_shared, put_space, space_in}
@@ -152,10 +153,6 @@ booked_as v w counts u n kept frames zero_same inside apart same =
     booked_by v w (ledger_of w) counts counts u n u n kept frames zero_same refl inside apart kept.room (same_counts (ledger_of v) (ledger_of w) v.zero_frame v.frames counts same kept.counted)
     (kept.units_is ∙ sym (same_units (ledger_of w) (ledger_of v) same)) (kept.lines_is ∙ sym (same_lines (ledger_of w) (ledger_of v) same))
 
-no_value : {X : Type 0} (o : Option X) → is_some o ≡ false → o ≡ None
-no_value None h = refl
-no_value (Some x) h = cc
-
 -- a space made, and one taken away
 pub booked_space : (v : LedgerView) (counts : List ℕ) (u n s : ℕ) → IsBooked v counts u n → holds_space v s ≡ false → IsBooked (put_space v s bare_space) counts u n
 unfolding put_space
@@ -165,7 +162,7 @@ booked_space v counts u n s kept absent = booked_as v (put_space v s bare_space)
     (λ d. kept.inside q p x (sym (beside_space v s bare_space q p d) ∙ at)))
     (apart_all v s bare_space kept.apart (nothing_apart v.zero_frame))
     (ap all_holdings (books_put holding_of v s bare_space) ∙ empty_holdings (ledger_of v) s _ (viewed_empty _)
-    ∙ ap all_holdings (remove_absent (ledger_of v) s (no_value (get (ledger_of v) s) (books_spaces holding_of v s ∙ absent))))
+    ∙ ap all_holdings (remove_absent (ledger_of v) s (none_by (get (ledger_of v) s) (books_spaces holding_of v s ∙ absent))))
 
 pub booked_lost : (v : LedgerView) (counts : List ℕ) (u n s : ℕ) → IsBooked v counts u n → holds_space v s ≡ true → (space_in v s).pages ≡ empty → IsBooked (cut_space v s) counts u n
 unfolding cut_space

@@ -15,6 +15,7 @@ use Rattle.ledger.specs.Units.{overlaid_pages, tally}
 use Rattle.ledger.specs.PlaceLaws.{by_place}
 use Rattle.ledger.specs.AloneLaws.{without_absent}
 use Rattle.ledger.specs.TallyLaws.{tally_at, tally_changed, tally_empty, tally_put}
+use Rattle.space_maps.specs.Options.{none_by}
 use Rattle.space_maps.specs.Spaces.{bare_space, cut_page, cut_space, holds_space, page_in, put_awaiting, put_mark, put_page, put_shared, put_space, space_in}
 use Rattle.space_maps.specs.Laws.{KeepsSpaces, beside_space, in_space, keeps_page_cut, keeps_page_put, page_absent, page_cut_beside, page_cut_here, page_of, page_put_beside, page_put_here, put_shared_as, space_left, there_space}
 use Rattle.space_maps.specs.Books.{books_absent, books_cut, books_cut_page, books_kept, books_put, books_put_page, books_put_shared, books_spaces, books_there}
@@ -203,20 +204,16 @@ kept_shared {v = v} {overlays = overlays} kept s p y there absent bare low =
     (kept_awaiting (kept_new kept s p y there absent bare low) s (remove (space_in v s).awaiting p) (there_space (put_page v s p y) s p y (page_put_here v s p y s p refl refl)))
 
 -- a space without a page put in where none was, and one taken away
-no_ledger : {X : Type 0} (o : Option X) → is_some o ≡ false → o ≡ None
-no_ledger None h = refl
-no_ledger (Some x) h = cc
-
 pub kept_added : {v : LedgerView} {overlays : Table} → IsKept v overlays → (s : ℕ) → holds_space v s ≡ false → s ≤ LAST_SPACE → IsKept (put_space v s bare_space) overlays
 unfolding put_space
 kept_added {v = v} kept s absent low = kept_as kept (put_space v s bare_space)
     (λ q some. by_key q s (λ ss. subst (λ n. n ≤ LAST_SPACE) (sym ss) low) (λ d. kept.numbers q (sym (ap is_some (get_other v.spaces s q bare_space d)) ∙ some)))
     (λ q r. by_key q s
-    (λ ss. in_space v s bare_space q r ss ∙ get-empty nat_cmp r ∙ sym (page_absent v q r (ap (get v.spaces) ss ∙ no_ledger (get v.spaces s) absent)))
+    (λ ss. in_space v s bare_space q r ss ∙ get-empty nat_cmp r ∙ sym (page_absent v q r (ap (get v.spaces) ss ∙ none_by (get v.spaces s) absent)))
     (λ d. beside_space v s bare_space q r d))
     (ap overlaid_pages (books_put holding_of v s bare_space ∙ ap (insert (ledger_of v) s) (viewed_empty (λ _ y. holding_of v.zero_frame y)))
     ∙ overlaid_is _ ∙ tally_empty has_lines (ledger_of v) s empty refl
-    ∙ ap (tally has_lines) (remove_absent (ledger_of v) s (no_ledger (get (ledger_of v) s) (books_spaces holding_of v s ∙ absent)))
+    ∙ ap (tally has_lines) (remove_absent (ledger_of v) s (none_by (get (ledger_of v) s) (books_spaces holding_of v s ∙ absent)))
     ∙ sym (overlaid_is (ledger_of v)))
     refl
 

@@ -8,6 +8,7 @@ use Rattle.page_table.specs.Table.{Pages}
 use Rattle.page_table.specs.declared.entry.PageEntry.{PageEntry}
 use Rattle.overlay_mapping_table.specs.declared.entry.Entry.{Entry}
 use Rattle.unit_map.specs.declared.block.Block.{Block}
+use Rattle.space_maps.specs.Options.{map_from}
 use Rattle.space_maps.specs.Laws.{changed_there, page_shared_here}
 use Rattle.space_maps.specs.Spaces.{cut_page, holds_space, page_in, put_page, put_shared, put_space, space_in}
 use Rattle.space_ledger.proofs.Seen.{some_is}
@@ -33,11 +34,7 @@ before_release v counts u n kept s p z e zero_is is =
 
 -- a page that names a frame
 on_frame : (v : LedgerView) (s p f : ℕ) → frame_at v s p ≡ Some f → (x : PageView) × (page_in v s p ≡ Some x) × (f ≡ x.entry.frame)
-on_frame v s p f is = at (page_in v s p) refl is
-  where
-    at : (o : Option PageView) → page_in v s p ≡ o → option_map (λ (x : PageView). x.entry.frame) o ≡ Some f → (x : PageView) × (page_in v s p ≡ Some x) × (f ≡ x.entry.frame)
-    at None there h = absurd (none-some f h)
-    at (Some x) there h = (x, there, same_Some _ _ (sym h))
+on_frame v s p f is = map_from (λ (x : PageView). x.entry.frame) (page_in v s p) f is (λ x there same. (x, there, sym same))
 
 pub entry_inside : (v : LedgerView) (counts : List ℕ) (u n : ℕ) → IsBooked v counts u n → (s p : ℕ) (e : PageEntry)
     → Some e ≡ option_map (λ (x : PageView). x.entry) (page_in v s p) → e.frame < v.frames
@@ -251,12 +248,13 @@ copied_once v w counts u n kept s (Err e) same h = h
 copied_once v w counts u n kept s (Ok table) same is =
     subst (λ (k : LedgerView). NamesOnce k.zero_frame table) same
     (λ p q a b at_p at_q frames isnt.
-    let x = entry_of (get (space_in v s).pages p) (sym (ap (λ (m : Pages). get m p) is ∙ get_viewed (λ page (y : PageView). y.entry) (space_in v s).pages p) ∙ at_p) in
-    let y = entry_of (get (space_in v s).pages q) (sym (ap (λ (m : Pages). get m q) is ∙ get_viewed (λ page (y : PageView). y.entry) (space_in v s).pages q) ∙ at_q) in
+    let x = entry_of p a at_p in
+    let y = entry_of q b at_q in
     (kept.apart s).pages p q x.0 y.0 x.1 y.1
     (ap (λ (e : PageEntry). e.frame) x.2 ∙ frames ∙ sym (ap (λ (e : PageEntry). e.frame) y.2))
     (λ zero_x. isnt (sym (ap (λ (e : PageEntry). e.frame) x.2) ∙ zero_x)))
   where
-    entry_of : {e : PageEntry} (o : Option PageView) → option_map (λ (y : PageView). y.entry) o ≡ Some e → (x : PageView) × (o ≡ Some x) × (x.entry ≡ e)
-    entry_of None h = let no = ap is_some h in cc
-    entry_of (Some x) h = (x, refl, same_Some _ _ h)
+    entry_of : (p : ℕ) (a : PageEntry) → get table p ≡ Some a → (x : PageView) × (get (space_in v s).pages p ≡ Some x) × (x.entry ≡ a)
+    entry_of p a at =
+        map_from (λ (y : PageView). y.entry) (get (space_in v s).pages p) a (sym (ap (λ (m : Pages). get m p) is ∙ get_viewed (λ page (y : PageView). y.entry) (space_in v s).pages p) ∙ at)
+        (λ x there same. (x, there, same))

@@ -1,4 +1,4 @@
-use Rattle.std.proofs.Common.{◌≡◌, ℕ, zero, suc, ◌+◌, ◌-◌, ◌*◌, ◌^◌, ◌==◌, ◌≤◌, ◌<◌, ◌⊎◌, Bool, true, false, cond, not, ◌&&◌, ◌||◌, nat_eq, nat_lt, List, [], length, Option, Some, None, is_some, IsSome, Result, Ok, Err, OnOk, OnErr, refl, nat_cmp, sym, ap, subst, ◌∙◌, arith, inl, inr}
+use Rattle.std.proofs.Common.{true≢false, ◌≡◌, ℕ, zero, suc, ◌+◌, ◌-◌, ◌*◌, ◌^◌, ◌==◌, ◌≤◌, ◌<◌, ◌⊎◌, Bool, true, false, cond, not, ◌&&◌, ◌||◌, nat_eq, nat_lt, List, [], length, Option, Some, None, is_some, IsSome, Result, Ok, Err, OnOk, OnErr, refl, nat_cmp, sym, ap, subst, ◌∙◌, arith, inl, inr}
 use Rattle.std.proofs.lemmas.Option.{same_Some}
 use Rattle.std.proofs.lemmas.Bool.Decides.{nat_tests}
 use Rattle.std.proofs.lemmas.List.{length-set}
@@ -17,6 +17,7 @@ use Rattle.ledger.specs.ClassLaws.{class_none}
 use Rattle.ledger.specs.UnitLaws.{alone_is, no_units, frame_for, lines_at, lines_put, units_at, units_put}
 use Rattle.ledger.specs.AloneLaws.{origin_with, without_absent}
 use Rattle.ledger.specs.TallyLaws.{no_holdings, tally_none, lines_tally, sharers_at, sharers_few, sharers_put, units_few}
+use Rattle.space_maps.specs.Options.{map_from, map_some}
 use Rattle.space_maps.specs.Laws.{changed_there, keeps_page_put, page_of, page_put_beside, space_absent}
 use Rattle.space_maps.specs.Spaces.{bare_space, cut_page, holds_space, page_in, put_page, put_pages, put_shared, put_space, space_in}
 use Rattle.space_maps.specs.Books.{books_cut_page, books_empty, books_len, books_page, books_put_page, books_spaces, books_there}
@@ -58,14 +59,7 @@ frame_most false = omega arith
 
 -- what a holding in the ledger is of
 held_page : (v : LedgerView) (s p : ℕ) (h : Holding) → holding_at (ledger_of v) s p ≡ Some h → (x : PageView) × (page_in v s p ≡ Some x) × (h ≡ holding_of v.zero_frame x)
-held_page v s p h there = at (page_in v s p) refl (sym (books_page holding_of v s p) ∙ there)
-  where
-    at : (o : Option PageView) → page_in v s p ≡ o → option_map (holding_of v.zero_frame) (page_in v s p) ≡ Some h → (x : PageView) × (page_in v s p ≡ Some x) × (h ≡ holding_of v.zero_frame x)
-    at None is e = let no = ap is_some (sym e ∙ ap (option_map (holding_of v.zero_frame)) is) in cc
-    at (Some x) is e = (x, is, same_holding (sym e ∙ ap (option_map (holding_of v.zero_frame)) is))
-      where
-        same_holding : Some h ≡ Some (holding_of v.zero_frame x) → h ≡ holding_of v.zero_frame x
-        same_holding q = same_Some _ _ q
+held_page v s p h there = map_from (holding_of v.zero_frame) (page_in v s p) h (sym (books_page holding_of v s p) ∙ there) (λ x is same. (x, is, sym same))
 
 module _ (v : LedgerView) (counts : List ℕ) (u n : ℕ) (kept : IsBooked v counts u n) (sound : IsSound v) where
   -- bounds
@@ -459,32 +453,21 @@ new_books v counts frames z none frames_is zero_is counts_is room some few insid
 -- whether it has own lines
 pub own_is : (v : LedgerView) → IsSound v → (s p : ℕ) → is_some (overlay_at v s p) ≡ has_own (ledger_of v) s p
 unfolding has_own
-own_is v sound s p = at (page_in v s p) refl ∙ sym (ap (λ (o : Option Holding). option_map_or (λ holding. nat_lt 0 (length holding.own)) o false) (books_page holding_of v s p))
+own_is v sound s p =
+    at (page_in v s p) refl ∙ sym (ap (λ (o : Option Holding). option_map_or (λ holding. nat_lt 0 (length holding.own)) o false) (books_page holding_of v s p))
   where
     lines : (o : Option Entry) → ((e : Entry) → o ≡ Some e → 0 < length e.bits) → is_some o ≡ nat_lt 0 (length (lines_of o))
-    lines None h = let no : nat_lt 0 (length {A = ℕ} []) ≡ false = grind (arith, nat_tests) in sym no
+    lines None h = refl
     lines (Some e) h = let some = h e refl in let yes : nat_lt 0 (length e.bits) ≡ true = grind (arith, nat_tests) in sym yes
 
     at : (o : Option PageView) → page_in v s p ≡ o
-        → is_some (option_and_then (λ (x : PageView). x.overlay) (page_in v s p)) ≡ option_map_or (λ (holding : Holding). nat_lt 0 (length holding.own)) (option_map (holding_of v.zero_frame) (page_in v s p)) false
-    at None is =
-        ap (λ o. is_some (option_and_then (λ (x : PageView). x.overlay) o)) is
-        ∙ sym (ap (λ o. option_map_or (λ (holding : Holding). nat_lt 0 (length holding.own)) (option_map (holding_of v.zero_frame) o) false) is)
-    at (Some x) is =
-        ap (λ o. is_some (option_and_then (λ (x : PageView). x.overlay) o)) is ∙ lines x.overlay (λ e o. (sound.lines s p x e is o).0)
-        ∙ sym (ap (λ o. option_map_or (λ (holding : Holding). nat_lt 0 (length holding.own)) (option_map (holding_of v.zero_frame) o) false) is)
+        → is_some (option_and_then (λ (x : PageView). x.overlay) o) ≡ option_map_or (λ (holding : Holding). nat_lt 0 (length holding.own)) (option_map (holding_of v.zero_frame) o) false
+    at None is = refl
+    at (Some x) is = lines x.overlay (λ e o. (sound.lines s p x e is o).0)
 
 -- a page by its entry
 pub entry_page : (v : LedgerView) (s p : ℕ) (e : PageEntry) → Some e ≡ option_map (λ (x : PageView). x.entry) (page_in v s p) → (x : PageView) × (page_in v s p ≡ Some x) × (e ≡ x.entry)
-entry_page v s p e is = at (page_in v s p) refl is
-  where
-    at : (o : Option PageView) → page_in v s p ≡ o → Some e ≡ option_map (λ (x : PageView). x.entry) o → (x : PageView) × (page_in v s p ≡ Some x) × (e ≡ x.entry)
-    at None there h = let no = ap is_some h in cc
-    at (Some x) there h = (x, there, same_Some _ _ h)
+entry_page v s p e is = map_from (λ (x : PageView). x.entry) (page_in v s p) e (sym is) (λ x there same. (x, there, sym same))
 
 pub no_entry : (v : LedgerView) (s p : ℕ) → None ≡ option_map (λ (x : PageView). x.entry) (page_in v s p) → IsSome (page_in v s p) → ⊥
-no_entry v s p is there = at (page_in v s p) is there
-  where
-    at : (o : Option PageView) → None ≡ option_map (λ (x : PageView). x.entry) o → IsSome o → ⊥
-    at None h some = cc
-    at (Some x) h some = let no = ap is_some h in cc
+no_entry v s p is there = true≢false (sym there ∙ sym (map_some (λ (x : PageView). x.entry) (page_in v s p)) ∙ ap is_some (sym is))

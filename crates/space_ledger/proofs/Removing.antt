@@ -7,6 +7,7 @@ use Rattle.page_table.specs.Run.{IsNextRun, IsRunFrom, entry_at}
 use Rattle.page_table.specs.Table.{Pages, AreThere, IsUnmapped, is_within}
 use Rattle.page_table.specs.declared.entry.PageEntry.{PageEntry}
 use Rattle.page_table.specs.declared.run.PageRun.{PageRun}
+use Rattle.space_maps.specs.Options.{map_from, none_by, map_some}
 use Rattle.space_maps.specs.Spaces.{AreMapped, cut_page, cut_pages, page_in, space_in}
 use Rattle.space_maps.specs.Laws.{after_cut, page_of}
 use Rattle.space_ledger.specs.declared.tables.Tables.TheInside.{Inside}
@@ -131,26 +132,16 @@ zeros_of_run v s page run few many first fits inside start on_zero bare i less =
     let same = start (omega (arith, less, fits)) in
     let entry : get (entries_of v s) (page + i) ≡ Some (entry_at run i) = ap (λ p. get (entries_of v s) (p + i)) (sym same) ∙ first.has i (omega (arith, less, fits, inside)) in
     let entry_is = entry_of v s (page + i) (entry_at run i) entry in
-    (framed (page_in v s (page + i)) (entry_at run i) entry_is ∙ ap Some (on_zero i (omega (arith, less, fits))), bare i less)
-  where
-    framed : (o : Option PageView) (e : PageEntry) → option_map (λ (x : PageView). x.entry) o ≡ Some e → option_map (λ (x : PageView). x.entry.frame) o ≡ Some e.frame
-    framed None e h = let no = ap is_some h in cc
-    framed (Some x) e h = ap (λ (o : Option PageEntry). option_map (λ (k : PageEntry). k.frame) o) h
+    (map_from (λ (x : PageView). x.entry) (page_in v s (page + i)) (entry_at run i) entry_is
+    (λ x there same. ap (option_map (λ (y : PageView). y.entry.frame)) there ∙ ap (λ (e : PageEntry). Some e.frame) same ∙ ap Some (on_zero i (omega (arith, less, fits)))), bare i less)
 
 -- Which pages are there, by a run of their entries.
 
 entry_some : (v : LedgerView) (s p : ℕ) → is_some (get (entries_of v s) p) ≡ is_some (page_in v s p)
 unfolding entries_of
 entry_some v s p =
-    ap is_some (get_viewed (λ _ (x : PageView). x.entry) (space_in v s).pages p ∙ ap (option_map (λ (x : PageView). x.entry)) (sym (page_of v s p))) ∙ same (page_in v s p)
-  where
-    same : (o : Option PageView) → is_some (option_map (λ (x : PageView). x.entry) o) ≡ is_some o
-    same None = refl
-    same (Some x) = refl
-
-none_by : {X : Type 0} (o : Option X) → is_some o ≡ false → o ≡ None
-none_by None h = refl
-none_by (Some x) h = cc
+    ap is_some (get_viewed (λ _ (x : PageView). x.entry) (space_in v s).pages p ∙ ap (option_map (λ (x : PageView). x.entry)) (sym (page_of v s p)))
+    ∙ map_some (λ (x : PageView). x.entry) (page_in v s p)
 
 pub run_there : (v : LedgerView) (s page : ℕ) (run : PageRun) → IsRunFrom (entries_of v s) page run → run.page ≡ page → AreMapped v s page run.n
 run_there v s page run first same i less =

@@ -9,6 +9,7 @@ use Rattle.ledger.specs.PlaceLaws.{by_place}
 use Rattle.page_table.specs.Run.{IsRunFrom, entry_at}
 use Rattle.page_table.specs.declared.entry.PageEntry.{PageEntry}
 use Rattle.page_table.specs.declared.run.PageRun.{PageRun}
+use Rattle.space_maps.specs.Options.{map_some}
 use Rattle.space_maps.specs.Laws.{page_shared_beside, page_shared_here}
 use Rattle.space_maps.specs.Spaces.{holds_space, page_in, put_shared, put_space, space_in}
 use Rattle.space_ledger.specs.View.{LedgerView, PageView, SpaceView, with_run_shared}
@@ -48,11 +49,7 @@ module _ (v : LedgerView) (counts : List ℕ) (u n : ℕ) (kept : IsBooked v cou
   there_from : (i : ℕ) → i < run.n → IsSome (page_in v from (run.page + i))
   there_from i low =
       let was = bare (run.page + i) (omega (arith, low)) (ap is_some (first.has i low)) in
-      some_of (page_in v from (run.page + i)) (ap is_some (sym was.0 ∙ ap (option_map (λ (e : PageEntry). e.frame)) (first.has i low)))
-    where
-      some_of : (o : Option PageView) → is_some (option_map (λ (x : PageView). x.entry.frame) o) ≡ true → IsSome o
-      some_of None h = cc
-      some_of (Some x) h = refl
+      sym (map_some (λ (x : PageView). x.entry.frame) (page_in v from (run.page + i))) ∙ ap is_some (sym was.0 ∙ ap (option_map (λ (e : PageEntry). e.frame)) (first.has i low))
 
   pub pages_low : run.page + run.n ≤ PAGE_END
   pages_low =
