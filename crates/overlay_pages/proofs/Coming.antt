@@ -82,13 +82,13 @@ module _ (m : MemoryView) (new : Store) (s p : ℕ) (x : PageView) (is : IsJoine
     frames = λ q r y d at_y. so.frames y.entry.frame (is.held q r y at_y).frame;
     zero = so.frames m.table.zero_frame is.zero;
     held = λ y same. subst (IsHeld new s p) (same_Some x y same) (record {
-          number = is.numbers s there;
-          low = low;
-          frame = (so.frames x.entry.frame frame).stays;
-          segment = so.now_there;
-          lined = so.lined;
-          size = so.size;
-        });
+      number = is.numbers s there;
+      low = low;
+      frame = (so.frames x.entry.frame frame).stays;
+      segment = so.now_there;
+      lined = so.lined;
+      size = so.size;
+    });
     owned = λ unit segment at_unit. owned_now unit segment at_unit (so.others unit segment at_unit);
     count = omega (arith, is.count, units_now, so.free, so.whole);
   }

@@ -110,11 +110,8 @@ module _ (a : MemoryView) (s p : ℕ) (e : Entry) (is : IsJoined a) (there : IsS
   held_before : holding_at (books (state_of a)) s p ≡ Some (held_page (state_of a).zero_frame was)
   held_before = books_page held_page (state_of a) s p ∙ ap (option_map (held_page (state_of a).zero_frame)) was_there
 
-  pub copy_room : (b : MemoryView) → IsJoined b → state_of b ≡ turned_page discarded (state_of a) s p → HasCopyRoom (state_of a) s p → 16 ≤ free_units b.store.blocks
-  copy_room b b_is b_state room =
-      let dropped = turned_units discarded (state_of a) s p was was_there refl in
-      let enough = room was was_there in
-      omega (arith, free_is b b_is, ap units_of b_state, ap limit_of b_state, turned_limit discarded (state_of a) s p was was_there, dropped, class_none, enough)
+  pub copy_enough : HasCopyRoom (state_of a) s p → 16 + units_of (turned_page discarded (state_of a) s p) ≤ limit_of (state_of a)
+  copy_enough room = omega (arith, turned_units discarded (state_of a) s p was was_there refl, class_none, room was was_there)
 
   pub copy_shared : (b : MemoryView) → state_of b ≡ turned_page discarded (state_of a) s p → is_alone (ledger_of a.table) s p ≡ false → is_alone (ledger_of b.table) s p ≡ false
   copy_shared b b_state shared =
@@ -131,12 +128,6 @@ module _ (a : MemoryView) (s p : ℕ) (e : Entry) (is : IsJoined a) (there : IsS
 
   dropped_page : (b : MemoryView) → state_of b ≡ turned_page discarded (state_of a) s p → page_in (state_of b) s p ≡ Some (discarded was)
   dropped_page b b_state = ap (λ st. page_in st s p) (b_state ∙ bare_is) ∙ page_put_here (state_of a) s p (discarded was) s p refl refl
-
-  pub copy_there : (b : MemoryView) → state_of b ≡ turned_page discarded (state_of a) s p → IsSome (page_in b.table s p)
-  copy_there b b_state = sym (state_page_some b s p) ∙ ap is_some (dropped_page b b_state)
-
-  pub copy_bare : (b : MemoryView) → IsJoined b → state_of b ≡ turned_page discarded (state_of a) s p → overlay_at b.table s p ≡ None
-  copy_bare b b_is b_state = Rattle.overlay_pages.proofs.Growing.bare_by b s p b_is (discarded was) (dropped_page b b_state) refl (copy_there b b_state)
 
   -- an origin is unused before where it is unused now
   new_then : (frame : ℕ) → IsNewFrame (put_page (state_of a) s p (discarded was)) frame → IsNewFrame (state_of a) frame
@@ -159,17 +150,17 @@ module _ (a : MemoryView) (s p : ℕ) (e : Entry) (is : IsJoined a) (there : IsS
       unused = unused_from (books (state_of a)) (frame + 1) parts.0 (sym same ∙ parts.1)
 
   -- the lines that were composed are those that the page has
-  pub composed_lines_are : (b d : MemoryView) (frame : ℕ) (out : List (List ℕ)) → Lifts a.store b.store e.block e.bits → KeepsFrames a.store d.store → KeepsScratch b.store d.store → own.x.entry.frame ≡ frame → IsStore d.store
-      → out ≡ composed (frame_page d.store frame) (scratch_page d.store) e.bits → same_lines out ≡ was.lines
+  pub composed_lines_are : (d : MemoryView) (frame : ℕ) (out : List (List ℕ)) → ((i : ℕ) → i < 64 → has_line e.bits i ≡ true → scratch_line d.store i ≡ line_in a.store e.block i)
+      → KeepsFrames a.store d.store → own.x.entry.frame ≡ frame → out ≡ composed (frame_page d.store frame) (scratch_page d.store) e.bits → same_lines out ≡ was.lines
   unfolding same_lines page_state
-  composed_lines_are b d frame out lifts frames scratch frame_is d_is out_is = lines_same (line_in_page out) (line_seen a.store own.x) each
+  composed_lines_are d frame out lifted frames frame_is out_is = lines_same (line_in_page out) (line_seen a.store own.x) each
     where
       held : IsHeld a.store s p own.x
       held = is.held s p own.x own.there
 
       pulled : (t : Bool) (i : ℕ) → has_line e.bits i ≡ t → i < 64 → cond t (get_or (scratch_page d.store) i []) (get_or (frame_page d.store frame) i []) ≡ line_seen a.store own.x i
       pulled true i has low =
-          page_line 64 (Rattle.segment_store.specs.Store.scratch_place d.store) i d.store.lines low ∙ scratch i low ∙ lifts.lifted i has ∙ sym (seen_inside a.store own.x e i own.is has)
+          page_line 64 (Rattle.segment_store.specs.Store.scratch_place d.store) i d.store.lines low ∙ lifted i low has ∙ sym (seen_inside a.store own.x e i own.is has)
       pulled false i has low =
           page_line 64 (64 * frame) i d.store.lines low ∙ ap (λ f. frame_line d.store f i) (sym frame_is) ∙ (frames own.x.entry.frame held.frame).lines i low
           ∙ sym (seen_outside a.store own.x i (ap (λ (o : Option Entry). has_line (lines_of o) i) own.is ∙ has))

@@ -11,7 +11,7 @@ use Rattle.ledger.specs.UnitLaws.{units_own}
 use Rattle.ledger.specs.ClassLaws.{class_none, class_one}
 use Rattle.segment_store.specs.Kept.{IsStore}
 use Rattle.segment_store.specs.Pointers.{capacity_of}
-use Rattle.segment_store.specs.Store.{Store, frame_line, scratch_line}
+use Rattle.segment_store.specs.Store.{Store, frame_line, line_in, scratch_line}
 use Rattle.segment_store.specs.Changes.{KeepsFrames, KeepsScratch, KeepsSegments, Lifts}
 use Rattle.segment_store.specs.Laws.{count_fits}
 use Rattle.space_maps.specs.Options.{map_alike, by_option}
@@ -139,6 +139,26 @@ all_kept old new table is segments frames blocks same store = (
         let held = is.held q r x e in
         page_kept old new q r x held (frames x.entry.frame held.frame) (λ f over. segments f.block.unit (segment_of q r f) (held.segment f over))
 
+-- An overlay that ended, wherever segments went: how many units are free, and that the page is there without one.
+module _ (a v : MemoryView) (s p : ℕ) (there : IsSome (page_in a.table s p)) (is : IsJoined v) (same : state_of v ≡ turned_page discarded (state_of a) s p) where
+  abbrev was : Has a.table s p (overlay_at a.table s p)
+  was = page_with a.table s p there (overlay_at a.table s p) refl
+
+  pub ended_room : (n : ℕ) → n + units_of (turned_page discarded (state_of a) s p) ≤ limit_of (state_of a) → n ≤ free_units v.store.blocks
+  ended_room n enough =
+      omega (arith, free_is v is, ap units_of same, ap limit_of same, turned_limit discarded (state_of a) s p (page_state a.store was.x) (state_page_there a s p was.x was.there), enough)
+
+  pub ended_page : page_in (state_of v) s p ≡ Some (discarded (page_state a.store was.x))
+  ended_page =
+      ap (λ st. page_in st s p) (same ∙ turn_is discarded (state_of a) s p (page_state a.store was.x) (state_page_there a s p was.x was.there))
+      ∙ page_put_here (state_of a) s p (discarded (page_state a.store was.x)) s p refl refl
+
+  pub ended_there : IsSome (page_in v.table s p)
+  ended_there = sym (state_page_some v s p) ∙ ap is_some ended_page
+
+  pub ended_bare : overlay_at v.table s p ≡ None
+  ended_bare = bare_by v s p is (discarded (page_state a.store was.x)) ended_page refl ended_there
+
 -- The overlay that grows: it has lines of scratch, which are those that it had.
 module _ (a : MemoryView) (s p : ℕ) (e : Entry) (line : ℕ) (bytes : List ℕ) (is : IsJoined a) (there : IsSome (page_in a.table s p)) (over : overlay_at a.table s p ≡ Some e)
     (low : line < 64) (absent : has_line e.bits line ≡ false) (full : capacity_of e.block.order ≤ length e.bits) (fits : Fits (turned_page (joins line bytes) (state_of a) s p)) where
@@ -170,38 +190,26 @@ module _ (a : MemoryView) (s p : ℕ) (e : Entry) (line : ℕ) (bytes : List ℕ
   pub grows_size : 2 ^ (e.block.order + 1) ≡ class (length e.bits + 1)
   grows_size = next_size e.block.order (length e.bits) grows_low at_capacity
 
-  -- the units that are free once the old segment ended
-  pub grows_room : (c : MemoryView) → IsJoined c → state_of c ≡ turned_page discarded (state_of a) s p → 2 ^ (e.block.order + 1) ≤ free_units c.store.blocks
+  -- the units that are there once the old segment ended
+  pub grows_enough : 2 ^ (e.block.order + 1) + units_of (turned_page discarded (state_of a) s p) ≤ limit_of (state_of a)
   unfolding page_state
-  grows_room c c_is c_state =
+  grows_enough =
       let dropped = turned_units discarded (state_of a) s p y y_there refl in
       let grown = turned_units (joins line bytes) (state_of a) s p y y_there refl in
       let one : length (with_line e.bits line) ≡ length e.bits + 1 = count_with e.bits line are low ∙ ap (λ b. length e.bits + cond b 0 1) absent in
       let more : class (length (with_line y.own line)) ≡ 2 ^ (e.block.order + 1) = ap (λ l. class (length (with_line l line))) y_own ∙ ap class one ∙ sym grows_size in
-      omega (
-        arith,
-        free_is c c_is,
-        ap units_of c_state,
-        ap limit_of c_state,
-        turned_limit discarded (state_of a) s p y y_there,
-        dropped,
-        class_none,
-        grown,
-        more,
-        fits,
-        turned_limit (joins line bytes) (state_of a) s p y y_there,
-      )
+      omega (arith, dropped, class_none, grown, more, fits, turned_limit (joins line bytes) (state_of a) s p y y_there)
 
   -- and what the page is in the end
-  pub grown_state : (b d : MemoryView) → Lifts a.store b.store e.block e.bits → KeepsFrames a.store d.store → KeepsScratch b.store d.store → state_of d ≡ turned_page discarded (state_of a) s p
-      → (last : State) → last ≡ turned_page (laid d.store e.bits line bytes) (state_of d) s p → last ≡ turned_page (joins line bytes) (state_of a) s p
+  pub grown_state : (d : MemoryView) → ((i : ℕ) → i < 64 → has_line e.bits i ≡ true → scratch_line d.store i ≡ line_in a.store e.block i) → KeepsFrames a.store d.store
+      → state_of d ≡ turned_page discarded (state_of a) s p → (last : State) → last ≡ turned_page (laid d.store e.bits line bytes) (state_of d) s p → last ≡ turned_page (joins line bytes) (state_of a) s p
   unfolding page_state
-  grown_state b d lifts frames scratch d_state last last_is =
+  grown_state d lifted frames d_state last last_is =
       last_is ∙ ap (λ st. turned_page (laid d.store e.bits line bytes) st s p) d_state ∙ turned_twice (laid d.store e.bits line bytes) discarded (state_of a) s p y y_there
       ∙ ap (put_page (state_of a) s p) same ∙ sym (turn_is (joins line bytes) (state_of a) s p y y_there)
     where
       each : (b : Bool) (i : ℕ) → has_line e.bits i ≡ b → i < 64 → cond b (scratch_line d.store i) (frame_line d.store has.x.entry.frame i) ≡ line_seen a.store has.x i
-      each true i h below = scratch i below ∙ lifts.lifted i h ∙ sym (seen_inside a.store has.x e i has.is h)
+      each true i h below = lifted i below h ∙ sym (seen_inside a.store has.x e i has.is h)
       each false i h below = (frames has.x.entry.frame held.frame).lines i below ∙ sym (seen_outside a.store has.x i (ap (λ (o : Option Entry). has_line (lines_of o) i) has.is ∙ h))
 
       lines : page_lines (laid_line d.store e.bits line bytes has.x.entry.frame) ≡ slice_set (page_lines (line_seen a.store has.x)) line bytes
@@ -214,16 +222,6 @@ module _ (a : MemoryView) (s p : ℕ) (e : Entry) (line : ℕ) (bytes : List ℕ
 
       same : laid d.store e.bits line bytes (discarded y) ≡ joins line bytes y
       same = λ i. record { entry = has.x.entry; own = own i; lines = lines i; base = page_lines (frame_line a.store has.x.entry.frame) }
-
-  -- the page once its overlay ended, wherever segments went
-  dropped_there : (v : MemoryView) → state_of v ≡ turned_page discarded (state_of a) s p → page_in (state_of v) s p ≡ Some (discarded y)
-  dropped_there v v_state = ap (λ st. page_in st s p) (v_state ∙ turn_is discarded (state_of a) s p y y_there) ∙ page_put_here (state_of a) s p (discarded y) s p refl refl
-
-  pub dropped_some : (v : MemoryView) → state_of v ≡ turned_page discarded (state_of a) s p → IsSome (page_in v.table s p)
-  dropped_some v v_state = sym (state_page_some v s p) ∙ ap is_some (dropped_there v v_state)
-
-  pub dropped_bare : (v : MemoryView) → IsJoined v → state_of v ≡ turned_page discarded (state_of a) s p → overlay_at v.table s p ≡ None
-  dropped_bare v v_is v_state = bare_by v s p v_is (discarded y) (dropped_there v v_state) refl (dropped_some v v_state)
 
   pub grows_fits : length e.bits < capacity_of (e.block.order + 1)
   grows_fits = next_place e.block.order (length e.bits) grows_low (omega (arith, at_capacity))

@@ -80,6 +80,7 @@ dropped old store table s p x e is there over ends kept frames free whole is_sto
       size = λ f h. absurd (none-some f h);
       free = omega (arith, free, held.size e over, class_none, ap (λ (o : Option Entry). class (length (lines_of o))) over);
     }
+
 pub dropped_page : (old : MemoryView) (store : Store) (s p : ℕ) (x : PageView) → IsHeld old.store s p x → KeepsFrames old.store store
     → page_state store (record { entry = x.entry; overlay = None }) ≡ discarded (page_state old.store x)
 unfolding page_state

@@ -261,13 +261,13 @@ module _ (v : MemoryView) (new : Store) (s p : ℕ) (x : PageView) (is : IsJoine
         frames = so.frames;
         zero = so.zero;
         held = λ y same. subst (IsHeld new s p) (same_Some x y same) (record {
-              number = was.number;
-              low = was.low;
-              frame = record { taken = subst (λ l. IsPiece l (taken_at (FRAME_UNITS * x.entry.frame) 4)) (sym so.blocks) was.frame.taken; alone = segment_same (FRAME_UNITS * x.entry.frame) ∙ was.frame.alone };
-              segment = λ e over. segment_same e.block.unit ∙ was.segment e over;
-              lined = was.lined;
-              size = was.size;
-            });
+          number = was.number;
+          low = was.low;
+          frame = record { taken = subst (λ l. IsPiece l (taken_at (FRAME_UNITS * x.entry.frame) 4)) (sym so.blocks) was.frame.taken; alone = segment_same (FRAME_UNITS * x.entry.frame) ∙ was.frame.alone };
+          segment = λ e over. segment_same e.block.unit ∙ was.segment e over;
+          lined = was.lined;
+          size = was.size;
+        });
         owned = λ unit segment at_unit. inr (subst (λ (t : LedgerView). IsOwned t unit segment) table (is.owned unit segment (sym (segment_same unit) ∙ at_unit)));
         count = ap (λ l. free_units l + units (ledger_of v.table)) so.blocks ∙ is.count ∙ sym (ap units_in so.blocks);
       }
