@@ -9,6 +9,7 @@ use Rattle.unit_map.specs.declared.block.Block.{Block}
 use Rattle.overlay_bits.specs.Lines.{AreLines, has_line}
 use Rattle.overlay_address.specs.Names.{overlay_page}
 use Rattle.overlay_mapping_table.specs.declared.entry.Entry.{Entry}
+use Rattle.page_table.specs.Table.{Pages}
 use Rattle.page_table.specs.declared.entry.PageEntry.{PageEntry}
 use Rattle.ledger.specs.Ledger.{has_origin, is_unused}
 use Rattle.ledger.specs.Units.{class}
@@ -69,7 +70,7 @@ pub shared_state : (m : MemoryView) (from to p : ℕ) (o : Option Entry) (w : Aw
 unfolding changes.with_shared
 shared_state m from to p o w =
     ap (λ (f : Option PageEntry). option_map_or (λ (e : PageEntry). option_map_or (λ x. put_shared (state_of m) to p (shared_page e x)) (page_in (state_of m) from p) (state_of m)) f (state_of m))
-    (ap (λ (t : Rattle.page_table.specs.Table.Pages). get t p) (state_awaiting m to) ∙ w.waits)
+    (ap (λ (t : Pages). get t p) (state_awaiting m to) ∙ w.waits)
     ∙ ap (λ (f : Option PageState). option_map_or (λ x. put_shared (state_of m) to p (shared_page w.entry x)) f (state_of m)) (state_page_there m from p w.x w.there)
     ∙ put_shared_as (state_of m) to p (shared_page w.entry (page_state m.store w.x))
 
@@ -107,7 +108,7 @@ module _ (m : MemoryView) (new : Store) (from to p : ℕ) (was now : Option Entr
   share_state same =
       state_awaiting_put new (put_page m.table to p page) to (remove (space_in m.table to).awaiting p)
       ∙ ap (λ s. put_awaiting s to (remove (space_in m.table to).awaiting p)) (came_state m new to p page is there theirs.low absent taken no_frame so ∙ ap (put_page (state_of m) to p) same)
-      ∙ ap (λ (t : Rattle.page_table.specs.Table.Pages). put_awaiting (put_page (state_of m) to p (shared_page w.entry (page_state m.store w.x))) to (remove t p)) (sym (state_awaiting m to))
+      ∙ ap (λ (t : Pages). put_awaiting (put_page (state_of m) to p (shared_page w.entry (page_state m.store w.x))) to (remove t p)) (sym (state_awaiting m to))
       ∙ sym (shared_state m from to p was w)
 
 -- A page without an overlay.
@@ -198,7 +199,15 @@ lifted_page a m lifted began new from p to xa xm ea entry block bits over bits_i
         seen_outside new page i lacks ∙ ap (λ f. frame_line new f i) frame_is ∙ frames i low
         ∙ sym (seen_outside m.store xm i (ap (λ l. has_line l i) (ap (λ (y : PageState). y.own) same ∙ ap lines_of over ∙ sym bits_is) ∙ lacks))
 
--- The page where segments moved.
+-- The page where segments moved: as it was, as far as tables tell.
+pub record StillShares (a m : MemoryView) (from to p : ℕ) (e : Entry) : Type 0 where
+  pub there : IsSome (page_in m.table from p)
+  pub over : is_some (overlay_at m.table from p) ≡ true
+  pub bits : lines_of (overlay_at m.table from p) ≡ e.bits
+  pub waits : (space_in m.table to).awaiting ≡ (space_in a.table to).awaiting
+  pub frame : frame_awaiting m.table to p ≡ frame_at m.table from p
+  pub space : holds_space m.table to ≡ true
+
 module _ (a m : MemoryView) (from to p : ℕ) (e : Entry) (is : IsJoined a) (m_is : IsJoined m) (same : state_of m ≡ state_of a) (there : IsSome (page_in a.table from p)) (over : overlay_at a.table from p ≡ Some e)
     (framed : frame_awaiting a.table to p ≡ frame_at a.table from p) where
   abbrev first : Has a.table from p (Some e)
@@ -228,78 +237,64 @@ module _ (a m : MemoryView) (from to p : ℕ) (e : Entry) (is : IsJoined a) (m_i
   pub share_low : p < PAGE_END
   share_low = first_held.low
 
-  pub share_there : IsSome (page_in m.table from p)
-  share_there = there_still a m from p same there
+  still_there : IsSome (page_in m.table from p)
+  still_there = there_still a m from p same there
 
   own_now : (o : Option Entry) → overlay_at m.table from p ≡ o → lines_of o ≡ e.bits
   own_now o over_m =
       ap lines_of (sym over_m)
-      ∙ same_Some _ _ (sym (own_state m from p share_there) ∙ ap (λ s. option_map (λ (x : PageState). x.own) (page_in s from p)) same ∙ own_state a from p there)
+      ∙ same_Some _ _ (sym (own_state m from p still_there) ∙ ap (λ s. option_map (λ (x : PageState). x.own) (page_in s from p)) same ∙ own_state a from p there)
       ∙ ap lines_of over
 
-  pub share_over : is_some (overlay_at m.table from p) ≡ true
-  share_over = by_option (overlay_at m.table from p)
-      (λ none. absurd (omega (arith, share_some, ap length (own_now None none))))
-      (λ f h. ap is_some h)
+  waits_same : (space_in m.table to).awaiting ≡ (space_in a.table to).awaiting
+  waits_same = sym (state_awaiting m to) ∙ ap (λ (s : State). (space_in s to).awaiting) same ∙ state_awaiting a to
 
-  pub share_bits : lines_of (overlay_at m.table from p) ≡ e.bits
-  share_bits = own_now (overlay_at m.table from p) refl
-
-  pub share_waits : (space_in m.table to).awaiting ≡ (space_in a.table to).awaiting
-  share_waits = sym (state_awaiting m to) ∙ ap (λ (s : State). (space_in s to).awaiting) same ∙ state_awaiting a to
-
-  frame_same : frame_at m.table from p ≡ frame_at a.table from p
-  frame_same = sym (frame_of_page m from p) ∙ ap (λ s. option_map (λ (x : PageState). x.entry.frame) (page_in s from p)) same ∙ frame_of_page a from p
-
-  pub share_frame : frame_awaiting m.table to p ≡ frame_at m.table from p
-  share_frame = ap (λ (t : Rattle.page_table.specs.Table.Pages). option_map (λ (f : PageEntry). f.frame) (get t p)) share_waits ∙ framed ∙ sym frame_same
-
-  pub share_space : holds_space a.table to ≡ true → holds_space m.table to ≡ true
-  share_space h = sym (state_holds m to) ∙ ap (λ s. holds_space s to) same ∙ state_holds a to ∙ h
+  -- what is asked of the tables before it is shared
+  pub still_shares : holds_space a.table to ≡ true → StillShares a m from to p e
+  still_shares space = record {
+    there = still_there;
+    over = by_option (overlay_at m.table from p) (λ none. absurd (omega (arith, share_some, ap length (own_now None none)))) (λ f h. ap is_some h);
+    bits = own_now (overlay_at m.table from p) refl;
+    waits = waits_same;
+    frame = ap (λ (t : Pages). option_map (λ (f : PageEntry). f.frame) (get t p)) waits_same ∙ framed
+        ∙ sym (sym (frame_of_page m from p) ∙ ap (λ s. option_map (λ (x : PageState). x.entry.frame) (page_in s from p)) same ∙ frame_of_page a from p);
+    space = sym (state_holds m to) ∙ ap (λ s. holds_space s to) same ∙ state_holds a to ∙ space;
+  }
 
   pub share_sets : AreLines e.bits
   share_sets = sets_are a.store from p first.x e is.store first_held first.is
 
-  abbrev then_waits : Awaits m.table from to p (overlay_at m.table from p)
-  then_waits = awaits m.table from to p (overlay_at m.table from p) share_there refl share_frame
-
-  pub share_same : page_state m.store then_waits.x ≡ page_state a.store first.x
-  share_same =
-      same_Some _ _ (sym (state_page_there m from p then_waits.x then_waits.there) ∙ ap (λ s. page_in s from p) same ∙ state_page_there a from p first.x first.there)
+  pub share_same : (x : PageView) → page_in m.table from p ≡ Some x → page_state m.store x ≡ page_state a.store first.x
+  share_same x at_x = same_Some _ _ (sym (state_page_there m from p x at_x) ∙ ap (λ s. page_in s from p) same ∙ state_page_there a from p first.x first.there)
 
 -- The page with its overlay, once it is shared.
 module _ (a m : MemoryView) (lifted began new : Store) (from to p : ℕ) (e : Entry) (block : Block) (is : IsJoined a) (m_is : IsJoined m) (same : state_of m ≡ state_of a) (there : IsSome (page_in a.table from p)) (over : overlay_at a.table from p ≡ Some e)
-    (framed : frame_awaiting a.table to p ≡ frame_at a.table from p) (space : holds_space a.table to ≡ true) (absent : page_in m.table to p ≡ None) (order_is : block.order ≡ e.block.order)
+    (framed : frame_awaiting a.table to p ≡ frame_at a.table from p) (still : StillShares a m from to p e) (absent : page_in m.table to p ≡ None) (order_is : block.order ≡ e.block.order)
     (lifts : Lifts a.store lifted e.block e.bits) (scratch : KeepsScratch lifted m.store) (so : SharesOverlay m.store began new to p block e.bits) where
   abbrev now_waits : Awaits m.table from to p (overlay_at m.table from p)
-  now_waits = awaits m.table from to p (overlay_at m.table from p) (share_there a m from to p e is m_is same there over framed) refl (share_frame a m from to p e is m_is same there over framed)
+  now_waits = awaits m.table from to p (overlay_at m.table from p) still.there refl still.frame
 
-  pub overlaid_size : 2 ^ block.order ≡ class (length e.bits)
-  overlaid_size = ap (λ k. 2 ^ k) order_is ∙ share_size a m from to p e is m_is same there over framed
+  abbrev was : Has a.table from p (Some e)
+  was = page_with a.table from p there (Some e) over
 
   abbrev now_shares : HasPlaceFor m new to p (Some (record { bits = e.bits; block = block }))
-  now_shares = shares_overlay m began new to p block e.bits m_is overlaid_size (share_some a m from to p e is m_is same there over framed) so
+  now_shares =
+      shares_overlay m began new to p block e.bits m_is (ap (λ k. 2 ^ k) order_is ∙ share_size a m from to p e is m_is same there over framed) (share_some a m from to p e is m_is same there over framed) so
 
-  pub overlaid_table : with_page_shared m.table from to p (Some block)
+  overlaid_table : with_page_shared m.table from to p (Some block)
       ≡ put_awaiting (put_page m.table to p (record { entry = now_waits.entry; overlay = Some (record { bits = e.bits; block = block }) })) to (remove (space_in m.table to).awaiting p)
   overlaid_table =
       shared_table m.table from to p (overlay_at m.table from p) (Some block) now_waits
-      ∙ ap (λ bits. put_awaiting (put_page m.table to p (record { entry = now_waits.entry; overlay = Some (record { bits = bits; block = block }) })) to (remove (space_in m.table to).awaiting p))
-      (share_bits a m from to p e is m_is same there over framed)
-
-  overlaid_joined : (table : LedgerView) → table ≡ with_page_shared m.table from to p (Some block) → IsJoined (view_of new table)
-  overlaid_joined table is_table =
-      subst (λ t. IsJoined (view_of new t)) (sym (is_table ∙ overlaid_table))
-      (share_joined m new from to p (overlay_at m.table from p) (Some (record { bits = e.bits; block = block })) m_is now_waits (share_space a m from to p e is m_is same there over framed space) absent now_shares)
-
-  overlaid_state : (table : LedgerView) → table ≡ with_page_shared m.table from to p (Some block) → state_of (view_of new table) ≡ changes.with_shared (state_of a) from to p
-  overlaid_state table is_table =
-      ap (λ t. state_of (view_of new t)) (is_table ∙ overlaid_table)
-      ∙ share_state m new from to p (overlay_at m.table from p) (Some (record { bits = e.bits; block = block })) m_is now_waits (share_space a m from to p e is m_is same there over framed space) absent now_shares
-      (lifted_page a m lifted began new from p to (page_with a.table from p there (Some e) over).x now_waits.x e now_waits.entry block e.bits (page_with a.table from p there (Some e) over).is refl (share_same a m from to p e is m_is same there over framed)
-      (m_is.held from p now_waits.x now_waits.there) (share_sets a m from to p e is m_is same there over framed) lifts scratch so now_waits.frame_is)
-      ∙ ap (λ (s : State). changes.with_shared s from to p) same
+      ∙ ap (λ bits. put_awaiting (put_page m.table to p (record { entry = now_waits.entry; overlay = Some (record { bits = bits; block = block }) })) to (remove (space_in m.table to).awaiting p)) still.bits
 
   pub overlaid : (table : LedgerView) → table ≡ with_page_shared m.table from to p (Some block)
       → IsJoined (view_of new table) × (state_of (view_of new table) ≡ changes.with_shared (state_of a) from to p)
-  overlaid table is_table = (overlaid_joined table is_table, overlaid_state table is_table)
+  overlaid table is_table =
+      let page = lifted_page a m lifted began new from p to was.x now_waits.x e now_waits.entry block e.bits was.is refl (share_same a m from to p e is m_is same there over framed now_waits.x now_waits.there)
+      (m_is.held from p now_waits.x now_waits.there) (share_sets a m from to p e is m_is same there over framed) lifts scratch so now_waits.frame_is in (
+        subst (λ t. IsJoined (view_of new t)) (sym (is_table ∙ overlaid_table))
+            (share_joined m new from to p (overlay_at m.table from p) (Some (record { bits = e.bits; block = block })) m_is now_waits still.space absent now_shares),
+        ap (λ t. state_of (view_of new t)) (is_table ∙ overlaid_table)
+            ∙ share_state m new from to p (overlay_at m.table from p) (Some (record { bits = e.bits; block = block })) m_is now_waits still.space absent now_shares page
+            ∙ ap (λ (s : State). changes.with_shared s from to p) same,
+      )
