@@ -101,9 +101,6 @@ module _ (a : MemoryView) (s p : ℕ) (e : Entry) (is : IsJoined a) (there : IsS
   was_there : page_in (state_of a) s p ≡ Some was
   was_there = state_page_there a s p own.x own.there
 
-  abbrev bare_state : State
-  bare_state = put_page (state_of a) s p (discarded was)
-
   bare_is : turned_page discarded (state_of a) s p ≡ put_page (state_of a) s p (discarded was)
   bare_is = turn_is discarded (state_of a) s p was was_there
 

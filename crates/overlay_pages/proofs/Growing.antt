@@ -84,9 +84,6 @@ bare_still a b s p is same there bare =
 
 -- The first line of an overlay.
 
-pub one_line : (line : ℕ) → with_line [] line ≡ line ∷ []
-one_line line = refl
-
 pub begins_room : (v : MemoryView) (s p line : ℕ) (bytes : List ℕ) → IsJoined v → IsSome (page_in v.table s p) → overlay_at v.table s p ≡ None
     → Fits (turned_page (joins line bytes) (state_of v) s p) → 1 ≤ free_units v.store.blocks
 begins_room v s p line bytes is there bare fits =

@@ -138,24 +138,6 @@ answer z g rest new itself named = at (nat_eq g z) refl
 -- A page that is there, with its frame given back.
 
 module _ (v : LedgerView) (counts : List ℕ) (u n : ℕ) (kept : IsBooked v counts u n) (s p : ℕ) (x : PageView) (there : page_in v s p ≡ Some x) where
-  z : ℕ
-  z = v.zero_frame
-
-  g : ℕ
-  g = x.entry.frame
-
-  l : Ledger
-  l = ledger_of v
-
-  h : Holding
-  h = holding_of v.zero_frame x
-
-  rest : Ledger
-  rest = without_page (ledger_of v) s p
-
-  less : List ℕ
-  less = released_by v.zero_frame counts x.entry.frame
-
   pub frame_low : x.entry.frame < length counts
   frame_low = subst (λ k. x.entry.frame < k) (sym kept.room) (kept.inside s p x there)
 
@@ -284,9 +266,6 @@ module _ (v : LedgerView) (counts : List ℕ) (u n : ℕ) (kept : IsBooked v cou
 -- A page with another overlay, or none.
 
 module _ (v : LedgerView) (counts : List ℕ) (u n : ℕ) (kept : IsBooked v counts u n) (sound : IsSound v) (s p : ℕ) (x : PageView) (there : page_in v s p ≡ Some x) (o : Option Entry) where
-  over : PageView
-  over = record { entry = x.entry; overlay = o }
-
   over_is : with_overlay v s p o ≡ put_page v s p (record { entry = x.entry; overlay = o })
   unfolding with_overlay
   over_is = changed_there _ v s p x there
@@ -468,6 +447,3 @@ own_is v sound s p =
 -- a page by its entry
 pub entry_page : (v : LedgerView) (s p : ℕ) (e : PageEntry) → Some e ≡ option_map (λ (x : PageView). x.entry) (page_in v s p) → (x : PageView) × (page_in v s p ≡ Some x) × (e ≡ x.entry)
 entry_page v s p e is = map_from (λ (x : PageView). x.entry) (page_in v s p) e (sym is) (λ x there same. (x, there, sym same))
-
-pub no_entry : (v : LedgerView) (s p : ℕ) → None ≡ option_map (λ (x : PageView). x.entry) (page_in v s p) → IsSome (page_in v s p) → ⊥
-no_entry v s p is there = true≢false (sym there ∙ sym (map_some (λ (x : PageView). x.entry) (page_in v s p)) ∙ ap is_some (sym is))

@@ -114,11 +114,6 @@ none_next v s page none q from =
 
 -- How many pages are zeros.
 
--- the pages before one with own lines
-pub before_overlaid : (v : LedgerView) (s page n : ℕ) (found : ℕ) → IsNextOverlaid v s page (Some found) → (i : ℕ) → i < found - page → overlay_at v s (page + i) ≡ None
-before_overlaid v s page n found next i less =
-    let low = next.0 in next.2 (page + i) (omega arith) (omega (arith, less, low))
-
 -- the entry of a page, by those of its space
 pub entry_of : (v : LedgerView) (s p : ℕ) (e : PageEntry) → get (entries_of v s) p ≡ Some e → option_map (λ (x : PageView). x.entry) (page_in v s p) ≡ Some e
 unfolding entries_of

@@ -83,9 +83,6 @@ module _ {t : Inside} {v : LedgerView} (show : Shows t v) where
 
 -- One space of the tables.
 module _ {t : Inside} {v : LedgerView} (show : Shows t v) (s : ℕ) (x : SpaceTable) (at : get t.spaces s ≡ Some x) where
-  seen_by : ℕ → ℕ → PageEntry → PageView
-  seen_by = seen_page t.overlays.entries
-
   here : space_in (plain t) s ≡ x
   here = space_there (plain t) s x at
 
