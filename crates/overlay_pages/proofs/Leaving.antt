@@ -15,7 +15,7 @@ use Rattle.space_maps.specs.Laws.{page_set_beside, there_space}
 use Rattle.space_maps.specs.Spaces.{cut_page, page_in, put_space, set_page}
 use Rattle.space_ledger.specs.View as view
 use Rattle.space_ledger.specs.View.{LedgerView, PageView, holding_of, ledger_of, lines_of}
-use Rattle.space_ledger.specs.ViewLaws.{unused_is}
+use Rattle.space_ledger.specs.ViewLaws.{given_as}
 use Rattle.space_ledger.specs.Calls.{given_up}
 use Rattle.overlay_pages.specs.View.{IsJoined, MemoryView, segment_of, state_of, view_of}
 use Rattle.overlay_pages.proofs.Steps.{Step, frame_still, not_owned, segment_still, state_stepped, stepped}
@@ -23,18 +23,9 @@ use Rattle.overlay_pages.proofs.Joining.{Has}
 
 -- A page that goes, and with it its frame, where no page names it any more.
 
--- whether a page's frame is one that nothing names, and what is given up of a page by that
+-- whether a page's frame is one that nothing names: then it is what is given up of the page
 abbrev pub is_left : LedgerView → PageView → Bool
 is_left table x = is_unused (ledger_of table) (view.origin_of table.zero_frame x.entry.frame)
-
-pub given_as : (table : LedgerView) (x : PageView) → given_up table (Some x) ≡ cond (is_left table x) (Some x.entry.frame) None
-given_as table x =
-    turned (nat_eq x.entry.frame table.zero_frame || has_origin (ledger_of table) (x.entry.frame + 1))
-    ∙ ap (λ b. cond b (Some x.entry.frame) None) (sym (unused_is (ledger_of table) table.zero_frame x.entry.frame))
-  where
-    turned : (b : Bool) → ◌≡◌ {A = Option ℕ} (cond b None (Some x.entry.frame)) (cond (not b) (Some x.entry.frame) None)
-    turned true = refl
-    turned false = refl
 
 pub is_given : (table : LedgerView) (x : PageView) → is_some (given_up table (Some x)) ≡ is_left table x
 is_given table x = ap is_some (given_as table x) ∙ by (is_left table x)

@@ -11,7 +11,7 @@ use Rattle.space_maps.specs.Laws.{after_cut, are_cut}
 use Rattle.space_maps.specs.Spaces.{cut_page, cut_pages, holds_space, page_in}
 use Rattle.space_ledger.specs.Frames.{counted_run, counted_units, frame_units, released_run, run_freed}
 use Rattle.space_ledger.specs.View.{LedgerView, PageView, ledger_of, origin_of, overlay_at}
-use Rattle.space_ledger.specs.ViewLaws.{unused_is}
+use Rattle.space_ledger.specs.ViewLaws.{given_as, unused_is}
 use Rattle.space_ledger.specs.Calls.{GivesNothingUp, GivesUpAtLast, IsBareFrom, IsBareRun, IsBooked, entries_of, given_up}
 use Rattle.space_ledger.specs.Space.{IsStartOf}
 use Rattle.space_ledger.proofs.Booked.{in_pages}
@@ -43,12 +43,7 @@ given_by_count : (v : LedgerView) (counts : List ℕ) (u n : ℕ) → IsBooked v
     → given_up v (Some x) ≡ given_by v.zero_frame counts x.entry.frame
 unfolding given_by
 given_by_count v counts u n kept x low =
-    turned (nat_eq x.entry.frame v.zero_frame || has_origin (ledger_of v) (x.entry.frame + 1))
-    ∙ ap (λ b. cond b (Some x.entry.frame) None) (sym (unused_is (ledger_of v) v.zero_frame x.entry.frame) ∙ sym (unused_by_count (ledger_of v) v.zero_frame v.frames x.entry.frame counts kept.counted low))
-  where
-    turned : (b : Bool) → ◌≡◌ {A = Option ℕ} (cond b None (Some x.entry.frame)) (cond (not b) (Some x.entry.frame) None)
-    turned true = refl
-    turned false = refl
+    given_as v x ∙ ap (λ b. cond b (Some x.entry.frame) None) (sym (unused_by_count (ledger_of v) v.zero_frame v.frames x.entry.frame counts kept.counted low))
 
 given_still : (z f : ℕ) (a b : List ℕ) → ((f ≡ z → ⊥) → sharers_of a f ≡ sharers_of b f) → given_by z a f ≡ given_by z b f
 unfolding given_by
