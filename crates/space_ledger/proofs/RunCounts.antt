@@ -5,11 +5,18 @@ use Rattle.ledger.specs.AloneLaws.{are}
 use Rattle.page_table.specs.Run.{entry_at}
 use Rattle.page_table.specs.declared.entry.PageEntry.{PageEntry}
 use Rattle.page_table.specs.declared.run.PageRun.{PageRun}
-use Rattle.space_ledger.specs.Frames.{counted_run, counted_units, frame_units, held_by, released_by, units_held, units_released}
+use Rattle.space_ledger.specs.Frames.{counted_run, counted_units, frame_units, held_by, released_by}
 use Rattle.space_ledger.proofs.Booking.{held_zero, released_zero}
 use Rattle.space_ledger.proofs.Numbers.{length_held, length_released}
 
 -- The counts of a run, page by page, whether its pages come or go.
+
+-- the units of a page that comes, and of one that goes
+abbrev pub units_held : ℕ → List ℕ → List ℕ → ℕ → ℕ
+units_held zero_frame before after frame = frame_units zero_frame before frame
+
+abbrev pub units_released : ℕ → List ℕ → List ℕ → ℕ → ℕ
+units_released zero_frame before after frame = frame_units zero_frame after frame
 
 -- what a page does to the counts and to the units
 pub record Counts (z : ℕ) (step : List ℕ → ℕ → List ℕ) (cost : List ℕ → List ℕ → ℕ → ℕ) : Type 0 where

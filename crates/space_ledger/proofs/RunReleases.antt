@@ -5,9 +5,9 @@ use Rattle.frame_pool.specs.Laws.{released_other}
 use Rattle.page_table.specs.Run.{entry_at}
 use Rattle.page_table.specs.declared.entry.PageEntry.{PageEntry}
 use Rattle.page_table.specs.declared.run.PageRun.{PageRun}
-use Rattle.space_ledger.specs.Frames.{counted_run, counted_units, frame_units, released_by, released_run, run_freed, units_released}
+use Rattle.space_ledger.specs.Frames.{counted_run, counted_units, frame_units, released_by, released_run, run_freed}
 use Rattle.space_ledger.proofs.Booking.{by_two, released_beside}
-use Rattle.space_ledger.proofs.RunCounts.{HasCounted}
+use Rattle.space_ledger.proofs.RunCounts.{units_released, HasCounted}
 
 -- The counts of a run whose pages go.
 

@@ -27,21 +27,15 @@ counted_units step cost counts run zero = 0
 counted_units step cost counts run (suc k) =
     counted_units step cost counts run k + cost (counted_run step counts run k) (counted_run step counts run (suc k)) (entry_at run k).frame
 
--- pages that come, and pages that go
-abbrev pub units_held : ℕ → List ℕ → List ℕ → ℕ → ℕ
-units_held zero_frame before after frame = frame_units zero_frame before frame
-
-abbrev pub units_released : ℕ → List ℕ → List ℕ → ℕ → ℕ
-units_released zero_frame before after frame = frame_units zero_frame after frame
-
+-- of pages that come, and of pages that go
 abbrev pub held_run : ℕ → List ℕ → PageRun → ℕ → List ℕ
 held_run zero_frame counts run k = counted_run (held_by zero_frame) counts run k
 
 abbrev pub run_units : ℕ → List ℕ → PageRun → ℕ → ℕ
-run_units zero_frame counts run k = counted_units (held_by zero_frame) (units_held zero_frame) counts run k
+run_units zero_frame counts run k = counted_units (held_by zero_frame) (λ before after. frame_units zero_frame before) counts run k
 
 abbrev pub released_run : ℕ → List ℕ → PageRun → ℕ → List ℕ
 released_run zero_frame counts run k = counted_run (released_by zero_frame) counts run k
 
 abbrev pub run_freed : ℕ → List ℕ → PageRun → ℕ → ℕ
-run_freed zero_frame counts run k = counted_units (released_by zero_frame) (units_released zero_frame) counts run k
+run_freed zero_frame counts run k = counted_units (released_by zero_frame) (λ before after. frame_units zero_frame after) counts run k

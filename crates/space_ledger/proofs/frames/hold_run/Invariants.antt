@@ -1,5 +1,5 @@
-use Rattle.space_ledger.specs.Frames.{held_by, units_held}
-use Rattle.space_ledger.proofs.RunCounts.{HasCounted}
+use Rattle.space_ledger.specs.Frames.{held_by}
+use Rattle.space_ledger.proofs.RunCounts.{units_held, HasCounted}
 use Rattle.space_ledger.proofs.frames.hold_run.Given as goal
 
 abbrev pub invariant-holding : goal.invariant-holding

@@ -1,5 +1,5 @@
-use Rattle.space_ledger.specs.Frames.{released_by, units_released}
-use Rattle.space_ledger.proofs.RunCounts.{HasCounted}
+use Rattle.space_ledger.specs.Frames.{released_by}
+use Rattle.space_ledger.proofs.RunCounts.{units_released, HasCounted}
 use Rattle.space_ledger.proofs.frames.release_run.Given as goal
 
 abbrev pub invariant-releasing : goal.invariant-releasing
