@@ -167,11 +167,7 @@ module _ (first now : MemoryView) (s p : ℕ) (lines front rest : List ℕ) (lin
   pub one_brought : (after : MemoryView) → IsJoined after → state_of after ≡ turned_page (brought (line ∷ [])) (state_of now) s p → HasBrought first after s p lines (front ++ (line ∷ [])) more
   one_brought after joined state = record { whole = next_is; joined = joined; state = state ∙ next_state }
 
--- The frame of a page's entry.
-pub entry_frame : (v : LedgerView) (s p : ℕ) (entry : PageEntry) → option_map (λ (x : PageView). x.entry) (page_in v s p) ≡ Some entry → option_map (λ (x : PageView). x.entry.frame) (page_in v s p) ≡ Some entry.frame
-entry_frame v s p entry is = map_from (λ (x : PageView). x.entry) (page_in v s p) entry is
-    (λ x e same. ap (option_map (λ (y : PageView). y.entry.frame)) e ∙ ap (λ (f : PageEntry). Some f.frame) same)
-
+-- The frame of a page's entry is one of the store's.
 pub frame_in : (v : MemoryView) (s p : ℕ) (entry : PageEntry) → IsJoined v → option_map (λ (x : PageView). x.entry) (page_in v.table s p) ≡ Some entry → 16 * entry.frame + 16 ≤ units_in v.store.blocks
 frame_in v s p entry is at_entry = map_from (λ (x : PageView). x.entry) (page_in v.table s p) entry at_entry
     (λ x e same. omega (arith, frame_inside v.store is.store x.entry.frame (is.held s p x e).frame, ap (λ (f : PageEntry). f.frame) same))
