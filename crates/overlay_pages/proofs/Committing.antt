@@ -26,6 +26,7 @@ use Rattle.overlay_pages.specs.ViewLaws.{state_awaiting, state_books, state_hold
 use Rattle.overlay_pages.proofs.Steps.{Rewrites, rewritten_joined, rewritten_state, seen_bare, seen_inside, seen_outside}
 use Rattle.overlay_pages.proofs.Joining.{Has, page_with}
 use Rattle.overlay_pages.proofs.Growing.{free_is, turn_is, turned_limit, turned_units}
+use Rattle.overlay_pages.proofs.NewFrames.{new_still}
 use Rattle.overlay_pages.proofs.Lending.{alone_frame, alone_not_zero}
 
 -- A frame that is a page's alone is filled.
@@ -128,23 +129,14 @@ module _ (a : MemoryView) (s p : ℕ) (e : Entry) (is : IsJoined a) (there : IsS
 
   -- an origin is unused before where it is unused now
   new_then : (frame : ℕ) → IsNewFrame (put_page (state_of a) s p (discarded was)) frame → IsNewFrame (state_of a) frame
-  unfolding put_page put_space
-  new_then frame fresh = record { inside = fresh.inside; other = fresh.other; unused = unused }
+  new_then frame fresh = new_still (state_of a) s p (discarded was) frame (λ none. sym same ∙ none) fresh
     where
-      now : Holding
-      now = held_page (state_of a).zero_frame (discarded was)
-
       same : has_origin (books (put_page (state_of a) s p (discarded was))) (frame + 1) ≡ has_origin (books (state_of a)) (frame + 1)
       same =
-          ap (λ (l : Ledger). has_origin l (frame + 1)) (books_put_page held_page (state_of a) s p (discarded was)) ∙ origin_with (books (state_of a)) s p now (frame + 1)
+          ap (λ (l : Ledger). has_origin l (frame + 1)) (books_put_page held_page (state_of a) s p (discarded was))
+          ∙ origin_with (books (state_of a)) s p (held_page (state_of a).zero_frame (discarded was)) (frame + 1)
           ∙ sym (origin_with (books (state_of a)) s p (held_page (state_of a).zero_frame was) (frame + 1))
           ∙ ap (λ (l : Ledger). has_origin l (frame + 1)) (put_again (books (state_of a)) s p (held_page (state_of a).zero_frame was) held_before)
-
-      parts : (nat_eq (frame + 1) 0 ≡ false) × (has_origin (books (put_page (state_of a) s p (discarded was))) (frame + 1) ≡ false)
-      parts = unused_parts (books (put_page (state_of a) s p (discarded was))) (frame + 1) fresh.unused
-
-      unused : is_unused (books (state_of a)) (frame + 1) ≡ true
-      unused = unused_from (books (state_of a)) (frame + 1) parts.0 (sym same ∙ parts.1)
 
   -- the lines that were composed are those that the page has
   pub composed_lines_are : (d : MemoryView) (frame : ℕ) (out : List (List ℕ)) → ((i : ℕ) → i < 64 → has_line e.bits i ≡ true → scratch_line d.store i ≡ line_in a.store e.block i)

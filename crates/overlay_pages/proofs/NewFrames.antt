@@ -9,7 +9,7 @@ use Rattle.ledger.specs.Ledger.{Holding, Ledger, has_origin, holding_at, is_alon
 use Rattle.ledger.specs.Units.{class, units}
 use Rattle.ledger.specs.ClassLaws.{class_none}
 use Rattle.ledger.specs.UnitLaws.{frame_for, units_changed}
-use Rattle.ledger.specs.AloneLaws.{arent, holder, not_true, unused_from, unused_without}
+use Rattle.ledger.specs.AloneLaws.{arent, holder, not_true, unused_from, unused_parts, unused_without}
 use Rattle.segment_store.specs.Kept.{IsStore}
 use Rattle.segment_store.specs.Store.{Store, IsFrame, frame_line}
 use Rattle.segment_store.specs.Changes.{KeepsFrame, KeepsFrames, KeepsSegments}
@@ -17,11 +17,12 @@ use Rattle.segment_store.specs.Laws.{frame_inside}
 use Rattle.space_maps.specs.Options.{map_from}
 use Rattle.space_maps.specs.Books.{books_page, books_put_page}
 use Rattle.space_maps.specs.Laws.{changed_there, set_some, there_space}
-use Rattle.space_maps.specs.Spaces.{page_in, put_page, set_page}
+use Rattle.space_maps.specs.Spaces.{page_in, put_page, put_space, set_page}
 use Rattle.space_ledger.specs.View as view
 use Rattle.space_ledger.specs.View.{LedgerView, PageView, holding_of, ledger_of, lines_of, overlay_at, with_frame}
 use Rattle.overlay_pages.specs.Lines.{page_lines}
 use Rattle.overlay_pages.specs.LineLaws.{lines_same}
+use Rattle.overlay_pages.specs.State.{PageState, State, books}
 use Rattle.overlay_pages.specs.Changes.{IsNewFrame, IsPlaced, moved_to}
 use Rattle.overlay_pages.specs.Steps.{FillsFrame}
 use Rattle.overlay_pages.specs.View.{IsHeld, IsJoined, MemoryView, page_state, segment_of, state_of, view_of}
@@ -45,6 +46,14 @@ nobody_has v frame none = not_true (has_origin (ledger_of v) (frame + 1)) (λ ha
     let h = holder (ledger_of v) (frame + 1) had in
     map_from (holding_of v.zero_frame) (page_in v h.space h.page) h.holding (sym (books_page holding_of v h.space h.page) ∙ h.there)
     (λ y there same. none h.space h.page y there (origin_named v.zero_frame frame y.entry.frame (ap (λ (k : Holding). nat_eq k.origin (frame + 1)) same ∙ h.passes))))
+
+-- A frame that is new where a page is another one was new before, if no page had it.
+pub new_still : (st : State) (s p : ℕ) (y : PageState) (frame : ℕ) → (has_origin (books (put_page st s p y)) (frame + 1) ≡ false → has_origin (books st) (frame + 1) ≡ false)
+    → IsNewFrame (put_page st s p y) frame → IsNewFrame st frame
+unfolding put_page put_space
+new_still st s p y frame back fresh =
+    let parts = unused_parts (books (put_page st s p y)) (frame + 1) fresh.unused in
+    record { inside = fresh.inside; other = fresh.other; unused = unused_from (books st) (frame + 1) parts.0 (back parts.1) }
 
 -- A page gets a new frame.
 pub record TakesFrame (old taken filled : Store) (frame : ℕ) (given : ℕ → List ℕ) : Type 0 where

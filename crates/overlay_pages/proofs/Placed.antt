@@ -30,6 +30,7 @@ use Rattle.overlay_pages.specs.Changes.{IsNewFrame, IsPlaced, whole_page, with_z
 use Rattle.overlay_pages.specs.Calls.{IsEmptyState}
 use Rattle.overlay_pages.specs.View.{IsJoined, MemoryView, page_state, state_of, view_of}
 use Rattle.overlay_pages.specs.ViewLaws.{state_page_there}
+use Rattle.overlay_pages.proofs.NewFrames.{new_still}
 use Rattle.overlay_pages.proofs.Growing.{turn_is}
 use Rattle.overlay_pages.proofs.Joining.{page_with}
 
@@ -83,28 +84,15 @@ module _ (st : State) (s p : ℕ) (entry : PageEntry) (there : holds_space st s 
   without = without_absent (books st) s p (books_spaces held_page st s ∙ there) not_held
 
   new_before : (frame : ℕ) → IsNewFrame with_zero_page frame → IsNewFrame st frame
-  unfolding put_page put_space
-  new_before frame fresh = record { inside = fresh.inside; other = fresh.other; unused = unused }
+  new_before frame fresh = new_still st s p (whole_page entry zero_page) frame (λ none.
+      right (nat_eq (view.origin_of st.zero_frame entry.frame) (frame + 1)) (has_origin (books st) (frame + 1))
+      (ap (λ (l : Ledger). nat_eq (view.origin_of st.zero_frame entry.frame) (frame + 1) || has_origin l (frame + 1)) (sym without)
+      ∙ sym (origin_with (books st) s p (held_page st.zero_frame (whole_page entry zero_page)) (frame + 1))
+      ∙ ap (λ (l : Ledger). has_origin l (frame + 1)) (sym (books_put_page held_page st s p (whole_page entry zero_page))) ∙ none)) fresh
     where
-      parts : (nat_eq (frame + 1) 0 ≡ false) × (has_origin (books (put_page st s p (whole_page entry zero_page))) (frame + 1) ≡ false)
-      parts = unused_parts (books (put_page st s p (whole_page entry zero_page))) (frame + 1) fresh.unused
-
-      none : has_origin (books st) (frame + 1) ≡ false
-      none = at (has_origin (books st) (frame + 1)) refl
-        where
-          at : (b : Bool) → has_origin (books st) (frame + 1) ≡ b → has_origin (books st) (frame + 1) ≡ false
-          at false h = h
-          at true h =
-              let now = ap (λ (l : Ledger). has_origin l (frame + 1)) (books_put_page held_page st s p (whole_page entry zero_page)) ∙ origin_with (books st) s p (held_page st.zero_frame (whole_page entry zero_page)) (frame + 1) in
-              let some : has_origin (without_page (books st) s p) (frame + 1) ≡ true = ap (λ (l : Ledger). has_origin l (frame + 1)) without ∙ h in
-              absurd (true≢false (sym (ap (λ b. nat_eq (view.origin_of st.zero_frame entry.frame) (frame + 1) || b) some ∙ or_true (nat_eq (view.origin_of st.zero_frame entry.frame) (frame + 1))) ∙ sym now ∙ parts.1))
-            where
-              or_true : (b : Bool) → (b || true) ≡ true
-              or_true true = refl
-              or_true false = refl
-
-      unused : is_unused (books st) (frame + 1) ≡ true
-      unused = unused_from (books st) (frame + 1) parts.0 none
+      right : (a b : Bool) → (a || b) ≡ false → b ≡ false
+      right true b h = cc
+      right false b h = h
 
   pub placed_before : (new : State) (at : ℕ → PageState) → IsPlaced with_zero_page new s p at → IsPlaced st new s p at
   placed_before new at is = record { frame = is.frame; fresh = new_before is.frame is.fresh; placed = is.placed ∙ page_over st s p (whole_page entry zero_page) (at is.frame) }
