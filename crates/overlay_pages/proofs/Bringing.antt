@@ -17,7 +17,7 @@ use Rattle.space_maps.specs.Options.{map_from, by_option}
 use Rattle.space_maps.specs.Laws.{page_again, page_put_here}
 use Rattle.space_maps.specs.Spaces.{page_in, put_page, turned_page}
 use Rattle.space_ledger.specs.Joined.{put_same}
-use Rattle.space_ledger.specs.View.{LedgerView, PageView, lines_of, overlay_at}
+use Rattle.space_ledger.specs.View.{PageView, lines_of, overlay_at}
 use Rattle.overlay_pages.specs.Lines.{page_lines}
 use Rattle.overlay_pages.specs.State.{PageState}
 use Rattle.overlay_pages.specs.Changes.{Fits, brought, limit_of, units_of}

@@ -1,20 +1,18 @@
-use Rattle.std.proofs.Common.{option_map, ◌≡◌, ℕ, ◌+◌, ◌*◌, ◌<◌, ◌≤◌, Bool, true, false, cond, nat_eq, List, [], Option, Some, None, IfSome, IsSome, is_some, drop, take, get_or, refl, sym, ap, subst, ◌∙◌, arith}
+use Rattle.std.proofs.Common.{option_map, ◌≡◌, ℕ, ◌+◌, ◌*◌, ◌<◌, ◌≤◌, Bool, true, false, cond, List, [], Option, Some, None, IfSome, IsSome, drop, take, get_or, refl, sym, ap, subst, ◌∙◌, arith}
 use Rattle.std.proofs.lemmas.Option.{same_Some}
 use Rattle.std.specs.FinMap.{empty}
-use Rattle.unit_map.specs.Pieces.{free_units}
 use Rattle.overlay_bits.specs.Lines.{has_line}
 use Rattle.overlay_bits.specs.Composed.{composed, composed_at}
 use Rattle.overlay_mapping_table.specs.declared.entry.Entry.{Entry}
-use Rattle.ledger.specs.Ledger.{Holding, Ledger, has_origin, holding_at, is_alone, is_unused}
+use Rattle.ledger.specs.Ledger.{Ledger, has_origin, holding_at, is_alone}
 use Rattle.ledger.specs.PlaceLaws.{put_again}
 use Rattle.ledger.specs.ClassLaws.{class_none}
 use Rattle.ledger.specs.AloneLaws.{origin_with, unused_from, unused_parts}
-use Rattle.segment_store.specs.Kept.{IsStore}
 use Rattle.segment_store.specs.Store.{Store, IsFrame, frame_line, frame_page, frame_place, line_in, place_of, scratch_line, scratch_page, segment_at}
-use Rattle.segment_store.specs.Changes.{KeepsFrames, KeepsScratch, Lifts}
+use Rattle.segment_store.specs.Changes.{KeepsFrames}
 use Rattle.space_maps.specs.Books.{books_page, books_put_page}
 use Rattle.space_maps.specs.Laws.{keeps_page_put, page_again, page_over, page_put_here, there_space}
-use Rattle.space_maps.specs.Spaces.{page_in, put_page, put_space, space_in, turned_page}
+use Rattle.space_maps.specs.Spaces.{page_in, put_page, space_in, turned_page}
 use Rattle.space_ledger.specs.View.{LedgerView, PageView, ledger_of, lines_of, overlay_at}
 use Rattle.overlay_pages.specs.Lines.{line_in_page, page_lines, same_lines}
 use Rattle.overlay_pages.specs.LineLaws.{lines_same}
@@ -22,10 +20,10 @@ use Rattle.overlay_pages.specs.State.{PageState, State, books, held_page}
 use Rattle.overlay_pages.specs.Changes.{HasCopyRoom, IsNewFrame, IsPlaced, committed, copied, discarded, limit_of, moved_to, units_of}
 use Rattle.overlay_pages.specs.Steps.{FillsFrame}
 use Rattle.overlay_pages.specs.View.{IsHeld, IsJoined, MemoryView, line_seen, page_state, segment_of, state_of, view_of}
-use Rattle.overlay_pages.specs.ViewLaws.{state_awaiting, state_books, state_holds, state_page_some, state_page_there}
+use Rattle.overlay_pages.specs.ViewLaws.{state_awaiting, state_books, state_holds, state_page_there}
 use Rattle.overlay_pages.proofs.Steps.{Rewrites, rewritten_joined, rewritten_state, seen_bare, seen_inside, seen_outside}
 use Rattle.overlay_pages.proofs.Joining.{Has, page_with}
-use Rattle.overlay_pages.proofs.Growing.{free_is, turn_is, turned_limit, turned_units}
+use Rattle.overlay_pages.proofs.Growing.{turn_is, turned_units}
 use Rattle.overlay_pages.proofs.NewFrames.{new_still}
 use Rattle.overlay_pages.proofs.Lending.{alone_frame, alone_not_zero}
 

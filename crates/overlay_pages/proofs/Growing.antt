@@ -1,4 +1,4 @@
-use Rattle.std.proofs.Common.{◌≡◌, ℕ, ◌+◌, ◌^◌, ◌<◌, ◌≤◌, Bool, true, false, cond, nat_eq, List, [], ◌∷◌, Option, Some, None, IsSome, is_some, length, slice_set, refl, sym, ap, ◌∙◌, arith}
+use Rattle.std.proofs.Common.{◌≡◌, ℕ, ◌+◌, ◌^◌, ◌<◌, ◌≤◌, Bool, true, false, cond, nat_eq, List, [], Option, Some, None, IsSome, is_some, length, slice_set, refl, sym, ap, ◌∙◌, arith}
 use Rattle.std.specs.Option.{option_and_then, option_map, option_map_or}
 use Rattle.std.specs.FinMap.{get, insert}
 use Rattle.unit_map.specs.Pieces.{free_units, units_in}
@@ -12,7 +12,7 @@ use Rattle.ledger.specs.ClassLaws.{class_none, class_one}
 use Rattle.segment_store.specs.Kept.{IsStore}
 use Rattle.segment_store.specs.Pointers.{capacity_of}
 use Rattle.segment_store.specs.Store.{Store, frame_line, line_in, scratch_line}
-use Rattle.segment_store.specs.Changes.{KeepsFrames, KeepsScratch, KeepsSegments, Lifts}
+use Rattle.segment_store.specs.Changes.{KeepsFrames, KeepsSegments}
 use Rattle.segment_store.specs.Laws.{count_fits}
 use Rattle.space_maps.specs.Options.{map_alike, by_option}
 use Rattle.space_maps.specs.Books.{books_page, books_put_page}

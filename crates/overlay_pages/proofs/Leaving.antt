@@ -1,4 +1,4 @@
-use Rattle.std.proofs.Common.{◌≡◌, ℕ, ◌+◌, ◌||◌, Bool, true, false, cond, not, nat_eq, Option, Some, None, is_some, length, refl, true≢false, option_and_then, option_map, sym, ap, subst, ◌∙◌, arith, inl}
+use Rattle.std.proofs.Common.{◌≡◌, ℕ, ◌+◌, Bool, true, false, cond, nat_eq, Option, Some, None, is_some, length, refl, true≢false, option_and_then, option_map, sym, ap, subst, ◌∙◌, arith, inl}
 use Rattle.std.proofs.lemmas.Option.{none-some}
 use Rattle.unit_map.specs.Pieces.{free_units, units_in}
 use Rattle.overlay_mapping_table.specs.declared.entry.Entry.{Entry}

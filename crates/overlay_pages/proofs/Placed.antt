@@ -12,7 +12,7 @@ use Rattle.ledger.specs.Units.{units, units_of}
 use Rattle.ledger.specs.ClassLaws.{class_none}
 use Rattle.ledger.specs.TallyLaws.{no_holdings}
 use Rattle.ledger.specs.UnitLaws.{alone_is, frame_for, no_units, units_new}
-use Rattle.ledger.specs.AloneLaws.{origin_with, unused_from, unused_parts, without_absent}
+use Rattle.ledger.specs.AloneLaws.{origin_with, without_absent}
 use Rattle.segment_store.specs.declared.segment.Segment.{Segment}
 use Rattle.segment_store.specs.Kept.{IsStore}
 use Rattle.segment_store.specs.Store.{Store, IsFrame, frame_line, segment_at}
@@ -20,7 +20,7 @@ use Rattle.segment_store.specs.Changes.{IsEmptyStore}
 use Rattle.segment_store.specs.Laws.{frame_inside}
 use Rattle.space_maps.specs.Books.{books_empty, books_page, books_put_page, books_spaces}
 use Rattle.space_maps.specs.Laws.{changed_there, cut_over, page_absent, page_over, page_put_here}
-use Rattle.space_maps.specs.Spaces.{cut_page, holds_space, page_in, put_page, put_pages, put_space, turned_page}
+use Rattle.space_maps.specs.Spaces.{cut_page, holds_space, page_in, put_page, put_pages, turned_page}
 use Rattle.space_maps.specs.Mapped.{mapped, mapped_none}
 use Rattle.space_ledger.specs.View as view
 use Rattle.space_ledger.specs.View.{LedgerView, PageView, SpaceView, holding_of, ledger_of, overlay_at, with_overlay, with_zero_pages}

@@ -1,4 +1,4 @@
-use Rattle.std.proofs.Common.{◌≡◌, ℕ, ◌+◌, ◌*◌, ◌≤◌, ◌<◌, ◌&&◌, Bool, true, false, cond, not, List, [], ◌∷◌, Option, Some, None, IfSome, IsSome, is_some, length, refl, nat_cmp, sym, ap, subst, ◌∙◌, arith}
+use Rattle.std.proofs.Common.{true≢false, ◌≡◌, ℕ, ◌+◌, ◌*◌, ◌≤◌, ◌<◌, ◌&&◌, Bool, true, false, cond, not, List, [], ◌∷◌, Option, Some, None, IfSome, IsSome, is_some, length, refl, nat_cmp, sym, ap, subst, ◌∙◌, arith}
 use Rattle.std.proofs.lemmas.Option.{none-some}
 use Rattle.std.specs.Option.{option_and_then, option_map, option_map_or}
 use Rattle.std.specs.FinMap.{FinMap, empty, get, get-empty, len}
@@ -17,7 +17,7 @@ use Rattle.ledger.specs.Events.{Store, ledger_after}
 use Rattle.ledger.specs.StoreLaws.{store_joins, store_nothing, units_joined}
 use Rattle.ledger.specs.Changes.{with_lines}
 use Rattle.segment_store.specs.Store as store
-use Rattle.space_maps.specs.Options.{map_twice, by_option}
+use Rattle.space_maps.specs.Options.{map_twice, by_option, by_test}
 use Rattle.space_maps.specs.Books.{books_added, books_awaiting, books_lost, books_marked, books_page}
 use Rattle.space_maps.specs.Laws.{page_added, page_awaited, page_lost, page_marked, there_cut, there_put}
 use Rattle.space_maps.specs.Spaces.{bare_space, cut_space, holds_space, page_in, put_awaiting, put_mark, put_space, space_in, turned_page}
@@ -87,11 +87,9 @@ next_state v q r (Some p) is = (is.0, state_page_some v q p ∙ is.1, λ n low b
 
 pub pages_few : (v : MemoryView) (s : ℕ) → IsJoined v → len (space_in v.table s).pages ≤ PAGE_END
 unfolding page_in
-pages_few v s is = len_low PAGE_END (space_in v.table s).pages (λ q there. low q (get (space_in v.table s).pages q) refl there)
-  where
-    low : (q : ℕ) (o : Option PageView) → get (space_in v.table s).pages q ≡ o → IsSome (get (space_in v.table s).pages q) → q < PAGE_END
-    low q None e there = let no = sym there ∙ ap is_some e in cc
-    low q (Some x) e there = (is.held s q x e).low
+pages_few v s is = len_low PAGE_END (space_in v.table s).pages (λ q there. by_option (get (space_in v.table s).pages q)
+    (λ none. absurd (true≢false (sym there ∙ ap is_some none)))
+    (λ x e. (is.held s q x e).low))
 
 -- how a store rises
 pub rises_state : (v : MemoryView) (s p : ℕ) (lines : List ℕ) (rise : ℕ) → calls.RisesBy v.table s p lines rise → calls.RisesBeside v.table s p lines rise → RisesBy (state_of v) s p lines rise
@@ -103,22 +101,15 @@ rises_state v s p lines rise one both = record {
 }
 
 pub rise_few : (v : MemoryView) (s p : ℕ) (lines : List ℕ) (rise : ℕ) → IsSome (page_in v.table s p) → calls.RisesBy v.table s p lines rise → rise ≤ 16
-rise_few v s p lines rise there one = by_frame (not (space_in v.table s).speculating && is_alone (ledger_of v.table) s p) refl
-  where
-    l : Ledger
-    l = ledger_of v.table
-
-    by_page : (o : Option PageView) → page_in v.table s p ≡ o → (not (space_in v.table s).speculating && is_alone (ledger_of v.table) s p) ≡ false → rise ≤ 16
-    by_page None e frame = let no = sym there ∙ ap is_some e in cc
-    by_page (Some x) e frame =
-        let held = books_page holding_of v.table s p ∙ ap (option_map (holding_of v.table.zero_frame)) e in
-        let more = units_joined (ledger_of v.table) s p lines (holding_of v.table.zero_frame x) held in
-        let after = ap units (store_joins (space_in v.table s).speculating (ledger_of v.table) s p lines frame) in
-        omega (arith, one, after, more, class_most (length (with_lines (lines_of x.overlay) lines)))
-
-    by_frame : (b : Bool) → (not (space_in v.table s).speculating && is_alone (ledger_of v.table) s p) ≡ b → rise ≤ 16
-    by_frame true frame = let same = ap units (store_nothing (space_in v.table s).speculating (ledger_of v.table) s p lines frame) in omega (arith, one, same)
-    by_frame false frame = by_page (page_in v.table s p) refl frame
+rise_few v s p lines rise there one = by_test (not (space_in v.table s).speculating && is_alone (ledger_of v.table) s p)
+    (λ frame. let same = ap units (store_nothing (space_in v.table s).speculating (ledger_of v.table) s p lines frame) in omega (arith, one, same))
+    (λ frame. by_option (page_in v.table s p)
+    (λ none. absurd (true≢false (sym there ∙ ap is_some none)))
+    (λ x is.
+    let held = books_page holding_of v.table s p ∙ ap (option_map (holding_of v.table.zero_frame)) is in
+    let more = units_joined (ledger_of v.table) s p lines (holding_of v.table.zero_frame x) held in
+    let after = ap units (store_joins (space_in v.table s).speculating (ledger_of v.table) s p lines frame) in
+    omega (arith, one, after, more, class_most (length (with_lines (lines_of x.overlay) lines)))))
 
 -- Tables that have the same pages.
 

@@ -1,7 +1,6 @@
-use Rattle.std.specs.Prelude.{◌≡◌, ℕ, Option, Some, None, refl}
-use Rattle.std.proofs.Common.{subst, ap}
-use Rattle.std.specs.Option.{option_map, option_map_or}
-use Rattle.ovl_io.specs.declared.perms.Perms.{Perms}
+use Rattle.std.specs.Prelude.{◌≡◌, ℕ, Some}
+use Rattle.std.proofs.Common.{subst}
+use Rattle.std.specs.Option.{option_map}
 use Rattle.overlay_pages.specs.declared.spots.FoundLine.{FoundLine}
 use Rattle.overlay_pages.specs.Spots.{IsFoundAt}
 use Rattle.overlay_pages.specs.State.{PageState}

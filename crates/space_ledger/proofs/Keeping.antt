@@ -1,4 +1,4 @@
-use Rattle.std.proofs.Common.{◌≡◌, ℕ, ◌+◌, ◌*◌, ◌≤◌, ◌<◌, Bool, true, false, cond, nat_lt, [], length, Option, Some, None, is_some, refl, nat_cmp, sym, ap, subst, ◌∙◌, arith}
+use Rattle.std.proofs.Common.{◌≡◌, ℕ, ◌+◌, ◌*◌, ◌≤◌, ◌<◌, Bool, true, false, cond, nat_lt, length, Option, Some, None, is_some, refl, nat_cmp, sym, ap, subst, ◌∙◌, arith}
 use Rattle.std.proofs.lemmas.Option.{none-some, same_Some}
 use Rattle.std.proofs.lemmas.Bool.Decides.{nat_tests}
 use Rattle.std.specs.FinMap.{empty, get, get-empty, insert, len, remove}
@@ -17,7 +17,7 @@ use Rattle.ledger.specs.AloneLaws.{without_absent}
 use Rattle.ledger.specs.TallyLaws.{tally_at, tally_changed, tally_empty, tally_put}
 use Rattle.space_maps.specs.Options.{none_by}
 use Rattle.space_maps.specs.Spaces.{bare_space, cut_page, cut_space, holds_space, page_in, put_awaiting, put_mark, put_page, put_shared, put_space, space_in}
-use Rattle.space_maps.specs.Laws.{KeepsSpaces, beside_space, in_space, keeps_page_cut, keeps_page_put, page_absent, page_cut_beside, page_cut_here, page_of, page_put_beside, page_put_here, put_shared_as, space_left, there_space}
+use Rattle.space_maps.specs.Laws.{beside_space, in_space, keeps_page_cut, keeps_page_put, page_absent, page_cut_beside, page_cut_here, page_of, page_put_beside, page_put_here, put_shared_as, space_left, there_space}
 use Rattle.space_maps.specs.Books.{books_absent, books_cut, books_cut_page, books_kept, books_put, books_put_page, books_put_shared, books_spaces, books_there}
 use Rattle.space_ledger.specs.View.{LedgerView, PageView, SpaceView, holding_of, ledger_of, lines_of}
 use Rattle.space_ledger.specs.Kept.{IsKept}

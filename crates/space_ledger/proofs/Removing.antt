@@ -13,7 +13,7 @@ use Rattle.space_maps.specs.Laws.{after_cut, page_of}
 use Rattle.space_ledger.specs.declared.tables.Tables.TheInside.{Inside}
 use Rattle.space_ledger.specs.Space.{SpaceTable, IsCounted, pages_below, pages_from, without_page, without_pages}
 use Rattle.space_ledger.specs.View.{LedgerView, PageView, overlay_at}
-use Rattle.space_ledger.specs.Calls.{AreBare, AreBareOnZero, IsNextOverlaid, entries_of}
+use Rattle.space_ledger.specs.Calls.{AreBare, AreBareOnZero, entries_of}
 use Rattle.space_ledger.proofs.Parts.{all_inside, from_at, in_table, same_space}
 use Rattle.space_ledger.proofs.Seen.{Shows, entry_there, there_is, with_spaces}
 use Rattle.space_ledger.proofs.TableOps.{shown_gone, shown_still}
@@ -126,9 +126,11 @@ pub zeros_of_run : (v : LedgerView) (s page : ℕ) (run : PageRun) (few many : �
 zeros_of_run v s page run few many first fits inside start on_zero bare i less =
     let same = start (omega (arith, less, fits)) in
     let entry : get (entries_of v s) (page + i) ≡ Some (entry_at run i) = ap (λ p. get (entries_of v s) (p + i)) (sym same) ∙ first.has i (omega (arith, less, fits, inside)) in
-    let entry_is = entry_of v s (page + i) (entry_at run i) entry in
-    (map_from (λ (x : PageView). x.entry) (page_in v s (page + i)) (entry_at run i) entry_is
-    (λ x there same. ap (option_map (λ (y : PageView). y.entry.frame)) there ∙ ap (λ (e : PageEntry). Some e.frame) same ∙ ap Some (on_zero i (omega (arith, less, fits)))), bare i less)
+    let entry_is = entry_of v s (page + i) (entry_at run i) entry in (
+      map_from (λ (x : PageView). x.entry) (page_in v s (page + i)) (entry_at run i) entry_is
+          (λ x there same. ap (option_map (λ (y : PageView). y.entry.frame)) there ∙ ap (λ (e : PageEntry). Some e.frame) same ∙ ap Some (on_zero i (omega (arith, less, fits)))),
+      bare i less,
+    )
 
 -- Which pages are there, by a run of their entries.
 

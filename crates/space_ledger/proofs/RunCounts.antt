@@ -1,6 +1,6 @@
 use Rattle.std.proofs.Common.{◌≡◌, ℕ, zero, suc, ◌+◌, ◌*◌, ◌==◌, ◌≤◌, ◌<◌, ◌^◌, ◌||◌, Bool, true, false, cond, not, nat_eq, List, length, refl, sym, ap, subst, ◌∙◌, arith}
 use Rattle.sizes.specs.declared.TheConstants.{FRAME_UNITS, PAGE_END}
-use Rattle.frame_pool.specs.Counts.{held, sharers_of}
+use Rattle.frame_pool.specs.Counts.{sharers_of}
 use Rattle.ledger.specs.AloneLaws.{are}
 use Rattle.page_table.specs.Run.{entry_at}
 use Rattle.page_table.specs.declared.entry.PageEntry.{PageEntry}

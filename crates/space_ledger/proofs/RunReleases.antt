@@ -1,7 +1,5 @@
-use Rattle.std.proofs.Common.{◌≡◌, ℕ, zero, suc, ◌+◌, ◌*◌, ◌≤◌, ◌<◌, ◌^◌, ◌⊎◌, false, List, length, refl, sym, ap, subst, ◌∙◌, arith}
-use Rattle.sizes.specs.declared.TheConstants.{PAGE_END}
+use Rattle.std.proofs.Common.{◌≡◌, ℕ, zero, suc, ◌≤◌, ◌<◌, ◌⊎◌, List, sym, ap, subst, ◌∙◌, arith}
 use Rattle.frame_pool.specs.Counts.{sharers_of}
-use Rattle.frame_pool.specs.Laws.{released_other}
 use Rattle.page_table.specs.Run.{entry_at}
 use Rattle.page_table.specs.declared.entry.PageEntry.{PageEntry}
 use Rattle.page_table.specs.declared.run.PageRun.{PageRun}

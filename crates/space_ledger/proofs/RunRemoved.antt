@@ -1,9 +1,7 @@
-use Rattle.std.proofs.Common.{◌≡◌, ℕ, zero, suc, ◌+◌, ◌-◌, ◌≤◌, ◌<◌, ◌⊎◌, ◌||◌, ◌&&◌, Bool, true, false, cond, not, nat_eq, nat_lt, List, length, Option, Some, None, refl, option_and_then, option_map, sym, ap, subst, ◌∙◌, arith}
-use Rattle.std.proofs.lemmas.Bool.Decides.{nat_tests}
+use Rattle.std.proofs.Common.{◌≡◌, ℕ, zero, suc, ◌+◌, ◌-◌, ◌≤◌, ◌<◌, ◌⊎◌, ◌||◌, ◌&&◌, Bool, true, cond, not, nat_eq, nat_lt, List, length, Option, Some, None, refl, option_and_then, option_map, sym, ap, subst, ◌∙◌, arith}
 use Rattle.frame_pool.specs.Counts.{sharers_of}
 use Rattle.ledger.specs.Ledger.{has_origin, is_unused}
-use Rattle.ledger.specs.TallyLaws.{had_by_count}
-use Rattle.ledger.specs.Units.{sharers, units as units_of}
+use Rattle.ledger.specs.Units.{units as units_of}
 use Rattle.page_table.specs.Run.{IsRunFrom, entry_at}
 use Rattle.page_table.specs.declared.entry.PageEntry.{PageEntry}
 use Rattle.page_table.specs.declared.run.PageRun.{PageRun}

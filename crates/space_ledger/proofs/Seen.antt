@@ -1,4 +1,4 @@
-use Rattle.std.proofs.Common.{◌≡◌, ℕ, ◌≤◌, ◌<◌, Bool, true, false, Option, Some, None, is_some, IsSome, refl, option_and_then, option_map, nat_cmp, sym, ap, subst, ◌∙◌, arith}
+use Rattle.std.proofs.Common.{◌≡◌, ℕ, ◌≤◌, ◌<◌, Bool, true, Option, Some, None, is_some, IsSome, refl, option_and_then, option_map, nat_cmp, sym, ap, subst, ◌∙◌, arith}
 use Rattle.std.specs.FinMap.{FinMap, empty, get, insert, remove}
 use Rattle.sizes.specs.declared.TheConstants.{LAST_SPACE, PAGE_END}
 use Rattle.page_table.specs.Table.{Pages}
@@ -14,7 +14,7 @@ use Rattle.space_maps.specs.Laws.{KeepsSpaces, keeps_page_put, page_absent, page
 use Rattle.space_maps.specs.Mapped.{mapped, mapped_awaiting, mapped_bare, mapped_cut, mapped_cut_page, mapped_holds, mapped_keeps, mapped_mark, mapped_page, mapped_put, mapped_put_awaiting, mapped_put_mark, mapped_put_page, mapped_put_shared, mapped_space}
 use Rattle.space_ledger.specs.declared.tables.Tables.TheInside.{Inside}
 use Rattle.space_ledger.specs.Space.{SpaceTable, adopted, awaited, marked, with_entry, without_page}
-use Rattle.space_ledger.specs.View.{LedgerView, PageView, SpaceView}
+use Rattle.space_ledger.specs.View.{LedgerView, PageView}
 use Rattle.space_ledger.specs.Kept.{IsKept, Overlays, plain, seen, seen_page}
 
 -- What the spaces and the overlays show, and what is shown where one of them changed.

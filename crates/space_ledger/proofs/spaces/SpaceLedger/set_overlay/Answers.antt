@@ -1,6 +1,5 @@
 use Rattle.std.proofs.Common.{sym, ap, subst, subst₂, ◌∙◌, arith, ◌+◌, ◌-◌}
 use Rattle.std.specs.Option.{is_some}
-use Rattle.ledger.specs.Units.{class}
 use Rattle.space_maps.specs.Spaces.{page_in}
 use Rattle.space_ledger.specs.View.{LedgerView, with_overlay}
 use Rattle.space_ledger.specs.Calls.{IsBooked}
