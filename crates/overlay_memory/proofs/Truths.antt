@@ -23,7 +23,8 @@ use Rattle.overlay_memory.specs.Pieces.{AreBeside, IsFilled, emptied_space}
 use Rattle.overlay_memory.specs.StateMemory.{entries_at}
 use Rattle.overlay_memory.specs.View.{AreTranslated, AreTrue, AwaitApart, TranslatedView, cached_page, state_of, translations_of}
 use Rattle.space_ledger.specs.View.{PageView}
-use Rattle.space_maps.specs.Laws.{KeepsSpaces, are_cut, are_put, changed_there, in_space, keeps_page_put, no_space, page_absent, page_added, page_awaited, page_marked, page_of, page_put_beside, page_shared_beside, space_beside, space_left, space_put, there_space}
+use Rattle.space_maps.specs.Laws.{KeepsSpaces, are_cut, are_put, changed_there, in_space, keeps_page_put, page_absent, page_added, page_awaited, page_marked, page_of, page_put_beside, page_shared_beside, space_beside, space_left, space_put, there_space}
+use Rattle.space_maps.specs.Options.{none_by}
 use Rattle.space_maps.specs.Spaces.{bare_space, cut_pages, cut_space, holds_space, of_pages, page_in, put_awaiting, put_mark, put_page, put_shared, put_space, space_in, turned_page}
 use Rattle.translation_cache.specs.Bare.{bare, bare_flushed}
 use Rattle.translation_cache.specs.Finding.{flushed_none, found_flushed, found_none, found_unflushed}
@@ -417,6 +418,6 @@ nothing_seen state s t absent all page = by_found (found s page t) refl
     by_found : (o : Option Cached) → found s page t ≡ o → found s page t ≡ None
     by_found None is = is
     by_found (Some held) is =
-        let gone : page_in state s page ≡ None = page_absent state s page (no_space (get state.spaces s) absent) in
+        let gone : page_in state s page ≡ None = page_absent state s page (none_by (get state.spaces s) absent) in
         let both : None ≡ Some held = sym (ap (option_map cached_page) gone) ∙ all.entries s page held is in
         cc

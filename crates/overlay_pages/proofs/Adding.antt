@@ -1,7 +1,5 @@
-use Rattle.std.specs.Prelude.{◌≡◌, ℕ, ◌+◌, ◌<◌, ◌≤◌, true, false, IfSome, IsSome, IsTrue, List, Option, Some, None, is_some, refl}
-use Rattle.std.proofs.Common.{sym, ap, subst, ◌∙◌, arith}
+use Rattle.std.proofs.Common.{◌≡◌, ℕ, ◌+◌, ◌<◌, ◌≤◌, true, false, IfSome, IsSome, IsTrue, List, Option, Some, None, is_some, refl, option_and_then, sym, ap, subst, ◌∙◌, arith}
 use Rattle.std.proofs.lemmas.Bool.Decides.{nat_tests}
-use Rattle.std.specs.Option.{option_and_then}
 use Rattle.std.specs.FinMap.{empty}
 use Rattle.sizes.specs.declared.TheConstants.{FRAME_UNITS, PAGE_END}
 use Rattle.unit_map.specs.Pieces.{free_units}
@@ -57,9 +55,6 @@ mapped_in v table s p entry is there low absent zero_is table_is =
     }
 
 module _ (v now : MemoryView) (table : LedgerView) (s p : ℕ) (entry : PageEntry) (so : HasMapped v table s p entry) (moved : Moved (view_of v.store table) now) where
-  mapped_page : PageView
-  mapped_page = record { entry = entry; overlay = None }
-
   at_table : page_in table s p ≡ Some (record { entry = entry; overlay = None })
   at_table = ap (λ (t : LedgerView). page_in t s p) so.table_is ∙ page_put_here v.table s p (record { entry = entry; overlay = None }) s p refl refl
 

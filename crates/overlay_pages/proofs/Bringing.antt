@@ -1,7 +1,6 @@
-use Rattle.std.specs.Prelude.{◌≡◌, ℕ, ◌+◌, ◌*◌, ◌<◌, ◌≤◌, Bool, true, false, cond, nat_eq, List, [], ◌∷◌, ◌++◌, Option, Some, None, IsSome, is_some, length, slice_set, refl}
-use Rattle.std.proofs.Common.{sym, ap, subst, ◌∙◌, arith}
-use Rattle.std.proofs.lemmas.Bool.Decides.{nat_tests}
-use Rattle.std.specs.Option.{option_and_then, option_map, option_map_or}
+use Rattle.std.proofs.Common.{◌≡◌, ℕ, ◌+◌, ◌*◌, ◌<◌, ◌≤◌, Bool, true, false, cond, nat_eq, List, [], ◌∷◌, ◌++◌, Option, Some, None, IsSome, is_some, length, slice_set, refl, sym, ap, subst, ◌∙◌, arith}
+use Rattle.std.proofs.lemmas.Option.{same_Some}
+use Rattle.std.specs.Option.{option_map}
 use Rattle.overlay_bits.specs.Lines as bits
 use Rattle.overlay_bits.specs.Lines.{AreLines, has_line}
 use Rattle.overlay_bits.specs.Laws.{has_next, with_there}
@@ -10,22 +9,23 @@ use Rattle.ledger.specs.Changes.{with_line, with_lines}
 use Rattle.ledger.specs.Units.{class}
 use Rattle.ledger.specs.ClassLaws.{class_le}
 use Rattle.ledger.specs.StoreLaws.{longer}
-use Rattle.segment_store.specs.Store.{frame_line, frame_place, place_of}
+use Rattle.segment_store.specs.Store.{frame_line}
 use Rattle.segment_store.specs.Laws.{frame_inside}
 use Rattle.unit_map.specs.Pieces.{units_in}
 use Rattle.page_table.specs.declared.entry.PageEntry.{PageEntry}
+use Rattle.space_maps.specs.Options.{map_from, by_option}
 use Rattle.space_maps.specs.Laws.{page_again, page_put_here}
 use Rattle.space_maps.specs.Spaces.{page_in, put_page, turned_page}
 use Rattle.space_ledger.specs.Joined.{put_same}
-use Rattle.space_ledger.specs.View.{LedgerView, PageView, lines_of, overlay_at}
+use Rattle.space_ledger.specs.View.{PageView, lines_of, overlay_at}
 use Rattle.overlay_pages.specs.Lines.{page_lines}
-use Rattle.overlay_pages.specs.LineLaws.{lines_same, set_line}
 use Rattle.overlay_pages.specs.State.{PageState}
 use Rattle.overlay_pages.specs.Changes.{Fits, brought, limit_of, units_of}
 use Rattle.overlay_pages.specs.Steps.{joins}
 use Rattle.overlay_pages.specs.View.{IsJoined, MemoryView, line_seen, page_state, state_of}
 use Rattle.overlay_pages.specs.ViewLaws.{state_page_some, state_page_there}
-use Rattle.overlay_pages.proofs.Joining.{sets_are}
+use Rattle.overlay_pages.proofs.Steps.{seen_outside, set_lines}
+use Rattle.overlay_pages.proofs.Joining.{Has, page_with, sets_are}
 use Rattle.overlay_pages.proofs.Growing.{turn_is, turned_limit, turned_twice, turned_units}
 
 -- Lines are brought from the frame.
@@ -45,25 +45,9 @@ unfolding with_lines
 none_more lines = refl
 
 page_own : (v : MemoryView) (s p : ℕ) → IsJoined v → (x : PageView) → page_in v.table s p ≡ Some x → AreLines (lines_of x.overlay)
-page_own v s p is x there = at x.overlay refl
-  where
-    at : (o : Option Entry) → x.overlay ≡ o → AreLines (lines_of x.overlay)
-    at None e = subst (λ o. AreLines (lines_of o)) (sym e) Rattle.overlay_bits.specs.Laws.are_none
-    at (Some e) over = subst (λ o. AreLines (lines_of o)) (sym over) (sets_are v.store s p x e is.store (is.held s p x there) over)
-
-record Found (v : MemoryView) (s p : ℕ) : Type 0 where
-  pub x : PageView
-  pub there : page_in v.table s p ≡ Some x
-
-found : (v : MemoryView) (s p : ℕ) → IsSome (page_in v.table s p) → Found v s p
-found v s p some = at (page_in v.table s p) refl some
-  where
-    at : (o : Option PageView) → page_in v.table s p ≡ o → IsSome o → Found v s p
-    at None e h = absurd (not_some h)
-      where
-        not_some : IsSome {T = PageView} None → ⊥
-        not_some k = cc
-    at (Some x) e h = record { x = x; there = e }
+page_own v s p is x there = by_option x.overlay
+    (λ e. subst (λ o. AreLines (lines_of o)) (sym e) Rattle.overlay_bits.specs.Laws.are_none)
+    (λ e over. subst (λ o. AreLines (lines_of o)) (sym over) (sets_are v.store s p x e is.store (is.held s p x there) over))
 
 -- A line that is there already: nothing is brought.
 pub brought_already : (v : MemoryView) (s p line : ℕ) → IsJoined v → IsSome (page_in v.table s p) → line < 64 → has_line (lines_of (overlay_at v.table s p)) line ≡ true
@@ -72,14 +56,14 @@ unfolding page_state
 brought_already v s p line is there low has =
     sym (turn_is (brought (line ∷ [])) (state_of v) s p (page_state v.store f.x) y_there ∙ ap (put_page (state_of v) s p) same ∙ page_again (state_of v) s p (page_state v.store f.x) y_there)
   where
-    f : Found v s p
-    f = found v s p there
+    f : Has v.table s p (overlay_at v.table s p)
+    f = page_with v.table s p there (overlay_at v.table s p) refl
 
     y_there : page_in (state_of v) s p ≡ Some (page_state v.store f.x)
     y_there = state_page_there v s p f.x f.there
 
     has_it : has_line (lines_of f.x.overlay) line ≡ true
-    has_it = ap (λ (o : Option PageView). has_line (lines_of (option_and_then (λ (x : PageView). x.overlay) o)) line) (sym f.there) ∙ has
+    has_it = ap (λ (o : Option Entry). has_line (lines_of o) line) f.is ∙ has
 
     are : AreLines (lines_of f.x.overlay)
     are = page_own v s p is f.x f.there
@@ -99,36 +83,26 @@ brought_is v s p line frame bytes is there low absent framed bytes_is =
     turn_is (joins line bytes) (state_of v) s p (page_state v.store f.x) y_there ∙ ap (put_page (state_of v) s p) same
     ∙ sym (turn_is (brought (line ∷ [])) (state_of v) s p (page_state v.store f.x) y_there)
   where
-    f : Found v s p
-    f = found v s p there
+    f : Has v.table s p (overlay_at v.table s p)
+    f = page_with v.table s p there (overlay_at v.table s p) refl
 
     y_there : page_in (state_of v) s p ≡ Some (page_state v.store f.x)
     y_there = state_page_there v s p f.x f.there
 
     lacks : has_line (lines_of f.x.overlay) line ≡ false
-    lacks = ap (λ (o : Option PageView). has_line (lines_of (option_and_then (λ (x : PageView). x.overlay) o)) line) (sym f.there) ∙ absent
+    lacks = ap (λ (o : Option Entry). has_line (lines_of o) line) f.is ∙ absent
 
     frame_is : f.x.entry.frame ≡ frame
-    frame_is = ap (λ (o : Option ℕ). option_map_or (λ (n : ℕ). n) o 0) (sym (ap (option_map (λ (x : PageView). x.entry.frame)) f.there) ∙ framed)
+    frame_is = same_Some _ _ (sym (ap (option_map (λ (x : PageView). x.entry.frame)) f.there) ∙ framed)
 
     own : bits.with_line (lines_of f.x.overlay) line ≡ with_lines (lines_of f.x.overlay) (line ∷ [])
     own = put_same (lines_of f.x.overlay) line (page_own v s p is f.x f.there) low ∙ sym (one_more (lines_of f.x.overlay) line)
 
     in_frame : line_seen v.store f.x line ≡ bytes
-    in_frame = at f.x.overlay refl ∙ ap (λ n. frame_line v.store n line) frame_is ∙ sym bytes_is
-      where
-        at : (o : Option Entry) → f.x.overlay ≡ o → line_seen v.store f.x line ≡ frame_line v.store f.x.entry.frame line
-        at None e = ap (λ (o : Option Entry). line_seen v.store (record { entry = f.x.entry; overlay = o }) line) e
-        at (Some e) over =
-            ap (λ (o : Option Entry). line_seen v.store (record { entry = f.x.entry; overlay = o }) line) over
-            ∙ ap (λ b. Rattle.line_store.specs.Lines.line_of v.store.lines (cond b (place_of v.store e.block line) (frame_place f.x.entry.frame line))) (ap (λ (o : Option Entry). has_line (lines_of o) line) (sym over) ∙ lacks)
-
-    kept : (i : ℕ) (b : Bool) → nat_eq line i ≡ b → cond b bytes (line_seen v.store f.x i) ≡ line_seen v.store f.x i
-    kept i true h = let at_line : line ≡ i = grind (arith, nat_tests) in sym in_frame ∙ ap (line_seen v.store f.x) at_line
-    kept i false h = refl
+    in_frame = seen_outside v.store f.x line lacks ∙ ap (λ n. frame_line v.store n line) frame_is ∙ sym bytes_is
 
     lines : slice_set (page_lines (line_seen v.store f.x)) line bytes ≡ page_lines (line_seen v.store f.x)
-    lines = set_line (line_seen v.store f.x) line bytes low ∙ lines_same (λ i. cond (nat_eq line i) bytes (line_seen v.store f.x i)) (line_seen v.store f.x) (λ i below. kept i (nat_eq line i) refl)
+    lines = sym (set_lines (line_seen v.store f.x) (line_seen v.store f.x) line bytes low in_frame (λ i below away. refl))
 
     same : joins line bytes (page_state v.store f.x) ≡ brought (line ∷ []) (page_state v.store f.x)
     same = λ i. record { entry = f.x.entry; own = own i; lines = lines i; base = page_lines (frame_line v.store f.x.entry.frame) }
@@ -142,7 +116,7 @@ pub record HasBrought (first now : MemoryView) (s p : ℕ) (lines front rest : L
 pub none_brought : (v : MemoryView) (s p : ℕ) (lines rest : List ℕ) → IsJoined v → IsSome (page_in v.table s p) → rest ≡ lines → HasBrought v v s p lines [] rest
 unfolding page_state
 none_brought v s p lines rest is there same =
-    let f = found v s p there in
+    let f = page_with v.table s p there (overlay_at v.table s p) refl in
     let y_there = state_page_there v s p f.x f.there in
     let own = none_more (lines_of f.x.overlay) in
     let back : brought [] (page_state v.store f.x) ≡ page_state v.store f.x = λ i. record { entry = f.x.entry; own = own i; lines = page_lines (line_seen v.store f.x); base = page_lines (frame_line v.store f.x.entry.frame) } in
@@ -155,7 +129,7 @@ none_brought v s p lines rest is there same =
 module _ (first now : MemoryView) (s p : ℕ) (lines front rest : List ℕ) (line : ℕ) (more : List ℕ) (there : IsSome (page_in first.table s p)) (cut : rest ≡ line ∷ more)
     (so : HasBrought first now s p lines front rest) where
   y : (x : PageState) × (page_in (state_of first) s p ≡ Some x)
-  y = let f = found first s p there in (page_state first.store f.x, state_page_there first s p f.x f.there)
+  y = let f = page_with first.table s p there (overlay_at first.table s p) refl in (page_state first.store f.x, state_page_there first s p f.x f.there)
 
   next_is : lines ≡ (front ++ (line ∷ [])) ++ more
   next_is = so.whole ∙ ap (λ l. front ++ l) cut ∙ sym (Rattle.std.proofs.Common.append_assoc front (line ∷ []) more)
@@ -193,33 +167,15 @@ module _ (first now : MemoryView) (s p : ℕ) (lines front rest : List ℕ) (lin
   pub one_brought : (after : MemoryView) → IsJoined after → state_of after ≡ turned_page (brought (line ∷ [])) (state_of now) s p → HasBrought first after s p lines (front ++ (line ∷ [])) more
   one_brought after joined state = record { whole = next_is; joined = joined; state = state ∙ next_state }
 
--- The frame of a page's entry.
-pub entry_frame : (v : LedgerView) (s p : ℕ) (entry : PageEntry) → option_map (λ (x : PageView). x.entry) (page_in v s p) ≡ Some entry → option_map (λ (x : PageView). x.entry.frame) (page_in v s p) ≡ Some entry.frame
-entry_frame v s p entry is = at (page_in v s p) refl
-  where
-    at : (o : Option PageView) → page_in v s p ≡ o → option_map (λ (x : PageView). x.entry.frame) (page_in v s p) ≡ Some entry.frame
-    at None e = absurd (no_entry (sym (ap (option_map (λ (x : PageView). x.entry)) e) ∙ is))
-      where
-        no_entry : None ≡ Some entry → ⊥
-        no_entry h = cc
-    at (Some x) e = ap (option_map (λ (x : PageView). x.entry.frame)) e ∙ ap (option_map (λ (f : PageEntry). f.frame)) (sym (ap (option_map (λ (x : PageView). x.entry)) e) ∙ is)
-
+-- The frame of a page's entry is one of the store's.
 pub frame_in : (v : MemoryView) (s p : ℕ) (entry : PageEntry) → IsJoined v → option_map (λ (x : PageView). x.entry) (page_in v.table s p) ≡ Some entry → 16 * entry.frame + 16 ≤ units_in v.store.blocks
-frame_in v s p entry is at_entry = at (page_in v.table s p) refl
-  where
-    at : (o : Option PageView) → page_in v.table s p ≡ o → 16 * entry.frame + 16 ≤ units_in v.store.blocks
-    at None e = absurd (no_entry (sym (ap (option_map (λ (x : PageView). x.entry)) e) ∙ at_entry))
-      where
-        no_entry : None ≡ Some entry → ⊥
-        no_entry h = cc
-    at (Some x) e =
-        let same : x.entry ≡ entry = ap (λ (o : Option PageEntry). option_map_or (λ (f : PageEntry). f) o entry) (sym (ap (option_map (λ (x : PageView). x.entry)) e) ∙ at_entry) in
-        omega (arith, frame_inside v.store is.store x.entry.frame (is.held s p x e).frame, ap (λ (f : PageEntry). f.frame) same)
+frame_in v s p entry is at_entry = map_from (λ (x : PageView). x.entry) (page_in v.table s p) entry at_entry
+    (λ x e same. omega (arith, frame_inside v.store is.store x.entry.frame (is.held s p x e).frame, ap (λ (f : PageEntry). f.frame) same))
 
 -- the page is there still
 pub brought_there : (first now : MemoryView) (s p : ℕ) (lines front rest : List ℕ) → IsSome (page_in first.table s p) → HasBrought first now s p lines front rest → IsSome (page_in now.table s p)
 brought_there first now s p lines front rest there so =
-    let f = found first s p there in
+    let f = page_with first.table s p there (overlay_at first.table s p) refl in
     let at_first = state_page_there first s p f.x f.there in
     sym (state_page_some now s p) ∙ ap (λ st. is_some (page_in st s p)) (so.state ∙ turn_is (brought front) (state_of first) s p (page_state first.store f.x) at_first)
     ∙ ap is_some (page_put_here (state_of first) s p (brought front (page_state first.store f.x)) s p refl refl)

@@ -1,94 +1,63 @@
-use Rattle.std.specs.Prelude.{◌≡◌, ℕ, ◌+◌, ◌*◌, ◌<◌, ◌≤◌, ◌⊎◌, ◌||◌, ◌&&◌, Bool, true, false, cond, nat_eq, List, [], Option, Some, None, IfSome, IsSome, is_some, length, drop, take, get_or, refl}
-use Rattle.std.proofs.Common.{sym, ap, subst, ◌∙◌, arith, inr}
-use Rattle.std.specs.Option.{option_and_then, option_map, option_map_or}
-use Rattle.std.specs.FinMap.{empty, insert}
-use Rattle.unit_map.specs.Pieces.{free_units, units_in}
+use Rattle.std.proofs.Common.{option_map, ◌≡◌, ℕ, ◌+◌, ◌*◌, ◌<◌, ◌≤◌, Bool, true, false, cond, List, [], Option, Some, None, IfSome, IsSome, drop, take, get_or, refl, sym, ap, subst, ◌∙◌, arith}
+use Rattle.std.proofs.lemmas.Option.{same_Some}
+use Rattle.std.specs.FinMap.{empty}
 use Rattle.overlay_bits.specs.Lines.{has_line}
 use Rattle.overlay_bits.specs.Composed.{composed, composed_at}
 use Rattle.overlay_mapping_table.specs.declared.entry.Entry.{Entry}
-use Rattle.line_store.specs.Lines.{line_of}
-use Rattle.ledger.specs.Ledger.{Holding, Ledger, has_origin, holding_at, is_alone, is_unused}
+use Rattle.ledger.specs.Ledger.{Ledger, has_origin, holding_at, is_alone}
 use Rattle.ledger.specs.PlaceLaws.{put_again}
-use Rattle.ledger.specs.Units.{units}
 use Rattle.ledger.specs.ClassLaws.{class_none}
 use Rattle.ledger.specs.AloneLaws.{origin_with, unused_from, unused_parts}
-use Rattle.segment_store.specs.Kept.{IsStore}
 use Rattle.segment_store.specs.Store.{Store, IsFrame, frame_line, frame_page, frame_place, line_in, place_of, scratch_line, scratch_page, segment_at}
-use Rattle.segment_store.specs.Changes.{KeepsFrames, KeepsScratch, Lifts}
+use Rattle.segment_store.specs.Changes.{KeepsFrames}
 use Rattle.space_maps.specs.Books.{books_page, books_put_page}
-use Rattle.space_maps.specs.Laws.{keeps_page_put, page_again, page_over, page_put_here, set_some, there_space}
-use Rattle.space_maps.specs.Spaces.{page_in, put_page, put_space, set_page, space_in, turned_page}
+use Rattle.space_maps.specs.Laws.{keeps_page_put, page_again, page_over, page_put_here, there_space}
+use Rattle.space_maps.specs.Spaces.{page_in, put_page, space_in, turned_page}
 use Rattle.space_ledger.specs.View.{LedgerView, PageView, ledger_of, lines_of, overlay_at}
 use Rattle.overlay_pages.specs.Lines.{line_in_page, page_lines, same_lines}
 use Rattle.overlay_pages.specs.LineLaws.{lines_same}
 use Rattle.overlay_pages.specs.State.{PageState, State, books, held_page}
 use Rattle.overlay_pages.specs.Changes.{HasCopyRoom, IsNewFrame, IsPlaced, committed, copied, discarded, limit_of, moved_to, units_of}
 use Rattle.overlay_pages.specs.Steps.{FillsFrame}
-use Rattle.overlay_pages.specs.View.{IsHeld, IsJoined, IsOwned, MemoryView, line_seen, page_state, segment_of, state_of, view_of}
-use Rattle.overlay_pages.specs.ViewLaws.{state_awaiting, state_books, state_holds, state_page_some, state_page_there}
-use Rattle.overlay_pages.proofs.Steps.{Step, some_page, state_stepped, stepped}
+use Rattle.overlay_pages.specs.View.{IsHeld, IsJoined, MemoryView, line_seen, page_state, segment_of, state_of, view_of}
+use Rattle.overlay_pages.specs.ViewLaws.{state_awaiting, state_books, state_holds, state_page_there}
+use Rattle.overlay_pages.proofs.Steps.{Rewrites, rewritten_joined, rewritten_state, seen_bare, seen_inside, seen_outside}
 use Rattle.overlay_pages.proofs.Joining.{Has, page_with}
-use Rattle.overlay_pages.proofs.Growing.{free_is, turn_is, turned_limit, turned_units}
+use Rattle.overlay_pages.proofs.Growing.{turn_is, turned_units}
+use Rattle.overlay_pages.proofs.NewFrames.{new_still}
 use Rattle.overlay_pages.proofs.Lending.{alone_frame, alone_not_zero}
 
 -- A frame that is a page's alone is filled.
 
 module _ (v : MemoryView) (new : Store) (s p : ℕ) (x : PageView) (frame : ℕ) (is : IsJoined v) (there : page_in v.table s p ≡ Some x) (frame_is : x.entry.frame ≡ frame)
     (alone : is_alone (ledger_of v.table) s p ≡ true) (fills : FillsFrame v.store new frame) where
-  fills_table : v.table ≡ set_page v.table s p (Some x)
-  fills_table = sym (set_some v.table s p x ∙ page_again v.table s p x there)
-
-  fills_step : Step v (view_of new v.table) s p (Some x)
-  fills_step = record {
-    there = there_space v.table s p x there;
-    number = (is.held s p x there).number;
-    low = (is.held s p x there).low;
-    table_is = fills_table;
+  fills_rewrites : Rewrites v new s p
+  fills_rewrites = record {
+    blocks = fills.blocks;
+    same = fills.same;
     store = fills.store;
-    whole = ap units_in fills.blocks;
     segments = λ q r y e d at_y over. fills.segments e.block.unit (segment_of q r e) ((is.held q r y at_y).segment e over);
     frames = λ q r y d at_y. fills.frames y.entry.frame (λ e. alone_frame v s p x q r y there alone at_y d (e ∙ sym frame_is)) (is.held q r y at_y).frame;
     zero = fills.frames v.table.zero_frame (λ e. alone_not_zero v s p x there alone (frame_is ∙ sym e)) is.zero;
-    held = λ y same. subst (IsHeld new s p) (some_page x y same) held_now;
-    owned = λ unit segment at_unit.
-        let before = sym (ap (λ l. Rattle.std.specs.Prelude.slice_index_or l unit None) fills.same) ∙ at_unit in
-        inr (subst (λ (t : LedgerView). IsOwned t unit segment) fills_table (is.owned unit segment before));
-    count = ap (λ n. n + units (ledger_of v.table)) (ap free_units fills.blocks) ∙ is.count ∙ sym (ap units_in fills.blocks);
   }
-    where
-      held_now : IsHeld new s p x
-      held_now =
-          let was = is.held s p x there in
-          record {
-            number = was.number;
-            low = was.low;
-            frame = subst (IsFrame new) (sym frame_is) fills.stays;
-            segment = λ e over. (fills.segments e.block.unit (segment_of s p e) (was.segment e over)).there ∙ was.segment e over;
-            lined = was.lined;
-            size = was.size;
-          }
 
   pub fills_joined : IsJoined (view_of new v.table)
-  fills_joined = stepped v (view_of new v.table) s p (Some x) is fills_step
+  fills_joined = rewritten_joined v new s p x is there fills_rewrites
 
   pub fills_state : state_of (view_of new v.table) ≡ put_page (state_of v) s p (page_state new x)
-  unfolding set_page
-  fills_state = state_stepped v (view_of new v.table) s p (Some x) is fills_step
+  fills_state = rewritten_state v new s p x is there fills_rewrites
 
 -- The lines of the overlay are in the frame; once the overlay ended, the page is committed.
 pub committed_page : (old new : Store) (x : PageView) (e : Entry) (frame : ℕ) → x.overlay ≡ Some e → x.entry.frame ≡ frame
     → ((i : ℕ) → i < 64 → frame_line new frame i ≡ cond (has_line e.bits i) (line_in old e.block i) (frame_line old frame i)) → discarded (page_state new x) ≡ committed (page_state old x)
 unfolding page_state
 committed_page old new x e frame over frame_is lines =
-    let same = lines_same (frame_line new x.entry.frame) (line_seen old x) (λ i low. ap (λ f. frame_line new f i) frame_is ∙ lines i low ∙ pulled (has_line e.bits i) i ∙ seen i) in
+    let same = lines_same (frame_line new x.entry.frame) (line_seen old x) (λ i low. ap (λ f. frame_line new f i) frame_is ∙ lines i low ∙ seen i (has_line e.bits i) refl) in
     λ i. record { entry = x.entry; own = []; lines = same i; base = same i }
   where
-    pulled : (b : Bool) (i : ℕ) → cond b (line_in old e.block i) (frame_line old frame i) ≡ line_of old.lines (cond b (place_of old e.block i) (frame_place x.entry.frame i))
-    pulled true i = refl
-    pulled false i = ap (λ f. frame_line old f i) (sym frame_is)
-
-    seen : (i : ℕ) → line_of old.lines (cond (has_line e.bits i) (place_of old e.block i) (frame_place x.entry.frame i)) ≡ line_seen old x i
-    seen i = ap (λ (o : Option Entry). line_seen old (record { entry = x.entry; overlay = o }) i) (sym over)
+    seen : (i : ℕ) (b : Bool) → has_line e.bits i ≡ b → cond b (line_in old e.block i) (frame_line old frame i) ≡ line_seen old x i
+    seen i true has = sym (seen_inside old x e i over has)
+    seen i false lacks = ap (λ f. frame_line old f i) (sym frame_is) ∙ sym (seen_outside old x i (ap (λ (o : Option Entry). has_line (lines_of o) i) over ∙ lacks))
 
 pub bare_committed : (v : MemoryView) (s p : ℕ) → Has v.table s p None → state_of v ≡ turned_page committed (state_of v) s p
 unfolding page_state
@@ -100,9 +69,8 @@ bare_committed v s p has =
 
     same : committed (page_state v.store has.x) ≡ page_state v.store has.x
     same =
-        let lines : page_lines (frame_line v.store has.x.entry.frame) ≡ page_lines (line_seen v.store has.x) = sym (ap (λ (o : Option Entry). page_lines (line_seen v.store (record { entry = has.x.entry; overlay = o }))) has.is) in
-        let own : [] ≡ lines_of has.x.overlay = sym (ap lines_of has.is) in
-        λ i. record { entry = has.x.entry; own = own i; lines = page_lines (line_seen v.store has.x); base = sym lines i }
+        let lines = seen_bare v.store has.x has.is in
+        λ i. record { entry = has.x.entry; own = lines_of (sym has.is i); lines = page_lines (line_seen v.store has.x); base = lines i }
 
 pub commits : (a b c : MemoryView) (s p : ℕ) (x : PageView) → page_in a.table s p ≡ Some x → state_of b ≡ put_page (state_of a) s p (page_state b.store x) → discarded (page_state b.store x) ≡ committed (page_state a.store x)
     → state_of c ≡ turned_page discarded (state_of b) s p → state_of c ≡ turned_page committed (state_of a) s p
@@ -113,7 +81,7 @@ commits a b c s p x there b_is same c_is =
     ∙ sym (turn_is committed (state_of a) s p (page_state a.store x) (state_page_there a s p x there))
 
 pub page_frame : (v : LedgerView) (s p : ℕ) (x : PageView) (frame : ℕ) → page_in v s p ≡ Some x → option_map (λ (y : PageView). y.entry.frame) (page_in v s p) ≡ Some frame → x.entry.frame ≡ frame
-page_frame v s p x frame there framed = ap (λ (o : Option ℕ). option_map_or (λ (n : ℕ). n) o 0) (sym (ap (option_map (λ (y : PageView). y.entry.frame)) there) ∙ framed)
+page_frame v s p x frame there framed = same_Some _ _ (sym (ap (option_map (λ (y : PageView). y.entry.frame)) there) ∙ framed)
 
 -- A page that is copied: its overlay ends, and it gets a frame with its lines.
 
@@ -132,24 +100,14 @@ module _ (a : MemoryView) (s p : ℕ) (e : Entry) (is : IsJoined a) (there : IsS
   was_there : page_in (state_of a) s p ≡ Some was
   was_there = state_page_there a s p own.x own.there
 
-  was_own : was.own ≡ e.bits
-  unfolding page_state
-  was_own = ap lines_of own.is
-
-  abbrev bare_state : State
-  bare_state = put_page (state_of a) s p (discarded was)
-
   bare_is : turned_page discarded (state_of a) s p ≡ put_page (state_of a) s p (discarded was)
   bare_is = turn_is discarded (state_of a) s p was was_there
 
   held_before : holding_at (books (state_of a)) s p ≡ Some (held_page (state_of a).zero_frame was)
   held_before = books_page held_page (state_of a) s p ∙ ap (option_map (held_page (state_of a).zero_frame)) was_there
 
-  pub copy_room : (b : MemoryView) → IsJoined b → state_of b ≡ turned_page discarded (state_of a) s p → HasCopyRoom (state_of a) s p → 16 ≤ free_units b.store.blocks
-  copy_room b b_is b_state room =
-      let dropped = turned_units discarded (state_of a) s p was was_there refl in
-      let enough = room was was_there in
-      omega (arith, free_is b b_is, ap units_of b_state, ap limit_of b_state, turned_limit discarded (state_of a) s p was was_there, dropped, class_none, enough)
+  pub copy_enough : HasCopyRoom (state_of a) s p → 16 + units_of (turned_page discarded (state_of a) s p) ≤ limit_of (state_of a)
+  copy_enough room = omega (arith, turned_units discarded (state_of a) s p was was_there refl, class_none, room was was_there)
 
   pub copy_shared : (b : MemoryView) → state_of b ≡ turned_page discarded (state_of a) s p → is_alone (ledger_of a.table) s p ≡ false → is_alone (ledger_of b.table) s p ≡ false
   copy_shared b b_state shared =
@@ -167,50 +125,35 @@ module _ (a : MemoryView) (s p : ℕ) (e : Entry) (is : IsJoined a) (there : IsS
   dropped_page : (b : MemoryView) → state_of b ≡ turned_page discarded (state_of a) s p → page_in (state_of b) s p ≡ Some (discarded was)
   dropped_page b b_state = ap (λ st. page_in st s p) (b_state ∙ bare_is) ∙ page_put_here (state_of a) s p (discarded was) s p refl refl
 
-  pub copy_there : (b : MemoryView) → state_of b ≡ turned_page discarded (state_of a) s p → IsSome (page_in b.table s p)
-  copy_there b b_state = sym (state_page_some b s p) ∙ ap is_some (dropped_page b b_state)
-
-  pub copy_bare : (b : MemoryView) → IsJoined b → state_of b ≡ turned_page discarded (state_of a) s p → overlay_at b.table s p ≡ None
-  copy_bare b b_is b_state = Rattle.overlay_pages.proofs.Growing.bare_by b s p b_is (discarded was) (dropped_page b b_state) refl (copy_there b b_state)
-
   -- an origin is unused before where it is unused now
   new_then : (frame : ℕ) → IsNewFrame (put_page (state_of a) s p (discarded was)) frame → IsNewFrame (state_of a) frame
-  unfolding put_page put_space
-  new_then frame fresh = record { inside = fresh.inside; other = fresh.other; unused = unused }
+  new_then frame fresh = new_still (state_of a) s p (discarded was) frame (λ none. sym same ∙ none) fresh
     where
-      now : Holding
-      now = held_page (state_of a).zero_frame (discarded was)
-
       same : has_origin (books (put_page (state_of a) s p (discarded was))) (frame + 1) ≡ has_origin (books (state_of a)) (frame + 1)
       same =
-          ap (λ (l : Ledger). has_origin l (frame + 1)) (books_put_page held_page (state_of a) s p (discarded was)) ∙ origin_with (books (state_of a)) s p now (frame + 1)
+          ap (λ (l : Ledger). has_origin l (frame + 1)) (books_put_page held_page (state_of a) s p (discarded was))
+          ∙ origin_with (books (state_of a)) s p (held_page (state_of a).zero_frame (discarded was)) (frame + 1)
           ∙ sym (origin_with (books (state_of a)) s p (held_page (state_of a).zero_frame was) (frame + 1))
           ∙ ap (λ (l : Ledger). has_origin l (frame + 1)) (put_again (books (state_of a)) s p (held_page (state_of a).zero_frame was) held_before)
 
-      parts : (nat_eq (frame + 1) 0 ≡ false) × (has_origin (books (put_page (state_of a) s p (discarded was))) (frame + 1) ≡ false)
-      parts = unused_parts (books (put_page (state_of a) s p (discarded was))) (frame + 1) fresh.unused
-
-      unused : is_unused (books (state_of a)) (frame + 1) ≡ true
-      unused = unused_from (books (state_of a)) (frame + 1) parts.0 (sym same ∙ parts.1)
-
   -- the lines that were composed are those that the page has
-  pub composed_lines_are : (b d : MemoryView) (frame : ℕ) (out : List (List ℕ)) → Lifts a.store b.store e.block e.bits → KeepsFrames a.store d.store → KeepsScratch b.store d.store → own.x.entry.frame ≡ frame → IsStore d.store
-      → out ≡ composed (frame_page d.store frame) (scratch_page d.store) e.bits → same_lines out ≡ was.lines
+  pub composed_lines_are : (d : MemoryView) (frame : ℕ) (out : List (List ℕ)) → ((i : ℕ) → i < 64 → has_line e.bits i ≡ true → scratch_line d.store i ≡ line_in a.store e.block i)
+      → KeepsFrames a.store d.store → own.x.entry.frame ≡ frame → out ≡ composed (frame_page d.store frame) (scratch_page d.store) e.bits → same_lines out ≡ was.lines
   unfolding same_lines page_state
-  composed_lines_are b d frame out lifts frames scratch frame_is d_is out_is = lines_same (line_in_page out) (line_seen a.store own.x) each
+  composed_lines_are d frame out lifted frames frame_is out_is = lines_same (line_in_page out) (line_seen a.store own.x) each
     where
       held : IsHeld a.store s p own.x
       held = is.held s p own.x own.there
 
-      pulled : (t : Bool) (i : ℕ) → has_line e.bits i ≡ t → i < 64
-          → cond t (get_or (scratch_page d.store) i []) (get_or (frame_page d.store frame) i []) ≡ line_of a.store.lines (cond t (place_of a.store e.block i) (frame_place own.x.entry.frame i))
-      pulled true i has low = page_line 64 (Rattle.segment_store.specs.Store.scratch_place d.store) i d.store.lines low ∙ scratch i low ∙ lifts.lifted i has
-      pulled false i has low = page_line 64 (64 * frame) i d.store.lines low ∙ ap (λ f. frame_line d.store f i) (sym frame_is) ∙ (frames own.x.entry.frame held.frame).lines i low
+      pulled : (t : Bool) (i : ℕ) → has_line e.bits i ≡ t → i < 64 → cond t (get_or (scratch_page d.store) i []) (get_or (frame_page d.store frame) i []) ≡ line_seen a.store own.x i
+      pulled true i has low =
+          page_line 64 (Rattle.segment_store.specs.Store.scratch_place d.store) i d.store.lines low ∙ lifted i low has ∙ sym (seen_inside a.store own.x e i own.is has)
+      pulled false i has low =
+          page_line 64 (64 * frame) i d.store.lines low ∙ ap (λ f. frame_line d.store f i) (sym frame_is) ∙ (frames own.x.entry.frame held.frame).lines i low
+          ∙ sym (seen_outside a.store own.x i (ap (λ (o : Option Entry). has_line (lines_of o) i) own.is ∙ has))
 
       each : (i : ℕ) → i < 64 → line_in_page out i ≡ line_seen a.store own.x i
-      each i low =
-          ap (λ l. get_or l i []) out_is ∙ composed_at (frame_page d.store frame) (scratch_page d.store) e.bits 64 i [] low ∙ pulled (has_line e.bits i) i refl low
-          ∙ ap (λ (o : Option Entry). line_seen a.store (record { entry = own.x.entry; overlay = o }) i) (sym own.is)
+      each i low = ap (λ l. get_or l i []) out_is ∙ composed_at (frame_page d.store frame) (scratch_page d.store) e.bits 64 i [] low ∙ pulled (has_line e.bits i) i refl low
 
   pub copied_at : (d new : MemoryView) (out : List (List ℕ)) → state_of d ≡ turned_page discarded (state_of a) s p → same_lines out ≡ was.lines
       → IfSome (page_in (state_of d) s p) (λ x. IsPlaced (state_of d) (state_of new) s p (moved_to x (same_lines out)))

@@ -1,5 +1,4 @@
-use Rattle.std.specs.Prelude.{◌≡◌, ℕ, ◌+◌, ◌*◌, ◌<◌, ◌≤◌, ◌⊎◌, ◌||◌, Bool, true, false, cond, List, [], ◌∷◌, ◌++◌, Option, Some, None, drop, take, length, get_or, refl}
-use Rattle.std.proofs.Common.{sym, ap, subst, ◌∙◌, arith, inl, inr}
+use Rattle.std.proofs.Common.{◌≡◌, ℕ, ◌+◌, ◌*◌, ◌<◌, ◌≤◌, ◌⊎◌, ◌||◌, Bool, true, false, cond, List, [], ◌∷◌, ◌++◌, Option, Some, None, drop, take, length, get_or, refl, sym, ap, subst, ◌∙◌, arith, inl, inr}
 use Rattle.std.proofs.lemmas.Bool.{cases_eq}
 use Rattle.std.proofs.lemmas.Bool.Decides.{nat_tests}
 use Rattle.std.proofs.lemmas.List.{get_or-set_other}
@@ -90,9 +89,6 @@ pub record HasCommitted (old new : Store) (block : Block) (frame : ℕ) (bits fr
   pub fills : FillsFrame old new frame
   pub lines : (i : ℕ) → frame_line new frame i ≡ cond (has_line front i) (line_in old block i) (frame_line old frame i)
 
-pub committed_none : (store : Store) (block : Block) (frame : ℕ) (bits rest : List ℕ) → IsStore store → IsFrame store frame → rest ≡ bits → HasCommitted store store block frame bits [] rest
-committed_none store block frame bits rest is f same = record { whole = sym same; fills = fills_none store frame is f; lines = λ i. refl }
-
 segment_still : (old new : Store) (block : Block) (frame : ℕ) → IsSegment old block → FillsFrame old new frame → IsSegment new block
 segment_still old new block frame there fills = record {
   segment = there.segment;
@@ -110,9 +106,6 @@ module _ (old mid : Store) (block : Block) (frame : ℕ) (bits front rest : List
 
   pub line_low : line < 64
   line_low = are.inside line has_it
-
-  pub still_there : IsSegment mid block
-  still_there = segment_still old mid block frame there so.fills
 
   pub still_has : has_line (lines_at mid block.unit) line ≡ true
   still_has = ap (λ l. has_line l line) (ap (λ l. Rattle.segment_store.specs.Store.set_in l block.unit) so.fills.same ∙ lines_is) ∙ has_it
@@ -148,10 +141,3 @@ module _ (old mid : Store) (block : Block) (frame : ℕ) (bits front rest : List
 
           not_it : (i : ℕ) → (i ≡ line → ⊥) → Rattle.std.specs.Prelude.nat_eq line i ≡ false
           not_it i away = grind (arith, nat_tests, away)
-
--- at the end all of them are
-pub committed_all : (old new : Store) (block : Block) (frame : ℕ) (bits front rest : List ℕ) → HasCommitted old new block frame bits front rest → rest ≡ []
-    → (i : ℕ) → frame_line new frame i ≡ cond (has_line bits i) (line_in old block i) (frame_line old frame i)
-committed_all old new block frame bits front rest so none i =
-    let whole : front ≡ bits = sym (so.whole ∙ ap (λ l. front ++ l) none ∙ Rattle.std.proofs.Common.append-nil front) in
-    so.lines i ∙ ap (λ l. cond (has_line l i) (line_in old block i) (frame_line old frame i)) whole

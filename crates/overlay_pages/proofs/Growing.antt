@@ -1,21 +1,20 @@
-use Rattle.std.specs.Prelude.{◌≡◌, ℕ, ◌+◌, ◌*◌, ◌^◌, ◌<◌, ◌≤◌, Bool, true, false, cond, nat_eq, List, [], ◌∷◌, Option, Some, None, IsSome, is_some, length, slice_set, refl}
-use Rattle.std.proofs.Common.{sym, ap, ◌∙◌, arith}
+use Rattle.std.proofs.Common.{◌≡◌, ℕ, ◌+◌, ◌^◌, ◌<◌, ◌≤◌, Bool, true, false, cond, nat_eq, List, [], Option, Some, None, IsSome, is_some, length, slice_set, refl, sym, ap, ◌∙◌, arith}
 use Rattle.std.specs.Option.{option_and_then, option_map, option_map_or}
 use Rattle.std.specs.FinMap.{get, insert}
 use Rattle.unit_map.specs.Pieces.{free_units, units_in}
 use Rattle.overlay_bits.specs.Lines.{AreLines, has_line, with_line}
 use Rattle.overlay_bits.specs.Laws.{count_with}
 use Rattle.overlay_mapping_table.specs.declared.entry.Entry.{Entry}
-use Rattle.line_store.specs.Lines.{line_of}
 use Rattle.ledger.specs.Ledger.{Ledger}
 use Rattle.ledger.specs.Units.{class, units}
 use Rattle.ledger.specs.UnitLaws.{units_own}
 use Rattle.ledger.specs.ClassLaws.{class_none, class_one}
 use Rattle.segment_store.specs.Kept.{IsStore}
 use Rattle.segment_store.specs.Pointers.{capacity_of}
-use Rattle.segment_store.specs.Store.{Store, frame_line, frame_place, place_of, scratch_line}
-use Rattle.segment_store.specs.Changes.{KeepsFrames, KeepsScratch, KeepsSegments, Lifts}
+use Rattle.segment_store.specs.Store.{Store, frame_line, line_in, scratch_line}
+use Rattle.segment_store.specs.Changes.{KeepsFrames, KeepsSegments}
 use Rattle.segment_store.specs.Laws.{count_fits}
+use Rattle.space_maps.specs.Options.{map_alike, by_option}
 use Rattle.space_maps.specs.Books.{books_page, books_put_page}
 use Rattle.space_maps.specs.Laws.{changed_there, keeps_still, page_over, page_put_here, spaces_alike}
 use Rattle.space_maps.specs.Spaces.{page_in, put_page, put_space, turned_page}
@@ -27,7 +26,7 @@ use Rattle.overlay_pages.specs.Changes.{Fits, discarded, limit_of, units_of}
 use Rattle.overlay_pages.specs.Steps.{joins, laid, laid_line}
 use Rattle.overlay_pages.specs.View.{IsHeld, IsJoined, MemoryView, line_seen, page_state, segment_of, state_of, view_of}
 use Rattle.overlay_pages.specs.ViewLaws.{state_books, state_frames, state_page, state_page_some, state_page_there}
-use Rattle.overlay_pages.proofs.Steps.{held_kept, page_kept, state_keeps}
+use Rattle.overlay_pages.proofs.Steps.{held_kept, page_kept, seen_bare, seen_inside, seen_outside, state_keeps}
 use Rattle.overlay_pages.proofs.Joining.{Has, order_low, overlay_segment, overlay_set, page_with, sets_are}
 use Rattle.overlay_pages.proofs.Sizes.{can_grow, next_place, next_size}
 
@@ -69,14 +68,12 @@ own_none v s p has y there =
 
 pub bare_by : (v : MemoryView) (s p : ℕ) → IsJoined v → (y : PageState) → page_in (state_of v) s p ≡ Some y → y.own ≡ [] → IsSome (page_in v.table s p) → overlay_at v.table s p ≡ None
 unfolding page_state
-bare_by v s p is y there none found = at (overlay_at v.table s p) refl
-  where
-    at : (o : Option Entry) → overlay_at v.table s p ≡ o → overlay_at v.table s p ≡ None
-    at None e = e
-    at (Some e) over =
-        let has = page_with v.table s p found (Some e) over in
-        let own : e.bits ≡ [] = sym (ap lines_of has.is) ∙ ap (λ (o : Option PageState). option_map_or (λ (z : PageState). z.own) o []) (sym (state_page_there v s p has.x has.there) ∙ there) ∙ none in
-        absurd (omega (arith, (is.held s p has.x has.there).lined e has.is, ap length own))
+bare_by v s p is y there none found = by_option (overlay_at v.table s p)
+    (λ e. e)
+    (λ e over.
+    let has = page_with v.table s p found (Some e) over in
+    let own : e.bits ≡ [] = sym (ap lines_of has.is) ∙ ap (λ (o : Option PageState). option_map_or (λ (z : PageState). z.own) o []) (sym (state_page_there v s p has.x has.there) ∙ there) ∙ none in
+    absurd (omega (arith, (is.held s p has.x has.there).lined e has.is, ap length own)))
 
 pub bare_still : (a b : MemoryView) (s p : ℕ) → IsJoined b → state_of b ≡ state_of a → IsSome (page_in a.table s p) → overlay_at a.table s p ≡ None → overlay_at b.table s p ≡ None
 bare_still a b s p is same there bare =
@@ -86,9 +83,6 @@ bare_still a b s p is same there bare =
     bare_by b s p is y (ap (λ st. page_in st s p) same ∙ y_a) (own_none a s p has y y_a) (there_still a b s p same there)
 
 -- The first line of an overlay.
-
-pub one_line : (line : ℕ) → with_line [] line ≡ line ∷ []
-one_line line = refl
 
 pub begins_room : (v : MemoryView) (s p line : ℕ) (bytes : List ℕ) → IsJoined v → IsSome (page_in v.table s p) → overlay_at v.table s p ≡ None
     → Fits (turned_page (joins line bytes) (state_of v) s p) → 1 ≤ free_units v.store.blocks
@@ -105,10 +99,8 @@ begins_room v s p line bytes is there bare fits =
 pub laid_first : (store : Store) (x : PageView) (line : ℕ) (bytes : List ℕ) → x.overlay ≡ None → line < 64 → laid store [] line bytes (page_state store x) ≡ joins line bytes (page_state store x)
 unfolding page_state
 laid_first store x line bytes bare low =
-    let own : with_line [] line ≡ with_line (lines_of x.overlay) line = ap (λ (o : Option Entry). with_line (lines_of o) line) (sym bare) in
-    let seen : page_lines (frame_line store x.entry.frame) ≡ page_lines (line_seen store x) = ap (λ (o : Option Entry). page_lines (line_seen store (record { entry = x.entry; overlay = o }))) (sym bare) in
-    let lines = sym (set_line (frame_line store x.entry.frame) line bytes low) ∙ ap (λ l. slice_set l line bytes) seen in
-    λ i. record { entry = x.entry; own = own i; lines = lines i; base = page_lines (frame_line store x.entry.frame) }
+    let lines = sym (set_line (frame_line store x.entry.frame) line bytes low) ∙ ap (λ l. slice_set l line bytes) (sym (seen_bare store x bare)) in
+    λ i. record { entry = x.entry; own = with_line (lines_of (sym bare i)) line; lines = lines i; base = page_lines (frame_line store x.entry.frame) }
 
 pub begun_first : (a b c : MemoryView) (s p line : ℕ) (bytes : List ℕ) → state_of b ≡ state_of a → IsSome (page_in b.table s p) → overlay_at b.table s p ≡ None → line < 64
     → state_of c ≡ turned_page (laid b.store [] line bytes) (state_of b) s p → state_of c ≡ turned_page (joins line bytes) (state_of a) s p
@@ -136,15 +128,33 @@ all_kept old new table is segments frames blocks same store = (
   },
   spaces_alike (state_of (view_of old table)) (state_of (view_of new table)) (state_of (view_of old table))
       (state_keeps (view_of old table) (view_of new table) (keeps_still table)) (keeps_still (state_of (view_of old table)))
-      (λ q r. state_page (view_of new table) q r ∙ at q r (page_in table q r) refl ∙ sym (state_page (view_of old table) q r)),
+      (λ q r. state_page (view_of new table) q r ∙ map_alike (page_state new) (page_state old) (page_in table q r) (kept q r) ∙ sym (state_page (view_of old table) q r)),
 )
   where
-    at : (q r : ℕ) (o : Option PageView) → page_in table q r ≡ o → option_map (page_state new) (page_in table q r) ≡ option_map (page_state old) (page_in table q r)
-    at q r None e = ap (option_map (page_state new)) e ∙ sym (ap (option_map (page_state old)) e)
-    at q r (Some x) e =
-        ap (option_map (page_state new)) e
-        ∙ ap Some (page_kept old new q r x (is.held q r x e) (frames x.entry.frame (is.held q r x e).frame) (λ f over. segments f.block.unit (segment_of q r f) ((is.held q r x e).segment f over)))
-        ∙ sym (ap (option_map (page_state old)) e)
+    kept : (q r : ℕ) (x : PageView) → page_in table q r ≡ Some x → page_state new x ≡ page_state old x
+    kept q r x e =
+        let held = is.held q r x e in
+        page_kept old new q r x held (frames x.entry.frame held.frame) (λ f over. segments f.block.unit (segment_of q r f) (held.segment f over))
+
+-- An overlay that ended, wherever segments went: how many units are free, and that the page is there without one.
+module _ (a v : MemoryView) (s p : ℕ) (there : IsSome (page_in a.table s p)) (is : IsJoined v) (same : state_of v ≡ turned_page discarded (state_of a) s p) where
+  abbrev was : Has a.table s p (overlay_at a.table s p)
+  was = page_with a.table s p there (overlay_at a.table s p) refl
+
+  pub ended_room : (n : ℕ) → n + units_of (turned_page discarded (state_of a) s p) ≤ limit_of (state_of a) → n ≤ free_units v.store.blocks
+  ended_room n enough =
+      omega (arith, free_is v is, ap units_of same, ap limit_of same, turned_limit discarded (state_of a) s p (page_state a.store was.x) (state_page_there a s p was.x was.there), enough)
+
+  pub ended_page : page_in (state_of v) s p ≡ Some (discarded (page_state a.store was.x))
+  ended_page =
+      ap (λ st. page_in st s p) (same ∙ turn_is discarded (state_of a) s p (page_state a.store was.x) (state_page_there a s p was.x was.there))
+      ∙ page_put_here (state_of a) s p (discarded (page_state a.store was.x)) s p refl refl
+
+  pub ended_there : IsSome (page_in v.table s p)
+  ended_there = sym (state_page_some v s p) ∙ ap is_some ended_page
+
+  pub ended_bare : overlay_at v.table s p ≡ None
+  ended_bare = bare_by v s p is (discarded (page_state a.store was.x)) ended_page refl ended_there
 
 -- The overlay that grows: it has lines of scratch, which are those that it had.
 module _ (a : MemoryView) (s p : ℕ) (e : Entry) (line : ℕ) (bytes : List ℕ) (is : IsJoined a) (there : IsSome (page_in a.table s p)) (over : overlay_at a.table s p ≡ Some e)
@@ -177,49 +187,31 @@ module _ (a : MemoryView) (s p : ℕ) (e : Entry) (line : ℕ) (bytes : List ℕ
   pub grows_size : 2 ^ (e.block.order + 1) ≡ class (length e.bits + 1)
   grows_size = next_size e.block.order (length e.bits) grows_low at_capacity
 
-  -- the units that are free once the old segment ended
-  pub grows_room : (c : MemoryView) → IsJoined c → state_of c ≡ turned_page discarded (state_of a) s p → 2 ^ (e.block.order + 1) ≤ free_units c.store.blocks
+  -- the units that are there once the old segment ended
+  pub grows_enough : 2 ^ (e.block.order + 1) + units_of (turned_page discarded (state_of a) s p) ≤ limit_of (state_of a)
   unfolding page_state
-  grows_room c c_is c_state =
+  grows_enough =
       let dropped = turned_units discarded (state_of a) s p y y_there refl in
       let grown = turned_units (joins line bytes) (state_of a) s p y y_there refl in
       let one : length (with_line e.bits line) ≡ length e.bits + 1 = count_with e.bits line are low ∙ ap (λ b. length e.bits + cond b 0 1) absent in
       let more : class (length (with_line y.own line)) ≡ 2 ^ (e.block.order + 1) = ap (λ l. class (length (with_line l line))) y_own ∙ ap class one ∙ sym grows_size in
-      omega (
-        arith,
-        free_is c c_is,
-        ap units_of c_state,
-        ap limit_of c_state,
-        turned_limit discarded (state_of a) s p y y_there,
-        dropped,
-        class_none,
-        grown,
-        more,
-        fits,
-        turned_limit (joins line bytes) (state_of a) s p y y_there,
-      )
+      omega (arith, dropped, class_none, grown, more, fits, turned_limit (joins line bytes) (state_of a) s p y y_there)
 
   -- and what the page is in the end
-  pub grown_state : (b d : MemoryView) → Lifts a.store b.store e.block e.bits → KeepsFrames a.store d.store → KeepsScratch b.store d.store → state_of d ≡ turned_page discarded (state_of a) s p
-      → (last : State) → last ≡ turned_page (laid d.store e.bits line bytes) (state_of d) s p → last ≡ turned_page (joins line bytes) (state_of a) s p
+  pub grown_state : (d : MemoryView) → ((i : ℕ) → i < 64 → has_line e.bits i ≡ true → scratch_line d.store i ≡ line_in a.store e.block i) → KeepsFrames a.store d.store
+      → state_of d ≡ turned_page discarded (state_of a) s p → (last : State) → last ≡ turned_page (laid d.store e.bits line bytes) (state_of d) s p → last ≡ turned_page (joins line bytes) (state_of a) s p
   unfolding page_state
-  grown_state b d lifts frames scratch d_state last last_is =
+  grown_state d lifted frames d_state last last_is =
       last_is ∙ ap (λ st. turned_page (laid d.store e.bits line bytes) st s p) d_state ∙ turned_twice (laid d.store e.bits line bytes) discarded (state_of a) s p y y_there
       ∙ ap (put_page (state_of a) s p) same ∙ sym (turn_is (joins line bytes) (state_of a) s p y y_there)
     where
-      frame : ℕ
-      frame = has.x.entry.frame
-
-      each : (b : Bool) (i : ℕ) → has_line e.bits i ≡ b → i < 64 → cond b (scratch_line d.store i) (frame_line d.store has.x.entry.frame i) ≡ line_of a.store.lines (cond b (place_of a.store e.block i) (frame_place has.x.entry.frame i))
-      each true i h below = scratch i below ∙ lifts.lifted i h
-      each false i h below = (frames has.x.entry.frame held.frame).lines i below
-
-      seen : (i : ℕ) → line_seen a.store (record { entry = has.x.entry; overlay = Some e }) i ≡ line_seen a.store has.x i
-      seen i = ap (λ (o : Option Entry). line_seen a.store (record { entry = has.x.entry; overlay = o }) i) (sym has.is)
+      each : (b : Bool) (i : ℕ) → has_line e.bits i ≡ b → i < 64 → cond b (scratch_line d.store i) (frame_line d.store has.x.entry.frame i) ≡ line_seen a.store has.x i
+      each true i h below = lifted i below h ∙ sym (seen_inside a.store has.x e i has.is h)
+      each false i h below = (frames has.x.entry.frame held.frame).lines i below ∙ sym (seen_outside a.store has.x i (ap (λ (o : Option Entry). has_line (lines_of o) i) has.is ∙ h))
 
       lines : page_lines (laid_line d.store e.bits line bytes has.x.entry.frame) ≡ slice_set (page_lines (line_seen a.store has.x)) line bytes
       lines =
-          lines_same (laid_line d.store e.bits line bytes has.x.entry.frame) (λ i. cond (nat_eq line i) bytes (line_seen a.store has.x i)) (λ i below. ap (λ l. cond (nat_eq line i) bytes l) (each (has_line e.bits i) i refl below ∙ seen i))
+          lines_same (laid_line d.store e.bits line bytes has.x.entry.frame) (λ i. cond (nat_eq line i) bytes (line_seen a.store has.x i)) (λ i below. ap (λ l. cond (nat_eq line i) bytes l) (each (has_line e.bits i) i refl below))
           ∙ sym (set_line (line_seen a.store has.x) line bytes low)
 
       own : with_line e.bits line ≡ with_line (lines_of has.x.overlay) line
@@ -227,16 +219,6 @@ module _ (a : MemoryView) (s p : ℕ) (e : Entry) (line : ℕ) (bytes : List ℕ
 
       same : laid d.store e.bits line bytes (discarded y) ≡ joins line bytes y
       same = λ i. record { entry = has.x.entry; own = own i; lines = lines i; base = page_lines (frame_line a.store has.x.entry.frame) }
-
-  -- the page once its overlay ended, wherever segments went
-  dropped_there : (v : MemoryView) → state_of v ≡ turned_page discarded (state_of a) s p → page_in (state_of v) s p ≡ Some (discarded y)
-  dropped_there v v_state = ap (λ st. page_in st s p) (v_state ∙ turn_is discarded (state_of a) s p y y_there) ∙ page_put_here (state_of a) s p (discarded y) s p refl refl
-
-  pub dropped_some : (v : MemoryView) → state_of v ≡ turned_page discarded (state_of a) s p → IsSome (page_in v.table s p)
-  dropped_some v v_state = sym (state_page_some v s p) ∙ ap is_some (dropped_there v v_state)
-
-  pub dropped_bare : (v : MemoryView) → IsJoined v → state_of v ≡ turned_page discarded (state_of a) s p → overlay_at v.table s p ≡ None
-  dropped_bare v v_is v_state = bare_by v s p v_is (discarded y) (dropped_there v v_state) refl (dropped_some v v_state)
 
   pub grows_fits : length e.bits < capacity_of (e.block.order + 1)
   grows_fits = next_place e.block.order (length e.bits) grows_low (omega (arith, at_capacity))

@@ -1,23 +1,21 @@
-use Rattle.std.specs.Prelude.{◌≡◌, ℕ, ◌+◌, ◌*◌, ◌^◌, ◌<◌, ◌≤◌, ◌⊎◌, ◌||◌, Bool, true, false, cond, nat_eq, List, [], Option, Some, None, IsSome, length, get_or, slice_index_or, slice_set, refl}
-use Rattle.std.proofs.Common.{sym, ap, subst, ◌∙◌, arith, inl, inr, pow_pos}
-use Rattle.std.proofs.lemmas.Bool.{cases_eq}
+use Rattle.std.proofs.Common.{option_and_then, ◌≡◌, ℕ, ◌+◌, ◌*◌, ◌^◌, ◌<◌, ◌≤◌, ◌||◌, Bool, true, false, cond, nat_eq, List, [], Option, Some, None, IsSome, length, get_or, slice_index_or, slice_set, refl, true≢false, sym, ap, subst, ◌∙◌, arith, pow_pos}
 use Rattle.std.proofs.lemmas.Bool.Decides.{nat_tests}
+use Rattle.std.proofs.lemmas.Option.{none-some, same_Some}
 use Rattle.std.proofs.lemmas.List.{get_or-set_other, get_or-set_same}
-use Rattle.std.specs.Option.{option_and_then, option_map_or}
 use Rattle.unit_map.specs.Pieces.{free_units, units_in}
 use Rattle.unit_map.specs.declared.block.Block.{Block}
 use Rattle.overlay_bits.specs.Lines.{AreLines, has_line, with_line}
 use Rattle.overlay_bits.specs.Laws.{count_with, has_with}
 use Rattle.overlay_address.specs.Names.{overlay_page}
 use Rattle.overlay_mapping_table.specs.declared.entry.Entry.{Entry}
-use Rattle.line_store.specs.Lines.{line_of}
+use Rattle.ledger.specs.AloneLaws.{are}
 use Rattle.ledger.specs.Units.{class, overlaid_pages}
 use Rattle.ledger.specs.TallyLaws.{overlaid_few}
 use Rattle.ledger.specs.ClassLaws.{class_none}
 use Rattle.segment_store.specs.declared.segment.Segment.{Segment}
 use Rattle.segment_store.specs.Kept.{IsStore}
 use Rattle.segment_store.specs.Pointers.{capacity_of}
-use Rattle.segment_store.specs.Store.{Store, IsSegment, frame_line, frame_place, line_in, lines_at, lines_with, place_of, scratch_line, segment_at}
+use Rattle.segment_store.specs.Store.{Store, IsSegment, frame_line, line_in, lines_at, lines_with, scratch_line, segment_at}
 use Rattle.segment_store.specs.Changes.{Begins, Ends, HasLinesNow, Inserts, KeepsFrame, KeepsFrames, KeepsOtherSegments, KeepsScratch, KeepsSegments, Lays, block_of}
 use Rattle.segment_store.specs.Laws.{inside_of, lines_there, order_of, refilled, stays_twice}
 use Rattle.overlay_pages.proofs.Sizes.{still_fits}
@@ -30,7 +28,7 @@ use Rattle.overlay_pages.specs.ViewLaws.{state_page_there}
 use Rattle.overlay_pages.specs.Changes.{discarded}
 use Rattle.overlay_pages.specs.Steps.{joins, laid, laid_line}
 use Rattle.overlay_pages.specs.View.{IsHeld, IsJoined, MemoryView, line_seen, page_state, segment_of, state_of, view_of}
-use Rattle.overlay_pages.proofs.Steps.{overlay_lines, overlay_there}
+use Rattle.overlay_pages.proofs.Steps.{overlay_lines, overlay_there, seen_bare, seen_inside, seen_outside}
 use Rattle.overlay_pages.proofs.Overlaying.{Overlays}
 
 -- An overlay that ends, one that begins, and one that gets a line.
@@ -45,10 +43,7 @@ pub page_with : (v : LedgerView) (s p : ℕ) → IsSome (page_in v s p) → (o :
 page_with v s p some o over = at (page_in v s p) refl some
   where
     at : (f : Option PageView) → page_in v s p ≡ f → IsSome f → Has v s p o
-    at None e none = absurd (not_some none)
-      where
-        not_some : IsSome {T = PageView} None → ⊥
-        not_some h = cc
+    at None e none = cc
     at (Some x) e found = record { x = x; there = e; is = sym (ap (λ (f : Option PageView). option_and_then (λ (y : PageView). y.overlay) f) e) ∙ over }
 
 -- The segments after one of them changed.
@@ -72,28 +67,19 @@ dropped old store table s p x e is there over ends kept frames free whole is_sto
     record {
       there = there;
       table_is = table_is;
-      was_there = λ f same. ap (λ (o : Option Entry). option_map_or (λ (y : Entry). y.block.unit) o 0) (sym same ∙ over);
-      was_free = λ none. absurd_some (sym over ∙ none);
-      now_there = λ f h. absurd_none f h;
+      was_there = λ f same. ap (λ (y : Entry). y.block.unit) (same_Some _ _ (sym same ∙ over));
+      was_free = λ none. absurd (none-some e (sym none ∙ over));
+      now_there = λ f h. absurd (none-some f h);
       here = segment_set old.store e.block.unit store.segments None (unit_low old.store is.store e.block.unit (segment_of s p e) (held.segment e over)) ends.segments;
       elsewhere = segment_beside old.store e.block.unit store.segments None ends.segments;
       kept = kept;
       frames = frames;
       store = is_store;
       whole = whole;
-      lined = λ f h. absurd (absurd_empty f h);
-      size = λ f h. absurd (absurd_empty f h);
+      lined = λ f h. absurd (none-some f h);
+      size = λ f h. absurd (none-some f h);
       free = omega (arith, free, held.size e over, class_none, ap (λ (o : Option Entry). class (length (lines_of o))) over);
     }
-  where
-    absurd_some : Some e ≡ None → segment_at old.store e.block.unit ≡ None
-    absurd_some h = cc
-
-    absurd_none : (f : Entry) → None ≡ Some f → f.block.unit ≡ e.block.unit
-    absurd_none f h = cc
-
-    absurd_empty : (f : Entry) → None ≡ Some f → ⊥
-    absurd_empty f h = cc
 
 pub dropped_page : (old : MemoryView) (store : Store) (s p : ℕ) (x : PageView) → IsHeld old.store s p x → KeepsFrames old.store store
     → page_state store (record { entry = x.entry; overlay = None }) ≡ discarded (page_state old.store x)
@@ -106,19 +92,10 @@ dropped_page old store s p x held frames =
 pub bare_discarded : (store : Store) (x : PageView) → x.overlay ≡ None → discarded (page_state store x) ≡ page_state store x
 unfolding page_state
 bare_discarded store x bare =
-    let lines : page_lines (frame_line store x.entry.frame) ≡ page_lines (line_seen store x) = sym (ap (λ (o : Option Entry). page_lines (line_seen store (record { entry = x.entry; overlay = o }))) bare) in
-    let own : [] ≡ lines_of x.overlay = sym (ap lines_of bare) in
-    λ i. record { entry = x.entry; own = own i; lines = lines i; base = page_lines (frame_line store x.entry.frame) }
+    let lines = sym (seen_bare store x bare) in
+    λ i. record { entry = x.entry; own = lines_of (sym bare i); lines = lines i; base = page_lines (frame_line store x.entry.frame) }
 
 -- Lines of a segment after a line came into it.
-
--- a test of two numbers
-by_line : (P : Bool → Type 0) (line i : ℕ) → (line ≡ i → P true) → ((line ≡ i → ⊥) → P false) → P (nat_eq line i)
-by_line P line i same other = at (cases_eq line i)
-  where
-    at : (line ≡ i) ⊎ (line ≡ i → ⊥) → P (nat_eq line i)
-    at (inl h) = let yes_ : nat_eq line i ≡ true = grind (arith, nat_tests) in subst P (sym yes_) (same h)
-    at (inr h) = let no_ : nat_eq line i ≡ false = grind (arith, nat_tests) in subst P (sym no_) (other h)
 
 -- A page with an overlay of these lines, line by line: it has a line that came in, and others that it had, or took from scratch.
 pub record Fills (old new : Store) (block : Block) (bits : List ℕ) (line : ℕ) (bytes : List ℕ) (each : ℕ → List ℕ) : Type 0 where
@@ -128,16 +105,17 @@ pub record Fills (old new : Store) (block : Block) (bits : List ℕ) (line : ℕ
 filled_line : (old new : Store) (block : Block) (bits : List ℕ) (line : ℕ) (bytes : List ℕ) (each : ℕ → List ℕ) (x : PageView) → Fills old new block bits line bytes each → KeepsFrame old new x.entry.frame → (i : ℕ) → i < 64
     → line_seen new (record { entry = x.entry; overlay = Some (record { bits = with_line bits line; block = block }) }) i
     ≡ cond (nat_eq line i) bytes (cond (has_line bits i) (each i) (frame_line old x.entry.frame i))
-filled_line old new block bits line bytes each x fills frame i low =
-    ap (λ b. line_of new.lines (cond b (place_of new block i) (frame_place x.entry.frame i))) (has_with bits line i)
-    ∙ by_line (λ t. line_of new.lines (cond (t || has_line bits i) (place_of new block i) (frame_place x.entry.frame i)) ≡ cond t bytes (cond (has_line bits i) (each i) (frame_line old x.entry.frame i))) line i
-    (λ same. ap (line_in new block) (sym same) ∙ fills.here)
-    (λ other. at (has_line bits i) refl other)
+filled_line old new block bits line bytes each x fills frame i low = at (nat_eq line i) (has_line bits i) refl refl
   where
-    at : (b : Bool) → has_line bits i ≡ b → (line ≡ i → ⊥)
-        → line_of new.lines (cond b (place_of new block i) (frame_place x.entry.frame i)) ≡ cond b (each i) (frame_line old x.entry.frame i)
-    at true has other = fills.others i has other
-    at false has other = frame.lines i low
+    y : PageView
+    y = record { entry = x.entry; overlay = Some (record { bits = with_line bits line; block = block }) }
+
+    at : (a b : Bool) → nat_eq line i ≡ a → has_line bits i ≡ b → line_seen new y i ≡ cond a bytes (cond b (each i) (frame_line old x.entry.frame i))
+    at true b e h =
+        let same : line ≡ i = grind (arith, nat_tests) in
+        seen_inside new y _ i refl (has_with bits line i ∙ ap (λ t. t || has_line bits i) e) ∙ ap (line_in new block) (sym same) ∙ fills.here
+    at false true e h = seen_inside new y _ i refl (has_with bits line i ∙ (λ j. e j || h j)) ∙ fills.others i h (λ same. true≢false (sym (are line i same) ∙ e))
+    at false false e h = seen_outside new y i (has_with bits line i ∙ (λ j. e j || h j)) ∙ frame.lines i low
 
 -- so the page is laid
 pub laid_page : (old was new : Store) (block : Block) (bits : List ℕ) (line : ℕ) (bytes : List ℕ) (x : PageView) → Fills old new block bits line bytes (scratch_line was) → KeepsFrame old new x.entry.frame
@@ -157,16 +135,15 @@ pub joined_page : (old new : Store) (e : Entry) (line : ℕ) (bytes : List ℕ) 
 unfolding page_state
 joined_page old new e line bytes x over low fills frame =
     let own : with_line e.bits line ≡ with_line (lines_of x.overlay) line = ap (λ (o : Option Entry). with_line (lines_of o) line) (sym over) in
-    let seen : (i : ℕ) → line_seen old (record { entry = x.entry; overlay = Some e }) i ≡ line_seen old x i = λ i. ap (λ (o : Option Entry). line_seen old (record { entry = x.entry; overlay = o }) i) (sym over) in
-    let lines = lines_same (line_seen new (record { entry = x.entry; overlay = Some (record { bits = with_line e.bits line; block = e.block }) })) (λ i. cond (nat_eq line i) bytes (line_seen old x i))
-    (λ i below. filled_line old new e.block e.bits line bytes (line_in old e.block) x fills frame i below ∙ ap (λ l. cond (nat_eq line i) bytes l) (pulled (has_line e.bits i) i ∙ seen i)) in
-    let all = lines ∙ sym (set_line (line_seen old x) line bytes low) in
+    let lines = lines_same _ (λ i. cond (nat_eq line i) bytes (line_seen old x i))
+    (λ i below. filled_line old new e.block e.bits line bytes (line_in old e.block) x fills frame i below ∙ ap (λ l. cond (nat_eq line i) bytes l) (pulled (has_line e.bits i) i refl))
+    ∙ sym (set_line (line_seen old x) line bytes low) in
     let base = lines_same (frame_line new x.entry.frame) (frame_line old x.entry.frame) frame.lines in
-    λ i. record { entry = x.entry; own = own i; lines = all i; base = base i }
+    λ i. record { entry = x.entry; own = own i; lines = lines i; base = base i }
   where
-    pulled : (b : Bool) (i : ℕ) → cond b (line_in old e.block i) (frame_line old x.entry.frame i) ≡ line_of old.lines (cond b (place_of old e.block i) (frame_place x.entry.frame i))
-    pulled true i = refl
-    pulled false i = refl
+    pulled : (b : Bool) (i : ℕ) → has_line e.bits i ≡ b → cond b (line_in old e.block i) (frame_line old x.entry.frame i) ≡ line_seen old x i
+    pulled true i has = sym (seen_inside old x e i over has)
+    pulled false i lacks = sym (seen_outside old x i (ap (λ (o : Option Entry). has_line (lines_of o) i) over ∙ lacks))
 
 -- A page that is put where it is changes nothing.
 pub bare_state : (v : MemoryView) (s p : ℕ) → Has v.table s p None → state_of v ≡ turned_page discarded (state_of v) s p
@@ -199,9 +176,9 @@ inserted old store table s p x e line is there over low absent fits now kept fra
     record {
       there = there;
       table_is = table_is;
-      was_there = λ f same. ap (λ (o : Option Entry). option_map_or (λ (y : Entry). y.block.unit) o 0) (sym same ∙ over);
-      was_free = λ none. absurd (no_entry (sym none ∙ over));
-      now_there = λ f same. ap (λ (o : Option Entry). option_map_or (λ (y : Entry). y.block.unit) o 0) (sym same);
+      was_there = λ f same. ap (λ (y : Entry). y.block.unit) (same_Some _ _ (sym same ∙ over));
+      was_free = λ none. absurd (none-some e (sym none ∙ over));
+      now_there = λ f same. ap (λ (y : Entry). y.block.unit) (same_Some _ _ (sym same));
       here = ap (λ l. get_or l e.block.unit None) now.segments
           ∙ refilled old.store.segments e.block.unit (segment_of s p e) (lines_with old.store e.block line) (held.segment e over) (unit_low old.store is.store e.block.unit (segment_of s p e) (held.segment e over))
           ∙ ap (λ l. Some (record { owner = overlay_page s p; order = e.block.order; bits = with_line l line })) (overlay_lines old.store s p x e held over);
@@ -210,19 +187,13 @@ inserted old store table s p x e line is there over low absent fits now kept fra
       frames = frames;
       store = is_store;
       whole = ap units_in now.blocks;
-      lined = λ f same. subst (λ (g : Entry). 0 < length g.bits) (given f same) (omega (arith, count));
-      size = λ f same. subst (λ (g : Entry). 2 ^ g.block.order ≡ class (length g.bits)) (given f same) size_now;
+      lined = λ f same. subst (λ (g : Entry). 0 < length g.bits) (same_Some _ f same) (omega (arith, count));
+      size = λ f same. subst (λ (g : Entry). 2 ^ g.block.order ≡ class (length g.bits)) (same_Some _ f same) size_now;
       free = omega (arith, ap free_units now.blocks, size_now, held.size e over, ap (λ (o : Option Entry). class (length (lines_of o))) over);
     }
   where
     held : IsHeld old.store s p x
     held = is.held s p x there
-
-    no_entry : None ≡ Some e → ⊥
-    no_entry h = cc
-
-    given : (f : Entry) → Some (record { bits = with_line e.bits line; block = e.block }) ≡ Some f → record { bits = with_line e.bits line; block = e.block } ≡ f
-    given f same = ap (λ (o : Option Entry). option_map_or (λ (y : Entry). y) o f) same
 
     count : length (with_line e.bits line) ≡ length e.bits + 1
     count = count_with e.bits line (sets_are old.store s p x e is.store held over) low ∙ ap (λ b. length e.bits + cond b 0 1) absent
@@ -306,9 +277,9 @@ module _ (old : MemoryView) (began filled store : Store) (table : LedgerView) (s
   begun table_is = record {
     there = there;
     table_is = table_is;
-    was_there = λ f over. absurd (no_entry f (sym bare ∙ over));
+    was_there = λ f over. absurd (none-some f (sym bare ∙ over));
     was_free = λ none. so.begins.fresh;
-    now_there = λ f same. ap (λ (o : Option Entry). option_map_or (λ (y : Entry). y.block.unit) o 0) (sym same);
+    now_there = λ f same. ap (λ (y : Entry). y.block.unit) (same_Some _ _ (sym same));
     here = now_there;
     elsewhere = λ unit away. segment_beside filled block.unit store.segments _ so.lines_now.segments unit away ∙ segment_beside began block.unit filled.segments _ so.laid_lines.segments unit away
         ∙ segment_beside old.store block.unit began.segments _ so.begins.segments unit away;
@@ -316,16 +287,10 @@ module _ (old : MemoryView) (began filled store : Store) (table : LedgerView) (s
     frames = begun_frames;
     store = so.new_is;
     whole = ap units_in so.lines_now.blocks ∙ ap units_in so.laid_lines.blocks ∙ so.whole;
-    lined = λ f same. subst (λ (g : Entry). 0 < length g.bits) (given f same) (omega (arith, count_now));
-    size = λ f same. subst (λ (g : Entry). 2 ^ g.block.order ≡ class (length g.bits)) (given f same) size_now;
+    lined = λ f same. subst (λ (g : Entry). 0 < length g.bits) (same_Some _ f same) (omega (arith, count_now));
+    size = λ f same. subst (λ (g : Entry). 2 ^ g.block.order ≡ class (length g.bits)) (same_Some _ f same) size_now;
     free = omega (arith, ap free_units so.lines_now.blocks, ap free_units so.laid_lines.blocks, so.loses, size_now, class_none, ap (λ (o : Option Entry). class (length (lines_of o))) bare);
   }
-    where
-      no_entry : (f : Entry) → None ≡ Some f → ⊥
-      no_entry f h = cc
-
-      given : (f : Entry) → Some entry ≡ Some f → entry ≡ f
-      given f same = ap (λ (o : Option Entry). option_map_or (λ (y : Entry). y) o f) same
 
   pub begun_page : page_state store (record { entry = x.entry; overlay = Some entry }) ≡ laid old.store bits line bytes (page_state old.store x)
   begun_page =

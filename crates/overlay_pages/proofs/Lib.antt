@@ -8,6 +8,7 @@ pub mod Growing
 pub mod Bringing
 pub mod Filling
 pub mod Tables
+pub mod Coming
 pub mod Zeros
 pub mod Lending
 pub mod Found

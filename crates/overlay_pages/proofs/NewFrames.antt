@@ -1,50 +1,34 @@
-use Rattle.std.specs.Prelude.{◌≡◌, ℕ, ◌+◌, ◌*◌, ◌<◌, ◌≤◌, ◌⊎◌, ◌||◌, Bool, true, false, cond, not, nat_eq, List, [], Option, Some, None, IfSome, IsSome, is_some, length, refl}
-use Rattle.std.proofs.Common.{sym, ap, subst, ◌∙◌, arith, inl}
+use Rattle.std.proofs.Common.{◌≡◌, ℕ, ◌+◌, ◌<◌, Bool, true, false, cond, nat_eq, List, [], Option, Some, None, IfSome, length, refl, true≢false, sym, ap, subst, ◌∙◌, arith, inl}
+use Rattle.std.proofs.lemmas.Option.{none-some, same_Some}
 use Rattle.std.proofs.lemmas.Bool.Decides.{nat_tests}
 use Rattle.std.specs.Option.{option_and_then, option_map, option_map_or}
 use Rattle.sizes.specs.declared.TheConstants.{FRAME_UNITS}
 use Rattle.unit_map.specs.Pieces.{free_units, units_in}
-use Rattle.overlay_address.specs.Names.{overlay_page}
 use Rattle.overlay_mapping_table.specs.declared.entry.Entry.{Entry}
 use Rattle.ledger.specs.Ledger.{Holding, Ledger, has_origin, holding_at, is_alone, is_unused, with_page, without_page}
 use Rattle.ledger.specs.Units.{class, units}
 use Rattle.ledger.specs.ClassLaws.{class_none}
 use Rattle.ledger.specs.UnitLaws.{frame_for, units_changed}
-use Rattle.ledger.specs.AloneLaws.{holder, not_true, origin_of, unused_from, unused_without}
-use Rattle.segment_store.specs.declared.segment.Segment.{Segment}
+use Rattle.ledger.specs.AloneLaws.{arent, holder, not_true, unused_from, unused_parts, unused_without}
 use Rattle.segment_store.specs.Kept.{IsStore}
-use Rattle.segment_store.specs.Store.{Store, IsFrame, frame_line, segment_at}
+use Rattle.segment_store.specs.Store.{Store, IsFrame, frame_line}
 use Rattle.segment_store.specs.Changes.{KeepsFrame, KeepsFrames, KeepsSegments}
 use Rattle.segment_store.specs.Laws.{frame_inside}
+use Rattle.space_maps.specs.Options.{map_from}
 use Rattle.space_maps.specs.Books.{books_page, books_put_page}
 use Rattle.space_maps.specs.Laws.{changed_there, set_some, there_space}
-use Rattle.space_maps.specs.Spaces.{page_in, put_page, set_page}
+use Rattle.space_maps.specs.Spaces.{page_in, put_page, put_space, set_page}
 use Rattle.space_ledger.specs.View as view
 use Rattle.space_ledger.specs.View.{LedgerView, PageView, holding_of, ledger_of, lines_of, overlay_at, with_frame}
 use Rattle.overlay_pages.specs.Lines.{page_lines}
 use Rattle.overlay_pages.specs.LineLaws.{lines_same}
+use Rattle.overlay_pages.specs.State.{PageState, State, books}
 use Rattle.overlay_pages.specs.Changes.{IsNewFrame, IsPlaced, moved_to}
 use Rattle.overlay_pages.specs.Steps.{FillsFrame}
 use Rattle.overlay_pages.specs.View.{IsHeld, IsJoined, MemoryView, page_state, segment_of, state_of, view_of}
 use Rattle.overlay_pages.specs.ViewLaws.{state_books, state_frames, state_page_there, state_zero}
-use Rattle.overlay_pages.proofs.Steps.{Step, names_apart, some_page, state_stepped, stepped}
+use Rattle.overlay_pages.proofs.Steps.{Step, not_owned, state_stepped, stepped}
 use Rattle.overlay_pages.proofs.Filling.{segments_twice}
-use Rattle.overlay_pages.proofs.Lending.{true_false}
-
--- A page that has no overlay names no segment.
-pub not_bare : (v : MemoryView) (s p : ℕ) (x : PageView) (unit : ℕ) (segment : Segment) → IsJoined v → page_in v.table s p ≡ Some x → x.overlay ≡ None → segment_at v.store unit ≡ Some segment
-    → segment.owner ≡ overlay_page s p → ⊥
-not_bare v s p x unit segment is there bare at_unit named =
-    let mine = is.held s p x there in
-    let own = is.owned unit segment at_unit in
-    let theirs = is.held own.space own.page own.x own.there in
-    names_apart s p own.space own.page mine.number mine.low theirs.number theirs.low (sym own.owner ∙ named)
-    (λ qq rr.
-    let same : own.x ≡ x = some_page own.x x (sym own.there ∙ ap (λ n. page_in v.table n own.page) qq ∙ ap (page_in v.table s) rr ∙ there) in
-    nothing own.overlay (sym bare ∙ ap (λ (y : PageView). y.overlay) (sym same) ∙ own.is))
-  where
-    nothing : (e : Entry) → None ≡ Some e → ⊥
-    nothing e h = cc
 
 -- A frame that wasn't taken is named by no page.
 
@@ -52,43 +36,24 @@ origin_named : (z f g : ℕ) → nat_eq (view.origin_of z g) (f + 1) ≡ true �
 origin_named z f g h = at (nat_eq g z) refl
   where
     at : (b : Bool) → nat_eq g z ≡ b → g ≡ f
-    at true e =
-        let none : view.origin_of z g ≡ 0 = ap (λ b. cond b 0 (g + 1)) e in
-        let no : nat_eq (view.origin_of z g) (f + 1) ≡ false = ap (λ n. nat_eq n (f + 1)) none ∙ zero_isnt f in
-        absurd (true_false (sym h ∙ no))
-      where
-        zero_isnt : (n : ℕ) → nat_eq 0 (n + 1) ≡ false
-        zero_isnt n = grind (arith, nat_tests)
+    at true e = absurd (true≢false (sym h ∙ ap (λ b. nat_eq (cond b 0 (g + 1)) (f + 1)) e ∙ arent 0 (f + 1) (λ n. omega (arith, n))))
     at false e =
-        let some : view.origin_of z g ≡ g + 1 = ap (λ b. cond b 0 (g + 1)) e in
-        let same : nat_eq (g + 1) (f + 1) ≡ true = ap (λ n. nat_eq n (f + 1)) (sym some) ∙ h in
+        let same : nat_eq (g + 1) (f + 1) ≡ true = sym (ap (λ b. nat_eq (cond b 0 (g + 1)) (f + 1)) e) ∙ h in
         grind (arith, nat_tests, same)
-
-page_back : (v : LedgerView) (q r : ℕ) (h : Holding) → holding_at (ledger_of v) q r ≡ Some h → (P : Type 0) → ((y : PageView) → page_in v q r ≡ Some y → h ≡ holding_of v.zero_frame y → P) → P
-page_back v q r h there P go = at (page_in v q r) refl
-  where
-    at : (o : Option PageView) → page_in v q r ≡ o → P
-    at None e = absurd (nothing h (sym (books_page holding_of v q r ∙ ap (option_map (holding_of v.zero_frame)) e) ∙ there))
-      where
-        nothing : (k : Holding) → None ≡ Some k → ⊥
-        nothing k n = cc
-    at (Some y) e = go y e (ap (λ (o : Option Holding). option_map_or (λ (k : Holding). k) o h) (sym there ∙ books_page holding_of v q r ∙ ap (option_map (holding_of v.zero_frame)) e))
 
 pub nobody_has : (v : LedgerView) (frame : ℕ) → ((q r : ℕ) (y : PageView) → page_in v q r ≡ Some y → y.entry.frame ≡ frame → ⊥) → has_origin (ledger_of v) (frame + 1) ≡ false
 nobody_has v frame none = not_true (has_origin (ledger_of v) (frame + 1)) (λ had.
     let h = holder (ledger_of v) (frame + 1) had in
-    page_back v h.space h.page h.holding h.there ⊥
-    (λ y there same. none h.space h.page y there (origin_named v.zero_frame frame y.entry.frame (ap (λ (k : Holding). nat_eq k.origin (frame + 1)) (sym same) ∙ h.passes))))
+    map_from (holding_of v.zero_frame) (page_in v h.space h.page) h.holding (sym (books_page holding_of v h.space h.page) ∙ h.there)
+    (λ y there same. none h.space h.page y there (origin_named v.zero_frame frame y.entry.frame (ap (λ (k : Holding). nat_eq k.origin (frame + 1)) same ∙ h.passes))))
 
-pub nobody_names : (v : LedgerView) (frame : ℕ) → has_origin (ledger_of v) (frame + 1) ≡ false → (frame ≡ v.zero_frame → ⊥) → (q r : ℕ) (y : PageView) → page_in v q r ≡ Some y → y.entry.frame ≡ frame → ⊥
-nobody_names v frame none isnt q r y there same =
-    let zero_no : nat_eq y.entry.frame v.zero_frame ≡ false = grind_ne y.entry.frame v.zero_frame (λ e. isnt (sym same ∙ e)) in
-    let origin : view.origin_of v.zero_frame y.entry.frame ≡ frame + 1 = ap (λ b. cond b 0 (y.entry.frame + 1)) zero_no ∙ ap (λ n. n + 1) same in
-    let has = origin_of (ledger_of v) q r (holding_of v.zero_frame y) (books_page holding_of v q r ∙ ap (option_map (holding_of v.zero_frame)) there) in
-    true_false (sym has ∙ ap (has_origin (ledger_of v)) origin ∙ none)
-  where
-    grind_ne : (a b : ℕ) → (a ≡ b → ⊥) → nat_eq a b ≡ false
-    grind_ne a b d = grind (arith, nat_tests, d)
+-- A frame that is new where a page is another one was new before, if no page had it.
+pub new_still : (st : State) (s p : ℕ) (y : PageState) (frame : ℕ) → (has_origin (books (put_page st s p y)) (frame + 1) ≡ false → has_origin (books st) (frame + 1) ≡ false)
+    → IsNewFrame (put_page st s p y) frame → IsNewFrame st frame
+unfolding put_page put_space
+new_still st s p y frame back fresh =
+    let parts = unused_parts (books (put_page st s p y)) (frame + 1) fresh.unused in
+    record { inside = fresh.inside; other = fresh.other; unused = unused_from (books st) (frame + 1) parts.0 (back parts.1) }
 
 -- A page gets a new frame.
 pub record TakesFrame (old taken filled : Store) (frame : ℕ) (given : ℕ → List ℕ) : Type 0 where
@@ -127,12 +92,9 @@ module _ (a : MemoryView) (taken filled : Store) (table : LedgerView) (s p : ℕ
   frame_new = record {
     inside = omega (arith, frame_in, state_frames a);
     other = λ e. takes.fresh (subst (IsFrame a.store) (sym (e ∙ state_zero a)) is.zero);
-    unused = ap (λ (l : Ledger). is_unused l (frame + 1)) (state_books a) ∙ unused_from (ledger_of a.table) (frame + 1) (suc_isnt frame) nobody;
+    unused = ap (λ (l : Ledger). is_unused l (frame + 1)) (state_books a) ∙ unused_from (ledger_of a.table) (frame + 1) (arent (frame + 1) 0 (λ n. omega (arith, n))) nobody;
   }
     where
-      suc_isnt : (n : ℕ) → nat_eq (n + 1) 0 ≡ false
-      suc_isnt n = grind (arith, nat_tests)
-
       nobody : has_origin (ledger_of a.table) (frame + 1) ≡ false
       nobody = nobody_has a.table frame (λ q r y at_y same. takes.fresh (subst (IsFrame a.store) same (is.held q r y at_y).frame))
 
@@ -154,14 +116,11 @@ module _ (a : MemoryView) (taken filled : Store) (table : LedgerView) (s p : ℕ
       let changes = units_changed l s p (holding_of a.table.zero_frame x) (holding_of a.table.zero_frame placed) held in
       let none : class (length (lines_of x.overlay)) ≡ 0 = ap (λ (o : Option Entry). class (length (lines_of o))) bare ∙ class_none in
       let before : frame_for (is_alone l s p) ≡ 0 = ap frame_for shared in
-      let zero_no : nat_eq frame a.table.zero_frame ≡ false = ne frame a.table.zero_frame (λ e. takes.fresh (subst (IsFrame a.store) (sym e) is.zero)) in
+      let zero_no : nat_eq frame a.table.zero_frame ≡ false = arent frame a.table.zero_frame (λ e. takes.fresh (subst (IsFrame a.store) (sym e) is.zero)) in
       let origin : view.origin_of a.table.zero_frame frame ≡ frame + 1 = ap (λ b. cond b 0 (frame + 1)) zero_no in
       let unused = unused_without l s p (frame + 1) (sym (ap (λ (k : Ledger). is_unused k (frame + 1)) (state_books a)) ∙ frame_new.unused) in
       let after : frame_for (is_unused (without_page l s p) (view.origin_of a.table.zero_frame frame)) ≡ 16 = ap (λ o. frame_for (is_unused (without_page l s p) o)) origin ∙ ap frame_for unused in
       omega (arith, ap units now, changes, none, before, after, class_none)
-    where
-      ne : (a b : ℕ) → (a ≡ b → ⊥) → nat_eq a b ≡ false
-      ne a b d = grind (arith, nat_tests, d)
 
   placed_step : Step a (view_of filled table) s p (Some placed)
   placed_step = record {
@@ -174,10 +133,10 @@ module _ (a : MemoryView) (taken filled : Store) (table : LedgerView) (s p : ℕ
     segments = λ q r y e d at_y over. segments_kept e.block.unit (segment_of q r e) ((is.held q r y at_y).segment e over);
     frames = λ q r y d at_y. frame_kept y.entry.frame (is.held q r y at_y).frame;
     zero = frame_kept a.table.zero_frame is.zero;
-    held = λ y same. subst (IsHeld filled s p) (some_page placed y same) held_now;
+    held = λ y same. subst (IsHeld filled s p) (same_Some placed y same) held_now;
     owned = λ unit segment at_unit.
         let before = sym (ap (λ l. Rattle.std.specs.Prelude.slice_index_or l unit None) (takes.fills.same ∙ takes.same)) ∙ at_unit in
-        inl (before, not_bare a s p x unit segment is there bare before);
+        inl (before, not_owned a s p unit segment is (is.held s p x there).number (is.held s p x there).low (ap (option_and_then (λ (y : PageView). y.overlay)) there ∙ bare) before);
     count = omega (arith, is.count, units_now, takes.free, ap free_units takes.fills.blocks, ap units_in takes.fills.blocks, takes.whole);
   }
     where
@@ -186,13 +145,10 @@ module _ (a : MemoryView) (taken filled : Store) (table : LedgerView) (s p : ℕ
         number = (is.held s p x there).number;
         low = (is.held s p x there).low;
         frame = takes.fills.stays;
-        segment = λ e h. absurd (no_entry e h);
-        lined = λ e h. absurd (no_entry e h);
-        size = λ e h. absurd (no_entry e h);
+        segment = λ e h. absurd (none-some e h);
+        lined = λ e h. absurd (none-some e h);
+        size = λ e h. absurd (none-some e h);
       }
-        where
-          no_entry : (e : Entry) → None ≡ Some e → ⊥
-          no_entry e h = cc
 
   pub placed_joined : IsJoined (view_of filled table)
   placed_joined = stepped a (view_of filled table) s p (Some placed) is placed_step

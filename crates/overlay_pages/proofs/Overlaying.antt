@@ -1,7 +1,6 @@
-use Rattle.std.specs.Prelude.{◌≡◌, ℕ, ◌+◌, ◌^◌, ◌<◌, ◌⊎◌, Option, Some, None, length, refl}
-use Rattle.std.proofs.Common.{sym, ap, subst, ◌∙◌, arith, inl, inr}
+use Rattle.std.proofs.Common.{option_map, ◌≡◌, ℕ, ◌+◌, ◌^◌, ◌<◌, ◌⊎◌, Option, Some, None, length, refl, sym, ap, subst, ◌∙◌, arith, inl, inr}
+use Rattle.std.proofs.lemmas.Option.{none-some, same_Some}
 use Rattle.std.proofs.lemmas.Bool.{cases_eq}
-use Rattle.std.specs.Option.{option_map, option_map_or}
 use Rattle.unit_map.specs.Pieces.{free_units, units_in}
 use Rattle.overlay_address.specs.Names.{overlay_page}
 use Rattle.overlay_mapping_table.specs.declared.entry.Entry.{Entry}
@@ -19,7 +18,7 @@ use Rattle.space_ledger.specs.View.{PageView, holding_of, ledger_of, lines_of, w
 use Rattle.overlay_pages.specs.State.{PageState}
 use Rattle.overlay_pages.specs.View.{IsHeld, IsJoined, IsOwned, MemoryView, page_state, segment_of, state_of}
 use Rattle.overlay_pages.specs.ViewLaws.{state_page_there}
-use Rattle.overlay_pages.proofs.Steps.{Step, names_apart, some_page, state_stepped, stepped}
+use Rattle.overlay_pages.proofs.Steps.{Step, names_apart, state_stepped, stepped, units_apart}
 
 -- An overlay begins, ends, or gets other lines.
 
@@ -51,20 +50,9 @@ module _ (old new : MemoryView) (s p : ℕ) (x : PageView) (o : Option Entry) (u
   not_there : (q r : ℕ) (y : PageView) (e : Entry) → (q ≡ s → r ≡ p → ⊥) → page_in old.table q r ≡ Some y → y.overlay ≡ Some e → e.block.unit ≡ u → ⊥
   not_there q r y e d there over at_unit = at x.overlay refl
     where
-      theirs : IsHeld old.store q r y
-      theirs = is.held q r y there
-
-      found : segment_at old.store u ≡ Some (segment_of q r e)
-      found = ap (segment_at old.store) (sym at_unit) ∙ theirs.segment e over
-
       at : (f : Option Entry) → x.overlay ≡ f → ⊥
-      at None bare = some_none (segment_of q r e) (sym found ∙ so.was_free bare)
-        where
-          some_none : (t : Segment) → Some t ≡ None → ⊥
-          some_none t h = cc
-      at (Some f) mine_over =
-          let own : Some (segment_of q r e) ≡ Some (segment_of s p f) = sym found ∙ ap (segment_at old.store) (sym (so.was_there f mine_over)) ∙ mine.segment f mine_over in
-          names_apart s p q r mine.number mine.low theirs.number theirs.low (ap (λ (t : Option Segment). option_map_or (λ (g : Segment). g.owner) t 0) own) d
+      at None bare = none-some (segment_of q r e) (sym (so.was_free bare) ∙ ap (segment_at old.store) (sym at_unit) ∙ (is.held q r y there).segment e over)
+      at (Some f) mine_over = units_apart old s p x f q r y e is so.there mine_over there over d (at_unit ∙ sym (so.was_there f mine_over))
 
   -- and no other segment is this page's
   not_mine : (unit : ℕ) (segment : Segment) → (unit ≡ u → ⊥) → segment_at old.store unit ≡ Some segment → segment.owner ≡ overlay_page s p → ⊥
@@ -72,7 +60,7 @@ module _ (old new : MemoryView) (s p : ℕ) (x : PageView) (o : Option Entry) (u
       let own = is.owned unit segment there in
       let theirs = is.held own.space own.page own.x own.there in
       names_apart s p own.space own.page mine.number mine.low theirs.number theirs.low (sym own.owner ∙ named) (λ qq rr.
-      let same : own.x ≡ x = some_page own.x x (sym own.there ∙ ap (λ n. page_in old.table n own.page) qq ∙ ap (page_in old.table s) rr ∙ so.there) in
+      let same : own.x ≡ x = same_Some own.x x (sym own.there ∙ ap (λ n. page_in old.table n own.page) qq ∙ ap (page_in old.table s) rr ∙ so.there) in
       away (sym own.unit_is ∙ so.was_there own.overlay (ap (λ (y : PageView). y.overlay) (sym same) ∙ own.is)))
 
   books_now : ledger_of new.table ≡ with_page (ledger_of old.table) s p (holding_of old.table.zero_frame (with_own x o))
@@ -100,7 +88,7 @@ module _ (old new : MemoryView) (s p : ℕ) (x : PageView) (o : Option Entry) (u
     segments = λ q r y e d there over. so.kept e.block.unit (segment_of q r e) (not_there q r y e d there over) ((is.held q r y there).segment e over);
     frames = λ q r y d there. so.frames y.entry.frame (is.held q r y there).frame;
     zero = so.frames old.table.zero_frame is.zero;
-    held = λ y same. subst (IsHeld new.store s p) (some_page (record { entry = x.entry; overlay = o }) y same) held_now;
+    held = λ y same. subst (IsHeld new.store s p) (same_Some (record { entry = x.entry; overlay = o }) y same) held_now;
     owned = owned;
     count = omega (arith, is.count, so.whole, so.free, units_now);
   }
@@ -116,10 +104,7 @@ module _ (old new : MemoryView) (s p : ℕ) (x : PageView) (o : Option Entry) (u
       }
 
       by_now : (unit : ℕ) (segment : Segment) → unit ≡ u → segment_at new.store unit ≡ Some segment → (f : Option Entry) → o ≡ f → IsOwned (put_page old.table s p (record { entry = x.entry; overlay = o })) unit segment
-      by_now unit segment same there None e = absurd_none (sym (ap (segment_at new.store) same ∙ so.here ∙ ap (option_map (segment_of s p)) e) ∙ there)
-        where
-          absurd_none : None ≡ Some segment → IsOwned (put_page old.table s p (record { entry = x.entry; overlay = o })) unit segment
-          absurd_none h = cc
+      by_now unit segment same there None e = absurd (none-some segment (sym (ap (segment_at new.store) same ∙ so.here ∙ ap (option_map (segment_of s p)) e) ∙ there))
       by_now unit segment same there (Some f) e = record {
         space = s;
         page = p;
@@ -128,7 +113,7 @@ module _ (old new : MemoryView) (s p : ℕ) (x : PageView) (o : Option Entry) (u
         there = page_put_here old.table s p (record { entry = x.entry; overlay = o }) s p refl refl;
         is = e;
         unit_is = so.now_there f e ∙ sym same;
-        owner = ap (λ (t : Option Segment). option_map_or (λ (g : Segment). g.owner) t 0) (sym there ∙ ap (segment_at new.store) same ∙ so.here ∙ ap (option_map (segment_of s p)) e);
+        owner = ap (λ (g : Segment). g.owner) (same_Some _ _ (sym there ∙ ap (segment_at new.store) same ∙ so.here ∙ ap (option_map (segment_of s p)) e));
       }
 
       owned : (unit : ℕ) (segment : Segment) → segment_at new.store unit ≡ Some segment

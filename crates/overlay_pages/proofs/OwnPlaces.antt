@@ -1,6 +1,6 @@
-use Rattle.std.specs.Prelude.{◌≡◌, ℕ, ◌+◌, ◌*◌, ◌^◌, ◌<◌, ◌≤◌, ◌⊎◌, Bool, true, false, cond, Option, Some, None, IsSome, refl}
-use Rattle.std.proofs.Common.{sym, ap, ◌∙◌, arith, inl, inr}
+use Rattle.std.proofs.Common.{◌≡◌, ℕ, ◌+◌, ◌*◌, ◌^◌, ◌<◌, ◌≤◌, ◌⊎◌, true, false, Option, Some, IsSome, refl, sym, ap, ◌∙◌, arith, inl, inr}
 use Rattle.std.proofs.lemmas.Bool.{cases_eq}
+use Rattle.std.proofs.lemmas.Option.{none-some, same_Some}
 use Rattle.std.specs.Option.{option_map, option_map_or}
 use Rattle.overlay_bits.specs.Lines.{has_line}
 use Rattle.overlay_mapping_table.specs.declared.entry.Entry.{Entry}
@@ -11,7 +11,7 @@ use Rattle.segment_store.specs.Laws.{frame_inside, inside_of, line_lies, places_
 use Rattle.space_maps.specs.Spaces.{page_in}
 use Rattle.space_ledger.specs.View.{PageView, lines_of, overlay_at}
 use Rattle.overlay_pages.specs.View.{HasOwnPlace, IsJoined, MemoryView, ShareFrameLine, place_at, place_in_page, segment_of}
-use Rattle.overlay_pages.proofs.Steps.{names_apart}
+use Rattle.overlay_pages.proofs.Steps.{by_spot, names_apart, place_inside, place_outside}
 use Rattle.overlay_pages.proofs.Joining.{Has, page_with}
 
 -- Where each line of a page stands, and that no other line stands there but those of its frame.
@@ -30,37 +30,16 @@ record InFrame (m : MemoryView) (q r i : ℕ) : Type 0 where
   pub lacks : has_line (lines_of x.overlay) i ≡ false
   pub place : place_at m q r i ≡ frame_place x.entry.frame i
 
+placed : (m : MemoryView) (q r i : ℕ) (o : Option Entry) (found : Has m.table q r o) → place_at m q r i ≡ place_in_page m.store found.x i
+placed m q r i o found = ap (λ (f : Option PageView). option_map_or (λ (x : PageView). place_in_page m.store x i) f 0) found.there
+
 stands : (m : MemoryView) (q r i : ℕ) → IsSome (page_in m.table q r) → InOverlay m q r i ⊎ InFrame m q r i
-stands m q r i there = at found.x.overlay refl
-  where
-    found : Has m.table q r (overlay_at m.table q r)
-    found = page_with m.table q r there (overlay_at m.table q r) refl
-
-    place : place_at m q r i ≡ place_in_page m.store found.x i
-    place = ap (λ (o : Option PageView). option_map_or (λ (x : PageView). place_in_page m.store x i) o 0) found.there
-
-    placed : (o : Option Entry) → found.x.overlay ≡ o → place_in_page m.store found.x i ≡ place_in_page m.store (record { entry = found.x.entry; overlay = o }) i
-    placed o e = ap (λ (f : Option Entry). place_in_page m.store (record { entry = found.x.entry; overlay = f }) i) e
-
-    in_set : (e : Entry) → found.x.overlay ≡ Some e → (b : Bool) → has_line e.bits i ≡ b → InOverlay m q r i ⊎ InFrame m q r i
-    in_set e over true has = inl (record {
-      x = found.x;
-      there = found.there;
-      overlay = e;
-      over = over;
-      has = has;
-      place = place ∙ placed (Some e) over ∙ ap (λ (b : Bool). cond b (place_of m.store e.block i) (frame_place found.x.entry.frame i)) has;
-    })
-    in_set e over false has = inr (record {
-      x = found.x;
-      there = found.there;
-      lacks = ap (λ (o : Option Entry). has_line (lines_of o) i) over ∙ has;
-      place = place ∙ placed (Some e) over ∙ ap (λ (b : Bool). cond b (place_of m.store e.block i) (frame_place found.x.entry.frame i)) has;
-    })
-
-    at : (o : Option Entry) → found.x.overlay ≡ o → InOverlay m q r i ⊎ InFrame m q r i
-    at None bare = inr (record { x = found.x; there = found.there; lacks = ap (λ (o : Option Entry). has_line (lines_of o) i) bare; place = place ∙ placed None bare })
-    at (Some e) over = in_set e over (has_line e.bits i) refl
+stands m q r i there =
+    let found = page_with m.table q r there (overlay_at m.table q r) refl in
+    let place = placed m q r i (overlay_at m.table q r) found in
+    by_spot found.x i
+    (λ e over has. inl (record { x = found.x; there = found.there; overlay = e; over = over; has = has; place = place ∙ place_inside m.store found.x e i over has }))
+    (λ lacks. inr (record { x = found.x; there = found.there; lacks = lacks; place = place ∙ place_outside m.store found.x i lacks }))
 
 -- the segment that a line stands in
 held_segment : (m : MemoryView) → IsJoined m → (q r i : ℕ) → (o : InOverlay m q r i) → segment_at m.store o.overlay.block.unit ≡ Some (segment_of q r o.overlay)
@@ -81,10 +60,7 @@ overlay_frame m is q r i s p j o f low same =
     taken = (is.held s p f.x f.there).frame
 
     apart : 16 * f.x.entry.frame ≡ o.overlay.block.unit → ⊥
-    apart e = nothing (sym (held_segment m is q r i o) ∙ ap (segment_at m.store) (sym e) ∙ taken.alone)
-      where
-        nothing : Some (segment_of q r o.overlay) ≡ None → ⊥
-        nothing h = cc
+    apart e = none-some (segment_of q r o.overlay) (sym taken.alone ∙ ap (segment_at m.store) e ∙ held_segment m is q r i o)
 
     inside : LiesIn m.store.lines o.overlay.block.unit o.overlay.block.order i
     inside = lies m is q r i o
@@ -118,7 +94,7 @@ module _ (m : MemoryView) (is : IsJoined m) (q r i s p j : ℕ) (one : InOverlay
           (is.store.taken two.overlay.block.unit (segment_of s p two.overlay) (held_segment m is s p j two)) n)
 
   one_segment : segment_of q r one.overlay ≡ segment_of s p two.overlay
-  one_segment = ap (λ (o : Option Segment). option_map_or (λ (g : Segment). g) o (segment_of q r one.overlay)) (sym (held_segment m is q r i one) ∙ ap (segment_at m.store) one_unit ∙ held_segment m is s p j two)
+  one_segment = same_Some _ _ (sym (held_segment m is q r i one) ∙ ap (segment_at m.store) one_unit ∙ held_segment m is s p j two)
 
   one_block : one.overlay.block ≡ two.overlay.block
   one_block = let unit = one_unit in let order : one.overlay.block.order ≡ two.overlay.block.order = ap (λ (g : Segment). g.order) one_segment in λ k. record { unit = unit k; order = order k }
@@ -150,14 +126,10 @@ frames_same m q r i s p j one two low below same = record {
 
 -- a line outside the overlay stands in the frame
 outside : (m : MemoryView) (q r i : ℕ) → IsSome (page_in m.table q r) → has_line (lines_of (overlay_at m.table q r)) i ≡ false → InFrame m q r i
-outside m q r i there lacks = at (stands m q r i there)
-  where
-    at : InOverlay m q r i ⊎ InFrame m q r i → InFrame m q r i
-    at (inr f) = f
-    at (inl o) = absurd (no (sym o.has ∙ ap (λ (f : Option Entry). has_line (lines_of f) i) (sym o.over) ∙ ap (λ (f : Option PageView). has_line (lines_of (Rattle.std.specs.Option.option_and_then (λ (x : PageView). x.overlay) f)) i) (sym o.there) ∙ lacks))
-      where
-        no : true ≡ false → ⊥
-        no h = cc
+outside m q r i there lacks =
+    let found = page_with m.table q r there (overlay_at m.table q r) refl in
+    let none = ap (λ (o : Option Entry). has_line (lines_of o) i) found.is ∙ lacks in
+    record { x = found.x; there = found.there; lacks = none; place = placed m q r i (overlay_at m.table q r) found ∙ place_outside m.store found.x i none }
 
 pub has_own_place : (m : MemoryView) → IsJoined m → (space page line : ℕ) → IsSome (page_in m.table space page) → line < 64 → HasOwnPlace m space page line
 has_own_place m is space page line there low = record {
@@ -176,7 +148,7 @@ has_own_place m is space page line there low = record {
     one : (q r i : ℕ) → ShareFrameLine m q r i space page line → InFrame m q r i → InFrame m space page line → place_at m q r i ≡ place_at m space page line
     one q r i so a b =
         let frame : a.x.entry.frame ≡ b.x.entry.frame =
-        ap (λ (o : Option ℕ). option_map_or (λ (n : ℕ). n) o 0) (sym (ap (option_map (λ (x : PageView). x.entry.frame)) a.there) ∙ so.frame ∙ ap (option_map (λ (x : PageView). x.entry.frame)) b.there) in
+        same_Some _ _ (sym (ap (option_map (λ (x : PageView). x.entry.frame)) a.there) ∙ so.frame ∙ ap (option_map (λ (x : PageView). x.entry.frame)) b.there) in
         omega (arith, a.place, b.place, so.number, frame)
 
     before : InOverlay m space page line ⊎ InFrame m space page line → place_at m space page line < scratch_place m.store

@@ -1,9 +1,6 @@
-use Rattle.std.specs.Prelude.{◌≡◌, ℕ, zero, suc, ◌+◌, ◌*◌, ◌<◌, ◌||◌, Bool, true, false, cond, nat_eq, IsSome, List, [], Option, Some, None, is_some, replicate, slice_index_or, refl}
-use Rattle.std.proofs.Common.{sym, ap, subst, ◌∙◌, arith, inl}
+use Rattle.std.proofs.Common.{◌≡◌, ℕ, zero, suc, ◌+◌, ◌*◌, ◌<◌, ◌||◌, Bool, true, false, cond, nat_eq, IsSome, List, [], Option, Some, None, is_some, replicate, slice_index_or, refl, true≢false, option_and_then, option_map, nat_cmp, sym, ap, subst, ◌∙◌, arith, inl}
 use Rattle.std.proofs.lemmas.Bool.Decides.{nat_tests}
 use Rattle.std.proofs.lemmas.List.{get_or-replicate}
-use Rattle.std.specs.Option.{option_and_then, option_map}
-use Rattle.std.specs.Ordering.{nat_cmp}
 use Rattle.std.specs.FinMap.{FinMap, empty, get, get-empty}
 use Rattle.sizes.specs.declared.TheConstants.{FRAME_UNITS, PAGE_LINES}
 use Rattle.unit_map.specs.Pieces.{free_at, free_frames, free_units, units_in}
@@ -15,7 +12,7 @@ use Rattle.ledger.specs.Units.{units, units_of}
 use Rattle.ledger.specs.ClassLaws.{class_none}
 use Rattle.ledger.specs.TallyLaws.{no_holdings}
 use Rattle.ledger.specs.UnitLaws.{alone_is, frame_for, no_units, units_new}
-use Rattle.ledger.specs.AloneLaws.{origin_with, unused_from, unused_parts, without_absent}
+use Rattle.ledger.specs.AloneLaws.{origin_with, without_absent}
 use Rattle.segment_store.specs.declared.segment.Segment.{Segment}
 use Rattle.segment_store.specs.Kept.{IsStore}
 use Rattle.segment_store.specs.Store.{Store, IsFrame, frame_line, segment_at}
@@ -23,7 +20,7 @@ use Rattle.segment_store.specs.Changes.{IsEmptyStore}
 use Rattle.segment_store.specs.Laws.{frame_inside}
 use Rattle.space_maps.specs.Books.{books_empty, books_page, books_put_page, books_spaces}
 use Rattle.space_maps.specs.Laws.{changed_there, cut_over, page_absent, page_over, page_put_here}
-use Rattle.space_maps.specs.Spaces.{cut_page, holds_space, page_in, put_page, put_pages, put_space, turned_page}
+use Rattle.space_maps.specs.Spaces.{cut_page, holds_space, page_in, put_page, put_pages, turned_page}
 use Rattle.space_maps.specs.Mapped.{mapped, mapped_none}
 use Rattle.space_ledger.specs.View as view
 use Rattle.space_ledger.specs.View.{LedgerView, PageView, SpaceView, holding_of, ledger_of, overlay_at, with_overlay, with_zero_pages}
@@ -33,9 +30,9 @@ use Rattle.overlay_pages.specs.Changes.{IsNewFrame, IsPlaced, whole_page, with_z
 use Rattle.overlay_pages.specs.Calls.{IsEmptyState}
 use Rattle.overlay_pages.specs.View.{IsJoined, MemoryView, page_state, state_of, view_of}
 use Rattle.overlay_pages.specs.ViewLaws.{state_page_there}
+use Rattle.overlay_pages.proofs.NewFrames.{new_still}
 use Rattle.overlay_pages.proofs.Growing.{turn_is}
 use Rattle.overlay_pages.proofs.Joining.{page_with}
-use Rattle.overlay_pages.proofs.Lending.{true_false}
 
 -- A page that was dropped and goes.
 
@@ -87,28 +84,15 @@ module _ (st : State) (s p : ℕ) (entry : PageEntry) (there : holds_space st s 
   without = without_absent (books st) s p (books_spaces held_page st s ∙ there) not_held
 
   new_before : (frame : ℕ) → IsNewFrame with_zero_page frame → IsNewFrame st frame
-  unfolding put_page put_space
-  new_before frame fresh = record { inside = fresh.inside; other = fresh.other; unused = unused }
+  new_before frame fresh = new_still st s p (whole_page entry zero_page) frame (λ none.
+      right (nat_eq (view.origin_of st.zero_frame entry.frame) (frame + 1)) (has_origin (books st) (frame + 1))
+      (ap (λ (l : Ledger). nat_eq (view.origin_of st.zero_frame entry.frame) (frame + 1) || has_origin l (frame + 1)) (sym without)
+      ∙ sym (origin_with (books st) s p (held_page st.zero_frame (whole_page entry zero_page)) (frame + 1))
+      ∙ ap (λ (l : Ledger). has_origin l (frame + 1)) (sym (books_put_page held_page st s p (whole_page entry zero_page))) ∙ none)) fresh
     where
-      parts : (nat_eq (frame + 1) 0 ≡ false) × (has_origin (books (put_page st s p (whole_page entry zero_page))) (frame + 1) ≡ false)
-      parts = unused_parts (books (put_page st s p (whole_page entry zero_page))) (frame + 1) fresh.unused
-
-      none : has_origin (books st) (frame + 1) ≡ false
-      none = at (has_origin (books st) (frame + 1)) refl
-        where
-          at : (b : Bool) → has_origin (books st) (frame + 1) ≡ b → has_origin (books st) (frame + 1) ≡ false
-          at false h = h
-          at true h =
-              let now = ap (λ (l : Ledger). has_origin l (frame + 1)) (books_put_page held_page st s p (whole_page entry zero_page)) ∙ origin_with (books st) s p (held_page st.zero_frame (whole_page entry zero_page)) (frame + 1) in
-              let some : has_origin (without_page (books st) s p) (frame + 1) ≡ true = ap (λ (l : Ledger). has_origin l (frame + 1)) without ∙ h in
-              absurd (true_false (sym (ap (λ b. nat_eq (view.origin_of st.zero_frame entry.frame) (frame + 1) || b) some ∙ or_true (nat_eq (view.origin_of st.zero_frame entry.frame) (frame + 1))) ∙ sym now ∙ parts.1))
-            where
-              or_true : (b : Bool) → (b || true) ≡ true
-              or_true true = refl
-              or_true false = refl
-
-      unused : is_unused (books st) (frame + 1) ≡ true
-      unused = unused_from (books st) (frame + 1) parts.0 none
+      right : (a b : Bool) → (a || b) ≡ false → b ≡ false
+      right true b h = cc
+      right false b h = h
 
   pub placed_before : (new : State) (at : ℕ → PageState) → IsPlaced with_zero_page new s p at → IsPlaced st new s p at
   placed_before new at is = record { frame = is.frame; fresh = new_before is.frame is.fresh; placed = is.placed ∙ page_over st s p (whole_page entry zero_page) (at is.frame) }
@@ -180,7 +164,7 @@ module _ (empty_store taken : Store) (table : LedgerView) (frames frame : ℕ) (
     store = store;
     frames = omega (arith, whole_is, frames_are);
     count = omega (arith, whole_is, units_are, free, ap free_units is.blocks, frames_free frames 0);
-    numbers = λ s there. let no_ = sym there ∙ ap is_some (no_space s) in absurd (true_false no_);
+    numbers = λ s there. let no_ = sym there ∙ ap is_some (no_space s) in absurd (true≢false no_);
     zero = subst (IsFrame taken) (sym zero_is) frame_is;
     zeros = λ i low. ap (λ f. frame_line taken f i) zero_is ∙ ap (λ l. line_of l (64 * frame + i)) (lines ∙ is.lines) ∙ zeros_at (PAGE_LINES * (frames + 1)) (64 * frame + i) (omega (arith, low, whole_is, frame_inside taken store frame frame_is)) ∙ sym line_is;
     held = λ s p x there. absurd (nothing x (sym (no_page s p) ∙ there));

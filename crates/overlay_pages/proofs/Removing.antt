@@ -1,7 +1,6 @@
-use Rattle.std.specs.Prelude.{◌≡◌, ℕ, zero, suc, ◌+◌, ◌<◌, ◌≤◌, true, cond, nat_eq, Option, Some, None, IsSome, is_some, refl}
-use Rattle.std.proofs.Common.{sym, ap, subst, ◌∙◌, arith}
+use Rattle.std.proofs.Common.{option_and_then, option_map, ◌≡◌, ℕ, zero, suc, ◌+◌, ◌<◌, ◌≤◌, true, cond, nat_eq, Option, Some, None, IsSome, is_some, refl, sym, ap, subst, ◌∙◌, arith}
+use Rattle.std.proofs.lemmas.Option.{same_Some}
 use Rattle.std.proofs.lemmas.Bool.Decides.{nat_tests}
-use Rattle.std.specs.Option.{option_and_then, option_map, option_map_or}
 use Rattle.sizes.specs.declared.TheConstants.{PAGE_END}
 use Rattle.ledger.specs.Ledger.{Ledger, holding_at}
 use Rattle.space_maps.specs.Books.{books_page}
@@ -28,7 +27,7 @@ held_zero v s p is = books_page holding_of v s p ∙ at (page_in v s p) is.0 is.
     at : (o : Option PageView) → option_map (λ (x : PageView). x.entry.frame) o ≡ Some v.zero_frame → option_and_then (λ (x : PageView). x.overlay) o ≡ None → option_map (holding_of v.zero_frame) o ≡ Some zero_holding
     at None frame bare = let no = ap is_some frame in cc
     at (Some x) frame bare =
-        let origin = zero_origin v.zero_frame x.entry.frame (ap (λ (o : Option ℕ). option_map_or (λ (n : ℕ). n) o v.zero_frame) frame) in
+        let origin = zero_origin v.zero_frame x.entry.frame (same_Some _ _ frame) in
         λ i. Some (record { origin = origin i; own = lines_of (bare i) })
 
 pub zeros_state : (view : MemoryView) (s from n : ℕ) → calls.AreBareOnZero view.table s from n → AreZeros (state_of view) s from n

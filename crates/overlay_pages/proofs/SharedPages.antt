@@ -1,5 +1,5 @@
-use Rattle.std.specs.Prelude.{◌≡◌, ℕ, ◌+◌, ◌*◌, ◌^◌, ◌<◌, ◌≤◌, ◌⊎◌, ◌&&◌, not, Bool, true, false, cond, nat_eq, List, [], Option, Some, None, IsSome, is_some, length, refl}
-use Rattle.std.proofs.Common.{sym, ap, subst, ◌∙◌, arith, inl, inr}
+use Rattle.std.proofs.Common.{◌≡◌, ℕ, ◌+◌, ◌^◌, ◌<◌, ◌≤◌, ◌⊎◌, ◌&&◌, not, Bool, true, false, cond, nat_eq, List, [], Option, Some, None, IsSome, is_some, length, refl, sym, ap, subst, ◌∙◌, arith, inl, inr}
+use Rattle.std.proofs.lemmas.Option.{none-some, same_Some}
 use Rattle.std.proofs.lemmas.Bool.{cases_eq}
 use Rattle.std.specs.Option.{option_and_then, option_map, option_map_or}
 use Rattle.std.specs.FinMap.{get, insert, remove}
@@ -9,20 +9,20 @@ use Rattle.unit_map.specs.declared.block.Block.{Block}
 use Rattle.overlay_bits.specs.Lines.{AreLines, has_line}
 use Rattle.overlay_address.specs.Names.{overlay_page}
 use Rattle.overlay_mapping_table.specs.declared.entry.Entry.{Entry}
-use Rattle.line_store.specs.Lines.{line_of}
+use Rattle.page_table.specs.Table.{Pages}
 use Rattle.page_table.specs.declared.entry.PageEntry.{PageEntry}
 use Rattle.ledger.specs.Ledger.{has_origin, is_unused}
-use Rattle.ledger.specs.Units.{class, units}
-use Rattle.ledger.specs.ClassLaws.{class_none}
-use Rattle.ledger.specs.UnitLaws.{frame_for, units_new}
-use Rattle.ledger.specs.AloneLaws.{origin_of, without_absent}
+use Rattle.ledger.specs.Units.{class}
+use Rattle.ledger.specs.UnitLaws.{frame_for}
+use Rattle.ledger.specs.AloneLaws.{origin_of}
 use Rattle.segment_store.specs.declared.segment.Segment.{Segment}
 use Rattle.segment_store.specs.Kept.{IsStore}
-use Rattle.segment_store.specs.Store.{Store, IsFrame, frame_line, frame_place, line_in, place_of, segment_at}
+use Rattle.segment_store.specs.Store.{Store, IsFrame, frame_line, segment_at}
 use Rattle.segment_store.specs.Changes.{Begins, HasLinesNow, KeepsFrames, KeepsOtherSegments, KeepsScratch, KeepsSegments, Lays, Lifts, block_of}
-use Rattle.space_maps.specs.Books.{books_page, books_put_page, books_spaces}
-use Rattle.space_maps.specs.Laws.{page_put_here, put_shared_as, set_some, there_space}
-use Rattle.space_maps.specs.Spaces.{holds_space, page_in, put_awaiting, put_page, put_shared, set_page, space_in}
+use Rattle.space_maps.specs.Options.{map_from, by_option}
+use Rattle.space_maps.specs.Books.{books_page}
+use Rattle.space_maps.specs.Laws.{page_put_here, put_shared_as, there_space}
+use Rattle.space_maps.specs.Spaces.{holds_space, page_in, put_awaiting, put_page, put_shared, space_in}
 use Rattle.space_ledger.specs.View as view
 use Rattle.space_ledger.specs.View.{LedgerView, PageView, SpaceView, frame_at, frame_awaiting, holding_of, ledger_of, lines_of, overlay_at, with_page_shared}
 use Rattle.overlay_pages.specs.Lines.{line_in_page, page_lines}
@@ -31,14 +31,15 @@ use Rattle.overlay_pages.specs.State.{PageState, State}
 use Rattle.overlay_pages.specs.Changes as changes
 use Rattle.overlay_pages.specs.Changes.{HasShareRoom, limit_of, shared_page, units_of}
 use Rattle.overlay_pages.specs.TableLaws.{state_awaiting_put}
-use Rattle.overlay_pages.specs.View.{IsHeld, IsJoined, IsOwned, MemoryView, line_seen, page_state, segment_of, state_of, view_of}
+use Rattle.overlay_pages.specs.View.{IsHeld, IsJoined, MemoryView, line_seen, page_state, segment_of, state_of, view_of}
 use Rattle.overlay_pages.specs.ViewLaws.{state_awaiting, state_holds, state_page_there}
-use Rattle.overlay_pages.proofs.Steps.{Step, names_apart, some_page, state_stepped, stepped}
+use Rattle.overlay_pages.proofs.Steps.{seen_bare, seen_inside, seen_outside}
+use Rattle.overlay_pages.proofs.Coming.{HasPlaceFor, came_joined, came_state}
 use Rattle.segment_store.specs.Pointers.{capacity_of}
 use Rattle.segment_store.specs.Laws.{count_fits, refilled, stays_twice}
 use Rattle.overlay_pages.proofs.Joining.{Has, frames_twice, order_low, overlay_segment, overlay_set, page_with, segment_beside, sets_are, unit_low}
 use Rattle.overlay_pages.proofs.Growing.{free_is, there_still}
-use Rattle.overlay_pages.proofs.Tables.{awaiting_joined, entry_state, own_state}
+use Rattle.overlay_pages.proofs.Tables.{awaiting_joined, frame_of_page, own_state}
 
 -- The page that is shared, and how it awaits.
 pub record Awaits (v : LedgerView) (from to p : ℕ) (o : Option Entry) : Type 0 where
@@ -50,27 +51,10 @@ pub record Awaits (v : LedgerView) (from to p : ℕ) (o : Option Entry) : Type 0
   pub frame_is : entry.frame ≡ x.entry.frame
 
 pub awaits : (v : LedgerView) (from to p : ℕ) (o : Option Entry) → IsSome (page_in v from p) → overlay_at v from p ≡ o → frame_awaiting v to p ≡ frame_at v from p → Awaits v from to p o
-awaits v from to p o there over framed = at (get (space_in v to).awaiting p) refl
-  where
-    found : Has v from p o
-    found = page_with v from p there o over
-
-    framed_at : frame_awaiting v to p ≡ Some found.x.entry.frame
-    framed_at = framed ∙ ap (option_map (λ (x : PageView). x.entry.frame)) found.there
-
-    at : (w : Option PageEntry) → get (space_in v to).awaiting p ≡ w → Awaits v from to p o
-    at None e = absurd (nothing (sym (ap (option_map (λ (f : PageEntry). f.frame)) e) ∙ framed_at))
-      where
-        nothing : None ≡ Some found.x.entry.frame → ⊥
-        nothing h = cc
-    at (Some f) e = record {
-      x = found.x;
-      there = found.there;
-      is = found.is;
-      entry = f;
-      waits = e;
-      frame_is = ap (λ (n : Option ℕ). option_map_or (λ (k : ℕ). k) n 0) (sym (ap (option_map (λ (f : PageEntry). f.frame)) e) ∙ framed_at);
-    }
+awaits v from to p o there over framed =
+    let found = page_with v from p there o over in
+    map_from (λ (f : PageEntry). f.frame) (get (space_in v to).awaiting p) found.x.entry.frame (framed ∙ ap (option_map (λ (x : PageView). x.entry.frame)) found.there)
+    (λ f e same. record { x = found.x; there = found.there; is = found.is; entry = f; waits = e; frame_is = same })
 
 -- the page in the tables, once it is shared
 pub shared_table : (v : LedgerView) (from to p : ℕ) (o : Option Entry) (block : Option Block) (w : Awaits v from to p o)
@@ -86,39 +70,17 @@ pub shared_state : (m : MemoryView) (from to p : ℕ) (o : Option Entry) (w : Aw
 unfolding changes.with_shared
 shared_state m from to p o w =
     ap (λ (f : Option PageEntry). option_map_or (λ (e : PageEntry). option_map_or (λ x. put_shared (state_of m) to p (shared_page e x)) (page_in (state_of m) from p) (state_of m)) f (state_of m))
-    (ap (λ (t : Rattle.page_table.specs.Table.Pages). get t p) (state_awaiting m to) ∙ w.waits)
+    (ap (λ (t : Pages). get t p) (state_awaiting m to) ∙ w.waits)
     ∙ ap (λ (f : Option PageState). option_map_or (λ x. put_shared (state_of m) to p (shared_page w.entry x)) f (state_of m)) (state_page_there m from p w.x w.there)
     ∙ put_shared_as (state_of m) to p (shared_page w.entry (page_state m.store w.x))
 
--- What the store does for it: it keeps all segments and frames, and has a segment for the page where its overlay is.
-pub record SharesStore (m : MemoryView) (new : Store) (to p : ℕ) (o : Option Entry) : Type 0 where
-  pub segments : KeepsSegments m.store new
-  pub frames : KeepsFrames m.store new
-  pub whole : units_in new.blocks ≡ units_in m.store.blocks
-  pub store : IsStore new
-  pub now_there : (e : Entry) → o ≡ Some e → segment_at new e.block.unit ≡ Some (segment_of to p e)
-  pub lined : (e : Entry) → o ≡ Some e → 0 < length e.bits
-  pub size : (e : Entry) → o ≡ Some e → 2 ^ e.block.order ≡ class (length e.bits)
-  pub others : (unit : ℕ) (segment : Segment) → segment_at new unit ≡ Some segment → (segment_at m.store unit ≡ Some segment) ⊎ ((e : Entry) × (o ≡ Some e) × (e.block.unit ≡ unit))
-  pub free : free_units new.blocks + class (length (lines_of o)) ≡ free_units m.store.blocks
-
 module _ (m : MemoryView) (new : Store) (from to p : ℕ) (was now : Option Entry) (is : IsJoined m) (w : Awaits m.table from to p was) (there : holds_space m.table to ≡ true) (absent : page_in m.table to p ≡ None)
-    (so : SharesStore m new to p now) where
+    (so : HasPlaceFor m new to p now) where
   abbrev page : PageView
   page = record { entry = w.entry; overlay = now }
 
   theirs : IsHeld m.store from p w.x
   theirs = is.held from p w.x w.there
-
-  not_mine : (unit : ℕ) (segment : Segment) → segment_at m.store unit ≡ Some segment → segment.owner ≡ overlay_page to p → ⊥
-  not_mine unit segment at_unit named =
-      let own = is.owned unit segment at_unit in
-      let held = is.held own.space own.page own.x own.there in
-      names_apart to p own.space own.page (is.numbers to there) theirs.low held.number held.low (sym own.owner ∙ named)
-      (λ qq rr. nothing own.x (sym absent ∙ ap (λ n. page_in m.table n p) (sym qq) ∙ ap (page_in m.table own.space) (sym rr) ∙ own.there))
-    where
-      nothing : (x : PageView) → None ≡ Some x → ⊥
-      nothing x h = cc
 
   -- its frame is one that a page has already
   no_frame : frame_for (is_unused (ledger_of m.table) (view.origin_of m.table.zero_frame w.entry.frame)) ≡ 0
@@ -132,96 +94,30 @@ module _ (m : MemoryView) (new : Store) (from to p : ℕ) (was now : Option Entr
       by true had = refl
       by false had = ap (λ t. cond {A = ℕ} (not t) 16 0) had
 
-  units_now : units (ledger_of (put_page m.table to p (record { entry = w.entry; overlay = now }))) ≡ units (ledger_of m.table) + class (length (lines_of now))
-  units_now =
-      ap units (books_put_page holding_of m.table to p (record { entry = w.entry; overlay = now }))
-      ∙ units_new (ledger_of m.table) to p (holding_of m.table.zero_frame (record { entry = w.entry; overlay = now }))
-      (without_absent (ledger_of m.table) to p (books_spaces holding_of m.table to ∙ there) (books_page holding_of m.table to p ∙ ap (option_map (holding_of m.table.zero_frame)) absent))
-      ∙ ap (λ n. units (ledger_of m.table) + (n + class (length (lines_of now)))) no_frame
-      ∙ omega arith
-
-  share_step : Step m (view_of new (put_page m.table to p (record { entry = w.entry; overlay = now }))) to p (Some (record { entry = w.entry; overlay = now }))
-  share_step = record {
-    there = there;
-    number = is.numbers to there;
-    low = theirs.low;
-    table_is = sym (set_some m.table to p (record { entry = w.entry; overlay = now }));
-    store = so.store;
-    whole = so.whole;
-    segments = λ q r y e d at_y over. so.segments e.block.unit (segment_of q r e) ((is.held q r y at_y).segment e over);
-    frames = λ q r y d at_y. so.frames y.entry.frame (is.held q r y at_y).frame;
-    zero = so.frames m.table.zero_frame is.zero;
-    held = λ y same. subst (IsHeld new to p) (some_page (record { entry = w.entry; overlay = now }) y same) held_now;
-    owned = λ unit segment at_unit. at unit segment at_unit (so.others unit segment at_unit);
-    count = omega (arith, is.count, units_now, so.free, so.whole);
-  }
-    where
-      held_now : IsHeld new to p (record { entry = w.entry; overlay = now })
-      held_now = record {
-        number = is.numbers to there;
-        low = theirs.low;
-        frame = subst (IsFrame new) (sym w.frame_is) (so.frames w.x.entry.frame theirs.frame).stays;
-        segment = so.now_there;
-        lined = so.lined;
-        size = so.size;
-      }
-
-      at : (unit : ℕ) (segment : Segment) → segment_at new unit ≡ Some segment → (segment_at m.store unit ≡ Some segment) ⊎ ((e : Entry) × (now ≡ Some e) × (e.block.unit ≡ unit))
-          → ((segment_at m.store unit ≡ Some segment) × (segment.owner ≡ overlay_page to p → ⊥)) ⊎ IsOwned (set_page m.table to p (Some (record { entry = w.entry; overlay = now }))) unit segment
-      at unit segment at_unit (inl before) = inl (before, not_mine unit segment before)
-      at unit segment at_unit (inr own) = inr (subst (λ (t : LedgerView). IsOwned t unit segment) (sym (set_some m.table to p (record { entry = w.entry; overlay = now }))) (record {
-        space = to;
-        page = p;
-        x = record { entry = w.entry; overlay = now };
-        overlay = own.0;
-        there = page_put_here m.table to p (record { entry = w.entry; overlay = now }) to p refl refl;
-        is = own.1;
-        unit_is = own.2;
-        owner = ap (λ (t : Option Segment). option_map_or (λ (g : Segment). g.owner) t 0) (sym at_unit ∙ ap (segment_at new) (sym own.2) ∙ so.now_there own.0 own.1);
-      }))
+  taken : IsFrame m.store w.entry.frame
+  taken = subst (IsFrame m.store) (sym w.frame_is) theirs.frame
 
   there_now : holds_space (put_page m.table to p (record { entry = w.entry; overlay = now })) to ≡ true
   there_now = there_space (put_page m.table to p (record { entry = w.entry; overlay = now })) to p (record { entry = w.entry; overlay = now }) (page_put_here m.table to p (record { entry = w.entry; overlay = now }) to p refl refl)
 
-  pub share_joined : IsJoined (view_of new (put_awaiting (put_page m.table to p (record { entry = w.entry; overlay = now })) to (remove (space_in m.table to).awaiting p)))
-  share_joined =
-      awaiting_joined new (put_page m.table to p (record { entry = w.entry; overlay = now })) to (remove (space_in m.table to).awaiting p)
-      (stepped m (view_of new (put_page m.table to p (record { entry = w.entry; overlay = now }))) to p (Some (record { entry = w.entry; overlay = now })) is share_step) there_now
+  pub share_joined : IsJoined (view_of new (put_awaiting (put_page m.table to p page) to (remove (space_in m.table to).awaiting p)))
+  share_joined = awaiting_joined new (put_page m.table to p page) to (remove (space_in m.table to).awaiting p) (came_joined m new to p page is there theirs.low absent taken no_frame so) there_now
 
-  pub share_state : page_state new (record { entry = w.entry; overlay = now }) ≡ shared_page w.entry (page_state m.store w.x)
-      → state_of (view_of new (put_awaiting (put_page m.table to p (record { entry = w.entry; overlay = now })) to (remove (space_in m.table to).awaiting p))) ≡ changes.with_shared (state_of m) from to p
-  unfolding set_page
+  pub share_state : page_state new page ≡ shared_page w.entry (page_state m.store w.x)
+      → state_of (view_of new (put_awaiting (put_page m.table to p page) to (remove (space_in m.table to).awaiting p))) ≡ changes.with_shared (state_of m) from to p
   share_state same =
-      state_awaiting_put new (put_page m.table to p (record { entry = w.entry; overlay = now })) to (remove (space_in m.table to).awaiting p)
-      ∙ ap (λ s. put_awaiting s to (remove (space_in m.table to).awaiting p))
-      (state_stepped m (view_of new (put_page m.table to p (record { entry = w.entry; overlay = now }))) to p (Some (record { entry = w.entry; overlay = now })) is share_step ∙ ap (put_page (state_of m) to p) same)
-      ∙ ap (λ (t : Rattle.page_table.specs.Table.Pages). put_awaiting (put_page (state_of m) to p (shared_page w.entry (page_state m.store w.x))) to (remove t p)) (sym (state_awaiting m to))
+      state_awaiting_put new (put_page m.table to p page) to (remove (space_in m.table to).awaiting p)
+      ∙ ap (λ s. put_awaiting s to (remove (space_in m.table to).awaiting p)) (came_state m new to p page is there theirs.low absent taken no_frame so ∙ ap (put_page (state_of m) to p) same)
+      ∙ ap (λ (t : Pages). put_awaiting (put_page (state_of m) to p (shared_page w.entry (page_state m.store w.x))) to (remove t p)) (sym (state_awaiting m to))
       ∙ sym (shared_state m from to p was w)
 
 -- A page without an overlay.
-pub shares_none : (m : MemoryView) (to p : ℕ) → IsJoined m → SharesStore m m.store to p None
-shares_none m to p is = record {
-  segments = λ unit segment there. record { there = refl; places = λ line has. refl; lines = λ line has. refl };
-  frames = λ frame f. record { stays = f; lines = λ line low. refl };
-  whole = refl;
-  store = is.store;
-  now_there = λ e h. absurd (nothing e h);
-  lined = λ e h. absurd (nothing e h);
-  size = λ e h. absurd (nothing e h);
-  others = λ unit segment there. inl there;
-  free = omega (arith, class_none);
-}
-  where
-    nothing : (e : Entry) → None ≡ Some e → ⊥
-    nothing e h = cc
-
 pub bare_shared : (store : Store) (x : PageView) (entry : PageEntry) → x.overlay ≡ None → entry.frame ≡ x.entry.frame → page_state store (record { entry = entry; overlay = None }) ≡ shared_page entry (page_state store x)
 unfolding page_state
 bare_shared store x entry bare frame_is =
-    let own : [] ≡ lines_of x.overlay = sym (ap lines_of bare) in
     let base : page_lines (frame_line store entry.frame) ≡ page_lines (frame_line store x.entry.frame) = ap (λ f. page_lines (frame_line store f)) frame_is in
-    let lines : page_lines (frame_line store entry.frame) ≡ page_lines (line_seen store x) = base ∙ sym (ap (λ (o : Option Entry). page_lines (line_seen store (record { entry = x.entry; overlay = o }))) bare) in
-    λ i. record { entry = entry; own = own i; lines = lines i; base = base i }
+    let lines = base ∙ sym (seen_bare store x bare) in
+    λ i. record { entry = entry; own = lines_of (sym bare i); lines = lines i; base = base i }
 
 -- A page with an overlay: its lines come into a segment of their own, from scratch.
 
@@ -253,27 +149,21 @@ module _ (m : MemoryView) (began new : Store) (to p : ℕ) (block : Block) (bits
       stays_twice m.store began new (block_of unit segment) first (so.laid_kept unit segment away (first.there ∙ there))
     where
       away : unit ≡ block.unit → ⊥
-      away same = nothing (sym there ∙ ap (segment_at m.store) same ∙ so.begins.fresh)
-        where
-          nothing : Some segment ≡ None → ⊥
-          nothing h = cc
+      away same = none-some segment (sym so.begins.fresh ∙ ap (segment_at m.store) (sym same) ∙ there)
 
-  pub shares_overlay : SharesStore m new to p (Some (record { bits = bits; block = block }))
+  pub shares_overlay : HasPlaceFor m new to p (Some (record { bits = bits; block = block }))
   shares_overlay = record {
     segments = kept_all;
     frames = frames_twice m.store began new so.frames so.laid_frames;
     whole = ap units_in so.laid_lines.blocks ∙ so.whole;
     store = so.new_is;
-    now_there = λ e same. subst (λ (f : Entry). segment_at new f.block.unit ≡ Some (segment_of to p f)) (given e same) now_segment;
-    lined = λ e same. subst (λ (f : Entry). 0 < length f.bits) (given e same) some;
-    size = λ e same. subst (λ (f : Entry). 2 ^ f.block.order ≡ class (length f.bits)) (given e same) size;
+    now_there = λ e same. subst (λ (f : Entry). segment_at new f.block.unit ≡ Some (segment_of to p f)) (same_Some _ e same) now_segment;
+    lined = λ e same. subst (λ (f : Entry). 0 < length f.bits) (same_Some _ e same) some;
+    size = λ e same. subst (λ (f : Entry). 2 ^ f.block.order ≡ class (length f.bits)) (same_Some _ e same) size;
     others = λ unit segment there. at unit segment there (cases_eq unit block.unit);
     free = omega (arith, ap free_units so.laid_lines.blocks, so.loses, size);
   }
     where
-      given : (e : Entry) → Some (record { bits = bits; block = block }) ≡ Some e → record { bits = bits; block = block } ≡ e
-      given e same = ap (λ (o : Option Entry). option_map_or (λ (y : Entry). y) o e) same
-
       at : (unit : ℕ) (segment : Segment) → segment_at new unit ≡ Some segment → (unit ≡ block.unit) ⊎ (unit ≡ block.unit → ⊥)
           → (segment_at m.store unit ≡ Some segment) ⊎ ((e : Entry) × (Some (record { bits = bits; block = block }) ≡ Some e) × (e.block.unit ≡ unit))
       at unit segment there (inl same) = inr (record { bits = bits; block = block }, refl, sym same)
@@ -298,30 +188,26 @@ lifted_page a m lifted began new from p to xa xm ea entry block bits over bits_i
     seen : (i : ℕ) → i < 64 → line_seen m.store xm i ≡ line_seen a.store xa i
     seen i low = sym (line_at (line_seen m.store xm) i low) ∙ ap (λ (y : PageState). line_in_page y.lines i) same ∙ line_at (line_seen a.store xa) i low
 
-    outside : (i : ℕ) → has_line bits i ≡ false → line_seen m.store xm i ≡ frame_line m.store xm.entry.frame i
-    outside i lacks = at xm.overlay refl
-      where
-        at : (o : Option Entry) → xm.overlay ≡ o → line_seen m.store xm i ≡ frame_line m.store xm.entry.frame i
-        at None e = ap (λ (o : Option Entry). line_seen m.store (record { entry = xm.entry; overlay = o }) i) e
-        at (Some f) e =
-            let set : f.bits ≡ bits = ap lines_of (sym e) ∙ ap (λ (y : PageState). y.own) same ∙ ap lines_of over ∙ sym bits_is in
-            ap (λ (o : Option Entry). line_seen m.store (record { entry = xm.entry; overlay = o }) i) e
-            ∙ ap (λ b. line_of m.store.lines (cond b (place_of m.store f.block i) (frame_place xm.entry.frame i))) (ap (λ l. has_line l i) set ∙ lacks)
+    page : PageView
+    page = record { entry = entry; overlay = Some (record { bits = bits; block = block }) }
 
-    inside : (i : ℕ) → has_line bits i ≡ true → line_seen a.store xa i ≡ line_in a.store ea.block i
-    inside i has =
-        ap (λ (o : Option Entry). line_seen a.store (record { entry = xa.entry; overlay = o }) i) over
-        ∙ ap (λ b. line_of a.store.lines (cond b (place_of a.store ea.block i) (frame_place xa.entry.frame i))) (ap (λ l. has_line l i) (sym bits_is) ∙ has)
-
-    each : (b : Bool) (i : ℕ) → has_line bits i ≡ b → i < 64 → line_seen new (record { entry = entry; overlay = Some (record { bits = bits; block = block }) }) i ≡ line_seen m.store xm i
+    each : (b : Bool) (i : ℕ) → has_line bits i ≡ b → i < 64 → line_seen new page i ≡ line_seen m.store xm i
     each true i has low =
-        ap (λ b. line_of new.lines (cond b (place_of new block i) (frame_place entry.frame i))) has
-        ∙ so.lays.lines i has ∙ so.scratch i low ∙ scratch i low ∙ lifts.lifted i (ap (λ l. has_line l i) (sym bits_is) ∙ has) ∙ sym (inside i has) ∙ sym (seen i low)
-    each false i has low =
-        ap (λ b. line_of new.lines (cond b (place_of new block i) (frame_place entry.frame i))) has
-        ∙ ap (λ f. frame_line new f i) frame_is ∙ frames i low ∙ sym (outside i has)
+        let was = ap (λ l. has_line l i) (sym bits_is) ∙ has in
+        seen_inside new page (record { bits = bits; block = block }) i refl has ∙ so.lays.lines i has ∙ so.scratch i low ∙ scratch i low ∙ lifts.lifted i was ∙ sym (seen_inside a.store xa ea i over was) ∙ sym (seen i low)
+    each false i lacks low =
+        seen_outside new page i lacks ∙ ap (λ f. frame_line new f i) frame_is ∙ frames i low
+        ∙ sym (seen_outside m.store xm i (ap (λ l. has_line l i) (ap (λ (y : PageState). y.own) same ∙ ap lines_of over ∙ sym bits_is) ∙ lacks))
 
--- The page where segments moved.
+-- The page where segments moved: as it was, as far as tables tell.
+pub record StillShares (a m : MemoryView) (from to p : ℕ) (e : Entry) : Type 0 where
+  pub there : IsSome (page_in m.table from p)
+  pub over : is_some (overlay_at m.table from p) ≡ true
+  pub bits : lines_of (overlay_at m.table from p) ≡ e.bits
+  pub waits : (space_in m.table to).awaiting ≡ (space_in a.table to).awaiting
+  pub frame : frame_awaiting m.table to p ≡ frame_at m.table from p
+  pub space : holds_space m.table to ≡ true
+
 module _ (a m : MemoryView) (from to p : ℕ) (e : Entry) (is : IsJoined a) (m_is : IsJoined m) (same : state_of m ≡ state_of a) (there : IsSome (page_in a.table from p)) (over : overlay_at a.table from p ≡ Some e)
     (framed : frame_awaiting a.table to p ≡ frame_at a.table from p) where
   abbrev first : Has a.table from p (Some e)
@@ -351,87 +237,64 @@ module _ (a m : MemoryView) (from to p : ℕ) (e : Entry) (is : IsJoined a) (m_i
   pub share_low : p < PAGE_END
   share_low = first_held.low
 
-  pub share_there : IsSome (page_in m.table from p)
-  share_there = there_still a m from p same there
+  still_there : IsSome (page_in m.table from p)
+  still_there = there_still a m from p same there
 
   own_now : (o : Option Entry) → overlay_at m.table from p ≡ o → lines_of o ≡ e.bits
   own_now o over_m =
       ap lines_of (sym over_m)
-      ∙ ap (λ (f : Option (List ℕ)). option_map_or (λ (l : List ℕ). l) f []) (sym (own_state m from p share_there) ∙ ap (λ s. option_map (λ (x : PageState). x.own) (page_in s from p)) same ∙ own_state a from p there)
+      ∙ same_Some _ _ (sym (own_state m from p still_there) ∙ ap (λ s. option_map (λ (x : PageState). x.own) (page_in s from p)) same ∙ own_state a from p there)
       ∙ ap lines_of over
 
-  pub share_over : is_some (overlay_at m.table from p) ≡ true
-  share_over = at (overlay_at m.table from p) refl
-    where
-      at : (o : Option Entry) → overlay_at m.table from p ≡ o → is_some (overlay_at m.table from p) ≡ true
-      at None none = absurd (omega (arith, share_some, ap length (own_now None none)))
-      at (Some f) h = ap is_some h
+  waits_same : (space_in m.table to).awaiting ≡ (space_in a.table to).awaiting
+  waits_same = sym (state_awaiting m to) ∙ ap (λ (s : State). (space_in s to).awaiting) same ∙ state_awaiting a to
 
-  pub share_bits : lines_of (overlay_at m.table from p) ≡ e.bits
-  share_bits = own_now (overlay_at m.table from p) refl
-
-  pub share_waits : (space_in m.table to).awaiting ≡ (space_in a.table to).awaiting
-  share_waits = sym (state_awaiting m to) ∙ ap (λ (s : State). (space_in s to).awaiting) same ∙ state_awaiting a to
-
-  frame_same : frame_at m.table from p ≡ frame_at a.table from p
-  frame_same =
-      framed_of (page_in m.table from p) ∙ ap (option_map (λ (f : PageEntry). f.frame)) (entry_state m from p ∙ ap (λ s. option_map (λ (x : PageState). x.entry) (page_in s from p)) same ∙ sym (entry_state a from p))
-      ∙ sym (framed_of (page_in a.table from p))
-    where
-      framed_of : (o : Option PageView) → option_map (λ (x : PageView). x.entry.frame) o ≡ option_map (λ (f : PageEntry). f.frame) (option_map (λ (x : PageView). x.entry) o)
-      framed_of None = refl
-      framed_of (Some x) = refl
-
-  pub share_frame : frame_awaiting m.table to p ≡ frame_at m.table from p
-  share_frame = ap (λ (t : Rattle.page_table.specs.Table.Pages). option_map (λ (f : PageEntry). f.frame) (get t p)) share_waits ∙ framed ∙ sym frame_same
-
-  pub share_space : holds_space a.table to ≡ true → holds_space m.table to ≡ true
-  share_space h = sym (state_holds m to) ∙ ap (λ s. holds_space s to) same ∙ state_holds a to ∙ h
+  -- what is asked of the tables before it is shared
+  pub still_shares : holds_space a.table to ≡ true → StillShares a m from to p e
+  still_shares space = record {
+    there = still_there;
+    over = by_option (overlay_at m.table from p) (λ none. absurd (omega (arith, share_some, ap length (own_now None none)))) (λ f h. ap is_some h);
+    bits = own_now (overlay_at m.table from p) refl;
+    waits = waits_same;
+    frame = ap (λ (t : Pages). option_map (λ (f : PageEntry). f.frame) (get t p)) waits_same ∙ framed
+        ∙ sym (sym (frame_of_page m from p) ∙ ap (λ s. option_map (λ (x : PageState). x.entry.frame) (page_in s from p)) same ∙ frame_of_page a from p);
+    space = sym (state_holds m to) ∙ ap (λ s. holds_space s to) same ∙ state_holds a to ∙ space;
+  }
 
   pub share_sets : AreLines e.bits
   share_sets = sets_are a.store from p first.x e is.store first_held first.is
 
-  abbrev then_waits : Awaits m.table from to p (overlay_at m.table from p)
-  then_waits = awaits m.table from to p (overlay_at m.table from p) share_there refl share_frame
-
-  pub share_same : page_state m.store then_waits.x ≡ page_state a.store first.x
-  share_same =
-      ap (λ (o : Option PageState). option_map_or (λ (y : PageState). y) o (page_state a.store first.x))
-      (sym (state_page_there m from p then_waits.x then_waits.there) ∙ ap (λ s. page_in s from p) same ∙ state_page_there a from p first.x first.there)
+  pub share_same : (x : PageView) → page_in m.table from p ≡ Some x → page_state m.store x ≡ page_state a.store first.x
+  share_same x at_x = same_Some _ _ (sym (state_page_there m from p x at_x) ∙ ap (λ s. page_in s from p) same ∙ state_page_there a from p first.x first.there)
 
 -- The page with its overlay, once it is shared.
 module _ (a m : MemoryView) (lifted began new : Store) (from to p : ℕ) (e : Entry) (block : Block) (is : IsJoined a) (m_is : IsJoined m) (same : state_of m ≡ state_of a) (there : IsSome (page_in a.table from p)) (over : overlay_at a.table from p ≡ Some e)
-    (framed : frame_awaiting a.table to p ≡ frame_at a.table from p) (space : holds_space a.table to ≡ true) (absent : page_in m.table to p ≡ None) (order_is : block.order ≡ e.block.order)
+    (framed : frame_awaiting a.table to p ≡ frame_at a.table from p) (still : StillShares a m from to p e) (absent : page_in m.table to p ≡ None) (order_is : block.order ≡ e.block.order)
     (lifts : Lifts a.store lifted e.block e.bits) (scratch : KeepsScratch lifted m.store) (so : SharesOverlay m.store began new to p block e.bits) where
   abbrev now_waits : Awaits m.table from to p (overlay_at m.table from p)
-  now_waits = awaits m.table from to p (overlay_at m.table from p) (share_there a m from to p e is m_is same there over framed) refl (share_frame a m from to p e is m_is same there over framed)
+  now_waits = awaits m.table from to p (overlay_at m.table from p) still.there refl still.frame
 
-  pub overlaid_size : 2 ^ block.order ≡ class (length e.bits)
-  overlaid_size = ap (λ k. 2 ^ k) order_is ∙ share_size a m from to p e is m_is same there over framed
+  abbrev was : Has a.table from p (Some e)
+  was = page_with a.table from p there (Some e) over
 
-  abbrev now_shares : SharesStore m new to p (Some (record { bits = e.bits; block = block }))
-  now_shares = shares_overlay m began new to p block e.bits m_is overlaid_size (share_some a m from to p e is m_is same there over framed) so
+  abbrev now_shares : HasPlaceFor m new to p (Some (record { bits = e.bits; block = block }))
+  now_shares =
+      shares_overlay m began new to p block e.bits m_is (ap (λ k. 2 ^ k) order_is ∙ share_size a m from to p e is m_is same there over framed) (share_some a m from to p e is m_is same there over framed) so
 
-  pub overlaid_table : with_page_shared m.table from to p (Some block)
+  overlaid_table : with_page_shared m.table from to p (Some block)
       ≡ put_awaiting (put_page m.table to p (record { entry = now_waits.entry; overlay = Some (record { bits = e.bits; block = block }) })) to (remove (space_in m.table to).awaiting p)
   overlaid_table =
       shared_table m.table from to p (overlay_at m.table from p) (Some block) now_waits
-      ∙ ap (λ bits. put_awaiting (put_page m.table to p (record { entry = now_waits.entry; overlay = Some (record { bits = bits; block = block }) })) to (remove (space_in m.table to).awaiting p))
-      (share_bits a m from to p e is m_is same there over framed)
-
-  overlaid_joined : (table : LedgerView) → table ≡ with_page_shared m.table from to p (Some block) → IsJoined (view_of new table)
-  overlaid_joined table is_table =
-      subst (λ t. IsJoined (view_of new t)) (sym (is_table ∙ overlaid_table))
-      (share_joined m new from to p (overlay_at m.table from p) (Some (record { bits = e.bits; block = block })) m_is now_waits (share_space a m from to p e is m_is same there over framed space) absent now_shares)
-
-  overlaid_state : (table : LedgerView) → table ≡ with_page_shared m.table from to p (Some block) → state_of (view_of new table) ≡ changes.with_shared (state_of a) from to p
-  overlaid_state table is_table =
-      ap (λ t. state_of (view_of new t)) (is_table ∙ overlaid_table)
-      ∙ share_state m new from to p (overlay_at m.table from p) (Some (record { bits = e.bits; block = block })) m_is now_waits (share_space a m from to p e is m_is same there over framed space) absent now_shares
-      (lifted_page a m lifted began new from p to (page_with a.table from p there (Some e) over).x now_waits.x e now_waits.entry block e.bits (page_with a.table from p there (Some e) over).is refl (share_same a m from to p e is m_is same there over framed)
-      (m_is.held from p now_waits.x now_waits.there) (share_sets a m from to p e is m_is same there over framed) lifts scratch so now_waits.frame_is)
-      ∙ ap (λ (s : State). changes.with_shared s from to p) same
+      ∙ ap (λ bits. put_awaiting (put_page m.table to p (record { entry = now_waits.entry; overlay = Some (record { bits = bits; block = block }) })) to (remove (space_in m.table to).awaiting p)) still.bits
 
   pub overlaid : (table : LedgerView) → table ≡ with_page_shared m.table from to p (Some block)
       → IsJoined (view_of new table) × (state_of (view_of new table) ≡ changes.with_shared (state_of a) from to p)
-  overlaid table is_table = (overlaid_joined table is_table, overlaid_state table is_table)
+  overlaid table is_table =
+      let page = lifted_page a m lifted began new from p to was.x now_waits.x e now_waits.entry block e.bits was.is refl (share_same a m from to p e is m_is same there over framed now_waits.x now_waits.there)
+      (m_is.held from p now_waits.x now_waits.there) (share_sets a m from to p e is m_is same there over framed) lifts scratch so now_waits.frame_is in (
+        subst (λ t. IsJoined (view_of new t)) (sym (is_table ∙ overlaid_table))
+            (share_joined m new from to p (overlay_at m.table from p) (Some (record { bits = e.bits; block = block })) m_is now_waits still.space absent now_shares),
+        ap (λ t. state_of (view_of new t)) (is_table ∙ overlaid_table)
+            ∙ share_state m new from to p (overlay_at m.table from p) (Some (record { bits = e.bits; block = block })) m_is now_waits still.space absent now_shares page
+            ∙ ap (λ (s : State). changes.with_shared s from to p) same,
+      )

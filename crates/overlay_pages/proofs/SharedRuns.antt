@@ -1,5 +1,4 @@
-use Rattle.std.specs.Prelude.{◌≡◌, ℕ, true, false, nat_lt, length, Option, Some, None, IsSome, is_some, refl}
-use Rattle.std.proofs.Common.{sym, ap, subst, ◌∙◌, arith}
+use Rattle.std.proofs.Common.{true≢false, ◌≡◌, ℕ, true, false, nat_lt, length, Option, Some, None, IsSome, is_some, refl, sym, ap, subst, ◌∙◌, arith}
 use Rattle.segment_store.specs.Store.{Store}
 use Rattle.std.specs.Option.{option_and_then, option_map, option_map_or}
 use Rattle.std.proofs.lemmas.Bool.Decides.{nat_tests}
@@ -10,6 +9,7 @@ use Rattle.page_table.specs.declared.entry.PageEntry.{PageEntry}
 use Rattle.ledger.specs.Changes.{has_own}
 use Rattle.ledger.specs.Ledger.{Holding}
 use Rattle.space_maps.specs.Books.{books_page}
+use Rattle.space_maps.specs.Options.{by_option, map_from}
 use Rattle.space_maps.specs.Laws.{page_shared_beside, put_there, space_put}
 use Rattle.space_maps.specs.Spaces.{holds_space, page_in, put_shared, space_in}
 use Rattle.space_ledger.specs.Space.{IsLeast}
@@ -22,8 +22,9 @@ use Rattle.overlay_pages.specs.Changes.{shared_page, with_shared}
 use Rattle.overlay_pages.specs.Calls.{AreShared, AwaitBare, AwaitsLike}
 use Rattle.overlay_pages.specs.Calls.AreShared.{Still as unchanged, Then as one_shared}
 use Rattle.overlay_pages.specs.View.{IsJoined, MemoryView, page_state, state_of, view_of}
-use Rattle.overlay_pages.specs.ViewLaws.{state_awaiting, state_holds, state_page, state_page_some}
-use Rattle.overlay_pages.proofs.SharedPages.{awaits, bare_shared, share_joined, share_state, shared_table, shares_none}
+use Rattle.overlay_pages.specs.ViewLaws.{state_page_there, state_awaiting, state_holds, state_page_some}
+use Rattle.overlay_pages.proofs.Coming.{place_for_bare}
+use Rattle.overlay_pages.proofs.SharedPages.{awaits, bare_shared, share_joined, share_state, shared_table}
 use Rattle.overlay_pages.proofs.Tables.{frame_of_page}
 
 -- Pages without own lines that are shared one after the other.
@@ -52,13 +53,10 @@ module _ (s : State) (from to page : ℕ) (differs : from ≡ to → ⊥) (waits
     pub there : page_in s from page ≡ Some x
 
   both : Both
-  both = by (get (space_in s to).awaiting page) (page_in s from page) refl refl
-    where
-      by : (e : Option PageEntry) (o : Option PageState) → get (space_in s to).awaiting page ≡ e → page_in s from page ≡ o → Both
-      by None o e_is o_is = let no = sym waits ∙ ap is_some e_is in cc
-      by (Some e) None e_is o_is =
-          let no = ap is_some (sym (ap (option_map (λ (e : PageEntry). e.frame)) e_is) ∙ like ∙ ap (option_map (λ (x : PageState). x.entry.frame)) o_is) in cc
-      by (Some e) (Some x) e_is o_is = record { entry = e; x = x; awaits = e_is; there = o_is }
+  both = by_option (get (space_in s to).awaiting page)
+      (λ none. absurd (true≢false (sym waits ∙ ap is_some none)))
+      (λ e e_is. map_from (λ (x : PageState). x.entry.frame) (page_in s from page) e.frame (sym like ∙ ap (option_map (λ (f : PageEntry). f.frame)) e_is)
+      (λ x x_is same. record { entry = e; x = x; awaits = e_is; there = x_is }))
 
   is_put : with_shared s from to page ≡ put_shared s to page (shared_page both.entry both.x)
   unfolding with_shared
@@ -93,22 +91,13 @@ module _ (s : State) (from to page : ℕ) (differs : from ≡ to → ⊥) (waits
 module _ (m : MemoryView) (joined : IsJoined m) (from to : ℕ) where
   pub bare_at : (page : ℕ) → has_own (books (state_of m)) from page ≡ false → overlay_at m.table from page ≡ None
   unfolding page_state
-  bare_at page none = at (page_in m.table from page) refl
-    where
-      none_of : (x : PageView) → page_in m.table from page ≡ Some x → (o : Option Entry) → x.overlay ≡ o → nat_lt 0 (length (lines_of o)) ≡ false → o ≡ None
-      none_of x there None is h = refl
-      none_of x there (Some e) is h =
-          let some = (joined.held from page x there).lined e is in
-          let yes : nat_lt 0 (length e.bits) ≡ true = grind (arith, nat_tests) in
-          let no = sym yes ∙ h in cc
-
-      at : (o : Option PageView) → page_in m.table from page ≡ o → overlay_at m.table from page ≡ None
-      at None is = ap (option_and_then (λ (x : PageView). x.overlay)) is
-      at (Some x) is =
-          ap (option_and_then (λ (x : PageView). x.overlay)) is
-          ∙ none_of x is x.overlay refl
-          (sym (ap (λ (o : Option PageState). option_map_or (λ (x : PageState). nat_lt 0 (length x.own)) o false) (state_page m from page ∙ ap (option_map (page_state m.store)) is))
-          ∙ sym (own_in (state_of m) from page) ∙ none)
+  bare_at page none = by_option (page_in m.table from page)
+      (λ is. ap (option_and_then (λ (x : PageView). x.overlay)) is)
+      (λ x is. ap (option_and_then (λ (x : PageView). x.overlay)) is ∙ by_option x.overlay (λ bare. bare) (λ e over.
+      let some = (joined.held from page x is).lined e over in
+      let yes : nat_lt 0 (length e.bits) ≡ true = grind (arith, nat_tests) in
+      let own = own_in (state_of m) from page ∙ ap (λ (o : Option PageState). option_map_or (λ (y : PageState). nat_lt 0 (length y.own)) o false) (state_page_there m from page x is) in
+      absurd (true≢false (sym yes ∙ ap (λ (o : Option Entry). nat_lt 0 (length (lines_of o))) (sym over) ∙ sym own ∙ none))))
 
 -- One page without an overlay.
 pub bare_step : (store : Store) (v : LedgerView) (from to page : ℕ) → IsJoined (view_of store v) → IsSome (page_in v from page) → overlay_at v from page ≡ None
@@ -117,7 +106,7 @@ pub bare_step : (store : Store) (v : LedgerView) (from to page : ℕ) → IsJoin
     × (state_of (view_of store (with_page_shared v from to page None)) ≡ with_shared (state_of (view_of store v)) from to page)
 bare_step store v from to page joined there bare frame space absent =
     let w = awaits v from to page None there bare frame in
-    let none = shares_none (view_of store v) to page joined in
+    let none = place_for_bare (view_of store v) to page joined in
     let table = shared_table v from to page None None w in (
       subst (λ (t : LedgerView). IsJoined (view_of store t)) (sym table) (share_joined (view_of store v) store from to page None None joined w space absent none),
       ap (λ (t : LedgerView). state_of (view_of store t)) table

@@ -1,8 +1,8 @@
-use Rattle.std.specs.Prelude.{◌≡◌, ℕ, ◌+◌, ◌-◌, ◌*◌, ◌^◌, ◌%◌, ◌<◌, ◌≤◌, ◌⊎◌, ◌&&◌, Bool, true, false, cond, nat_le, nat_lt, List, Option, Some, None, IsSome, is_some, length, refl}
-use Rattle.std.proofs.Common.{sym, ap, subst, ◌∙◌, arith, inl, inr}
+use Rattle.std.proofs.Common.{◌≡◌, ℕ, ◌+◌, ◌-◌, ◌*◌, ◌^◌, ◌%◌, ◌<◌, ◌≤◌, ◌⊎◌, ◌&&◌, Bool, true, false, cond, nat_le, nat_lt, List, Option, Some, None, IsSome, is_some, length, refl, sym, ap, subst, ◌∙◌, arith, inl, inr}
 use Rattle.std.proofs.lemmas.Bool.{cases_lt}
+use Rattle.std.proofs.lemmas.Option.{none-some, same_Some}
 use Rattle.std.proofs.lemmas.Bool.Decides.{nat_tests}
-use Rattle.std.specs.Option.{option_and_then, option_map, option_map_or}
+use Rattle.std.specs.Option.{option_and_then, option_map}
 use Rattle.unit_map.specs.Pieces.{free_at, free_units, units_in}
 use Rattle.unit_map.specs.Laws.{by_order, within as inside_piece}
 use Rattle.unit_map.specs.declared.block.Block.{Block}
@@ -11,22 +11,22 @@ use Rattle.overlay_bits.specs.Lines.{has_line}
 use Rattle.overlay_address.specs.Names.{overlay_page, page_of, space_of}
 use Rattle.overlay_address.specs.Laws.{page_back, space_back}
 use Rattle.overlay_mapping_table.specs.declared.entry.Entry.{Entry}
-use Rattle.line_store.specs.Lines.{line_of}
 use Rattle.ledger.specs.PlaceLaws.{by_place}
 use Rattle.ledger.specs.Units.{class, units}
 use Rattle.segment_store.specs.declared.segment.Segment.{Segment}
 use Rattle.segment_store.specs.Kept.{IsStore}
-use Rattle.segment_store.specs.Store.{Store, IsFrame, frame_line, frame_place, line_in, place_of, segment_at}
+use Rattle.segment_store.specs.Store.{Store, IsFrame, frame_line, line_in, segment_at}
 use Rattle.segment_store.specs.Changes.{KeepsFrames, MakesMove}
+use Rattle.space_maps.specs.Options.{map_alike, map_twice, map_still, map_from}
 use Rattle.space_maps.specs.Laws.{KeepsSpaces, changed_there, keeps_page_set, keeps_still, keeps_twice, page_set_beside, page_set_here, set_some, spaces_alike, there_space}
 use Rattle.space_maps.specs.Spaces.{holds_space, page_in, set_page}
 use Rattle.space_ledger.specs.View.{LedgerView, PageView, ledger_of, lines_of, overlay_at, with_block}
 use Rattle.overlay_pages.specs.LineLaws.{lines_same}
 use Rattle.overlay_pages.specs.State.{books}
 use Rattle.overlay_pages.specs.Steps.{HasMoved, IsOfPage, Moved, relocated}
-use Rattle.overlay_pages.specs.View.{IsHeld, IsJoined, IsOwned, line_seen, page_state, place_in_page, segment_of, state_of, view_of}
+use Rattle.overlay_pages.specs.View.{IsHeld, IsJoined, IsOwned, line_seen, page_state, segment_of, state_of, view_of}
 use Rattle.overlay_pages.specs.ViewLaws.{state_books, state_page}
-use Rattle.overlay_pages.proofs.Steps.{names_apart, overlay_lines, state_keeps}
+use Rattle.overlay_pages.proofs.Steps.{by_spot, names_apart, overlay_lines, seen_inside, seen_outside, state_keeps}
 
 -- A move: the blocks of overlays in a range are in another one.
 
@@ -46,40 +46,14 @@ pub record Shifted (from to count : ℕ) (old new : LedgerView) : Type 0 where
   pub pages : (q r : ℕ) → page_in new q r ≡ option_map (shift_page from to count) (page_in old q r)
   pub keeps : KeepsSpaces old new
 
-lt_true : (a b : ℕ) → a < b → nat_lt a b ≡ true
-lt_true a b h = grind (arith, nat_tests)
-
-lt_false : (a b : ℕ) → b ≤ a → nat_lt a b ≡ false
-lt_false a b h = grind (arith, nat_tests)
-
-le_true : (a b : ℕ) → a ≤ b → nat_le a b ≡ true
-le_true a b h = grind (arith, nat_tests)
-
-le_false : (a b : ℕ) → b < a → nat_le a b ≡ false
-le_false a b h = grind (arith, nat_tests)
-
-both_true : (a b : Bool) → a ≡ true → b ≡ true → (a && b) ≡ true
-both_true true true h k = refl
-both_true false b h k = cc
-both_true true false h k = cc
-
-first_false : (a b : Bool) → a ≡ false → (a && b) ≡ false
-first_false false b h = refl
-first_false true b h = cc
-
-second_false : (a b : Bool) → b ≡ false → (a && b) ≡ false
-second_false true false h = refl
-second_false false b h = refl
-second_false true true h = cc
-
 pub inside : (from count unit : ℕ) → from ≤ unit → unit < from + count → within from count unit ≡ true
 unfolding within
-inside from count unit low high = both_true _ _ (le_true from unit low) (lt_true unit (from + count) high)
+inside from count unit low high = grind (arith, nat_tests)
 
 pub outside : (from count unit : ℕ) → (unit < from) ⊎ (from + count ≤ unit) → within from count unit ≡ false
 unfolding within
-outside from count unit (inl h) = first_false _ _ (le_false from unit h)
-outside from count unit (inr h) = second_false _ _ (lt_false unit (from + count) h)
+outside from count unit (inl h) = grind (arith, nat_tests)
+outside from count unit (inr h) = grind (arith, nat_tests)
 
 -- a unit is in a range or not
 pub by_range : {P : Type 0} (from count unit : ℕ) → (from ≤ unit → unit < from + count → P) → ((unit < from) ⊎ (from + count ≤ unit) → P) → P
@@ -127,95 +101,68 @@ shift_none from to b = shift_out from to 0 b (at (cases_lt b.unit from))
     at (inl h) = inl h
     at (inr h) = inr (omega (arith, h))
 
--- pages whose blocks are shifted alike are shifted alike
-pub with_block_by : (Block → Block) → Entry → Entry
-with_block_by f e = record { bits = e.bits; block = f e.block }
-
-entry_in : List ℕ → Block → Option Entry
-entry_in bits b = Some (record { bits = bits; block = b })
-
-page_shifted : (f g : Block → Block) (x : PageView) → ((e : Entry) → x.overlay ≡ Some e → f e.block ≡ g e.block)
-    → option_map (with_block_by f) x.overlay ≡ option_map (with_block_by g) x.overlay
-unfolding with_block_by entry_in
-page_shifted f g x same = at x.overlay refl
-  where
-    at : (o : Option Entry) → x.overlay ≡ o → option_map (with_block_by f) x.overlay ≡ option_map (with_block_by g) x.overlay
-    at None is = ap (option_map (with_block_by f)) is ∙ sym (ap (option_map (with_block_by g)) is)
-    at (Some e) is =
-        ap (option_map (with_block_by f)) is ∙ ap (entry_in e.bits) (same e is) ∙ sym (ap (option_map (with_block_by g)) is)
+entry_in : List ℕ → Block → Entry
+entry_in bits b = record { bits = bits; block = b }
 
 pub shift_page_more : (from to i : ℕ) (x : PageView) → ((e : Entry) → x.overlay ≡ Some e → e.block.unit ≡ from + i → ⊥) → shift_page from to i x ≡ shift_page from to (i + 1) x
-unfolding shift_page shift_entry with_block_by
+unfolding shift_page shift_entry entry_in
 shift_page_more from to i x other =
-    let same = page_shifted (shift from to i) (shift from to (i + 1)) x (λ e is. shift_more from to i e.block (other e is)) in
+    let same = map_alike (shift_entry from to i) (shift_entry from to (i + 1)) x.overlay (λ e is. ap (entry_in e.bits) (shift_more from to i e.block (other e is))) in
     λ j. record { entry = x.entry; overlay = same j }
 
 shift_page_none : (from to : ℕ) (x : PageView) → shift_page from to 0 x ≡ x
-unfolding shift_page shift_entry with_block_by
+unfolding shift_page shift_entry entry_in
 shift_page_none from to x =
-    let same = page_shifted (shift from to 0) (λ b. b) x (λ e is. shift_none from to e.block) ∙ back x.overlay in
-    λ j. record { entry = x.entry; overlay = same j }
-  where
-    back : (o : Option Entry) → option_map (with_block_by (λ b. b)) o ≡ o
-    back None = refl
-    back (Some e) = refl
-
-map_none : (f : PageView → PageView) → ((x : PageView) → f x ≡ x) → (o : Option PageView) → o ≡ option_map f o
-map_none f same None = refl
-map_none f same (Some x) = ap Some (sym (same x))
+    let same = map_still (shift_entry from to 0) (λ e. ap (entry_in e.bits) (shift_none from to e.block)) x.overlay in
+    λ j. record { entry = x.entry; overlay = sym same j }
 
 pub shifted_none : (from to : ℕ) (v : LedgerView) → Shifted from to 0 v v
 shifted_none from to v = record {
-  pages = λ q r. map_none (shift_page from to 0) (shift_page_none from to) (page_in v q r);
+  pages = λ q r. map_still (shift_page from to 0) (shift_page_none from to) (page_in v q r);
   keeps = keeps_still v;
 }
 
 -- A segment that starts at a unit of the range, and one page's block that is there now.
 
 module _ (was : Store) (old : LedgerView) (is : IsJoined (view_of was old)) where
-  -- the page of a segment
+  -- the page of a segment, by its name
   own_page : (unit : ℕ) (segment : Segment) → segment_at was unit ≡ Some segment → IsOwned old unit segment
   own_page unit segment there = is.owned unit segment there
 
-  held_page : (q r : ℕ) (x : PageView) → page_in old q r ≡ Some x → IsHeld was q r x
-  held_page q r x there = is.held q r x there
+  named : (unit : ℕ) (segment : Segment) (there : segment_at was unit ≡ Some segment)
+      → (space_of segment.owner ≡ (own_page unit segment there).space) × (page_of segment.owner ≡ (own_page unit segment there).page)
+  named unit segment there =
+      let own = own_page unit segment there in
+      let held = is.held own.space own.page own.x own.there in (
+        ap space_of own.owner ∙ space_back own.space own.page (omega (arith, held.number)) (omega (arith, held.low)),
+        ap page_of own.owner ∙ page_back own.space own.page (omega (arith, held.number)) (omega (arith, held.low)),
+      )
 
   -- only that page has its segment there
   only_page : (unit : ℕ) (segment : Segment) (there : segment_at was unit ≡ Some segment) (q r : ℕ) (x : PageView) (e : Entry) → page_in old q r ≡ Some x → x.overlay ≡ Some e → e.block.unit ≡ unit
       → (q ≡ (own_page unit segment there).space) × (r ≡ (own_page unit segment there).page)
   only_page unit segment there q r x e at_x over at_unit =
       let own = own_page unit segment there in
-      let mine = held_page q r x at_x in
-      let theirs = held_page own.space own.page own.x own.there in
+      let mine = is.held q r x at_x in
+      let theirs = is.held own.space own.page own.x own.there in
       let found : Some segment ≡ Some (segment_of q r e) = sym there ∙ ap (segment_at was) (sym at_unit) ∙ mine.segment e over in
-      let named : overlay_page q r ≡ overlay_page own.space own.page = sym (ap (λ (o : Option Segment). option_map_or (λ (s : Segment). s.owner) o 0) found) ∙ own.owner in
+      let named : overlay_page q r ≡ overlay_page own.space own.page = sym (ap (λ (t : Segment). t.owner) (same_Some _ _ found)) ∙ own.owner in
       names_apart own.space own.page q r theirs.number theirs.low mine.number mine.low named (λ a b. (a, b))
 
   shifted_absent : (now : LedgerView) (from to i : ℕ) → segment_at was (from + i) ≡ None → Shifted from to i old now → Shifted from to (i + 1) old now
   shifted_absent now from to i none so = record {
-    pages = λ q r. so.pages q r ∙ at q r (page_in old q r) refl;
+    pages = λ q r. so.pages q r ∙ map_alike (shift_page from to i) (shift_page from to (i + 1)) (page_in old q r)
+        (λ x e. shift_page_more from to i x (λ f over at_unit. none-some (segment_of q r f) (sym none ∙ ap (segment_at was) (sym at_unit) ∙ (is.held q r x e).segment f over)));
     keeps = so.keeps;
   }
-    where
-      at : (q r : ℕ) (o : Option PageView) → page_in old q r ≡ o → option_map (shift_page from to i) (page_in old q r) ≡ option_map (shift_page from to (i + 1)) (page_in old q r)
-      at q r None e = ap (option_map (shift_page from to i)) e ∙ sym (ap (option_map (shift_page from to (i + 1))) e)
-      at q r (Some x) e =
-          ap (option_map (shift_page from to i)) e
-          ∙ ap Some (shift_page_more from to i x (λ f over at_unit. absurd_none (segment_of q r f) (sym none ∙ ap (segment_at was) (sym at_unit) ∙ (held_page q r x e).segment f over)))
-          ∙ sym (ap (option_map (shift_page from to (i + 1))) e)
-        where
-          absurd_none : (t : Segment) → None ≡ Some t → ⊥
-          absurd_none t h = cc
 
   -- the page of a segment is overlaid, before and after its block is there
   shifted_there : (now : LedgerView) (from to i unit : ℕ) (segment : Segment) (there : segment_at was unit ≡ Some segment) → Shifted from to i old now
       → page_in now (space_of segment.owner) (page_of segment.owner) ≡ Some (shift_page from to i (own_page unit segment there).x)
   shifted_there now from to i unit segment there so =
       let own = own_page unit segment there in
-      let theirs = held_page own.space own.page own.x own.there in
-      let space : space_of segment.owner ≡ own.space = ap space_of own.owner ∙ space_back own.space own.page (omega (arith, theirs.number)) (omega (arith, theirs.low)) in
-      let page : page_of segment.owner ≡ own.page = ap page_of own.owner ∙ page_back own.space own.page (omega (arith, theirs.number)) (omega (arith, theirs.low)) in
-      ap (λ n. page_in now n (page_of segment.owner)) space ∙ ap (page_in now own.space) page ∙ so.pages own.space own.page ∙ ap (option_map (shift_page from to i)) own.there
+      let names = named unit segment there in
+      ap (λ n. page_in now n (page_of segment.owner)) names.0 ∙ ap (page_in now own.space) names.1 ∙ so.pages own.space own.page ∙ ap (option_map (shift_page from to i)) own.there
 
   shifted_overlaid : (now : LedgerView) (from to i unit : ℕ) (segment : Segment) (there : segment_at was unit ≡ Some segment) → Shifted from to i old now
       → IsSome (overlay_at now (space_of segment.owner) (page_of segment.owner))
@@ -255,17 +202,11 @@ module _ (was : Store) (old : LedgerView) (is : IsJoined (view_of was old)) wher
       changed : relocated now (to + i) (Some segment) ≡ set_page now s p (Some y)
       changed = changed_there put now s p (shift_page from to i own.x) here ∙ sym (set_some now s p y)
 
-      theirs : IsHeld was own.space own.page own.x
-      theirs = held_page own.space own.page own.x own.there
-
-      space_is : s ≡ own.space
-      space_is = ap space_of own.owner ∙ space_back own.space own.page (omega (arith, theirs.number)) (omega (arith, theirs.low))
-
-      page_is : p ≡ own.page
-      page_is = ap page_of own.owner ∙ page_back own.space own.page (omega (arith, theirs.number)) (omega (arith, theirs.low))
+      names : (s ≡ own.space) × (p ≡ own.page)
+      names = named (from + i) segment there
 
       order_is : segment.order ≡ own.overlay.block.order
-      order_is = ap (λ (o : Option Segment). option_map_or (λ (t : Segment). t.order) o 0) (sym there ∙ ap (segment_at was) (sym own.unit_is) ∙ theirs.segment own.overlay own.is)
+      order_is = ap (λ (t : Segment). t.order) (same_Some _ _ (sym there ∙ ap (segment_at was) (sym own.unit_is) ∙ (is.held own.space own.page own.x own.there).segment own.overlay own.is))
 
       block_is : shift from to (i + 1) own.overlay.block ≡ record { unit = to + i; order = segment.order }
       block_is =
@@ -278,16 +219,13 @@ module _ (was : Store) (old : LedgerView) (is : IsJoined (view_of was old)) wher
           over : y.overlay ≡ (shift_page from to (i + 1) own.x).overlay
           over =
               ap (λ (o : Option Entry). option_map (λ (e : Entry). record { bits = e.bits; block = record { unit = to + i; order = segment.order } }) (option_map (shift_entry from to i) o)) own.is
-              ∙ ap (entry_in own.overlay.bits) (sym block_is)
+              ∙ ap (λ b. Some (entry_in own.overlay.bits b)) (sym block_is)
               ∙ sym (ap (option_map (shift_entry from to (i + 1))) own.is)
 
-      beside : (q r : ℕ) → (q ≡ s → r ≡ p → ⊥) → (o : Option PageView) → page_in old q r ≡ o → option_map (shift_page from to i) (page_in old q r) ≡ option_map (shift_page from to (i + 1)) (page_in old q r)
-      beside q r d None e = ap (option_map (shift_page from to i)) e ∙ sym (ap (option_map (shift_page from to (i + 1))) e)
-      beside q r d (Some x) e =
-          ap (option_map (shift_page from to i)) e
-          ∙ ap Some (shift_page_more from to i x (λ f over at_unit.
-          let same = only_page (from + i) segment there q r x f e over at_unit in d (same.0 ∙ sym space_is) (same.1 ∙ sym page_is)))
-          ∙ sym (ap (option_map (shift_page from to (i + 1))) e)
+      beside : (q r : ℕ) → (q ≡ s → r ≡ p → ⊥) → option_map (shift_page from to i) (page_in old q r) ≡ option_map (shift_page from to (i + 1)) (page_in old q r)
+      beside q r d = map_alike (shift_page from to i) (shift_page from to (i + 1)) (page_in old q r)
+          (λ x e. shift_page_more from to i x (λ f over at_unit.
+          let same = only_page (from + i) segment there q r x f e over at_unit in d (same.0 ∙ sym names.0) (same.1 ∙ sym names.1)))
 
       has_space : holds_space now s ≡ true
       has_space = there_space now s p (shift_page from to i own.x) here
@@ -296,23 +234,21 @@ module _ (was : Store) (old : LedgerView) (is : IsJoined (view_of was old)) wher
       pages q r = by_place s p q r
           (λ qq rr.
           ap (λ (v : LedgerView). page_in v q r) changed ∙ page_set_here now s p (Some y) q r qq rr ∙ ap Some turned
-          ∙ sym (ap (option_map (shift_page from to (i + 1))) (ap (λ n. page_in old n r) (qq ∙ space_is) ∙ ap (page_in old own.space) (rr ∙ page_is) ∙ own.there)))
+          ∙ sym (ap (option_map (shift_page from to (i + 1))) (ap (λ n. page_in old n r) (qq ∙ names.0) ∙ ap (page_in old own.space) (rr ∙ names.1) ∙ own.there)))
           (λ d.
-          ap (λ (v : LedgerView). page_in v q r) changed ∙ page_set_beside now s p (Some y) q r d ∙ so.pages q r ∙ beside q r d (page_in old q r) refl)
+          ap (λ (v : LedgerView). page_in v q r) changed ∙ page_set_beside now s p (Some y) q r d ∙ so.pages q r ∙ beside q r d)
 
 -- All blocks of a move are there now.
+
+lines_shifted : (from to count : ℕ) (o : Option Entry) → lines_of (option_map (shift_entry from to count) o) ≡ lines_of o
+unfolding shift_entry
+lines_shifted from to count None = refl
+lines_shifted from to count (Some e) = refl
 
 some_of : (x : PageView) (from to count : ℕ) (f : Entry) → (shift_page from to count x).overlay ≡ Some f → (P : Entry → Type 0)
     → ((e : Entry) → x.overlay ≡ Some e → P (shift_entry from to count e)) → P f
 unfolding shift_page
-some_of x from to count f is P go = at x.overlay refl
-  where
-    at : (o : Option Entry) → x.overlay ≡ o → P f
-    at None e = absurd_none (sym (ap (option_map (shift_entry from to count)) e) ∙ is)
-      where
-        absurd_none : None ≡ Some f → P f
-        absurd_none h = cc
-    at (Some e) over = subst P (ap (λ (o : Option Entry). option_map_or (λ (x : Entry). x) o f) (sym (ap (option_map (shift_entry from to count)) over) ∙ is)) (go e over)
+some_of x from to count f is P go = map_from (shift_entry from to count) x.overlay f is (λ e over same. subst P same (go e over))
 
 module _ (was new : Store) (old now : LedgerView) (m : Move) (is : IsJoined (view_of was old)) (moves : MakesMove was new m) (frames : KeepsFrames was new)
     (so : Shifted m.from m.to (2 ^ m.order) old now) where
@@ -341,33 +277,20 @@ module _ (was new : Store) (old now : LedgerView) (m : Move) (is : IsJoined (vie
 
   moved_seen : (q r : ℕ) (x : PageView) → IsHeld was q r x → (line : ℕ) → line < 64 → line_seen new (shift_page m.from m.to count x) line ≡ line_seen was x line
   unfolding shift_page shift_entry
-  moved_seen q r x held line low = at x.overlay refl
-    where
-      by_line : (e : Entry) → x.overlay ≡ Some e → (b : Bool) → has_line e.bits line ≡ b
-          → line_of new.lines (cond b (place_of new (shift m.from m.to count e.block) line) (frame_place x.entry.frame line)) ≡ line_of was.lines (cond b (place_of was e.block line) (frame_place x.entry.frame line))
-      by_line e over true has = moved_line q r x e held over line has
-      by_line e over false has = (frames x.entry.frame held.frame).lines line low
-
-      at : (o : Option Entry) → x.overlay ≡ o → line_seen new (shift_page m.from m.to count x) line ≡ line_seen was x line
-      at None e =
-          ap (λ (o : Option Entry). line_of new.lines (place_in_page new (record { entry = x.entry; overlay = option_map (shift_entry m.from m.to count) o }) line)) e
-          ∙ (frames x.entry.frame held.frame).lines line low
-          ∙ sym (ap (λ (o : Option Entry). line_of was.lines (place_in_page was (record { entry = x.entry; overlay = o }) line)) e)
-      at (Some f) e =
-          ap (λ (o : Option Entry). line_of new.lines (place_in_page new (record { entry = x.entry; overlay = option_map (shift_entry m.from m.to count) o }) line)) e
-          ∙ by_line f e (has_line f.bits line) refl
-          ∙ sym (ap (λ (o : Option Entry). line_of was.lines (place_in_page was (record { entry = x.entry; overlay = o }) line)) e)
+  moved_seen q r x held line low = by_spot x line
+      (λ e over has.
+      seen_inside new (shift_page m.from m.to count x) (shift_entry m.from m.to count e) line (ap (option_map (shift_entry m.from m.to count)) over) has
+      ∙ moved_line q r x e held over line has ∙ sym (seen_inside was x e line over has))
+      (λ lacks.
+      seen_outside new (shift_page m.from m.to count x) line (ap (λ l. has_line l line) (lines_shifted m.from m.to count x.overlay) ∙ lacks)
+      ∙ (frames x.entry.frame held.frame).lines line low ∙ sym (seen_outside was x line lacks))
 
   moved_page : (q r : ℕ) (x : PageView) → IsHeld was q r x → page_state new (shift_page m.from m.to count x) ≡ page_state was x
   unfolding page_state shift_page shift_entry
   moved_page q r x held =
       let lines = lines_same (line_seen new (shift_page m.from m.to count x)) (line_seen was x) (moved_seen q r x held) in
       let base = lines_same (frame_line new x.entry.frame) (frame_line was x.entry.frame) (frames x.entry.frame held.frame).lines in
-      λ i. record { entry = x.entry; own = own x.overlay i; lines = lines i; base = base i }
-    where
-      own : (o : Option Entry) → lines_of (option_map (shift_entry m.from m.to count) o) ≡ lines_of o
-      own None = refl
-      own (Some e) = refl
+      λ i. record { entry = x.entry; own = lines_shifted m.from m.to count x.overlay i; lines = lines i; base = base i }
 
   moved_held : (q r : ℕ) (x : PageView) → IsHeld was q r x → IsHeld new q r (shift_page m.from m.to count x)
   unfolding shift_page shift_entry
@@ -382,14 +305,7 @@ module _ (was new : Store) (old now : LedgerView) (m : Move) (is : IsJoined (vie
   }
 
   page_before : (q r : ℕ) (x : PageView) → page_in now q r ≡ Some x → (P : PageView → Type 0) → ((y : PageView) → page_in old q r ≡ Some y → P (shift_page m.from m.to count y)) → P x
-  page_before q r x there P go = at (page_in old q r) refl
-    where
-      at : (o : Option PageView) → page_in old q r ≡ o → P x
-      at None e = absurd_none (sym (so.pages q r ∙ ap (option_map (shift_page m.from m.to count)) e) ∙ there)
-        where
-          absurd_none : None ≡ Some x → P x
-          absurd_none h = cc
-      at (Some y) e = subst P (ap (λ (o : Option PageView). option_map_or (λ (z : PageView). z) o x) (sym (so.pages q r ∙ ap (option_map (shift_page m.from m.to count)) e) ∙ there)) (go y e)
+  page_before q r x there P go = map_from (shift_page m.from m.to count) (page_in old q r) x (sym (so.pages q r) ∙ there) (λ y was_there same. subst P same (go y was_there))
 
   -- the segments
   owned_now : (unit at : ℕ) (segment : Segment) (own : IsOwned old unit segment) → (shift m.from m.to count own.overlay.block).unit ≡ at → IsOwned now at segment
@@ -418,14 +334,11 @@ module _ (was new : Store) (old now : LedgerView) (m : Move) (is : IsJoined (vie
       (λ low high.
       let i : ℕ = unit - m.from in
       let back : m.from + i ≡ unit = omega (arith, low) in
-      absurd_none (sym (moves.segments.left i (omega (arith, high, low))) ∙ ap (segment_at new) back ∙ there))
+      absurd (none-some segment (sym (moves.segments.left i (omega (arith, high, low))) ∙ ap (segment_at new) back ∙ there)))
       (λ away.
       let own = is.owned unit segment (sym (moves.segments.outside unit away out) ∙ there) in
       owned_now unit unit segment own (ap (λ (b : Block). b.unit) (shift_out m.from m.to count own.overlay.block (away_too own.overlay.block.unit (own.unit_is) away)) ∙ own.unit_is)))
     where
-      absurd_none : None ≡ Some segment → IsOwned now unit segment
-      absurd_none h = cc
-
       away_too : (u : ℕ) → u ≡ unit → (unit < m.from) ⊎ (m.from + count ≤ unit) → (u < m.from) ⊎ (m.from + count ≤ u)
       away_too u same (inl h) = inl (omega (arith, same, h))
       away_too u same (inr h) = inr (omega (arith, same, h))
@@ -433,13 +346,8 @@ module _ (was new : Store) (old now : LedgerView) (m : Move) (is : IsJoined (vie
   pub moved_state : state_of (view_of new now) ≡ state_of (view_of was old)
   moved_state = spaces_alike (state_of (view_of was old)) (state_of (view_of new now)) (state_of (view_of was old))
       (state_keeps (view_of was old) (view_of new now) so.keeps) (keeps_still (state_of (view_of was old)))
-      (λ q r. state_page (view_of new now) q r ∙ ap (option_map (page_state new)) (so.pages q r) ∙ at q r (page_in old q r) refl ∙ sym (state_page (view_of was old) q r))
-    where
-      at : (q r : ℕ) (o : Option PageView) → page_in old q r ≡ o → option_map (page_state new) (option_map (shift_page m.from m.to count) (page_in old q r)) ≡ option_map (page_state was) (page_in old q r)
-      at q r None e = ap (λ (o : Option PageView). option_map (page_state new) (option_map (shift_page m.from m.to count) o)) e ∙ sym (ap (option_map (page_state was)) e)
-      at q r (Some x) e =
-          ap (λ (o : Option PageView). option_map (page_state new) (option_map (shift_page m.from m.to count) o)) e ∙ ap Some (moved_page q r x (is.held q r x e))
-          ∙ sym (ap (option_map (page_state was)) e)
+      (λ q r. state_page (view_of new now) q r ∙ ap (option_map (page_state new)) (so.pages q r)
+      ∙ map_twice (page_state new) (shift_page m.from m.to count) (page_state was) (page_in old q r) (λ x e. moved_page q r x (is.held q r x e)) ∙ sym (state_page (view_of was old) q r))
 
   pub moved_joined : IsStore new → units_in new.blocks ≡ units_in was.blocks → free_units new.blocks ≡ free_units was.blocks → IsJoined (view_of new now)
   moved_joined store whole free = record {

@@ -1,5 +1,4 @@
-use Rattle.std.specs.Prelude.{◌≡◌, ℕ, ◌+◌, ◌*◌, ◌^◌, ◌<◌, ◌≤◌, Bool, false, true, List, length, refl}
-use Rattle.std.proofs.Common.{sym, ap, ◌∙◌, arith}
+use Rattle.std.proofs.Common.{◌≡◌, ℕ, ◌+◌, ◌^◌, ◌<◌, ◌≤◌, false, List, length, refl, sym, ap, ◌∙◌, arith}
 use Rattle.unit_map.specs.Laws.{by_order}
 use Rattle.overlay_bits.specs.Lines.{AreLines, has_line, with_line}
 use Rattle.overlay_bits.specs.Laws.{are_with, count_with}

@@ -1,7 +1,6 @@
-use Rattle.std.specs.Prelude.{◌≡◌, ℕ, ◌+◌, ◌*◌, ◌≤◌, ◌<◌, ◌&&◌, Bool, true, false, cond, not, List, [], ◌∷◌, Option, Some, None, IfSome, IsSome, is_some, length, refl}
-use Rattle.std.proofs.Common.{sym, ap, subst, ◌∙◌, arith}
+use Rattle.std.proofs.Common.{true≢false, ◌≡◌, ℕ, ◌+◌, ◌*◌, ◌≤◌, ◌<◌, ◌&&◌, Bool, true, false, cond, not, List, [], ◌∷◌, Option, Some, None, IfSome, IsSome, is_some, length, refl, nat_cmp, sym, ap, subst, ◌∙◌, arith}
+use Rattle.std.proofs.lemmas.Option.{none-some}
 use Rattle.std.specs.Option.{option_and_then, option_map, option_map_or}
-use Rattle.std.specs.Ordering.{nat_cmp}
 use Rattle.std.specs.FinMap.{FinMap, empty, get, get-empty, len}
 use Rattle.sizes.specs.declared.TheConstants.{FRAME_UNITS, LAST_SPACE, PAGE_END}
 use Rattle.number_maps.specs.Keys.{alike}
@@ -18,6 +17,7 @@ use Rattle.ledger.specs.Events.{Store, ledger_after}
 use Rattle.ledger.specs.StoreLaws.{store_joins, store_nothing, units_joined}
 use Rattle.ledger.specs.Changes.{with_lines}
 use Rattle.segment_store.specs.Store as store
+use Rattle.space_maps.specs.Options.{map_twice, by_option, by_test}
 use Rattle.space_maps.specs.Books.{books_added, books_awaiting, books_lost, books_marked, books_page}
 use Rattle.space_maps.specs.Laws.{page_added, page_awaited, page_lost, page_marked, there_cut, there_put}
 use Rattle.space_maps.specs.Spaces.{bare_space, cut_space, holds_space, page_in, put_awaiting, put_mark, put_space, space_in, turned_page}
@@ -33,20 +33,13 @@ use Rattle.overlay_pages.specs.ViewLaws.{state_books, state_mark, state_page, st
 
 pub entry_state : (v : MemoryView) (q r : ℕ) → option_map (λ (x : PageView). x.entry) (page_in v.table q r) ≡ option_map (λ (x : PageState). x.entry) (page_in (state_of v) q r)
 unfolding page_state
-entry_state v q r = at (page_in v.table q r) ∙ sym (ap (option_map (λ (x : PageState). x.entry)) (state_page v q r))
-  where
-    at : (o : Option PageView) → option_map (λ (x : PageView). x.entry) o ≡ option_map (λ (x : PageState). x.entry) (option_map (page_state v.store) o)
-    at None = refl
-    at (Some x) = refl
+entry_state v q r = sym (ap (option_map (λ (x : PageState). x.entry)) (state_page v q r) ∙ map_twice (λ (x : PageState). x.entry) (page_state v.store) (λ (x : PageView). x.entry) (page_in v.table q r) (λ x e. refl))
 
 pub perms_state : (v : MemoryView) (q r : ℕ) (e : PageEntry) → Some e ≡ option_map (λ (x : PageView). x.entry) (page_in v.table q r)
     → option_map (λ (x : PageState). x.entry.perms) (page_in (state_of v) q r) ≡ Some e.perms
 perms_state v q r e is =
-    mapped (page_in (state_of v) q r) ∙ ap (option_map (λ (k : PageEntry). k.perms)) (sym (is ∙ entry_state v q r))
-  where
-    mapped : (o : Option PageState) → option_map (λ (x : PageState). x.entry.perms) o ≡ option_map (λ (k : PageEntry). k.perms) (option_map (λ (x : PageState). x.entry) o)
-    mapped None = refl
-    mapped (Some x) = refl
+    sym (map_twice (λ (k : PageEntry). k.perms) (λ (x : PageState). x.entry) (λ (x : PageState). x.entry.perms) (page_in (state_of v) q r) (λ x e. refl))
+    ∙ ap (option_map (λ (k : PageEntry). k.perms)) (sym (is ∙ entry_state v q r))
 
 pub absent_state : (v : MemoryView) (q r : ℕ) → None ≡ option_map (λ (x : PageView). x.entry) (page_in v.table q r) → page_in (state_of v) q r ≡ None
 absent_state v q r is = at (page_in (state_of v) q r) (is ∙ entry_state v q r)
@@ -60,31 +53,24 @@ unfolding page_state
 own_state v q r there = ap (option_map (λ (x : PageState). x.own)) (state_page v q r) ∙ at (page_in v.table q r) there
   where
     at : (o : Option PageView) → IsSome o → option_map (λ (x : PageState). x.own) (option_map (page_state v.store) o) ≡ Some (lines_of (option_and_then (λ (x : PageView). x.overlay) o))
-    at None h = absurd (not_some h)
-      where
-        not_some : IsSome {T = PageView} None → ⊥
-        not_some k = cc
+    at None h = cc
     at (Some x) h = refl
 
 pub frame_of_page : (v : MemoryView) (q r : ℕ) → option_map (λ (x : PageState). x.entry.frame) (page_in (state_of v) q r) ≡ frame_at v.table q r
 unfolding page_state
-frame_of_page v q r = ap (option_map (λ (x : PageState). x.entry.frame)) (state_page v q r) ∙ at (page_in v.table q r)
-  where
-    at : (o : Option PageView) → option_map (λ (x : PageState). x.entry.frame) (option_map (page_state v.store) o) ≡ option_map (λ (x : PageView). x.entry.frame) o
-    at None = refl
-    at (Some x) = refl
+frame_of_page v q r =
+    ap (option_map (λ (x : PageState). x.entry.frame)) (state_page v q r)
+    ∙ map_twice (λ (x : PageState). x.entry.frame) (page_state v.store) (λ (x : PageView). x.entry.frame) (page_in v.table q r) (λ x e. refl)
 
 pub overlaid_bare : (v : MemoryView) (q r : ℕ) → IsSome (page_in v.table q r) → overlay_at v.table q r ≡ None → IfSome (page_in (state_of v) q r) (λ (x : PageState). 0 < length x.own) → ⊥
-overlaid_bare v q r there bare has = at (page_in (state_of v) q r) refl
-  where
-    at : (o : Option PageState) → page_in (state_of v) q r ≡ o → ⊥
-    at None e = let no = sym (ap (option_map (λ (x : PageState). x.own)) e) ∙ own_state v q r there in cc
-    at (Some x) e =
-        omega (
-          arith,
-          subst (λ o. IfSome o (λ (x : PageState). 0 < length x.own)) e has,
-          ap (λ (o : Option (List ℕ)). length (option_map_or (λ (l : List ℕ). l) o [])) (sym (ap (option_map (λ (x : PageState). x.own)) e) ∙ own_state v q r there ∙ ap (λ o. Some (lines_of o)) bare),
-        )
+overlaid_bare v q r there bare has = by_option (page_in (state_of v) q r)
+    (λ e. let no = sym (ap (option_map (λ (x : PageState). x.own)) e) ∙ own_state v q r there in cc)
+    (λ x e.
+    omega (
+      arith,
+      subst (λ o. IfSome o (λ (x : PageState). 0 < length x.own)) e has,
+      ap (λ (o : Option (List ℕ)). length (option_map_or (λ (l : List ℕ). l) o [])) (sym (ap (option_map (λ (x : PageState). x.own)) e) ∙ own_state v q r there ∙ ap (λ o. Some (lines_of o)) bare),
+    ))
 
 pub page_some : (v : MemoryView) (q r : ℕ) → IsSome (page_in (state_of v) q r) → IsSome (page_in v.table q r)
 page_some v q r there = sym (state_page_some v q r) ∙ there
@@ -101,11 +87,9 @@ next_state v q r (Some p) is = (is.0, state_page_some v q p ∙ is.1, λ n low b
 
 pub pages_few : (v : MemoryView) (s : ℕ) → IsJoined v → len (space_in v.table s).pages ≤ PAGE_END
 unfolding page_in
-pages_few v s is = len_low PAGE_END (space_in v.table s).pages (λ q there. low q (get (space_in v.table s).pages q) refl there)
-  where
-    low : (q : ℕ) (o : Option PageView) → get (space_in v.table s).pages q ≡ o → IsSome (get (space_in v.table s).pages q) → q < PAGE_END
-    low q None e there = let no = sym there ∙ ap is_some e in cc
-    low q (Some x) e there = (is.held s q x e).low
+pages_few v s is = len_low PAGE_END (space_in v.table s).pages (λ q there. by_option (get (space_in v.table s).pages q)
+    (λ none. absurd (true≢false (sym there ∙ ap is_some none)))
+    (λ x e. (is.held s q x e).low))
 
 -- how a store rises
 pub rises_state : (v : MemoryView) (s p : ℕ) (lines : List ℕ) (rise : ℕ) → calls.RisesBy v.table s p lines rise → calls.RisesBeside v.table s p lines rise → RisesBy (state_of v) s p lines rise
@@ -117,22 +101,15 @@ rises_state v s p lines rise one both = record {
 }
 
 pub rise_few : (v : MemoryView) (s p : ℕ) (lines : List ℕ) (rise : ℕ) → IsSome (page_in v.table s p) → calls.RisesBy v.table s p lines rise → rise ≤ 16
-rise_few v s p lines rise there one = by_frame (not (space_in v.table s).speculating && is_alone (ledger_of v.table) s p) refl
-  where
-    l : Ledger
-    l = ledger_of v.table
-
-    by_page : (o : Option PageView) → page_in v.table s p ≡ o → (not (space_in v.table s).speculating && is_alone (ledger_of v.table) s p) ≡ false → rise ≤ 16
-    by_page None e frame = let no = sym there ∙ ap is_some e in cc
-    by_page (Some x) e frame =
-        let held = books_page holding_of v.table s p ∙ ap (option_map (holding_of v.table.zero_frame)) e in
-        let more = units_joined (ledger_of v.table) s p lines (holding_of v.table.zero_frame x) held in
-        let after = ap units (store_joins (space_in v.table s).speculating (ledger_of v.table) s p lines frame) in
-        omega (arith, one, after, more, class_most (length (with_lines (lines_of x.overlay) lines)))
-
-    by_frame : (b : Bool) → (not (space_in v.table s).speculating && is_alone (ledger_of v.table) s p) ≡ b → rise ≤ 16
-    by_frame true frame = let same = ap units (store_nothing (space_in v.table s).speculating (ledger_of v.table) s p lines frame) in omega (arith, one, same)
-    by_frame false frame = by_page (page_in v.table s p) refl frame
+rise_few v s p lines rise there one = by_test (not (space_in v.table s).speculating && is_alone (ledger_of v.table) s p)
+    (λ frame. let same = ap units (store_nothing (space_in v.table s).speculating (ledger_of v.table) s p lines frame) in omega (arith, one, same))
+    (λ frame. by_option (page_in v.table s p)
+    (λ none. absurd (true≢false (sym there ∙ ap is_some none)))
+    (λ x is.
+    let held = books_page holding_of v.table s p ∙ ap (option_map (holding_of v.table.zero_frame)) is in
+    let more = units_joined (ledger_of v.table) s p lines (holding_of v.table.zero_frame x) held in
+    let after = ap units (store_joins (space_in v.table s).speculating (ledger_of v.table) s p lines frame) in
+    omega (arith, one, after, more, class_most (length (with_lines (lines_of x.overlay) lines)))))
 
 -- Tables that have the same pages.
 
@@ -197,13 +174,10 @@ pub entries_state : (v : MemoryView) (s : ℕ) → calls.entries_of v.table s �
 unfolding calls.entries_of entries_in page_state
 entries_state v s =
     alike _ _ (λ q.
-    get_viewed (λ _ (x : PageView). x.entry) (space_in v.table s).pages q ∙ at (get (space_in v.table s).pages q)
+    get_viewed (λ _ (x : PageView). x.entry) (space_in v.table s).pages q
+    ∙ sym (map_twice (λ (x : PageState). x.entry) (page_state v.store) (λ (x : PageView). x.entry) (get (space_in v.table s).pages q) (λ x e. refl))
     ∙ ap (option_map (λ (x : PageState). x.entry)) (sym (get_viewed (λ _ (x : PageView). page_state v.store x) (space_in v.table s).pages q) ∙ ap (λ (m : FinMap nat_cmp PageState). get m q) (sym (state_pages v s)))
     ∙ sym (get_viewed (λ _ (x : PageState). x.entry) (space_in (state_of v) s).pages q))
-  where
-    at : (o : Option PageView) → option_map (λ (x : PageView). x.entry) o ≡ option_map (λ (x : PageState). x.entry) (option_map (page_state v.store) o)
-    at None = refl
-    at (Some x) = refl
 
 pub no_pages_state : (v : MemoryView) (s : ℕ) → (space_in (state_of v) s).pages ≡ empty → (space_in v.table s).pages ≡ empty
 no_pages_state v s none = alike _ _ (λ q. at q (get (space_in v.table s).pages q) refl ∙ sym (get-empty nat_cmp q))
@@ -212,15 +186,10 @@ no_pages_state v s none = alike _ _ (λ q. at q (get (space_in v.table s).pages 
     at q None e = e
     at q (Some x) e =
         let there = sym (get-empty nat_cmp q) ∙ ap (λ (m : FinMap nat_cmp PageState). get m q) (sym none ∙ state_pages v s) ∙ get_viewed (λ _ (y : PageView). page_state v.store y) (space_in v.table s).pages q ∙ ap (option_map (page_state v.store)) e in
-        absurd (nothing (page_state v.store x) there)
-      where
-        nothing : (y : PageState) → None ≡ Some y → ⊥
-        nothing y h = cc
+        absurd (none-some (page_state v.store x) there)
 
 -- a page that the state hasn't isn't in the tables
 pub none_back : (v : MemoryView) (q r : ℕ) → page_in (state_of v) q r ≡ None → page_in v.table q r ≡ None
-none_back v q r none = at (page_in v.table q r) refl
-  where
-    at : (o : Option PageView) → page_in v.table q r ≡ o → page_in v.table q r ≡ None
-    at None e = e
-    at (Some x) e = let no = sym (state_page_some v q r ∙ ap is_some e) ∙ ap is_some none in cc
+none_back v q r none = by_option (page_in v.table q r)
+    (λ e. e)
+    (λ x e. let no = sym (state_page_some v q r ∙ ap is_some e) ∙ ap is_some none in cc)

@@ -1,11 +1,11 @@
-use Rattle.std.specs.Prelude.{◌≡◌, ℕ, Option, Some, None, refl}
-use Rattle.std.proofs.Common.{subst, ap}
-use Rattle.std.specs.Option.{option_map, option_map_or}
-use Rattle.ovl_io.specs.declared.perms.Perms.{Perms}
+use Rattle.std.specs.Prelude.{◌≡◌, ℕ, Some}
+use Rattle.std.proofs.Common.{subst}
+use Rattle.std.specs.Option.{option_map}
 use Rattle.overlay_pages.specs.declared.spots.FoundLine.{FoundLine}
 use Rattle.overlay_pages.specs.Spots.{IsFoundAt}
 use Rattle.overlay_pages.specs.State.{PageState}
 use Rattle.overlay_pages.specs.View.{MemoryView, state_of}
+use Rattle.space_maps.specs.Options.{map_from}
 use Rattle.space_maps.specs.Spaces.{page_in}
 
 -- Laws of lines that were found.
@@ -18,9 +18,6 @@ module _ (view : MemoryView) (space page line : ℕ) (found : FoundLine) (it : I
 
   -- its page is there, with these permissions
   pub found_page : (x : PageState) × (page_in (state_of view) space page ≡ Some x) × (x.entry.perms ≡ found.perms)
-  found_page = at (page_in (state_of view) space page) refl (found_at (λ s p l. option_map (λ (x : PageState). x.entry.perms) (page_in (state_of view) s p) ≡ Some found.perms) it.is.perms)
-    where
-      at : (o : Option PageState) → page_in (state_of view) space page ≡ o → option_map (λ (x : PageState). x.entry.perms) o ≡ Some found.perms
-          → (x : PageState) × (page_in (state_of view) space page ≡ Some x) × (x.entry.perms ≡ found.perms)
-      at None there h = cc
-      at (Some x) there h = (x, there, ap (λ (o : Option Perms). option_map_or (λ (k : Perms). k) o found.perms) h)
+  found_page =
+      map_from (λ (x : PageState). x.entry.perms) (page_in (state_of view) space page) found.perms
+      (found_at (λ s p l. option_map (λ (x : PageState). x.entry.perms) (page_in (state_of view) s p) ≡ Some found.perms) it.is.perms) (λ x there same. (x, there, same))

@@ -1,9 +1,10 @@
-use Rattle.std.specs.Prelude.{◌≡◌, ℕ, Option, Some, None, is_some, refl}
+use Rattle.std.specs.Prelude.{◌≡◌, ℕ, Some, is_some, refl}
 use Rattle.std.proofs.Common.{sym, ap, ◌∙◌}
 use Rattle.std.specs.Option.{option_map}
 use Rattle.std.specs.FinMap.{len}
 use Rattle.number_maps.specs.Views.{viewed}
 use Rattle.ledger.specs.PlaceLaws.{same_ledger}
+use Rattle.space_maps.specs.Options.{map_twice}
 use Rattle.space_maps.specs.Spaces.{holds_space, page_in, space_in}
 use Rattle.space_maps.specs.Mapped.{mapped, mapped_awaiting, mapped_count, mapped_holds, mapped_mark, mapped_page, mapped_pages, mapped_some, mapped_there}
 use Rattle.space_maps.specs.Books.{books_page, books_spaces}
@@ -60,8 +61,5 @@ module _ (v : MemoryView) where
   unfolding state_of page_state mapped
   state_books = same_ledger (books (state_of v)) (ledger_of v.table)
       (λ q. books_spaces held_page (state_of v) q ∙ state_holds q ∙ sym (books_spaces holding_of v.table q))
-      (λ q r. books_page held_page (state_of v) q r ∙ ap (option_map (held_page (state_of v).zero_frame)) (state_page q r) ∙ at (page_in v.table q r) ∙ sym (books_page holding_of v.table q r))
-    where
-      at : (o : Option PageView) → option_map (held_page (state_of v).zero_frame) (option_map (page_state v.store) o) ≡ option_map (holding_of v.table.zero_frame) o
-      at None = refl
-      at (Some x) = refl
+      (λ q r. books_page held_page (state_of v) q r ∙ ap (option_map (held_page (state_of v).zero_frame)) (state_page q r)
+      ∙ map_twice (held_page (state_of v).zero_frame) (page_state v.store) (holding_of v.table.zero_frame) (page_in v.table q r) (λ x is. refl) ∙ sym (books_page holding_of v.table q r))

@@ -1,17 +1,18 @@
 //! Lines that come into the overlay of a page, and overlays that end.
 
-ghost use Rattle.std.specs.Prelude.{◌≡◌, ◌+◌, ◌^◌, ◌<◌, ◌≤◌, IsSome, Some, None, [], ◌∷◌, false, true, length};
+ghost use Rattle.std.specs.Prelude.{◌≡◌, ℕ, ◌+◌, ◌^◌, ◌<◌, ◌≤◌, IsSome, Some, None, [], ◌∷◌, true, false, length};
 ghost use Rattle.sizes.specs.declared.TheConstants.{PAGE_LINES};
 ghost use Rattle.unit_map.specs.Changes.{HasRoom};
 ghost use Rattle.overlay_bits.specs.Lines.{has_line};
 ghost use Rattle.ledger.specs.Units.{class};
 ghost use Rattle.segment_store.specs.Pointers.{capacity_of};
+ghost use Rattle.segment_store.specs.Store.{line_in, scratch_line};
 ghost use Rattle.segment_store.specs.Changes.{KeepsFrames, KeepsScratch};
 ghost use Rattle.space_maps.specs.Spaces.{page_in, turned_page};
 ghost use Rattle.space_ledger.specs.View.{lines_of, overlay_at, with_overlay};
-ghost use Rattle.overlay_pages.specs.Changes.{Fits, brought, discarded};
+ghost use Rattle.overlay_pages.specs.Changes.{Fits, brought, discarded, limit_of, units_of};
 ghost use Rattle.overlay_pages.specs.View.{IsJoined, state_of, view_of};
-ghost use Rattle.overlay_pages.specs.Steps.{Moved, joins, laid};
+ghost use Rattle.overlay_pages.specs.Steps.{joins, laid};
 
 use crate::moving::make_room;
 use overlay_address::OverlayPage;
@@ -55,6 +56,36 @@ pub(crate) fn drop_overlay(
         store.end_segment(entry.block);
         ledger.set_overlay(space, page, None);
     }
+}
+
+/// The overlay of a page ends, with its lines in scratch, and there is room for a block of an order, for which the units are there then.
+pub(crate) fn take_up(
+    store: &mut SegmentStore,
+    ledger: &mut SpaceLedger,
+    space: u16,
+    page: u64,
+    overlay: &Entry,
+    order: u8,
+)
+    requires joined { IsJoined (view_of store.old ledger.old) }
+    requires there { IsSome (page_in ledger.old space page) }
+    requires overlaid { overlay_at ledger.old space page ≡ Some overlay.now }
+    requires order { order ≤ 4 }
+    requires enough { 2 ^ order + units_of (turned_page discarded (state_of (view_of store.old ledger.old)) space page)
+        ≤ limit_of (state_of (view_of store.old ledger.old)) }
+    ensures joined { IsJoined (view_of store.new ledger.new) }
+    ensures state { state_of (view_of store.new ledger.new)
+        ≡ turned_page discarded (state_of (view_of store.old ledger.old)) space page }
+    ensures there { IsSome (page_in ledger.new space page) }
+    ensures bare { overlay_at ledger.new space page ≡ None }
+    ensures frames { KeepsFrames store.old store.new }
+    ensures lines { (line : ℕ) → line < PAGE_LINES → has_line overlay.now.bits line ≡ true
+        → scratch_line store.new line ≡ line_in store.old overlay.now.block line }
+    ensures room { HasRoom store.new.blocks order }
+{
+    store.lift(overlay.block, overlay.bits);
+    drop_overlay(store, ledger, space, page);
+    make_room(store, ledger, order);
 }
 
 /// A page that is there and has no overlay gets one, for which there is room: with these lines of scratch, and with one line more.
@@ -137,10 +168,8 @@ fn grow(
     ensures state { state_of (view_of store.new ledger.new)
         ≡ turned_page (joins line bytes.now) (state_of (view_of store.old ledger.old)) space page }
 {
-    store.lift(entry.block, entry.bits);
-    drop_overlay(store, ledger, space, page);
     let order = entry.block.order + 1;
-    make_room(store, ledger, order);
+    take_up(store, ledger, space, page, &entry, order);
     begin_overlay(store, ledger, space, page, order, entry.bits, line, bytes);
 }
 

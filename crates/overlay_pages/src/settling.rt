@@ -10,8 +10,7 @@ ghost use Rattle.overlay_pages.specs.Changes.{HasCopyRoom, IsPlaced, committed, 
 ghost use Rattle.overlay_pages.specs.View.{IsJoined, state_of, view_of};
 
 use crate::frames::commit_lines;
-use crate::moving::make_room;
-use crate::overlays::drop_overlay;
+use crate::overlays::{drop_overlay, take_up};
 use crate::placing::place_lines;
 use overlay_mapping_table::Entry;
 use segment_store::SegmentStore;
@@ -64,9 +63,7 @@ pub(crate) fn copy_commit(
         space page (λ frame. copied frame x)) }
 {
     let frame = frame_of(ledger, space, page);
-    store.lift(overlay.block, overlay.bits);
-    drop_overlay(store, ledger, space, page);
-    make_room(store, ledger, 4);
+    take_up(store, ledger, space, page, &overlay, 4);
     let mut lines = [[0; 64]; 64];
     store.compose_scratch(frame, overlay.bits, &mut lines);
     place_lines(store, ledger, space, page, &lines);

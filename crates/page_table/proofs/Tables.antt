@@ -121,11 +121,6 @@ next_first pages page run next = (next.from, has, next.none)
 
 -- What is kept.
 
-pub kept_none : (runs : List PageRun) (count room : ℕ) → runs ≡ [] → count ≡ 0 → AreKept runs count room
-kept_none runs count room is none =
-    subst (λ (rs : List PageRun). AreKept rs count room) (sym is)
-    (record { rise = tt; few = omega (arith, none); counted = none; roomy = omega arith })
-
 -- A run of n pages is put in.
 pub filled_run : (runs new : List PageRun) (from n at : ℕ) (entry : PageEntry) → ComeInOrder 0 runs → IsFree (pages_of runs) from n → from + n ≤ 2 ^ 36
     → 0 < n → n < 2 ^ 32 → entry.frame < 2 ^ 32 → IsPlace runs from at → new ≡ list.insert runs at (plain_run from n entry)
@@ -185,13 +180,6 @@ set_one runs cut put new page at e parts there begins one is joined = record {
 pub set_rises : (cut put : List PageRun) (page at : ℕ) (e : PageEntry) → ComeInOrder 0 cut → at < length cut → (run_at cut at).page ≡ page
     → (run_at cut at).n ≡ 1 → e.frame < 2 ^ 32 → put ≡ slice_set cut at (single page e) → ComeInOrder 0 put
 set_rises cut put page at e h there begins one fits is = subst (ComeInOrder 0) (sym is) (rise_put 0 cut at page e h there begins one fits)
-
-pub same_again : (a b c : List PageRun) → AreSame a b → AreSame b c → AreSame a c
-same_again a b c first second = record {
-  found = λ page. second.found page ∙ first.found page;
-  rise = second.rise;
-  count = second.count ∙ first.count;
-}
 
 -- Pages are taken away, run by run.
 

@@ -119,7 +119,7 @@ abbrev pub tail_of : PageRun → ℕ → PageRun
 tail_of run n = record { page = run.page + n; n = run.n - n; entry = entry_at run n; rising = run.rising }
 
 -- a run is two that lie one after the other
-pub record IsJoined (a b run : PageRun) : Type 0 where
+pub record IsOneRun (a b run : PageRun) : Type 0 where
   pub meet : b.page ≡ a.page + a.n
   pub page : run.page ≡ a.page
   pub count : run.n ≡ a.n + b.n

@@ -149,9 +149,6 @@ went_along old new from to order m unit segment there low high = record {
         let b : 4 * from + 4 * i ≡ 4 * unit = omega (arith, low) in
         ap (line_of new.lines) a ∙ line_moved old new from to order (4 * i) m (omega (arith, less)) ∙ ap (line_of old.lines) b
 
-    offset : ℕ → List ℕ → ℕ
-    offset line pointers = cond (nat_eq segment.order 4) line (slot_of pointers line)
-
     places : (line : ℕ) → place_of new (block_of (to + i) segment) line + 4 * unit ≡ place_of old (block_of unit segment) line + 4 * (to + i)
     places line =
         let e : cond (nat_eq segment.order 4) line (slot_of (line_of new.lines (4 * (to + i))) line) ≡ cond (nat_eq segment.order 4) line (slot_of (line_of old.lines (4 * unit)) line) = ap (λ p. cond (nat_eq segment.order 4) line (slot_of p line)) first in

@@ -21,7 +21,6 @@ pub(crate) fn slot(pointers: &[u8; 64], line: u8) -> u8
 pub(crate) fn free(pointers: &[u8; 64]) -> u32
     ensures { result ≡ free_word pointers.now }
 {
-    let _whole = *pointers;
     u32::from_le_bytes([pointers[40], pointers[41], pointers[42], pointers[43]])
 }
 

@@ -1,5 +1,4 @@
-use Rattle.std.specs.Prelude.{◌≡◌, ℕ, zero, suc, ◌+◌, ◌-◌, ◌==◌, ◌<◌, ◌⊎◌, Bool, true, false, cond, not, ◌&&◌, ◌||◌, nat_eq, nat_lt, List, length, Some, refl}
-use Rattle.std.proofs.Common.{sym, ap, subst, ◌∙◌, arith, inl, inr}
+use Rattle.std.proofs.Common.{◌≡◌, ℕ, zero, suc, ◌+◌, ◌-◌, ◌==◌, ◌<◌, ◌⊎◌, Bool, true, false, cond, not, ◌&&◌, ◌||◌, nat_eq, nat_lt, List, length, Some, refl, sym, ap, subst, ◌∙◌, arith, inl, inr}
 use Rattle.std.proofs.lemmas.Bool.Decides.{nat_tests}
 use Rattle.sizes.specs.declared.TheConstants.{FRAME_UNITS}
 use Rattle.frame_pool.specs.Counts.{held, released, sharers_of}
@@ -7,9 +6,10 @@ use Rattle.frame_pool.specs.Laws.{held_here, held_other, released_here, released
 use Rattle.ledger.specs.Ledger.{Holding, Ledger, has_origin, holding_at, is_alone, is_unused, with_page, without_page}
 use Rattle.ledger.specs.Units.{sharers}
 use Rattle.ledger.specs.UnitLaws.{frame_for}
-use Rattle.ledger.specs.AloneLaws.{arent}
+use Rattle.ledger.specs.AloneLaws.{are, arent}
 use Rattle.ledger.specs.TallyLaws.{alone_by_count, had_by_count, sharers_at, sharers_put}
 use Rattle.space_ledger.specs.View.{origin_of}
+use Rattle.space_ledger.specs.ViewLaws.{unused_is}
 use Rattle.space_ledger.specs.Frames.{frame_units, held_by, released_by}
 use Rattle.space_ledger.specs.Calls.{AreSharersCounted}
 
@@ -40,7 +40,7 @@ by_two {P = P} a b same other = at (nat_eq a b) refl
     at true e = same (eq_true a b e)
     at false e = other (eq_false a b e)
 
-held_zero : (z : ℕ) (counts : List ℕ) (f : ℕ) → f ≡ z → held_by z counts f ≡ counts
+pub held_zero : (z : ℕ) (counts : List ℕ) (f : ℕ) → f ≡ z → held_by z counts f ≡ counts
 unfolding held_by
 held_zero z counts f same = let yes : nat_eq f z ≡ true = grind (arith, nat_tests) in ap (λ (b : Bool). cond b counts (held counts f)) yes
 
@@ -56,96 +56,84 @@ pub released_less : (z : ℕ) (counts : List ℕ) (f : ℕ) → (f ≡ z → ⊥
 unfolding released_by
 released_less z counts f other = ap (λ (b : Bool). cond b counts (released counts f)) (arent f z other)
 
+-- the count of a frame beside the one that a page more or fewer names, and that of that one
+held_beside : (z : ℕ) (counts : List ℕ) (g f : ℕ) → (f ≡ g → ⊥) → sharers_of (held_by z counts g) f ≡ sharers_of counts f
+held_beside z counts g f differ = by_two g z (λ same. ap (λ c. sharers_of c f) (held_zero z counts g same)) (λ other. ap (λ c. sharers_of c f) (held_more z counts g other) ∙ held_other counts g f differ)
+
+pub released_beside : (z : ℕ) (counts : List ℕ) (g f : ℕ) → (f ≡ g → ⊥) → sharers_of (released_by z counts g) f ≡ sharers_of counts f
+released_beside z counts g f differ =
+    by_two g z (λ same. ap (λ c. sharers_of c f) (released_zero z counts g same)) (λ other. ap (λ c. sharers_of c f) (released_less z counts g other) ∙ released_other counts g f differ)
+
+-- whether a page with a frame's origin has another frame's
+same_origin : (z g f : ℕ) (h : Holding) → h.origin ≡ origin_of z g → (f ≡ z → ⊥) → (b : Bool) → nat_eq g f ≡ b → (h.origin == f + 1) ≡ b
+same_origin z g f h origin isnt b is = ap (λ n. nat_eq n (f + 1)) origin ∙ has_frame z f g isnt ∙ is
+
 -- a page of a frame is taken away
 pub counts_released : (l : Ledger) (z frames s p g : ℕ) (h : Holding) (counts : List ℕ) → AreSharersCounted l z frames counts → length counts ≡ frames → holding_at l s p ≡ Some h
     → h.origin ≡ origin_of z g → g < frames → AreSharersCounted (without_page l s p) z frames (released_by z counts g)
 counts_released l z frames s p g h counts counted room there origin low f f_low isnt =
-    by_two g z
-    (λ zero_g. ap (λ (c : List ℕ). sharers_of c f) (released_zero z counts g zero_g) ∙ counted f f_low isnt
-    ∙ none (sharers (without_page l s p) (f + 1)) (sharers_at l s p h (f + 1) there ∙ ap (λ (b : Bool). sharers (without_page l s p) (f + 1) + cond b 1 0) (named ∙ arent g f (λ e. isnt (sym e ∙ zero_g)))))
-    (λ more. ap (λ (c : List ℕ). sharers_of c f) (released_less z counts g more) ∙ by_two f g
-    (λ same. ap (sharers_of (released counts g)) same ∙ released_here counts g (subst (λ n. g < n) (sym room) low)
-    ∙ ap (λ n. n - 1) (ap (sharers_of counts) (sym same) ∙ counted f f_low isnt)
-    ∙ one (sharers (without_page l s p) (f + 1)) (sharers_at l s p h (f + 1) there ∙ ap (λ (b : Bool). sharers (without_page l s p) (f + 1) + cond b 1 0) (named ∙ is g f (sym same))))
-    (λ differ. released_other counts g f differ ∙ counted f f_low isnt
-    ∙ none (sharers (without_page l s p) (f + 1)) (sharers_at l s p h (f + 1) there ∙ ap (λ (b : Bool). sharers (without_page l s p) (f + 1) + cond b 1 0) (named ∙ arent g f (λ e. differ (sym e))))))
-  where
-    named : (h.origin == f + 1) ≡ nat_eq g f
-    named = ap (λ n. nat_eq n (f + 1)) origin ∙ has_frame z f g isnt
-
-    is : (a b : ℕ) → a ≡ b → nat_eq a b ≡ true
-    is a b same = grind (arith, nat_tests)
-
-    none : (rest : ℕ) → sharers l (f + 1) ≡ rest + cond false 1 0 → sharers l (f + 1) ≡ rest
-    none rest e = omega (arith, e)
-
-    one : (rest : ℕ) → sharers l (f + 1) ≡ rest + cond true 1 0 → sharers l (f + 1) - 1 ≡ rest
-    one rest e = omega (arith, e)
+    let all = sharers_at l s p h (f + 1) there in
+    let was = counted f f_low isnt in
+    by_two f g
+    (λ same.
+    let one = ap {B = ℕ} (λ b. cond b 1 0) (same_origin z g f h origin isnt true (are g f (sym same))) in
+    let now = ap (λ c. sharers_of c f) (released_less z counts g (λ e. isnt (same ∙ e))) ∙ ap (sharers_of (released counts g)) same ∙ released_here counts g (subst (λ n. g < n) (sym room) low)
+    ∙ ap (λ n. sharers_of counts n - 1) (sym same) in
+    omega (arith, all, was, one, now))
+    (λ differ.
+    let none = ap {B = ℕ} (λ b. cond b 1 0) (same_origin z g f h origin isnt false (arent g f (λ e. differ (sym e)))) in
+    let now = released_beside z counts g f differ in
+    omega (arith, all, was, none, now))
 
 -- a page of a frame is put
 pub counts_held : (l : Ledger) (z frames s p g : ℕ) (h : Holding) (counts : List ℕ) → AreSharersCounted (without_page l s p) z frames counts → length counts ≡ frames
     → h.origin ≡ origin_of z g → g < frames → AreSharersCounted (with_page l s p h) z frames (held_by z counts g)
 counts_held l z frames s p g h counts counted room origin low f f_low isnt =
-    by_two g z
-    (λ zero_g. ap (λ (c : List ℕ). sharers_of c f) (held_zero z counts g zero_g) ∙ counted f f_low isnt
-    ∙ none (sharers (with_page l s p h) (f + 1)) (sharers_put l s p h (f + 1) ∙ ap (λ (b : Bool). sharers (without_page l s p) (f + 1) + cond b 1 0) (named ∙ arent g f (λ e. isnt (sym e ∙ zero_g)))))
-    (λ more. ap (λ (c : List ℕ). sharers_of c f) (held_more z counts g more) ∙ by_two f g
-    (λ same. ap (sharers_of (held counts g)) same ∙ held_here counts g (subst (λ n. g < n) (sym room) low)
-    ∙ ap (λ n. n + 1) (ap (sharers_of counts) (sym same) ∙ counted f f_low isnt)
-    ∙ one (sharers (with_page l s p h) (f + 1)) (sharers_put l s p h (f + 1) ∙ ap (λ (b : Bool). sharers (without_page l s p) (f + 1) + cond b 1 0) (named ∙ is g f (sym same))))
-    (λ differ. held_other counts g f differ ∙ counted f f_low isnt
-    ∙ none (sharers (with_page l s p h) (f + 1)) (sharers_put l s p h (f + 1) ∙ ap (λ (b : Bool). sharers (without_page l s p) (f + 1) + cond b 1 0) (named ∙ arent g f (λ e. differ (sym e))))))
+    let all = sharers_put l s p h (f + 1) in
+    let was = counted f f_low isnt in
+    by_two f g
+    (λ same.
+    let one = ap {B = ℕ} (λ b. cond b 1 0) (same_origin z g f h origin isnt true (are g f (sym same))) in
+    let now = ap (λ c. sharers_of c f) (held_more z counts g (λ e. isnt (same ∙ e))) ∙ ap (sharers_of (held counts g)) same ∙ held_here counts g (subst (λ n. g < n) (sym room) low)
+    ∙ ap (λ n. sharers_of counts n + 1) (sym same) in
+    omega (arith, all, was, one, now))
+    (λ differ.
+    let none = ap {B = ℕ} (λ b. cond b 1 0) (same_origin z g f h origin isnt false (arent g f (λ e. differ (sym e)))) in
+    let now = held_beside z counts g f differ in
+    omega (arith, all, was, none, now))
+
+-- whether a frame is unused, by its count
+pub unused_by_count : (l : Ledger) (z frames f : ℕ) (counts : List ℕ) → AreSharersCounted l z frames counts → f < frames
+    → (not (nat_eq f z) && nat_eq (sharers_of counts f) 0) ≡ is_unused l (origin_of z f)
+unused_by_count l z frames f counts counted low = at (nat_eq f z) refl ∙ sym (unused_is l z f)
   where
-    named : (h.origin == f + 1) ≡ nat_eq g f
-    named = ap (λ n. nat_eq n (f + 1)) origin ∙ has_frame z f g isnt
+    none : (k : ℕ) → nat_eq k 0 ≡ not (nat_lt 0 k)
+    none zero = refl
+    none (suc k) = let left : nat_eq (suc k) 0 ≡ false = grind (arith, nat_tests) in let right : nat_lt 0 (suc k) ≡ true = grind (arith, nat_tests) in left ∙ ap not (sym right)
 
-    is : (a b : ℕ) → a ≡ b → nat_eq a b ≡ true
-    is a b same = grind (arith, nat_tests)
-
-    none : (all : ℕ) → all ≡ sharers (without_page l s p) (f + 1) + cond false 1 0 → sharers (without_page l s p) (f + 1) ≡ all
-    none all e = omega (arith, e)
-
-    one : (all : ℕ) → all ≡ sharers (without_page l s p) (f + 1) + cond true 1 0 → sharers (without_page l s p) (f + 1) + 1 ≡ all
-    one all e = omega (arith, e)
+    at : (b : Bool) → nat_eq f z ≡ b → (not b && nat_eq (sharers_of counts f) 0) ≡ not (b || has_origin l (f + 1))
+    at true e = refl
+    at false e = ap (λ k. nat_eq k 0) (counted f low (eq_false f z e)) ∙ none (sharers l (f + 1)) ∙ ap not (sym (had_by_count l (f + 1)))
 
 -- the units of a frame, by its count
 pub units_by_count : (l : Ledger) (z frames g : ℕ) (counts : List ℕ) → AreSharersCounted l z frames counts → g < frames
     → frame_units z counts g ≡ frame_for (is_unused l (origin_of z g))
-unfolding frame_units frame_for is_unused
-units_by_count l z frames g counts counted low = at (nat_eq g z) refl
+unfolding frame_units frame_for
+units_by_count l z frames g counts counted low = turned (nat_eq g z) (nat_eq (sharers_of counts g) 0) ∙ ap (λ b. cond b FRAME_UNITS 0) (unused_by_count l z frames g counts counted low)
   where
-    at : (b : Bool) → nat_eq g z ≡ b
-        → cond (b || not (sharers_of counts g == 0)) 0 FRAME_UNITS ≡ cond (not (cond b 0 (g + 1) == 0) && not (has_origin l (cond b 0 (g + 1)))) FRAME_UNITS 0
-    at true e = refl
-    at false e = by_sharers (sharers l (g + 1)) (counted g low (eq_false g z e)) (had_by_count l (g + 1))
-      where
-        by_sharers : (n : ℕ) → sharers_of counts g ≡ n → has_origin l (g + 1) ≡ nat_lt 0 n
-            → cond (not (sharers_of counts g == 0)) 0 FRAME_UNITS ≡ cond (not ((g + 1) == 0) && not (has_origin l (g + 1))) FRAME_UNITS 0
-        by_sharers zero is had =
-            let left : (sharers_of counts g == 0) ≡ true = grind (arith, nat_tests) in
-            let right : has_origin l (g + 1) ≡ false = had ∙ (let no : nat_lt 0 0 ≡ false = grind (arith, nat_tests) in no) in
-            let not_zero : ((g + 1) == 0) ≡ false = grind (arith, nat_tests) in
-            (λ i. cond (not (left i)) 0 FRAME_UNITS) ∙ (λ i. cond (not (sym not_zero i) && not (sym right i)) FRAME_UNITS 0)
-        by_sharers (suc n) is had =
-            let left : (sharers_of counts g == 0) ≡ false = grind (arith, nat_tests) in
-            let right : has_origin l (g + 1) ≡ true = had ∙ (let yes : nat_lt 0 (suc n) ≡ true = grind (arith, nat_tests) in yes) in
-            (λ i. cond (not (left i)) 0 FRAME_UNITS) ∙ nothing (not ((g + 1) == 0)) ∙ (λ i. cond (not ((g + 1) == 0) && not (sym right i)) FRAME_UNITS 0)
-          where
-            nothing : (b : Bool) → 0 ≡ cond (b && false) FRAME_UNITS 0
-            nothing true = refl
-            nothing false = refl
+    turned : (a b : Bool) → cond (a || not b) 0 FRAME_UNITS ≡ cond (not a && b) FRAME_UNITS 0
+    turned true b = refl
+    turned false true = refl
+    turned false false = refl
 
 -- a frame that a page names has a sharer
 pub some_sharer : (l : Ledger) (z frames s p g : ℕ) (h : Holding) (counts : List ℕ) → AreSharersCounted l z frames counts → holding_at l s p ≡ Some h → h.origin ≡ origin_of z g → g < frames
     → (g ≡ z) ⊎ (0 < sharers_of counts g)
 some_sharer l z frames s p g h counts counted there origin low = by_two g z inl (λ isnt.
-    let here : (h.origin == g + 1) ≡ true = ap (λ n. nat_eq n (g + 1)) origin ∙ has_frame z g g isnt ∙ itself g in
+    let here = same_origin z g g h origin isnt true (are g g refl) in
     let all = sharers_at l s p h (g + 1) there ∙ ap (λ (b : Bool). sharers (without_page l s p) (g + 1) + cond b 1 0) here in
     let count = counted g low isnt in
     inr (omega (arith, all, count)))
-  where
-    itself : (n : ℕ) → nat_eq n n ≡ true
-    itself n = grind (arith, nat_tests)
 
 -- a page is alone by the count of its frame
 pub alone_frame : (l : Ledger) (z frames s p g : ℕ) (h : Holding) (counts : List ℕ) → AreSharersCounted l z frames counts → holding_at l s p ≡ Some h → h.origin ≡ origin_of z g → g < frames

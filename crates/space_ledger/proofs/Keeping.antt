@@ -1,7 +1,6 @@
-use Rattle.std.specs.Prelude.{◌≡◌, ℕ, ◌+◌, ◌*◌, ◌≤◌, ◌<◌, Bool, true, false, cond, nat_lt, [], length, Option, Some, None, is_some, refl}
-use Rattle.std.proofs.Common.{sym, ap, subst, ◌∙◌, arith}
+use Rattle.std.proofs.Common.{◌≡◌, ℕ, ◌+◌, ◌*◌, ◌≤◌, ◌<◌, Bool, true, false, cond, nat_lt, length, Option, Some, None, is_some, refl, nat_cmp, sym, ap, subst, ◌∙◌, arith}
+use Rattle.std.proofs.lemmas.Option.{none-some, same_Some}
 use Rattle.std.proofs.lemmas.Bool.Decides.{nat_tests}
-use Rattle.std.specs.Ordering.{nat_cmp}
 use Rattle.std.specs.FinMap.{empty, get, get-empty, insert, len, remove}
 use Rattle.number_maps.specs.Keys.{by_key, get_other, removed_other, removed_same}
 use Rattle.number_maps.specs.Values.{remove_absent}
@@ -16,8 +15,9 @@ use Rattle.ledger.specs.Units.{overlaid_pages, tally}
 use Rattle.ledger.specs.PlaceLaws.{by_place}
 use Rattle.ledger.specs.AloneLaws.{without_absent}
 use Rattle.ledger.specs.TallyLaws.{tally_at, tally_changed, tally_empty, tally_put}
+use Rattle.space_maps.specs.Options.{none_by}
 use Rattle.space_maps.specs.Spaces.{bare_space, cut_page, cut_space, holds_space, page_in, put_awaiting, put_mark, put_page, put_shared, put_space, space_in}
-use Rattle.space_maps.specs.Laws.{KeepsSpaces, beside_space, in_space, keeps_page_cut, keeps_page_put, page_absent, page_cut_beside, page_cut_here, page_of, page_put_beside, page_put_here, put_shared_as, space_left, there_space}
+use Rattle.space_maps.specs.Laws.{beside_space, in_space, keeps_page_cut, keeps_page_put, page_absent, page_cut_beside, page_cut_here, page_of, page_put_beside, page_put_here, put_shared_as, space_left, there_space}
 use Rattle.space_maps.specs.Books.{books_absent, books_cut, books_cut_page, books_kept, books_put, books_put_page, books_put_shared, books_spaces, books_there}
 use Rattle.space_ledger.specs.View.{LedgerView, PageView, SpaceView, holding_of, ledger_of, lines_of}
 use Rattle.space_ledger.specs.Kept.{IsKept}
@@ -45,15 +45,9 @@ by_overlay : (zero_frame : ℕ) (x : PageView) → ((o : Entry) → x.overlay �
 unfolding has_lines
 by_overlay zero_frame x lined = at x.overlay lined
   where
-    count : Bool → ℕ
-    count b = cond b 1 0
-
     at : (o : Option Entry) → ((e : Entry) → o ≡ Some e → 0 < length e.bits) → cond (nat_lt 0 (length (lines_of o))) 1 0 ≡ one_if o
-    at None h = ap count no_line
-      where
-        no_line : nat_lt 0 (length {A = ℕ} []) ≡ false
-        no_line = grind (arith, nat_tests)
-    at (Some e) h = let some = h e refl in let yes : nat_lt 0 (length e.bits) ≡ true = grind (arith, nat_tests) in ap count yes
+    at None h = refl
+    at (Some e) h = let some = h e refl in let yes : nat_lt 0 (length e.bits) ≡ true = grind (arith, nat_tests) in ap (λ b. cond b 1 0) yes
 
 -- how many pages have own lines, with a page put in another's place
 overlaid_changed : (v : LedgerView) (s p : ℕ) (x y : PageView) → page_in v s p ≡ Some x
@@ -97,50 +91,41 @@ at_put v s p y q r o is here other = by_place s p q r
     (λ ss pp. here ss pp (sym is ∙ page_put_here v s p y q r ss pp))
     (λ d. other d (sym (page_put_beside v s p y q r d) ∙ is))
 
-same_some : {X : Type 0} (x y : X) → Some x ≡ Some y → x ≡ y
-same_some x y e = ap (λ o. elim o [ None ↦ x | Some z ↦ z ]) e
-
 module _ {v : LedgerView} {overlays : Table} (kept : IsKept v overlays) where
   lined : (s p : ℕ) (x : PageView) → page_in v s p ≡ Some x → has_lines (held v x) ≡ one_if x.overlay
   lined s p x there = by_overlay v.zero_frame x (λ o is. (kept.lines s p x o there is).0)
+
+  -- a page put, with the overlay under its name
+  kept_put : (s p : ℕ) (y : PageView) (new : Table) → holds_space v s ≡ true → p < PAGE_END → AreOthers overlays.entries new.entries (overlay_page s p)
+      → ((o : Entry) → y.overlay ≡ Some o → (0 < length o.bits) × (length o.bits ≤ PAGE_LINES)) → len new.entries ≡ overlaid_pages (ledger_of (put_page v s p y))
+      → len new.entries ≤ FRAME_UNITS * v.frames → new.room ≡ overlays.room → IsKept (put_page v s p y) new
+  unfolding put_page put_space
+  kept_put s p y new has low others lines_ok count most room = record {
+    numbers = λ q some. kept.numbers q (sym ((keeps_page_put v s p y has).there q) ∙ some);
+    low = λ q r some. at_put v s p y q r (page_in (put_page v s p y) q r) refl
+        (λ ss pp is. subst (λ n. n < PAGE_END) (sym pp) low)
+        (λ d is. kept.low q r (ap is_some is ∙ some));
+    placed = λ q r lq lr none. at_put v s p y q r None none (λ ss pp is. absurd (none-some y is))
+        (λ d is. others (overlay_page q r) (apart s p q r (kept.numbers s has) low lq lr d) ∙ kept.placed q r lq lr is);
+    lines = λ q r z o at is. at_put v s p y q r (Some z) at
+        (λ ss pp e. lines_ok o (ap (λ (w : PageView). w.overlay) (sym (same_Some z y e)) ∙ is))
+        (λ d e. kept.lines q r z o e is);
+    count = count;
+    roomy = room ∙ kept.roomy;
+    most = most;
+  }
 
   -- a page with another overlay, or none: another entry too, where the overlay is the same
   pub kept_overlay : (s p : ℕ) (x y : PageView) (new : Table) → page_in v s p ≡ Some x → AreOthers overlays.entries new.entries (overlay_page s p)
       → ((o : Entry) → y.overlay ≡ Some o → (0 < length o.bits) × (length o.bits ≤ PAGE_LINES))
       → len new.entries + one_if x.overlay ≡ len overlays.entries + one_if y.overlay
       → len new.entries ≤ FRAME_UNITS * v.frames → new.room ≡ overlays.room → IsKept (put_page v s p y) new
-  unfolding put_page put_space
-  kept_overlay s p x y new there others lines_ok counted most room = record {
-    numbers = λ q some. kept.numbers q (sym (keeps.there q) ∙ some);
-    low = λ q r some. at_put v s p y q r (page_in (put_page v s p y) q r) refl
-        (λ ss pp is. subst (λ n. n < PAGE_END) (sym pp) (kept.low s p (ap is_some there)))
-        (λ d is. kept.low q r (ap is_some is ∙ some));
-    placed = λ q r lq lr none. at_put v s p y q r None none (λ ss pp is. let no = ap is_some is in cc)
-        (λ d is. others (overlay_page q r) (apart s p q r ls (kept.low s p (ap is_some there)) lq lr d) ∙ kept.placed q r lq lr is);
-    lines = λ q r z o at is. at_put v s p y q r (Some z) at
-        (λ ss pp e. lines_ok o (ap (λ (w : PageView). w.overlay) (sym (same_some z y e)) ∙ is))
-        (λ d e. kept.lines q r z o e is);
-    count = grows;
-    roomy = room ∙ kept.roomy;
-    most = most;
-  }
-    where
-      has : holds_space v s ≡ true
-      has = there_space v s p x there
-
-      ls : s ≤ LAST_SPACE
-      ls = kept.numbers s has
-
-      keeps : KeepsSpaces v (put_page v s p y)
-      keeps = keeps_page_put v s p y has
-
-      grows : len new.entries ≡ overlaid_pages (ledger_of (put_page v s p y))
-      grows =
-          let changed = overlaid_changed v s p x y there in
-          let was = lined s p x there in
-          let is = by_overlay v.zero_frame y (λ o e. (lines_ok o e).0) in
-          let before = kept.count in
-          omega (arith, changed, was, is, before, counted)
+  kept_overlay s p x y new there others lines_ok counted most room =
+      let changed = overlaid_changed v s p x y there in
+      let was = lined s p x there in
+      let is = by_overlay v.zero_frame y (λ o e. (lines_ok o e).0) in
+      let before = kept.count in
+      kept_put s p y new (there_space v s p x there) (kept.low s p (ap is_some there)) others lines_ok (omega (arith, changed, was, is, before, counted)) most room
 
   pub kept_entry : (s p : ℕ) (x y : PageView) → page_in v s p ≡ Some x → y.overlay ≡ x.overlay → IsKept (put_page v s p y) overlays
   kept_entry s p x y there same = kept_overlay s p x y overlays there (λ n d. refl)
@@ -148,27 +133,12 @@ module _ {v : LedgerView} {overlays : Table} (kept : IsKept v overlays) where
 
   -- a page without an overlay, where none was
   pub kept_new : (s p : ℕ) (y : PageView) → holds_space v s ≡ true → page_in v s p ≡ None → y.overlay ≡ None → p < PAGE_END → IsKept (put_page v s p y) overlays
-  unfolding put_page put_space
-  kept_new s p y there absent bare low = record {
-    numbers = λ q some. kept.numbers q (sym ((keeps_page_put v s p y there).there q) ∙ some);
-    low = λ q r some. at_put v s p y q r (page_in (put_page v s p y) q r) refl
-        (λ ss pp is. subst (λ n. n < PAGE_END) (sym pp) low)
-        (λ d is. kept.low q r (ap is_some is ∙ some));
-    placed = λ q r lq lr none. at_put v s p y q r None none (λ ss pp is. let no = ap is_some is in cc) (λ d is. kept.placed q r lq lr is);
-    lines = λ q r z o at is. at_put v s p y q r (Some z) at
-        (λ ss pp e. let no = ap is_some (sym (ap (λ (w : PageView). w.overlay) (sym (same_some z y e)) ∙ is) ∙ bare) in cc)
-        (λ d e. kept.lines q r z o e is);
-    count = kept.count ∙ stays;
-    roomy = kept.roomy;
-    most = kept.most;
-  }
-    where
-      stays : overlaid_pages (ledger_of v) ≡ overlaid_pages (ledger_of (put_page v s p y))
-      stays =
-          let new = overlaid_new v s p y there absent in
-          let is = by_overlay v.zero_frame y (λ o e. let no = ap is_some (sym e ∙ bare) in cc) in
-          let flag = ap one_if bare in
-          omega (arith, new, is, flag)
+  kept_new s p y there absent bare low =
+      let new = overlaid_new v s p y there absent in
+      let is = by_overlay v.zero_frame y (λ o e. absurd (none-some o (sym bare ∙ e))) in
+      let flag = ap one_if bare in
+      let before = kept.count in
+      kept_put s p y overlays there low (λ n d. refl) (λ o e. absurd (none-some o (sym bare ∙ e))) (omega (arith, new, is, flag, before)) kept.most refl
 
   -- a page without an overlay taken away
   pub kept_gone : (s p : ℕ) (x : PageView) → page_in v s p ≡ Some x → x.overlay ≡ None → get overlays.entries (overlay_page s p) ≡ None → IsKept (cut_page v s p) overlays
@@ -234,20 +204,16 @@ kept_shared {v = v} {overlays = overlays} kept s p y there absent bare low =
     (kept_awaiting (kept_new kept s p y there absent bare low) s (remove (space_in v s).awaiting p) (there_space (put_page v s p y) s p y (page_put_here v s p y s p refl refl)))
 
 -- a space without a page put in where none was, and one taken away
-no_ledger : {X : Type 0} (o : Option X) → is_some o ≡ false → o ≡ None
-no_ledger None h = refl
-no_ledger (Some x) h = cc
-
 pub kept_added : {v : LedgerView} {overlays : Table} → IsKept v overlays → (s : ℕ) → holds_space v s ≡ false → s ≤ LAST_SPACE → IsKept (put_space v s bare_space) overlays
 unfolding put_space
 kept_added {v = v} kept s absent low = kept_as kept (put_space v s bare_space)
     (λ q some. by_key q s (λ ss. subst (λ n. n ≤ LAST_SPACE) (sym ss) low) (λ d. kept.numbers q (sym (ap is_some (get_other v.spaces s q bare_space d)) ∙ some)))
     (λ q r. by_key q s
-    (λ ss. in_space v s bare_space q r ss ∙ get-empty nat_cmp r ∙ sym (page_absent v q r (ap (get v.spaces) ss ∙ no_ledger (get v.spaces s) absent)))
+    (λ ss. in_space v s bare_space q r ss ∙ get-empty nat_cmp r ∙ sym (page_absent v q r (ap (get v.spaces) ss ∙ none_by (get v.spaces s) absent)))
     (λ d. beside_space v s bare_space q r d))
     (ap overlaid_pages (books_put holding_of v s bare_space ∙ ap (insert (ledger_of v) s) (viewed_empty (λ _ y. holding_of v.zero_frame y)))
     ∙ overlaid_is _ ∙ tally_empty has_lines (ledger_of v) s empty refl
-    ∙ ap (tally has_lines) (remove_absent (ledger_of v) s (no_ledger (get (ledger_of v) s) (books_spaces holding_of v s ∙ absent)))
+    ∙ ap (tally has_lines) (remove_absent (ledger_of v) s (none_by (get (ledger_of v) s) (books_spaces holding_of v s ∙ absent)))
     ∙ sym (overlaid_is (ledger_of v)))
     refl
 

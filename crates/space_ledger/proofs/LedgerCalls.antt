@@ -1,5 +1,5 @@
-use Rattle.std.specs.Prelude.{◌≡◌, ℕ, ◌+◌, ◌-◌, ◌^◌, ◌==◌, ◌≤◌, ◌<◌, ◌⊎◌, Bool, true, false, cond, not, ◌&&◌, nat_lt, List, length, Option, Some, None, is_some, IsSome, Result, Ok, Err, IfOk, refl}
-use Rattle.std.proofs.Common.{sym, ap, subst, ◌∙◌, arith}
+use Rattle.std.proofs.Common.{◌≡◌, ℕ, ◌+◌, ◌-◌, ◌^◌, ◌==◌, ◌≤◌, ◌<◌, ◌⊎◌, Bool, true, false, cond, not, ◌&&◌, nat_lt, List, length, Option, Some, None, is_some, IsSome, Result, Ok, Err, IfOk, refl, sym, ap, subst, subst₂, ◌∙◌, arith}
+use Rattle.std.proofs.lemmas.Option.{same_Some}
 use Rattle.std.specs.Option.{option_and_then, option_map, option_map_or}
 use Rattle.std.specs.FinMap.{empty, get}
 use Rattle.number_maps.specs.Views.{get_viewed}
@@ -8,6 +8,7 @@ use Rattle.page_table.specs.Table.{Pages}
 use Rattle.page_table.specs.declared.entry.PageEntry.{PageEntry}
 use Rattle.overlay_mapping_table.specs.declared.entry.Entry.{Entry}
 use Rattle.unit_map.specs.declared.block.Block.{Block}
+use Rattle.space_maps.specs.Options.{map_from}
 use Rattle.space_maps.specs.Laws.{changed_there, page_shared_here}
 use Rattle.space_maps.specs.Spaces.{cut_page, holds_space, page_in, put_page, put_shared, put_space, space_in}
 use Rattle.space_ledger.proofs.Seen.{some_is}
@@ -20,7 +21,6 @@ use Rattle.space_ledger.specs.View.{LedgerView, PageView, frame_at, frame_awaiti
 use Rattle.space_ledger.specs.Calls.{IsBooked, IsFreeFor, IsSound, NamesOnce, entries_of, given_up}
 use Rattle.space_ledger.specs.Frames.{frame_units, held_by, released_by}
 use Rattle.space_ledger.proofs.Booking.{alone_frame, units_by_count}
-use Rattle.space_ledger.proofs.Booked.{}
 use Rattle.space_ledger.proofs.Numbers.{added_is, class_fits, entry_page, frame_low, frame_most, framed_answer, framed_books, framed_fits, freed_fits, freed_is, held_few, held_low, lines_fit, lines_less, over_books, own_is, removed_answer, removed_books, shared_books, shared_few, some_left, units_fit}
 
 -- What the calls leave, in the words of the calls below them.
@@ -28,19 +28,13 @@ use Rattle.space_ledger.proofs.Numbers.{added_is, class_fits, entry_page, frame_
 pub before_release : (v : LedgerView) (counts : List ℕ) (u n : ℕ) → IsBooked v counts u n → (s p z : ℕ) (e : PageEntry) → z ≡ v.zero_frame
     → Some e ≡ option_map (λ (x : PageView). x.entry) (page_in v s p) → (e.frame < length counts) × ((e.frame ≡ z) ⊎ (0 < sharers_of counts e.frame))
 before_release v counts u n kept s p z e zero_is is =
-    let found = entry_page v s p e is in (
-      subst (λ (k : PageEntry). k.frame < length counts) (sym found.2) (frame_low v counts u n kept s p found.0 found.1),
-      subst (λ (k : PageEntry). (k.frame ≡ z) ⊎ (0 < sharers_of counts k.frame)) (sym found.2)
-          (subst (λ k. (found.0.entry.frame ≡ k) ⊎ (0 < sharers_of counts found.0.entry.frame)) (sym zero_is) (some_left v counts u n kept s p found.0 found.1)),
-    )
+    let x = entry_page v s p e is in
+    subst₂ (λ (k : PageEntry) y. (k.frame < length counts) × ((k.frame ≡ y) ⊎ (0 < sharers_of counts k.frame))) (sym x.2) (sym zero_is)
+    (frame_low v counts u n kept s p x.0 x.1, some_left v counts u n kept s p x.0 x.1)
 
 -- a page that names a frame
 on_frame : (v : LedgerView) (s p f : ℕ) → frame_at v s p ≡ Some f → (x : PageView) × (page_in v s p ≡ Some x) × (f ≡ x.entry.frame)
-on_frame v s p f is = at (page_in v s p) refl is
-  where
-    at : (o : Option PageView) → page_in v s p ≡ o → option_map (λ (x : PageView). x.entry.frame) o ≡ Some f → (x : PageView) × (page_in v s p ≡ Some x) × (f ≡ x.entry.frame)
-    at None there h = let no = ap is_some h in cc
-    at (Some x) there h = (x, there, ap (λ (o : Option ℕ). option_map_or (λ (n : ℕ). n) o f) (sym h))
+on_frame v s p f is = map_from (λ (x : PageView). x.entry.frame) (page_in v s p) f is (λ x there same. (x, there, sym same))
 
 pub entry_inside : (v : LedgerView) (counts : List ℕ) (u n : ℕ) → IsBooked v counts u n → (s p : ℕ) (e : PageEntry)
     → Some e ≡ option_map (λ (x : PageView). x.entry) (page_in v s p) → e.frame < v.frames
@@ -66,17 +60,14 @@ pub removed_call : (v : LedgerView) (counts less : List ℕ) (u n : ℕ) → IsB
 removed_call v counts less u n kept s p z freed e zero_is is less_is freed_is bare =
     let found = entry_page v s p e is in
     let x = found.0 in
-    let less_x : less ≡ released_by v.zero_frame counts x.entry.frame = less_is ∙ ap (λ k. released_by k counts e.frame) zero_is ∙ ap (λ (k : PageEntry). released_by v.zero_frame counts k.frame) found.2 in
-    let freed_x : freed ≡ frame_units v.zero_frame (released_by v.zero_frame counts x.entry.frame) x.entry.frame =
-    freed_is ∙ ap (λ k. frame_units k less e.frame) zero_is ∙ ap (λ (k : PageEntry). frame_units v.zero_frame less k.frame) found.2 ∙ ap (λ (c : List ℕ). frame_units v.zero_frame c x.entry.frame) less_x in
-    let over : x.overlay ≡ None = sym (ap (option_and_then (λ (y : PageView). y.overlay)) found.1) ∙ bare in record {
-      fits = subst (λ k. k ≤ u) (sym freed_x) (freed_fits v counts u n kept s p x found.1);
-      books = subst (λ (c : List ℕ). IsBooked (cut_page v s p) c (u - freed) n) (sym less_x)
-          (subst (λ k. IsBooked (cut_page v s p) (released_by v.zero_frame counts x.entry.frame) (u - k) n) (sym freed_x) (removed_books v counts u n kept s p x found.1 over));
-      answer = ap (λ k. cond (nat_lt 0 k) (Some e.frame) None) freed_x
-          ∙ ap (λ (k : PageEntry). cond (nat_lt 0 (frame_units v.zero_frame (released_by v.zero_frame counts x.entry.frame) x.entry.frame)) (Some k.frame) None) found.2
-          ∙ removed_answer v counts u n kept s p x found.1;
-    }
+    let less_x : less ≡ released_by v.zero_frame counts x.entry.frame = less_is ∙ (λ i. released_by (zero_is i) counts (found.2 i).frame) in
+    let freed_x : freed ≡ frame_units v.zero_frame (released_by v.zero_frame counts x.entry.frame) x.entry.frame = freed_is ∙ (λ i. frame_units (zero_is i) (less_x i) (found.2 i).frame) in
+    let over : x.overlay ≡ None = sym (ap (option_and_then (λ (y : PageView). y.overlay)) found.1) ∙ bare in
+    subst (λ (k : PageEntry). Released v less u n s p freed k.frame) (sym found.2) (subst₂ (λ c k. Released v c u n s p k x.entry.frame) (sym less_x) (sym freed_x) (record {
+      fits = freed_fits v counts u n kept s p x found.1;
+      books = removed_books v counts u n kept s p x found.1 over;
+      answer = removed_answer v counts u n kept s p x found.1;
+    }))
 
 pub record BeforeHold (v : LedgerView) (less : List ℕ) (f z : ℕ) : Type 0 where
   pub there : f < length less
@@ -85,13 +76,9 @@ pub record BeforeHold (v : LedgerView) (less : List ℕ) (f z : ℕ) : Type 0 wh
 pub before_hold : (v : LedgerView) (counts less : List ℕ) (u n : ℕ) → IsBooked v counts u n → IsSound v → (s p z f : ℕ) (e : PageEntry) → z ≡ v.zero_frame
     → Some e ≡ option_map (λ (x : PageView). x.entry) (page_in v s p) → less ≡ released_by z counts e.frame → f < v.frames → BeforeHold v less f z
 before_hold v counts less u n kept sound s p z f e zero_is is less_is low =
-    let found = entry_page v s p e is in
-    let x = found.0 in
-    let less_x : less ≡ released_by v.zero_frame counts x.entry.frame = less_is ∙ ap (λ k. released_by k counts e.frame) zero_is ∙ ap (λ (k : PageEntry). released_by v.zero_frame counts k.frame) found.2 in record {
-      there = subst (λ (c : List ℕ). f < length c) (sym less_x) (held_low v counts u n kept s p x found.1 sound f low);
-      few = subst (λ k. (f ≡ k) ⊎ (sharers_of less f < 2 ^ 32 - 1)) (sym zero_is)
-          (subst (λ (c : List ℕ). (f ≡ v.zero_frame) ⊎ (sharers_of c f < 2 ^ 32 - 1)) (sym less_x) (held_few v counts u n kept s p x found.1 sound f low));
-    }
+    let x = entry_page v s p e is in
+    subst₂ (λ c k. BeforeHold v c f k) (sym (less_is ∙ (λ i. released_by (zero_is i) counts (x.2 i).frame))) (sym zero_is)
+    (record { there = held_low v counts u n kept s p x.0 x.1 sound f low; few = held_few v counts u n kept s p x.0 x.1 sound f low })
 
 pub record Framed (v : LedgerView) (more : List ℕ) (u n s p f freed added frame : ℕ) : Type 0 where
   pub fits : freed ≤ u
@@ -105,23 +92,18 @@ pub framed_call : (v : LedgerView) (counts less more : List ℕ) (u n : ℕ) →
 framed_call v counts less more u n kept sound s p z f freed added e zero_is is less_is freed_is more_is added_is low settled free =
     let found = entry_page v s p e is in
     let x = found.0 in
-    let less_x : less ≡ released_by v.zero_frame counts x.entry.frame = less_is ∙ ap (λ k. released_by k counts e.frame) zero_is ∙ ap (λ (k : PageEntry). released_by v.zero_frame counts k.frame) found.2 in
-    let freed_x : freed ≡ frame_units v.zero_frame (released_by v.zero_frame counts x.entry.frame) x.entry.frame =
-    freed_is ∙ ap (λ k. frame_units k less e.frame) zero_is ∙ ap (λ (k : PageEntry). frame_units v.zero_frame less k.frame) found.2 ∙ ap (λ (c : List ℕ). frame_units v.zero_frame c x.entry.frame) less_x in
-    let more_x : more ≡ held_by v.zero_frame (released_by v.zero_frame counts x.entry.frame) f = more_is ∙ ap (λ k. held_by k less f) zero_is ∙ ap (λ (c : List ℕ). held_by v.zero_frame c f) less_x in
-    let added_x : added ≡ frame_units v.zero_frame (released_by v.zero_frame counts x.entry.frame) f = added_is ∙ ap (λ k. frame_units k less f) zero_is ∙ ap (λ (c : List ℕ). frame_units v.zero_frame c f) less_x in
-    let sum : u - freed + added ≡ u - frame_units v.zero_frame (released_by v.zero_frame counts x.entry.frame) x.entry.frame + frame_units v.zero_frame (released_by v.zero_frame counts x.entry.frame) f =
-    (λ i. u - freed_x i + added_x i) in record {
-      fits = subst (λ k. k ≤ u) (sym freed_x) (freed_fits v counts u n kept s p x found.1);
-      small = subst (λ k. k < 2 ^ 32) (sym sum) (framed_fits v counts u n kept s p x found.1 sound f low);
-      books = subst (λ (c : List ℕ). IsBooked (with_frame v s p f) c (u - freed + added) n) (sym more_x)
-          (subst (λ k. IsBooked (with_frame v s p f) (held_by v.zero_frame (released_by v.zero_frame counts x.entry.frame) f) k n) (sym sum)
-          (framed_books v counts u n kept s p x found.1 sound f low settled free));
-      answer = ap (λ k. option_and_then (λ (m : ℕ). cond (f == m) None (Some m)) (cond (nat_lt 0 k) (Some e.frame) None)) freed_x
-          ∙ ap (λ (k : PageEntry). option_and_then (λ (m : ℕ). cond (f == m) None (Some m)) (cond (nat_lt 0 (frame_units v.zero_frame (released_by v.zero_frame counts x.entry.frame) x.entry.frame)) (Some k.frame) None)) found.2
-          ∙ joined (nat_lt 0 (frame_units v.zero_frame (released_by v.zero_frame counts x.entry.frame) x.entry.frame)) x.entry.frame (f == x.entry.frame) refl
+    let less_x : less ≡ released_by v.zero_frame counts x.entry.frame = less_is ∙ (λ i. released_by (zero_is i) counts (found.2 i).frame) in
+    let freed_x : freed ≡ frame_units v.zero_frame (released_by v.zero_frame counts x.entry.frame) x.entry.frame = freed_is ∙ (λ i. frame_units (zero_is i) (less_x i) (found.2 i).frame) in
+    let more_x : more ≡ held_by v.zero_frame (released_by v.zero_frame counts x.entry.frame) f = more_is ∙ (λ i. held_by (zero_is i) (less_x i) f) in
+    let added_x : added ≡ frame_units v.zero_frame (released_by v.zero_frame counts x.entry.frame) f = added_is ∙ (λ i. frame_units (zero_is i) (less_x i) f) in
+    subst₂ (λ k (m : PageEntry). Framed v more u n s p f freed k m.frame) (sym added_x) (sym found.2)
+    (subst₂ (λ c k. Framed v c u n s p f k (frame_units v.zero_frame (released_by v.zero_frame counts x.entry.frame) f) x.entry.frame) (sym more_x) (sym freed_x) (record {
+      fits = freed_fits v counts u n kept s p x found.1;
+      small = framed_fits v counts u n kept s p x found.1 sound f low;
+      books = framed_books v counts u n kept s p x found.1 sound f low settled free;
+      answer = joined (nat_lt 0 (frame_units v.zero_frame (released_by v.zero_frame counts x.entry.frame) x.entry.frame)) x.entry.frame (f == x.entry.frame) refl
           ∙ framed_answer v counts u n kept s p x found.1 sound f low;
-    }
+    }))
   where
     joined : (b : Bool) (g : ℕ) (c : Bool) → (f == g) ≡ c
         → ◌≡◌ {A = Option ℕ} (option_and_then (λ (m : ℕ). cond (f == m) None (Some m)) (cond b (Some g) None)) (cond (b && not (f == g)) (Some g) None)
@@ -150,19 +132,18 @@ pub overlaid_call : (v : LedgerView) (counts : List ℕ) (u n : ℕ) → IsBooke
     → had ≡ overlay_at v s p → before ≡ length (lines_of had) → after ≡ length (lines_of o) → after ≤ PAGE_LINES → Overlaid v counts u n s p before after o
 overlaid_call v counts u n kept sound s p before after had o there had_is before_is after_is few =
     let x = some_is (page_in v s p) there in
-    let had_x : had ≡ x.0.overlay = had_is ∙ ap (option_and_then (λ (y : PageView). y.overlay)) x.1 in
-    let before_x : before ≡ length (lines_of x.0.overlay) = before_is ∙ ap (λ k. length (lines_of k)) had_x in
+    let before_x : before ≡ length (lines_of x.0.overlay) = before_is ∙ ap (λ k. length (lines_of k)) (had_is ∙ ap (option_and_then (λ (y : PageView). y.overlay)) x.1) in
     let fit = units_fit v counts u n kept sound in
     let lines = lines_fit v counts u n kept sound in
-    let most = class_most after in record {
-      fits = subst (λ k. class k ≤ u) (sym before_x) (class_fits v counts u n kept s p x.0 x.1);
+    let most = class_most after in
+    subst (λ k. Overlaid v counts u n s p k after o) (sym before_x) (record {
+      fits = class_fits v counts u n kept s p x.0 x.1;
       small = omega (arith, fit, most);
-      lines_fit = subst (λ k. k ≤ n) (sym before_x) (lines_less v counts u n kept s p x.0 x.1);
+      lines_fit = lines_less v counts u n kept s p x.0 x.1;
       lines_small = omega (arith, lines, few);
-      books = subst (λ k. IsBooked (with_overlay v s p o) counts (u - class k + class after) (n - k + after)) (sym before_x)
-          (subst (λ k. IsBooked (with_overlay v s p o) counts (u - class (length (lines_of x.0.overlay)) + class k) (n - length (lines_of x.0.overlay) + k)) (sym after_is)
-          (over_books v counts u n kept sound s p x.0 x.1 o));
-    }
+      books = subst (λ k. IsBooked (with_overlay v s p o) counts (u - class (length (lines_of x.0.overlay)) + class k) (n - length (lines_of x.0.overlay) + k)) (sym after_is)
+          (over_books v counts u n kept sound s p x.0 x.1 o);
+    })
 
 -- another block alone
 pub record Moved (v : LedgerView) (counts : List ℕ) (u n s p : ℕ) (e : Entry) (to : Block) : Type 0 where
@@ -202,7 +183,7 @@ shared_frame v counts u n kept from to p entry there waiting same =
     (x.0, x.1, frames, subst (λ k. k < v.frames) (sym frames) (kept.inside from p x.0 x.1))
   where
     some_frame : {a b : ℕ} → Some a ≡ Some b → a ≡ b
-    some_frame {a = a} e = ap (λ (o : Option ℕ). option_map_or (λ (k : ℕ). k) o a) e
+    some_frame {a = a} e = same_Some _ _ e
 
 pub record Shared (v : LedgerView) (counts more : List ℕ) (u n s p z added lines : ℕ) (entry : PageEntry) (o : Option Entry) : Type 0 where
   pub small : u + added + class lines < 2 ^ 32
@@ -211,18 +192,15 @@ pub record Shared (v : LedgerView) (counts more : List ℕ) (u n s p z added lin
 
 pub before_share : (v : LedgerView) (counts : List ℕ) (u n : ℕ) → IsBooked v counts u n → IsSound v → (s p z : ℕ) (entry : PageEntry) (o : Option Entry) → holds_space v s ≡ true → page_in v s p ≡ None
     → get (space_in v s).awaiting p ≡ Some entry → entry.frame < v.frames → z ≡ v.zero_frame → (entry.frame < length counts) × ((entry.frame ≡ z) ⊎ (sharers_of counts entry.frame < 2 ^ 32 - 1))
-before_share v counts u n kept sound s p z entry o has absent waiting low zero_is = (
-  subst (λ k. entry.frame < k) (sym kept.room) low,
-  subst (λ k. (entry.frame ≡ k) ⊎ (sharers_of counts entry.frame < 2 ^ 32 - 1)) (sym zero_is) (shared_few v counts u n kept sound s p entry o has absent waiting low),
-)
+before_share v counts u n kept sound s p z entry o has absent waiting low zero_is =
+    subst (λ k. (entry.frame < length counts) × ((entry.frame ≡ k) ⊎ (sharers_of counts entry.frame < 2 ^ 32 - 1))) (sym zero_is)
+    (subst (λ k. entry.frame < k) (sym kept.room) low, shared_few v counts u n kept sound s p entry o has absent waiting low)
 
 pub shared_call : (v : LedgerView) (counts more : List ℕ) (u n : ℕ) → IsBooked v counts u n → IsSound v → (s p z added lines : ℕ) (entry : PageEntry) (o : Option Entry) → holds_space v s ≡ true
     → page_in v s p ≡ None → get (space_in v s).awaiting p ≡ Some entry → entry.frame < v.frames → z ≡ v.zero_frame → more ≡ held_by z counts entry.frame → added ≡ frame_units z counts entry.frame
     → lines ≡ length (lines_of o) → lines ≤ PAGE_LINES → Shared v counts more u n s p z added lines entry o
 shared_call v counts more u n kept sound s p z added lines entry o has absent waiting low zero_is more_is added_is lines_is few =
-    let books = shared_books v counts u n kept sound s p entry o has absent waiting low in
     let added_x : added ≡ frame_units v.zero_frame counts entry.frame = added_is ∙ ap (λ k. frame_units k counts entry.frame) zero_is in
-    let more_x : more ≡ held_by v.zero_frame counts entry.frame = more_is ∙ ap (λ k. held_by k counts entry.frame) zero_is in
     let fit = units_fit v counts u n kept sound in
     let fit_lines = lines_fit v counts u n kept sound in
     let most = class_most lines in
@@ -230,9 +208,9 @@ shared_call v counts more u n kept sound s p z added lines entry o has absent wa
     let frame_few = frame_most (is_unused (ledger_of v) (origin_of v.zero_frame entry.frame)) in record {
       small = omega (arith, fit, most, frame, frame_few);
       lines_small = omega (arith, fit_lines, few);
-      books = subst (λ (c : List ℕ). IsBooked (put_shared v s p (record { entry = entry; overlay = o })) c (u + added + class lines) (n + lines)) (sym more_x)
-          (subst (λ k. IsBooked (put_shared v s p (record { entry = entry; overlay = o })) (held_by v.zero_frame counts entry.frame) (u + k + class lines) (n + lines)) (sym added_x)
-          (subst (λ k. IsBooked (put_shared v s p (record { entry = entry; overlay = o })) (held_by v.zero_frame counts entry.frame) (u + frame_units v.zero_frame counts entry.frame + class k) (n + k)) (sym lines_is) books));
+      books = subst (λ k. IsBooked (put_shared v s p (record { entry = entry; overlay = o })) more (u + added + class k) (n + k)) (sym lines_is)
+          (subst₂ (λ c k. IsBooked (put_shared v s p (record { entry = entry; overlay = o })) c (u + k + class (length (lines_of o))) (n + length (lines_of o)))
+          (sym (more_is ∙ ap (λ k. held_by k counts entry.frame) zero_is)) (sym added_x) (shared_books v counts u n kept sound s p entry o has absent waiting low));
     }
 
 -- the view of a page shared, and that it has the origin and the own lines of the other
@@ -270,12 +248,13 @@ copied_once v w counts u n kept s (Err e) same h = h
 copied_once v w counts u n kept s (Ok table) same is =
     subst (λ (k : LedgerView). NamesOnce k.zero_frame table) same
     (λ p q a b at_p at_q frames isnt.
-    let x = entry_of (get (space_in v s).pages p) (sym (ap (λ (m : Pages). get m p) is ∙ get_viewed (λ page (y : PageView). y.entry) (space_in v s).pages p) ∙ at_p) in
-    let y = entry_of (get (space_in v s).pages q) (sym (ap (λ (m : Pages). get m q) is ∙ get_viewed (λ page (y : PageView). y.entry) (space_in v s).pages q) ∙ at_q) in
+    let x = entry_of p a at_p in
+    let y = entry_of q b at_q in
     (kept.apart s).pages p q x.0 y.0 x.1 y.1
     (ap (λ (e : PageEntry). e.frame) x.2 ∙ frames ∙ sym (ap (λ (e : PageEntry). e.frame) y.2))
     (λ zero_x. isnt (sym (ap (λ (e : PageEntry). e.frame) x.2) ∙ zero_x)))
   where
-    entry_of : {e : PageEntry} (o : Option PageView) → option_map (λ (y : PageView). y.entry) o ≡ Some e → (x : PageView) × (o ≡ Some x) × (x.entry ≡ e)
-    entry_of None h = let no = ap is_some h in cc
-    entry_of (Some x) h = (x, refl, ap (λ (o : Option PageEntry). option_map_or (λ (k : PageEntry). k) o x.entry) h)
+    entry_of : (p : ℕ) (a : PageEntry) → get table p ≡ Some a → (x : PageView) × (get (space_in v s).pages p ≡ Some x) × (x.entry ≡ a)
+    entry_of p a at =
+        map_from (λ (y : PageView). y.entry) (get (space_in v s).pages p) a (sym (ap (λ (m : Pages). get m p) is ∙ get_viewed (λ page (y : PageView). y.entry) (space_in v s).pages p) ∙ at)
+        (λ x there same. (x, there, same))

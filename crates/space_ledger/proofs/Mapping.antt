@@ -1,7 +1,5 @@
-use Rattle.std.specs.Prelude.{◌≡◌, ℕ, zero, suc, ◌+◌, ◌≤◌, ◌<◌, ◌^◌, true, false, cond, Bool, Option, Some, None, IsSome, is_some, refl}
-use Rattle.std.proofs.Common.{sym, ap, ◌∙◌, arith}
+use Rattle.std.proofs.Common.{◌≡◌, ℕ, zero, suc, ◌+◌, ◌≤◌, ◌<◌, ◌^◌, true, false, cond, Bool, Some, None, is_some, refl, option_map, sym, ap, ◌∙◌, arith}
 use Rattle.std.proofs.lemmas.Bool.Decides.{nat_tests}
-use Rattle.std.specs.Option.{option_map}
 use Rattle.std.specs.FinMap.{get, insert, len}
 use Rattle.number_maps.specs.Values.{len_low}
 use Rattle.number_maps.specs.Keys.{by_key}
@@ -10,6 +8,7 @@ use Rattle.sizes.specs.declared.TheConstants.{PAGE_END}
 use Rattle.page_table.specs.Table.{IsFree, is_within}
 use Rattle.page_table.specs.declared.entry.PageEntry.{PageEntry}
 use Rattle.overlay_mapping_table.specs.Table.{Table}
+use Rattle.space_maps.specs.Options.{none_by, map_some}
 use Rattle.space_maps.specs.Spaces.{holds_space, page_in, put_page, put_pages, put_space}
 use Rattle.space_maps.specs.Laws.{ArePut, are_put, beside_space, in_space, keeps_page_put, keeps_put, page_put_beside, spaces_alike}
 use Rattle.space_maps.specs.Mapped.{mapped_space}
@@ -45,21 +44,13 @@ kept_all (suc n) from v overlays s y kept there free low bare =
 module _ {t : Inside} {v : LedgerView} (show : Shows t v) (s : ℕ) (x : SpaceTable) (at : get t.spaces s ≡ Some x) where
   -- what is asked of the space
   pub free_in : (from n : ℕ) → AreFree v s from n → IsFree x.pages from n
-  free_in from n free q within = at_page (get x.pages q) refl (sym (page_at show s x at q) ∙ free q within)
-    where
-      at_page : (o : Option PageEntry) → get x.pages q ≡ o → option_map (seen_page t.overlays.entries s q) (get x.pages q) ≡ None → get x.pages q ≡ None
-      at_page None is h = is
-      at_page (Some e) is h = let no = ap is_some (sym h ∙ ap (option_map (seen_page t.overlays.entries s q)) is) in cc
+  free_in from n free q within = none_by (get x.pages q) (sym (map_some (seen_page t.overlays.entries s q) (get x.pages q)) ∙ ap is_some (sym (page_at show s x at q) ∙ free q within))
 
   -- there is room for the count of as many pages more
   pub room_in : (n : ℕ) → n ≤ PAGE_END → len x.pages + n < 2 ^ 32
   room_in n most =
-      let few = len_low PAGE_END x.pages (λ q some. show.kept.low s q (ap is_some (page_at show s x at q) ∙ there q (get x.pages q) some)) in
+      let few = len_low PAGE_END x.pages (λ q some. show.kept.low s q (ap is_some (page_at show s x at q) ∙ map_some (seen_page t.overlays.entries s q) (get x.pages q) ∙ some)) in
       omega (arith, few, most)
-    where
-      there : (q : ℕ) (o : Option PageEntry) → IsSome o → IsSome (option_map (seen_page t.overlays.entries s q) o)
-      there q None h = h
-      there q (Some e) h = refl
 
   -- the pages are mapped
   pub shown_mapped : (from n : ℕ) (entry : PageEntry) (y : SpaceTable) → AreFree v s from n → from + n ≤ PAGE_END → HasMapped x from n entry y

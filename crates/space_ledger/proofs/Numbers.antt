@@ -1,10 +1,8 @@
-use Rattle.std.specs.Prelude.{◌≡◌, ℕ, zero, suc, ◌+◌, ◌-◌, ◌*◌, ◌^◌, ◌==◌, ◌≤◌, ◌<◌, ◌⊎◌, Bool, true, false, cond, not, ◌&&◌, ◌||◌, nat_eq, nat_lt, List, [], length, Option, Some, None, is_some, IsSome, Result, Ok, Err, OnOk, OnErr, refl}
-use Rattle.std.proofs.Common.{sym, ap, subst, ◌∙◌, arith, inl, inr}
+use Rattle.std.proofs.Common.{◌≡◌, ℕ, zero, suc, ◌+◌, ◌-◌, ◌*◌, ◌^◌, ◌==◌, ◌≤◌, ◌<◌, ◌⊎◌, Bool, true, false, cond, not, ◌&&◌, ◌||◌, nat_eq, nat_lt, List, [], length, Option, Some, None, is_some, Result, Ok, Err, OnOk, OnErr, refl, nat_cmp, sym, ap, subst, ◌∙◌, arith, inl, inr}
 use Rattle.std.proofs.lemmas.Bool.Decides.{nat_tests}
 use Rattle.std.proofs.lemmas.List.{length-set}
 use Rattle.std.specs.Option.{option_and_then, option_map, option_map_or}
 use Rattle.std.specs.FinMap.{empty, get, get-empty, len}
-use Rattle.std.specs.Ordering.{nat_cmp}
 use Rattle.sizes.specs.declared.TheConstants.{FRAME_UNITS, LAST_SPACE, MOST_FRAMES, PAGE_LINES}
 use Rattle.page_table.specs.Table.{is_within}
 use Rattle.page_table.specs.declared.entry.PageEntry.{PageEntry}
@@ -16,15 +14,17 @@ use Rattle.ledger.specs.Units.{class, own_lines, sharers, units, units_of}
 use Rattle.ledger.specs.Changes.{has_own}
 use Rattle.ledger.specs.ClassLaws.{class_none}
 use Rattle.ledger.specs.UnitLaws.{alone_is, no_units, frame_for, lines_at, lines_put, units_at, units_put}
-use Rattle.ledger.specs.AloneLaws.{origin_with, without_absent}
+use Rattle.ledger.specs.AloneLaws.{are, arent, origin_with, without_absent}
 use Rattle.ledger.specs.TallyLaws.{no_holdings, tally_none, lines_tally, sharers_at, sharers_few, sharers_put, units_few}
+use Rattle.space_maps.specs.Options.{map_from}
 use Rattle.space_maps.specs.Laws.{changed_there, keeps_page_put, page_of, page_put_beside, space_absent}
 use Rattle.space_maps.specs.Spaces.{bare_space, cut_page, holds_space, page_in, put_page, put_pages, put_shared, put_space, space_in}
 use Rattle.space_maps.specs.Books.{books_cut_page, books_empty, books_len, books_page, books_put_page, books_spaces, books_there}
 use Rattle.space_ledger.specs.View.{LedgerView, PageView, SpaceView, holding_of, ledger_of, lines_of, origin_of, overlay_at, with_frame, with_overlay, with_zero_pages}
+use Rattle.space_ledger.specs.ViewLaws.{given_as, unused_is}
 use Rattle.space_ledger.specs.Calls.{AreSharersCounted, AreFree, IsApart, IsBooked, IsFreeFor, IsSound, given_up}
 use Rattle.space_ledger.specs.Frames.{frame_units, held_by, released_by}
-use Rattle.space_ledger.proofs.Booking.{counts_held, counts_released, eq_false, eq_true, has_frame, some_sharer, units_by_count}
+use Rattle.space_ledger.proofs.Booking.{by_two, counts_held, counts_released, eq_false, eq_true, has_frame, some_sharer, units_by_count}
 use Rattle.space_ledger.proofs.Booked.{FitsIn, nothing_apart, booked_gone, booked_put, booked_shared, fits_same, in_pages}
 
 -- The numbers that each call leaves.
@@ -59,14 +59,7 @@ frame_most false = omega arith
 
 -- what a holding in the ledger is of
 held_page : (v : LedgerView) (s p : ℕ) (h : Holding) → holding_at (ledger_of v) s p ≡ Some h → (x : PageView) × (page_in v s p ≡ Some x) × (h ≡ holding_of v.zero_frame x)
-held_page v s p h there = at (page_in v s p) refl (sym (books_page holding_of v s p) ∙ there)
-  where
-    at : (o : Option PageView) → page_in v s p ≡ o → option_map (holding_of v.zero_frame) (page_in v s p) ≡ Some h → (x : PageView) × (page_in v s p ≡ Some x) × (h ≡ holding_of v.zero_frame x)
-    at None is e = let no = ap is_some (sym e ∙ ap (option_map (holding_of v.zero_frame)) is) in cc
-    at (Some x) is e = (x, is, same_holding (sym e ∙ ap (option_map (holding_of v.zero_frame)) is))
-      where
-        same_holding : Some h ≡ Some (holding_of v.zero_frame x) → h ≡ holding_of v.zero_frame x
-        same_holding q = ap (λ (o : Option Holding). option_map_or (λ (y : Holding). y) o h) q
+held_page v s p h there = map_from (holding_of v.zero_frame) (page_in v s p) h (sym (books_page holding_of v s p) ∙ there) (λ x is same. (x, is, sym same))
 
 module _ (v : LedgerView) (counts : List ℕ) (u n : ℕ) (kept : IsBooked v counts u n) (sound : IsSound v) where
   -- bounds
@@ -119,50 +112,30 @@ module _ (v : LedgerView) (counts : List ℕ) (u n : ℕ) (kept : IsBooked v cou
       spaces_len : len (ledger_of v) ≡ len v.spaces
       spaces_len = books_len holding_of v
 
--- The answer of a call that gives a frame back: by whether the frame of before is named by the page itself now.
-answer : (z g : ℕ) (rest new : Ledger) (itself : Bool) → ((g ≡ z → ⊥) → has_origin new (g + 1) ≡ (itself || has_origin rest (g + 1)))
-    → ◌≡◌ {A = Option ℕ} (cond (nat_lt 0 (frame_for (is_unused rest (origin_of z g))) && not itself) (Some g) None)
-    (cond ((g == z) || has_origin new (g + 1)) None (Some g))
-unfolding frame_for is_unused
-answer z g rest new itself named = at (nat_eq g z) refl
-  where
-    tests : (h i : Bool) → ◌≡◌ {A = Option ℕ} (cond (nat_lt 0 (cond (not h) FRAME_UNITS 0) && not i) (Some g) None) (cond (i || h) None (Some g))
-    tests true true = refl
-    tests true false = refl
-    tests false true = refl
-    tests false false = refl
+-- A frame that is unused costs units, and one that a page is put on isn't unused.
+unused_tells : (b : Bool) → nat_lt 0 (frame_for b) ≡ b
+unfolding frame_for
+unused_tells true = refl
+unused_tells false = refl
 
-    at : (b : Bool) → nat_eq g z ≡ b
-        → ◌≡◌ {A = Option ℕ} (cond (nat_lt 0 (cond (not (cond b 0 (g + 1) == 0) && not (has_origin rest (cond b 0 (g + 1)))) FRAME_UNITS 0) && not itself) (Some g) None)
-        (cond (b || has_origin new (g + 1)) None (Some g))
-    at true e = refl
-    at false e =
-        let not_zero : ((g + 1) == 0) ≡ false = grind (arith, nat_tests) in
-        (λ i. cond (nat_lt 0 (cond (not (not_zero i) && not (has_origin rest (g + 1))) FRAME_UNITS 0) && not itself) (Some g) None)
-        ∙ tests (has_origin rest (g + 1)) itself
-        ∙ ap (λ (b : Bool). cond b None (Some g)) (sym (named (eq_false g z e)))
+unused_put : (l : Ledger) (s p z f g : ℕ) (h : Holding) → h.origin ≡ origin_of z f
+    → is_unused (with_page l s p h) (origin_of z g) ≡ (is_unused (without_page l s p) (origin_of z g) && not (nat_eq f g))
+unused_put l s p z f g h origin = by_two g z
+    (λ zero_g. unused_is (with_page l s p h) z g ∙ ap (λ b. not (b || has_origin (with_page l s p h) (g + 1))) (are g z zero_g)
+    ∙ sym (ap (λ b. b && not (nat_eq f g)) (unused_is (without_page l s p) z g ∙ ap (λ b. not (b || has_origin (without_page l s p) (g + 1))) (are g z zero_g))))
+    (λ other. unused_is (with_page l s p h) z g ∙ (λ i. not (arent g z other i || origin_with l s p h (g + 1) i))
+    ∙ ap (λ b. not (b || has_origin (without_page l s p) (g + 1))) (ap (λ o. nat_eq o (g + 1)) origin ∙ has_frame z g f other) ∙ turned (nat_eq f g) (has_origin (without_page l s p) (g + 1))
+    ∙ sym (ap (λ b. b && not (nat_eq f g)) (unused_is (without_page l s p) z g ∙ ap (λ b. not (b || has_origin (without_page l s p) (g + 1))) (arent g z other))))
+  where
+    turned : (a b : Bool) → not (a || b) ≡ (not b && not a)
+    turned true true = refl
+    turned true false = refl
+    turned false true = refl
+    turned false false = refl
 
 -- A page that is there, with its frame given back.
 
 module _ (v : LedgerView) (counts : List ℕ) (u n : ℕ) (kept : IsBooked v counts u n) (s p : ℕ) (x : PageView) (there : page_in v s p ≡ Some x) where
-  z : ℕ
-  z = v.zero_frame
-
-  g : ℕ
-  g = x.entry.frame
-
-  l : Ledger
-  l = ledger_of v
-
-  h : Holding
-  h = holding_of v.zero_frame x
-
-  rest : Ledger
-  rest = without_page (ledger_of v) s p
-
-  less : List ℕ
-  less = released_by v.zero_frame counts x.entry.frame
-
   pub frame_low : x.entry.frame < length counts
   frame_low = subst (λ k. x.entry.frame < k) (sym kept.room) (kept.inside s p x there)
 
@@ -269,31 +242,22 @@ module _ (v : LedgerView) (counts : List ℕ) (u n : ℕ) (kept : IsBooked v cou
     unfolding y put_page put_space
     framed_answer =
         ap (λ k. cond (nat_lt 0 k && not (f == x.entry.frame)) (Some x.entry.frame) None) freed_is
-        ∙ answer v.zero_frame x.entry.frame (without_page (ledger_of v) s p) (ledger_of (put_page v s p y)) (nat_eq f x.entry.frame)
-        (λ isnt. ap (λ (m : Ledger). has_origin m (x.entry.frame + 1)) (books_put_page holding_of v s p y) ∙ origin_with (ledger_of v) s p (holding_of v.zero_frame y) (x.entry.frame + 1)
-        ∙ ap (λ (b : Bool). b || has_origin (without_page (ledger_of v) s p) (x.entry.frame + 1)) (has_frame v.zero_frame x.entry.frame f isnt))
-        ∙ ap (λ (w : LedgerView). given_up w (Some x)) (sym framed_is)
-        ∙ ap (given_up (with_frame v s p f)) (sym there)
+        ∙ ap (λ b. cond (b && not (f == x.entry.frame)) (Some x.entry.frame) None) (unused_tells (is_unused (without_page (ledger_of v) s p) (origin_of v.zero_frame x.entry.frame)))
+        ∙ ap (λ b. cond b (Some x.entry.frame) None) (sym (ap (λ l. is_unused l (origin_of v.zero_frame x.entry.frame)) (books_put_page holding_of v s p y)
+        ∙ unused_put (ledger_of v) s p v.zero_frame f x.entry.frame (holding_of v.zero_frame y) refl))
+        ∙ sym (given_as (put_page v s p y) x) ∙ ap (λ (w : LedgerView). given_up w (Some x)) (sym framed_is) ∙ ap (given_up (with_frame v s p f)) (sym there)
 
   pub removed_answer : cond (nat_lt 0 (frame_units v.zero_frame (released_by v.zero_frame counts x.entry.frame) x.entry.frame)) (Some x.entry.frame) None ≡ given_up (cut_page v s p) (page_in v s p)
   unfolding cut_page put_space
   removed_answer =
       ap (λ k. cond (nat_lt 0 k) (Some x.entry.frame) None) freed_is
-      ∙ always (nat_lt 0 (frame_for (is_unused (without_page (ledger_of v) s p) (origin_of v.zero_frame x.entry.frame))))
-      ∙ answer v.zero_frame x.entry.frame (without_page (ledger_of v) s p) (ledger_of (cut_page v s p)) false
-      (λ isnt. ap (λ (m : Ledger). has_origin m (x.entry.frame + 1)) (books_cut_page holding_of v s p))
-      ∙ ap (given_up (cut_page v s p)) (sym there)
-    where
-      always : (b : Bool) → ◌≡◌ {A = Option ℕ} (cond b (Some x.entry.frame) None) (cond (b && not false) (Some x.entry.frame) None)
-      always true = refl
-      always false = refl
+      ∙ ap (λ b. cond b (Some x.entry.frame) None) (unused_tells (is_unused (without_page (ledger_of v) s p) (origin_of v.zero_frame x.entry.frame))
+      ∙ ap (λ l. is_unused l (origin_of v.zero_frame x.entry.frame)) (sym (books_cut_page holding_of v s p)))
+      ∙ sym (given_as (cut_page v s p) x) ∙ ap (given_up (cut_page v s p)) (sym there)
 
 -- A page with another overlay, or none.
 
 module _ (v : LedgerView) (counts : List ℕ) (u n : ℕ) (kept : IsBooked v counts u n) (sound : IsSound v) (s p : ℕ) (x : PageView) (there : page_in v s p ≡ Some x) (o : Option Entry) where
-  over : PageView
-  over = record { entry = x.entry; overlay = o }
-
   over_is : with_overlay v s p o ≡ put_page v s p (record { entry = x.entry; overlay = o })
   unfolding with_overlay
   over_is = changed_there _ v s p x there
@@ -460,32 +424,18 @@ new_books v counts frames z none frames_is zero_is counts_is room some few insid
 -- whether it has own lines
 pub own_is : (v : LedgerView) → IsSound v → (s p : ℕ) → is_some (overlay_at v s p) ≡ has_own (ledger_of v) s p
 unfolding has_own
-own_is v sound s p = at (page_in v s p) refl ∙ sym (ap (λ (o : Option Holding). option_map_or (λ holding. nat_lt 0 (length holding.own)) o false) (books_page holding_of v s p))
+own_is v sound s p =
+    at (page_in v s p) refl ∙ sym (ap (λ (o : Option Holding). option_map_or (λ holding. nat_lt 0 (length holding.own)) o false) (books_page holding_of v s p))
   where
     lines : (o : Option Entry) → ((e : Entry) → o ≡ Some e → 0 < length e.bits) → is_some o ≡ nat_lt 0 (length (lines_of o))
-    lines None h = let no : nat_lt 0 (length {A = ℕ} []) ≡ false = grind (arith, nat_tests) in sym no
+    lines None h = refl
     lines (Some e) h = let some = h e refl in let yes : nat_lt 0 (length e.bits) ≡ true = grind (arith, nat_tests) in sym yes
 
     at : (o : Option PageView) → page_in v s p ≡ o
-        → is_some (option_and_then (λ (x : PageView). x.overlay) (page_in v s p)) ≡ option_map_or (λ (holding : Holding). nat_lt 0 (length holding.own)) (option_map (holding_of v.zero_frame) (page_in v s p)) false
-    at None is =
-        ap (λ o. is_some (option_and_then (λ (x : PageView). x.overlay) o)) is
-        ∙ sym (ap (λ o. option_map_or (λ (holding : Holding). nat_lt 0 (length holding.own)) (option_map (holding_of v.zero_frame) o) false) is)
-    at (Some x) is =
-        ap (λ o. is_some (option_and_then (λ (x : PageView). x.overlay) o)) is ∙ lines x.overlay (λ e o. (sound.lines s p x e is o).0)
-        ∙ sym (ap (λ o. option_map_or (λ (holding : Holding). nat_lt 0 (length holding.own)) (option_map (holding_of v.zero_frame) o) false) is)
+        → is_some (option_and_then (λ (x : PageView). x.overlay) o) ≡ option_map_or (λ (holding : Holding). nat_lt 0 (length holding.own)) (option_map (holding_of v.zero_frame) o) false
+    at None is = refl
+    at (Some x) is = lines x.overlay (λ e o. (sound.lines s p x e is o).0)
 
 -- a page by its entry
 pub entry_page : (v : LedgerView) (s p : ℕ) (e : PageEntry) → Some e ≡ option_map (λ (x : PageView). x.entry) (page_in v s p) → (x : PageView) × (page_in v s p ≡ Some x) × (e ≡ x.entry)
-entry_page v s p e is = at (page_in v s p) refl is
-  where
-    at : (o : Option PageView) → page_in v s p ≡ o → Some e ≡ option_map (λ (x : PageView). x.entry) o → (x : PageView) × (page_in v s p ≡ Some x) × (e ≡ x.entry)
-    at None there h = let no = ap is_some h in cc
-    at (Some x) there h = (x, there, ap (λ (o : Option PageEntry). option_map_or (λ (y : PageEntry). y) o e) h)
-
-pub no_entry : (v : LedgerView) (s p : ℕ) → None ≡ option_map (λ (x : PageView). x.entry) (page_in v s p) → IsSome (page_in v s p) → ⊥
-no_entry v s p is there = at (page_in v s p) is there
-  where
-    at : (o : Option PageView) → None ≡ option_map (λ (x : PageView). x.entry) o → IsSome o → ⊥
-    at None h some = cc
-    at (Some x) h some = let no = ap is_some h in cc
+entry_page v s p e is = map_from (λ (x : PageView). x.entry) (page_in v s p) e (sym is) (λ x there same. (x, there, sym same))

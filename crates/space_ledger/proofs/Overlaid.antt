@@ -1,13 +1,12 @@
-use Rattle.std.specs.Prelude.{◌≡◌, ℕ, ◌^◌, ◌==◌, ◌&&◌, ◌≤◌, ◌<◌, ◌⊎◌, Bool, true, false, cond, nat_eq, nat_lt, Option, Some, None, IsSome, is_some, refl}
-use Rattle.std.proofs.Common.{sym, ap, subst, ◌∙◌, arith, inl, inr}
+use Rattle.std.proofs.Common.{◌≡◌, ℕ, ◌^◌, ◌==◌, ◌&&◌, ◌≤◌, ◌<◌, ◌⊎◌, Bool, true, false, cond, nat_eq, nat_lt, Option, Some, None, IsSome, is_some, refl, option_and_then, sym, ap, subst, ◌∙◌, arith, inl, inr}
 use Rattle.std.proofs.lemmas.Bool.Decides.{nat_tests}
-use Rattle.std.specs.Option.{option_and_then}
 use Rattle.std.specs.FinMap.{get}
 use Rattle.number_maps.specs.Rows.{IsNextOne}
 use Rattle.sizes.specs.declared.TheConstants.{LAST_SPACE, PAGE_END}
 use Rattle.overlay_address.specs.Names.{IsName, overlay_page, page_of, space_of}
 use Rattle.overlay_mapping_table.specs.declared.entry.Entry.{Entry}
 use Rattle.ledger.specs.Changes.{has_own}
+use Rattle.space_maps.specs.Options.{by_option}
 use Rattle.space_maps.specs.Spaces.{page_in}
 use Rattle.space_ledger.specs.View.{LedgerView, PageView, ledger_of, overlay_at}
 use Rattle.space_ledger.specs.declared.tables.Tables.TheInside.{Inside}
@@ -41,20 +40,16 @@ space_above s t p q r low end le other = by_order (nat_lt s t) (nat_lt t s) refl
 
 module _ {t : Inside} {v : LedgerView} (show : Shows t v) where
   none_named : (s q : ℕ) → (q < PAGE_END → get t.overlays.entries (overlay_page s q) ≡ None) → overlay_at v s q ≡ None
-  none_named s q none = at (page_in v s q) refl
-    where
-      at : (o : Option PageView) → page_in v s q ≡ o → overlay_at v s q ≡ None
-      at None is = ap (option_and_then (λ (x : PageView). x.overlay)) is
-      at (Some x) is =
-          let there : IsSome (page_in v s q) = ap is_some is in
-          sym (overlay_is show s q there) ∙ none (show.kept.low s q there)
+  none_named s q none = by_option (page_in v s q)
+      (λ is. ap (option_and_then (λ (x : PageView). x.overlay)) is)
+      (λ x is.
+      let there : IsSome (page_in v s q) = ap is_some is in
+      sym (overlay_is show s q there) ∙ none (show.kept.low s q there))
 
   some_named : (s q : ℕ) (e : Entry) → s ≤ LAST_SPACE → q < PAGE_END → get t.overlays.entries (overlay_page s q) ≡ Some e → IsSome (overlay_at v s q)
-  some_named s q e last low is = at (page_in v s q) refl
-    where
-      at : (o : Option PageView) → page_in v s q ≡ o → IsSome (overlay_at v s q)
-      at None none = let no = ap is_some (sym is ∙ show.kept.placed s q last low none) in cc
-      at (Some x) there = ap is_some (sym (overlay_is show s q (ap is_some there)) ∙ is)
+  some_named s q e last low is = by_option (page_in v s q)
+      (λ none. let no = ap is_some (sym is ∙ show.kept.placed s q last low none) in cc)
+      (λ x there. ap is_some (sym (overlay_is show s q (ap is_some there)) ∙ is))
 
   pub next_beyond : (s p : ℕ) → PAGE_END ≤ p → IsNextOverlaid v s p None
   next_beyond s p end q le = none_named s q (λ low. absurd (omega (arith, end, le, low)))

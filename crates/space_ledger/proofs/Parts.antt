@@ -1,13 +1,11 @@
-use Rattle.std.specs.Prelude.{◌≡◌, ℕ, zero, suc, ◌+◌, ◌-◌, ◌^◌, ◌≤◌, ◌<◌, Bool, true, false, cond, nat_le, nat_lt, Option, Some, None, is_some, IsSome, refl}
-use Rattle.std.proofs.Common.{sym, ap, subst, ◌∙◌, arith}
+use Rattle.std.proofs.Common.{◌≡◌, ℕ, zero, suc, ◌+◌, ◌-◌, ◌^◌, ◌≤◌, ◌<◌, Bool, true, false, cond, nat_le, nat_lt, Option, Some, None, is_some, IsSome, refl, nat_cmp, sym, ap, subst, ◌∙◌, arith}
 use Rattle.std.proofs.lemmas.Bool.Decides.{nat_tests}
-use Rattle.std.specs.Ordering.{nat_cmp}
 use Rattle.std.specs.Cmp.{nat_cmp_total}
 use Rattle.std.specs.FinMap.{empty, empty_of_len, get, get-empty, get-retain_keys, insert, len, len-empty, len-insert, len-remove, nat_cmp-IsAntisymmetric, remove}
 use Rattle.number_maps.specs.Keys.{alike, by_key, get_other, get_same, removed_other, removed_same}
 use Rattle.page_table.specs.Table.{Pages, AreThere, IsFree, IsMapped, IsNext, is_within}
 use Rattle.page_table.specs.declared.entry.PageEntry.{PageEntry}
-use Rattle.space_ledger.specs.Space.{SpaceTable, HasMapped, IsCounted, IsLeast, IsNextPage, adopted, awaited, pages_below, pages_from, with_entry, without_page}
+use Rattle.space_ledger.specs.Space.{SpaceTable, HasMapped, IsCounted, IsLeast, IsLeastFrom, adopted, awaited, pages_below, pages_from, with_entry, without_page}
 
 -- A table in two parts: the pages below one, and those from it on.
 
@@ -99,7 +97,7 @@ pub from_all : (t : Pages) → pages_from t 0 ≡ t
 from_all t = alike _ _ (λ q. waits t 0 q (omega arith))
 
 -- the next page
-pub next_inside : (t : Pages) (end page found : ℕ) (entry : PageEntry) → IsNext t page (Some (found, entry)) → found < end → IsNextPage (pages_below t end) page (Some found)
+pub next_inside : (t : Pages) (end page found : ℕ) (entry : PageEntry) → IsNext t page (Some (found, entry)) → found < end → IsLeastFrom (pages_below t end) page (Some found)
 next_inside t end page found entry next low = (
   next.0,
   ap is_some (inside t end found low ∙ next.1),
@@ -110,11 +108,11 @@ next_inside t end page found entry next low = (
     either true = refl
     either false = refl
 
-pub next_waits : (t : Pages) (end page found : ℕ) (entry : PageEntry) → IsNext t page (Some (found, entry)) → end ≤ found → IsNextPage (pages_below t end) page None
+pub next_waits : (t : Pages) (end page found : ℕ) (entry : PageEntry) → IsNext t page (Some (found, entry)) → end ≤ found → IsLeastFrom (pages_below t end) page None
 next_waits t end page found entry next high q from =
     by_end q end (λ low. inside t end q low ∙ next.2 q from (omega (arith, low, high))) (λ out. outside t end q out)
 
-pub next_none : (t : Pages) (end page : ℕ) → IsNext t page None → IsNextPage (pages_below t end) page None
+pub next_none : (t : Pages) (end page : ℕ) → IsNext t page None → IsLeastFrom (pages_below t end) page None
 next_none t end page next q from = by_end q end (λ low. inside t end q low ∙ next q from) (λ out. outside t end q out)
 
 -- a run mapped over a table of which no page awaits

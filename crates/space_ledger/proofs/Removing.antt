@@ -1,8 +1,5 @@
-use Rattle.std.specs.Prelude.{◌≡◌, ℕ, zero, suc, ◌+◌, ◌-◌, ◌≤◌, ◌<◌, Bool, true, false, cond, nat_le, nat_lt, Option, Some, None, is_some, IsSome, refl}
-use Rattle.std.proofs.Common.{sym, ap, subst, ◌∙◌, arith}
+use Rattle.std.proofs.Common.{◌≡◌, ℕ, zero, suc, ◌+◌, ◌-◌, ◌≤◌, ◌<◌, Bool, true, false, cond, nat_le, nat_lt, Option, Some, None, is_some, IsSome, refl, option_and_then, option_map, nat_cmp, sym, ap, subst, ◌∙◌, arith}
 use Rattle.std.proofs.lemmas.Bool.Decides.{nat_tests}
-use Rattle.std.specs.Option.{option_and_then, option_map}
-use Rattle.std.specs.Ordering.{nat_cmp}
 use Rattle.std.specs.FinMap.{FinMap, empty, get, get-empty, insert, len}
 use Rattle.number_maps.specs.Keys.{alike, by_key, get_same, insert_over, removed_other, removed_same}
 use Rattle.number_maps.specs.Views.{get_viewed}
@@ -10,12 +7,13 @@ use Rattle.page_table.specs.Run.{IsNextRun, IsRunFrom, entry_at}
 use Rattle.page_table.specs.Table.{Pages, AreThere, IsUnmapped, is_within}
 use Rattle.page_table.specs.declared.entry.PageEntry.{PageEntry}
 use Rattle.page_table.specs.declared.run.PageRun.{PageRun}
+use Rattle.space_maps.specs.Options.{map_from, none_by, map_some}
 use Rattle.space_maps.specs.Spaces.{AreMapped, cut_page, cut_pages, page_in, space_in}
 use Rattle.space_maps.specs.Laws.{after_cut, page_of}
 use Rattle.space_ledger.specs.declared.tables.Tables.TheInside.{Inside}
 use Rattle.space_ledger.specs.Space.{SpaceTable, IsCounted, pages_below, pages_from, without_page, without_pages}
 use Rattle.space_ledger.specs.View.{LedgerView, PageView, overlay_at}
-use Rattle.space_ledger.specs.Calls.{AreBare, AreBareOnZero, IsNextOverlaid, entries_of}
+use Rattle.space_ledger.specs.Calls.{AreBare, AreBareOnZero, entries_of}
 use Rattle.space_ledger.proofs.Parts.{all_inside, from_at, in_table, same_space}
 use Rattle.space_ledger.proofs.Seen.{Shows, entry_there, there_is, with_spaces}
 use Rattle.space_ledger.proofs.TableOps.{shown_gone, shown_still}
@@ -116,11 +114,6 @@ none_next v s page none q from =
 
 -- How many pages are zeros.
 
--- the pages before one with own lines
-pub before_overlaid : (v : LedgerView) (s page n : ℕ) (found : ℕ) → IsNextOverlaid v s page (Some found) → (i : ℕ) → i < found - page → overlay_at v s (page + i) ≡ None
-before_overlaid v s page n found next i less =
-    let low = next.0 in next.2 (page + i) (omega arith) (omega (arith, less, low))
-
 -- the entry of a page, by those of its space
 pub entry_of : (v : LedgerView) (s p : ℕ) (e : PageEntry) → get (entries_of v s) p ≡ Some e → option_map (λ (x : PageView). x.entry) (page_in v s p) ≡ Some e
 unfolding entries_of
@@ -133,27 +126,19 @@ pub zeros_of_run : (v : LedgerView) (s page : ℕ) (run : PageRun) (few many : �
 zeros_of_run v s page run few many first fits inside start on_zero bare i less =
     let same = start (omega (arith, less, fits)) in
     let entry : get (entries_of v s) (page + i) ≡ Some (entry_at run i) = ap (λ p. get (entries_of v s) (p + i)) (sym same) ∙ first.has i (omega (arith, less, fits, inside)) in
-    let entry_is = entry_of v s (page + i) (entry_at run i) entry in
-    (framed (page_in v s (page + i)) (entry_at run i) entry_is ∙ ap Some (on_zero i (omega (arith, less, fits))), bare i less)
-  where
-    framed : (o : Option PageView) (e : PageEntry) → option_map (λ (x : PageView). x.entry) o ≡ Some e → option_map (λ (x : PageView). x.entry.frame) o ≡ Some e.frame
-    framed None e h = let no = ap is_some h in cc
-    framed (Some x) e h = ap (λ (o : Option PageEntry). option_map (λ (k : PageEntry). k.frame) o) h
+    let entry_is = entry_of v s (page + i) (entry_at run i) entry in (
+      map_from (λ (x : PageView). x.entry) (page_in v s (page + i)) (entry_at run i) entry_is
+          (λ x there same. ap (option_map (λ (y : PageView). y.entry.frame)) there ∙ ap (λ (e : PageEntry). Some e.frame) same ∙ ap Some (on_zero i (omega (arith, less, fits)))),
+      bare i less,
+    )
 
 -- Which pages are there, by a run of their entries.
 
 entry_some : (v : LedgerView) (s p : ℕ) → is_some (get (entries_of v s) p) ≡ is_some (page_in v s p)
 unfolding entries_of
 entry_some v s p =
-    ap is_some (get_viewed (λ _ (x : PageView). x.entry) (space_in v s).pages p ∙ ap (option_map (λ (x : PageView). x.entry)) (sym (page_of v s p))) ∙ same (page_in v s p)
-  where
-    same : (o : Option PageView) → is_some (option_map (λ (x : PageView). x.entry) o) ≡ is_some o
-    same None = refl
-    same (Some x) = refl
-
-none_by : {X : Type 0} (o : Option X) → is_some o ≡ false → o ≡ None
-none_by None h = refl
-none_by (Some x) h = cc
+    ap is_some (get_viewed (λ _ (x : PageView). x.entry) (space_in v s).pages p ∙ ap (option_map (λ (x : PageView). x.entry)) (sym (page_of v s p)))
+    ∙ map_some (λ (x : PageView). x.entry) (page_in v s p)
 
 pub run_there : (v : LedgerView) (s page : ℕ) (run : PageRun) → IsRunFrom (entries_of v s) page run → run.page ≡ page → AreMapped v s page run.n
 run_there v s page run first same i less =

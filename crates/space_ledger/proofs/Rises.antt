@@ -1,6 +1,4 @@
-use Rattle.std.specs.Prelude.{◌≡◌, ℕ, ◌+◌, ◌-◌, ◌≤◌, Bool, true, false, cond, not, ◌&&◌, List, [], ◌∷◌, length, Some, IsSome, refl}
-use Rattle.std.proofs.Common.{sym, ap, subst, ◌∙◌, arith}
-use Rattle.std.specs.Option.{option_and_then}
+use Rattle.std.proofs.Common.{◌≡◌, ℕ, ◌+◌, ◌-◌, ◌≤◌, Bool, true, false, cond, not, ◌&&◌, List, [], ◌∷◌, length, Some, IsSome, refl, option_and_then, sym, ap, subst, ◌∙◌, arith}
 use Rattle.overlay_bits.specs.Lines as bits
 use Rattle.overlay_bits.specs.Lines.{AreLines, Rise, has_line}
 use Rattle.ledger.specs.Ledger.{is_alone}
@@ -13,7 +11,6 @@ use Rattle.ledger.specs.StoreLaws.{class_rises, store_joins, store_nothing, two_
 use Rattle.space_maps.specs.Books.{books_there}
 use Rattle.space_ledger.specs.View.{LedgerView, PageView, holding_of, ledger_of, lines_of, overlay_at}
 use Rattle.space_ledger.proofs.Seen.{some_is}
-use Rattle.space_ledger.proofs.Booked.{}
 
 -- By how much a store rises.
 

@@ -1,6 +1,4 @@
-use Rattle.std.specs.Prelude.{◌≡◌, ℕ, zero, suc, ◌+◌, ◌-◌, ◌*◌, ◌^◌, ◌≤◌, ◌<◌, ◌⊎◌, Bool, true, cond, List, length, Option, Some, None, is_some, IsSome, refl}
-use Rattle.std.proofs.Common.{sym, ap, subst, ◌∙◌, arith}
-use Rattle.std.specs.Option.{option_map}
+use Rattle.std.proofs.Common.{◌≡◌, ℕ, zero, suc, ◌+◌, ◌-◌, ◌*◌, ◌^◌, ◌≤◌, ◌<◌, ◌⊎◌, Bool, true, cond, List, length, Option, Some, None, is_some, IsSome, refl, option_map, sym, ap, subst, ◌∙◌, arith}
 use Rattle.std.specs.Cmp.{nat_cmp_total}
 use Rattle.std.specs.FinMap.{get, insert, len, len-insert, remove}
 use Rattle.sizes.specs.declared.TheConstants.{FRAME_UNITS, PAGE_END}
@@ -11,11 +9,12 @@ use Rattle.ledger.specs.PlaceLaws.{by_place}
 use Rattle.page_table.specs.Run.{IsRunFrom, entry_at}
 use Rattle.page_table.specs.declared.entry.PageEntry.{PageEntry}
 use Rattle.page_table.specs.declared.run.PageRun.{PageRun}
+use Rattle.space_maps.specs.Options.{map_some}
 use Rattle.space_maps.specs.Laws.{page_shared_beside, page_shared_here}
 use Rattle.space_maps.specs.Spaces.{holds_space, page_in, put_shared, put_space, space_in}
 use Rattle.space_ledger.specs.View.{LedgerView, PageView, SpaceView, with_run_shared}
 use Rattle.space_ledger.specs.Calls.{AreBareBelow, IsBooked, IsSound}
-use Rattle.space_ledger.specs.Frames.{frame_units, held_by, held_run, run_units}
+use Rattle.space_ledger.specs.Frames.{counted_run, counted_units, frame_units, held_by, held_run, run_units}
 use Rattle.space_ledger.proofs.Keeping.{overlaid_shared}
 use Rattle.space_ledger.proofs.Numbers.{units_fit}
 use Rattle.space_ledger.proofs.RunViews.{HasReached, reached}
@@ -50,11 +49,7 @@ module _ (v : LedgerView) (counts : List ℕ) (u n : ℕ) (kept : IsBooked v cou
   there_from : (i : ℕ) → i < run.n → IsSome (page_in v from (run.page + i))
   there_from i low =
       let was = bare (run.page + i) (omega (arith, low)) (ap is_some (first.has i low)) in
-      some_of (page_in v from (run.page + i)) (ap is_some (sym was.0 ∙ ap (option_map (λ (e : PageEntry). e.frame)) (first.has i low)))
-    where
-      some_of : (o : Option PageView) → is_some (option_map (λ (x : PageView). x.entry.frame) o) ≡ true → IsSome o
-      some_of None h = cc
-      some_of (Some x) h = refl
+      sym (map_some (λ (x : PageView). x.entry.frame) (page_in v from (run.page + i))) ∙ ap is_some (sym was.0 ∙ ap (option_map (λ (e : PageEntry). e.frame)) (first.has i low))
 
   pub pages_low : run.page + run.n ≤ PAGE_END
   pages_low =
@@ -89,7 +84,7 @@ module _ (v : LedgerView) (counts : List ℕ) (u n : ℕ) (kept : IsBooked v cou
     frame_at_step k low = subst (λ m. (entry_at run k).frame < m) (sym (at k).frames) (frame_in k low)
 
     one_more : (k : ℕ) → k < run.n → IsKeptAt k → IsKeptAt (suc k)
-    unfolding with_run_shared held_run run_units
+    unfolding with_run_shared counted_run counted_units
     one_more k low here =
         let z = v.zero_frame in
         let w = with_run_shared v to run k in
@@ -106,7 +101,7 @@ module _ (v : LedgerView) (counts : List ℕ) (u n : ℕ) (kept : IsBooked v cou
         }
 
     kept_at : (k : ℕ) → k ≤ run.n → IsKeptAt k
-    unfolding with_run_shared held_run run_units
+    unfolding with_run_shared counted_run counted_units
     kept_at zero few = let same : u ≡ u + 0 = omega arith in record { booked = subst (λ m. IsBooked v counts m n) same kept; holds = sound }
     kept_at (suc k) few = one_more k (omega (arith, few)) (kept_at k (omega (arith, few)))
 

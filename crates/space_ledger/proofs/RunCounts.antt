@@ -1,48 +1,35 @@
-use Rattle.std.specs.Prelude.{◌≡◌, ℕ, zero, suc, ◌+◌, ◌*◌, ◌==◌, ◌≤◌, ◌<◌, ◌^◌, ◌||◌, Bool, true, false, cond, not, nat_eq, List, length, refl}
-use Rattle.std.proofs.Common.{sym, ap, subst, ◌∙◌, arith}
-use Rattle.std.proofs.lemmas.Bool.Decides.{nat_tests}
+use Rattle.std.proofs.Common.{◌≡◌, ℕ, zero, suc, ◌+◌, ◌*◌, ◌==◌, ◌≤◌, ◌<◌, ◌^◌, ◌||◌, Bool, true, false, cond, not, nat_eq, List, length, refl, sym, ap, subst, ◌∙◌, arith}
 use Rattle.sizes.specs.declared.TheConstants.{FRAME_UNITS, PAGE_END}
-use Rattle.frame_pool.specs.Counts.{held, sharers_of}
+use Rattle.frame_pool.specs.Counts.{sharers_of}
+use Rattle.ledger.specs.AloneLaws.{are}
 use Rattle.page_table.specs.Run.{entry_at}
 use Rattle.page_table.specs.declared.entry.PageEntry.{PageEntry}
 use Rattle.page_table.specs.declared.run.PageRun.{PageRun}
-use Rattle.space_ledger.specs.Frames.{frame_units, held_by, held_run, run_units}
-use Rattle.space_ledger.proofs.Numbers.{length_held}
+use Rattle.space_ledger.specs.Frames.{counted_run, counted_units, frame_units, held_by, released_by}
+use Rattle.space_ledger.proofs.Booking.{held_zero, released_zero}
+use Rattle.space_ledger.proofs.Numbers.{length_held, length_released}
 
--- A run on the zero frame counts nothing.
+-- The counts of a run, page by page, whether its pages come or go.
 
-on_zero : (z f : ℕ) (counts : List ℕ) → f ≡ z → held_by z counts f ≡ counts
-unfolding held_by
-on_zero z f counts same = let yes : nat_eq f z ≡ true = grind (arith, nat_tests) in ap (λ (b : Bool). cond b counts (held counts f)) yes
+-- the units of a page that comes, and of one that goes
+abbrev pub units_held : ℕ → List ℕ → List ℕ → ℕ → ℕ
+units_held zero_frame before after frame = frame_units zero_frame before frame
 
-pub no_units : (z f : ℕ) (counts : List ℕ) → f ≡ z → frame_units z counts f ≡ 0
+abbrev pub units_released : ℕ → List ℕ → List ℕ → ℕ → ℕ
+units_released zero_frame before after frame = frame_units zero_frame after frame
+
+-- what a page does to the counts and to the units
+pub record Counts (z : ℕ) (step : List ℕ → ℕ → List ℕ) (cost : List ℕ → List ℕ → ℕ → ℕ) : Type 0 where
+  pub still : (counts : List ℕ) (f : ℕ) → f ≡ z → step counts f ≡ counts
+  pub free : (before after : List ℕ) (f : ℕ) → f ≡ z → cost before after f ≡ 0
+  pub size : (counts : List ℕ) (f : ℕ) → length (step counts f) ≡ length counts
+  pub few : (before after : List ℕ) (f : ℕ) → cost before after f ≤ 16
+
+no_units : (z f : ℕ) (counts : List ℕ) → f ≡ z → frame_units z counts f ≡ 0
 unfolding frame_units
-no_units z f counts same =
-    let yes : nat_eq f z ≡ true = grind (arith, nat_tests) in ap (λ (b : Bool). cond (b || not (sharers_of counts f == 0)) 0 FRAME_UNITS) yes
+no_units z f counts same = ap (λ (b : Bool). cond (b || not (sharers_of counts f == 0)) 0 FRAME_UNITS) (are f z same)
 
-module _ (z : ℕ) (counts : List ℕ) (run : PageRun) (level : run.rising ≡ false) (on : run.entry.frame ≡ z) where
-  pub frame_is : (k : ℕ) → (entry_at run k).frame ≡ z
-  frame_is k = ap (λ (b : Bool). cond b (run.entry.frame + k) run.entry.frame) level ∙ on
-
-  pub zero_held : (k : ℕ) → held_run z counts run k ≡ counts
-  unfolding held_run
-  zero_held zero = refl
-  zero_held (suc k) = on_zero z (entry_at run k).frame (held_run z counts run k) (frame_is k) ∙ zero_held k
-
-  pub zero_units : (k : ℕ) → run_units z counts run k ≡ 0
-  unfolding run_units
-  zero_units zero = refl
-  zero_units (suc k) =
-      let rest = zero_units k in
-      let here = no_units z (entry_at run k).frame (held_run z counts run k) (frame_is k) in
-      omega (arith, rest, here)
-
--- What holds while the pages of a run are counted.
-pub record HasHeld (z : ℕ) (old now : List ℕ) (units : ℕ) (run : PageRun) (k : ℕ) : Type 0 where
-  pub counts : now ≡ held_run z old run k
-  pub units_are : units ≡ run_units z old run k
-
-pub few_units : (z f : ℕ) (counts : List ℕ) → frame_units z counts f ≤ 16
+few_units : (z f : ℕ) (counts : List ℕ) → frame_units z counts f ≤ 16
 unfolding frame_units
 few_units z f counts = by (nat_eq f z || not (sharers_of counts f == 0))
   where
@@ -50,49 +37,73 @@ few_units z f counts = by (nat_eq f z || not (sharers_of counts f == 0))
     by true = omega arith
     by false = omega arith
 
-pub units_most : (z : ℕ) (counts : List ℕ) (run : PageRun) (k : ℕ) → run_units z counts run k ≤ 16 * k
-unfolding run_units
-units_most z counts run zero = omega arith
-units_most z counts run (suc k) =
-    let rest = units_most z counts run k in
-    let here = few_units z (entry_at run k).frame (held_run z counts run k) in
-    omega (arith, rest, here)
+pub coming : (z : ℕ) → Counts z (held_by z) (units_held z)
+coming z = record { still = held_zero z; free = λ a b f. no_units z f a; size = length_held z; few = λ a b f. few_units z f a }
 
-pub length_run : (z : ℕ) (counts : List ℕ) (run : PageRun) (k : ℕ) → length (held_run z counts run k) ≡ length counts
-unfolding held_run
-length_run z counts run zero = refl
-length_run z counts run (suc k) = length_held z (held_run z counts run k) (entry_at run k).frame ∙ length_run z counts run k
+pub going : (z : ℕ) → Counts z (released_by z) (units_released z)
+going z = record { still = released_zero z; free = λ a b f. no_units z f b; size = length_released z; few = λ a b f. few_units z f b }
 
-pub none_counted : (z : ℕ) (counts : List ℕ) (run : PageRun) → HasHeld z counts counts 0 run 0
-unfolding held_run run_units
-none_counted z counts run = record { counts = refl; units_are = refl }
+-- What holds while the pages of a run are counted.
+pub record HasCounted (step : List ℕ → ℕ → List ℕ) (cost : List ℕ → List ℕ → ℕ → ℕ) (old now : List ℕ) (units : ℕ) (run : PageRun) (k : ℕ) : Type 0 where
+  pub counts : now ≡ counted_run step old run k
+  pub units_are : units ≡ counted_units step cost old run k
 
--- one more page
-one_more : (z : ℕ) (old now new : List ℕ) (units more : ℕ) (run : PageRun) (k : ℕ) (entry : PageEntry) → HasHeld z old now units run k → entry ≡ entry_at run k
-    → new ≡ held_by z now entry.frame → more ≡ frame_units z now entry.frame → HasHeld z old new (units + more) run (suc k)
-unfolding held_run run_units
-one_more z old now new units more run k entry h is new_is more_is = record {
-  counts = new_is ∙ ap (λ (e : PageEntry). held_by z now e.frame) is ∙ ap (λ (c : List ℕ). held_by z c (entry_at run k).frame) h.counts;
-  units_are = ap (λ n. n + more) h.units_are ∙ ap (λ n. run_units z old run k + n)
-      (more_is ∙ ap (λ (e : PageEntry). frame_units z now e.frame) is ∙ ap (λ (c : List ℕ). frame_units z c (entry_at run k).frame) h.counts);
-}
+module _ {z : ℕ} {step : List ℕ → ℕ → List ℕ} {cost : List ℕ → List ℕ → ℕ → ℕ} (is : Counts z step cost) where
+  -- a run on the zero frame counts nothing
+  module _ (counts : List ℕ) (run : PageRun) (level : run.rising ≡ false) (on : run.entry.frame ≡ z) where
+    frame_is : (k : ℕ) → (entry_at run k).frame ≡ z
+    frame_is k = ap (λ (b : Bool). cond b (run.entry.frame + k) run.entry.frame) level ∙ on
 
-pub one_counted : (z : ℕ) (old now new : List ℕ) (units more : ℕ) (run : PageRun) (k : ℕ) (entry : PageEntry) → HasHeld z old now units run k → entry ≡ entry_at run k
-    → new ≡ held_by z now entry.frame → more ≡ frame_units z now entry.frame → HasHeld z old new (units + more) run (k + 1)
-one_counted z old now new units more run k entry h is new_is more_is =
-    let next : suc k ≡ k + 1 = omega arith in
-    subst (HasHeld z old new (units + more) run) next (one_more z old now new units more run k entry h is new_is more_is)
+    pub zero_counted : (k : ℕ) → counted_run step counts run k ≡ counts
+    unfolding counted_run
+    zero_counted zero = refl
+    zero_counted (suc k) = is.still (counted_run step counts run k) (entry_at run k).frame (frame_is k) ∙ zero_counted k
 
--- its frame is one of the frames, and its units fit
-pub frame_there : (z : ℕ) (old now : List ℕ) (units : ℕ) (run : PageRun) (k : ℕ) (entry : PageEntry) → HasHeld z old now units run k → entry ≡ entry_at run k
-    → (entry_at run k).frame < length old → entry.frame < length now
-frame_there z old now units run k entry h is low =
-    subst (λ n. entry.frame < n) (sym (ap length h.counts ∙ length_run z old run k)) (subst (λ (e : PageEntry). e.frame < length old) (sym is) low)
+    pub zero_units : (k : ℕ) → counted_units step cost counts run k ≡ 0
+    unfolding counted_units
+    zero_units zero = refl
+    zero_units (suc k) =
+        let rest = zero_units k in
+        let here = is.free (counted_run step counts run k) (counted_run step counts run (suc k)) (entry_at run k).frame (frame_is k) in
+        omega (arith, rest, here)
 
-pub units_small : (z : ℕ) (old now : List ℕ) (units more f : ℕ) (run : PageRun) (k : ℕ) → HasHeld z old now units run k → more ≡ frame_units z now f → k < PAGE_END
-    → units + more < 2 ^ 32
-units_small z old now units more f run k h more_is low =
-    let so_far = h.units_are in
-    let most = units_most z old run k in
-    let few = few_units z f now in
-    omega (arith, so_far, most, more_is, few, low)
+  units_most : (counts : List ℕ) (run : PageRun) (k : ℕ) → counted_units step cost counts run k ≤ 16 * k
+  unfolding counted_units
+  units_most counts run zero = omega arith
+  units_most counts run (suc k) =
+      let rest = units_most counts run k in
+      let here = is.few (counted_run step counts run k) (counted_run step counts run (suc k)) (entry_at run k).frame in
+      omega (arith, rest, here)
+
+  length_run : (counts : List ℕ) (run : PageRun) (k : ℕ) → length (counted_run step counts run k) ≡ length counts
+  unfolding counted_run
+  length_run counts run zero = refl
+  length_run counts run (suc k) = is.size (counted_run step counts run k) (entry_at run k).frame ∙ length_run counts run k
+
+  pub none_counted : (counts : List ℕ) (run : PageRun) → HasCounted step cost counts counts 0 run 0
+  unfolding counted_run counted_units
+  none_counted counts run = record { counts = refl; units_are = refl }
+
+  module _ (old now : List ℕ) (units : ℕ) (run : PageRun) (k : ℕ) (entry : PageEntry) (h : HasCounted step cost old now units run k) (entry_is : entry ≡ entry_at run k) where
+    -- its frame is one of the frames
+    pub frame_there : (entry_at run k).frame < length old → entry.frame < length now
+    frame_there low = subst (λ n. entry.frame < n) (sym (ap length h.counts ∙ length_run old run k)) (subst (λ (e : PageEntry). e.frame < length old) (sym entry_is) low)
+
+    -- one more page
+    pub one_counted : (new : List ℕ) (more : ℕ) → new ≡ step now entry.frame → more ≡ cost now new entry.frame → HasCounted step cost old new (units + more) run (k + 1)
+    unfolding counted_run counted_units
+    one_counted new more new_is more_is =
+        let next : suc k ≡ k + 1 = omega arith in
+        let counted : new ≡ counted_run step old run (suc k) = new_is ∙ (λ i. step (h.counts i) (entry_is i).frame) in
+        subst (HasCounted step cost old new (units + more) run) next (record {
+          counts = counted;
+          units_are = (λ i. h.units_are i + more_is i) ∙ (λ i. counted_units step cost old run k + cost (h.counts i) (counted i) (entry_is i).frame);
+        })
+
+    -- and the units fit
+    pub units_small : (new : List ℕ) (more f : ℕ) → more ≡ cost now new f → k < PAGE_END → units + more < 2 ^ 32
+    units_small new more f more_is low =
+        let so_far = h.units_are in
+        let most = units_most old run k in
+        let few = is.few now new f in
+        omega (arith, so_far, most, more_is, few, low)

@@ -1,10 +1,9 @@
-use Rattle.std.specs.Prelude.{◌≡◌, ℕ, zero, suc, ◌+◌, ◌≤◌, ◌<◌, Bool, Option, Some, None, is_some, IsSome, refl}
-use Rattle.std.proofs.Common.{sym, ap, subst, ◌∙◌, arith}
+use Rattle.std.proofs.Common.{◌≡◌, ℕ, zero, suc, ◌+◌, ◌≤◌, ◌<◌, Bool, Option, Some, None, is_some, IsSome, refl, sym, ap, subst, ◌∙◌, arith}
 use Rattle.std.specs.FinMap.{get}
 use Rattle.page_table.specs.Table.{Pages}
 use Rattle.page_table.specs.Run.{IsNextRun, IsRunFrom, entry_at}
 use Rattle.page_table.specs.declared.run.PageRun.{PageRun}
-use Rattle.space_ledger.specs.Space.{SpaceTable, AwaitsRun, IsCounted, IsCut, IsLeast, awaited, first_of, pages_below, pages_from, run_awaited}
+use Rattle.space_ledger.specs.Space.{SpaceTable, AwaitsRun, IsCounted, IsRunBelow, IsLeast, awaited, first_of, pages_below, pages_from, run_awaited}
 use Rattle.space_ledger.proofs.Parts.{by_end, outside, share_counted, share_entry, waits, waits_not}
 
 -- Runs in a table of two parts: the pages below one, and those from it on.
@@ -30,7 +29,7 @@ part_waits m run n r some few = record {
   fits = λ rises. let fits = r.fits rises in omega (arith, fits, few);
 }
 
-pub cut_waits : (t : Pages) (end until : ℕ) (run : PageRun) → IsRunFrom t end run → (o : Option PageRun) → IsCut run until o → AwaitsRun (pages_from t end) until o
+pub cut_waits : (t : Pages) (end until : ℕ) (run : PageRun) → IsRunFrom t end run → (o : Option PageRun) → IsRunBelow run until o → AwaitsRun (pages_from t end) until o
 cut_waits t end until run r None high =
     λ q low. by_end q end (λ before. waits_not t end q before) (λ from. waits t end q from ∙ r.none q from (omega (arith, low, high)))
 cut_waits t end until run r (Some part) is =

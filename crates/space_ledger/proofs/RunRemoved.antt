@@ -1,23 +1,20 @@
-use Rattle.std.specs.Prelude.{◌≡◌, ℕ, zero, suc, ◌+◌, ◌-◌, ◌≤◌, ◌<◌, ◌⊎◌, ◌||◌, ◌&&◌, Bool, true, false, cond, not, nat_eq, nat_lt, List, length, Option, Some, None, refl}
-use Rattle.std.proofs.Common.{sym, ap, subst, ◌∙◌, arith}
-use Rattle.std.proofs.lemmas.Bool.Decides.{nat_tests}
-use Rattle.std.specs.Option.{option_and_then, option_map}
+use Rattle.std.proofs.Common.{◌≡◌, ℕ, zero, suc, ◌+◌, ◌-◌, ◌≤◌, ◌<◌, ◌⊎◌, ◌||◌, ◌&&◌, Bool, true, cond, not, nat_eq, nat_lt, List, length, Option, Some, None, refl, option_and_then, option_map, sym, ap, subst, ◌∙◌, arith}
 use Rattle.frame_pool.specs.Counts.{sharers_of}
 use Rattle.ledger.specs.Ledger.{has_origin, is_unused}
-use Rattle.ledger.specs.TallyLaws.{had_by_count}
-use Rattle.ledger.specs.Units.{sharers, units as units_of}
+use Rattle.ledger.specs.Units.{units as units_of}
 use Rattle.page_table.specs.Run.{IsRunFrom, entry_at}
 use Rattle.page_table.specs.declared.entry.PageEntry.{PageEntry}
 use Rattle.page_table.specs.declared.run.PageRun.{PageRun}
 use Rattle.space_maps.specs.Laws.{after_cut, are_cut}
 use Rattle.space_maps.specs.Spaces.{cut_page, cut_pages, holds_space, page_in}
-use Rattle.space_ledger.specs.Frames.{frame_units, released_run, run_freed}
+use Rattle.space_ledger.specs.Frames.{counted_run, counted_units, frame_units, released_run, run_freed}
 use Rattle.space_ledger.specs.View.{LedgerView, PageView, ledger_of, origin_of, overlay_at}
-use Rattle.space_ledger.specs.ViewLaws.{unused_is}
+use Rattle.space_ledger.specs.ViewLaws.{given_as, unused_is}
 use Rattle.space_ledger.specs.Calls.{GivesNothingUp, GivesUpAtLast, IsBareFrom, IsBareRun, IsBooked, entries_of, given_up}
 use Rattle.space_ledger.specs.Space.{IsStartOf}
 use Rattle.space_ledger.proofs.Booked.{in_pages}
-use Rattle.space_ledger.proofs.Booking.{eq_false, eq_true}
+use Rattle.ledger.specs.AloneLaws.{are, arent}
+use Rattle.space_ledger.proofs.Booking.{by_two, unused_by_count}
 use Rattle.space_ledger.proofs.LedgerCalls.{Released, before_release, removed_call}
 use Rattle.space_ledger.proofs.Numbers.{entry_page}
 use Rattle.space_ledger.proofs.Removing.{entry_of}
@@ -25,40 +22,16 @@ use Rattle.space_ledger.proofs.RunReleases.{count_stays, nothing_freed}
 
 -- What is kept beside the tables while the pages of a run go, one after the other.
 
--- a frame that a page named is given up where no count is left of it
-pub unused_by_count : (v : LedgerView) (counts : List ℕ) (u n : ℕ) → IsBooked v counts u n → (f : ℕ) → f < v.frames
-    → (not (nat_eq f v.zero_frame) && nat_eq (sharers_of counts f) 0) ≡ not (nat_eq f v.zero_frame || has_origin (ledger_of v) (f + 1))
-unused_by_count v counts u n kept f low = at (nat_eq f v.zero_frame) refl
-  where
-    at : (b : Bool) → nat_eq f v.zero_frame ≡ b → (not b && nat_eq (sharers_of counts f) 0) ≡ not (b || has_origin (ledger_of v) (f + 1))
-    at true e = refl
-    at false e = by (sharers (ledger_of v) (f + 1)) (kept.counted f low (eq_false f v.zero_frame e)) (had_by_count (ledger_of v) (f + 1))
-      where
-        by : (k : ℕ) → sharers_of counts f ≡ k → has_origin (ledger_of v) (f + 1) ≡ nat_lt 0 k
-            → nat_eq (sharers_of counts f) 0 ≡ not (has_origin (ledger_of v) (f + 1))
-        by zero is had =
-            let left : nat_eq (sharers_of counts f) 0 ≡ true = grind (arith, nat_tests) in
-            let right : nat_lt 0 0 ≡ false = grind (arith, nat_tests) in left ∙ sym (ap not (had ∙ right))
-        by (suc k) is had =
-            let left : nat_eq (sharers_of counts f) 0 ≡ false = grind (arith, nat_tests) in
-            let right : nat_lt 0 (suc k) ≡ true = grind (arith, nat_tests) in left ∙ sym (ap not (had ∙ right))
-
+-- a frame is unused by the count that is left of it
 pub unused_call : (v : LedgerView) (counts : List ℕ) (u n : ℕ) → IsBooked v counts u n → (f z count : ℕ) → f < v.frames → z ≡ v.zero_frame → (f ≡ z → ⊥)
     → count ≡ sharers_of counts f → nat_eq count 0 ≡ is_unused (ledger_of v) (origin_of v.zero_frame f)
 unused_call v counts u n kept f z count low zero_is other is =
-    let isnt : nat_eq f v.zero_frame ≡ false = at (nat_eq f v.zero_frame) refl in
-    ap (λ k. nat_eq k 0) is ∙ ap (λ (b : Bool). not b && nat_eq (sharers_of counts f) 0) (sym isnt)
-    ∙ unused_by_count v counts u n kept f low ∙ sym (unused_is v f)
-  where
-    at : (b : Bool) → nat_eq f v.zero_frame ≡ b → nat_eq f v.zero_frame ≡ false
-    at true e = absurd (other (eq_true f v.zero_frame e ∙ sym zero_is))
-    at false e = e
+    ap (λ k. nat_eq k 0) is ∙ ap (λ (b : Bool). not b && nat_eq (sharers_of counts f) 0) (sym (arent f v.zero_frame (λ e. other (e ∙ sym zero_is))))
+    ∙ unused_by_count (ledger_of v) v.zero_frame v.frames f counts kept.counted low
 
 pub zero_used : (v : LedgerView) (f z : ℕ) → z ≡ v.zero_frame → f ≡ z → not (nat_eq f z) ≡ is_unused (ledger_of v) (origin_of v.zero_frame f)
 zero_used v f z zero_is same =
-    let here : nat_eq f z ≡ true = grind (arith, nat_tests) in
-    let kept : nat_eq f v.zero_frame ≡ true = grind (arith, nat_tests) in
-    ap not here ∙ ap (λ (b : Bool). not (b || has_origin (ledger_of v) (f + 1))) (sym kept) ∙ sym (unused_is v f)
+    ap not (are f z same) ∙ ap (λ (b : Bool). not (b || has_origin (ledger_of v) (f + 1))) (sym (are f v.zero_frame (same ∙ zero_is))) ∙ sym (unused_is (ledger_of v) v.zero_frame f)
 
 -- so what is given up of a page is told by the count of its frame
 given_by : ℕ → List ℕ → ℕ → Option ℕ
@@ -68,21 +41,13 @@ given_by_count : (v : LedgerView) (counts : List ℕ) (u n : ℕ) → IsBooked v
     → given_up v (Some x) ≡ given_by v.zero_frame counts x.entry.frame
 unfolding given_by
 given_by_count v counts u n kept x low =
-    turned (nat_eq x.entry.frame v.zero_frame || has_origin (ledger_of v) (x.entry.frame + 1))
-    ∙ ap (λ b. cond b (Some x.entry.frame) None) (sym (unused_by_count v counts u n kept x.entry.frame low))
-  where
-    turned : (b : Bool) → ◌≡◌ {A = Option ℕ} (cond b None (Some x.entry.frame)) (cond (not b) (Some x.entry.frame) None)
-    turned true = refl
-    turned false = refl
+    given_as v x ∙ ap (λ b. cond b (Some x.entry.frame) None) (sym (unused_by_count (ledger_of v) v.zero_frame v.frames x.entry.frame counts kept.counted low))
 
 given_still : (z f : ℕ) (a b : List ℕ) → ((f ≡ z → ⊥) → sharers_of a f ≡ sharers_of b f) → given_by z a f ≡ given_by z b f
 unfolding given_by
-given_still z f a b same = at (nat_eq f z) refl
-  where
-    at : (e : Bool) → nat_eq f z ≡ e
-        → ◌≡◌ {A = Option ℕ} (cond (not e && nat_eq (sharers_of a f) 0) (Some f) None) (cond (not e && nat_eq (sharers_of b f) 0) (Some f) None)
-    at true e = refl
-    at false e = ap (λ c. cond (nat_eq c 0) (Some f) None) (same (eq_false f z e))
+given_still z f a b same = by_two f z
+    (λ e. (λ i. cond (not (are f z e i) && nat_eq (sharers_of a f) 0) (Some f) None) ∙ (λ i. cond (not (sym (are f z e) i) && nat_eq (sharers_of b f) 0) (Some f) None))
+    (λ d. ap (λ c. cond (not (nat_eq f z) && nat_eq c 0) (Some f) None) (same d))
 
 -- The first pages of a run that come before one with own lines.
 pub bare_of_run : (v : LedgerView) (s page most few : ℕ) (run : PageRun) (part : Option PageRun) → IsRunFrom (entries_of v s) page run → few ≤ run.n → few ≤ most
@@ -134,14 +99,14 @@ module _ (v : LedgerView) (counts : List ℕ) (u n : ℕ) (kept : IsBooked v cou
   freed_next k = frame_units v.zero_frame (counts_left (suc k)) (frame_of k)
 
   step : (k : ℕ) → k < run.n → IsFreedAt k → Released (left k) (counts_left (suc k)) (u - freed k) n s (run.page + k) (freed_next k) (frame_of k)
-  unfolding released_run
+  unfolding counted_run
   step k low so_far =
       removed_call (left k) (counts_left k) (counts_left (suc k)) (u - freed k) n so_far.booked
       s (run.page + k) v.zero_frame (freed_next k) (entry_at run k) (zero_is k) (entry_is k low) refl refl
       (ap (option_and_then (λ (x : PageView). x.overlay)) (after_cut k run.page v s has) ∙ is.bare k low)
 
   one_more : (k : ℕ) → k < run.n → IsFreedAt k → IsFreedAt (suc k)
-  unfolding cut_pages run_freed
+  unfolding cut_pages counted_units
   one_more k low so_far =
       let made = step k low so_far in
       let before = so_far.fits in
@@ -152,7 +117,7 @@ module _ (v : LedgerView) (counts : List ℕ) (u n : ℕ) (kept : IsBooked v cou
       }
 
   freed_at : (k : ℕ) → k ≤ run.n → IsFreedAt k
-  unfolding cut_pages released_run run_freed
+  unfolding cut_pages counted_run counted_units
   freed_at zero low = record { fits = omega arith; booked = let all : u ≡ u - 0 = omega arith in subst (λ m. IsBooked v counts m n) all kept }
   freed_at (suc k) low = one_more k (omega (arith, low)) (freed_at k (omega (arith, low)))
 

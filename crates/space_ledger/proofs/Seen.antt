@@ -1,7 +1,4 @@
-use Rattle.std.specs.Prelude.{◌≡◌, ℕ, ◌≤◌, ◌<◌, Bool, true, false, Option, Some, None, is_some, IsSome, refl}
-use Rattle.std.proofs.Common.{sym, ap, subst, ◌∙◌, arith}
-use Rattle.std.specs.Option.{option_and_then, option_map}
-use Rattle.std.specs.Ordering.{nat_cmp}
+use Rattle.std.proofs.Common.{◌≡◌, ℕ, ◌≤◌, ◌<◌, Bool, true, Option, Some, None, is_some, IsSome, refl, option_and_then, option_map, nat_cmp, sym, ap, subst, ◌∙◌, arith}
 use Rattle.std.specs.FinMap.{FinMap, empty, get, insert, remove}
 use Rattle.sizes.specs.declared.TheConstants.{LAST_SPACE, PAGE_END}
 use Rattle.page_table.specs.Table.{Pages}
@@ -11,12 +8,13 @@ use Rattle.overlay_address.specs.Laws.{same_page, same_space}
 use Rattle.overlay_mapping_table.specs.declared.entry.Entry.{Entry}
 use Rattle.overlay_mapping_table.specs.Table.{Table}
 use Rattle.ledger.specs.PlaceLaws.{by_place}
+use Rattle.space_maps.specs.Options.{map_alike, map_twice, map_still, none_by, map_some}
 use Rattle.space_maps.specs.Spaces.{bare_space, cut_page, cut_space, holds_space, of_pages, page_in, put_awaiting, put_mark, put_page, put_shared, put_space, space_in}
 use Rattle.space_maps.specs.Laws.{KeepsSpaces, keeps_page_put, page_absent, page_of, page_put_beside, page_put_here, space_absent, space_there, spaces_alike, there_space}
 use Rattle.space_maps.specs.Mapped.{mapped, mapped_awaiting, mapped_bare, mapped_cut, mapped_cut_page, mapped_holds, mapped_keeps, mapped_mark, mapped_page, mapped_put, mapped_put_awaiting, mapped_put_mark, mapped_put_page, mapped_put_shared, mapped_space}
 use Rattle.space_ledger.specs.declared.tables.Tables.TheInside.{Inside}
 use Rattle.space_ledger.specs.Space.{SpaceTable, adopted, awaited, marked, with_entry, without_page}
-use Rattle.space_ledger.specs.View.{LedgerView, PageView, SpaceView}
+use Rattle.space_ledger.specs.View.{LedgerView, PageView}
 use Rattle.space_ledger.specs.Kept.{IsKept, Overlays, plain, seen, seen_page}
 
 -- What the spaces and the overlays show, and what is shown where one of them changed.
@@ -72,11 +70,7 @@ module _ {t : Inside} {v : LedgerView} (show : Shows t v) where
 
   -- what isn't there
   pub space_none : (q : ℕ) → None ≡ get t.spaces q → space_in v q ≡ bare_space
-  space_none q none = space_absent v q (at (get v.spaces q) (sym (has_is q) ∙ ap is_some (sym none)))
-    where
-      at : (o : Option SpaceView) → is_some o ≡ false → o ≡ None
-      at None h = refl
-      at (Some x) h = cc
+  space_none q none = space_absent v q (none_by (get v.spaces q) (sym (has_is q) ∙ ap is_some (sym none)))
 
   pub no_page_there : (q p : ℕ) → get t.spaces q ≡ None → IsSome (page_in v q p) → ⊥
   no_page_there q p none there = let no = sym there ∙ ap is_some (page_is q p ∙ ap (option_map (seen_page t.overlays.entries q p)) (page_absent (plain t) q p none)) in cc
@@ -89,9 +83,6 @@ module _ {t : Inside} {v : LedgerView} (show : Shows t v) where
 
 -- One space of the tables.
 module _ {t : Inside} {v : LedgerView} (show : Shows t v) (s : ℕ) (x : SpaceTable) (at : get t.spaces s ≡ Some x) where
-  seen_by : ℕ → ℕ → PageEntry → PageView
-  seen_by = seen_page t.overlays.entries
-
   here : space_in (plain t) s ≡ x
   here = space_there (plain t) s x at
 
@@ -110,18 +101,12 @@ module _ {t : Inside} {v : LedgerView} (show : Shows t v) (s : ℕ) (x : SpaceTa
   page_at p = page_is show s p ∙ ap (option_map (seen_page t.overlays.entries s p)) (page_of (plain t) s p ∙ ap (λ (y : SpaceTable). get y.pages p) here)
 
   pub entry_at : (p : ℕ) → get x.pages p ≡ option_map (λ (y : PageView). y.entry) (page_in v s p)
-  entry_at p = back (get x.pages p) ∙ sym (ap (option_map (λ (y : PageView). y.entry)) (page_at p))
-    where
-      back : (o : Option PageEntry) → o ≡ option_map (λ (y : PageView). y.entry) (option_map (seen_page t.overlays.entries s p) o)
-      back None = refl
-      back (Some e) = refl
+  entry_at p =
+      map_still (λ e. e) (λ e. refl) (get x.pages p) ∙ sym (map_twice (λ (y : PageView). y.entry) (seen_page t.overlays.entries s p) (λ e. e) (get x.pages p) (λ e is. refl))
+      ∙ sym (ap (option_map (λ (y : PageView). y.entry)) (page_at p))
 
   pub entry_there : (p : ℕ) → IsSome (page_in v s p) → IsSome (get x.pages p)
-  entry_there p there = ap is_some (entry_at p) ∙ mapped_is (page_in v s p) there
-    where
-      mapped_is : (o : Option PageView) → IsSome o → IsSome (option_map (λ (y : PageView). y.entry) o)
-      mapped_is None h = h
-      mapped_is (Some y) h = refl
+  entry_there p there = ap is_some (entry_at p) ∙ map_some (λ (y : PageView). y.entry) (page_in v s p) ∙ there
 
   -- The space is changed: what is seen then. Each change is one of the spaces with their entries.
 
@@ -190,18 +175,14 @@ module _ {t : Inside} {v : LedgerView} (show : Shows t v) (new : Table) (s p : �
     (others : AreOthers t.overlays.entries new.entries (overlay_page s p)) where
   beside : (q r : ℕ) → (q ≡ s → r ≡ p → ⊥) → page_in (seen (with_overlays t new)) q r ≡ page_in v q r
   unfolding seen
-  beside q r d = mapped_page (seen_page new.entries) (plain t) q r ∙ at (page_in (plain t) q r) refl ∙ sym (page_is show q r)
-    where
-      at : (o : Option PageEntry) → page_in (plain t) q r ≡ o
-          → option_map (seen_page new.entries q r) (page_in (plain t) q r) ≡ option_map (seen_page t.overlays.entries q r) (page_in (plain t) q r)
-      at None is = ap (option_map (seen_page new.entries q r)) is ∙ sym (ap (option_map (seen_page t.overlays.entries q r)) is)
-      at (Some e) is =
-          let some : IsSome (page_in v q r) = ap is_some (page_is show q r ∙ ap (option_map (seen_page t.overlays.entries q r)) is) in
-          let mine : IsSome (page_in v s p) = ap is_some there in
-          ap (option_map (seen_page new.entries q r)) is
-          ∙ ap (λ o. Some (record { entry = e; overlay = o }))
-          (others (overlay_page q r) (apart s p q r (number_is show s p mine) (show.kept.low s p mine) (number_is show q r some) (show.kept.low q r some) d))
-          ∙ sym (ap (option_map (seen_page t.overlays.entries q r)) is)
+  beside q r d =
+      mapped_page (seen_page new.entries) (plain t) q r
+      ∙ map_alike (seen_page new.entries q r) (seen_page t.overlays.entries q r) (page_in (plain t) q r) (λ e is.
+      let some : IsSome (page_in v q r) = ap is_some (page_is show q r ∙ ap (option_map (seen_page t.overlays.entries q r)) is) in
+      let mine : IsSome (page_in v s p) = ap is_some there in
+      ap (λ o. record { entry = e; overlay = o })
+      (others (overlay_page q r) (apart s p q r (number_is show s p mine) (show.kept.low s p mine) (number_is show q r some) (show.kept.low q r some) d)))
+      ∙ sym (page_is show q r)
 
   -- what is seen then is the page with another overlay
   pub seen_over : (o : Option Entry) → get new.entries (overlay_page s p) ≡ o → seen (with_overlays t new) ≡ put_page v s p (record { entry = x.entry; overlay = o })

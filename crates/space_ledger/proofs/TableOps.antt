@@ -1,7 +1,4 @@
-use Rattle.std.specs.Prelude.{◌≡◌, ℕ, ◌+◌, ◌*◌, ◌≤◌, ◌<◌, Bool, true, false, cond, nat_lt, [], length, Option, Some, None, is_some, IsSome, Result, Ok, Err, OnOk, OnErr, refl}
-use Rattle.std.proofs.Common.{sym, ap, subst, ◌∙◌, arith}
-use Rattle.std.specs.Option.{option_map, option_and_then}
-use Rattle.std.specs.Ordering.{nat_cmp}
+use Rattle.std.proofs.Common.{◌≡◌, ℕ, ◌+◌, ◌*◌, ◌≤◌, ◌<◌, Bool, true, false, cond, nat_lt, [], length, Option, Some, None, is_some, IsSome, Result, Ok, Err, OnOk, OnErr, refl, option_map, option_and_then, nat_cmp, sym, ap, subst, ◌∙◌, arith}
 use Rattle.std.specs.FinMap.{FinMap, empty, get, get-empty, insert, len, len-empty, remove}
 use Rattle.number_maps.specs.Keys.{alike, insert_kept}
 use Rattle.number_maps.specs.Values.{len_low}
@@ -22,7 +19,7 @@ use Rattle.space_maps.specs.Laws.{changed_there, page_absent, page_of}
 use Rattle.space_maps.specs.Mapped.{mapped, mapped_none}
 use Rattle.space_maps.specs.Books.{books_empty}
 use Rattle.space_ledger.specs.declared.tables.Tables.TheInside.{Inside}
-use Rattle.space_ledger.specs.Space.{SpaceTable, HasMapped, IsNextPage, adopted, awaited, marked, run_awaited, with_entry, without_page}
+use Rattle.space_ledger.specs.Space.{SpaceTable, HasMapped, IsLeastFrom, adopted, awaited, marked, run_awaited, with_entry, without_page}
 use Rattle.space_ledger.specs.View.{LedgerView, PageView, SpaceView, holding_of, ledger_of, with_entry_at, with_run_shared, with_zero_pages}
 use Rattle.space_ledger.specs.Calls.{AreFree, HasSpare, IsLined, IsNextOf, IsSound, entries_of}
 use Rattle.space_ledger.specs.Kept.{IsKept, plain, seen, seen_page}
@@ -86,7 +83,7 @@ module _ {t : Inside} {v : LedgerView} (show : Shows t v) (s : ℕ) (x y : Space
   settled_in none = sym (awaiting_is show s x (sym at)) ∙ none
 
   -- the next page, and the entries
-  pub next_is : (p : ℕ) (found : Option ℕ) → IsNextPage x.pages p found → IsNextOf v s p found
+  pub next_is : (p : ℕ) (found : Option ℕ) → IsLeastFrom x.pages p found → IsNextOf v s p found
   next_is p found next = by found next
     where
       none_at : (q : ℕ) → get x.pages q ≡ None → page_in v s q ≡ None
@@ -96,7 +93,7 @@ module _ {t : Inside} {v : LedgerView} (show : Shows t v) (s : ℕ) (x y : Space
       some_at q None h = h
       some_at q (Some e) h = refl
 
-      by : (found : Option ℕ) → IsNextPage x.pages p found → IsNextOf v s p found
+      by : (found : Option ℕ) → IsLeastFrom x.pages p found → IsNextOf v s p found
       by None n = λ q from. none_at q (n q from)
       by (Some k) n = (n.0, ap is_some (page_at show s x (sym at) k) ∙ some_at k (get x.pages k) n.1, λ q from before. none_at q (n.2 q from before))
 

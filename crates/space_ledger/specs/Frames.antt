@@ -16,23 +16,26 @@ released_by zero_frame counts frame = if frame == zero_frame then counts else re
 unfoldable pub frame_units : ℕ → List ℕ → ℕ → ℕ
 frame_units zero_frame counts frame = if (frame == zero_frame) || not (sharers_of counts frame == 0) then 0 else FRAME_UNITS
 
--- The same of the first pages of a run, one after the other.
+-- The same of the first pages of a run, one after the other: the counts, and the units by the counts before and after each page.
 
-unfoldable pub held_run : ℕ → List ℕ → PageRun → ℕ → List ℕ
-held_run zero_frame counts run zero = counts
-held_run zero_frame counts run (suc k) = held_by zero_frame (held_run zero_frame counts run k) (entry_at run k).frame
+unfoldable pub counted_run : (List ℕ → ℕ → List ℕ) → List ℕ → PageRun → ℕ → List ℕ
+counted_run step counts run zero = counts
+counted_run step counts run (suc k) = step (counted_run step counts run k) (entry_at run k).frame
 
-unfoldable pub run_units : ℕ → List ℕ → PageRun → ℕ → ℕ
-run_units zero_frame counts run zero = 0
-run_units zero_frame counts run (suc k) = run_units zero_frame counts run k + frame_units zero_frame (held_run zero_frame counts run k) (entry_at run k).frame
+unfoldable pub counted_units : (List ℕ → ℕ → List ℕ) → (List ℕ → List ℕ → ℕ → ℕ) → List ℕ → PageRun → ℕ → ℕ
+counted_units step cost counts run zero = 0
+counted_units step cost counts run (suc k) =
+    counted_units step cost counts run k + cost (counted_run step counts run k) (counted_run step counts run (suc k)) (entry_at run k).frame
 
--- And of pages that go: the counts, and the units that are freed.
+-- of pages that come, and of pages that go
+abbrev pub held_run : ℕ → List ℕ → PageRun → ℕ → List ℕ
+held_run zero_frame counts run k = counted_run (held_by zero_frame) counts run k
 
-unfoldable pub released_run : ℕ → List ℕ → PageRun → ℕ → List ℕ
-released_run zero_frame counts run zero = counts
-released_run zero_frame counts run (suc k) = released_by zero_frame (released_run zero_frame counts run k) (entry_at run k).frame
+abbrev pub run_units : ℕ → List ℕ → PageRun → ℕ → ℕ
+run_units zero_frame counts run k = counted_units (held_by zero_frame) (λ before after. frame_units zero_frame before) counts run k
 
-unfoldable pub run_freed : ℕ → List ℕ → PageRun → ℕ → ℕ
-run_freed zero_frame counts run zero = 0
-run_freed zero_frame counts run (suc k) =
-    run_freed zero_frame counts run k + frame_units zero_frame (released_run zero_frame counts run (suc k)) (entry_at run k).frame
+abbrev pub released_run : ℕ → List ℕ → PageRun → ℕ → List ℕ
+released_run zero_frame counts run k = counted_run (released_by zero_frame) counts run k
+
+abbrev pub run_freed : ℕ → List ℕ → PageRun → ℕ → ℕ
+run_freed zero_frame counts run k = counted_units (released_by zero_frame) (λ before after. frame_units zero_frame after) counts run k

@@ -5,6 +5,7 @@ use Rattle.sizes.specs.declared.TheConstants.{PAGE_LINES}
 use Rattle.overlay_bits.specs.Lines as bits
 use Rattle.overlay_bits.specs.Lines.{AreLines, Rise, has_line}
 use Rattle.overlay_bits.specs.Laws.{are_rise, are_where, are_with, has_with, has_with_lines, same_sets}
+use Rattle.ledger.specs.AloneLaws.{are}
 use Rattle.ledger.specs.Changes.{with_line, with_lines}
 
 -- Lines that join others in the ledger are those of both sets.
@@ -26,10 +27,8 @@ has_put (x ∷ lines) line q = at (nat_lt line x) (line == x) refl (has_put line
     at false true e rest = let same : line ≡ x = grind (arith, nat_tests) in absorb (nat_eq line q) (nat_eq x q) (has_line lines q) (ap (λ n. nat_eq n q) same)
       where
         absorb : (a b c : Bool) → a ≡ b → (b || c) ≡ (a || (b || c))
-        absorb true true c h = refl
-        absorb false false c h = refl
-        absorb true false c h = cc
-        absorb false true c h = cc
+        absorb a true c h = ap (λ t. t || true) (sym h)
+        absorb a false c h = ap (λ t. t || c) (sym h)
     at false false e rest = ap (λ b. nat_eq x q || b) rest ∙ swap (nat_eq x q) (nat_eq line q) (has_line lines q)
 
 pub rise_put : (from : ℕ) (lines : List ℕ) (line end : ℕ) → Rise from lines end → from ≤ line → line < end → Rise from (with_line lines line) end
@@ -48,12 +47,9 @@ joined_are : (more lines : List ℕ) → Rise 0 lines PAGE_LINES → ((q : ℕ) 
 unfolding with_lines
 joined_are [] lines rise inside = rise
 joined_are (line ∷ more) lines rise inside =
-    joined_are more (with_line lines line) (rise_put 0 lines line PAGE_LINES rise (omega arith) (inside line (itself line)))
+    joined_are more (with_line lines line) (rise_put 0 lines line PAGE_LINES rise (omega arith) (inside line (ap (λ b. b || has_line more line) (are line line refl))))
     (λ q has. inside q (or_right (nat_eq line q) (has_line more q) has))
   where
-    itself : (n : ℕ) → (nat_eq n n || has_line more n) ≡ true
-    itself n = let same : nat_eq n n ≡ true = grind (arith, nat_tests) in ap (λ b. b || has_line more n) same
-
     or_right : (a b : Bool) → b ≡ true → (a || b) ≡ true
     or_right true b h = refl
     or_right false b h = h

@@ -25,9 +25,9 @@ pub record IsCounted (table : Pages) (end count : ℕ) : Type 0 where
   pub reach : end < 2 ^ 64
 
 -- the least page not below one, or that there is none
-abbrev pub IsNextPage : Pages → ℕ → Option ℕ → Type 0
-IsNextPage pages page None = (q : ℕ) → page ≤ q → get pages q ≡ None
-IsNextPage pages page (Some found) = (page ≤ found) × IsSome (get pages found) × ((q : ℕ) → page ≤ q → q < found → get pages q ≡ None)
+abbrev pub IsLeastFrom : Pages → ℕ → Option ℕ → Type 0
+IsLeastFrom pages page None = (q : ℕ) → page ≤ q → get pages q ≡ None
+IsLeastFrom pages page (Some found) = (page ≤ found) × IsSome (get pages found) × ((q : ℕ) → page ≤ q → q < found → get pages q ≡ None)
 
 -- a page with another entry, and without one
 abbrev pub with_entry : SpaceTable → ℕ → PageEntry → SpaceTable
@@ -84,9 +84,9 @@ abbrev pub first_of : PageRun → ℕ → PageRun
 first_of run n = record { page = run.page; n = n; entry = run.entry; rising = run.rising }
 
 -- the pages of a run that are below one, if there are any
-abbrev pub IsCut : PageRun → ℕ → Option PageRun → Type 0
-IsCut run until None = until ≤ run.page
-IsCut run until (Some part) = (part ≡ first_of run part.n) × (0 < part.n) × (part.n ≤ run.n) × (run.page + part.n ≤ until)
+abbrev pub IsRunBelow : PageRun → ℕ → Option PageRun → Type 0
+IsRunBelow run until None = until ≤ run.page
+IsRunBelow run until (Some part) = (part ≡ first_of run part.n) × (0 < part.n) × (part.n ≤ run.n) × (run.page + part.n ≤ until)
 
 -- as many of the first pages of a run that begins with a page, where there are any
 abbrev pub IsStartOf : PageRun → ℕ → ℕ → Option PageRun → Type 0

@@ -2,14 +2,14 @@
 
 ghost use Rattle.std.specs.Prelude.{◌≡◌, ℕ, ◌<◌, ◌≤◌};
 ghost use Rattle.page_table.specs.Run.{entry_at};
-ghost use Rattle.space_ledger.specs.Space.{IsCut, IsStartOf};
+ghost use Rattle.space_ledger.specs.Space.{IsRunBelow, IsStartOf};
 
 use page_table::PageRun;
 
 /// The pages of a run that are below one, if there are any.
 pub(crate) fn cut(run: PageRun, until: u64) -> Option<PageRun>
     requires { 0 < run.n }
-    ensures { IsCut run until result }
+    ensures { IsRunBelow run until result }
 {
     if until <= run.page {
         return None;

@@ -4,7 +4,7 @@ ghost use Rattle.std.specs.Prelude.{◌≡◌, ℕ, ◌+◌, ◌^◌, ◌<◌, �
 ghost use Rattle.std.specs.FinMap as map;
 ghost use Rattle.page_table.specs.Run.{IsNextRun, IsRunFrom};
 ghost use Rattle.page_table.specs.Table.{AreThere, IsFree};
-ghost use Rattle.space_ledger.specs.Space.{HasMapped, IsLeast, IsNextPage, AwaitsFirst, AwaitsRun, adopted, awaited, marked, run_awaited, with_entry, without_page, without_pages};
+ghost use Rattle.space_ledger.specs.Space.{HasMapped, IsLeast, IsLeastFrom, AwaitsFirst, AwaitsRun, adopted, awaited, marked, run_awaited, with_entry, without_page, without_pages};
 
 use crate::runs::cut;
 use ovl_io::Perms;
@@ -69,7 +69,7 @@ impl Space {
 
     /// The least page not below one. None exactly where none is.
     pub(crate) fn next(&self, page: u64) -> Option<u64>
-        ensures { IsNextPage self.now.pages page result }
+        ensures { IsLeastFrom self.now.pages page result }
     {
         match self.table.next_from(page) {
             Some((found, _)) => { if found < self.end { Some(found) } else { None } }

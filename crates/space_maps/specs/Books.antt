@@ -1,5 +1,5 @@
 use Rattle.std.specs.Prelude.{◌≡◌, ℕ, Bool, true, false, Option, Some, None, is_some, refl}
-use Rattle.std.proofs.Common.{sym, ap, ◌∙◌}
+use Rattle.std.proofs.Common.{true≢false, sym, ap, ◌∙◌}
 use Rattle.std.specs.Option.{option_map}
 use Rattle.std.specs.FinMap.{empty, get, insert, len, remove}
 use Rattle.number_maps.specs.Keys.{insert_kept}
@@ -9,6 +9,7 @@ use Rattle.page_table.specs.Table.{Pages}
 use Rattle.ledger.specs.Ledger.{Holding, Ledger, Space, all_holdings, holding_at, pages_of, with_page, without_page}
 use Rattle.ledger.specs.PlaceLaws.{page_is, pages_absent, pages_there}
 use Rattle.ledger.specs.TallyLaws.{empty_holdings}
+use Rattle.space_maps.specs.Options.{by_option, map_some, none_by}
 use Rattle.space_maps.specs.Spaces.{SpaceOf, Spaces, bare_space, cut_page, cut_space, holds_space, of_pages, page_in, put_awaiting, put_mark, put_page, put_shared, put_space, space_in}
 use Rattle.space_maps.specs.Laws.{page_of, space_absent, space_there}
 
@@ -28,25 +29,18 @@ module _ {P : Type 0} (holds : ℕ → P → Holding) where
 
   -- it has the spaces that are there, and as many
   pub books_spaces : (v : Spaces P) (s : ℕ) → is_some (get (books_of holds v) s) ≡ holds_space v s
-  books_spaces v s = ap is_some (in_books v s) ∙ at (get v.spaces s)
-    where
-      at : (o : Option (SpaceOf P)) → is_some (option_map (space_books (holds v.zero_frame)) o) ≡ is_some o
-      at None = refl
-      at (Some x) = refl
+  books_spaces v s = ap is_some (in_books v s) ∙ map_some (space_books (holds v.zero_frame)) (get v.spaces s)
 
   pub books_len : (v : Spaces P) → len (books_of holds v) ≡ len v.spaces
   unfolding books_of
   books_len v = len_viewed (λ _ (x : SpaceOf P). space_books (holds v.zero_frame) x) v.spaces
 
   pub books_pages : (v : Spaces P) (s : ℕ) → pages_of (books_of holds v) s ≡ space_books (holds v.zero_frame) (space_in v s)
-  books_pages v s = at (get v.spaces s) refl
-    where
-      at : (o : Option (SpaceOf P)) → get v.spaces s ≡ o → pages_of (books_of holds v) s ≡ space_books (holds v.zero_frame) (space_in v s)
-      at (Some x) is =
-          pages_there (books_of holds v) s _ (in_books v s ∙ ap (option_map (space_books (holds v.zero_frame))) is) ∙ ap (space_books (holds v.zero_frame)) (sym (space_there v s x is))
-      at None is =
-          pages_absent (books_of holds v) s (in_books v s ∙ ap (option_map (space_books (holds v.zero_frame))) is)
-          ∙ sym (ap (space_books (holds v.zero_frame)) (space_absent v s is) ∙ viewed_empty (λ _ y. holds v.zero_frame y))
+  books_pages v s = by_option (get v.spaces s)
+      (λ is.
+      pages_absent (books_of holds v) s (in_books v s ∙ ap (option_map (space_books (holds v.zero_frame))) is)
+      ∙ sym (ap (space_books (holds v.zero_frame)) (space_absent v s is) ∙ viewed_empty (λ _ y. holds v.zero_frame y)))
+      (λ x is. pages_there (books_of holds v) s _ (in_books v s ∙ ap (option_map (space_books (holds v.zero_frame))) is) ∙ ap (space_books (holds v.zero_frame)) (sym (space_there v s x is)))
 
   -- what it has of a page
   pub books_page : (v : Spaces P) (s p : ℕ) → holding_at (books_of holds v) s p ≡ option_map (holds v.zero_frame) (page_in v s p)
@@ -91,11 +85,9 @@ module _ {P : Type 0} (holds : ℕ → P → Holding) where
 
   -- a mark, and pages that await, aren't in the ledger
   pub books_kept : (v : Spaces P) (s : ℕ) → holds_space v s ≡ true → insert (books_of holds v) s (space_books (holds v.zero_frame) (space_in v s)) ≡ books_of holds v
-  books_kept v s there = at (get v.spaces s) refl
-    where
-      at : (o : Option (SpaceOf P)) → get v.spaces s ≡ o → insert (books_of holds v) s (space_books (holds v.zero_frame) (space_in v s)) ≡ books_of holds v
-      at None is = let no = sym there ∙ ap is_some is in cc
-      at (Some x) is = insert_kept (books_of holds v) s _ (in_books v s ∙ ap (option_map (space_books (holds v.zero_frame))) is ∙ ap (λ (y : SpaceOf P). Some (space_books (holds v.zero_frame) y)) (sym (space_there v s x is)))
+  books_kept v s there = by_option (get v.spaces s)
+      (λ is. absurd (true≢false (sym there ∙ ap is_some is)))
+      (λ x is. insert_kept (books_of holds v) s _ (in_books v s ∙ ap (option_map (space_books (holds v.zero_frame))) is ∙ ap (λ (y : SpaceOf P). Some (space_books (holds v.zero_frame) y)) (sym (space_there v s x is))))
 
   pub books_marked : (v : Spaces P) (s : ℕ) (on : Bool) → holds_space v s ≡ true → books_of holds (put_mark v s on) ≡ books_of holds v
   unfolding put_mark put_space
@@ -106,14 +98,10 @@ module _ {P : Type 0} (holds : ℕ → P → Holding) where
   books_awaiting v s awaiting there = books_put v s _ ∙ books_kept v s there
 
   -- a space without a page has nothing in the ledger
-  no_books : {X : Type 0} (o : Option X) → is_some o ≡ false → o ≡ None
-  no_books None h = refl
-  no_books (Some x) h = cc
-
   pub books_added : (v : Spaces P) (s : ℕ) → holds_space v s ≡ false → all_holdings (books_of holds (put_space v s bare_space)) ≡ all_holdings (books_of holds v)
   books_added v s absent =
       ap all_holdings (books_put v s bare_space) ∙ empty_holdings (books_of holds v) s _ (viewed_empty _)
-      ∙ ap all_holdings (remove_absent (books_of holds v) s (no_books (get (books_of holds v) s) (books_spaces v s ∙ absent)))
+      ∙ ap all_holdings (remove_absent (books_of holds v) s (none_by (get (books_of holds v) s) (books_spaces v s ∙ absent)))
 
   pub books_lost : (v : Spaces P) (s : ℕ) → holds_space v s ≡ true → (space_in v s).pages ≡ empty → all_holdings (books_of holds (cut_space v s)) ≡ all_holdings (books_of holds v)
   books_lost v s there none =

@@ -1,11 +1,13 @@
 use Rattle.std.specs.Prelude.{◌≡◌, ℕ, zero, suc, ◌+◌, Bool, true, false, Option, Some, None, is_some, refl}
-use Rattle.std.proofs.Common.{sym, ap, ◌∙◌, arith}
+use Rattle.std.proofs.Common.{true≢false, sym, ap, ◌∙◌, arith}
+use Rattle.std.proofs.lemmas.Option.{none-some}
 use Rattle.std.proofs.lemmas.Bool.Decides.{nat_tests}
 use Rattle.std.specs.Option.{option_map_or, unwrap_or}
 use Rattle.std.specs.Ordering.{nat_cmp}
 use Rattle.std.specs.FinMap.{empty, get, get-empty, insert, remove}
 use Rattle.number_maps.specs.Keys.{alike, by_key, get_other, get_same, insert_kept, insert_over, removed_other, removed_same}
 use Rattle.page_table.specs.Table.{Pages, is_within}
+use Rattle.space_maps.specs.Options.{by_option, none_by}
 use Rattle.space_maps.specs.Spaces.{SpaceOf, Spaces, bare_space, cut_page, cut_pages, cut_space, holds_space, of_pages, page_in, put_awaiting, put_mark, put_page, put_pages, put_shared, put_space, set_page, space_in, turned_page}
 
 -- What is at a place after each change.
@@ -30,11 +32,7 @@ module _ {P : Type 0} where
 
   -- so a page that is there makes its space one that is there
   pub there_space : (v : Spaces P) (s p : ℕ) (x : P) → page_in v s p ≡ Some x → holds_space v s ≡ true
-  there_space v s p x there = at (get v.spaces s) refl
-    where
-      at : (o : Option (SpaceOf P)) → get v.spaces s ≡ o → holds_space v s ≡ true
-      at (Some y) is = ap is_some is
-      at None is = let no = ap is_some (sym there ∙ page_absent v s p is) in cc
+  there_space v s p x there = by_option (get v.spaces s) (λ is. absurd (none-some x (sym (page_absent v s p is) ∙ there))) (λ y is. ap is_some is)
 
   -- A space put in: what is at each space.
 
@@ -57,13 +55,11 @@ module _ {P : Type 0} where
   -- what is there, put in again
   pub same_spaces : (v : Spaces P) (s : ℕ) → holds_space v s ≡ true → put_space v s (space_in v s) ≡ v
   unfolding put_space
-  same_spaces v s there = at (get v.spaces s) refl
-    where
-      at : (o : Option (SpaceOf P)) → get v.spaces s ≡ o → put_space v s (space_in v s) ≡ v
-      at None is = let no = sym there ∙ ap is_some is in cc
-      at (Some x) is =
-          let all = insert_kept v.spaces s (space_in v s) (is ∙ ap Some (sym (space_there v s x is))) in
-          λ i. record { spaces = all i; frames = v.frames; zero_frame = v.zero_frame }
+  same_spaces v s there = by_option (get v.spaces s)
+      (λ is. absurd (true≢false (sym there ∙ ap is_some is)))
+      (λ x is.
+      let all = insert_kept v.spaces s (space_in v s) (is ∙ ap Some (sym (space_there v s x is))) in
+      λ i. record { spaces = all i; frames = v.frames; zero_frame = v.zero_frame })
 
   -- What is at a place after a page was put somewhere, or taken away.
 
@@ -173,14 +169,9 @@ module _ {P : Type 0} where
   put_shared_as v s p x = sym (over_by v s (of_pages (space_in v s) (insert (space_in v s).pages p x)) (λ z. record { pages = z.pages; awaiting = remove (space_in v s).awaiting p; speculating = z.speculating }))
 
   -- A space without a page put in where none was, or taken away, leaves each page as it was.
-
-  pub no_space : (o : Option (SpaceOf P)) → is_some o ≡ false → o ≡ None
-  no_space None h = refl
-  no_space (Some x) h = cc
-
   pub page_added : (v : Spaces P) (s : ℕ) → holds_space v s ≡ false → (q r : ℕ) → page_in (put_space v s bare_space) q r ≡ page_in v q r
   page_added v s absent q r = by_key q s
-      (λ same. in_space v s bare_space q r same ∙ get-empty nat_cmp r ∙ sym (page_absent v q r (ap (get v.spaces) same ∙ no_space (get v.spaces s) absent)))
+      (λ same. in_space v s bare_space q r same ∙ get-empty nat_cmp r ∙ sym (page_absent v q r (ap (get v.spaces) same ∙ none_by (get v.spaces s) absent)))
       (λ d. beside_space v s bare_space q r d)
 
   pub page_lost : (v : Spaces P) (s : ℕ) → (space_in v s).pages ≡ empty → (q r : ℕ) → page_in (cut_space v s) q r ≡ page_in v q r

@@ -5,6 +5,7 @@ use Rattle.std.specs.Ordering.{nat_cmp}
 use Rattle.std.specs.FinMap.{FinMap, empty, get, insert, len, remove}
 use Rattle.number_maps.specs.Views.{get_viewed, len_viewed, viewed, viewed_empty, viewed_gone, viewed_put, viewed_same}
 use Rattle.page_table.specs.Table.{Pages}
+use Rattle.space_maps.specs.Options.{map_some}
 use Rattle.space_maps.specs.Spaces.{SpaceOf, Spaces, bare_space, cut_page, cut_pages, cut_space, holds_space, of_pages, page_in, put_awaiting, put_mark, put_page, put_pages, put_shared, put_space, set_page, space_in}
 use Rattle.space_maps.specs.Laws.{KeepsSpaces, page_of, space_there}
 
@@ -24,13 +25,8 @@ module _ {P Q : Type 0} (f : ℕ → ℕ → P → Q) where
   mapped_at v q = get_viewed (λ s (x : SpaceOf P). mapped_space (f s) x) v.spaces q
 
   pub mapped_holds : (v : Spaces P) (q : ℕ) → holds_space (mapped f v) q ≡ holds_space v q
-  mapped_holds v q = ap is_some (mapped_at v q) ∙ at (get v.spaces q)
-    where
-      at : (o : Option (SpaceOf P)) → is_some (option_map (mapped_space (f q)) o) ≡ is_some o
-      at None = refl
-      at (Some x) = refl
+  mapped_holds v q = ap is_some (mapped_at v q) ∙ map_some (mapped_space (f q)) (get v.spaces q)
 
-  -- a space without a page is one still
   pub mapped_bare : (g : ℕ → P → Q) → mapped_space g bare_space ≡ bare_space
   mapped_bare g = ap (of_pages bare_space) (viewed_empty g)
 
@@ -60,11 +56,7 @@ module _ {P Q : Type 0} (f : ℕ → ℕ → P → Q) where
   mapped_there v q r x there = mapped_page v q r ∙ ap (option_map (f q r)) there
 
   pub mapped_some : (v : Spaces P) (q r : ℕ) → is_some (page_in (mapped f v) q r) ≡ is_some (page_in v q r)
-  mapped_some v q r = ap is_some (mapped_page v q r) ∙ at (page_in v q r)
-    where
-      at : (o : Option P) → is_some (option_map (f q r) o) ≡ is_some o
-      at None = refl
-      at (Some x) = refl
+  mapped_some v q r = ap is_some (mapped_page v q r) ∙ map_some (f q r) (page_in v q r)
 
   -- how many pages a space has
   pub mapped_count : (v : Spaces P) (q : ℕ) → len (space_in (mapped f v) q).pages ≡ len (space_in v q).pages

@@ -1,7 +1,8 @@
 use Rattle.std.proofs.Common.{sym, subst, ◌∙◌}
 use Rattle.overlay_pages.specs.Changes.{Fits}
 use Rattle.overlay_pages.specs.View.{view_of}
-use Rattle.overlay_pages.proofs.Bringing.{brought_already, brought_is, entry_frame, frame_in}
+use Rattle.space_ledger.specs.ViewLaws.{entry_frame}
+use Rattle.overlay_pages.proofs.Bringing.{brought_already, brought_is, frame_in}
 use Rattle.overlay_pages.proofs.overlays.bring_line.Goals as goal
 
 pub returns-then-has_own-clause-state : goal.returns-then-has_own-clause-state
@@ -15,10 +16,10 @@ pub overlay_line-requires-clause-fits : goal.overlay_line-requires-clause-fits
 overlay_line-requires-clause-fits c =
     subst Fits
     (sym (brought_is (view_of c.args.store.now c.args.ledger.now) c.args.space c.args.page c.args.line c.in-Some.entry.frame c.frame_line.result.now c.requires.joined c.requires.there c.requires.line (sym c.has_own.ensures ∙ c.if-has_own.false)
-    (entry_frame c.args.ledger.now c.args.space c.args.page c.in-Some.entry (sym c.entry.ensures ∙ c.in-Some.is)) c.frame_line.ensures.value)) c.requires.fits
+    (entry_frame c.args.ledger.now c.args.space c.args.page c.in-Some.entry (sym c.in-Some.is ∙ c.entry.ensures)) c.frame_line.ensures.value)) c.requires.fits
 
 pub returns-clause-state : goal.returns-clause-state
 returns-clause-state c =
     c.overlay_line.ensures.state
     ∙ brought_is (view_of c.args.store.now c.args.ledger.now) c.args.space c.args.page c.args.line c.in-Some.entry.frame c.frame_line.result.now c.requires.joined c.requires.there c.requires.line (sym c.has_own.ensures ∙ c.if-has_own.false)
-    (entry_frame c.args.ledger.now c.args.space c.args.page c.in-Some.entry (sym c.entry.ensures ∙ c.in-Some.is)) c.frame_line.ensures.value
+    (entry_frame c.args.ledger.now c.args.space c.args.page c.in-Some.entry (sym c.in-Some.is ∙ c.entry.ensures)) c.frame_line.ensures.value

@@ -1,19 +1,20 @@
 use Rattle.std.proofs.Common.{sym, arith}
-use Rattle.space_ledger.proofs.RunReleases.{frame_left, freed_small, named_left, none_released, one_released, zero_freed, zero_released}
+use Rattle.space_ledger.proofs.RunCounts.{going, frame_there, none_counted, one_counted, units_small, zero_counted, zero_units}
+use Rattle.space_ledger.proofs.RunReleases.{named_left}
 use Rattle.space_ledger.proofs.frames.release_run.Goals as goal
 
 pub returns-then-run-zero-clause-released : goal.returns-then-run-zero-clause-released
-returns-then-run-zero-clause-released c = sym (zero_released c.args.zero c.args.pool.now c.args.run.now c.if-not-run.true c.if-run-zero.true c.args.run.now.n)
+returns-then-run-zero-clause-released c = sym (zero_counted (going c.args.zero) c.args.pool.now c.args.run.now c.if-not-run.true c.if-run-zero.true c.args.run.now.n)
 
 pub returns-then-run-zero-clause-units : goal.returns-then-run-zero-clause-units
-returns-then-run-zero-clause-units c = sym (zero_freed c.args.zero c.args.pool.now c.args.run.now c.if-not-run.true c.if-run-zero.true c.args.run.now.n)
+returns-then-run-zero-clause-units c = sym (zero_units (going c.args.zero) c.args.pool.now c.args.run.now c.if-not-run.true c.if-run-zero.true c.args.run.now.n)
 
 pub releasing-init : goal.releasing-init
-releasing-init c = none_released c.args.zero c.args.pool.now c.args.run.now
+releasing-init c = none_counted (going c.args.zero) c.args.pool.now c.args.run.now
 
 pub release-units-requires-clause-there : goal.release-units-requires-clause-there
 release-units-requires-clause-there c =
-    frame_left c.args.zero c.args.pool.now c.releasing.pool c.releasing.units c.args.run.now c.releasing.i c.entry_at-entry.result c.releasing.invariant
+    frame_there (going c.args.zero) c.args.pool.now c.releasing.pool c.releasing.units c.args.run.now c.releasing.i c.entry_at-entry.result c.releasing.invariant
     c.entry_at-entry.ensures (c.requires.there c.releasing.i c.releasing-test.true)
 
 pub release-units-requires-clause-some : goal.release-units-requires-clause-some
@@ -25,12 +26,11 @@ pub overflow_add-units : goal.overflow_add-units
 overflow_add-units c =
     let short = c.requires.short in
     let before = c.releasing-test.true in
-    let small = freed_small c.args.zero c.args.pool.now c.releasing.pool c.release-units.new.pool c.releasing.units c.release-units.result
-    c.entry_at-entry.result.frame c.args.run.now c.releasing.i
-    c.releasing.invariant c.release-units.ensures.units (omega (arith, short, before)) in
+    let small = units_small (going c.args.zero) c.args.pool.now c.releasing.pool c.releasing.units c.args.run.now c.releasing.i c.entry_at-entry.result c.releasing.invariant c.entry_at-entry.ensures
+    c.release-units.new.pool c.release-units.result c.entry_at-entry.result.frame c.release-units.ensures.units (omega (arith, short, before)) in
     omega (arith, small)
 
 pub releasing-preserved : goal.releasing-preserved
 releasing-preserved c =
-    one_released c.args.zero c.args.pool.now c.releasing.pool c.release-units.new.pool c.releasing.units c.release-units.result
-    c.args.run.now c.releasing.i c.entry_at-entry.result c.releasing.invariant c.entry_at-entry.ensures c.release-units.ensures.released c.release-units.ensures.units
+    one_counted (going c.args.zero) c.args.pool.now c.releasing.pool c.releasing.units c.args.run.now c.releasing.i c.entry_at-entry.result c.releasing.invariant c.entry_at-entry.ensures
+    c.release-units.new.pool c.release-units.result c.release-units.ensures.released c.release-units.ensures.units

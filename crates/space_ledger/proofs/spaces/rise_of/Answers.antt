@@ -1,5 +1,4 @@
-use Rattle.std.proofs.Common.{ap, arith, length, ◌∙◌}
-use Rattle.std.specs.Prelude.{ℕ, List}
+use Rattle.std.proofs.Common.{ℕ, List, ap, arith, length, ◌∙◌}
 use Rattle.ledger.specs.Units.{class}
 use Rattle.space_ledger.proofs.Rises.{rises_by}
 use Rattle.space_ledger.proofs.spaces.rise_of.Goals as goal

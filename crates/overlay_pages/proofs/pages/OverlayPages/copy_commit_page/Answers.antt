@@ -1,5 +1,4 @@
-use Rattle.std.proofs.Common.{◌<◌, sym, ap, subst, ◌∙◌, length}
-use Rattle.std.specs.Prelude.{IfSome}
+use Rattle.std.proofs.Common.{IfSome, ◌<◌, sym, ap, subst, ◌∙◌, length}
 use Rattle.std.specs.Option.{IsSome}
 use Rattle.ledger.specs.Ledger.{is_alone}
 use Rattle.overlay_pages.specs.State.{PageState, books}

@@ -1,8 +1,7 @@
-use Rattle.std.proofs.Common.{◌≡◌, sym, ap, subst, ◌∙◌}
+use Rattle.std.proofs.Common.{IfOk, ◌≡◌, sym, ap, subst, ◌∙◌}
 use Rattle.overlay_pages.specs.View.{MemoryView, state_of, view_of}
 use Rattle.overlay_pages.specs.ViewLaws.{state_awaiting, state_holds, state_zero}
 use Rattle.overlay_pages.proofs.Tables.{entries_state}
-use Rattle.std.specs.Prelude.{IfOk}
 use Rattle.page_table.specs.Table.{Pages}
 use Rattle.space_maps.specs.Spaces.{holds_space, space_in}
 use Rattle.space_ledger.specs.Calls.{NamesOnce}

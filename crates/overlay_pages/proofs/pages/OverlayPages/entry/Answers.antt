@@ -1,6 +1,5 @@
-use Rattle.std.proofs.Common.{ap, ◌∙◌}
+use Rattle.std.proofs.Common.{option_map, ap, ◌∙◌}
 use Rattle.overlay_pages.specs.View.{MemoryView, state_of, view_of}
-use Rattle.std.specs.Option.{option_map}
 use Rattle.overlay_pages.specs.State.{PageState}
 use Rattle.overlay_pages.proofs.Tables.{entry_state}
 use Rattle.overlay_pages.proofs.pages.OverlayPages.entry.Goals as goal

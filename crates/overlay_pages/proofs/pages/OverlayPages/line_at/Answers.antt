@@ -1,5 +1,4 @@
-use Rattle.std.proofs.Common.{Some, sym, ap, ◌∙◌}
-use Rattle.std.specs.Option.{option_map}
+use Rattle.std.proofs.Common.{option_map, Some, sym, ap, ◌∙◌}
 use Rattle.overlay_pages.specs.Lines.{line_in_page}
 use Rattle.overlay_pages.specs.State.{PageState}
 use Rattle.overlay_pages.specs.View.{MemoryView, state_of, view_of}

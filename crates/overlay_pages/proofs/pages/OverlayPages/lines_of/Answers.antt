@@ -1,7 +1,6 @@
-use Rattle.std.proofs.Common.{sym, ap, subst, ◌∙◌}
+use Rattle.std.proofs.Common.{sym, ap, subst, ◌∙◌, Some}
 use Rattle.overlay_pages.specs.View.{MemoryView, state_of, view_of}
 use Rattle.std.specs.Option.{IsSome, option_map}
-use Rattle.std.proofs.Common.{Some}
 use Rattle.space_maps.specs.Spaces.{page_in}
 use Rattle.space_ledger.specs.View.{lines_of}
 use Rattle.overlay_pages.specs.State.{PageState}

@@ -1,5 +1,4 @@
-use Rattle.std.proofs.Common.{ap, ◌∙◌, sym}
-use Rattle.std.specs.Prelude.{◌≡◌, Result, Ok, Err, IfOk}
+use Rattle.std.proofs.Common.{◌≡◌, Result, Ok, Err, IfOk, ap, ◌∙◌, sym}
 use Rattle.space_ledger.specs.Space.{SpaceTable}
 use Rattle.page_table.specs.Table.{Pages}
 use Rattle.space_ledger.proofs.Parts.{all_inside}

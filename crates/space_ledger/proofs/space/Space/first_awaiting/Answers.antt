@@ -1,5 +1,4 @@
-use Rattle.std.proofs.Common.{subst}
-use Rattle.std.specs.Prelude.{Some, None}
+use Rattle.std.proofs.Common.{Some, None, subst}
 use Rattle.space_ledger.specs.Space.{SpaceTable, AwaitsFirst}
 use Rattle.space_ledger.proofs.Parts.{none_wait, first_waits}
 use Rattle.space_ledger.proofs.space.Space.first_awaiting.Goals as goal

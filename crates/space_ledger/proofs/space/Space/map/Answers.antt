@@ -1,5 +1,4 @@
-use Rattle.std.proofs.Common.{ap, sym, subst, ◌∙◌, arith}
-use Rattle.std.specs.Prelude.{◌^◌, ◌-◌}
+use Rattle.std.proofs.Common.{◌^◌, ◌-◌, ap, sym, subst, ◌∙◌, arith}
 use Rattle.std.specs.FinMap.{len}
 use Rattle.page_table.specs.declared.entry.PageEntry.{PageEntry}
 use Rattle.page_table.specs.Table.{IsFree}

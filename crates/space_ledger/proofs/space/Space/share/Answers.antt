@@ -1,5 +1,4 @@
-use Rattle.std.proofs.Common.{ap, sym, subst, ◌∙◌}
-use Rattle.std.specs.Prelude.{None}
+use Rattle.std.proofs.Common.{None, ap, sym, subst, ◌∙◌}
 use Rattle.std.specs.Option.{is_some}
 use Rattle.std.specs.FinMap.{get}
 use Rattle.space_ledger.specs.Space.{SpaceTable, IsLeast, awaited}

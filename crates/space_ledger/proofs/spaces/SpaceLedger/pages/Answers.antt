@@ -1,5 +1,4 @@
-use Rattle.std.proofs.Common.{ap, sym}
-use Rattle.std.specs.Prelude.{Ok}
+use Rattle.std.proofs.Common.{Ok, ap, sym}
 use Rattle.space_ledger.specs.Calls.{entries_of}
 use Rattle.space_ledger.specs.View.{LedgerView}
 use Rattle.space_ledger.proofs.LedgerCalls.{copied_once}

@@ -1,7 +1,6 @@
-use Rattle.std.proofs.Common.{sym, ap, subst, ◌∙◌, ◌-◌}
+use Rattle.std.proofs.Common.{option_and_then, sym, ap, subst, ◌∙◌, ◌-◌}
 use Rattle.space_maps.specs.Spaces.{page_in}
 use Rattle.space_ledger.specs.View.{LedgerView, PageView}
-use Rattle.std.specs.Option.{option_and_then}
 use Rattle.space_ledger.specs.Calls.{IsBooked, given_up}
 use Rattle.space_ledger.proofs.LedgerCalls.{before_release, removed_call}
 use Rattle.space_ledger.proofs.spaces.SpaceLedger.remove_page.Goals as goal

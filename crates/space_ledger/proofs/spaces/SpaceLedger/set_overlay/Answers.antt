@@ -1,44 +1,33 @@
-use Rattle.std.proofs.Common.{sym, ap, subst, ◌∙◌, arith, ◌+◌, ◌-◌}
+use Rattle.std.proofs.Common.{sym, ap, subst, subst₂, ◌∙◌, arith, ◌+◌, ◌-◌}
 use Rattle.std.specs.Option.{is_some}
-use Rattle.ledger.specs.Units.{class}
 use Rattle.space_maps.specs.Spaces.{page_in}
 use Rattle.space_ledger.specs.View.{LedgerView, with_overlay}
 use Rattle.space_ledger.specs.Calls.{IsBooked}
-use Rattle.space_ledger.proofs.LedgerCalls.{overlaid_call}
+use Rattle.space_ledger.proofs.LedgerCalls.{Overlaid, overlaid_call}
 use Rattle.space_ledger.proofs.spaces.SpaceLedger.set_overlay.Goals as goal
+use Rattle.space_ledger.proofs.spaces.SpaceLedger.set_overlay.Goals.{After-lines_in-after}
+
+-- what is kept beside the tables with the other overlay
+overlaid : (c : After-lines_in-after) → Overlaid c.self.inside.tables c.self.inside.pool c.self.inside.units c.self.inside.lines c.args.space c.args.page c.lines_in-before.result c.lines_in-after.result c.args.entry
+overlaid c =
+    overlaid_call c.self.inside.tables c.self.inside.pool c.self.inside.units c.self.inside.lines c.self.invariant c.overlay.ensures.sound c.args.space c.args.page c.lines_in-before.result c.lines_in-after.result
+    c.overlay.result c.args.entry (ap (λ (v : LedgerView). is_some (page_in v c.args.space c.args.page)) c.self.view_is ∙ c.requires.there) c.overlay.ensures.overlay
+    c.lines_in-before.ensures.count c.lines_in-after.ensures.count c.lines_in-after.ensures.few
 
 pub overflow_sub-self : goal.overflow_sub-self
-overflow_sub-self c = omega (
-  arith,
-  (overlaid_call c.self.inside.tables c.self.inside.pool c.self.inside.units c.self.inside.lines c.self.invariant c.overlay.ensures.sound c.args.space c.args.page c.lines_in-before.result c.lines_in-after.result c.overlay.result c.args.entry
-      (ap (λ (v : LedgerView). is_some (page_in v c.args.space c.args.page)) c.self.view_is ∙ c.requires.there) c.overlay.ensures.overlay c.lines_in-before.ensures.count c.lines_in-after.ensures.count c.lines_in-after.ensures.few).fits,
-  c.class_of.ensures,
-)
+overflow_sub-self c = omega (arith, (overlaid (goal.at.overflow_sub-self c).After-lines_in-after).fits, c.class_of.ensures)
 
 pub overflow_add-self : goal.overflow_add-self
-overflow_add-self c = omega (
-  arith,
-  (overlaid_call c.self.inside.tables c.self.inside.pool c.self.inside.units c.self.inside.lines c.self.invariant c.overlay.ensures.sound c.args.space c.args.page c.lines_in-before.result c.lines_in-after.result c.overlay.result c.args.entry
-      (ap (λ (v : LedgerView). is_some (page_in v c.args.space c.args.page)) c.self.view_is ∙ c.requires.there) c.overlay.ensures.overlay c.lines_in-before.ensures.count c.lines_in-after.ensures.count c.lines_in-after.ensures.few).small,
-  c.class_of.ensures,
-  c.class_of-2.ensures,
-)
+overflow_add-self c = omega (arith, (overlaid (goal.at.overflow_add-self c).After-lines_in-after).small, c.class_of.ensures, c.class_of-2.ensures)
 
 pub overflow_sub-self-2 : goal.overflow_sub-self-2
-overflow_sub-self-2 c = (overlaid_call c.self.inside.tables c.self.inside.pool c.self.inside.units c.self.inside.lines c.self.invariant c.overlay.ensures.sound c.args.space c.args.page c.lines_in-before.result c.lines_in-after.result c.overlay.result c.args.entry
-    (ap (λ (v : LedgerView). is_some (page_in v c.args.space c.args.page)) c.self.view_is ∙ c.requires.there) c.overlay.ensures.overlay c.lines_in-before.ensures.count c.lines_in-after.ensures.count c.lines_in-after.ensures.few).lines_fit
+overflow_sub-self-2 c = (overlaid (goal.at.overflow_sub-self-2 c).After-lines_in-after).lines_fit
 
 pub overflow_add-self-2 : goal.overflow_add-self-2
-overflow_add-self-2 c = omega (
-  arith,
-  (overlaid_call c.self.inside.tables c.self.inside.pool c.self.inside.units c.self.inside.lines c.self.invariant c.overlay.ensures.sound c.args.space c.args.page c.lines_in-before.result c.lines_in-after.result c.overlay.result c.args.entry
-      (ap (λ (v : LedgerView). is_some (page_in v c.args.space c.args.page)) c.self.view_is ∙ c.requires.there) c.overlay.ensures.overlay c.lines_in-before.ensures.count c.lines_in-after.ensures.count c.lines_in-after.ensures.few).lines_small,
-)
+overflow_add-self-2 c = omega (arith, (overlaid (goal.at.overflow_add-self-2 c).After-lines_in-after).lines_small)
 
 pub invariant_of-self : goal.invariant_of-self
 invariant_of-self c =
     subst (λ v. IsBooked v c.self.inside.pool (c.self.inside.units - c.class_of.result + c.class_of-2.result) (c.self.inside.lines - c.lines_in-before.result + c.lines_in-after.result)) (sym c.set_overlay.ensures)
-    (subst (λ k. IsBooked (with_overlay c.self.inside.tables c.args.space c.args.page c.args.entry) c.self.inside.pool (c.self.inside.units - k + c.class_of-2.result) (c.self.inside.lines - c.lines_in-before.result + c.lines_in-after.result)) (sym c.class_of.ensures)
-    (subst (λ k. IsBooked (with_overlay c.self.inside.tables c.args.space c.args.page c.args.entry) c.self.inside.pool (c.self.inside.units - class c.lines_in-before.result + k) (c.self.inside.lines - c.lines_in-before.result + c.lines_in-after.result)) (sym c.class_of-2.ensures)
-    (overlaid_call c.self.inside.tables c.self.inside.pool c.self.inside.units c.self.inside.lines c.self.invariant c.overlay.ensures.sound c.args.space c.args.page c.lines_in-before.result c.lines_in-after.result c.overlay.result c.args.entry
-    (ap (λ (v : LedgerView). is_some (page_in v c.args.space c.args.page)) c.self.view_is ∙ c.requires.there) c.overlay.ensures.overlay c.lines_in-before.ensures.count c.lines_in-after.ensures.count c.lines_in-after.ensures.few).books))
+    (subst₂ (λ j k. IsBooked (with_overlay c.self.inside.tables c.args.space c.args.page c.args.entry) c.self.inside.pool (c.self.inside.units - j + k) (c.self.inside.lines - c.lines_in-before.result + c.lines_in-after.result))
+    (sym c.class_of.ensures) (sym c.class_of-2.ensures) (overlaid (goal.at.invariant_of-self c).After-lines_in-after).books)

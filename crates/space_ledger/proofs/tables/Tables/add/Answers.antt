@@ -1,5 +1,4 @@
-use Rattle.std.specs.Prelude.{◌≡◌, false}
-use Rattle.std.proofs.Common.{sym, ap, subst, ◌∙◌}
+use Rattle.std.proofs.Common.{◌≡◌, false, sym, ap, subst, ◌∙◌}
 use Rattle.std.specs.FinMap.{empty, insert}
 use Rattle.space_ledger.specs.Kept.{seen}
 use Rattle.space_maps.specs.Spaces.{bare_space, put_space}

@@ -1,5 +1,4 @@
-use Rattle.std.specs.Prelude.{◌≡◌, Result, Ok, Err, IfOk}
-use Rattle.std.proofs.Common.{sym, ◌∙◌}
+use Rattle.std.proofs.Common.{◌≡◌, Result, Ok, Err, IfOk, sym, ◌∙◌}
 use Rattle.space_ledger.proofs.Seen.{no_space_is, shows}
 use Rattle.space_ledger.proofs.TableOps.{settled_in, entries_is, is_sound}
 use Rattle.space_ledger.proofs.tables.Tables.copy.Goals as goal

@@ -1,5 +1,4 @@
-use Rattle.std.proofs.Common.{sym, ap, ◌∙◌}
-use Rattle.std.specs.Ordering.{nat_cmp}
+use Rattle.std.proofs.Common.{nat_cmp, sym, ap, ◌∙◌}
 use Rattle.std.specs.FinMap.{len, len-empty}
 use Rattle.space_ledger.specs.View.{PageView, SpaceView}
 use Rattle.space_ledger.proofs.Seen.{shows, space_none}

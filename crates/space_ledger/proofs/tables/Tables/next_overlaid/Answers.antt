@@ -1,5 +1,4 @@
-use Rattle.std.specs.Prelude.{Some, None}
-use Rattle.std.proofs.Common.{subst, arith}
+use Rattle.std.proofs.Common.{Some, None, subst, arith}
 use Rattle.number_maps.specs.Rows.{IsNextOne}
 use Rattle.space_ledger.proofs.Seen.{shows}
 use Rattle.space_ledger.proofs.TableOps.{is_sound}

@@ -1,5 +1,4 @@
-use Rattle.std.proofs.Common.{sym, ap, subst, ◌∙◌}
-use Rattle.std.specs.Ordering.{nat_cmp}
+use Rattle.std.proofs.Common.{nat_cmp, sym, ap, subst, ◌∙◌}
 use Rattle.std.specs.FinMap.{get, get-empty}
 use Rattle.space_ledger.specs.View.{SpaceView}
 use Rattle.space_ledger.specs.Space.{AwaitsRun}

@@ -1,5 +1,4 @@
-use Rattle.std.specs.Prelude.{IfSome}
-use Rattle.std.proofs.Common.{sym, ap, subst, arith, ◌∙◌}
+use Rattle.std.proofs.Common.{IfSome, sym, ap, subst, arith, ◌∙◌}
 use Rattle.space_ledger.specs.View.{with_overlay}
 use Rattle.space_ledger.specs.Calls.{IsLined, HasOverlayRoom}
 use Rattle.space_ledger.proofs.Seen.{kept_of, number_is, shows}

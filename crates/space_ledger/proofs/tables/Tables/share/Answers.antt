@@ -1,5 +1,4 @@
-use Rattle.std.specs.Prelude.{IfSome}
-use Rattle.std.proofs.Common.{sym, ap, subst, ◌∙◌, arith}
+use Rattle.std.proofs.Common.{IfSome, sym, ap, subst, ◌∙◌, arith}
 use Rattle.page_table.specs.Table.{Pages}
 use Rattle.space_maps.specs.Spaces.{put_shared}
 use Rattle.space_ledger.specs.Space.{IsLeast}

@@ -1,5 +1,4 @@
-use Rattle.std.specs.Prelude.{◌+◌}
-use Rattle.std.proofs.Common.{sym, subst, arith}
+use Rattle.std.proofs.Common.{◌+◌, sym, subst, arith}
 use Rattle.page_table.specs.Table.{Pages}
 use Rattle.page_table.specs.Run.{IsRunFrom}
 use Rattle.space_ledger.proofs.Seen.{awaiting_is, kept_of, no_space_is, shows}
