@@ -124,7 +124,8 @@ fn run_chosen<S: Source, H: Shelf, K: Sink>(
 ) -> Status
     requires { AreInRange settings }
     ensures ends { IsTold settings.seed S.tells H.tells → EndsAs S.Source H.Shelf K.Sink
-        (said_outcome settings (said (chosen_script settings.seed (S.left script.old))) (chosen_files settings.seed (H.files shelf.old)))
+        (said_outcome settings (said (chosen_script settings.seed (S.left script.old)))
+        (chosen_files settings.seed (H.files shelf.old)))
         (asking_of settings.seed (S.left script.old))
         (world_of script.old shelf.old sink.old) (world_of script.new shelf.new sink.new) result }
     ensures takes { S.tells → TakesAs S.Source H.Shelf (asking_of settings.seed (S.left script.old))
@@ -152,9 +153,10 @@ fn run_chosen<S: Source, H: Shelf, K: Sink>(
 
 /// All that the program does.
 ///
-/// `words` are the arguments without the program's name: `--frames N`, how many frames of 4,096 bytes the machine has, `--quantum Q`, how
-/// many turns a process takes before the next one does, and `--make SEED`, out of which the script and the file that it loads are made. Each
-/// comes at most once, in any order, also as `--frames=N`; a number is spelled as `parse` of a `u32`, or for the seed of a `u64`, takes it.
+/// `words` are the arguments without the program's name: `--frames N`, how many frames of 4,096 bytes the
+/// machine has, `--quantum Q`, how many turns a process takes before the next one does, and `--make SEED`,
+/// out of which the script and the file that it loads are made. Each comes at most once, in any order, also
+/// as `--frames=N`; a number is spelled as `parse` of a `u32`, or for the seed of a `u64`, takes it.
 ///
 /// | Word | Range | Where it isn't given |
 /// |---|---|---|
@@ -185,12 +187,14 @@ pub fn run_program<S: Source, H: Shelf, K: Sink>(
     sink: &mut K,
 ) -> u8
     ensures headline { S.tells → H.tells → EndsWith S.Source H.Shelf K.Sink
-        (run_outcome (map string_bytes words.now) (S.left script.old) (H.files shelf.old)) (run_asking (map string_bytes words.now) (S.left script.old))
+        (run_outcome (map string_bytes words.now) (S.left script.old) (H.files shelf.old))
+        (run_asking (map string_bytes words.now) (S.left script.old))
         (world_of script.old shelf.old sink.old) (world_of script.new shelf.new sink.new) result }
 
     // With a seed that holds whatever source and shelf tell.
     ensures made { IsSome (seed_set (map string_bytes words.now)) → EndsWith S.Source H.Shelf K.Sink
-        (run_outcome (map string_bytes words.now) (S.left script.old) (H.files shelf.old)) (run_asking (map string_bytes words.now) (S.left script.old))
+        (run_outcome (map string_bytes words.now) (S.left script.old) (H.files shelf.old))
+        (run_asking (map string_bytes words.now) (S.left script.old))
         (world_of script.old shelf.old sink.old) (world_of script.new shelf.new sink.new) result }
     ensures made_unread { IsSome (seed_set (map string_bytes words.now)) → result ≢ 3 }
 
@@ -199,7 +203,8 @@ pub fn run_program<S: Source, H: Shelf, K: Sink>(
         × (world_of script.new shelf.new sink.new ≡ world_of script.old shelf.old sink.old) }
     ensures untouched { result ≡ 2 →
         world_of script.new shelf.new sink.new ≡ world_of script.old shelf.old sink.old }
-    ensures takes { S.tells → TakesWith S.Source H.Shelf (run_asking (map string_bytes words.now) (S.left script.old))
+    ensures takes { S.tells → TakesWith S.Source H.Shelf
+        (run_asking (map string_bytes words.now) (S.left script.old))
         (world_of script.old shelf.old sink.old) (world_of script.new shelf.new sink.new) result }
     ensures says { S.tells → SaysWith K.Sink
         (chosen_script (seed_set (map string_bytes words.now)) (S.left script.old)) sink.old sink.new result }
