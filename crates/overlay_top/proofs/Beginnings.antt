@@ -1,11 +1,12 @@
 use Rattle.std.proofs.Common.{◌≡◌, ℕ, ◌≤◌, Bool, true, false, cond, ap, ◌∙◌, arith, Option, Some, None, Result, Ok, Err}
 use Rattle.std.specs.FinMap.{get}
+use Rattle.machine_core.specs.Machine.{Wholes}
 use Rattle.machine_core.specs.Process.{Process, runs}
 use Rattle.report_text.specs.declared.answer.Code.{Code}
 use Rattle.report_text.specs.declared.answer.Code.TheVariants.{Ended}
 use Rattle.command_core.specs.State.{State, with_wholes}
 use Rattle.command_core.specs.Rows.{refuses}
-use Rattle.command_core.specs.Commands.{step_done, steps, takes_left, takes_turns, told}
+use Rattle.command_core.specs.Commands.{rules, step_done, steps, takes_left, takes_turns, told}
 use Rattle.command_core.specs.LikeLaws.{left_found}
 use Rattle.command_core.specs.Looks.{BeginsStep, begun}
 use Rattle.command_core.specs.Turns.{InRun, Progress, Ran, alone, ran_text, run_found}
@@ -31,9 +32,9 @@ module _ (p turns : ℕ) (state : State) where
   runs_begun running false is = cc
 
   found_begun : (running : InRun) (found : Option Process) → Ok running ≡ begun state.breakpoints state.wholes p turns found
-      → takes_left running state ≡ steps p turns found state
+      → takes_left running state ≡ steps rules p turns found state
   found_begun running None is = cc
   found_begun running (Some process) is = runs_begun running (runs process.state) is
 
-  pub step_begun : (running : InRun) → BeginsStep state.breakpoints state.wholes p turns (Ok running) → takes_left running state ≡ step_done p turns state
+  pub step_begun : (running : InRun) → BeginsStep state.breakpoints state.wholes p turns (Ok running) → takes_left running state ≡ step_done rules p turns state
   step_begun running is = found_begun running (get state.wholes.processes p) is

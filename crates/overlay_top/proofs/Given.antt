@@ -8,7 +8,7 @@ use Rattle.command_core.specs.Sessions.{InSession}
 use Rattle.command_core.specs.Rows.{Changed, Row, change_by}
 use Rattle.command_core.specs.Giving.{ComesTo, GivesChange}
 use Rattle.command_core.specs.Changes.{load_row}
-use Rattle.command_core.specs.Commands.{Performed, exec_done, exec_turns, row_told, tells_exec}
+use Rattle.command_core.specs.Commands.{Performed, exec_done, exec_turns, row_told, rules, tells_exec}
 use Rattle.command_core.specs.LikeLaws.{AreLikePerformed, like_exec_turns, states_chain}
 use Rattle.overlay_top.specs.declared.running.Halt.{Halt}
 use Rattle.overlay_top.specs.declared.running.Halt.TheVariants as halt
@@ -28,7 +28,7 @@ given_is row old Memory new gives other = absurd (other refl)
 
 -- its line, or nothing for want of memory
 pub tells_row : {K : Type 0} (k : SinkOf K) (row : Row) (old : State) (answer : Answer) (new : State) (sink_old sink_new : K) (r : Result (Unit {0}) Halt)
-    → GivesChange row old answer new → TellsAnswer k answer sink_old sink_new r → EndsCommand k sink_old sink_new (row_told row old) new r
+    → GivesChange row old answer new → TellsAnswer k answer sink_old sink_new r → EndsCommand k sink_old sink_new (row_told rules row old) new r
 tells_row k row old answer new sink_old sink_new (Ok unit) gives (other, sound, sent) =
     let comes = given_is row old answer new gives other in (
       sound,
@@ -47,19 +47,19 @@ tells_row k row old answer new sink_old sink_new (Err halt.TooLong) gives h = ab
 
 -- a load's line and the turns that follow it are those of what it was to give
 pub exec_like : (file : List ℕ) (turns : ℕ) (old : State) (answer : Answer) (new : State) → GivesChange (load_row file (registry_of old)) old answer new → (answer ≡ Memory → ⊥)
-    → AreLikePerformed (tells_exec turns answer new) (exec_done file turns old)
+    → AreLikePerformed (tells_exec rules turns answer new) (exec_done rules file turns old)
 exec_like file turns old answer new gives other =
-    let wanted : Changed = change_by (load_row file (registry_of old)) old in
+    let wanted : Changed State = change_by (load_row file (registry_of old)) old in
     let comes = given_is (load_row file (registry_of old)) old answer new gives other in
     let next = like_exec_turns turns answer new wanted.after comes.after_is in
     record {
-      text = ap (λ text. answer_text answer ++ text) next.text ∙ ap (λ a. answer_text a ++ (exec_turns turns a wanted.after).text) comes.answer_is;
-      after = subst (λ a. AreLikeStates (exec_turns turns answer new).after (exec_turns turns a wanted.after).after) comes.answer_is next.after;
+      text = ap (λ text. answer_text answer ++ text) next.text ∙ ap (λ a. answer_text a ++ (exec_turns rules turns a wanted.after).text) comes.answer_is;
+      after = subst (λ a. AreLikeStates (exec_turns rules turns answer new).after (exec_turns rules turns a wanted.after).after) comes.answer_is next.after;
       wants = refl;
     }
 
 -- what was sent and done, as a command
-module _ {K E : Type 0} (k : SinkOf K) (sink_old sink_new : K) (took wanted : Performed) (old new : InSession) (text : took.text ≡ wanted.text) where
+module _ {K E : Type 0} (k : SinkOf K) (sink_old sink_new : K) (took wanted : Performed State) (old new : InSession) (text : took.text ≡ wanted.text) where
   pub ends_done : TakesOn {T = Unit {0}} {E = E} k sink_old sink_new took old new (Ok tt) → AreLikeStates took.after wanted.after
       → EndsCommand k sink_old sink_new wanted new.state (Ok tt)
   ends_done takes like = (

@@ -13,4 +13,6 @@ pub mod MemoryRows
 pub mod Registers
 pub mod Given
 pub mod Beginnings
+pub mod Doing
 pub mod Endings
+pub mod Unbounded

@@ -11,7 +11,7 @@ use Rattle.report_text.specs.Lines.{checkpoint_line, list_line, process_line}
 use Rattle.command_core.specs.declared.session.CheckpointView.{CheckpointView}
 use Rattle.command_core.specs.declared.session.Counts.{Counts}
 use Rattle.command_core.specs.declared.session.ProcessView.{ProcessView}
-use Rattle.command_core.specs.State.{Checkpoint, State}
+use Rattle.command_core.specs.State.{Checkpoint, State, registry_of}
 use Rattle.command_core.specs.Commands.{checkpoint_text, counts_text, list_head, process_text, stats_text}
 use Rattle.command_core.specs.Looks.{NextProcess, ShowsCheckpoint, counts_of, from_number, looked_at, view_of}
 
@@ -49,7 +49,7 @@ line_is processes p process view line there looks is =
     ok_is v u e = cc
 
 pub head_is : (state : State) (count kept : ℕ) (line : List ℕ) → count ≡ length (entries state.wholes.processes) → kept ≡ length state.checkpoints
-    → line ≡ list_line count kept → line ≡ list_head state
+    → line ≡ list_line count kept → line ≡ list_head (registry_of state)
 unfolding list_head
 head_is state count kept line counted kept_is is =
     is ∙ ap (λ n. list_line n kept) counted ∙ ap (list_line (length (entries state.wholes.processes))) kept_is

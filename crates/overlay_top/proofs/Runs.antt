@@ -95,7 +95,7 @@ has_asked IsMissing passage rest has = cc
 has_asked IsTooLong passage rest has = cc
 
 -- one for which there was no memory may want it
-wants_next : (passages : List Passage) (asked : FileAsked) (performed : Performed) (rest : RunOutcome) → (asked ≡ AsksNothing → performed.wants_memory ≡ true)
+wants_next : (passages : List Passage) (asked : FileAsked) (performed : Performed State) (rest : RunOutcome) → (asked ≡ AsksNothing → performed.wants_memory ≡ true)
     → (passage_after (length passages) (behind passages (with_asked asked (passage_of asked performed) rest))).wants_memory ≡ true
 wants_next passages AsksNothing performed rest lacks =
     ap (λ (p : Passage). p.wants_memory) (next_passage passages rest.passages (passage_of AsksNothing performed) rest.last) ∙ lacks refl
@@ -278,7 +278,7 @@ halted set h k SendFailed all index command files now_files state shelf_old shel
           (subst (λ held. IsCut held passage.text (k.taken new)) (run.sent is_told ∙ ap (λ bs. k.taken start ++ bs) (sym first)) (sends is_told)),
     )
 
-lacks_like : (halt : Halt) (asked : FileAsked) (x y : Performed) → x.wants_memory ≡ y.wants_memory → LacksMemory asked x (Err halt) → LacksMemory asked y (Err halt)
+lacks_like : (halt : Halt) (asked : FileAsked) (x y : Performed State) → x.wants_memory ≡ y.wants_memory → LacksMemory asked x (Err halt) → LacksMemory asked y (Err halt)
 lacks_like Memory asked x y same lacks = λ has. sym same ∙ lacks has
 lacks_like Missing asked x y same lacks = tt
 lacks_like TooLong asked x y same lacks = tt

@@ -9,3 +9,4 @@ pub mod Printing
 pub mod Outside
 pub mod Running
 pub mod Ends
+pub mod Unbounded

@@ -7,7 +7,7 @@ use Rattle.workload.specs.Script.{made_script}
 use Rattle.workload.specs.File.{made_file}
 use Rattle.report_text.specs.Lines.{bad_line}
 use Rattle.command_core.specs.State.{State, fresh}
-use Rattle.command_core.specs.Commands.{FileAsked, AsksNothing, HasFile, IsMissing, IsTooLong, Performed, asks, file_asked, file_in, performed}
+use Rattle.command_core.specs.Commands.{FileAsked, AsksNothing, HasFile, IsMissing, IsTooLong, Performed, Rules, asks, file_asked, file_in, performed_by, rules}
 use Rattle.overlay_top.specs.declared.words.Settings.{Settings}
 use Rattle.overlay_top.specs.Words.{seed_set, settings_of}
 use Rattle.overlay_top.specs.declared.status.Status.{Status}
@@ -55,9 +55,12 @@ done passage outcome = record { passages = passage ∷ outcome.passages; last = 
 abbrev pub MayLackMemory : RunOutcome → ℕ → ℕ → Type 0
 MayLackMemory outcome j begun = ((j ≡ 0) × (begun ≡ 0)) ⊎ ((begun ≡ j + 1) × ((passage_after j outcome).wants_memory ≡ true))
 
--- a command on a state, over files by name, where turns have this quantum
-abbrev pub command_done : ℕ → (List ℕ → Option (List ℕ)) → Command → State → Performed
-command_done quantum files command state = performed quantum (file_in (file_asked files command)) command state
+-- a command on a state by the rules of a machine, over files by name, where turns have this quantum
+abbrev pub done_by : {S : Type 0} → Rules S → ℕ → (List ℕ → Option (List ℕ)) → Command → S → Performed S
+done_by by quantum files command state = performed_by by quantum (file_in (file_asked files command)) command state
+
+abbrev pub command_done : ℕ → (List ℕ → Option (List ℕ)) → Command → State → Performed State
+command_done quantum files command state = done_by rules quantum files command state
 
 -- The commands of a script on a state, over files by name. One that asks for a file that isn't there, or that
 -- is too long, ends the call.
@@ -72,14 +75,17 @@ abbrev pub asks_file : FileAsked → Bool
 asks_file AsksNothing = false
 asks_file other = true
 
-abbrev pub passage_of : FileAsked → Performed → Passage
+abbrev pub passage_of : {S : Type 0} → FileAsked → Performed S → Passage
 passage_of asked performed = record { text = performed.text; wants_memory = asks_file asked || performed.wants_memory }
 
+abbrev pub run_by : {S : Type 0} → Rules S → ℕ → List Command → S → (List ℕ → Option (List ℕ)) → RunOutcome
+run_by by quantum [] state files = ended [] Done
+run_by by quantum (command ∷ commands) state files =
+    with_asked (file_asked files command) (passage_of (file_asked files command) (done_by by quantum files command state))
+    (run_by by quantum commands (done_by by quantum files command state).after files)
+
 abbrev pub run_from : ℕ → List Command → State → (List ℕ → Option (List ℕ)) → RunOutcome
-run_from quantum [] state files = ended [] Done
-run_from quantum (command ∷ commands) state files =
-    with_asked (file_asked files command) (passage_of (file_asked files command) (command_done quantum files command state))
-    (run_from quantum commands (command_done quantum files command state).after files)
+run_from quantum commands state files = run_by rules quantum commands state files
 
 -- all of them, from no process
 abbrev pub run_all : Settings → List Command → (List ℕ → Option (List ℕ)) → RunOutcome
@@ -102,11 +108,14 @@ is_too_much script = nat_lt MOST_SCRIPT_BYTES (length script) || nat_lt MOST_SCR
 abbrev pub said : List ℕ → ScriptSays
 said script = if is_too_much script then SaysTooMuch else read_by (commands_of script)
 
--- the outcome of a script, as it reads
+-- the outcome of a script, as it reads, by what its commands come to
+abbrev pub says_by : (List Command → RunOutcome) → ScriptSays → RunOutcome
+says_by runs SaysTooMuch = ended [] TooLong
+says_by runs (SaysCommands commands) = runs commands
+says_by runs (SaysOutside line) = ended (bad_line line) BadLine
+
 abbrev pub said_outcome : Settings → ScriptSays → (List ℕ → Option (List ℕ)) → RunOutcome
-said_outcome settings SaysTooMuch files = ended [] TooLong
-said_outcome settings (SaysCommands commands) files = run_all settings commands files
-said_outcome settings (SaysOutside line) files = ended (bad_line line) BadLine
+said_outcome settings says files = says_by (λ commands. run_all settings commands files) says
 
 -- The outcome of words, a script and files by name. What isn't the command's sets nothing, and nothing is done.
 -- The script and the files of a call: those that are made, the file under every name, where a seed is set; else those of the outside.

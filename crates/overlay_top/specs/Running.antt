@@ -52,7 +52,7 @@ Sends old text new (Err SendFailed) = IsCut old text new
 Sends old text new other = new ≡ old
 
 -- there was no memory for a command that asks for no file: it may want that
-abbrev pub LacksMemory : FileAsked → Performed → Result (Unit {0}) Halt → Type 0
+abbrev pub LacksMemory : FileAsked → Performed State → Result (Unit {0}) Halt → Type 0
 LacksMemory asked performed (Err Memory) = asked ≡ AsksNothing → performed.wants_memory ≡ true
 LacksMemory asked performed other = Unit {0}
 
@@ -81,11 +81,11 @@ SendsOn k old text new result = k.tells → Sends (k.taken old) text (k.taken ne
 
 -- where something was done, the session stands for the state that it comes to: it has that state, but for the numbers of the
 -- ledger's origins
-abbrev pub LeavesOn : {T E : Type 0} → Performed → InSession → Result T E → Type 0
+abbrev pub LeavesOn : {T E : Type 0} → Performed State → InSession → Result T E → Type 0
 LeavesOn done session result = OnOk result (AreLikeStates session.state done.after)
 
 -- What turns come to was sent, and done.
-pub record TakesOn {K T E : Type 0} (k : SinkOf K) (sink_old sink_new : K) (done : Performed) (old new : InSession) (result : Result T E) : Type 0 where
+pub record TakesOn {K T E : Type 0} (k : SinkOf K) (sink_old sink_new : K) (done : Performed State) (old new : InSession) (result : Result T E) : Type 0 where
   pub sends : SendsText k sink_old done.text sink_new result
   pub after : LeavesOn done new result
   pub quantum : new.quantum ≡ old.quantum
@@ -99,14 +99,14 @@ TellsAnswer k answer old new other = ⊥
 
 -- What a command with a file comes to was sent, and done; or there was no memory, where it may want that, and nothing was sent; or the sink
 -- failed.
-abbrev pub EndsCommand : {K : Type 0} → SinkOf K → K → K → Performed → State → Result (Unit {0}) Halt → Type 0
+abbrev pub EndsCommand : {K : Type 0} → SinkOf K → K → K → Performed State → State → Result (Unit {0}) Halt → Type 0
 EndsCommand k old new done after (Ok unit) =
     SinkSound k old new × (k.tells → IsSent (k.taken old) done.text (k.taken new)) × AreLikeStates after done.after
 EndsCommand k old new done after (Err SendFailed) = SinkRose k old new × (k.tells → IsCut (k.taken old) done.text (k.taken new))
 EndsCommand k old new done after (Err Memory) = SinkSound k old new × (k.tells → k.taken new ≡ k.taken old) × (done.wants_memory ≡ true)
 EndsCommand k old new done after other = ⊥
 
-pub record DoesCommand {K : Type 0} (k : SinkOf K) (sink_old sink_new : K) (done : Performed) (old new : InSession) (result : Result (Unit {0}) Halt) : Type 0 where
+pub record DoesCommand {K : Type 0} (k : SinkOf K) (sink_old sink_new : K) (done : Performed State) (old new : InSession) (result : Result (Unit {0}) Halt) : Type 0 where
   pub ends : EndsCommand k sink_old sink_new done new.state result
   pub quantum : new.quantum ≡ old.quantum
 

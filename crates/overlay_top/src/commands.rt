@@ -4,7 +4,8 @@ ghost use Rattle.script_text.specs.Given.{IsGiven};
 ghost use Rattle.script_text.specs.declared.TheConstants.{MOST_WORDS};
 ghost use Rattle.report_text.specs.Answers.{HasAnswerLine, answer_text};
 ghost use Rattle.command_core.specs.Changes.{CanBeTold};
-ghost use Rattle.command_core.specs.Commands.{RunsLoaded, asks, change_told, checkpoints_text, disasm_done, dump_done, exec_done, exec_turns, list_done, list_text, load_told, performed_in, processes_text, registers_text, regs_done, run_done, stats_text, step_done, takes_left, tells_exec, value_at};
+ghost use Rattle.command_core.specs.State.{registry_of};
+ghost use Rattle.command_core.specs.Commands.{RunsLoaded, asks, change_told, checkpoints_text, disasm_done, dump_done, exec_done, exec_turns, list_text, load_told, performed_in, processes_text, registers_text, regs_done, rules, run_done, stats_text, step_done, takes_left, tells_exec, value_at};
 ghost use Rattle.overlay_top.specs.Sending.{SendsText};
 ghost use Rattle.overlay_top.specs.Printing.{view_text};
 ghost use Rattle.overlay_top.specs.Running.{DoesCommand, TakesOn, TellsAnswer};
@@ -69,7 +70,7 @@ fn take_turns<K: Sink>(
 /// Makes a process of a file.
 fn load<K: Sink>(session: &mut Session, file: &[u8], report: &mut Report<K>) -> Result<(), Halt>
     ensures does { DoesCommand K.Sink report.old.sink.now report.new.sink.now
-        (load_told file.now session.old.state) session.old session.new result }
+        (load_told rules file.now session.old.state) session.old session.new result }
     ensures same { report.new.sink.ghost_name ≡ report.old.sink.ghost_name }
 {
     let answer = session.load(file);
@@ -85,7 +86,7 @@ fn turns_of_loaded<K: Sink>(
 ) -> Result<(), Failed>
     requires { RunsLoaded answer.now session.old.state }
     ensures takes { TakesOn K.Sink report.old.sink.now report.new.sink.now
-        (exec_turns turns answer.now session.old.state) session.old session.new result }
+        (exec_turns rules turns answer.now session.old.state) session.old session.new result }
     ensures same { report.new.sink.ghost_name ≡ report.old.sink.ghost_name }
 {
     match answer {
@@ -115,7 +116,7 @@ fn tell_loaded<K: Sink>(
     requires told { HasAnswerLine answer.now }
     requires runs { RunsLoaded answer.now session.old.state }
     ensures takes { TakesOn K.Sink report.old.sink.now report.new.sink.now
-        (tells_exec turns answer.now session.old.state) session.old session.new result }
+        (tells_exec rules turns answer.now session.old.state) session.old session.new result }
     ensures same { report.new.sink.ghost_name ≡ report.old.sink.ghost_name }
 {
     match send_answer(answer, report) {
@@ -132,7 +133,7 @@ fn exec<K: Sink>(
     report: &mut Report<K>,
 ) -> Result<(), Halt>
     ensures does { DoesCommand K.Sink report.old.sink.now report.new.sink.now
-        (exec_done file.now turns session.old.state) session.old session.new result }
+        (exec_done rules file.now turns session.old.state) session.old session.new result }
     ensures same { report.new.sink.ghost_name ≡ report.old.sink.ghost_name }
 {
     let answer = session.load(file);
@@ -153,7 +154,7 @@ fn step<K: Sink>(
     report: &mut Report<K>,
 ) -> Result<(), Failed>
     ensures takes { TakesOn K.Sink report.old.sink.now report.new.sink.now
-        (step_done p turns session.old.state) session.old session.new result }
+        (step_done rules p turns session.old.state) session.old session.new result }
     ensures same { report.new.sink.ghost_name ≡ report.old.sink.ghost_name }
 {
     match session.begin_step(p, turns) {
@@ -168,7 +169,7 @@ fn step<K: Sink>(
 /// Gives processes so many turns, by round robin.
 fn run_all<K: Sink>(session: &mut Session, turns: u32, report: &mut Report<K>) -> Result<(), Failed>
     ensures takes { TakesOn K.Sink report.old.sink.now report.new.sink.now
-        (run_done session.old.quantum turns session.old.state) session.old session.new result }
+        (run_done rules session.old.quantum turns session.old.state) session.old session.new result }
     ensures same { report.new.sink.ghost_name ≡ report.old.sink.ghost_name }
 {
     let mut running = session.begin_run(turns);
@@ -184,7 +185,7 @@ fn change<K: Sink>(
     requires asks { asks command.now ≡ None }
     requires given { IsGiven command.now }
     ensures does { DoesCommand K.Sink report.old.sink.now report.new.sink.now
-        (change_told [] command.now session.old.state) session.old session.new result }
+        (change_told rules [] command.now session.old.state) session.old session.new result }
     ensures same { report.new.sink.ghost_name ≡ report.old.sink.ghost_name }
 {
     let answer = session.change(command);
@@ -207,7 +208,7 @@ fn count_processes(session: &Session) -> u32
 /// Sends the lines of all processes, by number.
 fn list_processes<K: Sink>(session: &Session, report: &mut Report<K>) -> Result<(), Failed>
     ensures sends { SendsText K.Sink report.old.sink.now
-        (processes_text session.now.state) report.new.sink.now result }
+        (processes_text (registry_of session.now.state)) report.new.sink.now result }
     ensures same { report.new.sink.ghost_name ≡ report.old.sink.ghost_name }
 {
     let mut from = 0u16;
@@ -242,7 +243,7 @@ fn count_checkpoints(session: &Session) -> u32
 /// Sends the lines of all checkpoints, in the order of making.
 fn list_checkpoints<K: Sink>(session: &Session, report: &mut Report<K>) -> Result<(), Failed>
     ensures sends { SendsText K.Sink report.old.sink.now
-        (checkpoints_text session.now.state) report.new.sink.now result }
+        (checkpoints_text (registry_of session.now.state)) report.new.sink.now result }
     ensures same { report.new.sink.ghost_name ≡ report.old.sink.ghost_name }
 {
     let mut index = 0usize;
@@ -256,7 +257,7 @@ fn list_checkpoints<K: Sink>(session: &Session, report: &mut Report<K>) -> Resul
 
 /// Lists the processes and the checkpoints.
 fn list<K: Sink>(session: &Session, report: &mut Report<K>) -> Result<(), Failed>
-    ensures sends { SendsText K.Sink report.old.sink.now (list_text session.now.state)
+    ensures sends { SendsText K.Sink report.old.sink.now (list_text (registry_of session.now.state))
         report.new.sink.now result }
     ensures same { report.new.sink.ghost_name ≡ report.old.sink.ghost_name }
 {
@@ -306,7 +307,7 @@ fn send_process<K: Sink>(p: u16, view: &ProcessView, report: &mut Report<K>) -> 
 
 /// Prints the state and the registers of a process.
 fn regs<K: Sink>(session: &Session, p: u16, report: &mut Report<K>) -> Result<(), Failed>
-    ensures sends { SendsText K.Sink report.old.sink.now (regs_done p session.now.state).text
+    ensures sends { SendsText K.Sink report.old.sink.now (regs_done rules p session.now.state).text
         report.new.sink.now result }
     ensures same { report.new.sink.ghost_name ≡ report.old.sink.ghost_name }
 {
@@ -325,7 +326,7 @@ fn dump<K: Sink>(
     report: &mut Report<K>,
 ) -> Result<(), Failed>
     ensures sends { SendsText K.Sink report.old.sink.now
-        (dump_done p address count session.now.state).text report.new.sink.now result }
+        (dump_done rules p address count session.now.state).text report.new.sink.now result }
     ensures same { report.new.sink.ghost_name ≡ report.old.sink.ghost_name }
 {
     match session.can_read(p, address, count) {
@@ -344,7 +345,7 @@ fn disasm<K: Sink>(
 ) -> Result<(), Failed>
     requires { words ≤ MOST_WORDS }
     ensures sends { SendsText K.Sink report.old.sink.now
-        (disasm_done p address words session.now.state).text report.new.sink.now result }
+        (disasm_done rules p address words session.now.state).text report.new.sink.now result }
     ensures same { report.new.sink.ghost_name ≡ report.old.sink.ghost_name }
 {
     match session.can_read(p, address, WORD_BYTES as u32 * words) {

@@ -2,6 +2,7 @@ ghost use Rattle.std.specs.Prelude.{◌≡◌, ◌≢◌, ◌⊎◌, ◌≤◌, 
 ghost use Rattle.workload.specs.Script.{made_script};
 ghost use Rattle.workload.specs.File.{made_file};
 ghost use Rattle.overlay_top.specs.Outcome.{asking_of, chosen_files, chosen_script, names_asked, run_asking, run_outcome, said, said_outcome};
+ghost use Rattle.overlay_top.specs.Unbounded.{EndsUnbounded};
 ghost use Rattle.overlay_top.specs.Words.{AreInRange, seed_set, settings_of};
 ghost use Rattle.overlay_top.specs.Status.{code_of};
 ghost use Rattle.overlay_top.specs.Running.{AsksAs, AsksInOrder};
@@ -188,6 +189,12 @@ pub fn run_program<S: Source, H: Shelf, K: Sink>(
 ) -> u8
     ensures headline { S.tells → H.tells → EndsWith S.Source H.Shelf K.Sink
         (run_outcome (map string_bytes words.now) (S.left script.old) (H.files shelf.old))
+        (run_asking (map string_bytes words.now) (S.left script.old))
+        (world_of script.old shelf.old sink.old) (world_of script.new shelf.new sink.new) result }
+
+    // Where no line says `full`, also with the outcome of the unbounded machine, which copies and has no ledger.
+    ensures unbounded { S.tells → H.tells → EndsUnbounded S.Source H.Shelf K.Sink
+        (map string_bytes words.now) (S.left script.old) (H.files shelf.old)
         (run_asking (map string_bytes words.now) (S.left script.old))
         (world_of script.old shelf.old sink.old) (world_of script.new shelf.new sink.new) result }
 

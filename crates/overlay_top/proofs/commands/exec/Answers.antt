@@ -1,5 +1,5 @@
 use Rattle.std.proofs.Common.{◌∙◌}
-use Rattle.command_core.specs.Commands.{exec_done, tells_exec}
+use Rattle.command_core.specs.Commands.{exec_done, rules, tells_exec}
 use Rattle.overlay_top.proofs.Given.{ends_done, ends_failed, exec_like}
 use Rattle.overlay_top.proofs.commands.exec.Goals as goal
 
@@ -9,8 +9,8 @@ returns-in-Ok-clause-does g c =
     let mid = c.load-answer.new.self in
     let like = exec_like c.args.file.now c.args.turns state c.load-answer.result mid.state c.load-answer.ensures.gives c.in_default.not-Memory in
     record {
-      ends = ends_done g.K.Sink c.args.report.now.sink.now c.tell_loaded.new.report.sink.now (tells_exec c.args.turns c.load-answer.result mid.state)
-          (exec_done c.args.file.now c.args.turns state) mid c.tell_loaded.new.session like.text c.in-Ok.ensures.takes like.after;
+      ends = ends_done g.K.Sink c.args.report.now.sink.now c.tell_loaded.new.report.sink.now (tells_exec rules c.args.turns c.load-answer.result mid.state)
+          (exec_done rules c.args.file.now c.args.turns state) mid c.tell_loaded.new.session like.text c.in-Ok.ensures.takes like.after;
       quantum = c.in-Ok.ensures.takes.quantum ∙ c.load-answer.ensures.quantum;
     }
 
@@ -20,7 +20,7 @@ returns-clause-does g c =
     let mid = c.load-answer.new.self in
     let like = exec_like c.args.file.now c.args.turns state c.load-answer.result mid.state c.load-answer.ensures.gives c.in_default.not-Memory in
     record {
-      ends = ends_failed g.K.Sink c.args.report.now.sink.now c.tell_loaded.new.report.sink.now (tells_exec c.args.turns c.load-answer.result mid.state)
-          (exec_done c.args.file.now c.args.turns state) mid c.tell_loaded.new.session like.text _ c.in-Err.ensures.takes;
+      ends = ends_failed g.K.Sink c.args.report.now.sink.now c.tell_loaded.new.report.sink.now (tells_exec rules c.args.turns c.load-answer.result mid.state)
+          (exec_done rules c.args.file.now c.args.turns state) mid c.tell_loaded.new.session like.text _ c.in-Err.ensures.takes;
       quantum = c.in-Err.ensures.takes.quantum ∙ c.load-answer.ensures.quantum;
     }

@@ -5,6 +5,7 @@ use Rattle.overlay_top.specs.Words.{ReadsWords}
 use Rattle.overlay_top.specs.Ends.{world_of}
 use Rattle.overlay_top.proofs.Chosen.{asks_none, asks_set, complete_as, ends_refused, ends_set, memory_as, memory_takes, no_seed, says_set, seed_is, takes_set, told_both, told_made, words_take}
 use Rattle.overlay_top.proofs.Codes.{other_number}
+use Rattle.overlay_top.proofs.Unbounded.{as_unbounded}
 use Rattle.overlay_top.proofs.top.run_program.Goals as goal
 
 -- The words set something.
@@ -16,6 +17,11 @@ returns-in-Ok-clause-headline g c s h = (
   ends_set (map string_bytes c.args.words.now) c.in-Ok.settings (g.S.Source.left c.args.script.now) c.in-Ok.ensures.reads g.S.Source g.H.Shelf g.K.Sink
       (g.H.Shelf.files c.args.shelf.now) _ _ c.run_chosen.result (c.run_chosen.ensures.ends (told_both c.in-Ok.settings.seed s h)),
 )
+
+pub returns-in-Ok-clause-unbounded : goal.returns-in-Ok-clause-unbounded
+returns-in-Ok-clause-unbounded g c s h =
+    as_unbounded g.S.Source g.H.Shelf g.K.Sink (map string_bytes c.args.words.now) (g.S.Source.left c.args.script.now) (g.H.Shelf.files c.args.shelf.now)
+    _ _ _ _ (returns-in-Ok-clause-headline g c s h)
 
 pub returns-in-Ok-clause-made : goal.returns-in-Ok-clause-made
 returns-in-Ok-clause-made g c some = (
@@ -70,6 +76,11 @@ returns-in-Err-Refused-clause-headline g c s h =
       ends_refused words (g.S.Source.left c.args.script.now) g.S.Source g.H.Shelf g.K.Sink (g.H.Shelf.files c.args.shelf.now) _ refused,
     )
 
+pub returns-in-Err-Refused-clause-unbounded : goal.returns-in-Err-Refused-clause-unbounded
+returns-in-Err-Refused-clause-unbounded g c s h =
+    as_unbounded g.S.Source g.H.Shelf g.K.Sink (map string_bytes c.args.words.now) (g.S.Source.left c.args.script.now) (g.H.Shelf.files c.args.shelf.now)
+    _ _ _ _ (returns-in-Err-Refused-clause-headline g c s h)
+
 pub returns-in-Err-Refused-clause-made : goal.returns-in-Err-Refused-clause-made
 returns-in-Err-Refused-clause-made g c some =
     let words = map string_bytes c.args.words.now in
@@ -90,6 +101,11 @@ returns-in-Err-Refused-clause-asked g c s = asks_none g.H.Shelf (run_asking (map
 pub returns-in-Err-Memory-clause-headline : goal.returns-in-Err-Memory-clause-headline
 returns-in-Err-Memory-clause-headline g c s h =
     (NoMemory, c.code-in-Err-Memory.ensures, memory_as g.S.Source g.H.Shelf g.K.Sink _ _ c.args.script.now c.args.shelf.now c.args.sink.now)
+
+pub returns-in-Err-Memory-clause-unbounded : goal.returns-in-Err-Memory-clause-unbounded
+returns-in-Err-Memory-clause-unbounded g c s h =
+    as_unbounded g.S.Source g.H.Shelf g.K.Sink (map string_bytes c.args.words.now) (g.S.Source.left c.args.script.now) (g.H.Shelf.files c.args.shelf.now)
+    _ _ _ _ (returns-in-Err-Memory-clause-headline g c s h)
 
 pub returns-in-Err-Memory-clause-made : goal.returns-in-Err-Memory-clause-made
 returns-in-Err-Memory-clause-made g c some =
