@@ -55,11 +55,11 @@ fn forget_translations(mem: &mut OverlayMemory, space: u16)
     mem.set_speculating(space, false);
 }
 
-/// Settles a page: one without own lines stays; the own lines of one that is alone go into its frame; any other gets a new frame with
-/// its lines. The space is there, and no page of it awaits; the page is below 2^52. Speculating exactly where the space is, else
-/// Unmapped with the page's address exactly where it isn't there, else Full exactly where the units after it would exceed the limit.
-/// After an error everything is as before, and else
-/// the space has no translations any more. Takes no memory. Costs a copy of the page.
+/// Settles a page: one without own lines stays; the own lines of one that is alone go into its frame; any other gets a new frame
+/// with its lines. The space is there, and no page of it awaits; the page is below 2^52. Speculating exactly where the space is,
+/// else Unmapped with the page's address exactly where it isn't there, else Full exactly where the units after it would exceed the
+/// limit. After an error everything is as before, and else the space has no translations any more. Takes no memory. Costs a copy of
+/// the page.
 pub fn promote(mem: &mut OverlayMemory, space: u16, page: u64) -> Result<(), PromoteError>
     requires there { holds_space (state_of mem.old) space ≡ true }
     requires settled { (space_in (state_of mem.old) space).awaiting ≡ map.empty }
@@ -84,9 +84,9 @@ pub fn promote(mem: &mut OverlayMemory, space: u16, page: u64) -> Result<(), Pro
 }
 
 /// Settles each page of a space. The space is there, and no page of it awaits. Speculating exactly where the space is, else Full
-/// exactly where the units after it would exceed the limit; Unmapped never. After an error everything is as before, and else the space has no
-/// translations any more. No state on the way needs more units than the greater of those before and those after. Takes no memory. Costs a few look-ups for each page with
-/// own lines, a copy of each own line, and a page for each new frame.
+/// exactly where the units after it would exceed the limit; Unmapped never. After an error everything is as before, and else the
+/// space has no translations any more. No state on the way needs more units than the greater of those before and those after. Takes
+/// no memory. Costs a few look-ups for each page with own lines, a copy of each own line, and a page for each new frame.
 pub fn promote_all(mem: &mut OverlayMemory, space: u16) -> Result<(), PromoteError>
     requires there { holds_space (state_of mem.old) space ≡ true }
     requires settled { (space_in (state_of mem.old) space).awaiting ≡ map.empty }

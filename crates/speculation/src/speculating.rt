@@ -14,8 +14,8 @@ use promotion::{commit_alone, settle};
 
 /// Settles each page of a space, of which no page awaits, and marks the space as speculating: from then on its stores change no
 /// base. Speculating exactly where it is marked, else Full exactly where the units after it would exceed the limit; NotSpeculating
-/// never. After an error everything is as before, and else the space has no translations any more. Takes no memory. Costs a few look-ups for each page with own lines, a copy of
-/// each own line, and a page for each new frame.
+/// never. After an error everything is as before, and else the space has no translations any more. Takes no memory. Costs a few
+/// look-ups for each page with own lines, a copy of each own line, and a page for each new frame.
 pub fn start(mem: &mut OverlayMemory, space: u16) -> Result<(), SpeculationError>
     requires there { holds_space (state_of mem.old) space ≡ true }
     requires settled { (space_in (state_of mem.old) space).awaiting ≡ map.empty }
@@ -36,9 +36,9 @@ pub fn start(mem: &mut OverlayMemory, space: u16) -> Result<(), SpeculationError
 }
 
 /// The own lines of each page that is alone go into its frame, the other pages keep their overlays as ordinary ones, and the mark
-/// is taken away. NotSpeculating exactly where the space isn't marked; then everything is as before. Else the space
-/// has no translations any more. Never full. Takes no memory.
-/// Costs a few look-ups for each page with own lines, and a copy of each own line of those that are alone.
+/// is taken away. NotSpeculating exactly where the space isn't marked; then everything is as before. Else the space has no
+/// translations any more. Never full. Takes no memory. Costs a few look-ups for each page with own lines, and a copy of each own
+/// line of those that are alone.
 pub fn commit(mem: &mut OverlayMemory, space: u16) -> Result<(), SpeculationError>
     requires there { holds_space (state_of mem.old) space ≡ true }
     ensures commits { Commits mem.old mem.new space result }
@@ -54,9 +54,8 @@ pub fn commit(mem: &mut OverlayMemory, space: u16) -> Result<(), SpeculationErro
 }
 
 /// Every overlay of a space is given up, so that its base is what processes see, and the mark is taken away. NotSpeculating exactly
-/// where the space isn't marked; then everything is as before. Else the space
-/// has no translations any more. Never full. Takes no memory. Costs a few look-ups for each page with
-/// own lines.
+/// where the space isn't marked; then everything is as before. Else the space has no translations any more. Never full. Takes no
+/// memory. Costs a few look-ups for each page with own lines.
 pub fn discard(mem: &mut OverlayMemory, space: u16) -> Result<(), SpeculationError>
     requires there { holds_space (state_of mem.old) space ≡ true }
     ensures discards { Discards mem.old mem.new space result }

@@ -190,11 +190,17 @@ module _ {A : Type 0} where
       it_is : (x y : A) → Some x ≡ Some y → y ≡ x
       it_is x y is = cc
 
-      by_front : p % SETS ≡ page % SETS → found_in s p (entry_of space page held ∷ set_of page t) ≡ Some c
+      es : List (Entry A)
+      es = entry_of space page held ∷ set_of page t
+
+      renamed : (s ≡ space) × (p ≡ page) → found_in s p es ≡ found_in space page es
+      renamed same = ap (λ q. found_in q p es) same.0 ∙ ap (λ r. found_in space r es) same.1
+
+      by_front : p % SETS ≡ page % SETS → found_in s p es ≡ Some c
           → ((s ≡ space) × (p ≡ page) × (c ≡ held)) ⊎ (found s p t ≡ Some c)
       by_front set is =
           by_page space page s p
-          (λ same. inl (same.0, same.1, it_is held c (sym (found_first space page held (set_of page t)) ∙ sym (ap (λ q. found_in q p (entry_of space page held ∷ set_of page t)) same.0 ∙ ap (λ r. found_in space r (entry_of space page held ∷ set_of page t)) same.1) ∙ is)))
+          (λ same. inl (same.0, same.1, it_is held c (sym (found_first space page held (set_of page t)) ∙ sym (renamed same) ∙ is)))
           (λ other. inr (found_in_set s p page t set ∙ sym (found_behind s p (entry_of space page held) (set_of page t) (other_page space page s p held other)) ∙ is))
 
   -- a change of what an entry holds is found there, and nowhere else

@@ -258,7 +258,8 @@ module _ {A : Type 0} where
   unfolding flushed
   formed_flushed space t formed = record {
     count = length-map t.sets (without_space space) ∙ formed.count;
-    each = λ set. subst (IsSet set) (sym (math.get_or-map (without_space space) t.sets set [])) (set_left (λ (entry : Entry A). not (nat_eq entry.space space)) set (get_or t.sets set []) (formed.each set));
+    each = λ set. subst (IsSet set) (sym (math.get_or-map (without_space space) t.sets set []))
+        (set_left (λ (entry : Entry A). not (nat_eq entry.space space)) set (get_or t.sets set []) (formed.each set));
     hits_fit = formed.hits_fit;
     misses_fit = formed.misses_fit;
   }

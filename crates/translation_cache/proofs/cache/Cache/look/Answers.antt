@@ -9,7 +9,9 @@ pub invariant_of-self : goal.invariant_of-self
 invariant_of-self c =
     let t = translations_of c.self.inside.sets c.self.inside.hits c.self.inside.misses in
     subst IsFormed
-    (sym (hit_is t c.args.space c.args.page c.set_of.result c.saturating_add-self-inside.result c.in-Some.held c.look.new.self _ c.set_of.ensures.set (omega (arith, c.self.invariant.count, c.set_of.ensures.inside)) c.in-Some.ensures.found c.in-Some.ensures.raised c.saturating_add-self-inside.ensures))
+    (sym (hit_is t c.args.space c.args.page c.set_of.result c.saturating_add-self-inside.result c.in-Some.held c.look.new.self _
+    c.set_of.ensures.set (omega (arith, c.self.invariant.count, c.set_of.ensures.inside)) c.in-Some.ensures.found c.in-Some.ensures.raised
+    c.saturating_add-self-inside.ensures))
     (formed_looked c.args.space c.args.page t c.self.invariant)
 
 pub returns-in-Some-clause-found : goal.returns-in-Some-clause-found

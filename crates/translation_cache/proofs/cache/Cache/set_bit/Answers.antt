@@ -15,5 +15,6 @@ pub invariant_of-self : goal.invariant_of-self
 invariant_of-self c =
     let t = translations_of c.self.inside.sets c.self.inside.hits c.self.inside.misses in
     subst IsFormed
-    (sym (updated_is (cached_with c.args.line) t c.args.space c.args.page c.set_of.result c.set_bit.new.self _ c.set_of.ensures.set (omega (arith, c.self.invariant.count, c.set_of.ensures.inside)) c.set_bit.ensures))
+    (sym (updated_is (cached_with c.args.line) t c.args.space c.args.page c.set_of.result c.set_bit.new.self _ c.set_of.ensures.set
+    (omega (arith, c.self.invariant.count, c.set_of.ensures.inside)) c.set_bit.ensures))
     (formed_updated (cached_with c.args.line) c.args.space c.args.page t c.self.invariant)
