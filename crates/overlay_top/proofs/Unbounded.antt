@@ -16,11 +16,8 @@ use Rattle.overlay_top.specs.Ends.{EndsWith, World}
 
 -- A report without a line of `full` is that of the unbounded machine.
 
-SaysNoFull : RunOutcome → Type 0
+abbrev SaysNoFull : RunOutcome → Type 0
 SaysNoFull outcome = has_full_line (report_of outcome) ≡ false
-
-abbrev passage_with : FileAsked → List ℕ → Passage → Passage
-passage_with asked text passage = record { text = text; wants_memory = passage.wants_memory }
 
 same_passage : (asked : FileAsked) (x : Performed State) (y : Performed Unbounded) (counts : List (List ℕ)) → PerformedSame counts x y
     → passage_of asked x ≡ passage_of asked y
@@ -75,6 +72,7 @@ module _ (quantum : ℕ) (files : List ℕ → Option (List ℕ)) where
 
   runs_same : (commands : List Command) (state : State) → SaysNoFull (run_from quantum commands state files)
       → run_from quantum commands state files ≡ runs_there commands state
+  unfolding stats_from
   runs_same [] state none = refl
   runs_same (command ∷ commands) state none =
       asked_same command commands state (runs_same commands) (file_asked files command) none
