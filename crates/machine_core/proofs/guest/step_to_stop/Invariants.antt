@@ -1,0 +1,26 @@
+use Rattle.std.proofs.Common.{◌≡◌, ◌-◌, ◌≤◌, true}
+use Rattle.ovl_io.specs.declared.process_state.ProcessState.TheVariants.{Running}
+use Rattle.space_maps.specs.Spaces.{holds_space}
+use Rattle.machine_core.specs.Access.{IsInHand, spaces_lent}
+use Rattle.machine_core.specs.Executions.{executions}
+use Rattle.machine_core.specs.Kept.{IsBeside, guest_lent}
+use Rattle.machine_core.proofs.Stepping.{behind}
+use Rattle.machine_core.proofs.guest.step_to_stop.Given as goal
+
+-- those so far were steps, in the space that was lent
+abbrev pub invariant-stepping : goal.invariant-stepping
+invariant-stepping l = record {
+  loan : l.view.memory.ghost_name ≡ l.fn.view.memory.ghost_name;
+  space : l.view.space ≡ l.fn.view.space;
+  there : holds_space (spaces_lent l.view) l.fn.view.space ≡ true;
+  in_hand : IsInHand l.view.memory.now.pages l.view.space l.view.code;
+  all : executions l.stops l.fn.view.space l.most (guest_lent l.fn.view l.fn.process)
+      ≡ behind l.steps (executions l.stops l.fn.view.space (l.most - l.steps) (guest_lent l.view l.process));
+  running : l.process.state ≡ Running;
+  saved : l.process.saved ≡ l.fn.process.saved;
+  beside : IsBeside l.fn.view.space (spaces_lent l.fn.view) (spaces_lent l.view);
+  within : l.steps ≤ l.most;
+}
+
+abbrev pub decreases-stepping : goal.decreases-stepping
+decreases-stepping l = l.most - l.steps
