@@ -39,7 +39,7 @@ use Rattle.translation_cache.specs.Translations.{flushed}
 use Rattle.command_core.specs.declared.overlays.OverlayChange.TheVariants.{Map, Unmap}
 use Rattle.command_core.specs.State.{Registry}
 use Rattle.command_core.specs.Sessions.{KeepsSession}
-use Rattle.command_core.specs.Rows.{Row, first_refusal, ledger_by}
+use Rattle.command_core.specs.Rows.{Row, first_refusal}
 use Rattle.command_core.specs.Refusals.{are_too_many, has_page, lacks_page, lie_outside, lowest, map_refusals, place_refusals, unmap_refusals}
 use Rattle.command_core.specs.Mapping.{FindsGap, FindsPage, RefusesMap, RefusesUnmap}
 use Rattle.command_core.specs.Overlays.{ChangesOverlays, overlay_row, pages_gone, pages_mapped, with_pages}

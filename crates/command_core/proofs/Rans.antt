@@ -1,4 +1,4 @@
-use Rattle.std.proofs.Common.{◌≡◌, ℕ, suc, ◌+◌, ◌-◌, ◌<◌, ◌≤◌, ◌==◌, ◌||◌, Bool, true, false, cond, List, [], ◌∷◌, ◌++◌, sym, ap, subst, ◌∙◌, refl, arith, append_assoc, Option, Some, None, nat_lt, ◌⊎◌, inl, inr}
+use Rattle.std.proofs.Common.{◌≡◌, ℕ, suc, ◌+◌, ◌-◌, ◌<◌, ◌≤◌, ◌==◌, Bool, true, false, cond, List, [], ◌++◌, sym, ap, subst, ◌∙◌, refl, arith, append_assoc, Option, Some, None, nat_lt, ◌⊎◌, inl, inr}
 use Rattle.std.specs.Option.{option_map_or, option_or}
 use Rattle.std.proofs.lemmas.Bool.Decides.{nat_tests}
 use Rattle.std.specs.Prelude.{flat_map}
@@ -7,11 +7,7 @@ use Rattle.ovl_io.specs.declared.turn.Turn.TheVariants as turn
 use Rattle.breakpoints.specs.Breakpoints.{Breaks}
 use Rattle.machine_core.specs.Machine.{AreLike, Wholes}
 use Rattle.machine_core.specs.Laws.{like_itself}
-use Rattle.ovl_io.specs.Memory.{Access, Memory, denied_at}
-use Rattle.rv_execute.specs.Registers.{Registers, register}
-use Rattle.rv_execute.specs.Step.{Request, buffered, request, write_count}
-use Rattle.rv_execute.specs.Calls.{load_at}
-use Rattle.machine_core.specs.Turns.{Guest, after_turn, asked_found, guest_at, turn_asked, turn_of}
+use Rattle.machine_core.specs.Turns.{after_turn, turn_of}
 use Rattle.machine_core.specs.Ample.{is_full_turn}
 use Rattle.command_core.specs.declared.turns.Order.{Order}
 use Rattle.report_text.specs.declared.answer.Stop.{Stop}

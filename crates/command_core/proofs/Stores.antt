@@ -27,7 +27,7 @@ use Rattle.report_text.specs.declared.answer.Code.{Code}
 use Rattle.report_text.specs.declared.answer.Code.TheVariants.{Forbidden, Unmapped}
 use Rattle.command_core.specs.State.{Registry}
 use Rattle.command_core.specs.Sessions.{KeepsSession}
-use Rattle.command_core.specs.Rows.{Row, first_refusal, is_event_full, ledger_by}
+use Rattle.command_core.specs.Rows.{Row, first_refusal, is_event_full}
 use Rattle.command_core.specs.Giving.{MachineGives}
 use Rattle.command_core.specs.Overlays.{with_pages}
 use Rattle.command_core.specs.Debugging.{poke_answer, poke_refused, poke_row}

@@ -1,12 +1,11 @@
-use Rattle.std.specs.Prelude.{◌≡◌, ℕ, ◌&&◌, nat_lt, Bool, true, false, cond, List, [], Option, Some, None, refl}
-use Rattle.std.proofs.Common.{sym, ap, subst, ◌∙◌}
+use Rattle.std.specs.Prelude.{◌≡◌, ℕ, ◌&&◌, Bool, true, false, cond, List, [], Option, Some, None, refl}
+use Rattle.std.proofs.Common.{ap, ◌∙◌}
 use Rattle.std.specs.Option.{option_map_or}
 use Rattle.std.specs.FinMap.{get}
 use Rattle.ledger.specs.Events as event
 use Rattle.ledger.specs.AmpleLaws.{AreAmple}
 use Rattle.machine_core.specs.Ample.{within_ample}
 use Rattle.machine_core.specs.Process.{Process, Whole}
-use Rattle.machine_core.specs.Machine.{limit_of}
 use Rattle.report_text.specs.declared.answer.Answer.{Answer}
 use Rattle.report_text.specs.declared.answer.Answer.TheVariants.{Done, Loaded, Forked, Saved, Refused, Full, Memory}
 use Rattle.report_text.specs.declared.answer.Code.{Code}
@@ -17,7 +16,7 @@ use Rattle.command_core.specs.declared.overlays.OverlayChange.{OverlayChange}
 use Rattle.command_core.specs.declared.overlays.OverlayChange.TheVariants.{Speculate, Commit, Discard, Promote, PromoteAll, Map, Unmap, Set}
 use Rattle.command_core.specs.State.{Checkpoint, Registry, State, registry_of}
 use Rattle.command_core.specs.Sessions.{InSession}
-use Rattle.command_core.specs.Rows.{Row, accepts, change_by, event_needs, falls_short, first_refusal, is_full, ledger_by, plain_row, refused_row, refuses}
+use Rattle.command_core.specs.Rows.{Row, accepts, change_by, falls_short, first_refusal, is_full, ledger_by, plain_row, refused_row, refuses}
 use Rattle.command_core.specs.Giving.{ComesTo}
 use Rattle.command_core.specs.Changes.{change_row, drop_row, load_row, on_process}
 use Rattle.command_core.specs.Copies.{fork_row}

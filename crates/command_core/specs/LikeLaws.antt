@@ -10,7 +10,7 @@ use Rattle.ledger.specs.Alike.{AreAlike}
 use Rattle.ledger.specs.AlikeUnits.{lines_alike, units_alike}
 use Rattle.ledger.specs.RowLaws.{alike_after}
 use Rattle.machine_core.specs.Process.{Process, runs}
-use Rattle.machine_core.specs.Machine.{AreLike, Processes, Wholes, limit_of, running_among, running_numbers}
+use Rattle.machine_core.specs.Machine.{AreLike, Processes, Wholes, limit_of, running_among}
 use Rattle.machine_core.specs.Turns.{after_turn, turn_of}
 use Rattle.machine_core.specs.Laws.{like_after_turn, like_chain, like_itself, like_running, like_turn}
 use Rattle.round_robin.specs.Turns.{next_number}
@@ -230,7 +230,10 @@ module _ (row : Row) (a b : State) (like : AreLikeStates a b) where
             frames = like.wholes.frames;
             translations = ap (flushed_by row.flushes) like.wholes.translations;
           };
-          checkpoints = refl; breakpoints = refl; drawn = refl };
+          checkpoints = refl;
+          breakpoints = refl;
+          drawn = refl;
+        };
       }
   like_within true false same = cc
   like_within false true same = cc

@@ -1,7 +1,7 @@
-use Rattle.std.specs.Prelude.{◌≡◌, ℕ, zero, suc, ◌+◌, ◌-◌, ◌*◌, not, Bool, true, false, cond, List, [], ◌∷◌, ◌++◌, flat_map, Option, Some, None, refl}
+use Rattle.std.specs.Prelude.{◌≡◌, ℕ, zero, suc, ◌+◌, ◌-◌, ◌*◌, Bool, true, false, cond, List, [], ◌∷◌, ◌++◌, flat_map, Option, Some, None, refl}
 use Rattle.std.proofs.Common.{sym, ap, subst, ◌∙◌, append_assoc}
 use Rattle.std.specs.Option.{is_some, option_map, option_map_or}
-use Rattle.std.specs.FinMap.{entries, get, insert}
+use Rattle.std.specs.FinMap.{get, insert}
 use Rattle.breakpoints.specs.Breakpoints.{Breaks}
 use Rattle.ovl_io.specs.Memory.{Memory as Contents, first_denied}
 use Rattle.ovl_io.specs.declared.turn.Turn.{Turn}
@@ -9,7 +9,7 @@ use Rattle.ovl_io.specs.declared.turn.Turn.TheVariants as turn
 use Rattle.rv_execute.specs.Registers.{Registers}
 use Rattle.machine_core.specs.Process.{Process, is_speculating, runs}
 use Rattle.machine_core.specs.Machine.{Processes, Wholes, limit_of}
-use Rattle.machine_core.specs.Turns.{Guest, after_turn, guest_after, guest_at, guest_of, guest_refused, guest_stepped, is_full, process_after, step_of, turn_in, turn_of, units_needed, with_guest}
+use Rattle.machine_core.specs.Turns.{after_turn, guest_after, guest_of, guest_refused, guest_stepped, is_full, process_after, step_of, turn_in, turn_of, units_needed, with_guest}
 use Rattle.machine_core.specs.Ample.{is_full_turn, step_fits}
 use Rattle.report_text.specs.declared.answer.Answer.{Answer}
 use Rattle.report_text.specs.declared.answer.Answer.TheVariants.{Done, Loaded, Forked, Saved, Refused, Full, Memory}
@@ -18,12 +18,12 @@ use Rattle.report_text.specs.declared.answer.Code.TheVariants.{Ended, NoProcess,
 use Rattle.report_text.specs.declared.answer.Stop.{Stop}
 use Rattle.report_text.specs.declared.answer.Stop.TheVariants as stop
 use Rattle.report_text.specs.Answers.{answer_text, stop_text, turn_text}
-use Rattle.report_text.specs.FullLines.{AreLines, answer_lines, answer_shows, behind_lines, ends_checkpoint, ends_disasm, ends_dump, ends_list, ends_process, ends_register, ends_regs, ends_stats, has_full_line, lines_both, no_lines, stop_lines, turn_lines, turn_shows}
+use Rattle.report_text.specs.FullLines.{AreWholeLines, answer_lines, answer_shows, behind_lines, ends_checkpoint, ends_disasm, ends_dump, ends_list, ends_process, ends_register, ends_regs, ends_stats, has_full_line, lines_both, no_lines, stop_lines, turn_lines, turn_shows}
 use Rattle.script_text.specs.declared.command.Command.{Command}
 use Rattle.script_text.specs.declared.command.Command.TheVariants as command
 use Rattle.command_core.specs.declared.TheConstants.{WORD_BYTES}
-use Rattle.command_core.specs.State.{Checkpoint, Registry, State, registry_of}
-use Rattle.command_core.specs.Rows.{Changed, MemoryTaken, Row, TakesFirst, TakesLast, TakesNone, accepts, change_by, event_needs, falls_short, first_refusal, is_full as is_row_full, may_want_memory, refuses, wants_by, within_units}
+use Rattle.command_core.specs.State.{Registry, State, registry_of}
+use Rattle.command_core.specs.Rows.{Changed, MemoryTaken, Row, TakesFirst, TakesLast, TakesNone, accepts, change_by, event_needs, falls_short, first_refusal, is_full as is_row_full, may_want_memory, refuses, wants_by}
 use Rattle.command_core.specs.Changes.{change_row, load_row}
 use Rattle.command_core.specs.Turns.{Progress, Ran, alone, by_turns, event_then, first_event, last_break, next_of, ran, ran_by, ran_from, ran_text, rest_of, run_after, stopped, turns_by, unless_broken}
 use Rattle.command_core.specs.Commands.{Performed, checkpoint_text, checkpoints_text, disasm_text, dump_from, dump_text, exec_done, exec_turns, list_head, list_text, performed, performed_by, printed, prints_of, prints_read, process_text, processes_text, registers_from, regs_head, regs_of, regs_text, row_told, rules, stats_text, steps, takes_turns, told}
@@ -115,7 +115,7 @@ full_shows : (p units limit : ℕ) (others : Ran Wholes) (state : Wholes) (run :
 full_shows p units limit others state run behind none =
     let all = stopped stop.Full state run in
     let shown : has_full_line (ran_text (first_event p (turn.Full units limit) all) ++ behind) ≡ true =
-        ap has_full_line (text_first p (turn.Full units limit) all behind) ∙ turn_shows p units limit (ran_text all ++ behind) in
+    ap has_full_line (text_first p (turn.Full units limit) all behind) ∙ turn_shows p units limit (ran_text all ++ behind) in
     let both : true ≡ false = sym shown ∙ none in
     cc
 
@@ -310,13 +310,13 @@ module _ (counts : List (List ℕ)) (behind : List ℕ) (file : List ℕ) (turns
   same_exec : ShowsNoFull (exec_done rules file turns state) behind → PerformedSame counts (exec_done rules file turns state) (exec_done unbounded file turns here)
   same_exec none =
       let apart : has_full_line (answer_text loaded.answer ++ (rest.text ++ behind)) ≡ false =
-          sym (ap has_full_line (append_assoc (answer_text loaded.answer) rest.text behind)) ∙ none in
+      sym (ap has_full_line (append_assoc (answer_text loaded.answer) rest.text behind)) ∙ none in
       let first = changed_same counts (rest.text ++ behind) (load_row file (registry_of state)) state apart in
       let left = behind_lines (answer_text loaded.answer) (rest.text ++ behind) (answer_lines loaded.answer) apart in
       let next = same_exec_turns counts behind turns loaded.answer loaded.after left in
       let there : PerformedSame counts rest (exec_turns unbounded turns loaded_here.answer loaded_here.after) =
-          subst (λ a. PerformedSame counts rest (exec_turns unbounded turns a loaded_here.after)) first.0.answer_is
-          (subst (λ u. PerformedSame counts rest (exec_turns unbounded turns loaded.answer u)) first.0.left next) in
+      subst (λ a. PerformedSame counts rest (exec_turns unbounded turns a loaded_here.after)) first.0.answer_is
+      (subst (λ u. PerformedSame counts rest (exec_turns unbounded turns loaded.answer u)) first.0.left next) in
       record {
         text = ap (λ a. answer_text a ++ rest.text) first.0.answer_is ∙ ap (λ t. answer_text loaded_here.answer ++ t) there.text;
         after = there.after;
@@ -324,14 +324,14 @@ module _ (counts : List (List ℕ)) (behind : List ℕ) (file : List ℕ) (turns
       }
 
 -- the lines of counts that a command prints, before others
-abbrev pub counted : Command → State → List (List ℕ) → List (List ℕ)
-counted command.Stats state counts = stats_text state ∷ counts
-counted other state counts = counts
+abbrev pub with_stats : Command → State → List (List ℕ) → List (List ℕ)
+with_stats command.Stats state counts = stats_text state ∷ counts
+with_stats other state counts = counts
 
 -- Where a command's text has no line of `full`, it comes to what it comes to in the unbounded machine.
 pub same_performed : (counts : List (List ℕ)) (behind : List ℕ) (quantum : ℕ) (file : List ℕ) (c : Command) (state : State)
     → ShowsNoFull (performed quantum file c state) behind
-    → PerformedSame counts (performed quantum file c state) (performed_by unbounded quantum file c (unbounded_of (counted c state counts) state))
+    → PerformedSame counts (performed quantum file c state) (performed_by unbounded quantum file c (unbounded_of (with_stats c state counts) state))
 same_performed counts behind quantum file (command.Exec x y) state none = same_exec counts behind file y state none
 same_performed counts behind quantum file (command.Run x) state none = same_takes counts behind (by_turns quantum x) state none
 same_performed counts behind quantum file (command.Step x y) state none = same_steps counts behind x y (get state.wholes.processes x) state none
@@ -363,29 +363,29 @@ same_performed counts behind quantum file (command.Unbreak x y) state none = sam
 
 -- Each command's text is whole lines, or none.
 
-lines_of : {A : Type 0} (text : A → List ℕ) → ((x : A) → AreLines (text x)) → (xs : List A) → AreLines (flat_map text xs)
+lines_of : {A : Type 0} (text : A → List ℕ) → ((x : A) → AreWholeLines (text x)) → (xs : List A) → AreWholeLines (flat_map text xs)
 lines_of text each [] = no_lines
 lines_of text each (x ∷ xs) = lines_both (text x) (flat_map text xs) (each x) (lines_of text each xs)
 
-ran_lines : {M : Type 0} (r : Ran M) → AreLines (ran_text r)
+ran_lines : {M : Type 0} (r : Ran M) → AreWholeLines (ran_text r)
 ran_lines r = lines_both _ (stop_text r.taken r.stop) (lines_of _ (λ event. turn_lines event.0 event.1) r.events) (stop_lines r.taken r.stop)
 
-register_lines : (registers : Registers) (i n : ℕ) → AreLines (registers_from registers i n)
+register_lines : (registers : Registers) (i n : ℕ) → AreWholeLines (registers_from registers i n)
 unfolding registers_from
 register_lines registers i zero = no_lines
 register_lines registers i (suc n) = lines_both _ (registers_from registers (i + 1) n) (ends_register i _ true) (register_lines registers (i + 1) n)
 
-dump_lines : (rows : ℕ) (memory : Contents) (address count : ℕ) → AreLines (dump_from rows memory address count)
+dump_lines : (rows : ℕ) (memory : Contents) (address count : ℕ) → AreWholeLines (dump_from rows memory address count)
 unfolding dump_from
 dump_lines zero memory address count = no_lines
 dump_lines (suc rows) memory address count = lines_both _ _ (ends_dump address _ true) (dump_lines rows memory _ _)
 
-disasm_lines : (memory : Contents) (address words : ℕ) → AreLines (disasm_text memory address words)
+disasm_lines : (memory : Contents) (address words : ℕ) → AreWholeLines (disasm_text memory address words)
 unfolding disasm_text
 disasm_lines memory address zero = no_lines
 disasm_lines memory address (suc words) = lines_both _ _ (ends_disasm address _ true) (disasm_lines memory (address + WORD_BYTES) words)
 
-list_lines : (registry : Registry) → AreLines (list_text registry)
+list_lines : (registry : Registry) → AreWholeLines (list_text registry)
 unfolding list_head process_text checkpoint_text
 list_lines registry =
     lines_both (list_head registry) _ (ends_list _ _ true)
@@ -393,31 +393,31 @@ list_lines registry =
     (lines_of process_text (λ entry. ends_process entry.0 entry.1.state (is_speculating entry.1) _ true) _)
     (lines_of checkpoint_text (λ checkpoint. ends_checkpoint checkpoint.name checkpoint.space _ true) _))
 
-regs_lines : (p : ℕ) (o : Option Process) (state : State) → AreLines (regs_of p o state).text
+regs_lines : (p : ℕ) (o : Option Process) (state : State) → AreWholeLines (regs_of p o state).text
 unfolding regs_head
 regs_lines p None state = answer_lines (Refused NoProcess)
 regs_lines p (Some process) state =
     lines_both (regs_head p process) _ (ends_regs p process.state (is_speculating process) true) (register_lines process.registers 0 32)
 
-read_lines : (text : Contents → List ℕ) → ((memory : Contents) → AreLines (text memory)) → (memory : Contents) (o : Option ℕ) (state : State)
-    → AreLines (prints_read text memory o state).text
+read_lines : (text : Contents → List ℕ) → ((memory : Contents) → AreWholeLines (text memory)) → (memory : Contents) (o : Option ℕ) (state : State)
+    → AreWholeLines (prints_read text memory o state).text
 read_lines text each memory None state = each memory
 read_lines text each memory (Some at) state = answer_lines (Refused (Unmapped at))
 
-prints_lines : (address n : ℕ) (text : Contents → List ℕ) → ((memory : Contents) → AreLines (text memory)) → (o : Option Process) (state : State)
-    → AreLines (prints_of address n text o state).text
+prints_lines : (address n : ℕ) (text : Contents → List ℕ) → ((memory : Contents) → AreWholeLines (text memory)) → (o : Option Process) (state : State)
+    → AreWholeLines (prints_of address n text o state).text
 prints_lines address n text each None state = answer_lines (Refused NoProcess)
 prints_lines address n text each (Some process) state = read_lines text each process.memory (first_denied process.memory 0 address n) state
 
-running_lines : (p turns : ℕ) (state : State) (runs : Bool) → AreLines (cond runs (takes_turns (alone p turns) state) (told false (refuses Ended state))).text
+running_lines : (p turns : ℕ) (state : State) (runs : Bool) → AreWholeLines (cond runs (takes_turns (alone p turns) state) (told false (refuses Ended state))).text
 running_lines p turns state true = ran_lines (ran_from state.breakpoints state.wholes (alone p turns))
 running_lines p turns state false = answer_lines (Refused Ended)
 
-steps_lines : (p turns : ℕ) (o : Option Process) (state : State) → AreLines (steps rules p turns o state).text
+steps_lines : (p turns : ℕ) (o : Option Process) (state : State) → AreWholeLines (steps rules p turns o state).text
 steps_lines p turns None state = answer_lines (Refused NoProcess)
 steps_lines p turns (Some process) state = running_lines p turns state (runs process.state)
 
-exec_turns_lines : (turns : ℕ) (answer : Answer) (state : State) → AreLines (exec_turns rules turns answer state).text
+exec_turns_lines : (turns : ℕ) (answer : Answer) (state : State) → AreWholeLines (exec_turns rules turns answer state).text
 exec_turns_lines turns (Loaded p pages entry) state = ran_lines (ran_from state.breakpoints state.wholes (alone p turns))
 exec_turns_lines turns Done state = no_lines
 exec_turns_lines turns (Forked p q) state = no_lines
@@ -426,11 +426,11 @@ exec_turns_lines turns (Refused code) state = no_lines
 exec_turns_lines turns (Full units limit) state = no_lines
 exec_turns_lines turns Memory state = no_lines
 
-stats_lines : (state : State) → AreLines (stats_text state)
+stats_lines : (state : State) → AreWholeLines (stats_text state)
 unfolding stats_text
 stats_lines state = ends_stats _ _ _ _ _ true
 
-pub performed_lines : (quantum : ℕ) (file : List ℕ) (c : Command) (state : State) → AreLines (performed quantum file c state).text
+pub performed_lines : (quantum : ℕ) (file : List ℕ) (c : Command) (state : State) → AreWholeLines (performed quantum file c state).text
 performed_lines quantum file (command.Exec x y) state =
     let loaded = change_by (load_row file (registry_of state)) state in
     lines_both (answer_text loaded.answer) _ (answer_lines loaded.answer) (exec_turns_lines y loaded.answer loaded.after)

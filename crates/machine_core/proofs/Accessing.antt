@@ -29,7 +29,7 @@ use Rattle.rv_execute.specs.CallLaws.{are_tried}
 use Rattle.machine_core.specs.Tried.{each_counted, tried_counted}
 use Rattle.machine_core.specs.Access.{IsSameLoan, IsStoredBy, IsUnchanged, Leaves, lists_after, lists_lent, spaces_lent}
 use Rattle.machine_core.specs.Turns.{Guest, executed, execution_of, exceeds, guest_executed, guest_refused, is_full, ledger_executed, ledger_stored, outcome_of, state_executed, store_made, store_of, translations_executed, units_needed}
-use Rattle.machine_core.specs.Kept.{IsBeside, guest_in, guest_lent, guest_seen}
+use Rattle.machine_core.specs.Kept.{IsBeside, guest_lent, guest_seen}
 
 -- What the calls of one instruction make of the memory of all spaces.
 
@@ -95,7 +95,6 @@ carried : (calls : List Call) (old next new : View) (full : Option (ℕ × ℕ))
     → IsSameLoan old new × Came old.space (spaces_lent old) (spaces_lent new) (store_made (memory_of (spaces_lent old) old.space) calls) full
     × (lists_lent new ≡ each_counted old.space (memory_of (spaces_lent old) old.space) calls (lists_after old access))
 carried calls old next new full access (same, kept, counts) done = (
-
   record { loan = done.same.loan ∙ same.loan; space = done.same.space ∙ same.space },
   subst (λ (s : State). Came old.space s (spaces_lent new) (store_made (memory_of s old.space) calls) full) kept
       (subst (λ p. Came p (spaces_lent next) (spaces_lent new) (store_made (memory_of (spaces_lent next) p) calls) full) same.space done.came),

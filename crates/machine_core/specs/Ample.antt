@@ -3,7 +3,6 @@ use Rattle.std.proofs.Common.{ap, ◌∙◌, arith}
 use Rattle.std.proofs.lemmas.Bool.Decides.{nat_tests}
 use Rattle.std.specs.Option.{option_map, option_map_or}
 use Rattle.std.specs.FinMap.{get}
-use Rattle.sizes.specs.declared.TheConstants.{FRAME_UNITS}
 use Rattle.ledger.specs.Ledger.{Ledger}
 use Rattle.ledger.specs.Units.{units}
 use Rattle.ledger.specs.AmpleLaws.{AreAmple, ample_suffices}

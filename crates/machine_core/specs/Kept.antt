@@ -13,7 +13,6 @@ use Rattle.space_maps.specs.Spaces.{holds_space, space_in}
 use Rattle.machine_core.specs.Process.{runs}
 use Rattle.machine_core.specs.Machine.{KeepsPlaces, Machine, StaysBut, Wholes, whole_in, wholes}
 use Rattle.machine_core.specs.Turns.{Guest}
-use Rattle.machine_core.specs.Access.{spaces_lent}
 use Rattle.machine_core.specs.declared.view.View.{View}
 use Rattle.machine_core.specs.declared.process.Process as declared
 

@@ -3,7 +3,7 @@ use Rattle.std.proofs.Common.{sym, ap, subst, ◌∙◌}
 use Rattle.std.specs.Option.{option_map, option_map_or, unwrap_or}
 use Rattle.std.specs.FinMap.{FinMap, get, insert, remove}
 use Rattle.std.specs.Ordering.{nat_cmp}
-use Rattle.number_maps.specs.Keys.{alike, by_key, get_same, insert_kept, insert_over}
+use Rattle.number_maps.specs.Keys.{alike, by_key, get_same, insert_over}
 use Rattle.number_maps.specs.Views.{get_viewed, viewed, viewed_gone, viewed_put}
 use Rattle.ledger.specs.Ledger.{Ledger}
 use Rattle.ledger.specs.Alike.{AreAlike}
@@ -434,7 +434,7 @@ module _ (all : Wholes) (p : ℕ) (process : Process) (there : get all.processes
         let found : get (left_by left tried).processes p ≡ Some left = get_same all.processes p p left refl in
         let asks : Request = request p e.registers e.memory in
         let counts : counted p process.memory (accesses_by Asks) all.translations ≡ counted p e.memory asks.accesses tried =
-            asked_counted (is ∙ same) asks.accesses in
+        asked_counted (is ∙ same) asks.accesses in
         record {
           turn_is = turn_by Asks (is ∙ same)
               ∙ sym (ap (λ (s : Wholes). turn_asked s p) now ∙ ap (λ (o : Option Process). asked_found p (option_map (guest_of (left_by left tried)) o)) found);

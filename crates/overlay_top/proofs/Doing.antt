@@ -1,4 +1,4 @@
-use Rattle.std.proofs.Common.{◌≡◌, ℕ, List, sym, ap, refl, Option, Some, None, Result, Ok, Err}
+use Rattle.std.proofs.Common.{◌≡◌, ℕ, List, sym, refl, Option, Some, None, Result, Ok, Err}
 use Rattle.ovl_io.specs.Memory.{Memory}
 use Rattle.ovl_io.specs.declared.sink.Sink.{Ghosts as SinkOf}
 use Rattle.machine_core.specs.Process.{Process}

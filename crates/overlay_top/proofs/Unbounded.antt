@@ -7,11 +7,11 @@ use Rattle.report_text.specs.FullLines.{behind_lines, has_full_line}
 use Rattle.command_core.specs.State.{State, fresh}
 use Rattle.command_core.specs.Commands.{FileAsked, AsksNothing, HasFile, IsMissing, IsTooLong, Performed, file_asked, file_in, performed, performed_by}
 use Rattle.command_core.specs.Unbounded.{Unbounded, unbounded}
-use Rattle.command_core.specs.UnboundedLaws.{PerformedSame, counted, performed_lines, same_performed, unbounded_of}
+use Rattle.command_core.specs.UnboundedLaws.{PerformedSame, with_stats, performed_lines, same_performed, unbounded_of}
 use Rattle.overlay_top.specs.declared.words.Settings.{Settings}
 use Rattle.overlay_top.specs.Words.{settings_of}
-use Rattle.overlay_top.specs.Outcome.{Asking, Passage, RunOutcome, SaysCommands, SaysOutside, SaysTooMuch, ScriptSays, asks_file, chosen_files, chosen_script, command_done, done, outcome_set, passage_of, report_of, run_by, run_from, run_outcome, said, said_outcome, says_by, texts_of, with_asked}
-use Rattle.overlay_top.specs.Unbounded.{EndsUnbounded, run_unbounded, unbounded_outcome, unbounded_set}
+use Rattle.overlay_top.specs.Outcome.{Asking, RunOutcome, SaysCommands, SaysOutside, SaysTooMuch, ScriptSays, asks_file, chosen_files, chosen_script, command_done, done, outcome_set, passage_of, report_of, run_by, run_from, run_outcome, said, said_outcome, says_by, texts_of, with_asked}
+use Rattle.overlay_top.specs.Unbounded.{EndsUnbounded, run_unbounded, unbounded_set}
 use Rattle.overlay_top.specs.Ends.{EndsWith, World}
 
 -- A report without a line of `full` is that of the unbounded machine.
@@ -29,7 +29,7 @@ module _ (quantum : ℕ) (files : List ℕ → Option (List ℕ)) where
   -- the lines of `stats`, one after the other
   stats_from : List Command → State → List (List ℕ)
   stats_from [] state = []
-  stats_from (command ∷ commands) state = counted command state (stats_from commands (command_done quantum files command state).after)
+  stats_from (command ∷ commands) state = with_stats command state (stats_from commands (command_done quantum files command state).after)
 
   abbrev runs_there : List Command → State → RunOutcome
   runs_there commands state = run_by unbounded quantum commands (unbounded_of (stats_from commands state) state) files
@@ -41,17 +41,17 @@ module _ (quantum : ℕ) (files : List ℕ → Option (List ℕ)) where
         → SaysNoFull (done (passage_of asked (performed quantum file command state)) (run_from quantum commands (performed quantum file command state).after files))
         → done (passage_of asked (performed quantum file command state)) (run_from quantum commands (performed quantum file command state).after files)
         ≡ done (passage_of asked (performed_by unbounded quantum file command
-        (unbounded_of (counted command state (stats_from commands (performed quantum file command state).after)) state)))
+        (unbounded_of (with_stats command state (stats_from commands (performed quantum file command state).after)) state)))
         (run_by unbounded quantum commands (performed_by unbounded quantum file command
-        (unbounded_of (counted command state (stats_from commands (performed quantum file command state).after)) state)).after files)
+        (unbounded_of (with_stats command state (stats_from commands (performed quantum file command state).after)) state)).after files)
     done_same asked file none =
         let here = performed quantum file command state in
         let rest = run_from quantum commands here.after files in
         let lines = stats_from commands here.after in
         let apart : has_full_line (here.text ++ report_of rest) ≡ false =
-            sym (ap has_full_line (append_assoc here.text (texts_of rest.passages) rest.last.text)) ∙ none in
+        sym (ap has_full_line (append_assoc here.text (texts_of rest.passages) rest.last.text)) ∙ none in
         let same = same_performed lines (report_of rest) quantum file command state apart in
-        let there = performed_by unbounded quantum file command (unbounded_of (counted command state lines) state) in
+        let there = performed_by unbounded quantum file command (unbounded_of (with_stats command state lines) state) in
         let left = others here.after (behind_lines here.text (report_of rest) (performed_lines quantum file command state) apart) in
         ap (λ passage. done passage rest) (same_passage asked here there lines same)
         ∙ ap (done (passage_of asked there)) (left ∙ ap (λ u. run_by unbounded quantum commands u files) same.after)
@@ -62,9 +62,9 @@ module _ (quantum : ℕ) (files : List ℕ → Option (List ℕ)) where
         → with_asked asked (passage_of asked (performed quantum (file_in asked) command state))
         (run_from quantum commands (performed quantum (file_in asked) command state).after files)
         ≡ with_asked asked (passage_of asked (performed_by unbounded quantum (file_in asked) command
-        (unbounded_of (counted command state (stats_from commands (performed quantum (file_in asked) command state).after)) state)))
+        (unbounded_of (with_stats command state (stats_from commands (performed quantum (file_in asked) command state).after)) state)))
         (run_by unbounded quantum commands (performed_by unbounded quantum (file_in asked) command
-        (unbounded_of (counted command state (stats_from commands (performed quantum (file_in asked) command state).after)) state)).after files)
+        (unbounded_of (with_stats command state (stats_from commands (performed quantum (file_in asked) command state).after)) state)).after files)
     asked_same AsksNothing none = done_same AsksNothing [] none
     asked_same (HasFile file) none = done_same (HasFile file) file none
     asked_same IsMissing none = refl

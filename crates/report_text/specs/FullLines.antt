@@ -13,7 +13,7 @@ use Rattle.report_text.specs.Digits.{in_decimal, address_text, hex_places, word_
 use Rattle.report_text.specs.Names.{kind_text, code_text, stop_word}
 use Rattle.report_text.specs.Texts.{bytes_text, port_text, state_text, pages_text, dumped_text}
 use Rattle.report_text.specs.Instructions.{instruction_text}
-use Rattle.report_text.specs.Lines.{loaded_line, forked_line, saved_line, refused_line, full_line, bad_line, wrote_line, exited_line, faulted_line, full_turn_line, break_line, ran_line, list_line, process_line, checkpoint_line, stats_line, regs_line, register_name, register_line, dump_line, disasm_line}
+use Rattle.report_text.specs.Lines.{loaded_line, forked_line, saved_line, refused_line, full_line, wrote_line, exited_line, faulted_line, full_turn_line, break_line, ran_line, list_line, process_line, checkpoint_line, stats_line, regs_line, register_name, register_line, dump_line, disasm_line}
 use Rattle.report_text.specs.Answers.{answer_text, turn_text, stop_text}
 
 -- Whether a line of a report begins with the word `full`, as those do that say that there weren't units enough.
@@ -40,8 +40,8 @@ ends begins [] = begins
 ends begins (b ∷ text) = ends (b == 10) text
 
 -- whole lines, or none
-abbrev pub AreLines : List ℕ → Type 0
-AreLines text = ends true text ≡ true
+abbrev pub AreWholeLines : List ℕ → Type 0
+AreWholeLines text = ends true text ≡ true
 
 -- a text that ends a line
 abbrev pub EndsLine : List ℕ → Type 0
@@ -57,7 +57,7 @@ unfolding full_from ends
 full_behind [] text begins none = none
 full_behind (b ∷ front) text begins none = full_behind front text (b == 10) (second_false _ _ none)
 
-pub behind_lines : (front text : List ℕ) → AreLines front → has_full_line (front ++ text) ≡ false → has_full_line text ≡ false
+pub behind_lines : (front text : List ℕ) → AreWholeLines front → has_full_line (front ++ text) ≡ false → has_full_line text ≡ false
 behind_lines front text lines none = ap (λ b. full_from b text) (sym lines) ∙ full_behind front text true none
 
 ends_both : (front text : List ℕ) (begins : Bool) → ends begins (front ++ text) ≡ ends (ends begins front) text
@@ -65,10 +65,10 @@ unfolding ends
 ends_both [] text begins = refl
 ends_both (b ∷ front) text begins = ends_both front text (b == 10)
 
-pub lines_both : (front text : List ℕ) → AreLines front → AreLines text → AreLines (front ++ text)
+pub lines_both : (front text : List ℕ) → AreWholeLines front → AreWholeLines text → AreWholeLines (front ++ text)
 lines_both front text h k = ends_both front text true ∙ ap (λ b. ends b text) h ∙ k
 
-pub no_lines : AreLines []
+pub no_lines : AreWholeLines []
 unfolding ends
 no_lines = refl
 
@@ -143,7 +143,7 @@ ends_disasm at word = line (word_text at ++ codes " " ++ hex_places 8 word ++ co
 
 -- Texts of answers, turns and endings are whole lines, or none.
 
-pub answer_lines : (result : Answer) → AreLines (answer_text result)
+pub answer_lines : (result : Answer) → AreWholeLines (answer_text result)
 answer_lines answer.Done = line (codes "ok") true
 answer_lines (answer.Loaded p pages entry) = ends_loaded p pages entry true
 answer_lines (answer.Forked p new) = ends_forked p new true
@@ -152,14 +152,14 @@ answer_lines (answer.Refused code) = ends_refused code true
 answer_lines (answer.Full units limit) = ends_full units limit true
 answer_lines answer.Memory = no_lines
 
-pub turn_lines : (p : ℕ) (came : Turn) → AreLines (turn_text p came)
+pub turn_lines : (p : ℕ) (came : Turn) → AreWholeLines (turn_text p came)
 turn_lines p turn.Stepped = no_lines
 turn_lines p (turn.Wrote written) = ends_wrote p written.0 written.1 true
 turn_lines p (turn.Exited exit) = ends_exited p exit true
 turn_lines p (turn.Faulted kind at) = ends_faulted p kind at true
 turn_lines p (turn.Full units limit) = ends_full_turn p units limit true
 
-pub stop_lines : (taken : ℕ) (why : Stop) → AreLines (stop_text taken why)
+pub stop_lines : (taken : ℕ) (why : Stop) → AreWholeLines (stop_text taken why)
 stop_lines taken stop.Limit = ends_ran taken stop.Limit true
 stop_lines taken stop.Idle = ends_ran taken stop.Idle true
 stop_lines taken stop.Ended = ends_ran taken stop.Ended true

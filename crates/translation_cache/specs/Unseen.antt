@@ -1,6 +1,6 @@
-use Rattle.std.proofs.Common.{◌≡◌, ℕ, zero, suc, ◌%◌, Bool, true, false, cond, ◌&&◌, not, nat_eq, List, [], ◌∷◌, get_or, filter, map, None, sym, ap, ◌∙◌, refl, eq-eqb}
+use Rattle.std.proofs.Common.{◌≡◌, ℕ, suc, ◌%◌, Bool, true, false, cond, ◌&&◌, not, nat_eq, List, [], ◌∷◌, get_or, map, None, sym, ap, ◌∙◌, refl, eq-eqb}
 use Rattle.translation_cache.specs.Formed.{AreOfSet, IsFormed}
-use Rattle.translation_cache.specs.Laws.{is_same, not_first, not_rest}
+use Rattle.translation_cache.specs.Laws.{not_first, not_rest}
 use Rattle.translation_cache.specs.Translations.{Entry, Translations, flushed, found, found_in, is_of, without_space}
 use Rattle.translation_cache.specs.declared.TheConstants.{SETS}
 

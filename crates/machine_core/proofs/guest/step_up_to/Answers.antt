@@ -1,7 +1,7 @@
 use Rattle.std.proofs.Common.{rules, sym, ◌∙◌, arith}
 use Rattle.std.specs.Ordering.{nat_cmp}
 use Rattle.std.specs.FinSet.{contains-empty}
-use Rattle.rv_execute.specs.declared.outcome.Outcome.TheVariants.{Asked, Fault, Full, Stepped}
+use Rattle.rv_execute.specs.declared.outcome.Outcome.TheVariants.{Asked, Fault, Full}
 use Rattle.machine_core.specs.Executions.{executions, no_stops}
 use Rattle.machine_core.specs.Kept.{guest_lent}
 use Rattle.machine_core.proofs.Stepping.{last_in, step_in, still_runs}

@@ -1,4 +1,4 @@
-use Rattle.std.proofs.Common.{◌≡◌, ap, sym, ◌∙◌, min}
+use Rattle.std.proofs.Common.{ap, sym, ◌∙◌, min}
 use Rattle.overlay_pages.specs.State.{memory_of}
 use Rattle.overlay_memory.specs.View.{state_of, translations_of}
 use Rattle.machine_core.proofs.Requests.{write_beside, write_none}

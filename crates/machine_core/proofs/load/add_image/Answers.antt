@@ -10,9 +10,11 @@ use Rattle.machine_core.proofs.load.add_image.Goals as goal
 
 pub adding-init : goal.adding-init
 adding-init c =
-    let s = state_of c.args.memory.now in
-    (added_none c.args.p s (image_page c.args.file.now) (is_stored c.args.file.now)
-    (open_itself c.args.p s c.requires.there (ap (λ x. x.awaiting) c.requires.bare)), refl)
+    let s = state_of c.args.memory.now in (
+      added_none c.args.p s (image_page c.args.file.now) (is_stored c.args.file.now)
+          (open_itself c.args.p s c.requires.there (ap (λ x. x.awaiting) c.requires.bare)),
+      refl,
+    )
 
 pub add_page-requires-clause-ready : goal.add_page-requires-clause-ready
 add_page-requires-clause-ready c =
@@ -47,10 +49,11 @@ adding-preserved c =
     let at = page_at file c.pages-image_page-items.result.now i no_page (c.pages-image_page-items.ensures ∙ c.requires.of_file.pages) c.adding-test.true in
     let k = get_or (image_pages file) i 0 in
     let ready = next_ready file c.args.p before now i c.requires.of_file.taken c.requires.there c.requires.bare at.0 c.adding.invariant.0 in
-    let added = subst (λ (it : ImagePage). IsAdded now new c.args.p it.page (record { perms = it.perms.0; bytes = page_bytes file it.page }) it.stored) at.1 c.in_ok-add_page.ensures.added in
-    (subst (HasAdded before new c.args.p (image_page file) (is_stored file)) (sym (take_more (image_pages file) i 0 at.0))
-    (added_more before now new c.args.p (image_page file) (is_stored file) (take i (image_pages file)) k c.adding.invariant.0 added ready.absent),
-    c.add_page.ensures.lists ∙ c.adding.invariant.1)
+    let added = subst (λ (it : ImagePage). IsAdded now new c.args.p it.page (record { perms = it.perms.0; bytes = page_bytes file it.page }) it.stored) at.1 c.in_ok-add_page.ensures.added in (
+      subst (HasAdded before new c.args.p (image_page file) (is_stored file)) (sym (take_more (image_pages file) i 0 at.0))
+          (added_more before now new c.args.p (image_page file) (is_stored file) (take i (image_pages file)) k c.adding.invariant.0 added ready.absent),
+      c.add_page.ensures.lists ∙ c.adding.invariant.1,
+    )
 
 pub add_page-requires-clause-unseen : goal.add_page-requires-clause-unseen
 add_page-requires-clause-unseen c = subst (IsUnseen c.args.p) (sym c.adding.invariant.1) c.requires.unseen

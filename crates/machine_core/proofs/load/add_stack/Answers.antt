@@ -19,9 +19,11 @@ zero-requires c = record {
 }
 
 pub adding-preserved : goal.adding-preserved
-adding-preserved c =
-    (stack_more c.args.p (state_of c.args.memory.now) (state_of c.adding.memory) c.adding.page (omega arith) (omega arith) c.requires.few c.requires.absent c.adding.invariant.0
-    (state_of c.zero.new.memory) c.union.result.0 (c.union.ensures tt) c.in_ok-zero.ensures.added, c.zero.ensures.lists ∙ c.adding.invariant.1)
+adding-preserved c = (
+  stack_more c.args.p (state_of c.args.memory.now) (state_of c.adding.memory) c.adding.page (omega arith) (omega arith) c.requires.few c.requires.absent c.adding.invariant.0
+      (state_of c.zero.new.memory) c.union.result.0 (c.union.ensures tt) c.in_ok-zero.ensures.added,
+  c.zero.ensures.lists ∙ c.adding.invariant.1,
+)
 
 pub returns-clause-added : goal.returns-clause-added
 unfolding stack_pages

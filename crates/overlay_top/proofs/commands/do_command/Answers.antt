@@ -11,7 +11,7 @@ returns-in-Ok-clause-does g c =
     let session = c.args.session.now in
     let state = session.state in
     elim c.match-command.branch [
-      in-Run w ↦
+      | in-Run w ↦
           rw (w.report-is, w.session-is, w.in-Run.is)
           (turns_done g.K.Sink c.args.report.now.sink.now _ _ session _ w.run_all-sent.result _ (sym w.sent-is ∙ c.in-Ok.is) w.run_all-sent.ensures.takes)
       | in-Step w ↦
