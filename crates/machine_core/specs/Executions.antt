@@ -16,12 +16,9 @@ pub record Executions : Type 0 where
   pub outcome : Outcome
   pub after : Guest
 
--- no address, and those that are handed over, if any are
-abbrev pub no_stops : Addresses
-no_stops = empty
-
+-- the addresses that are handed over, if any are
 abbrev pub stops_in : Option (Bor Addresses) → Addresses
-stops_in stops = unwrap_or (option_copied stops) no_stops
+stops_in stops = unwrap_or (option_copied stops) empty
 
 abbrev pub no_execution : Guest → Executions
 no_execution guest = record { steps = 0; before = guest; outcome = Stepped; after = guest }

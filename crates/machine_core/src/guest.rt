@@ -1,6 +1,7 @@
 //! One process, and its turn.
 
 ghost use Rattle.std.specs.Prelude.{◌≡◌, ℕ, ◌≤◌, length, true};
+ghost use Rattle.std.specs.FinSet.{contains};
 ghost use Rattle.sizes.specs.declared.TheConstants.{MOST_WRITTEN};
 ghost use Rattle.rv_execute.specs.Registers.{with_register};
 ghost use Rattle.rv_execute.specs.Step.{exit, request, write};
@@ -9,7 +10,7 @@ ghost use Rattle.overlay_memory.specs.View.{state_of, translations_of};
 ghost use Rattle.translation_cache.specs.Counted.{counted};
 ghost use Rattle.space_maps.specs.Spaces.{holds_space};
 ghost use Rattle.machine_core.specs.Turns.{answered_by, executed, outcome_of};
-ghost use Rattle.machine_core.specs.Executions.{all_executed, executions, no_stops, stops_in};
+ghost use Rattle.machine_core.specs.Executions.{all_executed, executions, stops_in};
 ghost use Rattle.machine_core.specs.Access.{IsReadyView, spaces_lent};
 ghost use Rattle.machine_core.specs.Kept.{IsBeside, guest_in, guest_lent};
 
@@ -142,79 +143,52 @@ fn execute_one(process: &mut Process, view: &mut View) -> Outcome
     outcome
 }
 
-/// Executes up to so many instructions in the space that is lent, which is there, as long as each is a step. Answers how many
-/// were steps, and what came of the last one. Apart, and the only caller of `execute_one`, so that the loop stays small.
+/// Whether an address is among some. Apart, so that the loop over the instructions of a process without stops stays small.
 #[inline(never)]
-fn step_up_to(process: &mut Process, view: &mut View, most: u32) -> (u32, Outcome)
-    requires runs { process.old.state ≡ ProcessState.Running }
-    requires ready { IsReadyView view.old }
-    ensures ready { IsReadyView view.new }
-    ensures loan { view.new.memory.ghost_name ≡ view.old.memory.ghost_name }
-    ensures space { view.new.space ≡ view.old.space }
-    ensures steps { result.0
-        ≡ (executions no_stops view.old.space most (guest_lent view.old process.old)).steps }
-    ensures outcome { result.1
-        ≡ (executions no_stops view.old.space most (guest_lent view.old process.old)).outcome }
-    ensures after { guest_lent view.new process.new
-        ≡ all_executed no_stops view.old.space most (guest_lent view.old process.old) }
-    ensures saved { process.new.saved ≡ process.old.saved }
-    ensures beside { IsBeside view.old.space (spaces_lent view.old) (spaces_lent view.new) }
+fn is_among(addresses: &Addresses, address: u64) -> bool
+    ensures { result ≡ contains addresses.now address }
 {
-    let mut steps = 0u32;
-    'stepping: while steps < most {
-        match execute_one(process, view) {
-            Outcome::Stepped => steps += 1,
-            Outcome::Asked => return (steps, Outcome::Asked),
-            Outcome::Fault(kind, address) => return (steps, Outcome::Fault(kind, address)),
-            Outcome::Full(units, limit) => return (steps, Outcome::Full(units, limit)),
-        }
+    addresses.has(address)
+}
+
+/// Whether an address is among those at which executions stop.
+#[inline]
+fn is_stop(stops: Option<&Addresses>, address: u64) -> bool
+    ensures { result ≡ contains (stops_in stops.entry) address }
+{
+    match stops {
+        Some(addresses) => is_among(addresses, address),
+        None => false,
     }
-    (steps, Outcome::Stepped)
 }
 
-/// As `execute_one`, by the loop over instructions.
-fn step_one(process: &mut Process, view: &mut View) -> Outcome
-    requires runs { process.old.state ≡ ProcessState.Running }
-    requires ready { IsReadyView view.old }
-    ensures ready { IsReadyView view.new }
-    ensures loan { view.new.memory.ghost_name ≡ view.old.memory.ghost_name }
-    ensures space { view.new.space ≡ view.old.space }
-    ensures outcome { result ≡ outcome_of view.old.space (guest_lent view.old process.old) }
-    ensures after { guest_lent view.new process.new
-        ≡ executed view.old.space (guest_lent view.old process.old) }
-    ensures saved { process.new.saved ≡ process.old.saved }
-    ensures beside { IsBeside view.old.space (spaces_lent view.old) (spaces_lent view.new) }
-{
-    let (_, outcome) = step_up_to(process, view, 1);
-    outcome
-}
-
-/// As `step_up_to`, as long as each also leaves the pc at none of some addresses.
-fn step_to_stop(
+/// Executes up to so many instructions in the space that is lent, which is there, as long as each is a step and leaves the pc
+/// at no stop. Answers how many were steps, and what came of the last one.
+fn step_up_to(
     process: &mut Process,
     view: &mut View,
     most: u32,
-    stops: &Addresses,
+    stops: Option<&Addresses>,
 ) -> (u32, Outcome)
     requires runs { process.old.state ≡ ProcessState.Running }
     requires ready { IsReadyView view.old }
     ensures loan { view.new.memory.ghost_name ≡ view.old.memory.ghost_name }
     ensures space { view.new.space ≡ view.old.space }
     ensures steps { result.0
-        ≡ (executions stops.now view.old.space most (guest_lent view.old process.old)).steps }
+        ≡ (executions (stops_in stops.entry) view.old.space most (guest_lent view.old process.old)).steps }
     ensures outcome { result.1
-        ≡ (executions stops.now view.old.space most (guest_lent view.old process.old)).outcome }
+        ≡ (executions (stops_in stops.entry) view.old.space most (guest_lent view.old process.old)).outcome }
     ensures after { guest_lent view.new process.new
-        ≡ all_executed stops.now view.old.space most (guest_lent view.old process.old) }
+        ≡ all_executed (stops_in stops.entry) view.old.space most (guest_lent view.old process.old) }
     ensures saved { process.new.saved ≡ process.old.saved }
     ensures beside { IsBeside view.old.space (spaces_lent view.old) (spaces_lent view.new) }
 {
     let mut steps = 0u32;
     'stepping: while steps < most {
-        match step_one(process, view) {
+        match execute_one(process, view) {
             Outcome::Stepped => {
                 steps += 1;
-                if stops.has(process.regs.pc()) {
+                if is_stop(stops, process.regs.pc()) {
                     return (steps, Outcome::Stepped);
                 }
             }
@@ -252,8 +226,5 @@ pub(crate) fn execute_up_to(
         space: p,
         code: None,
     };
-    match stops {
-        Some(stops) => step_to_stop(process, &mut view, most, stops),
-        None => step_up_to(process, &mut view, most),
-    }
+    step_up_to(process, &mut view, most, stops)
 }

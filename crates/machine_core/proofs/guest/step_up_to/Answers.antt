@@ -1,57 +1,56 @@
-use Rattle.std.proofs.Common.{rules, sym, ◌∙◌, arith}
-use Rattle.std.specs.Ordering.{nat_cmp}
-use Rattle.std.specs.FinSet.{contains-empty}
-use Rattle.rv_execute.specs.declared.outcome.Outcome.TheVariants.{Asked, Fault, Full}
-use Rattle.machine_core.specs.Executions.{executions, no_stops}
+use Rattle.std.proofs.Common.{rules, ◌+◌, ap, ◌∙◌, arith}
+use Rattle.std.specs.FinSet.{contains}
+use Rattle.rv_execute.specs.declared.outcome.Outcome.TheVariants.{Asked, Fault, Full, Stepped}
+use Rattle.machine_core.specs.Executions.{executions, stops_in}
 use Rattle.machine_core.specs.Kept.{guest_lent}
-use Rattle.machine_core.proofs.Stepping.{last_in, step_in, still_runs}
+use Rattle.machine_core.proofs.Stepping.{IsLast, last_in, step_in, still_runs, stop_in}
 use Rattle.machine_core.proofs.guest.step_up_to.Goals as goal
 
 pub returns-in-Asked-clause-steps : goal.returns-in-Asked-clause-steps
 returns-in-Asked-clause-steps c =
     let p = c.args.view.now.space in
-    let all = executions no_stops p c.args.most (guest_lent c.args.view.now c.args.process.now) in
-    (last_in no_stops p c.stepping.view.space c.stepping.invariant.space Asked all c.args.most c.stepping.steps (guest_lent c.stepping.view c.stepping.process)
+    let all = executions (stops_in c.args.stops) p c.args.most (guest_lent c.args.view.now c.args.process.now) in
+    (last_in (stops_in c.args.stops) p c.stepping.view.space c.stepping.invariant.space Asked all c.args.most c.stepping.steps (guest_lent c.stepping.view c.stepping.process)
     (guest_lent c.execute_one.new.view c.execute_one.new.process) (omega (arith, c.stepping-test.true)) c.stepping.invariant.all
     c.in-Asked.ensures.outcome (λ same. cc) c.in-Asked.ensures.after).steps
 
 pub returns-in-Asked-clause-outcome : goal.returns-in-Asked-clause-outcome
 returns-in-Asked-clause-outcome c =
     let p = c.args.view.now.space in
-    let all = executions no_stops p c.args.most (guest_lent c.args.view.now c.args.process.now) in
-    (last_in no_stops p c.stepping.view.space c.stepping.invariant.space Asked all c.args.most c.stepping.steps (guest_lent c.stepping.view c.stepping.process)
+    let all = executions (stops_in c.args.stops) p c.args.most (guest_lent c.args.view.now c.args.process.now) in
+    (last_in (stops_in c.args.stops) p c.stepping.view.space c.stepping.invariant.space Asked all c.args.most c.stepping.steps (guest_lent c.stepping.view c.stepping.process)
     (guest_lent c.execute_one.new.view c.execute_one.new.process) (omega (arith, c.stepping-test.true)) c.stepping.invariant.all
     c.in-Asked.ensures.outcome (λ same. cc) c.in-Asked.ensures.after).outcome_is
 
 pub returns-in-Asked-clause-after : goal.returns-in-Asked-clause-after
 returns-in-Asked-clause-after c =
     let p = c.args.view.now.space in
-    let all = executions no_stops p c.args.most (guest_lent c.args.view.now c.args.process.now) in
-    (last_in no_stops p c.stepping.view.space c.stepping.invariant.space Asked all c.args.most c.stepping.steps (guest_lent c.stepping.view c.stepping.process)
+    let all = executions (stops_in c.args.stops) p c.args.most (guest_lent c.args.view.now c.args.process.now) in
+    (last_in (stops_in c.args.stops) p c.stepping.view.space c.stepping.invariant.space Asked all c.args.most c.stepping.steps (guest_lent c.stepping.view c.stepping.process)
     (guest_lent c.execute_one.new.view c.execute_one.new.process) (omega (arith, c.stepping-test.true)) c.stepping.invariant.all
     c.in-Asked.ensures.outcome (λ same. cc) c.in-Asked.ensures.after).after_is
 
 pub returns-in-Full-clause-steps : goal.returns-in-Full-clause-steps
 returns-in-Full-clause-steps c =
     let p = c.args.view.now.space in
-    let all = executions no_stops p c.args.most (guest_lent c.args.view.now c.args.process.now) in
-    (last_in no_stops p c.stepping.view.space c.stepping.invariant.space (Full c.in-Full.units c.in-Full.limit) all c.args.most c.stepping.steps (guest_lent c.stepping.view c.stepping.process)
+    let all = executions (stops_in c.args.stops) p c.args.most (guest_lent c.args.view.now c.args.process.now) in
+    (last_in (stops_in c.args.stops) p c.stepping.view.space c.stepping.invariant.space (Full c.in-Full.units c.in-Full.limit) all c.args.most c.stepping.steps (guest_lent c.stepping.view c.stepping.process)
     (guest_lent c.execute_one.new.view c.execute_one.new.process) (omega (arith, c.stepping-test.true)) c.stepping.invariant.all
     c.in-Full.ensures.outcome (λ same. cc) c.in-Full.ensures.after).steps
 
 pub returns-in-Full-clause-outcome : goal.returns-in-Full-clause-outcome
 returns-in-Full-clause-outcome c =
     let p = c.args.view.now.space in
-    let all = executions no_stops p c.args.most (guest_lent c.args.view.now c.args.process.now) in
-    (last_in no_stops p c.stepping.view.space c.stepping.invariant.space (Full c.in-Full.units c.in-Full.limit) all c.args.most c.stepping.steps (guest_lent c.stepping.view c.stepping.process)
+    let all = executions (stops_in c.args.stops) p c.args.most (guest_lent c.args.view.now c.args.process.now) in
+    (last_in (stops_in c.args.stops) p c.stepping.view.space c.stepping.invariant.space (Full c.in-Full.units c.in-Full.limit) all c.args.most c.stepping.steps (guest_lent c.stepping.view c.stepping.process)
     (guest_lent c.execute_one.new.view c.execute_one.new.process) (omega (arith, c.stepping-test.true)) c.stepping.invariant.all
     c.in-Full.ensures.outcome (λ same. cc) c.in-Full.ensures.after).outcome_is
 
 pub returns-in-Full-clause-after : goal.returns-in-Full-clause-after
 returns-in-Full-clause-after c =
     let p = c.args.view.now.space in
-    let all = executions no_stops p c.args.most (guest_lent c.args.view.now c.args.process.now) in
-    (last_in no_stops p c.stepping.view.space c.stepping.invariant.space (Full c.in-Full.units c.in-Full.limit) all c.args.most c.stepping.steps (guest_lent c.stepping.view c.stepping.process)
+    let all = executions (stops_in c.args.stops) p c.args.most (guest_lent c.args.view.now c.args.process.now) in
+    (last_in (stops_in c.args.stops) p c.stepping.view.space c.stepping.invariant.space (Full c.in-Full.units c.in-Full.limit) all c.args.most c.stepping.steps (guest_lent c.stepping.view c.stepping.process)
     (guest_lent c.execute_one.new.view c.execute_one.new.process) (omega (arith, c.stepping-test.true)) c.stepping.invariant.all
     c.in-Full.ensures.outcome (λ same. cc) c.in-Full.ensures.after).after_is
 
@@ -66,9 +65,9 @@ stepping-preserved c =
       space = c.in-Stepped.ensures.space ∙ so_far.space;
       there = search rules;
       in_hand = c.in-Stepped.ensures.ready.in_hand;
-      all = step_in no_stops p c.stepping.view.space so_far.space (executions no_stops p c.args.most (guest_lent c.args.view.now c.args.process.now)) c.args.most c.stepping.steps now next
+      all = step_in (stops_in c.args.stops) p c.stepping.view.space so_far.space (executions (stops_in c.args.stops) p c.args.most (guest_lent c.args.view.now c.args.process.now)) c.args.most c.stepping.steps now next
           (omega (arith, c.stepping-test.true)) so_far.all c.in-Stepped.ensures.outcome c.in-Stepped.ensures.after
-          (sym (contains-empty nat_cmp next.process.registers.pc));
+          (c.if-is_stop.ensures ∙ ap (contains (stops_in c.args.stops)) c.pc.ensures);
       running = still_runs c.stepping.view.space now next so_far.running c.in-Stepped.ensures.outcome c.in-Stepped.ensures.after;
       saved = c.in-Stepped.ensures.saved ∙ so_far.saved;
       beside = search rules;
@@ -84,10 +83,30 @@ returns-in-Full-clause-saved c = c.in-Full.ensures.saved ∙ c.stepping.invarian
 pub returns-in-Fault-clause-saved : goal.returns-in-Fault-clause-saved
 returns-in-Fault-clause-saved c = c.in-Fault.ensures.saved ∙ c.stepping.invariant.saved
 
+-- a step that leaves the pc at a stop
+
+stopped : (c : goal.Then-is_stop) → IsLast (executions (stops_in c.args.stops) c.args.view.now.space c.args.most (guest_lent c.args.view.now c.args.process.now))
+    (c.stepping.steps + 1) Stepped (guest_lent c.execute_one.new.view c.execute_one.new.process)
+stopped c =
+    let p = c.args.view.now.space in
+    stop_in (stops_in c.args.stops) p c.stepping.view.space c.stepping.invariant.space
+    (executions (stops_in c.args.stops) p c.args.most (guest_lent c.args.view.now c.args.process.now)) c.args.most c.stepping.steps (guest_lent c.stepping.view c.stepping.process)
+    (guest_lent c.execute_one.new.view c.execute_one.new.process) (omega (arith, c.stepping-test.true)) c.stepping.invariant.all
+    c.in-Stepped.ensures.outcome c.in-Stepped.ensures.after (c.if-is_stop.ensures ∙ ap (contains (stops_in c.args.stops)) c.pc.ensures)
+
+pub returns-then-is_stop-clause-steps : goal.returns-then-is_stop-clause-steps
+returns-then-is_stop-clause-steps c = (stopped c).steps
+
+pub returns-then-is_stop-clause-outcome : goal.returns-then-is_stop-clause-outcome
+returns-then-is_stop-clause-outcome c = (stopped c).outcome_is
+
+pub returns-then-is_stop-clause-after : goal.returns-then-is_stop-clause-after
+returns-then-is_stop-clause-after c = (stopped c).after_is
+
 pub returns-in-Fault-clause-outcome : goal.returns-in-Fault-clause-outcome
 returns-in-Fault-clause-outcome c =
     let p = c.args.view.now.space in
-    let all = executions no_stops p c.args.most (guest_lent c.args.view.now c.args.process.now) in
-    (last_in no_stops p c.stepping.view.space c.stepping.invariant.space (Fault c.in-Fault.kind c.in-Fault.address) all c.args.most c.stepping.steps
+    let all = executions (stops_in c.args.stops) p c.args.most (guest_lent c.args.view.now c.args.process.now) in
+    (last_in (stops_in c.args.stops) p c.stepping.view.space c.stepping.invariant.space (Fault c.in-Fault.kind c.in-Fault.address) all c.args.most c.stepping.steps
     (guest_lent c.stepping.view c.stepping.process) (guest_lent c.execute_one.new.view c.execute_one.new.process) (omega (arith, c.stepping-test.true)) c.stepping.invariant.all
     c.in-Fault.ensures.outcome (λ same. cc) c.in-Fault.ensures.after).outcome_is
