@@ -8,12 +8,14 @@ use Rattle.overlay_pages.specs.Lines.{zero_page}
 use Rattle.overlay_pages.specs.State.{PageState, SpaceState, State}
 use Rattle.overlay_pages.specs.Changes.{whole_page, with_written, with_zeros, written}
 use Rattle.overlay_pages.specs.Calls.{IsEmptyState}
-use Rattle.overlay_pages.specs.View.{MemoryView, state_of}
+use Rattle.overlay_pages.specs.View as seen
+use Rattle.overlay_pages.specs.View.{MemoryView}
 use Rattle.overlay_memory.specs.Access.{Places, Stores}
 use Rattle.overlay_memory.specs.declared.error.MemoryError.{MemoryError}
 use Rattle.overlay_memory.specs.declared.error.MemoryError.TheVariants.{Unmapped, Forbidden, Full}
 use Rattle.overlay_memory.specs.declared.error.SpaceError.{SpaceError}
 use Rattle.overlay_memory.specs.declared.error.SpaceError.TheVariants as refused
+use Rattle.overlay_memory.specs.View.{TranslatedView, state_of}
 use Rattle.space_maps.specs.Laws.{space_absent, space_beside, space_put}
 use Rattle.space_maps.specs.Spaces.{cut_page, cut_pages, bare_space, page_in, put_page, put_space, space_in, turned_page, put_pages}
 use Rattle.fork_checkpoint.specs.Copied.{Copies}
@@ -26,8 +28,11 @@ NoneAwaits v = (q : ℕ) → (space_in v q).awaiting ≡ map.empty
 pub none_awaits_as : (v w : State) → w ≡ v → NoneAwaits v → NoneAwaits w
 none_awaits_as v w same settled q = ap (λ (x : State). (space_in x q).awaiting) same ∙ settled q
 
-pub none_awaits_view : (v w : MemoryView) → w ≡ v → NoneAwaits (state_of v) → NoneAwaits (state_of w)
+pub none_awaits_view : (v w : TranslatedView) → w ≡ v → NoneAwaits (state_of v) → NoneAwaits (state_of w)
 none_awaits_view v w same = none_awaits_as (state_of v) (state_of w) (ap state_of same)
+
+none_awaits_seen : (v w : MemoryView) → w ≡ v → NoneAwaits (seen.state_of v) → NoneAwaits (seen.state_of w)
+none_awaits_seen v w same = none_awaits_as (seen.state_of v) (seen.state_of w) (ap seen.state_of same)
 
 pub none_awaits_new : (frames : ℕ) (v : State) → IsEmptyState frames v → NoneAwaits v
 none_awaits_new frames v made q = ap (λ (x : SpaceState). x.awaiting) (space_absent v q (ap (λ m. map.get m q) made.spaces ∙ map.get-empty _ q))
@@ -65,32 +70,32 @@ none_awaits_beside v w s awaiting others settled q = by_key q s
     (λ other. ap (λ (y : SpaceState). y.awaiting) (others q other) ∙ settled q)
 
 pub none_awaits_stores : (old new : MemoryView) (s address : ℕ) (bytes : List ℕ) (r : Result (Unit {0}) MemoryError) → Stores old new s address bytes r
-    → NoneAwaits (state_of old) → NoneAwaits (state_of new)
-none_awaits_stores old new s address bytes (Ok done) h = none_awaits_beside (state_of old) (state_of new) s h.1.awaiting h.1.others
-none_awaits_stores old new s address bytes (Err (Unmapped at)) h = none_awaits_view old new h.1
-none_awaits_stores old new s address bytes (Err (Forbidden at)) h = none_awaits_view old new h.1
-none_awaits_stores old new s address bytes (Err (Full needed limit)) h = none_awaits_view old new h.1.kept
+    → NoneAwaits (seen.state_of old) → NoneAwaits (seen.state_of new)
+none_awaits_stores old new s address bytes (Ok done) h = none_awaits_beside (seen.state_of old) (seen.state_of new) s h.1.awaiting h.1.others
+none_awaits_stores old new s address bytes (Err (Unmapped at)) h = none_awaits_seen old new h.1
+none_awaits_stores old new s address bytes (Err (Forbidden at)) h = none_awaits_seen old new h.1
+none_awaits_stores old new s address bytes (Err (Full needed limit)) h = none_awaits_seen old new h.1.kept
 
 pub none_awaits_places : (old new : MemoryView) (s p : ℕ) (entry : ℕ → PageEntry) (bytes : List ℕ) (r : Result (Unit {0}) SpaceError) → Places old new s p entry bytes r
-    → NoneAwaits (state_of old) → NoneAwaits (state_of new)
+    → NoneAwaits (seen.state_of old) → NoneAwaits (seen.state_of new)
 none_awaits_places old new s p entry bytes (Ok done) h settled =
-    none_awaits_as _ (state_of new) h.0.placed (none_awaits_page (state_of old) s p _ settled)
-none_awaits_places old new s p entry bytes (Err (refused.Full needed limit)) h settled = none_awaits_view old new h.kept settled
-none_awaits_places old new s p entry bytes (Err refused.Memory) h settled = none_awaits_as (state_of old) (state_of new) h.1 settled
+    none_awaits_as _ (seen.state_of new) h.0.placed (none_awaits_page (seen.state_of old) s p _ settled)
+none_awaits_places old new s p entry bytes (Err (refused.Full needed limit)) h settled = none_awaits_seen old new h.kept settled
+none_awaits_places old new s p entry bytes (Err refused.Memory) h settled = none_awaits_as (seen.state_of old) (seen.state_of new) h.1 settled
 
-pub none_awaits_mapped : {E : Type 0} (old new : MemoryView) (s from n : ℕ) (entry : PageEntry) (r : Result (Unit {0}) E)
+pub none_awaits_mapped : {E : Type 0} (old new : TranslatedView) (s from n : ℕ) (entry : PageEntry) (r : Result (Unit {0}) E)
     → OnOk r (state_of new ≡ with_zeros (state_of old) s from n entry) → OnErr r (new ≡ old) → NoneAwaits (state_of old) → NoneAwaits (state_of new)
 unfolding with_zeros
 none_awaits_mapped old new s from n entry (Ok done) mapped kept settled = none_awaits_as _ (state_of new) mapped (none_awaits_zeros n from (state_of old) s (whole_page entry zero_page) settled)
 none_awaits_mapped old new s from n entry (Err e) mapped kept settled = none_awaits_view old new kept settled
 
-pub none_awaits_added : {E : Type 0} (old new : MemoryView) (s : ℕ) (r : Result (Unit {0}) E)
+pub none_awaits_added : {E : Type 0} (old new : TranslatedView) (s : ℕ) (r : Result (Unit {0}) E)
     → OnOk r (state_of new ≡ put_space (state_of old) s bare_space) → OnErr r (new ≡ old) → NoneAwaits (state_of old) → NoneAwaits (state_of new)
 none_awaits_added old new s (Ok done) added kept settled = none_awaits_as _ (state_of new) added (none_awaits_put (state_of old) s bare_space settled refl)
 none_awaits_added old new s (Err e) added kept settled = none_awaits_view old new kept settled
 
 -- what a fork or a restore does
-pub none_awaits_copies : (old new : MemoryView) (from to : ℕ) (r : Result (Unit {0}) SpaceError) → Copies old new from to r → NoneAwaits (state_of old) → NoneAwaits (state_of new)
+pub none_awaits_copies : (old new : TranslatedView) (from to : ℕ) (r : Result (Unit {0}) SpaceError) → Copies old new from to r → NoneAwaits (state_of old) → NoneAwaits (state_of new)
 none_awaits_copies old new from to (Ok done) h settled = none_awaits_beside (state_of old) (state_of new) to (h.1.awaiting ∙ sym (settled to)) h.1.others settled
 none_awaits_copies old new from to (Err (refused.Full needed limit)) h settled = none_awaits_view old new h.kept settled
 none_awaits_copies old new from to (Err refused.Memory) h settled = none_awaits_as (state_of old) (state_of new) h.1 settled

@@ -3,7 +3,7 @@
 ghost use Rattle.std.specs.Prelude.{◌≡◌, ◌+◌, ◌<◌, ◌≤◌, IsTrue, IsSome, None, true};
 ghost use Rattle.sizes.specs.declared.TheConstants.{PAGE_END, PAGE_LINES};
 ghost use Rattle.overlay_pages.specs.Changes.{AreAbsent, is_writable};
-ghost use Rattle.overlay_pages.specs.View.{state_of};
+ghost use Rattle.overlay_memory.specs.View.{state_of};
 ghost use Rattle.space_maps.specs.Spaces.{page_in};
 
 use fork_checkpoint::{fork_space, restore_space};
@@ -25,10 +25,10 @@ impl Model for Spaces {
     ghost use Rattle.std.specs.Prelude.{◌≡◌, ℕ};
     ghost use Rattle.std.specs.FinMap as map;
     ghost use Rattle.space_maps.specs.Spaces.{space_in};
-    ghost use Rattle.overlay_pages.specs.View.{MemoryView, state_of};
-    ghost use Rattle.overlay_pages.specs.Codes.{memory_code};
+    ghost use Rattle.overlay_memory.specs.View.{TranslatedView, state_of};
+    ghost use Rattle.overlay_memory.specs.Codes.{memory_code};
 
-    ghost Value = { MemoryView };
+    ghost Value = { TranslatedView };
 
     ghost coded = { memory_code };
 

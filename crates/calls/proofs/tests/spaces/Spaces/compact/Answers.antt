@@ -1,4 +1,4 @@
-use Rattle.overlay_pages.specs.View.{state_of}
+use Rattle.overlay_memory.specs.View.{state_of}
 use Rattle.calls.proofs.Awaiting.{none_awaits_as}
 use Rattle.calls.proofs.tests.spaces.Spaces.compact.Goals as goal
 

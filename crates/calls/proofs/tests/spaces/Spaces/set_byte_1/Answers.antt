@@ -1,5 +1,5 @@
 use Rattle.std.specs.Prelude.{slice_set}
-use Rattle.overlay_pages.specs.View.{state_of}
+use Rattle.overlay_memory.specs.View.{state_of}
 use Rattle.calls.proofs.Awaiting.{none_awaits_as, none_awaits_written}
 use Rattle.calls.proofs.tests.spaces.Spaces.set_byte_1.Goals as goal
 
