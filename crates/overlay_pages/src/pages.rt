@@ -396,6 +396,7 @@ impl OverlayPages {
         ensures state { (bytes : List ℕ) → state_of (with_line_at_place self.old
             (place_at self.old found.space found.page found.line) bytes)
             ≡ with_written (state_of self.old) found.space found.page found.line bytes }
+        ensures joined { IsJoined self.old }
     {
         match found.spot {
             Spot::Segment(block) => self.store.get_mut(block, found.line),
