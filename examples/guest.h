@@ -65,6 +65,28 @@ static void end_line(void)
     line_length = 0;
 }
 
+/* Waits for so many rounds of two instructions each. Where a script is to act while a program waits, it steps into such a wait: its
+   instructions are written out, so that every compiler's build waits equally long, whatever it took to come there. */
+static inline void wait_rounds(long rounds)
+{
+    __asm__ volatile("1: addi %0, %0, -1\n\tbne %0, zero, 1b" : "+r"(rounds));
+}
+
+/* The first byte of the stack's top line. */
+#define STACK_LINE 0x3fffffffc0
+#define STACK_LINES 7
+
+/* Stores into the top lines of the stack what they have. What a program with these functions needs of the stack lies in them, whichever
+   compiler built it, so that the stack's overlay has as many lines in every build. */
+static inline void touch_stack(void)
+{
+    for (long at = 0; at < STACK_LINES; at++) {
+        volatile char *byte = (volatile char *)(STACK_LINE - 64 * at);
+
+        *byte = *byte;
+    }
+}
+
 int main(void);
 
 /* The machine begins here, with sp set and every other register zero. */
