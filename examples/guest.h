@@ -72,16 +72,17 @@ static inline void wait_rounds(long rounds)
     __asm__ volatile("1: addi %0, %0, -1\n\tbne %0, zero, 1b" : "+r"(rounds));
 }
 
-/* The first byte of the stack's top line. */
-#define STACK_LINE 0x3fffffffc0
 #define STACK_LINES 7
 
 /* Stores into the top lines of the stack what they have. What a program with these functions needs of the stack lies in them, whichever
-   compiler built it, so that the stack's overlay has as many lines in every build. */
+   compiler built it, so that the stack's overlay has as many lines in every build. They end with the page that sp points into. */
 static inline void touch_stack(void)
 {
-    for (long at = 0; at < STACK_LINES; at++) {
-        volatile char *byte = (volatile char *)(STACK_LINE - 64 * at);
+    unsigned long sp;
+
+    __asm__ volatile("addi %0, sp, 0" : "=r"(sp));
+    for (unsigned long at = 1; at <= STACK_LINES; at++) {
+        volatile char *byte = (volatile char *)((sp | 4095) + 1 - 64 * at);
 
         *byte = *byte;
     }

@@ -10,6 +10,7 @@ standard input in the folder of the call; --in names another folder. Nothing is 
 Status: 0 where all is well, 1 where something isn't, 2 where the words of the call aren't these.
 """
 import os
+import signal
 import sys
 
 import scripts
@@ -127,4 +128,5 @@ def main():
 
 
 if __name__ == "__main__":
+    signal.signal(signal.SIGPIPE, signal.SIG_DFL)
     sys.exit(main())

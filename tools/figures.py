@@ -31,6 +31,7 @@ Status: 0 where all was made, 1 where something couldn't be, 2 where the words o
 import os
 import re
 import shutil
+import signal
 import subprocess
 import sys
 
@@ -352,4 +353,5 @@ def main():
 
 
 if __name__ == "__main__":
+    signal.signal(signal.SIGPIPE, signal.SIG_DFL)
     sys.exit(main())
