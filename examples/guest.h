@@ -74,8 +74,8 @@ static inline void wait_rounds(long rounds)
 
 #define STACK_LINES 7
 
-/* Stores into the top lines of the stack what they have. What a program with these functions needs of the stack lies in them, whichever
-   compiler built it, so that the stack's overlay has as many lines in every build. They end with the page that sp points into. */
+/* Stores into the top lines of the stack what they have: as many as the examples need, whichever compiler built them, so that the stack's
+   overlay has these lines in every build. The stack ends with the page that sp points into. */
 static inline void touch_stack(void)
 {
     unsigned long sp;
