@@ -228,6 +228,7 @@ class Row:
 
 
 def rows(study, call):
+    """The rows of the table, and the points of the chart."""
     copied = copies(study) if "--copies" in call.what else [None] * study.ended
     made = [Row(line.number, " ".join(line.words), units, lines, whole)
             for line, (units, lines, _), whole in zip(study.commands, study.measured(), copied)]
@@ -333,28 +334,29 @@ def main():
         return 2
     try:
         study = Study(call)
-        parts = []
-        if "--answers" in call.what:
-            parts.append(lambda: interleaved(study))
-        if "--table" in call.what or "--chart" in call.how:
-            made = rows(study, call)
-        if "--table" in call.what:
-            parts.append(lambda: table(made, call))
-        if "--held" in call.what:
-            parts.append(lambda: held(study))
-        if "--chart" in call.how:
-            parts.append(lambda: chart(made, call))
-        for number, part in enumerate(parts):
-            if number:
-                print()
-            part()
     except Failed as error:
         print(f"figures: {error}", file=sys.stderr)
         return 1
     except OSError as error:
-        print(f"figures: {error.filename or ''}: {error.strerror}", file=sys.stderr)
+        print(f"figures: {error.filename}: {error.strerror}", file=sys.stderr)
         return 1
-    return 0
+    parts = {"--answers": lambda: interleaved(study), "--table": lambda: table(rows(study, call), call), "--held": lambda: held(study)}
+    wanted = [part for word, part in parts.items() if word in call.what]
+    if "--chart" in call.how:
+        wanted.append(lambda: chart(rows(study, call), call))
+    status = 0
+    for number, part in enumerate(wanted):
+        if number:
+            print(flush=True)
+        try:
+            part()
+        except Failed as error:
+            print(f"figures: {error}", file=sys.stderr)
+            status = 1
+        except OSError as error:
+            print(f"figures: {error.filename}: {error.strerror}", file=sys.stderr)
+            status = 1
+    return status
 
 
 if __name__ == "__main__":
