@@ -311,6 +311,8 @@ def chart(made, call):
         raise Failed(f"gnuplot drew nothing: {done.stderr.decode(errors='replace').strip()[:200]}")
     last = made[-1]
     said = f"From {made[0].units} units after `{made[0].text}` to {last.units} after `{last.text}`"
+    if "--only" in call.how:
+        said = f"{axis}: from {made[0].units} units at {made[0].number} to {last.units} at {last.number}"
     if copied:
         said += f"; where whole pages are copied, from {made[0].copied} to {last.copied}"
     escape = lambda words: words.replace("&", "&amp;").replace("<", "&lt;").replace(">", "&gt;")
