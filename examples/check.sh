@@ -69,7 +69,11 @@ count_rebuilt() {
     fi
 }
 
+# Where the answers of the exercises were taken away, the examples alone are run.
+[ -d "$top/lab/answers" ] || echo "no lab/answers here: the exercises aren't run"
+
 for script in "$here"/*/script "$top"/lab/answers/*/script; do
+    [ -f "$script" ] || continue
     folder=$(dirname "$script")
     given=$(cd "$folder" && "$program" < script && echo x)
     count "${folder#"$top"/}" "$folder/report" "$given"
@@ -83,7 +87,9 @@ for words in "$here"/*/*.words; do
 done
 
 if "$top/tools/with-python" -c '' 2>/dev/null; then
-    if "$top/tools/check-script" "$here"/*/script "$top"/lab/answers/*/script; then
+    set -- "$here"/*/script
+    [ -d "$top/lab/answers" ] && set -- "$@" "$top"/lab/answers/*/script
+    if "$top/tools/check-script" "$@"; then
         passed=$((passed + 1))
     else
         failed=$((failed + 1))
@@ -112,6 +118,7 @@ rebuild() {
         fi
     done
     for script in "$built"/examples/*/script "$built"/lab/answers/*/script; do
+        [ -f "$script" ] || continue
         folder=$(dirname "$script")
         name=${folder#"$built"/}
         [ "$name" = examples/debugger ] && continue
