@@ -1,0 +1,10 @@
+use Rattle.std.proofs.Common.{◌-◌, ℕ}
+use Rattle.decoded_lines.proofs.Decoding.{IsDecoding}
+use Rattle.decoded_lines.proofs.lines.decode_line.Given as goal
+use Rattle.decoded_lines.specs.declared.TheConstants.{LINE_WORDS}
+
+abbrev pub invariant-decoding : goal.invariant-decoding
+invariant-decoding l = IsDecoding l.slot l.line l.fn.instructions.items l.instructions.items l.place
+
+abbrev pub decreases-decoding : goal.decreases-decoding
+decreases-decoding l = LINE_WORDS - l.place

@@ -1,0 +1,2 @@
+-- What is kept beside lines.
+pub mod Decoded

@@ -1,0 +1,17 @@
+//! Lines of code, decoded: the instructions of some lines of 64 bytes, kept beside the bytes that they were decoded from.
+//!
+//! The model of a `DecodedLines` is the list of these lines, each the list of its bytes. What an instruction of one is isn't part of it: it
+//! is a function of the bytes, and kept so that it isn't computed again.
+//!
+//! - `lines`: the lines and their instructions
+#![tactic(auto)]
+
+mod lines;
+
+pub use lines::DecodedLines;
+
+/// How many lines are kept.
+pub const KEPT_LINES: usize = 256;
+
+/// How many words of four bytes a line has.
+pub const LINE_WORDS: usize = 16;

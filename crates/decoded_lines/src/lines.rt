@@ -1,0 +1,96 @@
+//! The lines and their instructions.
+
+ghost use Rattle.std.specs.Prelude.{◌≡◌, ◌+◌, ◌*◌, ◌<◌, ◌≤◌, ◌⊎◌, ℕ, [], IfOk, IfSome, length, replicate, slice_index_or, None};
+ghost use Rattle.rv_decode.specs.Encodable.{IsEncodable};
+ghost use Rattle.rv_decode.specs.Meaning.{meaning};
+ghost use Rattle.decoded_lines.specs.Decoded.{AreOfLine, word_of};
+ghost use Rattle.decoded_lines.specs.declared.TheConstants.{KEPT_LINES, LINE_WORDS};
+
+use crate::{KEPT_LINES, LINE_WORDS};
+use byteorder::{ByteOrder, LittleEndian};
+use rv_decode::{Instr, decode};
+use std::alloc::{AllocError, Global};
+use std::marker::Model;
+
+/// Lines of 64 bytes in 256 slots, each with what its 16 words mean.
+#[derive(Drop)]
+pub struct DecodedLines {
+    lines: Vec<[u8; 64]>,
+    // those of a line one after the other
+    instructions: Vec<Option<Instr>>,
+}
+
+impl Model for DecodedLines {
+    ghost use Rattle.std.specs.Prelude.{List, ℕ};
+    ghost use Rattle.decoded_lines.specs.Decoded.{AreDecoded};
+
+    ghost Value = { List (List ℕ) };
+
+    ghost view = { λ d. d.lines.items };
+
+    ghost invariant = { λ d. AreDecoded d.lines.items d.instructions.items };
+}
+
+/// Decodes the words of a line.
+fn decode_line(instructions: &mut Vec<Option<Instr>>, slot: usize, line: &[u8; 64])
+    requires slot { slot < KEPT_LINES }
+    requires all { length instructions.old.items ≡ LINE_WORDS * KEPT_LINES }
+    ensures all { length instructions.new.items ≡ length instructions.old.items }
+    ensures here { AreOfLine instructions.new.items slot line.now }
+    ensures beside { (at : ℕ) → (at < LINE_WORDS * slot) ⊎ (LINE_WORDS * slot + LINE_WORDS ≤ at)
+        → slice_index_or instructions.new.items at None ≡ slice_index_or instructions.old.items at None }
+{
+    let mut place = 0;
+    'decoding: while place < LINE_WORDS {
+        let at = 4 * place;
+        instructions[LINE_WORDS * slot + place] = decode(LittleEndian::read_u32(&line[at..at + 4]));
+        place += 1;
+    }
+}
+
+/// As many lines as are kept, all zero.
+fn zero_lines(alloc: Global) -> Result<Vec<[u8; 64]>, AllocError>
+    ensures { IfOk result (λ lines. lines.items ≡ replicate KEPT_LINES (replicate 64 0)) }
+{
+    let mut lines = Vec::new(alloc);
+    'zeroing: while lines.len() < KEPT_LINES {
+        lines.push([0; 64])?;
+    }
+    Ok(lines)
+}
+
+impl DecodedLines {
+    /// All lines are zero. Takes all the memory that they ever need, or answers the want of it.
+    pub fn new(alloc: Global) -> Result<DecodedLines, AllocError> {
+        let lines = zero_lines(alloc)?;
+        let instructions = vec![in alloc; decode(0); LINE_WORDS * KEPT_LINES]?;
+        Ok(DecodedLines {
+            lines,
+            instructions,
+        })
+    }
+
+    /// Has a line, of some number, in a slot, and answers that. Costs a comparison where the line is there, and else what decoding it costs.
+    pub fn enter(&mut self, number: u64, line: &[u8; 64]) -> usize
+        ensures slot { result < KEPT_LINES }
+        ensures line { slice_index_or self.new result [] ≡ line.now }
+    {
+        let slot = (number % KEPT_LINES as u64) as usize;
+        if self.lines[slot] != *line {
+            self.lines[slot] = *line;
+            decode_line(&mut self.instructions, slot, line);
+        }
+        slot
+    }
+
+    /// What a word of the line in a slot means: none exactly where it is no instruction. Costs a step.
+    #[inline]
+    pub fn get(&self, slot: usize, place: usize) -> Option<Instr>
+        requires slot { slot < KEPT_LINES }
+        requires place { place < LINE_WORDS }
+        ensures means { result ≡ meaning (word_of (slice_index_or self.now slot []) place) }
+        ensures encodable { IfSome result IsEncodable }
+    {
+        self.instructions[LINE_WORDS * slot + place]
+    }
+}
