@@ -1,5 +1,6 @@
 pub mod Overwritten
 pub mod LineBytes
+pub mod Bytes
 pub mod Views
 pub mod Touching
 pub mod Pieced
@@ -13,6 +14,6 @@ pub mod Unmapping
 pub mod InOne
 pub mod InTwo
 pub mod Truths
-pub mod Fronting
 pub mod Counting
+pub mod Fronting
 pub mod Noting

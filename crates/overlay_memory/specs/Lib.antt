@@ -3,9 +3,9 @@
 pub mod View
 pub mod Codes
 pub mod Translated
-pub mod Fronts
 pub mod Room
 pub mod Access
+pub mod Fronts
 pub mod Pieces
 pub mod StateMemory
 pub mod PageLaws

@@ -18,6 +18,7 @@ ghost use Rattle.overlay_pages.specs.Changes.{AreAbsent, Fits, HasCopyRoom, HasS
 ghost use Rattle.overlay_pages.specs.View.{HasOwnPlace, IsJoined, place_at};
 ghost use Rattle.overlay_pages.specs.Calls.{AreMapped, AreShared, AreZeros, AwaitBare, AwaitsLike, HasSettledBlocks, IsEmptyState, IsNextPage, KeepsWholeBlocks, NoneAwaitsBelow, entries_in};
 ghost use Rattle.overlay_memory.specs.Access.{IsFirstAbsent, Places, Reads, Stores};
+ghost use Rattle.overlay_memory.specs.Fronts.{IsKnownWord};
 ghost use Rattle.overlay_memory.specs.Pieces.{emptied_space};
 ghost use Rattle.overlay_memory.specs.Room.{FallsShort};
 ghost use Rattle.overlay_memory.specs.Translated.{access_at, after_access};
@@ -29,7 +30,7 @@ ghost use Rattle.overlay_memory.specs.contracts.memory.OverlayMemory.{the_row};
 
 use crate::error::{MemoryError, Shortage, SpaceError};
 use crate::fronts::Fronts;
-use crate::reading::{fetch_anew, is_in_line, line_of, load_line, read_bytes, word_in};
+use crate::reading::{fetch_anew, is_in_line, load_line, read_bytes};
 use crate::removing::{remove_pages, unmap_pages};
 use crate::room::{shortage_by, shortage_of};
 use crate::storing::{store_line, write_pages};
@@ -39,6 +40,7 @@ use overlay_bits::Bits;
 use overlay_pages::OverlayPages;
 use ovl_io::Perms;
 use page_table::PageTable;
+use rv_decode::Instr;
 use sizes::{FRAME_UNITS, PAGE_BYTES};
 use std::alloc::{AllocError, Global};
 use std::marker::Model;
@@ -67,7 +69,7 @@ impl Model for OverlayMemory {
     ghost view = { λ m. record { pages = m.pages; cache = m.cache } };
 
     ghost invariant = { λ m. AreTranslated (state_of m.pages) m.cache
-        × AreFronts m.pages.table (bare m.cache) m.fronts };
+        × AreFronts m.pages (bare m.cache) m.fronts };
 }
 
 impl OverlayMemory {
@@ -79,14 +81,14 @@ impl OverlayMemory {
         ensures state { IfOk result (λ made. IsEmptyState frames (state_of made)) }
         ensures translations { IfOk result (λ made. translations_of made ≡ no_translations) }
     {
-        match OverlayPages::new(alloc, frames) {
-            Ok(pages) => Ok(OverlayMemory {
-                pages,
-                cache: Cache::new(),
-                fronts: Fronts::new(),
-            }),
-            Err(AllocError) => Err(AllocError),
-        }
+        let pages = OverlayPages::new(alloc, frames)?;
+        let fronts = Fronts::new(alloc)?;
+        let cache = Cache::new();
+        Ok(OverlayMemory {
+            pages,
+            cache,
+            fronts,
+        })
     }
 
     /// Whether a space is there. Costs a step.
@@ -289,9 +291,8 @@ impl OverlayMemory {
         read_bytes(&self.pages, space, address, into, need)
     }
 
-    /// As `load` with the need X, of the four bytes at an address that is a multiple of 4. Costs a few steps where they are in the line
-    /// that was fetched from last.
-    #[inline]
+    /// As `load` with the need X, of the four bytes at an address that is a multiple of 4.
+    #[inline(never)]
     pub fn fetch(&mut self, space: u16, address: u64, word: &mut [u8; 4]) -> Result<(), MemoryError>
         requires aligned { address % 4 ≡ 0 }
         ensures access { Reads (state_of self.old) space executable address 4 result }
@@ -301,20 +302,33 @@ impl OverlayMemory {
         ensures translations { translations_of self.new
             ≡ after_access self.old space (access_at executable address 4) }
     {
+        fetch_anew(
+            &self.pages,
+            &mut self.cache,
+            &mut self.fronts,
+            space,
+            address,
+            word,
+        )
+    }
+
+    /// As `fetch`, of a word in the line that was fetched from last, with what it means by the table of instructions; or none, and nothing
+    /// was done. Costs a few steps.
+    #[inline]
+    pub fn fetch_known(&mut self, space: u16, address: u64) -> Option<Option<Instr>>
+        requires aligned { address % 4 ≡ 0 }
+        ensures word { IfSome result (IsKnownWord (state_of self.old) space address) }
+        ensures same { self.new.pages ≡ self.old.pages }
+        ensures none { result ≡ None → self.new ≡ self.old }
+        ensures translations { IfSome result (λ i. translations_of self.new
+            ≡ after_access self.old space (access_at executable address 4)) }
+    {
         match self.fronts.code(space, address) {
-            Some(page) => {
+            Some(code) => {
                 self.cache.count_hits(1);
-                *word = word_in(&self.pages, page.line(line_of(address)), address);
-                Ok(())
+                Some(self.fronts.instruction(code, address))
             }
-            None => fetch_anew(
-                &self.pages,
-                &mut self.cache,
-                &mut self.fronts,
-                space,
-                address,
-                word,
-            ),
+            None => None,
         }
     }
 

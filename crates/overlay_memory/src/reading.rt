@@ -111,19 +111,6 @@ pub(crate) fn read_found(
     }
 }
 
-/// The four bytes from an address on that is a multiple of 4, in a line that was found.
-#[inline]
-pub(crate) fn word_in(pages: &OverlayPages, found: FoundLine, address: u64) -> [u8; 4]
-    requires found { IsFoundIn pages.now found.space address found }
-    requires aligned { address % 4 ≡ 0 }
-    ensures bytes { result ≡ bytes_at (memory_of (state_of pages.now) found.space) address 4 }
-    ensures joined { IsJoined pages.now }
-{
-    let at = (address % LINE_BYTES as u64) as usize;
-    let line = pages.line_at(found);
-    [line[at], line[at + 1], line[at + 2], line[at + 3]]
-}
-
 /// Fills `into`, of some bytes, with those from an address on, all in one line.
 fn read_line(
     pages: &OverlayPages,
@@ -206,7 +193,7 @@ pub(crate) fn load_line(
     requires some { 0 < length into.old }
     requires one_line { address % LINE_BYTES + length into.old ≤ LINE_BYTES }
     requires held { AreTrue (state_of pages.now) cache.old }
-    requires fronts { AreFronts pages.now.table (bare cache.old) fronts.old }
+    requires fronts { AreFronts pages.now (bare cache.old) fronts.old }
     ensures access { Reads (state_of pages.now) space need.0 address (length into.old) result }
     ensures bytes { OnOk result (into.new
         ≡ bytes_at (memory_of (state_of pages.now) space) address (length into.old)) }
@@ -214,7 +201,7 @@ pub(crate) fn load_line(
     ensures translated { bare cache.new
         ≡ translated space (memory_of (state_of pages.now) space) (address / PAGE_BYTES) (bare cache.old) }
     ensures held { AreTrue (state_of pages.now) cache.new }
-    ensures fronts { AreFronts pages.now.table (bare cache.new) fronts.new }
+    ensures fronts { AreFronts pages.now (bare cache.new) fronts.new }
 {
     match translate(pages, cache, fronts, space, address / PAGE_BYTES as u64) {
         Some(page) => read_found(pages, page.line(line_of(address)), address, into, need),
@@ -222,8 +209,7 @@ pub(crate) fn load_line(
     }
 }
 
-/// As `fetch` of `OverlayMemory`, of a word that isn't known to lie in the line of the last fetch.
-#[inline(never)]
+/// As `fetch` of `OverlayMemory`. The line is known from then on.
 pub(crate) fn fetch_anew(
     pages: &OverlayPages,
     cache: &mut Cache,
@@ -234,21 +220,22 @@ pub(crate) fn fetch_anew(
 ) -> Result<(), MemoryError>
     requires aligned { address % 4 ≡ 0 }
     requires held { AreTrue (state_of pages.now) cache.old }
-    requires fronts { AreFronts pages.now.table (bare cache.old) fronts.old }
+    requires fronts { AreFronts pages.now (bare cache.old) fronts.old }
     ensures access { Reads (state_of pages.now) space executable address 4 result }
     ensures bytes { OnOk result (word.new
         ≡ bytes_at (memory_of (state_of pages.now) space) address 4) }
     ensures translated { bare cache.new
         ≡ translated space (memory_of (state_of pages.now) space) (address / PAGE_BYTES) (bare cache.old) }
     ensures held { AreTrue (state_of pages.now) cache.new }
-    ensures fronts { AreFronts pages.now.table (bare cache.new) fronts.new }
+    ensures fronts { AreFronts pages.now (bare cache.new) fronts.new }
 {
     match translate(pages, cache, fronts, space, address / PAGE_BYTES as u64) {
         Some(page) => {
+            let found = page.line(line_of(address));
             if page.perms.contains(Perms::X) {
-                fronts.keep_code(address, page);
+                fronts.keep_code(address / LINE_BYTES as u64, page, pages.line_at(found));
             }
-            read_found(pages, page.line(line_of(address)), address, word, Perms::X)
+            read_found(pages, found, address, word, Perms::X)
         }
         None => Err(MemoryError::Unmapped(address)),
     }

@@ -210,12 +210,12 @@ pub(crate) fn store_line(
     requires some { 0 < length bytes.now }
     requires one_line { address % LINE_BYTES + length bytes.now ≤ LINE_BYTES }
     requires held { AreTrue (state_of pages.old) cache.old }
-    requires fronts { AreFronts pages.old.table (bare cache.old) fronts.old }
+    requires fronts { AreFronts pages.old (bare cache.old) fronts.old }
     ensures stores { Stores pages.old pages.new space address bytes.now result }
     ensures held { AreTrue (state_of pages.new) cache.new }
     ensures translated { bare cache.new
         ≡ translated space (memory_of (state_of pages.old) space) (address / PAGE_BYTES) (bare cache.old) }
-    ensures fronts { AreFronts pages.new.table (bare cache.new) fronts.new }
+    ensures fronts { AreFronts pages.new (bare cache.new) fronts.new }
 {
     if let Some(page) = translate(pages, cache, fronts, space, address / PAGE_BYTES as u64) {
         let line = line_of(address);
@@ -226,6 +226,7 @@ pub(crate) fn store_line(
                 (address % LINE_BYTES as u64) as usize,
                 bytes,
             );
+            fronts.forget_line(address / LINE_BYTES as u64);
             return Ok(());
         }
     }

@@ -48,13 +48,13 @@ fn translate_anew(
     page: u64,
 ) -> Option<FoundPage>
     requires held { AreTrue (state_of pages.now) cache.old }
-    requires fronts { AreFronts pages.now.table (bare cache.old) fronts.old }
+    requires fronts { AreFronts pages.now (bare cache.old) fronts.old }
     ensures found { FindsPage pages.now space page result }
     ensures front { IfSome result (λ found. IsFront found.space found.page (bare cache.new)) }
     ensures translated { bare cache.new
         ≡ translated space (memory_of (state_of pages.now) space) page (bare cache.old) }
     ensures held { AreTrue (state_of pages.now) cache.new }
-    ensures fronts { AreFronts pages.now.table (bare cache.new) fronts.new }
+    ensures fronts { AreFronts pages.now (bare cache.new) fronts.new }
 {
     match pages.find_page(space, page) {
         Some(found) => {
@@ -108,13 +108,13 @@ pub(crate) fn translate(
     page: u64,
 ) -> Option<FoundPage>
     requires held { AreTrue (state_of pages.now) cache.old }
-    requires fronts { AreFronts pages.now.table (bare cache.old) fronts.old }
+    requires fronts { AreFronts pages.now (bare cache.old) fronts.old }
     ensures found { FindsPage pages.now space page result }
     ensures front { IfSome result (λ found. IsFront found.space found.page (bare cache.new)) }
     ensures translated { bare cache.new
         ≡ translated space (memory_of (state_of pages.now) space) page (bare cache.old) }
     ensures held { AreTrue (state_of pages.now) cache.new }
-    ensures fronts { AreFronts pages.now.table (bare cache.new) fronts.new }
+    ensures fronts { AreFronts pages.now (bare cache.new) fronts.new }
 {
     match fronts.page(space, page) {
         Some(found) => {
@@ -135,12 +135,12 @@ fn translate_for(
     need: Perms,
 ) -> bool
     requires held { AreTrue (state_of pages.now) cache.old }
-    requires fronts { AreFronts pages.now.table (bare cache.old) fronts.old }
+    requires fronts { AreFronts pages.now (bare cache.old) fronts.old }
     ensures allowed { result ≡ page_allows (memory_of (state_of pages.now) space) need.0 page }
     ensures translated { bare cache.new
         ≡ translated space (memory_of (state_of pages.now) space) page (bare cache.old) }
     ensures held { AreTrue (state_of pages.now) cache.new }
-    ensures fronts { AreFronts pages.now.table (bare cache.new) fronts.new }
+    ensures fronts { AreFronts pages.now (bare cache.new) fronts.new }
 {
     match translate(pages, cache, fronts, space, page) {
         Some(found) => found.perms.contains(need),
@@ -160,11 +160,11 @@ pub(crate) fn translate_access(
     need: Perms,
 )
     requires held { AreTrue (state_of pages.now) cache.old }
-    requires fronts { AreFronts pages.now.table (bare cache.old) fronts.old }
+    requires fronts { AreFronts pages.now (bare cache.old) fronts.old }
     ensures translated { bare cache.new ≡ access_translated space (memory_of (state_of pages.now) space)
         (access_at need.0 address count) (bare cache.old) }
     ensures held { AreTrue (state_of pages.now) cache.new }
-    ensures fronts { AreFronts pages.now.table (bare cache.new) fronts.new }
+    ensures fronts { AreFronts pages.now (bare cache.new) fronts.new }
 {
     if count == 0 {
         return;

@@ -14,7 +14,7 @@ use crate::regs::Regs;
 use crate::rows::action_of;
 use byteorder::{ByteOrder, LittleEndian};
 use ovl_io::FaultKind;
-use rv_decode::{Instr, decode};
+use rv_decode::Instr;
 
 // Numbers of two bytes are below this.
 const HALF_END: u64 = 1 << 16;
@@ -260,12 +260,9 @@ pub fn execute<M: GuestMemory>(regs: &mut Regs, mem: &mut M) -> Outcome
     if pc % 4 != 0 {
         return Outcome::Fault(FaultKind::Align, pc);
     }
-    let word = match mem.fetch(pc) {
-        Ok(word) => word,
-        Err(denied) => return Outcome::Fault(FaultKind::Fetch, denied.address),
-    };
-    match decode(word) {
-        Some(i) => perform(&i, regs, mem),
-        None => Outcome::Fault(FaultKind::Illegal, pc),
+    match mem.instruction(pc) {
+        Ok(Some(i)) => perform(&i, regs, mem),
+        Ok(None) => Outcome::Fault(FaultKind::Illegal, pc),
+        Err(denied) => Outcome::Fault(FaultKind::Fetch, denied.address),
     }
 }

@@ -24,5 +24,5 @@ returns-in-Some-clause-held c =
 
 pub returns-in-Some-clause-fronts : goal.returns-in-Some-clause-fronts
 returns-in-Some-clause-fronts c =
-    hits_fronts c.args.pages.now.table (bare c.args.cache.now) (bare c.count_hits.new.self) 1 c.args.fronts.now
+    hits_fronts c.args.pages.now (bare c.args.cache.now) (bare c.count_hits.new.self) 1 c.args.fronts.now
     (ap bare c.count_hits.ensures ∙ bare_hits 1 c.args.cache.now) c.requires.fronts

@@ -9,4 +9,4 @@ use Rattle.translation_cache.specs.Counted.{pages_under}
 abbrev pub invariant-translating : goal.invariant-translating
 invariant-translating l =
     IsTranslatedFrom (state_of l.pages) l.space l.need.0 (pages_under l.address l.count) (bare l.fn.cache) l.cache (l.first + l.i) (l.more + 1 - l.i)
-    × AreFronts l.pages.table (bare l.cache) l.fronts
+    × AreFronts l.pages (bare l.cache) l.fronts

@@ -10,7 +10,7 @@ look_up-requires-clause-there c =
 
 pub returns-in-Some-clause-fronts : goal.returns-in-Some-clause-fronts
 returns-in-Some-clause-fronts c =
-    subst (AreFronts c.args.pages.now.table (bare c.look_up.new.cache)) (sym c.put.ensures)
+    subst (AreFronts c.args.pages.now (bare c.look_up.new.cache)) (sym c.put.ensures)
     (put_fronts c.args.pages.now c.args.space c.args.page (Some c.in-Some.found) (bare c.args.cache.now) (bare c.look_up.new.cache) c.args.fronts.now
     c.in-Some.ensures.found (formed_bare c.args.cache.now c.look_up.ensures.formed) c.look_up.ensures.translated c.requires.fronts)
 
@@ -21,6 +21,6 @@ returns-in-Some-clause-front c =
 
 pub returns-in-None-clause-fronts : goal.returns-in-None-clause-fronts
 returns-in-None-clause-fronts c =
-    subst (AreFronts c.args.pages.now.table (bare c.look_in_vain.new.cache)) (sym c.put-in-None.ensures)
+    subst (AreFronts c.args.pages.now (bare c.look_in_vain.new.cache)) (sym c.put-in-None.ensures)
     (put_fronts c.args.pages.now c.args.space c.args.page None (bare c.args.cache.now) (bare c.look_in_vain.new.cache) c.args.fronts.now
     c.in-None.ensures.found (formed_bare c.args.cache.now c.look_in_vain.ensures.formed) c.look_in_vain.ensures.translated c.requires.fronts)

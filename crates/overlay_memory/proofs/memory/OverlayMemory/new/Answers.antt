@@ -8,9 +8,9 @@ use Rattle.translation_cache.specs.declared.cached.Cached.{Cached}
 
 pub invariant_of-result : goal.invariant_of-result
 invariant_of-result c = (
-  with_cache (seen.state_of c.in-Ok.pages) _ c.new-in-Ok.result c.new-in-Ok.ensures (none_translated (seen.state_of c.in-Ok.pages) c.in-Ok.ensures.state.spaces),
-  none_known _ _ _ c.new-in-Ok-2.ensures,
+  with_cache (seen.state_of c.in_ok-pages.pages) _ c.new-cache.result c.new-cache.ensures (none_translated (seen.state_of c.in_ok-pages.pages) c.in_ok-pages.ensures.state.spaces),
+  none_known _ _ _ c.in_ok-fronts.ensures,
 )
 
-pub returns-in-Ok-clause-translations : goal.returns-in-Ok-clause-translations
-returns-in-Ok-clause-translations c = ap bare c.new-in-Ok.ensures ∙ bare_none Cached
+pub returns-clause-translations : goal.returns-clause-translations
+returns-clause-translations c = ap bare c.new-cache.ensures ∙ bare_none Cached
