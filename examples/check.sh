@@ -1,16 +1,30 @@
 #!/bin/sh
-# Runs each example and compares its report with the one that is expected.
+# Runs each example, and each exercise of lab/answers, and compares its report with the one that is expected.
 #
-#   examples/check.sh             with bin/overlay-run of this repository
-#   examples/check.sh PROGRAM     with another program
+#   examples/check.sh                         with bin/overlay-run of this repository
+#   examples/check.sh PROGRAM                 with another program
+#   examples/check.sh --rebuilt [PROGRAM]     and then once more with the programs as each RISC-V compiler that is there builds them
 #
 # An example is a folder with a file `script` and a file `report`: the script is run in that folder. Or it is a folder with a file
 # NAME.words and a file NAME.report for each of its runs: the program gets these words, one a line, and nothing on standard input.
+#
+# A built program has its own number of instructions. So the reports of rebuilt ones are compared without T of `ran T ended`, `ran T idle`
+# and `ran T break`, and without the hits and misses of `stats`; all else has to be the same. They are built in a folder of their own, at
+# -O0, -O1 and -O2. The program of `debugger` isn't: its script goes with the stored file.
+#
+# Where Python is there, the tools are tried too: each script is checked, and the table of one is compared with the stored one.
+#
 # The last line counts the runs. Ends with 0 where every report is the expected one, 1 where some differ, 2 where the program
 # can't be run.
 
 here=$(cd "$(dirname "$0")" && pwd)
-program=${1:-$here/../bin/overlay-run}
+top=$(dirname "$here")
+rebuilt=
+if [ "${1:-}" = --rebuilt ]; then
+    rebuilt=yes
+    shift
+fi
+program=${1:-$top/bin/overlay-run}
 case $program in
     /*) ;;
     *) program=$(pwd)/$program ;;
@@ -25,29 +39,113 @@ fi
 passed=0
 failed=0
 
+# The counts of turns and of look-ups are left out of a report.
+without_counts() {
+    sed -e 's/^ran [0-9]* \(ended\|idle\|break\)$/ran T \1/' -e 's/ hits [0-9]* misses [0-9]*$/ hits H misses M/'
+}
+
 # Counts a run: its name, the file of the report that is expected, and the report that was given, with an x behind it.
 # The x keeps the shell from dropping the line ends at the end.
 count() {
     if [ "$3" = "$(cat "$2" && echo x)" ]; then
         passed=$((passed + 1))
+        return
+    fi
+    failed=$((failed + 1))
+    if [ "$(printf '%s' "$3" | without_counts)" = "$({ cat "$2" && echo x; } | without_counts)" ]; then
+        echo "$1: differs in counts of turns or look-ups alone, as a rebuilt program does: see --rebuilt"
     else
         echo "$1: differs"
-        failed=$((failed + 1))
     fi
 }
 
-for script in "$here"/*/script; do
+# Counts a run of a rebuilt program.
+count_rebuilt() {
+    if [ "$(printf '%s' "$3" | without_counts)" = "$({ cat "$2" && echo x; } | without_counts)" ]; then
+        passed=$((passed + 1))
+    else
+        failed=$((failed + 1))
+        echo "$1: differs"
+    fi
+}
+
+# Where the answers of the exercises were taken away, the examples alone are run.
+[ -d "$top/lab/answers" ] || echo "no lab/answers here: the exercises aren't run"
+
+for script in "$here"/*/script "$top"/lab/answers/*/script; do
+    [ -f "$script" ] || continue
     folder=$(dirname "$script")
     given=$(cd "$folder" && "$program" < script && echo x)
-    count "$(basename "$folder")" "$folder/report" "$given"
+    count "${folder#"$top"/}" "$folder/report" "$given"
 done
 
 for words in "$here"/*/*.words; do
     run=${words%.words}
     # A word has no blank in it and no pattern, so it may stand without quotes.
     given=$("$program" $(cat "$words") < /dev/null && echo x)
-    count "${run#"$here"/}" "$run.report" "$given"
+    count "${run#"$top"/}" "$run.report" "$given"
 done
+
+if "$top/tools/with-python" -c '' 2>/dev/null; then
+    set -- "$here"/*/script
+    [ -d "$top/lab/answers" ] && set -- "$@" "$top"/lab/answers/*/script
+    if "$top/tools/check-script" "$@"; then
+        passed=$((passed + 1))
+    else
+        failed=$((failed + 1))
+        echo "tools/check-script: finds something wrong with the scripts"
+    fi
+    given=$(cd "$top/tools/tried" && ../check-script faulty; echo "status $?"; echo x)
+    count tools/check-script "$top/tools/tried/faulty.said" "$given"
+    given=$("$top/tools/figures" --program "$program" --copies --table --held "$here/transfer/script" && echo x)
+    count tools/figures "$top/tools/tried/transfer.figures" "$given"
+else
+    echo "no Python 3.8 or later here: the tools aren't tried"
+fi
+
+# Builds the programs with a compiler at a level, runs what they are for, and counts the runs.
+rebuild() {
+    compiler=$1
+    level=$2
+    built=$folders/$((number = number + 1))
+    mkdir "$built"
+    cp -r "$here" "$top/lab" "$built"
+    for part in examples lab; do
+        if ! make -s -B -C "$built/$part" programs COMPILER="$compiler" LEVEL="$level"; then
+            failed=$((failed + 1))
+            echo "$compiler $level: not built"
+            return
+        fi
+    done
+    for script in "$built"/examples/*/script "$built"/lab/answers/*/script; do
+        [ -f "$script" ] || continue
+        folder=$(dirname "$script")
+        name=${folder#"$built"/}
+        [ "$name" = examples/debugger ] && continue
+        given=$(cd "$folder" && "$program" < script && echo x)
+        count_rebuilt "$name, $compiler $level" "$folder/report" "$given"
+    done
+}
+
+if [ -n "$rebuilt" ]; then
+    number=0
+    folders=$(mktemp -d)
+    trap 'rm -rf "$folders"' EXIT
+    for compiler in riscv64-linux-gnu-gcc riscv64-unknown-elf-gcc 'clang --target=riscv64-linux-gnu -fuse-ld=lld'; do
+        if ! command -v make >/dev/null; then
+            echo "no make here: nothing is built with $compiler"
+        elif ! command -v "${compiler%% *}" >/dev/null; then
+            echo "no ${compiler%% *} here: nothing is built with it"
+        elif [ "${compiler%% *}" = clang ] && ! command -v ld.lld >/dev/null; then
+            echo "no ld.lld here: nothing is built with clang"
+        else
+            for level in -O0 -O1 -O2; do
+                rebuild "$compiler" "$level"
+            done
+        fi
+    done
+    echo "debugger: its script names addresses of the stored file, so it isn't rebuilt"
+fi
 
 echo "examples: $passed passed, $failed failed"
 [ "$failed" = 0 ]

@@ -65,6 +65,29 @@ static void end_line(void)
     line_length = 0;
 }
 
+/* Waits for so many rounds of two instructions each. Where a script is to act while a program waits, it steps into such a wait: its
+   instructions are written out, so that every compiler's build waits equally long, whatever it took to come there. */
+static inline void wait_rounds(long rounds)
+{
+    __asm__ volatile("1: addi %0, %0, -1\n\tbne %0, zero, 1b" : "+r"(rounds));
+}
+
+#define STACK_LINES 7
+
+/* Stores into the top lines of the stack what they have: as many as the examples need, whichever compiler built them, so that the stack's
+   overlay has these lines in every build. The stack ends with the page that sp points into. */
+static inline void touch_stack(void)
+{
+    unsigned long sp;
+
+    __asm__ volatile("addi %0, sp, 0" : "=r"(sp));
+    for (unsigned long at = 1; at <= STACK_LINES; at++) {
+        volatile char *byte = (volatile char *)((sp | 4095) + 1 - 64 * at);
+
+        *byte = *byte;
+    }
+}
+
 int main(void);
 
 /* The machine begins here, with sp set and every other register zero. */

@@ -7,6 +7,9 @@
 #define REQUEST_PROCESS 172
 #define SIDE 8
 
+/* How long it waits before it asks for its number: 400,000 instructions. */
+#define ROUNDS 200000
+
 /* Squares that are attacked, row by row. A board is one line of memory. */
 struct board {
     unsigned char attacked[SIDE][SIDE];
@@ -70,15 +73,18 @@ static void put_queen(int row, int column)
 /* The exit code is how many queens were put. */
 int main(void)
 {
+    touch_stack();
     fill_attacks();
     for (int row = 0; row < SIDE; row++) {
-        int column;
+        int column = 0;
         int count = say_free(row, &column);
 
         if (count == 0)
             return row;
-        if (count > 1)
+        if (count > 1) {
+            wait_rounds(ROUNDS);
             column = request(REQUEST_PROCESS, 0, 0, 0);
+        }
         if (!is_free(row, column)) {
             put_text("not free: ");
             put_number(column);

@@ -9,6 +9,12 @@
 #define PAGES 8
 #define CHANGES 3
 
+/* How long it waits once the table is filled, for the script to fork it. */
+#define FILLED_ROUNDS 100000
+
+/* How much longer than the one before each process waits before a change, so that they come in the order of their numbers. */
+#define CHANGE_ROUNDS 512
+
 /* It stands in the file, so that each of its pages has a frame from the start. */
 static long table[PAGES * PAGE_LINES * LINE] __attribute__((aligned(4096))) = { 1 };
 
@@ -41,13 +47,16 @@ int main(void)
 {
     long number;
 
+    touch_stack();
     fill();
     put_text("filled: ");
     put_number(sum());
     end_line();
+    wait_rounds(FILLED_ROUNDS);
 
     number = request(REQUEST_PROCESS, 0, 0, 0);
     for (long page = 1; page <= CHANGES; page++) {
+        wait_rounds(CHANGE_ROUNDS * number);
         change(page, number, -number);
         put_text("process ");
         put_number(number);

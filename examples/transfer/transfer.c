@@ -7,6 +7,9 @@
 #define TO 700
 #define AMOUNT 100
 
+/* How long it waits before the transfer, and after it, for the script to act. */
+#define ROUNDS 10000
+
 /* They stand in the file, so that each of their two pages has a frame from the start, and are read and written there. */
 static volatile long balances[BALANCES] __attribute__((aligned(4096))) = { [FROM] = 1000, [TO] = 50 };
 
@@ -29,8 +32,12 @@ static void transfer(long amount)
 /* The exit code is 0 where the sum is what it was. */
 int main(void)
 {
+    touch_stack();
     say("before");
+    wait_rounds(ROUNDS);
+    touch_stack();
     transfer(AMOUNT);
     say("after");
+    wait_rounds(ROUNDS);
     return balances[FROM] + balances[TO] != 1050;
 }

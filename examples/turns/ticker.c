@@ -1,17 +1,12 @@
-/* Says three times what its number is, with some work between. Processes of this file that take turns say it in turn. */
+/* Says three times what its number is, and waits between. Processes of this file that take turns say it in turn. */
 
 #include "../guest.h"
 
 #define REQUEST_PROCESS 172
 #define TIMES 3
-#define WORK 60
 
-/* So many steps that come to nothing. */
-static void work(int steps)
-{
-    for (volatile int left = steps; left > 0; left--)
-        ;
-}
+/* How long it waits behind each line. */
+#define ROUNDS 10000
 
 /* The exit code is the process's number. */
 int main(void)
@@ -24,7 +19,7 @@ int main(void)
         put_text(", time ");
         put_number(time);
         end_line();
-        work(WORK);
+        wait_rounds(ROUNDS);
     }
     return number;
 }

@@ -5,6 +5,9 @@
 #define REQUEST_PROCESS 172
 #define SHARE 8
 
+/* How much longer than the one before each worker waits before it says its sum, so that they come in the order of their numbers. */
+#define ROUNDS 1024
+
 static const int table[] = {
     17, 4, 250, -31, 8, 1000, 6, -2,
     90, 90, -45, 12, 7, 301, 44, 5,
@@ -27,6 +30,7 @@ int main(void)
     }
     for (unsigned long at = (share - 1) * SHARE; at < share * SHARE; at++)
         sum += table[at];
+    wait_rounds(ROUNDS * share);
     put_text("share ");
     put_number(share);
     put_text(" of ");

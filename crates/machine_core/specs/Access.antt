@@ -9,12 +9,9 @@ use Rattle.overlay_memory.specs.declared.error.MemoryError.{MemoryError}
 use Rattle.overlay_memory.specs.declared.error.MemoryError.TheVariants.{Unmapped, Forbidden, Full}
 use Rattle.overlay_pages.specs.State.{State, memory_of}
 use Rattle.overlay_pages.specs.Changes.{Fits, limit_of}
-use Rattle.overlay_pages.specs.View.{MemoryView}
 use Rattle.overlay_memory.specs.View.{state_of, translations_of}
 use Rattle.translation_cache.specs.Bare.{BareTranslations}
 use Rattle.translation_cache.specs.Counted.{counted}
-use Rattle.overlay_pages.specs.Spots.{IsFound}
-use Rattle.overlay_pages.specs.declared.spots.FoundLine.{FoundLine}
 use Rattle.space_maps.specs.Spaces.{holds_space}
 use Rattle.machine_core.specs.declared.view.View.{View}
 
@@ -43,15 +40,9 @@ lists_lent view = translations_of view.memory.now
 abbrev pub lists_after : View → Access → BareTranslations
 lists_after view access = counted view.space (memory_of (spaces_lent view) view.space) (access ∷ []) (lists_lent view)
 
--- The line in hand, where there is one, is of this space, and stands as it was found.
-abbrev pub IsInHand : MemoryView → ℕ → Option FoundLine → Type 0
-IsInHand view space None = Unit {0}
-IsInHand view space (Some found) = (found.space ≡ space) × IsFound view found
-
 -- its space is there
 pub record IsReadyView (view : View) : Type 0 where
   pub there : holds_space (spaces_lent view) view.space ≡ true
-  pub in_hand : IsInHand view.memory.now.pages view.space view.code
 
 -- the same loan of the same space
 pub record IsSameLoan (old new : View) : Type 0 where

@@ -221,10 +221,6 @@ pub(crate) fn execute_up_to(
     ensures saved { process.new.saved ≡ process.old.saved }
     ensures beside { IsBeside p (state_of memory.old) (state_of memory.new) }
 {
-    let mut view = View {
-        memory,
-        space: p,
-        code: None,
-    };
+    let mut view = View { memory, space: p };
     step_up_to(process, &mut view, most, stops)
 }

@@ -1,54 +1,19 @@
 //! The memory of one space, as an instruction sees it.
 
-ghost use Rattle.std.specs.Prelude.{◌≡◌, ◌==◌, ◌&&◌, ◌/◌, ◌%◌, IsSome, Some};
-ghost use Rattle.sizes.specs.declared.TheConstants.{LINE_BYTES, PAGE_BYTES, PAGE_LINES};
-ghost use Rattle.overlay_memory.specs.Access.{FindsIn};
-ghost use Rattle.machine_core.specs.Access.{IsInHand, failed_at, refusal_of};
+ghost use Rattle.std.specs.Prelude.{◌≡◌, IsSome, Some};
+ghost use Rattle.machine_core.specs.Access.{failed_at, refusal_of};
 
 use bitflags::Flags;
 use byteorder::{ByteOrder, LittleEndian};
-use overlay_memory::{FoundLine, MemoryError, OverlayMemory};
+use overlay_memory::{MemoryError, OverlayMemory};
 use ovl_io::Perms;
 use rv_execute::{Denied, GuestMemory, Refused};
-use sizes::{LINE_BYTES, PAGE_BYTES, PAGE_LINES};
 
-/// The memory of all spaces, the number of one that is there, and the line of the last fetch, where it still stands as it was
-/// found.
+/// The memory of all spaces, and the number of one that is there.
 #[derive(Drop)]
 pub(crate) struct View<'a> {
     pub(crate) memory: &'a mut OverlayMemory,
     pub(crate) space: u16,
-    pub(crate) code: Option<FoundLine>,
-}
-
-/// Whether an address is in a line.
-#[inline]
-fn is_in(found: &FoundLine, address: u64) -> bool
-    ensures { result ≡ (found.now.page == address / PAGE_BYTES
-        && found.now.line == address / LINE_BYTES % PAGE_LINES) }
-{
-    found.page == address / PAGE_BYTES as u64
-        && u64::from(found.line) == address / LINE_BYTES as u64 % PAGE_LINES as u64
-}
-
-/// The line with the byte at an address of a space: the one in hand, or else it is found. None exactly where its page isn't
-/// there.
-#[inline]
-fn line_of(
-    memory: &OverlayMemory,
-    space: u16,
-    code: &Option<FoundLine>,
-    address: u64,
-) -> Option<FoundLine>
-    requires { IsInHand memory.now.pages space code.now }
-    ensures { FindsIn memory.now.pages space address result }
-{
-    if let Some(found) = code {
-        if is_in(found, address) {
-            return Some(*found);
-        }
-    }
-    memory.find(space, address)
 }
 
 /// Where bytes may not be used.
@@ -94,13 +59,7 @@ impl<'a> GuestMemory for View<'a> {
     #[inline]
     fn fetch(&mut self, address: u64) -> Result<u32, Denied> {
         let mut word = [0; 4];
-        let code = line_of(self.memory, self.space, &self.code, address);
-        self.code = code;
-        let loaded = match code {
-            Some(found) => self.memory.load_found(found, address, &mut word, Perms::X),
-            None => self.memory.load(self.space, address, &mut word, Perms::X),
-        };
-        match loaded {
+        match self.memory.fetch(self.space, address, &mut word) {
             Ok(()) => Ok(LittleEndian::read_u32(&word)),
             Err(error) => Err(denied(error)),
         }
@@ -114,11 +73,9 @@ impl<'a> GuestMemory for View<'a> {
         }
     }
 
-    // A store may move lines, so none is kept in hand. After it the units are asked for what their contract says alone: that
-    // there are enough.
+    // After a store the units are asked for what their contract says alone: that there are enough.
     #[inline]
     fn store(&mut self, address: u64, bytes: &[u8]) -> Result<(), Refused> {
-        self.code = None;
         match self.memory.store(self.space, address, bytes) {
             Ok(()) => {
                 let _ = self.memory.units();

@@ -10,8 +10,7 @@ use Rattle.overlay_pages.specs.State.{PageState, State, memory_of, seen_page}
 use Rattle.overlay_memory.specs.PageLaws.{some_is}
 use Rattle.overlay_memory.specs.StateMemory.{memory_at}
 use Rattle.overlay_memory.specs.Translated.{access_at}
-use Rattle.overlay_memory.specs.View.{AreTrue, cached_page}
-use Rattle.overlay_memory.proofs.Truths.{cached_in}
+use Rattle.overlay_memory.specs.View.{AreTrue, cached_in, cached_page}
 use Rattle.space_maps.specs.Spaces.{page_in}
 use Rattle.translation_cache.specs.Bare.{BareTranslations, bare, bare_entered, bare_looked, found_bare}
 use Rattle.translation_cache.specs.Counted.{access_translated, counted, pages_under, translated, translated_pages}
@@ -88,6 +87,17 @@ module _ (v : State) (s p : ℕ) (t : Translations Cached) where
   pub absent_translated : (u : Translations Cached) → None ≡ found s p t → None ≡ cached_in v s p → u ≡ looked s p t → bare u ≡ translated s (memory_of v s) p (bare t)
   absent_translated u is none new =
       ap bare new ∙ bare_looked s p t ∙ sym (translated_absent s p (memory_of v s) (bare t) (found_is None is) (there_too None none))
+
+  -- it wasn't, since the page isn't there
+  pub vain_translated : (u : Translations Cached) → AreTrue v t → page_in v s p ≡ None → u ≡ looked s p t → bare u ≡ translated s (memory_of v s) p (bare t)
+  vain_translated u entries absent new = by_found (found s p t) refl
+    where
+      none : None ≡ cached_in v s p
+      none = sym (ap (option_map cached_page) absent)
+
+      by_found : (o : Option Cached) → found s p t ≡ o → bare u ≡ translated s (memory_of v s) p (bare t)
+      by_found None is = absent_translated u (sym is) none new
+      by_found (Some held) is = let no_page = ap is_some (none ∙ entries s p held is) in cc
 
 -- The pages of an access.
 

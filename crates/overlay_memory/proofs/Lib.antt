@@ -13,5 +13,6 @@ pub mod Unmapping
 pub mod InOne
 pub mod InTwo
 pub mod Truths
+pub mod Fronting
 pub mod Counting
 pub mod Noting

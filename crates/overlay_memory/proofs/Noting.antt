@@ -11,8 +11,7 @@ use Rattle.overlay_pages.specs.Changes.{brought, with_brought, writes_frame}
 use Rattle.overlay_pages.specs.State.{PageState, State}
 use Rattle.overlay_pages.specs.View.{IsJoined, MemoryView, state_of}
 use Rattle.overlay_memory.specs.PageLaws.{has_page, some_is}
-use Rattle.overlay_memory.specs.View.{AreTrue, cached_page}
-use Rattle.overlay_memory.proofs.Truths.{cached_in}
+use Rattle.overlay_memory.specs.View.{AreTrue, cached_in, cached_page}
 use Rattle.overlay_memory.proofs.Views.{own_set}
 use Rattle.space_ledger.specs.Joined.{put_same}
 use Rattle.space_maps.specs.Laws.{changed_there, page_put_beside, page_put_here}

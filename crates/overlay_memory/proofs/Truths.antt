@@ -21,7 +21,7 @@ use Rattle.overlay_memory.specs.declared.error.MemoryError.TheVariants.{Unmapped
 use Rattle.overlay_memory.specs.PageLaws.{HasPage, has_page, held_there, some_is}
 use Rattle.overlay_memory.specs.Pieces.{AreBeside, IsFilled, emptied_space}
 use Rattle.overlay_memory.specs.StateMemory.{entries_at}
-use Rattle.overlay_memory.specs.View.{AreTranslated, AreTrue, AwaitApart, TranslatedView, cached_page, state_of, translations_of}
+use Rattle.overlay_memory.specs.View.{AreTranslated, AreTrue, AwaitApart, TranslatedView, cached_in, cached_page, state_of, translations_of}
 use Rattle.space_ledger.specs.View.{PageView}
 use Rattle.space_maps.specs.Laws.{KeepsSpaces, are_cut, are_put, changed_there, in_space, keeps_page_put, page_absent, page_added, page_awaited, page_marked, page_of, page_put_beside, page_shared_beside, space_beside, space_left, space_put, there_space}
 use Rattle.space_maps.specs.Options.{none_by}
@@ -35,10 +35,6 @@ use Rattle.translation_cache.specs.declared.cached.Cached.{Cached}
 -- What changes of pages leave of it that each entry is true, and that no page that awaits is there.
 
 -- Entries.
-
--- pages as an entry holds them
-abbrev pub cached_in : State → ℕ → ℕ → Option Cached
-cached_in v s p = option_map cached_page (page_in v s p)
 
 -- all pages are as they were
 pub true_same : (old new : State) (t : Translations Cached) → ((q r : ℕ) → cached_in new q r ≡ cached_in old q r) → AreTrue old t → AreTrue new t

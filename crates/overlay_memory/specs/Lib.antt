@@ -3,6 +3,7 @@
 pub mod View
 pub mod Codes
 pub mod Translated
+pub mod Fronts
 pub mod Room
 pub mod Access
 pub mod Pieces

@@ -1,4 +1,4 @@
-use Rattle.std.specs.Prelude.{◌≡◌, ℕ, List, Some, is_some, true, None}
+use Rattle.std.specs.Prelude.{◌≡◌, ℕ, List, Option, Some, is_some, true, None}
 use Rattle.std.specs.Option.{option_map}
 use Rattle.std.specs.FinMap.{get}
 use Rattle.overlay_pages.specs.Calls as below
@@ -35,9 +35,12 @@ with_line_at_place view at bytes = record { pages = below.with_line_at_place vie
 abbrev pub cached_page : PageState → Cached
 cached_page x = record { perms = x.entry.perms; frame = x.entry.frame; bits = x.own }
 
+abbrev pub cached_in : State → ℕ → ℕ → Option Cached
+cached_in state space page = option_map cached_page (page_in state space page)
+
 -- each entry is true: it holds the permissions, the frame and the own lines that the tables have for its page
 abbrev pub AreTrue : State → Translations Cached → Type 0
-AreTrue state t = (space page : ℕ) (held : Cached) → found space page t ≡ Some held → option_map cached_page (page_in state space page) ≡ Some held
+AreTrue state t = (space page : ℕ) (held : Cached) → found space page t ≡ Some held → cached_in state space page ≡ Some held
 
 -- no page that awaits is there already
 abbrev pub AwaitApart : State → Type 0

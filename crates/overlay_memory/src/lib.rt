@@ -6,6 +6,7 @@
 //! their entries hold.
 //!
 //! - `error`: why a call isn't done
+//! - `fronts`: pages at the front of their lists of translations
 //! - `memory`: the public type
 //! - `reading`: bytes out of the lines of pages
 //! - `removing`: pages that are taken away
@@ -15,6 +16,7 @@
 #![tactic(auto)]
 
 mod error;
+mod fronts;
 mod memory;
 mod reading;
 mod removing;
@@ -24,5 +26,4 @@ mod translating;
 
 pub use error::{MemoryError, Shortage, SpaceError};
 pub use memory::OverlayMemory;
-pub use overlay_pages::FoundLine;
 pub use space_ledger::class_of;

@@ -6,7 +6,7 @@ ghost use Rattle.std.specs.FinMap as map;
 ghost use Rattle.std.specs.Option.{option_map};
 ghost use Rattle.sizes.specs.declared.TheConstants.{LAST_SPACE, LINE_BYTES, MOST_FRAMES, MOST_SPACE_PAGES, MOST_UNITS, PAGE_BYTES, PAGE_END, PAGE_LINES};
 ghost use Rattle.ovl_io.specs.Memory.{bytes_at};
-ghost use Rattle.ovl_io.specs.Permissions.{writable};
+ghost use Rattle.ovl_io.specs.Permissions.{executable, writable};
 ghost use Rattle.ledger.specs.Ledger.{is_alone};
 ghost use Rattle.ledger.specs.Units.{own_lines};
 ghost use Rattle.space_maps.specs.Spaces.{bare_space, cut_pages, cut_space, holds_space, page_in, put_awaiting, put_mark, put_space, space_in, turned_page};
@@ -17,7 +17,7 @@ ghost use Rattle.overlay_pages.specs.State.{books, memory_of};
 ghost use Rattle.overlay_pages.specs.Changes.{AreAbsent, Fits, HasCopyRoom, HasShareRoom, IsPlaced, committed, copied, discarded, is_writable, limit_of, units_of, with_shared, with_written, with_zeros};
 ghost use Rattle.overlay_pages.specs.View.{HasOwnPlace, IsJoined, place_at};
 ghost use Rattle.overlay_pages.specs.Calls.{AreMapped, AreShared, AreZeros, AwaitBare, AwaitsLike, HasSettledBlocks, IsEmptyState, IsNextPage, KeepsWholeBlocks, NoneAwaitsBelow, entries_in};
-ghost use Rattle.overlay_memory.specs.Access.{FindsIn, IsFirstAbsent, IsFoundIn, Places, Reads, Stores};
+ghost use Rattle.overlay_memory.specs.Access.{IsFirstAbsent, Places, Reads, Stores};
 ghost use Rattle.overlay_memory.specs.Pieces.{emptied_space};
 ghost use Rattle.overlay_memory.specs.Room.{FallsShort};
 ghost use Rattle.overlay_memory.specs.Translated.{access_at, after_access};
@@ -28,14 +28,15 @@ ghost use Rattle.translation_cache.specs.Translations.{flushed, no_translations}
 ghost use Rattle.overlay_memory.specs.contracts.memory.OverlayMemory.{the_row};
 
 use crate::error::{MemoryError, Shortage, SpaceError};
-use crate::reading::{find_line, read_bytes, read_found};
+use crate::fronts::Fronts;
+use crate::reading::{fetch_anew, is_in_line, line_of, load_line, read_bytes, word_in};
 use crate::removing::{remove_pages, unmap_pages};
 use crate::room::{shortage_by, shortage_of};
-use crate::storing::write_bytes;
-use crate::translating::{translate, translate_access};
+use crate::storing::{store_line, write_pages};
+use crate::translating::translate_access;
 use bitflags::Flags;
 use overlay_bits::Bits;
-use overlay_pages::{FoundLine, OverlayPages};
+use overlay_pages::OverlayPages;
 use ovl_io::Perms;
 use page_table::PageTable;
 use sizes::{FRAME_UNITS, PAGE_BYTES};
@@ -49,11 +50,14 @@ use translation_cache::Cache;
 pub struct OverlayMemory {
     pages: OverlayPages,
     cache: Cache,
+    fronts: Fronts,
 }
 
 impl Model for OverlayMemory {
     ghost use Rattle.overlay_memory.specs.View.{AreTranslated, TranslatedView};
     ghost use Rattle.overlay_memory.specs.Codes.{memory_code};
+    ghost use Rattle.overlay_memory.specs.Fronts.{AreFronts};
+    ghost use Rattle.translation_cache.specs.Bare.{bare};
     ghost use Rattle.overlay_pages.specs.View.{state_of};
 
     ghost Value = { TranslatedView };
@@ -62,7 +66,8 @@ impl Model for OverlayMemory {
 
     ghost view = { λ m. record { pages = m.pages; cache = m.cache } };
 
-    ghost invariant = { λ m. AreTranslated (state_of m.pages) m.cache };
+    ghost invariant = { λ m. AreTranslated (state_of m.pages) m.cache
+        × AreFronts m.pages.table (bare m.cache) m.fronts };
 }
 
 impl OverlayMemory {
@@ -78,6 +83,7 @@ impl OverlayMemory {
             Ok(pages) => Ok(OverlayMemory {
                 pages,
                 cache: Cache::new(),
+                fronts: Fronts::new(),
             }),
             Err(AllocError) => Err(AllocError),
         }
@@ -104,6 +110,7 @@ impl OverlayMemory {
         ensures unseen { OnOk result
             (flushed space (translations_of self.old) ≡ translations_of self.old) }
     {
+        self.fronts.clear();
         match self.pages.add_space(space) {
             Ok(()) => {
                 self.cache.flush(space);
@@ -124,6 +131,7 @@ impl OverlayMemory {
         ensures none { (space_in (state_of self.old) space).pages ≡ map.empty
             → translations_of self.new ≡ translations_of self.old }
     {
+        self.fronts.clear();
         remove_pages(&mut self.pages, space);
         self.pages.end_space(space);
         self.cache.flush(space);
@@ -136,6 +144,7 @@ impl OverlayMemory {
         ensures state { state_of self.new ≡ emptied_space (state_of self.old) space }
         ensures translations { translations_of self.new ≡ flushed space (translations_of self.old) }
     {
+        self.fronts.clear();
         remove_pages(&mut self.pages, space);
         self.cache.flush(space);
     }
@@ -148,6 +157,7 @@ impl OverlayMemory {
         ensures state { state_of self.new ≡ cut_pages (state_of self.old) space page n }
         ensures translations { translations_of self.new ≡ flushed space (translations_of self.old) }
     {
+        self.fronts.clear();
         unmap_pages(&mut self.pages, space, page, n);
         self.cache.flush(space);
     }
@@ -173,6 +183,7 @@ impl OverlayMemory {
         ensures translations { OnOk result
             (translations_of self.new ≡ flushed space (translations_of self.old)) }
     {
+        self.fronts.clear();
         match self.pages.map_zero(space, page, n, perms) {
             Ok(()) => {
                 self.cache.flush(space);
@@ -203,6 +214,7 @@ impl OverlayMemory {
         if let Some(shortage) = shortage_by(&self.pages, FRAME_UNITS) {
             return Err(SpaceError::Full(shortage.needed, shortage.limit));
         }
+        self.fronts.clear();
         match self.pages.add_page(space, page, perms, bytes) {
             Ok(()) => Ok(()),
             Err(_) => Err(SpaceError::Memory),
@@ -231,7 +243,8 @@ impl OverlayMemory {
         ensures kept { OnErr result (self.new ≡ self.old) }
         ensures translations { translations_of self.new ≡ translations_of self.old }
     {
-        write_bytes(&mut self.pages, &mut self.cache, space, address, bytes)
+        self.fronts.clear();
+        write_pages(&mut self.pages, &mut self.cache, space, address, bytes)
     }
 
     /// Fills `into` with the bytes from an address on, for which each page needs the permission: X for a fetch, R for a load.
@@ -253,9 +266,21 @@ impl OverlayMemory {
         ensures translations { translations_of self.new
             ≡ after_access self.old space (access_at need.0 address (length into.old)) }
     {
+        if is_in_line(address, into.len()) {
+            return load_line(
+                &self.pages,
+                &mut self.cache,
+                &mut self.fronts,
+                space,
+                address,
+                into,
+                need,
+            );
+        }
         translate_access(
             &self.pages,
             &mut self.cache,
+            &mut self.fronts,
             space,
             address,
             into.len(),
@@ -264,37 +289,33 @@ impl OverlayMemory {
         read_bytes(&self.pages, space, address, into, need)
     }
 
-    /// Finds the line with the byte at an address. None exactly where its page isn't there. Costs a look-up of the page, and one
-    /// of its overlay. What was found stands until the memory is changed.
+    /// As `load` with the need X, of the four bytes at an address that is a multiple of 4. Costs a few steps where they are in the line
+    /// that was fetched from last.
     #[inline]
-    pub fn find(&self, space: u16, address: u64) -> Option<FoundLine>
-        ensures { FindsIn self.now.pages space address result }
-    {
-        find_line(&self.pages, space, address)
-    }
-
-    /// As `load`, of some bytes that are all in a line that was found. Costs a step.
-    #[inline]
-    pub fn load_found(
-        &mut self,
-        found: FoundLine,
-        address: u64,
-        into: &mut [u8],
-        need: Perms,
-    ) -> Result<(), MemoryError>
-        requires found { IsFoundIn self.old.pages found.space address found }
-        requires some { 0 < length into.old }
-        requires one_line { address % LINE_BYTES + length into.old ≤ LINE_BYTES }
-        ensures access { Reads (state_of self.old) found.space need.0 address (length into.old) result }
-        ensures bytes { OnOk result (into.new
-            ≡ bytes_at (memory_of (state_of self.old) found.space) address (length into.old)) }
-        ensures kept { length into.new ≡ length into.old }
+    pub fn fetch(&mut self, space: u16, address: u64, word: &mut [u8; 4]) -> Result<(), MemoryError>
+        requires aligned { address % 4 ≡ 0 }
+        ensures access { Reads (state_of self.old) space executable address 4 result }
+        ensures bytes { OnOk result (word.new
+            ≡ bytes_at (memory_of (state_of self.old) space) address 4) }
         ensures same { self.new.pages ≡ self.old.pages }
         ensures translations { translations_of self.new
-            ≡ after_access self.old found.space (access_at need.0 address (length into.old)) }
+            ≡ after_access self.old space (access_at executable address 4) }
     {
-        translate(&self.pages, &mut self.cache, found.space, found.page, need);
-        read_found(&self.pages, found, address, into, need)
+        match self.fronts.code(space, address) {
+            Some(page) => {
+                self.cache.count_hits(1);
+                *word = word_in(&self.pages, page.line(line_of(address)), address);
+                Ok(())
+            }
+            None => fetch_anew(
+                &self.pages,
+                &mut self.cache,
+                &mut self.fronts,
+                space,
+                address,
+                word,
+            ),
+        }
     }
 
     /// As `write`, for an instruction.
@@ -306,15 +327,27 @@ impl OverlayMemory {
         ensures translations { translations_of self.new
             ≡ after_access self.old space (access_at writable address (length bytes.now)) }
     {
+        if is_in_line(address, bytes.len()) {
+            return store_line(
+                &mut self.pages,
+                &mut self.cache,
+                &mut self.fronts,
+                space,
+                address,
+                bytes,
+            );
+        }
         translate_access(
             &self.pages,
             &mut self.cache,
+            &mut self.fronts,
             space,
             address,
             bytes.len(),
             Perms::W,
         );
-        write_bytes(&mut self.pages, &mut self.cache, space, address, bytes)
+        self.fronts.clear();
+        write_pages(&mut self.pages, &mut self.cache, space, address, bytes)
     }
 
     /// Whether a page that is there is alone: its frame isn't the zero frame, and no other page of any space names it. Costs a
@@ -345,6 +378,7 @@ impl OverlayMemory {
         ensures state { state_of self.new ≡ turned_page committed (state_of self.old) space page }
         ensures translations { translations_of self.new ≡ flushed space (translations_of self.old) }
     {
+        self.fronts.clear();
         self.pages.commit_page(space, page);
         self.cache.flush(space);
     }
@@ -363,6 +397,7 @@ impl OverlayMemory {
             (λ frame. copied frame x)) }
         ensures translations { translations_of self.new ≡ flushed space (translations_of self.old) }
     {
+        self.fronts.clear();
         self.pages.copy_commit_page(space, page);
         self.cache.flush(space);
     }
@@ -373,6 +408,7 @@ impl OverlayMemory {
         ensures state { state_of self.new ≡ turned_page discarded (state_of self.old) space page }
         ensures translations { translations_of self.new ≡ flushed space (translations_of self.old) }
     {
+        self.fronts.clear();
         self.pages.discard_page(space, page);
         self.cache.flush(space);
     }
@@ -388,6 +424,7 @@ impl OverlayMemory {
         ensures state { state_of self.new ≡ with_shared (state_of self.old) from to page }
         ensures translations { translations_of self.new ≡ translations_of self.old }
     {
+        self.fronts.clear();
         self.pages.share_page(from, to, page);
     }
 
@@ -401,6 +438,7 @@ impl OverlayMemory {
         ensures none { NoneAwaitsBelow (state_of self.new) to until }
         ensures translations { translations_of self.new ≡ translations_of self.old }
     {
+        self.fronts.clear();
         self.pages.share_bare(from, to, until);
     }
 
@@ -413,6 +451,7 @@ impl OverlayMemory {
         ensures whole { KeepsWholeBlocks self.old.pages self.new.pages }
         ensures translations { translations_of self.new ≡ translations_of self.old }
     {
+        self.fronts.clear();
         self.pages.compact();
     }
 
@@ -438,6 +477,7 @@ impl OverlayMemory {
         ensures state { state_of self.new ≡ put_awaiting (state_of self.old) to table }
         ensures translations { translations_of self.new ≡ translations_of self.old }
     {
+        self.fronts.clear();
         self.pages.adopt_table(to, table);
     }
 
@@ -502,6 +542,7 @@ impl OverlayMemory {
         ensures state { state_of self.new ≡ put_mark (state_of self.old) space on }
         ensures translations { translations_of self.new ≡ flushed space (translations_of self.old) }
     {
+        self.fronts.clear();
         self.pages.set_speculating(space, on);
         self.cache.flush(space);
     }
@@ -542,6 +583,7 @@ impl OverlayMemory {
             → state_of (with_line_at_place self.old (place_at self.old.pages space page line) bytes)
             ≡ with_written (state_of self.old) space page line bytes }
     {
+        self.fronts.clear();
         self.pages.line_mut(space, page, line)
     }
 

@@ -1,31 +1,53 @@
 //! Bytes out of the lines of pages.
 
-ghost use Rattle.std.specs.Prelude.{◌≡◌, ◌+◌, ◌/◌, ◌%◌, ◌<◌, ◌≤◌, length, OnOk};
-ghost use Rattle.sizes.specs.declared.TheConstants.{ADDRESS_END, LINE_BYTES};
+ghost use Rattle.std.specs.Prelude.{◌≡◌, ◌+◌, ◌/◌, ◌%◌, ◌<◌, ◌≤◌, length, OnOk, true};
+ghost use Rattle.sizes.specs.declared.TheConstants.{ADDRESS_END, LINE_BYTES, PAGE_BYTES, PAGE_LINES};
 ghost use Rattle.ovl_io.specs.Memory.{bytes_at};
+ghost use Rattle.ovl_io.specs.Permissions.{executable};
 ghost use Rattle.overlay_pages.specs.State.{memory_of};
 ghost use Rattle.overlay_pages.specs.View.{IsJoined, state_of};
 ghost use Rattle.overlay_memory.specs.Access.{FindsIn, IsFoundIn, Reads};
+ghost use Rattle.overlay_memory.specs.Fronts.{AreFronts};
 ghost use Rattle.overlay_memory.specs.Pieces.{Finds, Permits};
+ghost use Rattle.overlay_memory.specs.View.{AreTrue};
+ghost use Rattle.translation_cache.specs.Bare.{bare};
+ghost use Rattle.translation_cache.specs.Counted.{translated};
 
 use crate::error::MemoryError;
+use crate::fronts::Fronts;
+use crate::translating::translate;
 use bitflags::Flags;
 use overlay_pages::{FoundLine, OverlayPages};
 use ovl_io::Perms;
 use sizes::{LINE_BYTES, PAGE_BYTES, PAGE_LINES};
+use translation_cache::Cache;
+
+/// The number of the line of its page that an address lies in.
+#[inline]
+pub(crate) fn line_of(address: u64) -> u8
+    ensures line { result ≡ address / LINE_BYTES % PAGE_LINES }
+    ensures low { result < PAGE_LINES }
+{
+    (address / LINE_BYTES as u64 % PAGE_LINES as u64) as u8
+}
+
+/// Whether some bytes from an address on all lie in one line.
+#[inline]
+pub(crate) fn is_in_line(address: u64, count: usize) -> bool
+    ensures { result ≡ true → (0 < count) × (address % LINE_BYTES + count ≤ LINE_BYTES) }
+{
+    0 < count && count <= LINE_BYTES - (address % LINE_BYTES as u64) as usize
+}
 
 /// Finds the line with the byte at an address. None exactly where its page isn't there.
-#[inline]
 pub(crate) fn find_line(pages: &OverlayPages, space: u16, address: u64) -> Option<FoundLine>
     ensures found { FindsIn pages.now space address result }
     ensures joined { IsJoined pages.now }
 {
-    let line = (address / LINE_BYTES as u64 % PAGE_LINES as u64) as u8;
-    pages.find(space, address / PAGE_BYTES as u64, line)
+    pages.find(space, address / PAGE_BYTES as u64, line_of(address))
 }
 
 /// Finds the line with the byte at an address, which may be used so: its page is there and has the permission.
-#[inline]
 pub(crate) fn find(
     pages: &OverlayPages,
     space: u16,
@@ -47,7 +69,6 @@ pub(crate) fn find(
 }
 
 /// Whether the byte at an address may be used so.
-#[inline]
 pub(crate) fn permit(
     pages: &OverlayPages,
     space: u16,
@@ -90,8 +111,20 @@ pub(crate) fn read_found(
     }
 }
 
-/// Fills `into`, of some bytes, with those from an address on, all in one line.
+/// The four bytes from an address on that is a multiple of 4, in a line that was found.
 #[inline]
+pub(crate) fn word_in(pages: &OverlayPages, found: FoundLine, address: u64) -> [u8; 4]
+    requires found { IsFoundIn pages.now found.space address found }
+    requires aligned { address % 4 ≡ 0 }
+    ensures bytes { result ≡ bytes_at (memory_of (state_of pages.now) found.space) address 4 }
+    ensures joined { IsJoined pages.now }
+{
+    let at = (address % LINE_BYTES as u64) as usize;
+    let line = pages.line_at(found);
+    [line[at], line[at + 1], line[at + 2], line[at + 3]]
+}
+
+/// Fills `into`, of some bytes, with those from an address on, all in one line.
 fn read_line(
     pages: &OverlayPages,
     space: u16,
@@ -140,9 +173,7 @@ fn read_lines(
     Ok(())
 }
 
-/// Fills `into` with the bytes from an address on, for which each page needs the permission. Nearly always they lie in
-/// one line.
-#[inline]
+/// Fills `into` with the bytes from an address on, for which each page needs the permission.
 pub(crate) fn read_bytes(
     pages: &OverlayPages,
     space: u16,
@@ -155,9 +186,70 @@ pub(crate) fn read_bytes(
         ≡ bytes_at (memory_of (state_of pages.now) space) address (length into.old)) }
     ensures kept { length into.new ≡ length into.old }
 {
-    let room = LINE_BYTES - (address % LINE_BYTES as u64) as usize;
-    if 0 < into.len() && into.len() <= room {
+    if is_in_line(address, into.len()) {
         return read_line(pages, space, address, into, need);
     }
     read_lines(pages, space, address, into, need)
+}
+
+/// As `load` of `OverlayMemory`, of some bytes all in one line.
+#[inline]
+pub(crate) fn load_line(
+    pages: &OverlayPages,
+    cache: &mut Cache,
+    fronts: &mut Fronts,
+    space: u16,
+    address: u64,
+    into: &mut [u8],
+    need: Perms,
+) -> Result<(), MemoryError>
+    requires some { 0 < length into.old }
+    requires one_line { address % LINE_BYTES + length into.old ≤ LINE_BYTES }
+    requires held { AreTrue (state_of pages.now) cache.old }
+    requires fronts { AreFronts pages.now.table (bare cache.old) fronts.old }
+    ensures access { Reads (state_of pages.now) space need.0 address (length into.old) result }
+    ensures bytes { OnOk result (into.new
+        ≡ bytes_at (memory_of (state_of pages.now) space) address (length into.old)) }
+    ensures kept { length into.new ≡ length into.old }
+    ensures translated { bare cache.new
+        ≡ translated space (memory_of (state_of pages.now) space) (address / PAGE_BYTES) (bare cache.old) }
+    ensures held { AreTrue (state_of pages.now) cache.new }
+    ensures fronts { AreFronts pages.now.table (bare cache.new) fronts.new }
+{
+    match translate(pages, cache, fronts, space, address / PAGE_BYTES as u64) {
+        Some(page) => read_found(pages, page.line(line_of(address)), address, into, need),
+        None => Err(MemoryError::Unmapped(address)),
+    }
+}
+
+/// As `fetch` of `OverlayMemory`, of a word that isn't known to lie in the line of the last fetch.
+#[inline(never)]
+pub(crate) fn fetch_anew(
+    pages: &OverlayPages,
+    cache: &mut Cache,
+    fronts: &mut Fronts,
+    space: u16,
+    address: u64,
+    word: &mut [u8; 4],
+) -> Result<(), MemoryError>
+    requires aligned { address % 4 ≡ 0 }
+    requires held { AreTrue (state_of pages.now) cache.old }
+    requires fronts { AreFronts pages.now.table (bare cache.old) fronts.old }
+    ensures access { Reads (state_of pages.now) space executable address 4 result }
+    ensures bytes { OnOk result (word.new
+        ≡ bytes_at (memory_of (state_of pages.now) space) address 4) }
+    ensures translated { bare cache.new
+        ≡ translated space (memory_of (state_of pages.now) space) (address / PAGE_BYTES) (bare cache.old) }
+    ensures held { AreTrue (state_of pages.now) cache.new }
+    ensures fronts { AreFronts pages.now.table (bare cache.new) fronts.new }
+{
+    match translate(pages, cache, fronts, space, address / PAGE_BYTES as u64) {
+        Some(page) => {
+            if page.perms.contains(Perms::X) {
+                fronts.keep_code(address, page);
+            }
+            read_found(pages, page.line(line_of(address)), address, word, Perms::X)
+        }
+        None => Err(MemoryError::Unmapped(address)),
+    }
 }

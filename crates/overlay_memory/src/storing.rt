@@ -4,18 +4,23 @@ ghost use Rattle.std.specs.Prelude.{◌≡◌, ◌+◌, ◌-◌, ◌*◌, ◌/�
 ghost use Rattle.sizes.specs.declared.TheConstants.{LINE_BYTES, PAGE_BYTES, PAGE_LINES};
 ghost use Rattle.ovl_io.specs.Permissions.{writable};
 ghost use Rattle.overlay_pages.specs.Changes.{is_writable};
-ghost use Rattle.overlay_pages.specs.View.{state_of};
+ghost use Rattle.overlay_pages.specs.State.{memory_of};
+ghost use Rattle.overlay_pages.specs.View.{IsJoined, state_of};
 ghost use Rattle.overlay_pages.specs.Spots.{IsFound};
 ghost use Rattle.overlay_memory.specs.Access.{Stores};
+ghost use Rattle.overlay_memory.specs.Fronts.{AreFronts};
 ghost use Rattle.overlay_memory.specs.Pieces.{AreWritable, IsFilled, Permits, lines_under};
 ghost use Rattle.overlay_memory.specs.View.{AreTrue};
 ghost use Rattle.space_maps.specs.Spaces.{page_in};
 ghost use Rattle.translation_cache.specs.Bare.{bare};
+ghost use Rattle.translation_cache.specs.Counted.{translated};
 
 use crate::error::MemoryError;
-use crate::reading::{find, permit};
+use crate::fronts::Fronts;
+use crate::reading::{line_of, permit};
 use crate::room::shortage_by;
-use crate::translating::bring_lines;
+use crate::translating::{bring_lines, translate};
+use bitflags::Flags;
 use overlay_bits::Bits;
 use overlay_pages::{FoundLine, OverlayPages};
 use ovl_io::Perms;
@@ -48,8 +53,10 @@ fn put(pages: &mut OverlayPages, found: FoundLine, at: usize, bytes: &[u8])
     requires some { 0 < length bytes.now }
     requires fits { at + length bytes.now ≤ LINE_BYTES }
     requires writable { is_writable (state_of pages.old) found.space found.page found.line ≡ true }
-    ensures { IsFilled (state_of pages.old) (state_of pages.new) found.space
+    ensures filled { IsFilled (state_of pages.old) (state_of pages.new) found.space
         (PAGE_BYTES * found.page + (LINE_BYTES * found.line + at)) bytes.now }
+    ensures table { pages.new.table ≡ pages.old.table }
+    ensures joined { IsJoined pages.old }
 {
     pages.line_at_mut(found)[at..at + bytes.len()].copy_from_slice(bytes);
 }
@@ -165,7 +172,7 @@ fn write_in_two(
 
 /// Stores at most as many bytes as a page has.
 #[inline(never)]
-fn write_pages(
+pub(crate) fn write_pages(
     pages: &mut OverlayPages,
     cache: &mut Cache,
     space: u16,
@@ -190,11 +197,12 @@ fn write_pages(
     }
 }
 
-/// Stores bytes, some and all in one line. Where that can be written it takes no units.
+/// As `store` of `OverlayMemory`, of some bytes all in one line. Where that can be written it takes no units.
 #[inline]
-fn write_line(
+pub(crate) fn store_line(
     pages: &mut OverlayPages,
     cache: &mut Cache,
+    fronts: &mut Fronts,
     space: u16,
     address: u64,
     bytes: &[u8],
@@ -202,43 +210,25 @@ fn write_line(
     requires some { 0 < length bytes.now }
     requires one_line { address % LINE_BYTES + length bytes.now ≤ LINE_BYTES }
     requires held { AreTrue (state_of pages.old) cache.old }
+    requires fronts { AreFronts pages.old.table (bare cache.old) fronts.old }
     ensures stores { Stores pages.old pages.new space address bytes.now result }
     ensures held { AreTrue (state_of pages.new) cache.new }
-    ensures lists { bare cache.new ≡ bare cache.old }
-    ensures kept { OnErr result (cache.new ≡ cache.old) }
+    ensures translated { bare cache.new
+        ≡ translated space (memory_of (state_of pages.old) space) (address / PAGE_BYTES) (bare cache.old) }
+    ensures fronts { AreFronts pages.new.table (bare cache.new) fronts.new }
 {
-    match find(pages, space, address, Perms::W) {
-        Ok(found) => {
-            if pages.is_writable_at(found) {
-                put(pages, found, (address % LINE_BYTES as u64) as usize, bytes);
-                Ok(())
-            } else {
-                write_pages(pages, cache, space, address, bytes)
-            }
+    if let Some(page) = translate(pages, cache, fronts, space, address / PAGE_BYTES as u64) {
+        let line = line_of(address);
+        if page.perms.contains(Perms::W) && page.is_writable(line) {
+            put(
+                pages,
+                page.line(line),
+                (address % LINE_BYTES as u64) as usize,
+                bytes,
+            );
+            return Ok(());
         }
-        Err(error) => Err(error),
     }
-}
-
-/// Stores at most as many bytes as a page has. Nearly always they lie in one line.
-#[inline]
-pub(crate) fn write_bytes(
-    pages: &mut OverlayPages,
-    cache: &mut Cache,
-    space: u16,
-    address: u64,
-    bytes: &[u8],
-) -> Result<(), MemoryError>
-    requires few { length bytes.now ≤ PAGE_BYTES }
-    requires held { AreTrue (state_of pages.old) cache.old }
-    ensures stores { Stores pages.old pages.new space address bytes.now result }
-    ensures held { AreTrue (state_of pages.new) cache.new }
-    ensures lists { bare cache.new ≡ bare cache.old }
-    ensures kept { OnErr result (cache.new ≡ cache.old) }
-{
-    let room = LINE_BYTES - (address % LINE_BYTES as u64) as usize;
-    if 0 < bytes.len() && bytes.len() <= room {
-        return write_line(pages, cache, space, address, bytes);
-    }
+    fronts.clear();
     write_pages(pages, cache, space, address, bytes)
 }

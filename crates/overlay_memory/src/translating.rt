@@ -1,85 +1,170 @@
 //! Translations: pages that accesses go through, and what entries hold of them.
 
-ghost use Rattle.std.specs.Prelude.{◌≡◌, ℕ, ◌/◌, ◌<◌, IsSome, List, length};
+ghost use Rattle.std.specs.Prelude.{◌≡◌, ℕ, ◌/◌, ◌<◌, IfSome, IsSome, List, None, Some, length};
 ghost use Rattle.std.specs.List.{fold};
-ghost use Rattle.std.specs.Option.{option_map};
 ghost use Rattle.sizes.specs.declared.TheConstants.{PAGE_BYTES, PAGE_LINES};
 ghost use Rattle.ovl_io.specs.PageBytes.{page_allows};
 ghost use Rattle.overlay_bits.specs.Lines.{AreLines};
 ghost use Rattle.overlay_pages.specs.Changes.{Fits, with_brought, writes_frame};
 ghost use Rattle.overlay_pages.specs.State.{memory_of};
+ghost use Rattle.overlay_pages.specs.Spots.{FindsPage};
 ghost use Rattle.overlay_pages.specs.View.{IsJoined, state_of};
 ghost use Rattle.overlay_memory.specs.Translated.{access_at};
-ghost use Rattle.overlay_memory.specs.View.{AreTrue, cached_page};
+ghost use Rattle.overlay_memory.specs.Fronts.{AreFronts, held_of};
+ghost use Rattle.overlay_memory.specs.View.{AreTrue, cached_in};
 ghost use Rattle.space_maps.specs.Spaces.{page_in};
 ghost use Rattle.translation_cache.specs.Bare.{bare};
 ghost use Rattle.translation_cache.specs.Counted.{access_translated, translated};
+ghost use Rattle.translation_cache.specs.CountedLaws.{IsFront};
 ghost use Rattle.translation_cache.specs.Formed.{IsFormed};
 ghost use Rattle.translation_cache.specs.Translations.{with_bit};
 
+use crate::fronts::Fronts;
 use bitflags::Flags;
 use overlay_bits::Bits;
-use overlay_pages::OverlayPages;
+use overlay_pages::{FoundPage, OverlayPages};
 use ovl_io::Perms;
 use sizes::PAGE_BYTES;
 use translation_cache::{Cache, Cached};
 
-/// What the tables have of a page. None exactly where it isn't there.
-fn cached_in(pages: &OverlayPages, space: u16, page: u64) -> Option<Cached>
-    ensures { result ≡ option_map cached_page (page_in (state_of pages.now) space page) }
+/// What was found of a page, as its entry holds it.
+fn cached_of(found: &FoundPage) -> Cached
+    ensures { result ≡ held_of found.now }
 {
-    match pages.entry(space, page) {
-        Some(entry) => Some(Cached {
-            perms: entry.perms,
-            frame: entry.frame,
-            bits: pages.lines_of(space, page),
-        }),
-        None => None,
+    Cached {
+        perms: found.perms,
+        frame: found.frame,
+        bits: found.own,
     }
 }
 
-/// Translates a page: counts the look-up, and enters the page where its entry isn't there and it is. Answers whether the page
-/// may be used so.
+/// As `translate`, of a page that isn't known to be at the front of its list.
+#[inline(never)]
+fn translate_anew(
+    pages: &OverlayPages,
+    cache: &mut Cache,
+    fronts: &mut Fronts,
+    space: u16,
+    page: u64,
+) -> Option<FoundPage>
+    requires held { AreTrue (state_of pages.now) cache.old }
+    requires fronts { AreFronts pages.now.table (bare cache.old) fronts.old }
+    ensures found { FindsPage pages.now space page result }
+    ensures front { IfSome result (λ found. IsFront found.space found.page (bare cache.new)) }
+    ensures translated { bare cache.new
+        ≡ translated space (memory_of (state_of pages.now) space) page (bare cache.old) }
+    ensures held { AreTrue (state_of pages.now) cache.new }
+    ensures fronts { AreFronts pages.now.table (bare cache.new) fronts.new }
+{
+    match pages.find_page(space, page) {
+        Some(found) => {
+            look_up(pages, cache, space, page, cached_of(&found));
+            fronts.put(page, Some(found));
+            Some(found)
+        }
+        None => {
+            look_in_vain(pages, cache, space, page);
+            fronts.put(page, None);
+            None
+        }
+    }
+}
+
+/// Counts the look-up of a page that is there, and enters what is there to be held of it where its entry isn't there.
+fn look_up(pages: &OverlayPages, cache: &mut Cache, space: u16, page: u64, there: Cached)
+    requires held { AreTrue (state_of pages.now) cache.old }
+    requires there { Some there ≡ cached_in (state_of pages.now) space page }
+    ensures translated { bare cache.new
+        ≡ translated space (memory_of (state_of pages.now) space) page (bare cache.old) }
+    ensures held { AreTrue (state_of pages.now) cache.new }
+    ensures formed { IsFormed cache.old }
+{
+    match cache.look(space, page) {
+        Some(_) => {}
+        None => cache.enter(space, page, there),
+    }
+}
+
+/// Counts the look-up of a page that isn't there.
+fn look_in_vain(pages: &OverlayPages, cache: &mut Cache, space: u16, page: u64)
+    requires held { AreTrue (state_of pages.now) cache.old }
+    requires absent { page_in (state_of pages.now) space page ≡ None }
+    ensures translated { bare cache.new
+        ≡ translated space (memory_of (state_of pages.now) space) page (bare cache.old) }
+    ensures held { AreTrue (state_of pages.now) cache.new }
+    ensures formed { IsFormed cache.old }
+{
+    let _ = cache.look(space, page);
+}
+
+/// Translates a page: counts the look-up, and enters the page where its entry isn't there and it is. Answers what was found of it: of
+/// a page that is known to be at the front of its list, without a look at a table.
 #[inline]
 pub(crate) fn translate(
     pages: &OverlayPages,
     cache: &mut Cache,
+    fronts: &mut Fronts,
+    space: u16,
+    page: u64,
+) -> Option<FoundPage>
+    requires held { AreTrue (state_of pages.now) cache.old }
+    requires fronts { AreFronts pages.now.table (bare cache.old) fronts.old }
+    ensures found { FindsPage pages.now space page result }
+    ensures front { IfSome result (λ found. IsFront found.space found.page (bare cache.new)) }
+    ensures translated { bare cache.new
+        ≡ translated space (memory_of (state_of pages.now) space) page (bare cache.old) }
+    ensures held { AreTrue (state_of pages.now) cache.new }
+    ensures fronts { AreFronts pages.now.table (bare cache.new) fronts.new }
+{
+    match fronts.page(space, page) {
+        Some(found) => {
+            cache.count_hits(1);
+            Some(found)
+        }
+        None => translate_anew(pages, cache, fronts, space, page),
+    }
+}
+
+/// Translates a page of an access, and answers whether it may be used so.
+fn translate_for(
+    pages: &OverlayPages,
+    cache: &mut Cache,
+    fronts: &mut Fronts,
     space: u16,
     page: u64,
     need: Perms,
 ) -> bool
     requires held { AreTrue (state_of pages.now) cache.old }
+    requires fronts { AreFronts pages.now.table (bare cache.old) fronts.old }
     ensures allowed { result ≡ page_allows (memory_of (state_of pages.now) space) need.0 page }
     ensures translated { bare cache.new
         ≡ translated space (memory_of (state_of pages.now) space) page (bare cache.old) }
     ensures held { AreTrue (state_of pages.now) cache.new }
+    ensures fronts { AreFronts pages.now.table (bare cache.new) fronts.new }
 {
-    match cache.look(space, page) {
-        Some(cached) => cached.perms.contains(need),
-        None => match cached_in(pages, space, page) {
-            Some(cached) => {
-                cache.enter(space, page, cached);
-                cached.perms.contains(need)
-            }
-            None => false,
-        },
+    match translate(pages, cache, fronts, space, page) {
+        Some(found) => found.perms.contains(need),
+        None => false,
     }
 }
 
 /// Translates the pages of an access, up to the first that isn't there or lacks the need.
-#[inline]
+#[inline(never)]
 pub(crate) fn translate_access(
     pages: &OverlayPages,
     cache: &mut Cache,
+    fronts: &mut Fronts,
     space: u16,
     address: u64,
     count: usize,
     need: Perms,
 )
     requires held { AreTrue (state_of pages.now) cache.old }
+    requires fronts { AreFronts pages.now.table (bare cache.old) fronts.old }
     ensures translated { bare cache.new ≡ access_translated space (memory_of (state_of pages.now) space)
         (access_at need.0 address count) (bare cache.old) }
     ensures held { AreTrue (state_of pages.now) cache.new }
+    ensures fronts { AreFronts pages.now.table (bare cache.new) fronts.new }
 {
     if count == 0 {
         return;
@@ -89,7 +174,7 @@ pub(crate) fn translate_access(
     let more = last / PAGE_BYTES as u64
         + (address % PAGE_BYTES as u64 + last % PAGE_BYTES as u64) / PAGE_BYTES as u64;
     'translating: for i in 0..more + 1 {
-        if !translate(pages, cache, space, first + i, need) {
+        if !translate_for(pages, cache, fronts, space, first + i, need) {
             return;
         }
     }

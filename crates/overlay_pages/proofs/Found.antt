@@ -1,33 +1,28 @@
-use Rattle.std.proofs.Common.{◌≡◌, ℕ, ◌<◌, Bool, not, ◌&&◌, Some, refl, option_map, sym, ap, subst, ◌∙◌}
+use Rattle.std.proofs.Common.{◌≡◌, ℕ, ◌+◌, ◌*◌, ◌<◌, ◌≤◌, Bool, true, false, ◌||◌, ◌&&◌, not, List, Option, Some, None, refl, option_map, sym, ap, subst, ◌∙◌, arith}
+use Rattle.std.specs.Option.{option_and_then}
 use Rattle.sizes.specs.declared.TheConstants.{PAGE_LINES}
+use Rattle.overlay_bits.specs.Lines.{has_line}
+use Rattle.overlay_mapping_table.specs.declared.entry.Entry.{Entry}
 use Rattle.page_table.specs.declared.entry.PageEntry.{PageEntry}
 use Rattle.ledger.specs.Ledger.{is_alone}
+use Rattle.segment_store.specs.Laws.{frame_inside}
+use Rattle.space_maps.specs.Options.{map_from}
 use Rattle.space_maps.specs.Spaces.{page_in, space_in}
-use Rattle.space_ledger.specs.View.{PageView, frame_at, ledger_of}
+use Rattle.space_ledger.specs.View.{PageView, frame_at, ledger_of, lines_of, overlay_at}
+use Rattle.unit_map.specs.declared.block.Block.{Block}
 use Rattle.overlay_pages.specs.declared.spots.FoundLine.{FoundLine}
+use Rattle.overlay_pages.specs.declared.spots.FoundPage.{FoundPage}
 use Rattle.overlay_pages.specs.declared.spots.Spot.{Spot}
-use Rattle.overlay_pages.specs.declared.spots.Spot.TheVariants.{Frame}
+use Rattle.overlay_pages.specs.declared.spots.Spot.TheVariants.{Frame, Segment}
 use Rattle.overlay_pages.specs.Changes.{is_writable}
-use Rattle.overlay_pages.specs.Spots.{IsFound, IsFoundAt, IsSpot}
-use Rattle.overlay_pages.specs.View.{MemoryView, state_of}
-use Rattle.overlay_pages.proofs.Lending.{writable_outside}
-use Rattle.overlay_pages.proofs.Tables.{perms_state}
+use Rattle.overlay_pages.specs.Spots.{IsFound, IsFoundAt, IsFoundPage, IsFoundPageAt, IsSpot}
+use Rattle.overlay_pages.specs.SpotLaws.{found_at}
+use Rattle.overlay_pages.specs.State.{PageState}
+use Rattle.overlay_pages.specs.View.{IsJoined, MemoryView, page_state, state_of}
+use Rattle.overlay_pages.specs.ViewLaws.{state_page_there}
+use Rattle.overlay_pages.proofs.Lending.{writable_outside, writable_segment}
 
--- Lines that were found, in the tables that they were found in.
-
-abbrev found_of : ℕ → ℕ → ℕ → PageEntry → Spot → FoundLine
-found_of s p line e spot = record { space = s; page = p; line = line; perms = e.perms; spot = spot }
-
--- a line by the entry of its page, and by where it stands
-pub found_in : (v now : MemoryView) (s p line : ℕ) (e : PageEntry) (spot : Spot) → v ≡ now → Some e ≡ option_map (λ (x : PageView). x.entry) (page_in v.table s p)
-    → line < PAGE_LINES → IsSpot v.table s p line spot → IsFoundAt now s p line (found_of s p line e spot)
-found_in v now s p line e spot same is low at =
-    subst (λ (m : MemoryView). IsFoundAt m s p line (found_of s p line e spot)) same (record {
-      space_is = refl;
-      page_is = refl;
-      line_is = refl;
-      is = record { perms = perms_state v s p e is; line = low; spot = at };
-    })
+-- Pages and lines that were found, in the tables that they were found in.
 
 -- where a line that was found stands
 pub found_spot : (v now : MemoryView) (found : FoundLine) (spot : Spot) → v ≡ now → IsFound now found → found.spot ≡ spot
@@ -36,17 +31,90 @@ found_spot v now found spot same is at =
     subst (IsSpot v.table found.space found.page found.line) at
     (subst (λ (m : MemoryView). IsSpot m.table found.space found.page found.line found.spot) (sym same) is.spot)
 
--- the frame of its page, where it stands in that
-pub found_frame : (v now : MemoryView) (found : FoundLine) (frame : ℕ) → v ≡ now → IsFound now found → found.spot ≡ Frame frame
-    → frame_at v.table found.space found.page ≡ Some frame
-found_frame v now found frame same is at =
-    let so = found_spot v now found (Frame frame) same is at in
-    ap (option_map (λ (x : PageView). x.entry.frame)) so.there ∙ ap Some so.frame_is
+pub spot_at : (v now : MemoryView) (s p line : ℕ) (found : FoundLine) (spot : Spot) → v ≡ now → IsFoundAt now s p line found → found.spot ≡ spot
+    → IsSpot v.table s p line spot
+spot_at v now s p line found spot same it at =
+    found_at now s p line found it (λ s p l. IsSpot v.table s p l spot) (found_spot v now found spot same it.is at)
 
--- whether it can be written there
-pub found_writable : (v now : MemoryView) (found : FoundLine) (frame : ℕ) (marked alone : Bool) → v ≡ now → IsFound now found → found.spot ≡ Frame frame
-    → marked ≡ (space_in v.table found.space).speculating → alone ≡ is_alone (ledger_of v.table) found.space found.page
-    → (not marked && alone) ≡ is_writable (state_of now) found.space found.page found.line
-found_writable v now found frame marked alone same is at mark_is alone_is =
-    (λ i. not (mark_is i) && alone_is i) ∙ sym (writable_outside v found.space found.page found.line frame (found_spot v now found (Frame frame) same is at))
-    ∙ ap (λ (m : MemoryView). is_writable (state_of m) found.space found.page found.line) same
+-- Lines of a page that was found.
+
+module _ (v : MemoryView) (found : FoundPage) (is : IsFoundPage v.table found) where
+  -- one of its own, and another one
+  pub own_spot : (line : ℕ) → has_line found.own line ≡ true → IsSpot v.table found.space found.page line (Segment found.block)
+  own_spot line has = by_overlay is.x.overlay refl
+    where
+      by_overlay : (o : Option Entry) → is.x.overlay ≡ o → IsSpot v.table found.space found.page line (Segment found.block)
+      by_overlay None none =
+          let no : true ≡ false = sym has ∙ ap (λ l. has_line l line) (sym is.own) ∙ ap (λ (o : Option Entry). has_line (lines_of o) line) none in cc
+      by_overlay (Some overlay) some = record {
+        x = is.x;
+        overlay = overlay;
+        there = is.there;
+        is = some;
+        block_is = is.block overlay some;
+        has = ap (λ (o : Option Entry). has_line (lines_of o) line) (sym some) ∙ ap (λ l. has_line l line) is.own ∙ has;
+      }
+
+  pub frame_spot : (line : ℕ) → has_line found.own line ≡ false → IsSpot v.table found.space found.page line (Frame found.frame)
+  frame_spot line lacks = record { x = is.x; there = is.there; frame_is = is.frame; lacks = ap (λ l. has_line l line) is.own ∙ lacks }
+
+  pub line_found : (line : ℕ) (spot : Spot) → line < PAGE_LINES → IsSpot v.table found.space found.page line spot
+      → IsFoundAt v found.space found.page line (record { space = found.space; page = found.page; line = line; perms = found.perms; spot = spot })
+  unfolding page_state
+  line_found line spot low at = record {
+    space_is = refl;
+    page_is = refl;
+    line_is = refl;
+    is = record {
+      perms = ap (option_map (λ (x : PageState). x.entry.perms)) (state_page_there v found.space found.page is.x is.there) ∙ ap Some is.perms;
+      line = low;
+      spot = at;
+    };
+  }
+
+  -- whether it can be written where it stands
+  pub writable_found : (line : ℕ) → (has_line found.own line || found.in_frame) ≡ is_writable (state_of v) found.space found.page line
+  writable_found line = by_own (has_line found.own line) refl
+    where
+      by_own : (b : Bool) → has_line found.own line ≡ b → (b || found.in_frame) ≡ is_writable (state_of v) found.space found.page line
+      by_own true has = sym (writable_segment v found.space found.page line found.block (own_spot line has))
+      by_own false lacks = is.in_frame ∙ sym (writable_outside v found.space found.page line found.frame (frame_spot line lacks))
+
+-- A page that was looked up.
+
+module _ (v : MemoryView) (s p : ℕ) (e : PageEntry) (is : Some e ≡ option_map (λ (x : PageView). x.entry) (page_in v.table s p)) where
+  entry_there : (x : PageView) × (page_in v.table s p ≡ Some x) × (x.entry ≡ e)
+  entry_there = map_from (λ (x : PageView). x.entry) (page_in v.table s p) e (sym is) (λ x there same. (x, there, same))
+
+  pub frame_in_range : IsJoined v → e.frame < v.table.frames
+  frame_in_range joined =
+      let x = entry_there in
+      let same : x.0.entry.frame ≡ e.frame = ap (λ (k : PageEntry). k.frame) x.2 in
+      omega (arith, frame_inside v.store joined.store x.0.entry.frame (joined.held s p x.0 x.1).frame, joined.frames, same)
+
+  pub page_found : (now : MemoryView) (overlay : Option Entry) (own : List ℕ) (block : Block) (in_frame : Bool) → v ≡ now
+      → overlay ≡ overlay_at v.table s p → own ≡ lines_of overlay → ((o : Entry) → overlay ≡ Some o → o.block ≡ block)
+      → ((page : ℕ) → frame_at now.table s page ≡ Some e.frame → in_frame ≡ (not (space_in now.table s).speculating && is_alone (ledger_of now.table) s page))
+      → IsFoundPageAt now s p (record { space = s; page = p; perms = e.perms; frame = e.frame; own = own; block = block; in_frame = in_frame })
+  page_found now overlay own block in_frame same overlay_is own_is block_is in_frame_is =
+      let x = entry_there in
+      let at : page_in now.table s p ≡ Some x.0 = ap (λ (m : MemoryView). page_in m.table s p) (sym same) ∙ x.1 in
+      let has : overlay ≡ x.0.overlay = overlay_is ∙ ap (option_and_then (λ (y : PageView). y.overlay)) x.1 in
+      record {
+        space_is = refl;
+        page_is = refl;
+        is = record {
+          x = x.0;
+          there = at;
+          perms = ap (λ (k : PageEntry). k.perms) x.2;
+          frame = ap (λ (k : PageEntry). k.frame) x.2;
+          own = ap lines_of (sym has) ∙ sym own_is;
+          block = λ o some. block_is o (has ∙ some);
+          in_frame = in_frame_is p (ap (option_map (λ (y : PageView). y.entry.frame)) at ∙ ap (λ (k : PageEntry). Some k.frame) x.2);
+        };
+      }
+
+-- a line of the page that was looked for
+pub of_page : (v : MemoryView) (s p line : ℕ) (page : FoundPage) (found : FoundLine) → IsFoundPageAt v s p page → IsFoundAt v page.space page.page line found
+    → IsFoundAt v s p line found
+of_page v s p line page found at it = record { space_is = it.space_is ∙ at.space_is; page_is = it.page_is ∙ at.page_is; line_is = it.line_is; is = it.is }

@@ -1,13 +1,15 @@
-use Rattle.std.specs.Prelude.{◌≡◌, ℕ, ◌<◌, true, false, Option, Some, None}
+use Rattle.std.specs.Prelude.{◌≡◌, ℕ, ◌<◌, ◌&&◌, not, true, false, Option, Some, None}
 use Rattle.std.specs.Option.{option_map}
 use Rattle.sizes.specs.declared.TheConstants.{PAGE_LINES}
 use Rattle.unit_map.specs.declared.block.Block.{Block}
 use Rattle.overlay_bits.specs.Lines.{has_line}
 use Rattle.overlay_mapping_table.specs.declared.entry.Entry.{Entry}
-use Rattle.space_maps.specs.Spaces.{page_in}
-use Rattle.space_ledger.specs.View.{LedgerView, PageView, lines_of}
+use Rattle.ledger.specs.Ledger.{is_alone}
+use Rattle.space_maps.specs.Spaces.{page_in, space_in}
+use Rattle.space_ledger.specs.View.{LedgerView, PageView, ledger_of, lines_of}
 use Rattle.overlay_pages.specs.View.{MemoryView, state_of}
 use Rattle.overlay_pages.specs.declared.spots.FoundLine.{FoundLine}
+use Rattle.overlay_pages.specs.declared.spots.FoundPage.{FoundPage}
 use Rattle.overlay_pages.specs.declared.spots.Spot.{Spot}
 use Rattle.overlay_pages.specs.declared.spots.Spot.TheVariants.{Segment, Frame}
 
@@ -50,3 +52,25 @@ pub record IsFoundAt (view : MemoryView) (space page line : ℕ) (found : FoundL
 abbrev pub FindsLine : MemoryView → ℕ → ℕ → ℕ → Option FoundLine → Type 0
 FindsLine view space page line None = page_in (state_of view) space page ≡ None
 FindsLine view space page line (Some found) = IsFoundAt view space page line found
+
+-- A page as it was found: it is there with these permissions, on this frame, with these own lines in this block, and stores go
+-- into its frame or they don't.
+pub record IsFoundPage (table : LedgerView) (found : FoundPage) : Type 0 where
+  pub x : PageView
+  pub there : page_in table found.space found.page ≡ Some x
+  pub perms : x.entry.perms ≡ found.perms
+  pub frame : x.entry.frame ≡ found.frame
+  pub own : lines_of x.overlay ≡ found.own
+  pub block : (overlay : Entry) → x.overlay ≡ Some overlay → overlay.block ≡ found.block
+  pub in_frame : found.in_frame ≡ (not (space_in table found.space).speculating && is_alone (ledger_of table) found.space found.page)
+
+-- this page was found
+pub record IsFoundPageAt (view : MemoryView) (space page : ℕ) (found : FoundPage) : Type 0 where
+  pub space_is : found.space ≡ space
+  pub page_is : found.page ≡ page
+  pub is : IsFoundPage view.table found
+
+-- what looking for a page comes to
+abbrev pub FindsPage : MemoryView → ℕ → ℕ → Option FoundPage → Type 0
+FindsPage view space page None = page_in (state_of view) space page ≡ None
+FindsPage view space page (Some found) = IsFoundPageAt view space page found

@@ -10,7 +10,7 @@
 //! - `placing`: pages that come into new frames, and pages that go
 //! - `settling`: overlays that go into frames
 //! - `sharing`: pages that are shared with another space
-//! - `spots`: lines that were found, and where they stand
+//! - `spots`: pages and lines that were found, and where they stand
 //! - `pages`: all of it
 #![tactic(auto)]
 
@@ -24,4 +24,4 @@ mod sharing;
 mod spots;
 
 pub use pages::OverlayPages;
-pub use spots::FoundLine;
+pub use spots::{FoundLine, FoundPage};

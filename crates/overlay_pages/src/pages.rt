@@ -11,14 +11,14 @@ ghost use Rattle.ledger.specs.Ledger.{is_alone};
 ghost use Rattle.ledger.specs.Units.{own_lines, units};
 ghost use Rattle.ledger.specs.Ledger as book;
 ghost use Rattle.space_maps.specs.Spaces.{bare_space, cut_page, cut_pages, cut_space, holds_space, page_in, put_awaiting, put_mark, put_space, space_in, turned_page};
-ghost use Rattle.space_ledger.specs.View.{ledger_of};
+ghost use Rattle.space_ledger.specs.View.{frame_at, ledger_of};
 ghost use Rattle.space_ledger.specs.Space.{IsLeast};
 ghost use Rattle.space_ledger.specs.Calls.{IsNextOwn, NamesOnce};
 ghost use Rattle.overlay_pages.specs.Lines.{line_in_page, lines_of_bytes};
 ghost use Rattle.overlay_pages.specs.State.{base_of, books, memory_of};
 ghost use Rattle.overlay_pages.specs.Changes.{AreAbsent, Fits, HasCopyRoom, HasShareRoom, IsPlaced, brought, committed, copied, discarded, is_writable, limit_of, units_of, whole_page, with_brought, with_shared, with_written, with_zeros};
 ghost use Rattle.overlay_pages.specs.View.{HasOwnPlace, IsJoined, place_at, state_of};
-ghost use Rattle.overlay_pages.specs.Spots.{FindsLine, IsFound};
+ghost use Rattle.overlay_pages.specs.Spots.{FindsLine, FindsPage, IsFound};
 ghost use Rattle.overlay_pages.specs.Calls.{AreMapped, AreShared, AreZeros, AwaitBare, AwaitsLike, HasSettledBlocks, IsEmptyState, IsNextPage, KeepsWholeBlocks, MovesFewBeside, NoneAwaitsBelow, RisesBy, entries_in, with_line_at_place};
 ghost use Rattle.overlay_pages.specs.contracts.pages.OverlayPages.{the_row};
 
@@ -26,7 +26,7 @@ use crate::overlays::{bring_lines, drop_overlay};
 use crate::placing::{place_bytes, take_out, take_run_out};
 use crate::settling::{commit, copy_commit};
 use crate::sharing::{share, share_below};
-use crate::spots::{FoundLine, Spot, spot_of};
+use crate::spots::{FoundLine, FoundPage, Spot, parts_of};
 use overlay_bits::Bits;
 use ovl_io::Perms;
 use page_table::{PageEntry, PageTable};
@@ -322,21 +322,46 @@ impl OverlayPages {
         self.ledger.is_speculating(space)
     }
 
+    /// Whether stores to pages of a space that name a frame go into it: the space isn't speculating, and one page names the frame, which
+    /// isn't the zero frame. Where none does, the answer tells nothing. Costs a step.
+    fn writes_frame(&self, space: u16, frame: u32) -> bool
+        requires { frame < self.now.table.frames }
+        ensures { (page : ℕ) → frame_at self.now.table space page ≡ Some frame
+            → result ≡ (not (space_in self.now.table space).speculating && book.is_alone (ledger_of self.now.table) space page) }
+    {
+        !self.ledger.is_speculating(space) && self.ledger.is_alone_frame(frame)
+    }
+
+    /// Finds a page. None exactly where it isn't there. Costs a look-up of the page, and one of its overlay.
+    pub fn find_page(&self, space: u16, page: u64) -> Option<FoundPage>
+        ensures found { FindsPage self.now space page result }
+        ensures joined { IsJoined self.now }
+    {
+        match self.ledger.entry(space, page) {
+            Some(entry) => {
+                let (own, block) = parts_of(self.ledger.overlay(space, page));
+                Some(FoundPage {
+                    space,
+                    page,
+                    perms: entry.perms,
+                    frame: entry.frame,
+                    own,
+                    block,
+                    in_frame: self.writes_frame(space, entry.frame),
+                })
+            }
+            None => None,
+        }
+    }
+
     /// Finds a line of a page. None exactly where the page isn't there. Costs a look-up of the page, and one of its overlay.
-    #[inline]
     pub fn find(&self, space: u16, page: u64, line: u8) -> Option<FoundLine>
         requires line { line < PAGE_LINES }
         ensures found { FindsLine self.now space page line result }
         ensures joined { IsJoined self.now }
     {
-        match self.ledger.entry(space, page) {
-            Some(entry) => Some(FoundLine {
-                space,
-                page,
-                line,
-                perms: entry.perms,
-                spot: spot_of(&self.ledger, space, page, line, entry.frame),
-            }),
+        match self.find_page(space, page) {
+            Some(found) => Some(found.line(line)),
             None => None,
         }
     }
@@ -356,21 +381,6 @@ impl OverlayPages {
         }
     }
 
-    /// Whether a line that was found can be written where it stands: it is in the overlay, or else the space isn't speculating
-    /// and the frame is the page's alone. Costs a few steps.
-    #[inline]
-    pub fn is_writable_at(&self, found: FoundLine) -> bool
-        requires found { IsFound self.now found }
-        ensures { result ≡ is_writable (state_of self.now) found.space found.page found.line }
-    {
-        match found.spot {
-            Spot::Segment(_) => true,
-            Spot::Frame(frame) => {
-                !self.ledger.is_speculating(found.space) && self.ledger.is_alone_frame(frame)
-            }
-        }
-    }
-
     /// Lends a line that was found, and that can be written where it stands. What the borrower leaves is the region's line at
     /// the place, and nothing else of the region or of the tables changes. Costs a step.
     #[inline]
@@ -384,6 +394,7 @@ impl OverlayPages {
         ensures state { (bytes : List ℕ) → state_of (with_line_at_place self.old
             (place_at self.old found.space found.page found.line) bytes)
             ≡ with_written (state_of self.old) found.space found.page found.line bytes }
+        ensures joined { IsJoined self.old }
     {
         match found.spot {
             Spot::Segment(block) => self.store.get_mut(block, found.line),
@@ -400,8 +411,8 @@ impl OverlayPages {
         ensures inside { result < PAGE_LINES * (state_of self.now).frames }
         ensures joined { IsJoined self.now }
     {
-        match self.ledger.entry(space, page) {
-            Some(entry) => match spot_of(&self.ledger, space, page, line, entry.frame) {
+        match self.find(space, page, line) {
+            Some(found) => match found.spot {
                 Spot::Segment(block) => self.store.place(block, line),
                 Spot::Frame(frame) => 64 * frame + u32::from(line),
             },

@@ -1,12 +1,16 @@
-//! Lines of pages, and where they stand.
+//! Pages and their lines as they were found, and where lines stand.
 
 ghost use Rattle.std.specs.Prelude.{◌≡◌, ◌<◌, Some};
 ghost use Rattle.sizes.specs.declared.TheConstants.{PAGE_LINES};
-ghost use Rattle.space_ledger.specs.View.{frame_at};
-ghost use Rattle.overlay_pages.specs.Spots.{IsSpot};
+ghost use Rattle.overlay_mapping_table.specs.declared.entry.Entry.{Entry};
+ghost use Rattle.space_ledger.specs.View.{lines_of};
+ghost use Rattle.overlay_pages.specs.Changes.{is_writable};
+ghost use Rattle.overlay_pages.specs.Spots.{IsFoundAt, IsFoundPage};
+ghost use Rattle.overlay_pages.specs.View.{MemoryView, state_of};
 
+use overlay_bits::Bits;
+use overlay_mapping_table::Entry;
 use ovl_io::Perms;
-use space_ledger::SpaceLedger;
 use unit_map::Block;
 
 /// Where a line of a page stands.
@@ -28,21 +32,63 @@ pub struct FoundLine {
     pub(crate) spot: Spot,
 }
 
-/// Where a line of a page on a frame stands. Costs a look-up of its overlay.
-#[inline]
-pub(crate) fn spot_of(ledger: &SpaceLedger, space: u16, page: u64, line: u8, frame: u32) -> Spot
-    requires frame { frame_at ledger.now space page ≡ Some frame }
-    requires line { line < PAGE_LINES }
-    ensures { IsSpot ledger.now space page line result }
-{
-    match ledger.overlay(space, page) {
-        Some(overlay) => {
-            if overlay.bits.has(line) {
-                Spot::Segment(overlay.block)
-            } else {
-                Spot::Frame(frame)
-            }
+/// A page, as it was found, with all that an access to it has to know.
+#[derive(Clone, Copy, Debug, PartialEq, Eq)]
+pub struct FoundPage {
+    pub space: u16,
+    pub page: u64,
+    pub perms: Perms,
+    pub frame: u32,
+    /// its own lines
+    pub own: Bits,
+    // where they stand, where it has some
+    pub(crate) block: Block,
+    // whether stores to it go into its frame
+    pub(crate) in_frame: bool,
+}
+
+impl FoundPage {
+    /// A line of it, below 64. Costs a step.
+    #[inline]
+    pub fn line(self, line: u8) -> FoundLine
+        requires { line < PAGE_LINES }
+        ensures { (view : MemoryView) → IsFoundPage view.table self
+            → IsFoundAt view self.space self.page line result }
+    {
+        let spot = if self.own.has(line) {
+            Spot::Segment(self.block)
+        } else {
+            Spot::Frame(self.frame)
+        };
+        FoundLine {
+            space: self.space,
+            page: self.page,
+            line,
+            perms: self.perms,
+            spot,
         }
-        None => Spot::Frame(frame),
+    }
+
+    /// Whether a line, below 64, can be written where it stands: it is in the overlay, or else the space isn't speculating and the
+    /// frame is the page's alone. Costs a step.
+    #[inline]
+    pub fn is_writable(self, line: u8) -> bool
+        requires { line < PAGE_LINES }
+        ensures { (view : MemoryView) → IsFoundPage view.table self
+            → result ≡ is_writable (state_of view) self.space self.page line }
+    {
+        self.own.has(line) || self.in_frame
+    }
+}
+
+/// The lines of an overlay, and where they stand: none, and anywhere, where there is no overlay.
+#[inline]
+pub(crate) fn parts_of(overlay: Option<Entry>) -> (Bits, Block)
+    ensures lines { result.0 ≡ lines_of overlay }
+    ensures block { (e : Entry) → overlay ≡ Some e → e.block ≡ result.1 }
+{
+    match overlay {
+        Some(entry) => (entry.bits, entry.block),
+        None => (Bits::empty(), Block { unit: 0, order: 0 }),
     }
 }

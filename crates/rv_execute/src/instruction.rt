@@ -19,23 +19,6 @@ use rv_decode::{Instr, decode};
 // Numbers of two bytes are below this.
 const HALF_END: u64 = 1 << 16;
 
-impl Size {
-    /// How many bytes.
-    #[inline]
-    fn count(self) -> usize
-        ensures count { result ≡ count_of self }
-        ensures is_count { IsTrue (is_count result) }
-        ensures small { result ≤ 8 }
-    {
-        match self {
-            Size::Byte => 1,
-            Size::Half => 2,
-            Size::Word => 4,
-            Size::Double => 8,
-        }
-    }
-}
-
 /// A loaded number of so many bytes as 64 bits.
 #[inline]
 fn extended(extension: Extension, size: Size, n: u64) -> u64
@@ -72,7 +55,8 @@ fn write(regs: &mut Regs, rd: u8, value: u64) -> Outcome
     Outcome::Stepped
 }
 
-/// The number of a load, with its extension.
+/// The number of a load, with its extension. Each size has an arm of its own, since what the memory does with bytes whose number is
+/// known when it is compiled is short.
 #[inline]
 fn read<M: GuestMemory>(
     mem: &mut M,
@@ -86,14 +70,29 @@ fn read<M: GuestMemory>(
     ensures kept { M.memory mem.new ≡ M.memory mem.old }
     ensures made { M.loaded mem.old address (count_of size) mem.new }
 {
-    let count = size.count();
-    let mut buffer = [0; 8];
-    mem.load(address, &mut buffer[..count])?;
-    Ok(extended(
-        extension,
-        size,
-        LittleEndian::read_uint(&buffer[..count], count),
-    ))
+    let n = match size {
+        Size::Byte => {
+            let mut buffer = [0; 1];
+            mem.load(address, &mut buffer)?;
+            u64::from(buffer[0])
+        }
+        Size::Half => {
+            let mut buffer = [0; 2];
+            mem.load(address, &mut buffer)?;
+            u64::from(LittleEndian::read_u16(&buffer))
+        }
+        Size::Word => {
+            let mut buffer = [0; 4];
+            mem.load(address, &mut buffer)?;
+            u64::from(LittleEndian::read_u32(&buffer))
+        }
+        Size::Double => {
+            let mut buffer = [0; 8];
+            mem.load(address, &mut buffer)?;
+            LittleEndian::read_u64(&buffer)
+        }
+    };
+    Ok(extended(extension, size, n))
 }
 
 /// Loads a number into a register.
@@ -139,7 +138,13 @@ fn store<M: GuestMemory>(
         mem.old (full_in result) mem.new }
 {
     let bytes = value.to_le_bytes();
-    match mem.store(address, &bytes[..size.count()]) {
+    let answer = match size {
+        Size::Byte => mem.store(address, &bytes[..1]),
+        Size::Half => mem.store(address, &bytes[..2]),
+        Size::Word => mem.store(address, &bytes[..4]),
+        Size::Double => mem.store(address, &bytes),
+    };
+    match answer {
         Ok(()) => {
             next(regs);
             Outcome::Stepped

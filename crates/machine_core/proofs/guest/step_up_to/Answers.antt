@@ -64,7 +64,6 @@ stepping-preserved c =
       loan = c.in-Stepped.ensures.loan ∙ so_far.loan;
       space = c.in-Stepped.ensures.space ∙ so_far.space;
       there = search rules;
-      in_hand = c.in-Stepped.ensures.ready.in_hand;
       all = step_in (stops_in c.args.stops) p c.stepping.view.space so_far.space (executions (stops_in c.args.stops) p c.args.most (guest_lent c.args.view.now c.args.process.now)) c.args.most c.stepping.steps now next
           (omega (arith, c.stepping-test.true)) so_far.all c.in-Stepped.ensures.outcome c.in-Stepped.ensures.after
           (c.if-is_stop.ensures ∙ ap (contains (stops_in c.args.stops)) c.pc.ensures);

@@ -1,7 +1,7 @@
 use Rattle.std.proofs.Common.{◌≡◌, ◌-◌, ◌≤◌, true}
 use Rattle.ovl_io.specs.declared.process_state.ProcessState.TheVariants.{Running}
 use Rattle.space_maps.specs.Spaces.{holds_space}
-use Rattle.machine_core.specs.Access.{IsInHand, spaces_lent}
+use Rattle.machine_core.specs.Access.{spaces_lent}
 use Rattle.machine_core.specs.Executions.{executions, stops_in}
 use Rattle.machine_core.specs.Kept.{IsBeside, guest_lent}
 use Rattle.machine_core.proofs.Stepping.{behind}
@@ -13,7 +13,6 @@ invariant-stepping l = record {
   loan : l.view.memory.ghost_name ≡ l.fn.view.memory.ghost_name;
   space : l.view.space ≡ l.fn.view.space;
   there : holds_space (spaces_lent l.view) l.fn.view.space ≡ true;
-  in_hand : IsInHand l.view.memory.now.pages l.view.space l.view.code;
   all : executions (stops_in l.stops) l.fn.view.space l.most (guest_lent l.fn.view l.fn.process)
       ≡ behind l.steps (executions (stops_in l.stops) l.fn.view.space (l.most - l.steps) (guest_lent l.view l.process));
   running : l.process.state ≡ Running;

@@ -1,50 +1,28 @@
-use Rattle.std.proofs.Common.{sym, ◌∙◌}
-use Rattle.overlay_pages.specs.View.{state_of}
-use Rattle.overlay_memory.proofs.Counting.{absent_after, absent_translated, allows_is, denied_is, entered_true, hit_translated, looked_true, miss_translated}
+use Rattle.std.proofs.Common.{ap, ◌∙◌}
+use Rattle.overlay_memory.proofs.Fronting.{hits_fronts, hits_true, known_found, known_front, known_translated}
 use Rattle.overlay_memory.proofs.translating.translate.Goals as goal
+use Rattle.overlay_pages.specs.View.{state_of}
+use Rattle.translation_cache.specs.Bare.{bare, bare_hits}
 
-pub enter-requires : goal.enter-requires
-enter-requires c = record {
-  absent = absent_after (state_of c.args.pages.now) c.args.space c.args.page c.args.cache.now c.look.new.self c.in-None.ensures.formed c.in-None.ensures.found c.in-None.ensures.looked;
-}
+pub returns-in-Some-clause-found : goal.returns-in-Some-clause-found
+returns-in-Some-clause-found c =
+    known_found c.args.pages.now c.args.space c.args.page c.in-Some.found (bare c.args.cache.now) c.args.fronts.now c.requires.fronts c.in-Some.ensures
 
-pub returns-in-Some-clause-allowed : goal.returns-in-Some-clause-allowed
-returns-in-Some-clause-allowed c =
-    c.contains.ensures tt
-    ∙ allows_is (state_of c.args.pages.now) c.args.space c.args.page c.args.cache.now c.in-Some.cached c.args.need.0
-    (c.requires.held c.args.space c.args.page c.in-Some.cached (sym c.in-Some.ensures.found))
+pub returns-in-Some-clause-front : goal.returns-in-Some-clause-front
+returns-in-Some-clause-front c =
+    known_front c.args.pages.now c.args.space c.args.page c.in-Some.found (bare c.args.cache.now) c.args.fronts.now c.requires.fronts c.in-Some.ensures
+    (bare c.count_hits.new.self) (ap bare c.count_hits.ensures ∙ bare_hits 1 c.args.cache.now)
 
 pub returns-in-Some-clause-translated : goal.returns-in-Some-clause-translated
 returns-in-Some-clause-translated c =
-    hit_translated (state_of c.args.pages.now) c.args.space c.args.page c.args.cache.now c.in-Some.cached c.look.new.self c.in-Some.ensures.found c.in-Some.ensures.looked
+    known_translated c.args.pages.now c.args.space c.args.page c.in-Some.found (bare c.args.cache.now) c.args.fronts.now c.requires.fronts c.in-Some.ensures
+    (bare c.count_hits.new.self) (ap bare c.count_hits.ensures ∙ bare_hits 1 c.args.cache.now)
 
 pub returns-in-Some-clause-held : goal.returns-in-Some-clause-held
 returns-in-Some-clause-held c =
-    looked_true (state_of c.args.pages.now) c.args.space c.args.page c.args.cache.now c.look.new.self c.in-Some.ensures.formed c.in-Some.ensures.looked c.requires.held
+    hits_true (state_of c.args.pages.now) c.args.cache.now c.count_hits.new.self 1 c.count_hits.ensures c.requires.held
 
-pub returns-in-Some-cached_in-clause-allowed : goal.returns-in-Some-cached_in-clause-allowed
-returns-in-Some-cached_in-clause-allowed c =
-    c.contains-in-Some-cached_in.ensures tt
-    ∙ allows_is (state_of c.args.pages.now) c.args.space c.args.page c.args.cache.now c.in-Some-cached_in.cached c.args.need.0 (sym c.in-Some-cached_in.ensures)
-
-pub returns-in-Some-cached_in-clause-translated : goal.returns-in-Some-cached_in-clause-translated
-returns-in-Some-cached_in-clause-translated c =
-    miss_translated (state_of c.args.pages.now) c.args.space c.args.page c.args.cache.now c.in-Some-cached_in.cached c.look.new.self c.enter.new.self c.in-None.ensures.found
-    c.in-Some-cached_in.ensures c.in-None.ensures.looked c.enter.ensures
-
-pub returns-in-Some-cached_in-clause-held : goal.returns-in-Some-cached_in-clause-held
-returns-in-Some-cached_in-clause-held c =
-    entered_true (state_of c.args.pages.now) c.args.space c.args.page c.args.cache.now c.in-Some-cached_in.cached c.look.new.self c.enter.new.self c.in-None.ensures.formed
-    c.in-Some-cached_in.ensures c.in-None.ensures.looked c.enter.ensures c.requires.held
-
-pub returns-in-None-cached_in-clause-allowed : goal.returns-in-None-cached_in-clause-allowed
-returns-in-None-cached_in-clause-allowed c =
-    denied_is (state_of c.args.pages.now) c.args.space c.args.page c.args.cache.now c.args.need.0 c.in-None-cached_in.ensures
-
-pub returns-in-None-cached_in-clause-translated : goal.returns-in-None-cached_in-clause-translated
-returns-in-None-cached_in-clause-translated c =
-    absent_translated (state_of c.args.pages.now) c.args.space c.args.page c.args.cache.now c.look.new.self c.in-None.ensures.found c.in-None-cached_in.ensures c.in-None.ensures.looked
-
-pub returns-in-None-cached_in-clause-held : goal.returns-in-None-cached_in-clause-held
-returns-in-None-cached_in-clause-held c =
-    looked_true (state_of c.args.pages.now) c.args.space c.args.page c.args.cache.now c.look.new.self c.in-None.ensures.formed c.in-None.ensures.looked c.requires.held
+pub returns-in-Some-clause-fronts : goal.returns-in-Some-clause-fronts
+returns-in-Some-clause-fronts c =
+    hits_fronts c.args.pages.now.table (bare c.args.cache.now) (bare c.count_hits.new.self) 1 c.args.fronts.now
+    (ap bare c.count_hits.ensures ∙ bare_hits 1 c.args.cache.now) c.requires.fronts

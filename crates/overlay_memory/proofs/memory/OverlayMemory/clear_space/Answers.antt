@@ -1,12 +1,15 @@
 use Rattle.overlay_pages.specs.View as seen
 use Rattle.overlay_memory.specs.View.{view_of}
 use Rattle.overlay_memory.proofs.Truths.{emptied_translated, flushed_lists, with_cache}
+use Rattle.overlay_memory.proofs.Fronting.{none_known}
 use Rattle.overlay_memory.proofs.memory.OverlayMemory.clear_space.Goals as goal
 
 pub invariant_of-self : goal.invariant_of-self
-invariant_of-self c =
-    with_cache (seen.state_of c.remove_pages.new.pages) _ c.flush.new.self c.flush.ensures.flushed
-    (emptied_translated (seen.state_of c.self.inside.pages) (seen.state_of c.remove_pages.new.pages) c.args.space c.self.inside.cache c.remove_pages.ensures.state c.self.invariant)
+invariant_of-self c = (
+  with_cache (seen.state_of c.remove_pages.new.pages) _ c.flush.new.self c.flush.ensures.flushed
+      (emptied_translated (seen.state_of c.self.inside.pages) (seen.state_of c.remove_pages.new.pages) c.args.space c.self.inside.cache c.remove_pages.ensures.state c.self.invariant.0),
+  none_known _ _ _ c.clear.ensures,
+)
 
 pub returns-clause-translations : goal.returns-clause-translations
 returns-clause-translations c =

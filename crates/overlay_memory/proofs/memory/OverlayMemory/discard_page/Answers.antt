@@ -5,13 +5,16 @@ use Rattle.overlay_memory.specs.View.{state_of, view_of}
 use Rattle.overlay_pages.specs.Changes.{discarded}
 use Rattle.space_maps.specs.Spaces.{page_in}
 use Rattle.overlay_memory.proofs.Truths.{flushed_lists, turned_translated, with_cache}
+use Rattle.overlay_memory.proofs.Fronting.{none_known}
 use Rattle.overlay_memory.proofs.memory.OverlayMemory.discard_page.Goals as goal
 
 pub invariant_of-self : goal.invariant_of-self
-invariant_of-self c =
-    with_cache (seen.state_of c.discard_page.new.self) _ c.flush.new.self c.flush.ensures.flushed
-    (turned_translated discarded (seen.state_of c.self.inside.pages) (seen.state_of c.discard_page.new.self) c.args.space c.args.page c.self.inside.cache c.discard_page.ensures
-    (ap (λ m. is_some (page_in (state_of m) c.args.space c.args.page)) c.self.view_is ∙ c.requires.there) c.self.invariant)
+invariant_of-self c = (
+  with_cache (seen.state_of c.discard_page.new.self) _ c.flush.new.self c.flush.ensures.flushed
+      (turned_translated discarded (seen.state_of c.self.inside.pages) (seen.state_of c.discard_page.new.self) c.args.space c.args.page c.self.inside.cache c.discard_page.ensures
+      (ap (λ m. is_some (page_in (state_of m) c.args.space c.args.page)) c.self.view_is ∙ c.requires.there) c.self.invariant.0),
+  none_known _ _ _ c.clear.ensures,
+)
 
 pub returns-clause-translations : goal.returns-clause-translations
 returns-clause-translations c =

@@ -12,4 +12,4 @@ pub returns-clause-formed : goal.returns-clause-formed
 returns-clause-formed c = subst (λ m. IsFormed (translations_of m)) c.self.view_is (formed_bare c.self.inside.cache c.hits.ensures.formed)
 
 pub returns-clause-held : goal.returns-clause-held
-returns-clause-held c = subst (λ m. AreTrue (state_of m) m.cache) c.self.view_is c.self.invariant.entries
+returns-clause-held c = subst (λ m. AreTrue (state_of m) m.cache) c.self.view_is c.self.invariant.0.entries

@@ -1,12 +1,15 @@
 use Rattle.overlay_pages.specs.View as seen
 use Rattle.overlay_memory.specs.View.{view_of}
 use Rattle.overlay_memory.proofs.Truths.{flushed_lists, marked_translated, with_cache}
+use Rattle.overlay_memory.proofs.Fronting.{none_known}
 use Rattle.overlay_memory.proofs.memory.OverlayMemory.set_speculating.Goals as goal
 
 pub invariant_of-self : goal.invariant_of-self
-invariant_of-self c =
-    with_cache (seen.state_of c.set_speculating.new.self) _ c.flush.new.self c.flush.ensures.flushed
-    (marked_translated (seen.state_of c.self.inside.pages) (seen.state_of c.set_speculating.new.self) c.args.space c.args.on c.self.inside.cache c.set_speculating.ensures c.self.invariant)
+invariant_of-self c = (
+  with_cache (seen.state_of c.set_speculating.new.self) _ c.flush.new.self c.flush.ensures.flushed
+      (marked_translated (seen.state_of c.self.inside.pages) (seen.state_of c.set_speculating.new.self) c.args.space c.args.on c.self.inside.cache c.set_speculating.ensures c.self.invariant.0),
+  none_known _ _ _ c.clear.ensures,
+)
 
 pub returns-clause-translations : goal.returns-clause-translations
 returns-clause-translations c =

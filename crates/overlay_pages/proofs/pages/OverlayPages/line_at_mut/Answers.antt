@@ -1,8 +1,8 @@
-use Rattle.std.proofs.Common.{option_map, Some, refl, sym, ap, ◌∙◌}
+use Rattle.std.proofs.Common.{option_map, Some, refl, sym, ap, subst, ◌∙◌}
 use Rattle.overlay_pages.specs.Lines.{line_in_page}
 use Rattle.overlay_pages.specs.State.{PageState}
 use Rattle.overlay_pages.specs.Changes.{is_writable}
-use Rattle.overlay_pages.specs.View.{MemoryView, state_of, view_of}
+use Rattle.overlay_pages.specs.View.{IsJoined, MemoryView, state_of, view_of}
 use Rattle.overlay_pages.specs.declared.spots.Spot.TheVariants.{Segment, Frame}
 use Rattle.overlay_pages.proofs.Found.{found_spot}
 use Rattle.overlay_pages.proofs.Lending.{frame_joined, frame_there, left_frame, left_segment, lent_frame, lent_segment, outside_value, segment_has, segment_joined, segment_there, segment_value, writable_outside}
@@ -33,6 +33,7 @@ returns-in-Segment c = (
     writes_back = tt;
     value = ap (λ (m : MemoryView). option_map (λ (x : PageState). line_in_page x.lines c.args.found.line) (page_in (state_of m) c.args.found.space c.args.found.page)) (sym c.self.view_is) ∙ segment_value (view_of c.self.inside.store c.self.inside.ledger) c.args.found.space c.args.found.page c.args.found.line c.in-Segment.block c.self.invariant (found_spot (view_of c.self.inside.store c.self.inside.ledger) c.args.self.now c.args.found (Segment c.in-Segment.block) c.self.view_is c.requires.found c.in-Segment.is) c.requires.found.line ∙ ap Some (sym c.get_mut.ensures.value);
     state = λ bytes. left_segment (view_of c.self.inside.store c.self.inside.ledger) c.args.self.now c.args.found.space c.args.found.page c.args.found.line c.in-Segment.block c.self.invariant (found_spot (view_of c.self.inside.store c.self.inside.ledger) c.args.self.now c.args.found (Segment c.in-Segment.block) c.self.view_is c.requires.found c.in-Segment.is) c.self.view_is c.requires.found.line bytes;
+    joined = subst IsJoined c.self.view_is c.self.invariant;
   },
 )
 
@@ -43,5 +44,6 @@ returns-in-Frame c = (
     writes_back = tt;
     value = ap (λ (m : MemoryView). option_map (λ (x : PageState). line_in_page x.lines c.args.found.line) (page_in (state_of m) c.args.found.space c.args.found.page)) (sym c.self.view_is) ∙ outside_value (view_of c.self.inside.store c.self.inside.ledger) c.args.found.space c.args.found.page c.args.found.line c.in-Frame.frame c.self.invariant (found_spot (view_of c.self.inside.store c.self.inside.ledger) c.args.self.now c.args.found (Frame c.in-Frame.frame) c.self.view_is c.requires.found c.in-Frame.is) c.requires.found.line ∙ ap Some (sym c.frame_line_mut.ensures.value);
     state = λ bytes. left_frame (view_of c.self.inside.store c.self.inside.ledger) c.args.self.now c.args.found.space c.args.found.page c.args.found.line c.in-Frame.frame c.self.invariant (found_spot (view_of c.self.inside.store c.self.inside.ledger) c.args.self.now c.args.found (Frame c.in-Frame.frame) c.self.view_is c.requires.found c.in-Frame.is) c.self.view_is c.requires.found.line c.requires.writable bytes;
+    joined = subst IsJoined c.self.view_is c.self.invariant;
   },
 )

@@ -1,42 +1,37 @@
 use Rattle.std.proofs.Common.{sym, ap, subst, ◌∙◌, arith}
 use Rattle.std.specs.Option.{IsSome, is_some}
 use Rattle.space_maps.specs.Spaces.{page_in}
-use Rattle.space_ledger.specs.ViewLaws.{entry_frame}
 use Rattle.overlay_pages.specs.View.{HasOwnPlace, MemoryView, state_of, view_of}
 use Rattle.overlay_pages.specs.ViewLaws.{state_frames}
+use Rattle.overlay_pages.specs.declared.spots.Spot.TheVariants.{Frame, Segment}
+use Rattle.overlay_pages.proofs.Found.{spot_at}
 use Rattle.overlay_pages.proofs.OwnPlaces.{has_own_place}
-use Rattle.overlay_pages.proofs.Tables.{absent_state, page_some}
+use Rattle.overlay_pages.proofs.Tables.{page_some}
 use Rattle.overlay_pages.proofs.Lending.{frame_low, outside_inside, segment_has, segment_inside, segment_there}
 use Rattle.overlay_pages.proofs.pages.OverlayPages.place.Goals as goal
 
-pub spot_of-requires-clause-frame : goal.spot_of-requires-clause-frame
-spot_of-requires-clause-frame c = entry_frame c.self.inside.ledger c.args.space c.args.page c.in-Some.entry c.in-Some.ensures
-
 pub unreachable-requires : goal.unreachable-requires
 unreachable-requires c =
-    let none =
-    ap (λ (m : MemoryView). page_in (state_of m) c.args.space c.args.page) (sym c.self.view_is)
-    ∙ absent_state (view_of c.self.inside.store c.self.inside.ledger) c.args.space c.args.page c.in-None.ensures in
-    let no = sym c.requires.there ∙ ap is_some none in
+    let no = sym c.requires.there ∙ ap is_some c.in-None.ensures.found in
     cc
 
 pub place-requires-clause-there : goal.place-requires-clause-there
-place-requires-clause-there c = segment_there (view_of c.self.inside.store c.self.inside.ledger) c.args.space c.args.page c.args.line c.in-Segment.block c.self.invariant c.in-Segment.ensures
+place-requires-clause-there c = segment_there (view_of c.self.inside.store c.self.inside.ledger) c.args.space c.args.page c.args.line c.in-Segment.block c.self.invariant (spot_at (view_of c.self.inside.store c.self.inside.ledger) c.args.self.now c.args.space c.args.page c.args.line c.in-Some.found (Segment c.in-Segment.block) c.self.view_is c.in-Some.ensures.found c.in-Segment.is)
 
 pub place-requires-clause-line : goal.place-requires-clause-line
-place-requires-clause-line c = segment_has (view_of c.self.inside.store c.self.inside.ledger) c.args.space c.args.page c.args.line c.in-Segment.block c.self.invariant c.in-Segment.ensures
+place-requires-clause-line c = segment_has (view_of c.self.inside.store c.self.inside.ledger) c.args.space c.args.page c.args.line c.in-Segment.block c.self.invariant (spot_at (view_of c.self.inside.store c.self.inside.ledger) c.args.self.now c.args.space c.args.page c.args.line c.in-Some.found (Segment c.in-Segment.block) c.self.view_is c.in-Some.ensures.found c.in-Segment.is)
 
 pub overflow_mul-result : goal.overflow_mul-result
-overflow_mul-result c = record { fits = omega (arith, frame_low (view_of c.self.inside.store c.self.inside.ledger) c.args.space c.args.page c.args.line c.in-Frame.frame c.self.invariant c.in-Frame.ensures, c.self.invariant.store.pieces.few) }
+overflow_mul-result c = record { fits = omega (arith, frame_low (view_of c.self.inside.store c.self.inside.ledger) c.args.space c.args.page c.args.line c.in-Frame.frame c.self.invariant (spot_at (view_of c.self.inside.store c.self.inside.ledger) c.args.self.now c.args.space c.args.page c.args.line c.in-Some.found (Frame c.in-Frame.frame) c.self.view_is c.in-Some.ensures.found c.in-Frame.is), c.self.invariant.store.pieces.few) }
 
 pub overflow_add-result : goal.overflow_add-result
-overflow_add-result c = record { fits = omega (arith, frame_low (view_of c.self.inside.store c.self.inside.ledger) c.args.space c.args.page c.args.line c.in-Frame.frame c.self.invariant c.in-Frame.ensures, c.self.invariant.store.pieces.few, c.from.ensures, c.requires.line) }
+overflow_add-result c = record { fits = omega (arith, frame_low (view_of c.self.inside.store c.self.inside.ledger) c.args.space c.args.page c.args.line c.in-Frame.frame c.self.invariant (spot_at (view_of c.self.inside.store c.self.inside.ledger) c.args.self.now c.args.space c.args.page c.args.line c.in-Some.found (Frame c.in-Frame.frame) c.self.view_is c.in-Some.ensures.found c.in-Frame.is), c.self.invariant.store.pieces.few, c.from.ensures, c.requires.line) }
 
 pub returns-in-Segment-clause-inside : goal.returns-in-Segment-clause-inside
-returns-in-Segment-clause-inside c = omega (arith, segment_inside (view_of c.self.inside.store c.self.inside.ledger) c.args.space c.args.page c.args.line c.in-Segment.block c.self.invariant c.in-Segment.ensures, c.place.ensures.place, (sym (state_frames (view_of c.self.inside.store c.self.inside.ledger)) ∙ ap (λ (m : MemoryView). (state_of m).frames) c.self.view_is))
+returns-in-Segment-clause-inside c = omega (arith, segment_inside (view_of c.self.inside.store c.self.inside.ledger) c.args.space c.args.page c.args.line c.in-Segment.block c.self.invariant (spot_at (view_of c.self.inside.store c.self.inside.ledger) c.args.self.now c.args.space c.args.page c.args.line c.in-Some.found (Segment c.in-Segment.block) c.self.view_is c.in-Some.ensures.found c.in-Segment.is), c.place.ensures.place, (sym (state_frames (view_of c.self.inside.store c.self.inside.ledger)) ∙ ap (λ (m : MemoryView). (state_of m).frames) c.self.view_is))
 
 pub returns-in-Frame-clause-inside : goal.returns-in-Frame-clause-inside
-returns-in-Frame-clause-inside c = omega (arith, outside_inside (view_of c.self.inside.store c.self.inside.ledger) c.args.space c.args.page c.args.line c.in-Frame.frame c.self.invariant c.in-Frame.ensures c.requires.line, c.from.ensures, (sym (state_frames (view_of c.self.inside.store c.self.inside.ledger)) ∙ ap (λ (m : MemoryView). (state_of m).frames) c.self.view_is))
+returns-in-Frame-clause-inside c = omega (arith, outside_inside (view_of c.self.inside.store c.self.inside.ledger) c.args.space c.args.page c.args.line c.in-Frame.frame c.self.invariant (spot_at (view_of c.self.inside.store c.self.inside.ledger) c.args.self.now c.args.space c.args.page c.args.line c.in-Some.found (Frame c.in-Frame.frame) c.self.view_is c.in-Some.ensures.found c.in-Frame.is) c.requires.line, c.from.ensures, (sym (state_frames (view_of c.self.inside.store c.self.inside.ledger)) ∙ ap (λ (m : MemoryView). (state_of m).frames) c.self.view_is))
 
 pub returns-in-Segment-clause-own : goal.returns-in-Segment-clause-own
 returns-in-Segment-clause-own c =

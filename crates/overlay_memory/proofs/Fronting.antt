@@ -1,0 +1,219 @@
+use Rattle.std.proofs.Common.{◌≡◌, ℕ, zero, suc, ◌/◌, ◌%◌, true, get_or, replicate, Option, Some, None, is_some, sym, ap, subst, ◌∙◌, refl, arith}
+use Rattle.std.proofs.lemmas.Option.{none-some}
+use Rattle.sizes.specs.declared.TheConstants.{LINE_BYTES, PAGE_BYTES, PAGE_LINES}
+use Rattle.std.specs.Option.{option_map}
+use Rattle.std.specs.FinMap.{get}
+use Rattle.std.proofs.lemmas.List.{get_or-set_other, get_or-set_same, length-set}
+use Rattle.number_maps.specs.Keys.{by_key}
+use Rattle.ovl_io.specs.Permissions.{executable, permits}
+use Rattle.ovl_io.specs.declared.perms.Perms.{Perms}
+use Rattle.overlay_memory.specs.Access.{IsFoundIn}
+use Rattle.overlay_memory.specs.Fronts.{AreFronts, IsCode, IsHead, code_of, head_of, held_of, no_fronts, with_code, with_head}
+use Rattle.overlay_memory.specs.PageLaws.{some_is}
+use Rattle.overlay_memory.specs.Pieces.{IsPermitted}
+use Rattle.overlay_memory.specs.StateMemory.{memory_at}
+use Rattle.overlay_memory.specs.View.{AreTrue, cached_in, cached_page}
+use Rattle.overlay_memory.specs.declared.fronts.Fronts.{Fronts}
+use Rattle.overlay_pages.specs.Spots.{FindsPage, IsFoundAt, IsFoundPageAt}
+use Rattle.overlay_pages.specs.State.{State, memory_of, seen_page}
+use Rattle.overlay_pages.specs.View.{IsJoined, MemoryView, page_state, state_of}
+use Rattle.overlay_pages.specs.ViewLaws.{state_page_there}
+use Rattle.overlay_pages.specs.declared.spots.FoundLine.{FoundLine}
+use Rattle.overlay_pages.specs.declared.spots.FoundPage.{FoundPage}
+use Rattle.space_ledger.specs.View.{LedgerView}
+use Rattle.space_maps.specs.Spaces.{page_in}
+use Rattle.translation_cache.specs.Bare.{BareTranslations}
+use Rattle.translation_cache.specs.Counted.{translated}
+use Rattle.translation_cache.specs.CountedLaws.{IsFront, front_beside, front_hits, front_translated, translated_front}
+use Rattle.translation_cache.specs.Finding.{found_hits}
+use Rattle.translation_cache.specs.Formed.{IsFormed}
+use Rattle.translation_cache.specs.Translations.{Translations, found, with_hits}
+use Rattle.translation_cache.specs.declared.TheConstants.{SETS}
+use Rattle.translation_cache.specs.declared.cached.Cached.{Cached}
+
+-- What is known of pages at the front of their lists stays true.
+
+-- nothing is
+none_at : (n set : ℕ) → get_or {A = Option FoundPage} (replicate n None) set None ≡ None
+none_at zero set = refl
+none_at (suc n) zero = refl
+none_at (suc n) (suc set) = none_at n set
+
+pub none_fronts : (table : LedgerView) (t : BareTranslations) → AreFronts table t no_fronts
+unfolding no_fronts
+none_fronts table t = record {
+  count = refl;
+  heads = λ set found is. absurd (none-some found (sym (none_at SETS set) ∙ is));
+  code = λ code is. absurd (none-some code is);
+}
+
+-- so whatever memories are, they may be known so
+pub none_known : (table : LedgerView) (t : BareTranslations) (fronts : Fronts) → fronts ≡ no_fronts → AreFronts table t fronts
+none_known table t fronts is = subst (AreFronts table t) (sym is) (none_fronts table t)
+
+-- hits are counted
+head_hits : (table : LedgerView) (t : BareTranslations) (n : ℕ) (found : FoundPage) → IsHead table t found → IsHead table (with_hits n t) found
+head_hits table t n found head = record { is = head.is; front = front_hits found.space found.page n t head.front }
+
+pub hits_fronts : (table : LedgerView) (t u : BareTranslations) (n : ℕ) (fronts : Fronts) → u ≡ with_hits n t → AreFronts table t fronts → AreFronts table u fronts
+hits_fronts table t u n fronts is are = subst (λ (w : BareTranslations). AreFronts table w fronts) (sym is) (record {
+  count = are.count;
+  heads = λ set found at. let head = are.heads set found at in (head.0, head_hits table t n found head.1);
+  code = λ code at.
+      let one = are.code code at in
+      record { page_is = one.page_is; may = one.may; head = head_hits table t n code.page one.head };
+})
+
+pub hits_true : (v : State) (t u : Translations Cached) (n : ℕ) → u ≡ with_hits n t → AreTrue v t → AreTrue v u
+hits_true v t u n is entries q r held found_now = entries q r held (sym (ap (found q r) is ∙ found_hits q r n t) ∙ found_now)
+
+-- bytes are stored where they stand
+pub table_fronts : (old new : LedgerView) (t : BareTranslations) (fronts : Fronts) → new ≡ old → AreFronts old t fronts → AreFronts new t fronts
+table_fronts old new t fronts same are = subst (λ (v : LedgerView). AreFronts v t fronts) (sym same) are
+
+-- What was found of a page.
+
+page_there : (view : MemoryView) (s p : ℕ) (found : FoundPage) → (at : IsFoundPageAt view s p found) → page_in (state_of view) s p ≡ Some (page_state view.store at.is.x)
+page_there view s p found at =
+    sym (ap (λ n. page_in (state_of view) n p) at.space_is) ∙ sym (ap (page_in (state_of view) found.space) at.page_is)
+    ∙ state_page_there view found.space found.page at.is.x at.is.there
+
+-- its entry holds
+pub held_there : (view : MemoryView) (s p : ℕ) (found : FoundPage) → IsFoundPageAt view s p found → Some (held_of found) ≡ cached_in (state_of view) s p
+unfolding page_state
+held_there view s p found at =
+    sym (ap (option_map cached_page) (page_there view s p found at)
+    ∙ (λ i. Some (record { perms = at.is.perms i; frame = at.is.frame i; bits = at.is.own i })))
+
+mapped_there : (view : MemoryView) (s p : ℕ) (found : FoundPage) → IsFoundPageAt view s p found → is_some (get (memory_of (state_of view) s) p) ≡ true
+mapped_there view s p found at = ap is_some (memory_at (state_of view) s p ∙ ap (option_map seen_page) (page_there view s p found at))
+
+pub absent_held : (v : State) (s p : ℕ) → page_in v s p ≡ None → None ≡ cached_in v s p
+absent_held v s p none = sym (ap (option_map cached_page) none)
+
+-- A page that is known to be at the front is translated.
+
+module _ (view : MemoryView) (s p : ℕ) (found : FoundPage) (t : BareTranslations) (fronts : Fronts) (are : AreFronts view.table t fronts)
+    (so : (found.space ≡ s) × (found.page ≡ p) × (head_of fronts p ≡ Some found)) where
+  known : IsHead view.table t found
+  known = (are.heads (p % SETS) found so.2).1
+
+  pub known_found : IsFoundPageAt view s p found
+  known_found = record { space_is = so.0; page_is = so.1; is = known.is }
+
+  pub known_front : (u : BareTranslations) → u ≡ with_hits 1 t → IsFront found.space found.page u
+  known_front u is = subst (IsFront found.space found.page) (sym is) (front_hits found.space found.page 1 t known.front)
+
+  pub known_translated : (u : BareTranslations) → u ≡ with_hits 1 t → u ≡ translated s (memory_of (state_of view) s) p t
+  known_translated u is =
+      is ∙ sym (translated_front s p (memory_of (state_of view) s) t (subst (λ n. IsFront s n t) so.1 (subst (λ n. IsFront n found.page t) so.0 known.front)))
+
+-- A page that was translated is at the front of its list.
+
+module _ (view : MemoryView) (s p : ℕ) (result : Option FoundPage) (t u : BareTranslations) (fronts : Fronts) (finds : FindsPage view s p result)
+    (formed : IsFormed t) (is : u ≡ translated s (memory_of (state_of view) s) p t) (are : AreFronts view.table t fronts) where
+  abbrev left : Fronts
+  left = with_head p result fronts
+
+  here : (found : FoundPage) → result ≡ Some found → (found.page % SETS ≡ p % SETS) × IsHead view.table u found
+  here found some =
+      let at : IsFoundPageAt view s p found = subst (FindsPage view s p) some finds in (
+        ap (λ n. n % SETS) at.page_is,
+        record {
+          is = at.is;
+          front =
+              subst (λ (w : BareTranslations). IsFront found.space found.page w) (sym is)
+              (subst (λ n. IsFront found.space n (translated s (memory_of (state_of view) s) p t)) (sym at.page_is)
+              (subst (λ n. IsFront n p (translated s (memory_of (state_of view) s) p t)) (sym at.space_is)
+              (front_translated s p (memory_of (state_of view) s) t formed (mapped_there view s p found at))));
+        },
+      )
+
+  pub found_front : (found : FoundPage) → result ≡ Some found → IsFront found.space found.page u
+  found_front found some = (here found some).1.front
+
+  beside : (set : ℕ) (found : FoundPage) → (set ≡ p % SETS → ⊥) → get_or fronts.heads set None ≡ Some found → (found.page % SETS ≡ set) × IsHead view.table u found
+  beside set found other at =
+      let head = are.heads set found at in (
+        head.0,
+        record {
+          is = head.1.is;
+          front =
+              subst (λ (w : BareTranslations). IsFront found.space found.page w) (sym is)
+              (front_beside s found.space found.page p (memory_of (state_of view) s) t (λ same. other (sym head.0 ∙ same)) head.1.front);
+        },
+      )
+
+  pub put_fronts : AreFronts view.table u left
+  put_fronts = record {
+    count = length-set fronts.heads (p % SETS) result ∙ are.count;
+    heads = λ set found at. by_key set (p % SETS)
+        (λ same.
+        let one = here found (sym (get_or-set_same fronts.heads (p % SETS) result None (omega (arith, are.count))) ∙ ap (λ n. get_or left.heads n None) (sym same) ∙ at) in
+        (one.0 ∙ sym same, one.1))
+        (λ other. beside set found other (sym (get_or-set_other fronts.heads (p % SETS) set result None other) ∙ at));
+    code = λ code none. absurd (none-some code none);
+  }
+
+-- The line that is fetched from.
+
+pub kept_fronts : (view : MemoryView) (address : ℕ) (page : FoundPage) (t : BareTranslations) (fronts : Fronts) → AreFronts view.table t fronts
+    → IsHead view.table t page → page.page ≡ address / PAGE_BYTES → permits page.perms.0 executable ≡ true
+    → AreFronts view.table t (with_code (address / LINE_BYTES) page fronts)
+kept_fronts view address page t fronts are head page_is may = record {
+  count = are.count;
+  heads = are.heads;
+  code = λ code at.
+      subst (IsCode view.table t) (some_is (code_of (address / LINE_BYTES) page) code at)
+      (record { page_is = page_is ∙ of_line; may = may; head = head });
+}
+  where
+    of_line : address / PAGE_BYTES ≡ address / LINE_BYTES / PAGE_LINES
+    of_line = omega arith
+
+module _ (view : MemoryView) (s address : ℕ) (page : FoundPage) (t : BareTranslations) (fronts : Fronts) (are : AreFronts view.table t fronts)
+    (so : (page.space ≡ s) × (fronts.code ≡ Some (code_of (address / LINE_BYTES) page))) where
+  is_code : IsCode view.table t (code_of (address / LINE_BYTES) page)
+  is_code = are.code (code_of (address / LINE_BYTES) page) so.1
+
+  page_is : page.page ≡ address / PAGE_BYTES
+  page_is = let same = is_code.page_is in omega (arith, same)
+
+  pub code_found : IsFoundPageAt view s (address / PAGE_BYTES) page
+  code_found = record { space_is = so.0; page_is = page_is; is = is_code.head.is }
+
+  pub code_may : permits page.perms.0 executable ≡ true
+  code_may = is_code.may
+
+  pub code_translated : (u : BareTranslations) → u ≡ with_hits 1 t → u ≡ translated s (memory_of (state_of view) s) (address / PAGE_BYTES) t
+  code_translated u is =
+      is ∙ sym (translated_front s (address / PAGE_BYTES) (memory_of (state_of view) s) t
+      (subst (λ n. IsFront s n t) page_is (subst (λ n. IsFront n page.page t) so.0 is_code.head.front)))
+
+-- The line of an address, of its page that was found.
+
+module _ (view : MemoryView) (s address line : ℕ) (page : FoundPage) (found : FoundLine) (at : IsFoundPageAt view s (address / PAGE_BYTES) page)
+    (line_is : line ≡ address / LINE_BYTES % PAGE_LINES) (it : IsFoundAt view page.space page.page line found) where
+  pub line_space : found.space ≡ s
+  line_space = it.space_is ∙ at.space_is
+
+  pub line_found : IsFoundIn view found.space address found
+  line_found = record { space_is = refl; page_is = it.page_is ∙ at.page_is; line_is = it.line_is ∙ line_is; is = it.is }
+
+  pub line_there : IsFoundIn view s address found
+  line_there = record { space_is = line_space; page_is = it.page_is ∙ at.page_is; line_is = it.line_is ∙ line_is; is = it.is }
+
+  -- what holds of the line of the page holds of that of the address
+  pub at_address : (P : ℕ → ℕ → ℕ → Type 0) → P page.space page.page line → P s (address / PAGE_BYTES) (address / LINE_BYTES % PAGE_LINES)
+  at_address P holds =
+      subst (λ n. P n (address / PAGE_BYTES) (address / LINE_BYTES % PAGE_LINES)) at.space_is
+      (subst (λ n. P page.space n (address / LINE_BYTES % PAGE_LINES)) at.page_is (subst (P page.space page.page) line_is holds))
+
+  pub may_be_used : (need : ℕ) → IsJoined view → permits page.perms.0 need ≡ true → IsPermitted view s need address
+  unfolding page_state
+  may_be_used need joined may = record {
+    page = page_state view.store at.is.x;
+    there = page_there view s (address / PAGE_BYTES) page at;
+    may = ap (λ (k : Perms). permits k.0 need) at.is.perms ∙ may;
+    joined = joined;
+  }
