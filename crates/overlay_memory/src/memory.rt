@@ -16,7 +16,7 @@ ghost use Rattle.overlay_pages.specs.Lines.{line_in_page};
 ghost use Rattle.overlay_pages.specs.State.{books, memory_of};
 ghost use Rattle.overlay_pages.specs.Changes.{AreAbsent, Fits, HasCopyRoom, HasShareRoom, IsPlaced, committed, copied, discarded, is_writable, limit_of, units_of, with_shared, with_written, with_zeros};
 ghost use Rattle.overlay_pages.specs.View.{HasOwnPlace, IsJoined, place_at};
-ghost use Rattle.overlay_pages.specs.Calls.{AreMapped, AreShared, AreZeros, AwaitBare, AwaitsLike, HasSettledBlocks, IsEmptyState, IsNextPage, KeepsWholeBlocks, NoneAwaitsBelow, entries_in};
+ghost use Rattle.overlay_pages.specs.Calls.{AreMapped, AreShared, AreZeros, AwaitBare, AwaitsLike, HasSettledBlocks, IsEmptyState, IsNextPage, KeepsWholeBlocks, MovesFewBeside, NoneAwaitsBelow, entries_in};
 ghost use Rattle.overlay_memory.specs.Access.{IsFirstAbsent, Places, Reads, Stores};
 ghost use Rattle.overlay_memory.specs.Fronts.{IsKnownWord};
 ghost use Rattle.overlay_memory.specs.Pieces.{emptied_space};
@@ -196,7 +196,7 @@ impl OverlayMemory {
     }
 
     /// Places a page that isn't there in a frame of its own, with these bytes. Full exactly where the units after it would exceed
-    /// the limit. After want of memory everything is as before, but that segments may have moved.
+    /// the limit. After want of memory everything is as before.
     pub fn place_page(
         &mut self,
         space: u16,
@@ -385,11 +385,13 @@ impl OverlayMemory {
         self.pages.lines_of(space, page)
     }
 
-    /// The own lines of a page that is there and alone go into its frame. Takes no memory. Costs a copy of each own line.
+    /// The own lines of a page that is there and alone go into its frame. Takes no memory. Costs a copy of each own line, and
+    /// moves that copy 60 lines at most.
     pub fn commit_page(&mut self, space: u16, page: u64)
         requires there { IsSome (page_in (state_of self.old) space page) }
         requires alone { is_alone (books (state_of self.old)) space page ≡ true }
         ensures state { state_of self.new ≡ turned_page committed (state_of self.old) space page }
+        ensures few { MovesFewBeside space page self.old.pages.table self.new.pages.table }
         ensures translations { translations_of self.new ≡ flushed space (translations_of self.old) }
     {
         self.fronts.clear();
@@ -398,7 +400,7 @@ impl OverlayMemory {
     }
 
     /// A page that is overlaid, and isn't alone, gets a new frame with its lines, and has no own lines any more. The units after
-    /// it are there. Takes no memory. Costs a copy of the page, and moves.
+    /// it are there. Takes no memory. Costs a copy of the page, and moves that copy 60 lines at most.
     pub fn copy_commit_page(&mut self, space: u16, page: u64)
         requires overlaid { IfSome (page_in (state_of self.old) space page)
             (λ x. 0 < length x.own) }
@@ -409,6 +411,7 @@ impl OverlayMemory {
         ensures copied { IfSome (page_in (state_of self.old) space page)
             (λ x. IsPlaced (state_of self.old) (state_of self.new) space page
             (λ frame. copied frame x)) }
+        ensures few { MovesFewBeside space page self.old.pages.table self.new.pages.table }
         ensures translations { translations_of self.new ≡ flushed space (translations_of self.old) }
     {
         self.fronts.clear();
@@ -416,10 +419,11 @@ impl OverlayMemory {
         self.cache.flush(space);
     }
 
-    /// The overlay of a page that is there is given up. Takes no memory.
+    /// The overlay of a page that is there is given up. Takes no memory. Costs moves that copy 60 lines at most.
     pub fn discard_page(&mut self, space: u16, page: u64)
         requires there { IsSome (page_in (state_of self.old) space page) }
         ensures state { state_of self.new ≡ turned_page discarded (state_of self.old) space page }
+        ensures few { MovesFewBeside space page self.old.pages.table self.new.pages.table }
         ensures translations { translations_of self.new ≡ flushed space (translations_of self.old) }
     {
         self.fronts.clear();
@@ -428,7 +432,7 @@ impl OverlayMemory {
     }
 
     /// Shares a page with a space in which it awaits as the least, with the frame that it has: it gets its lines, and an overlay
-    /// of its own. The units after it are there. Takes no memory. Costs a copy of each own line, and moves.
+    /// of its own. The units after it are there. Takes no memory. Costs a copy of each own line.
     pub fn share_page(&mut self, from: u16, to: u16, page: u64)
         requires there { IsSome (page_in (state_of self.old) from page) }
         requires space { holds_space (state_of self.old) to ≡ true }
@@ -456,9 +460,8 @@ impl OverlayMemory {
         self.pages.share_bare(from, to, until);
     }
 
-    /// Makes moves until no two free blocks below a frame are equal in size. No view and no units change; frames and segments of
-    /// 4 KiB stay where they are. Takes no memory. Costs a copy of each line of what moves, in at most as many moves as there are
-    /// free blocks.
+    /// No two free blocks below a frame are equal in size: that holds between calls, so there is nothing to move. No view and no units
+    /// change; frames and segments of 4 KiB stay where they are. Takes no memory. Costs a few steps.
     pub fn compact(&mut self)
         ensures state { state_of self.new ≡ state_of self.old }
         ensures settled { HasSettledBlocks self.new.pages }

@@ -12,10 +12,9 @@ use Rattle.space_ledger.specs.View.{LedgerView, PageView, ledger_of, overlay_at,
 use Rattle.overlay_pages.specs.Lines.{zero_page}
 use Rattle.overlay_pages.specs.State.{State}
 use Rattle.overlay_pages.specs.Changes.{IsPlaced, limit_of, moved_to, units_of, whole_page}
-use Rattle.overlay_pages.specs.Steps.{Moved}
 use Rattle.overlay_pages.specs.View.{IsJoined, MemoryView, state_of, view_of}
 use Rattle.overlay_pages.specs.ViewLaws.{state_awaiting, state_books, state_holds, state_zero}
-use Rattle.overlay_pages.proofs.Growing.{bare_still, free_is, there_still}
+use Rattle.overlay_pages.proofs.Growing.{free_is}
 use Rattle.overlay_pages.proofs.Tables.{none_back}
 use Rattle.overlay_pages.proofs.Zeros.{zeros_joined}
 use Rattle.overlay_pages.proofs.Placed.{one_zero, one_zero_state, placed_before, placed_units, zero_shared}
@@ -54,27 +53,24 @@ mapped_in v table s p entry is there low absent zero_is table_is =
       zero_is = zero_is ∙ sym (state_zero v);
     }
 
-module _ (v now : MemoryView) (table : LedgerView) (s p : ℕ) (entry : PageEntry) (so : HasMapped v table s p entry) (moved : Moved (view_of v.store table) now) where
+module _ (v : MemoryView) (table : LedgerView) (s p : ℕ) (entry : PageEntry) (so : HasMapped v table s p entry) where
+  abbrev now : MemoryView
+  now = view_of v.store table
+
   at_table : page_in table s p ≡ Some (record { entry = entry; overlay = None })
   at_table = ap (λ (t : LedgerView). page_in t s p) so.table_is ∙ page_put_here v.table s p (record { entry = entry; overlay = None }) s p refl refl
 
-  some_table : IsSome (page_in table s p)
-  some_table = ap is_some at_table
+  pub ready_there : IsSome (page_in table s p)
+  ready_there = ap is_some at_table
 
-  bare_table : overlay_at table s p ≡ None
-  bare_table = ap (λ (o : Option PageView). option_and_then (λ (x : PageView). x.overlay) o) at_table
+  pub ready_bare : overlay_at table s p ≡ None
+  ready_bare = ap (λ (o : Option PageView). option_and_then (λ (x : PageView). x.overlay) o) at_table
 
   now_state : state_of now ≡ put_page (state_of v) s p (whole_page entry zero_page)
-  now_state = moved.state ∙ so.state
+  now_state = so.state
 
   now_page : page_in (state_of now) s p ≡ Some (whole_page entry zero_page)
   now_page = ap (λ st. page_in st s p) now_state ∙ page_put_here (state_of v) s p (whole_page entry zero_page) s p refl refl
-
-  pub ready_there : IsSome (page_in now.table s p)
-  ready_there = there_still (view_of v.store table) now s p moved.state some_table
-
-  pub ready_bare : overlay_at now.table s p ≡ None
-  ready_bare = bare_still (view_of v.store table) now s p moved.joined moved.state some_table bare_table
 
   now_zero : entry.frame ≡ (state_of now).zero_frame
   unfolding put_page put_space

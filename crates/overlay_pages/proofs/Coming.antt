@@ -1,7 +1,7 @@
 use Rattle.std.proofs.Common.{◌≡◌, ℕ, ◌+◌, ◌^◌, ◌<◌, ◌⊎◌, true, Option, Some, None, length, refl, option_and_then, option_map, sym, ap, subst, ◌∙◌, arith, inl, inr}
 use Rattle.std.proofs.lemmas.Option.{none-some, same_Some}
 use Rattle.sizes.specs.declared.TheConstants.{PAGE_END}
-use Rattle.unit_map.specs.Pieces.{free_units, units_in}
+use Rattle.unit_map.specs.Pieces.{AreSettled, free_units, units_in}
 use Rattle.overlay_address.specs.Names.{overlay_page}
 use Rattle.overlay_mapping_table.specs.declared.entry.Entry.{Entry}
 use Rattle.ledger.specs.Ledger.{is_unused}
@@ -26,6 +26,7 @@ use Rattle.overlay_pages.proofs.Steps.{Step, frame_still, not_owned, segment_sti
 pub record HasPlaceFor (m : MemoryView) (new : Store) (s p : ℕ) (o : Option Entry) : Type 0 where
   pub segments : KeepsSegments m.store new
   pub frames : KeepsFrames m.store new
+  pub blocks : AreSettled new.blocks
   pub whole : units_in new.blocks ≡ units_in m.store.blocks
   pub store : IsStore new
   pub now_there : (e : Entry) → o ≡ Some e → segment_at new e.block.unit ≡ Some (segment_of s p e)
@@ -39,6 +40,7 @@ pub place_for_bare : (m : MemoryView) (s p : ℕ) → IsJoined m → HasPlaceFor
 place_for_bare m s p is = record {
   segments = λ unit segment there. segment_still m.store (block_of unit segment);
   frames = λ frame f. frame_still m.store frame f;
+  blocks = is.blocks;
   whole = refl;
   store = is.store;
   now_there = λ e h. absurd (none-some e h);
@@ -70,13 +72,14 @@ module _ (m : MemoryView) (new : Store) (s p : ℕ) (x : PageView) (is : IsJoine
     owner = ap (λ (g : Segment). g.owner) (same_Some _ _ (sym at_unit ∙ ap (segment_at new) (sym own.2) ∙ so.now_there own.0 own.1));
   }))
 
-  coming_step : Step m (view_of new (put_page m.table s p x)) s p (Some x)
+  coming_step : Step AreSettled m (view_of new (put_page m.table s p x)) s p (Some x)
   coming_step = record {
     there = there;
     number = is.numbers s there;
     low = low;
     table_is = sym (set_some m.table s p x);
     store = so.store;
+    blocks = so.blocks;
     whole = so.whole;
     segments = λ q r y e d at_y over. so.segments e.block.unit (segment_of q r e) ((is.held q r y at_y).segment e over);
     frames = λ q r y d at_y. so.frames y.entry.frame (is.held q r y at_y).frame;

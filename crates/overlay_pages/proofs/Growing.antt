@@ -1,7 +1,9 @@
-use Rattle.std.proofs.Common.{◌≡◌, ℕ, ◌+◌, ◌^◌, ◌<◌, ◌≤◌, Bool, true, false, cond, nat_eq, List, [], Option, Some, None, IsSome, is_some, length, slice_set, refl, sym, ap, ◌∙◌, arith}
+use Rattle.std.proofs.Common.{◌≡◌, ℕ, ◌+◌, ◌^◌, ◌<◌, ◌≤◌, Bool, true, false, cond, nat_eq, List, [], Option, Some, None, IsSome, is_some, length, slice_set, refl, sym, ap, subst, ◌∙◌, arith}
 use Rattle.std.specs.Option.{option_and_then, option_map, option_map_or}
 use Rattle.std.specs.FinMap.{get, insert}
-use Rattle.unit_map.specs.Pieces.{free_units, units_in}
+use Rattle.unit_map.specs.Pieces.{AreSettled, free_units, units_in}
+use Rattle.unit_map.specs.Changes.{HasRoom}
+use Rattle.unit_map.specs.Settled.{settled_room}
 use Rattle.overlay_bits.specs.Lines.{AreLines, has_line, with_line}
 use Rattle.overlay_bits.specs.Laws.{count_with}
 use Rattle.overlay_mapping_table.specs.declared.entry.Entry.{Entry}
@@ -57,9 +59,11 @@ turned_limit turn st s p y there = ap limit_of (turn_is turn st s p y there)
 pub free_is : (v : MemoryView) → IsJoined v → free_units v.store.blocks + units_of (state_of v) ≡ limit_of (state_of v)
 free_is v is = omega (arith, is.count, is.frames, ap units (state_books v), state_frames v)
 
--- A page stays where segments moved.
-pub there_still : (a b : MemoryView) (s p : ℕ) → state_of b ≡ state_of a → IsSome (page_in a.table s p) → IsSome (page_in b.table s p)
-there_still a b s p same there = sym (state_page_some b s p) ∙ ap (λ st. is_some (page_in st s p)) same ∙ state_page_some a s p ∙ there
+-- so there is room for a block of as many units
+pub has_room : (v : MemoryView) → IsJoined v → (order : ℕ) → order ≤ 4 → 2 ^ order ≤ free_units v.store.blocks → HasRoom v.store.blocks order
+has_room v is order low enough = settled_room v.store.blocks order low is.store.pieces is.blocks enough
+
+-- A page without own lines has no overlay.
 
 pub own_none : (v : MemoryView) (s p : ℕ) → Has v.table s p None → (y : PageState) → page_in (state_of v) s p ≡ Some y → y.own ≡ []
 unfolding page_state
@@ -74,13 +78,6 @@ bare_by v s p is y there none found = by_option (overlay_at v.table s p)
     let has = page_with v.table s p found (Some e) over in
     let own : e.bits ≡ [] = sym (ap lines_of has.is) ∙ ap (λ (o : Option PageState). option_map_or (λ (z : PageState). z.own) o []) (sym (state_page_there v s p has.x has.there) ∙ there) ∙ none in
     absurd (omega (arith, (is.held s p has.x has.there).lined e has.is, ap length own)))
-
-pub bare_still : (a b : MemoryView) (s p : ℕ) → IsJoined b → state_of b ≡ state_of a → IsSome (page_in a.table s p) → overlay_at a.table s p ≡ None → overlay_at b.table s p ≡ None
-bare_still a b s p is same there bare =
-    let has = page_with a.table s p there None bare in
-    let y = page_state a.store has.x in
-    let y_a = state_page_there a s p has.x has.there in
-    bare_by b s p is y (ap (λ st. page_in st s p) same ∙ y_a) (own_none a s p has y y_a) (there_still a b s p same there)
 
 -- The first line of an overlay.
 
@@ -102,15 +99,14 @@ laid_first store x line bytes bare low =
     let lines = sym (set_line (frame_line store x.entry.frame) line bytes low) ∙ ap (λ l. slice_set l line bytes) (sym (seen_bare store x bare)) in
     λ i. record { entry = x.entry; own = with_line (lines_of (sym bare i)) line; lines = lines i; base = page_lines (frame_line store x.entry.frame) }
 
-pub begun_first : (a b c : MemoryView) (s p line : ℕ) (bytes : List ℕ) → state_of b ≡ state_of a → IsSome (page_in b.table s p) → overlay_at b.table s p ≡ None → line < 64
-    → state_of c ≡ turned_page (laid b.store [] line bytes) (state_of b) s p → state_of c ≡ turned_page (joins line bytes) (state_of a) s p
-begun_first a b c s p line bytes same there bare low is =
+pub begun_first : (b c : MemoryView) (s p line : ℕ) (bytes : List ℕ) → IsSome (page_in b.table s p) → overlay_at b.table s p ≡ None → line < 64
+    → state_of c ≡ turned_page (laid b.store [] line bytes) (state_of b) s p → state_of c ≡ turned_page (joins line bytes) (state_of b) s p
+begun_first b c s p line bytes there bare low is =
     let has = page_with b.table s p there None bare in
     let y_there = state_page_there b s p has.x has.there in
     is ∙ turn_is (laid b.store [] line bytes) (state_of b) s p (page_state b.store has.x) y_there
     ∙ ap (put_page (state_of b) s p) (laid_first b.store has.x line bytes has.is low)
     ∙ sym (turn_is (joins line bytes) (state_of b) s p (page_state b.store has.x) y_there)
-    ∙ ap (λ st. turned_page (joins line bytes) st s p) same
 
 -- A store that keeps all that pages need.
 pub all_kept : (old new : Store) (table : LedgerView) → IsJoined (view_of old table) → KeepsSegments old new → KeepsFrames old new → new.blocks ≡ old.blocks → new.segments ≡ old.segments → IsStore new
@@ -118,6 +114,7 @@ pub all_kept : (old new : Store) (table : LedgerView) → IsJoined (view_of old 
 all_kept old new table is segments frames blocks same store = (
   record {
     store = store;
+    blocks = subst AreSettled (sym blocks) is.blocks;
     frames = is.frames ∙ sym (ap units_in blocks);
     count = omega (arith, is.count, ap free_units blocks, ap units_in blocks);
     numbers = is.numbers;

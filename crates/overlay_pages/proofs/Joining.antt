@@ -2,7 +2,7 @@ use Rattle.std.proofs.Common.{option_and_then, ◌≡◌, ℕ, ◌+◌, ◌*◌,
 use Rattle.std.proofs.lemmas.Bool.Decides.{nat_tests}
 use Rattle.std.proofs.lemmas.Option.{none-some, same_Some}
 use Rattle.std.proofs.lemmas.List.{get_or-set_other, get_or-set_same}
-use Rattle.unit_map.specs.Pieces.{free_units, units_in}
+use Rattle.unit_map.specs.Pieces.{AreSettled, CanSettle, free_units, units_in}
 use Rattle.unit_map.specs.declared.block.Block.{Block}
 use Rattle.overlay_bits.specs.Lines.{AreLines, has_line, with_line}
 use Rattle.overlay_bits.specs.Laws.{count_with, has_with}
@@ -61,8 +61,8 @@ unit_low store is u segment there = omega (arith, inside_of store is u segment t
 -- A page whose overlay ended.
 pub dropped : (old : MemoryView) (store : Store) (table : LedgerView) (s p : ℕ) (x : PageView) (e : Entry) → IsJoined old → page_in old.table s p ≡ Some x → x.overlay ≡ Some e
     → Ends old.store store e.block → KeepsOtherSegments old.store e.block.unit store → KeepsFrames old.store store → free_units store.blocks ≡ free_units old.store.blocks + 2 ^ e.block.order
-    → units_in store.blocks ≡ units_in old.store.blocks → IsStore store → table ≡ with_overlay old.table s p None → Overlays old (view_of store table) s p x None e.block.unit
-dropped old store table s p x e is there over ends kept frames free whole is_store table_is =
+    → units_in store.blocks ≡ units_in old.store.blocks → IsStore store → (AreSettled old.store.blocks → CanSettle store.blocks) → table ≡ with_overlay old.table s p None → Overlays CanSettle old (view_of store table) s p x None e.block.unit
+dropped old store table s p x e is there over ends kept frames free whole is_store settles table_is =
     let held = is.held s p x there in
     record {
       there = there;
@@ -75,6 +75,7 @@ dropped old store table s p x e is there over ends kept frames free whole is_sto
       kept = kept;
       frames = frames;
       store = is_store;
+      blocks = settles is.blocks;
       whole = whole;
       lined = λ f h. absurd (none-some f h);
       size = λ f h. absurd (none-some f h);
@@ -152,13 +153,6 @@ bare_state v s p has =
     ∙ ap (put_page (state_of v) s p) (bare_discarded v.store has.x has.is)
     ∙ page_again (state_of v) s p (page_state v.store has.x) (state_page_there v s p has.x has.there))
 
-pub bare_table : (v : LedgerView) (s p : ℕ) → Has v s p None → v ≡ with_overlay v s p None
-unfolding with_overlay
-bare_table v s p has =
-    sym (changed_there (λ (y : PageView). record { entry = y.entry; overlay = None }) v s p has.x has.there
-    ∙ ap (put_page v s p) (let same : None ≡ has.x.overlay = sym has.is in λ i. record { entry = has.x.entry; overlay = same i })
-    ∙ page_again v s p has.x has.there)
-
 -- A line comes into an overlay.
 
 pub sets_are : (store : Store) (s p : ℕ) (x : PageView) (e : Entry) → IsStore store → IsHeld store s p x → x.overlay ≡ Some e → AreLines e.bits
@@ -171,7 +165,7 @@ pub inserted : (old : MemoryView) (store : Store) (table : LedgerView) (s p : �
     → line < 64 → has_line e.bits line ≡ false → length e.bits < capacity_of e.block.order
     → HasLinesNow old.store store e.block (lines_with old.store e.block line) → KeepsOtherSegments old.store e.block.unit store → KeepsFrames old.store store → IsStore store
     → table ≡ with_overlay old.table s p (Some (record { bits = with_line e.bits line; block = e.block }))
-    → Overlays old (view_of store table) s p x (Some (record { bits = with_line e.bits line; block = e.block })) e.block.unit
+    → Overlays AreSettled old (view_of store table) s p x (Some (record { bits = with_line e.bits line; block = e.block })) e.block.unit
 inserted old store table s p x e line is there over low absent fits now kept frames is_store table_is =
     record {
       there = there;
@@ -186,6 +180,7 @@ inserted old store table s p x e line is there over low absent fits now kept fra
       kept = kept;
       frames = frames;
       store = is_store;
+      blocks = subst AreSettled (sym now.blocks) is.blocks;
       whole = ap units_in now.blocks;
       lined = λ f same. subst (λ (g : Entry). 0 < length g.bits) (same_Some _ f same) (omega (arith, count));
       size = λ f same. subst (λ (g : Entry). 2 ^ g.block.order ≡ class (length g.bits)) (same_Some _ f same) size_now;
@@ -229,6 +224,7 @@ pub record BeginsWith (old began filled new : Store) (s p : ℕ) (block : Block)
   pub scratch : KeepsScratch old began
   pub loses : free_units began.blocks + 2 ^ block.order ≡ free_units old.blocks
   pub whole : units_in began.blocks ≡ units_in old.blocks
+  pub settled : AreSettled old.blocks → AreSettled began.blocks
   pub began_is : IsStore began
   pub lays : Lays began filled block bits
   pub laid_lines : HasLinesNow began filled block bits
@@ -273,7 +269,7 @@ module _ (old : MemoryView) (began filled store : Store) (table : LedgerView) (s
   pub begun_frames : KeepsFrames old.store store
   begun_frames = frames_twice old.store began store so.frames (frames_twice began filled store so.laid_frames so.new_frames)
 
-  pub begun : table ≡ with_overlay old.table s p (Some entry) → Overlays old (view_of store table) s p x (Some entry) block.unit
+  pub begun : table ≡ with_overlay old.table s p (Some entry) → Overlays AreSettled old (view_of store table) s p x (Some entry) block.unit
   begun table_is = record {
     there = there;
     table_is = table_is;
@@ -286,6 +282,7 @@ module _ (old : MemoryView) (began filled store : Store) (table : LedgerView) (s
     kept = others_twice old.store began store block.unit (λ unit segment away here. so.segments unit segment here) (others_twice began filled store block.unit so.laid_kept so.kept);
     frames = begun_frames;
     store = so.new_is;
+    blocks = subst AreSettled (sym (so.lines_now.blocks ∙ so.laid_lines.blocks)) (so.settled is.blocks);
     whole = ap units_in so.lines_now.blocks ∙ ap units_in so.laid_lines.blocks ∙ so.whole;
     lined = λ f same. subst (λ (g : Entry). 0 < length g.bits) (same_Some _ f same) (omega (arith, count_now));
     size = λ f same. subst (λ (g : Entry). 2 ^ g.block.order ≡ class (length g.bits)) (same_Some _ f same) size_now;

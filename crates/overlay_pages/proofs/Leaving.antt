@@ -1,6 +1,6 @@
 use Rattle.std.proofs.Common.{◌≡◌, ℕ, ◌+◌, Bool, true, false, cond, nat_eq, Option, Some, None, is_some, length, refl, true≢false, option_and_then, option_map, sym, ap, subst, ◌∙◌, arith, inl}
 use Rattle.std.proofs.lemmas.Option.{none-some}
-use Rattle.unit_map.specs.Pieces.{free_units, units_in}
+use Rattle.unit_map.specs.Pieces.{AreSettled, free_units, units_in}
 use Rattle.overlay_mapping_table.specs.declared.entry.Entry.{Entry}
 use Rattle.ledger.specs.AloneLaws.{are, origin_of, unused_parts}
 use Rattle.ledger.specs.Ledger.{has_origin, is_alone, is_unused, without_page}
@@ -46,6 +46,7 @@ pub record LeavesStore (old new : Store) (frame : ℕ) (given : Bool) : Type 0 w
   pub same : new.segments ≡ old.segments
   pub segments : KeepsSegments old new
   pub frames : (other : ℕ) → (given ≡ true → other ≡ frame → ⊥) → IsFrame old other → KeepsFrame old new other
+  pub settled : AreSettled old.blocks → AreSettled new.blocks
   pub free : free_units new.blocks ≡ free_units old.blocks + frame_for given
   pub whole : units_in new.blocks ≡ units_in old.blocks
   pub store : IsStore new
@@ -56,18 +57,20 @@ leaves_none store frame is = record {
   same = refl;
   segments = λ unit segment there. segment_still store (block_of unit segment);
   frames = λ other away f. frame_still store other f;
+  settled = λ h. h;
   free = omega arith;
   whole = refl;
   store = is;
 }
 
-pub gives_frame : (old new : Store) (frame : ℕ) → new.segments ≡ old.segments → KeepsSegments old new → KeepsOtherFrames old frame new
+pub gives_frame : (old new : Store) (frame : ℕ) → new.segments ≡ old.segments → KeepsSegments old new → KeepsOtherFrames old frame new → (AreSettled old.blocks → AreSettled new.blocks)
     → free_units new.blocks ≡ free_units old.blocks + 16 → units_in new.blocks ≡ units_in old.blocks → IsStore new → LeavesStore old new frame true
 unfolding frame_for
-gives_frame old new frame same segments frames free whole store = record {
+gives_frame old new frame same segments frames settled free whole store = record {
   same = same;
   segments = segments;
   frames = λ other away f. frames other (away refl) f;
+  settled = settled;
   free = free;
   whole = whole;
   store = store;
@@ -111,7 +114,7 @@ module _ (a : MemoryView) (store : Store) (table : LedgerView) (s p : ℕ) (x : 
         class_none,
       )
 
-  leaving_step : Step a (view_of store table) s p None
+  leaving_step : Step AreSettled a (view_of store table) s p None
   unfolding set_page
   leaving_step = record {
     there = there_space a.table s p x there;
@@ -119,6 +122,7 @@ module _ (a : MemoryView) (store : Store) (table : LedgerView) (s p : ℕ) (x : 
     low = (is.held s p x there).low;
     table_is = table_is;
     store = leaves.store;
+    blocks = leaves.settled is.blocks;
     whole = leaves.whole;
     segments = λ q r y e d at_y over. leaves.segments e.block.unit (segment_of q r e) ((is.held q r y at_y).segment e over);
     frames = λ q r y d at_y. leaves.frames y.entry.frame (stays_named q r y d at_y) (is.held q r y at_y).frame;

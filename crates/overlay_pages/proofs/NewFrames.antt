@@ -3,7 +3,7 @@ use Rattle.std.proofs.lemmas.Option.{none-some, same_Some}
 use Rattle.std.proofs.lemmas.Bool.Decides.{nat_tests}
 use Rattle.std.specs.Option.{option_and_then, option_map, option_map_or}
 use Rattle.sizes.specs.declared.TheConstants.{FRAME_UNITS}
-use Rattle.unit_map.specs.Pieces.{free_units, units_in}
+use Rattle.unit_map.specs.Pieces.{AreSettled, free_units, units_in}
 use Rattle.overlay_mapping_table.specs.declared.entry.Entry.{Entry}
 use Rattle.ledger.specs.Ledger.{Holding, Ledger, has_origin, holding_at, is_alone, is_unused, with_page, without_page}
 use Rattle.ledger.specs.Units.{class, units}
@@ -16,7 +16,7 @@ use Rattle.segment_store.specs.Changes.{KeepsFrame, KeepsFrames, KeepsSegments}
 use Rattle.segment_store.specs.Laws.{frame_inside}
 use Rattle.space_maps.specs.Options.{map_from}
 use Rattle.space_maps.specs.Books.{books_page, books_put_page}
-use Rattle.space_maps.specs.Laws.{changed_there, set_some, there_space}
+use Rattle.space_maps.specs.Laws.{changed_there, page_set_beside, set_some, there_space}
 use Rattle.space_maps.specs.Spaces.{page_in, put_page, put_space, set_page}
 use Rattle.space_ledger.specs.View as view
 use Rattle.space_ledger.specs.View.{LedgerView, PageView, holding_of, ledger_of, lines_of, overlay_at, with_frame}
@@ -24,7 +24,7 @@ use Rattle.overlay_pages.specs.Lines.{page_lines}
 use Rattle.overlay_pages.specs.LineLaws.{lines_same}
 use Rattle.overlay_pages.specs.State.{PageState, State, books}
 use Rattle.overlay_pages.specs.Changes.{IsNewFrame, IsPlaced, moved_to}
-use Rattle.overlay_pages.specs.Steps.{FillsFrame}
+use Rattle.overlay_pages.specs.Steps.{FillsFrame, KeepsOtherOverlays}
 use Rattle.overlay_pages.specs.View.{IsHeld, IsJoined, MemoryView, page_state, segment_of, state_of, view_of}
 use Rattle.overlay_pages.specs.ViewLaws.{state_books, state_frames, state_page_there, state_zero}
 use Rattle.overlay_pages.proofs.Steps.{Step, not_owned, state_stepped, stepped}
@@ -62,6 +62,7 @@ pub record TakesFrame (old taken filled : Store) (frame : ℕ) (given : ℕ → 
   pub same : taken.segments ≡ old.segments
   pub segments : KeepsSegments old taken
   pub frames : KeepsFrames old taken
+  pub settled : AreSettled old.blocks → AreSettled taken.blocks
   pub free : free_units taken.blocks + FRAME_UNITS ≡ free_units old.blocks
   pub whole : units_in taken.blocks ≡ units_in old.blocks
   pub taken_is : IsStore taken
@@ -122,13 +123,14 @@ module _ (a : MemoryView) (taken filled : Store) (table : LedgerView) (s p : ℕ
       let after : frame_for (is_unused (without_page l s p) (view.origin_of a.table.zero_frame frame)) ≡ 16 = ap (λ o. frame_for (is_unused (without_page l s p) o)) origin ∙ ap frame_for unused in
       omega (arith, ap units now, changes, none, before, after, class_none)
 
-  placed_step : Step a (view_of filled table) s p (Some placed)
+  placed_step : Step AreSettled a (view_of filled table) s p (Some placed)
   placed_step = record {
     there = there_space a.table s p x there;
     number = (is.held s p x there).number;
     low = (is.held s p x there).low;
     table_is = table_now;
     store = takes.fills.store;
+    blocks = subst AreSettled (sym takes.fills.blocks) (takes.settled is.blocks);
     whole = ap units_in takes.fills.blocks ∙ takes.whole;
     segments = λ q r y e d at_y over. segments_kept e.block.unit (segment_of q r e) ((is.held q r y at_y).segment e over);
     frames = λ q r y d at_y. frame_kept y.entry.frame (is.held q r y at_y).frame;
@@ -174,3 +176,11 @@ module _ (a : MemoryView) (taken filled : Store) (table : LedgerView) (s p : ℕ
 
 pub frame_inside_of : (old taken : Store) (table : LedgerView) (frame : ℕ) → IsJoined (view_of old table) → IsFrame taken frame → units_in taken.blocks ≡ units_in old.blocks → IsStore taken → frame < table.frames
 frame_inside_of old taken table frame is f whole store = omega (arith, frame_inside taken store frame f, whole, is.frames)
+
+-- Other pages keep their overlays.
+pub others_framed : (v table : LedgerView) (s p frame : ℕ) (x : PageView) → page_in v s p ≡ Some x → table ≡ with_frame v s p frame → KeepsOtherOverlays s p v table
+unfolding with_frame
+others_framed v table s p frame x there is q r d =
+    let turn : PageView → PageView = λ y. record { entry = record { perms = y.entry.perms; frame = frame }; overlay = y.overlay } in
+    let changed = is ∙ changed_there turn v s p x there ∙ sym (set_some v s p (turn x)) in
+    ap (λ (t : LedgerView). overlay_at t q r) changed ∙ ap (option_and_then (λ (y : PageView). y.overlay)) (page_set_beside v s p (Some (turn x)) q r d)

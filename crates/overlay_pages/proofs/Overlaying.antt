@@ -1,7 +1,8 @@
-use Rattle.std.proofs.Common.{option_map, ◌≡◌, ℕ, ◌+◌, ◌^◌, ◌<◌, ◌⊎◌, Option, Some, None, length, refl, sym, ap, subst, ◌∙◌, arith, inl, inr}
+use Rattle.std.proofs.Common.{option_map, ◌≡◌, ℕ, ◌+◌, ◌^◌, ◌<◌, ◌⊎◌, List, Option, Some, None, length, refl, sym, ap, subst, ◌∙◌, arith, inl, inr}
+use Rattle.std.specs.Option.{option_and_then}
 use Rattle.std.proofs.lemmas.Option.{none-some, same_Some}
 use Rattle.std.proofs.lemmas.Bool.{cases_eq}
-use Rattle.unit_map.specs.Pieces.{free_units, units_in}
+use Rattle.unit_map.specs.Pieces.{Piece, free_units, units_in}
 use Rattle.overlay_address.specs.Names.{overlay_page}
 use Rattle.overlay_mapping_table.specs.declared.entry.Entry.{Entry}
 use Rattle.ledger.specs.Ledger.{Ledger, with_page}
@@ -12,11 +13,11 @@ use Rattle.segment_store.specs.Kept.{IsStore}
 use Rattle.segment_store.specs.Store.{segment_at}
 use Rattle.segment_store.specs.Changes.{KeepsFrames, KeepsOtherSegments}
 use Rattle.space_maps.specs.Books.{books_page, books_put_page}
-use Rattle.space_maps.specs.Laws.{changed_there, page_put_here, there_space}
+use Rattle.space_maps.specs.Laws.{changed_there, page_put_here, page_set_beside, set_some, there_space}
 use Rattle.space_maps.specs.Spaces.{page_in, put_page, set_page, turned_page}
-use Rattle.space_ledger.specs.View.{PageView, holding_of, ledger_of, lines_of, with_overlay}
+use Rattle.space_ledger.specs.View.{LedgerView, PageView, holding_of, ledger_of, lines_of, overlay_at, with_overlay}
 use Rattle.overlay_pages.specs.State.{PageState}
-use Rattle.overlay_pages.specs.View.{IsHeld, IsJoined, IsOwned, MemoryView, page_state, segment_of, state_of}
+use Rattle.overlay_pages.specs.View.{IsHeld, IsJoined, IsJoinedWith, IsOwned, MemoryView, page_state, segment_of, state_of}
 use Rattle.overlay_pages.specs.ViewLaws.{state_page_there}
 use Rattle.overlay_pages.proofs.Steps.{Step, names_apart, state_stepped, stepped, units_apart}
 
@@ -26,7 +27,7 @@ with_own : PageView → Option Entry → PageView
 with_own x o = record { entry = x.entry; overlay = o }
 
 -- The overlay of a page is another one, and its segment starts at a unit where only it had one.
-pub record Overlays (old new : MemoryView) (s p : ℕ) (x : PageView) (o : Option Entry) (u : ℕ) : Type 0 where
+pub record Overlays (P : List Piece → Type 0) (old new : MemoryView) (s p : ℕ) (x : PageView) (o : Option Entry) (u : ℕ) : Type 0 where
   pub there : page_in old.table s p ≡ Some x
   pub table_is : new.table ≡ with_overlay old.table s p o
   pub was_there : (e : Entry) → x.overlay ≡ Some e → e.block.unit ≡ u
@@ -37,12 +38,13 @@ pub record Overlays (old new : MemoryView) (s p : ℕ) (x : PageView) (o : Optio
   pub kept : KeepsOtherSegments old.store u new.store
   pub frames : KeepsFrames old.store new.store
   pub store : IsStore new.store
+  pub blocks : P new.store.blocks
   pub whole : units_in new.store.blocks ≡ units_in old.store.blocks
   pub lined : (e : Entry) → o ≡ Some e → 0 < length e.bits
   pub size : (e : Entry) → o ≡ Some e → 2 ^ e.block.order ≡ class (length e.bits)
   pub free : free_units new.store.blocks + class (length (lines_of o)) ≡ free_units old.store.blocks + class (length (lines_of x.overlay))
 
-module _ (old new : MemoryView) (s p : ℕ) (x : PageView) (o : Option Entry) (u : ℕ) (is : IsJoined old) (so : Overlays old new s p x o u) where
+module _ {P : List Piece → Type 0} (old new : MemoryView) (s p : ℕ) (x : PageView) (o : Option Entry) (u : ℕ) (is : IsJoined old) (so : Overlays P old new s p x o u) where
   mine : IsHeld old.store s p x
   mine = is.held s p x so.there
 
@@ -76,7 +78,7 @@ module _ (old new : MemoryView) (s p : ℕ) (x : PageView) (o : Option Entry) (u
       ∙ units_own (ledger_of old.table) s p (holding_of old.table.zero_frame x) (holding_of old.table.zero_frame (with_own x o))
       (books_page holding_of old.table s p ∙ ap (option_map (holding_of old.table.zero_frame)) so.there) refl
 
-  pub overlays_step : Step old new s p (Some (record { entry = x.entry; overlay = o }))
+  pub overlays_step : Step P old new s p (Some (record { entry = x.entry; overlay = o }))
   unfolding with_overlay set_page
   overlays_step = record {
     there = there_space old.table s p x so.there;
@@ -84,6 +86,7 @@ module _ (old new : MemoryView) (s p : ℕ) (x : PageView) (o : Option Entry) (u
     low = mine.low;
     table_is = so.table_is ∙ changed_there (λ (y : PageView). record { entry = y.entry; overlay = o }) old.table s p x so.there;
     store = so.store;
+    blocks = so.blocks;
     whole = so.whole;
     segments = λ q r y e d there over. so.kept e.block.unit (segment_of q r e) (not_there q r y e d there over) ((is.held q r y there).segment e over);
     frames = λ q r y d there. so.frames y.entry.frame (is.held q r y there).frame;
@@ -124,7 +127,7 @@ module _ (old new : MemoryView) (s p : ℕ) (x : PageView) (o : Option Entry) (u
           at (inl same) = inr (by_now unit segment same there o refl)
           at (inr away) = let before = sym (so.elsewhere unit away) ∙ there in inl (before, not_mine unit segment away before)
 
-  pub overlays_joined : IsJoined new
+  pub overlays_joined : IsJoinedWith P new
   overlays_joined = stepped old new s p (Some (record { entry = x.entry; overlay = o })) is overlays_step
 
   -- what the page is afterwards
@@ -135,3 +138,11 @@ module _ (old new : MemoryView) (s p : ℕ) (x : PageView) (o : Option Entry) (u
       state_stepped old new s p (Some (record { entry = x.entry; overlay = o })) is overlays_step
       ∙ ap (λ y. put_page (state_of old) s p y) same
       ∙ sym (changed_there turn (state_of old) s p (page_state old.store x) (state_page_there old s p x so.there))
+
+-- The overlay of another page stays.
+pub overlay_beside : (v : LedgerView) (s p : ℕ) (o : Option Entry) (x : PageView) → page_in v s p ≡ Some x → (q r : ℕ) → (q ≡ s → r ≡ p → ⊥) → overlay_at (with_overlay v s p o) q r ≡ overlay_at v q r
+unfolding with_overlay
+overlay_beside v s p o x there q r d =
+    let y : PageView = record { entry = x.entry; overlay = o } in
+    let changed = changed_there (λ (z : PageView). record { entry = z.entry; overlay = o }) v s p x there ∙ sym (set_some v s p y) in
+    ap (λ (t : LedgerView). overlay_at t q r) changed ∙ ap (option_and_then (λ (z : PageView). z.overlay)) (page_set_beside v s p (Some y) q r d)

@@ -1,9 +1,9 @@
-use Rattle.std.proofs.Common.{◌≡◌, ℕ, zero, suc, ◌+◌, ◌*◌, ◌<◌, ◌||◌, Bool, true, false, cond, nat_eq, IsSome, List, [], Option, Some, None, is_some, replicate, slice_index_or, refl, true≢false, option_and_then, option_map, nat_cmp, sym, ap, subst, ◌∙◌, arith, inl}
+use Rattle.std.proofs.Common.{◌≡◌, ℕ, zero, suc, ◌+◌, ◌*◌, ◌<◌, ◌||◌, Bool, true, false, cond, nat_eq, IsSome, List, [], Option, Some, None, is_some, replicate, slice_index_or, refl, true≢false, option_map, nat_cmp, sym, ap, subst, ◌∙◌, arith, inl}
 use Rattle.std.proofs.lemmas.Bool.Decides.{nat_tests}
 use Rattle.std.proofs.lemmas.List.{get_or-replicate}
 use Rattle.std.specs.FinMap.{FinMap, empty, get, get-empty}
 use Rattle.sizes.specs.declared.TheConstants.{FRAME_UNITS, PAGE_LINES}
-use Rattle.unit_map.specs.Pieces.{free_at, free_frames, free_units, units_in}
+use Rattle.unit_map.specs.Pieces.{AreSettled, free_at, free_frames, free_units, units_in}
 use Rattle.unit_map.specs.Changes.{HasRoom}
 use Rattle.line_store.specs.Lines.{line_of, zero_lines}
 use Rattle.page_table.specs.declared.entry.PageEntry.{PageEntry}
@@ -19,7 +19,7 @@ use Rattle.segment_store.specs.Store.{Store, IsFrame, frame_line, segment_at}
 use Rattle.segment_store.specs.Changes.{IsEmptyStore}
 use Rattle.segment_store.specs.Laws.{frame_inside}
 use Rattle.space_maps.specs.Books.{books_empty, books_page, books_put_page, books_spaces}
-use Rattle.space_maps.specs.Laws.{changed_there, cut_over, page_absent, page_over, page_put_here}
+use Rattle.space_maps.specs.Laws.{cut_over, page_absent, page_over}
 use Rattle.space_maps.specs.Spaces.{cut_page, holds_space, page_in, put_page, put_pages, turned_page}
 use Rattle.space_maps.specs.Mapped.{mapped, mapped_none}
 use Rattle.space_ledger.specs.View as view
@@ -35,14 +35,6 @@ use Rattle.overlay_pages.proofs.Growing.{turn_is}
 use Rattle.overlay_pages.proofs.Joining.{page_with}
 
 -- A page that was dropped and goes.
-
-pub dropped_at : (v : LedgerView) (s p : ℕ) → IsSome (page_in v s p) → (IsSome (page_in (with_overlay v s p None) s p)) × (overlay_at (with_overlay v s p None) s p ≡ None)
-unfolding with_overlay
-dropped_at v s p there =
-    let found = page_with v s p there (overlay_at v s p) refl in
-    let now = changed_there (λ (y : PageView). record { entry = y.entry; overlay = None }) v s p found.x found.there in
-    let at = ap (λ (w : LedgerView). page_in w s p) now ∙ page_put_here v s p (record { entry = found.x.entry; overlay = None }) s p refl refl in
-    (ap is_some at, ap (λ (o : Option PageView). option_and_then (λ (x : PageView). x.overlay) o) at)
 
 pub cut_turned : (turn : PageState → PageState) (v : MemoryView) (s p : ℕ) → IsSome (page_in v.table s p) → cut_page (turned_page turn (state_of v) s p) s p ≡ cut_page (state_of v) s p
 cut_turned turn v s p there =
@@ -159,9 +151,10 @@ module _ (empty_store taken : Store) (table : LedgerView) (frames frame : ℕ) (
   unfolding units
   units_are = ap (λ (l : Ledger). units_of (all_holdings l)) (books_empty holding_of table spaces) ∙ ap units_of no_holdings ∙ no_units
 
-  pub made_joined : IsJoined (view_of taken table)
-  made_joined = record {
+  pub made_joined : AreSettled taken.blocks → IsJoined (view_of taken table)
+  made_joined settled = record {
     store = store;
+    blocks = settled;
     frames = omega (arith, whole_is, frames_are);
     count = omega (arith, whole_is, units_are, free, ap free_units is.blocks, frames_free frames 0);
     numbers = λ s there. let no_ = sym there ∙ ap is_some (no_space s) in absurd (true≢false no_);

@@ -1,10 +1,11 @@
-use Rattle.std.proofs.Common.{◌≡◌, ℕ, ◌+◌, ◌^◌, ◌<◌, ◌≤◌, ◌⊎◌, ◌&&◌, not, Bool, true, false, cond, nat_eq, List, [], Option, Some, None, IsSome, is_some, length, refl, sym, ap, subst, ◌∙◌, arith, inl, inr}
+use Rattle.std.proofs.Common.{◌≡◌, ℕ, ◌+◌, ◌^◌, ◌<◌, ◌≤◌, ◌⊎◌, ◌&&◌, not, Bool, true, false, cond, nat_eq, List, [], Option, Some, None, IsSome, length, refl, sym, ap, subst, ◌∙◌, arith, inl, inr}
 use Rattle.std.proofs.lemmas.Option.{none-some, same_Some}
 use Rattle.std.proofs.lemmas.Bool.{cases_eq}
 use Rattle.std.specs.Option.{option_and_then, option_map, option_map_or}
 use Rattle.std.specs.FinMap.{get, insert, remove}
 use Rattle.sizes.specs.declared.TheConstants.{PAGE_END}
-use Rattle.unit_map.specs.Pieces.{free_units, units_in}
+use Rattle.unit_map.specs.Pieces.{AreSettled, free_units, units_in}
+use Rattle.unit_map.specs.Changes.{HasRoom}
 use Rattle.unit_map.specs.declared.block.Block.{Block}
 use Rattle.overlay_bits.specs.Lines.{AreLines, has_line}
 use Rattle.overlay_address.specs.Names.{overlay_page}
@@ -19,7 +20,7 @@ use Rattle.segment_store.specs.declared.segment.Segment.{Segment}
 use Rattle.segment_store.specs.Kept.{IsStore}
 use Rattle.segment_store.specs.Store.{Store, IsFrame, frame_line, segment_at}
 use Rattle.segment_store.specs.Changes.{Begins, HasLinesNow, KeepsFrames, KeepsOtherSegments, KeepsScratch, KeepsSegments, Lays, Lifts, block_of}
-use Rattle.space_maps.specs.Options.{map_from, by_option}
+use Rattle.space_maps.specs.Options.{map_from}
 use Rattle.space_maps.specs.Books.{books_page}
 use Rattle.space_maps.specs.Laws.{page_put_here, put_shared_as, there_space}
 use Rattle.space_maps.specs.Spaces.{holds_space, page_in, put_awaiting, put_page, put_shared, space_in}
@@ -32,14 +33,14 @@ use Rattle.overlay_pages.specs.Changes as changes
 use Rattle.overlay_pages.specs.Changes.{HasShareRoom, limit_of, shared_page, units_of}
 use Rattle.overlay_pages.specs.TableLaws.{state_awaiting_put}
 use Rattle.overlay_pages.specs.View.{IsHeld, IsJoined, MemoryView, line_seen, page_state, segment_of, state_of, view_of}
-use Rattle.overlay_pages.specs.ViewLaws.{state_awaiting, state_holds, state_page_there}
+use Rattle.overlay_pages.specs.ViewLaws.{state_awaiting, state_page_there}
 use Rattle.overlay_pages.proofs.Steps.{seen_bare, seen_inside, seen_outside}
 use Rattle.overlay_pages.proofs.Coming.{HasPlaceFor, came_joined, came_state}
 use Rattle.segment_store.specs.Pointers.{capacity_of}
 use Rattle.segment_store.specs.Laws.{count_fits, refilled, stays_twice}
 use Rattle.overlay_pages.proofs.Joining.{Has, frames_twice, order_low, overlay_segment, overlay_set, page_with, segment_beside, sets_are, unit_low}
-use Rattle.overlay_pages.proofs.Growing.{free_is, there_still}
-use Rattle.overlay_pages.proofs.Tables.{awaiting_joined, frame_of_page, own_state}
+use Rattle.overlay_pages.proofs.Growing.{free_is, has_room}
+use Rattle.overlay_pages.proofs.Tables.{awaiting_joined}
 
 -- The page that is shared, and how it awaits.
 pub record Awaits (v : LedgerView) (from to p : ℕ) (o : Option Entry) : Type 0 where
@@ -129,6 +130,7 @@ pub record SharesOverlay (old began new : Store) (to p : ℕ) (block : Block) (b
   pub scratch : KeepsScratch old began
   pub loses : free_units began.blocks + 2 ^ block.order ≡ free_units old.blocks
   pub whole : units_in began.blocks ≡ units_in old.blocks
+  pub settled : AreSettled old.blocks → AreSettled began.blocks
   pub began_is : IsStore began
   pub lays : Lays began new block bits
   pub laid_lines : HasLinesNow began new block bits
@@ -155,6 +157,7 @@ module _ (m : MemoryView) (began new : Store) (to p : ℕ) (block : Block) (bits
   shares_overlay = record {
     segments = kept_all;
     frames = frames_twice m.store began new so.frames so.laid_frames;
+    blocks = subst AreSettled (sym so.laid_lines.blocks) (so.settled is.blocks);
     whole = ap units_in so.laid_lines.blocks ∙ so.whole;
     store = so.new_is;
     now_there = λ e same. subst (λ (f : Entry). segment_at new f.block.unit ≡ Some (segment_of to p f)) (same_Some _ e same) now_segment;
@@ -199,17 +202,8 @@ lifted_page a m lifted began new from p to xa xm ea entry block bits over bits_i
         seen_outside new page i lacks ∙ ap (λ f. frame_line new f i) frame_is ∙ frames i low
         ∙ sym (seen_outside m.store xm i (ap (λ l. has_line l i) (ap (λ (y : PageState). y.own) same ∙ ap lines_of over ∙ sym bits_is) ∙ lacks))
 
--- The page where segments moved: as it was, as far as tables tell.
-pub record StillShares (a m : MemoryView) (from to p : ℕ) (e : Entry) : Type 0 where
-  pub there : IsSome (page_in m.table from p)
-  pub over : is_some (overlay_at m.table from p) ≡ true
-  pub bits : lines_of (overlay_at m.table from p) ≡ e.bits
-  pub waits : (space_in m.table to).awaiting ≡ (space_in a.table to).awaiting
-  pub frame : frame_awaiting m.table to p ≡ frame_at m.table from p
-  pub space : holds_space m.table to ≡ true
-
-module _ (a m : MemoryView) (from to p : ℕ) (e : Entry) (is : IsJoined a) (m_is : IsJoined m) (same : state_of m ≡ state_of a) (there : IsSome (page_in a.table from p)) (over : overlay_at a.table from p ≡ Some e)
-    (framed : frame_awaiting a.table to p ≡ frame_at a.table from p) where
+-- The overlay that is shared.
+module _ (a : MemoryView) (from p : ℕ) (e : Entry) (is : IsJoined a) (there : IsSome (page_in a.table from p)) (over : overlay_at a.table from p ≡ Some e) where
   abbrev first : Has a.table from p (Some e)
   first = page_with a.table from p there (Some e) over
 
@@ -228,73 +222,48 @@ module _ (a m : MemoryView) (from to p : ℕ) (e : Entry) (is : IsJoined a) (m_i
   pub share_fits : length e.bits ≤ capacity_of e.block.order
   share_fits = subst (λ l. length l ≤ capacity_of e.block.order) (overlay_set a from p e is there over) (count_fits a.store is.store e.block (overlay_segment a from p e is there over))
 
-  pub share_room : HasShareRoom (state_of a) from p → 2 ^ e.block.order ≤ free_units m.store.blocks
+  pub share_room : HasShareRoom (state_of a) from p → HasRoom a.store.blocks e.block.order
   unfolding page_state
   share_room room =
       let enough = room (page_state a.store first.x) (state_page_there a from p first.x first.there) in
-      omega (arith, free_is m m_is, ap units_of same, ap limit_of same, enough, share_size, ap (λ (o : Option Entry). class (length (lines_of o))) first.is)
+      has_room a is e.block.order share_order (omega (arith, free_is a is, enough, share_size, ap (λ (o : Option Entry). class (length (lines_of o))) first.is))
 
   pub share_low : p < PAGE_END
   share_low = first_held.low
 
-  still_there : IsSome (page_in m.table from p)
-  still_there = there_still a m from p same there
-
-  own_now : (o : Option Entry) → overlay_at m.table from p ≡ o → lines_of o ≡ e.bits
-  own_now o over_m =
-      ap lines_of (sym over_m)
-      ∙ same_Some _ _ (sym (own_state m from p still_there) ∙ ap (λ s. option_map (λ (x : PageState). x.own) (page_in s from p)) same ∙ own_state a from p there)
-      ∙ ap lines_of over
-
-  waits_same : (space_in m.table to).awaiting ≡ (space_in a.table to).awaiting
-  waits_same = sym (state_awaiting m to) ∙ ap (λ (s : State). (space_in s to).awaiting) same ∙ state_awaiting a to
-
-  -- what is asked of the tables before it is shared
-  pub still_shares : holds_space a.table to ≡ true → StillShares a m from to p e
-  still_shares space = record {
-    there = still_there;
-    over = by_option (overlay_at m.table from p) (λ none. absurd (omega (arith, share_some, ap length (own_now None none)))) (λ f h. ap is_some h);
-    bits = own_now (overlay_at m.table from p) refl;
-    waits = waits_same;
-    frame = ap (λ (t : Pages). option_map (λ (f : PageEntry). f.frame) (get t p)) waits_same ∙ framed
-        ∙ sym (sym (frame_of_page m from p) ∙ ap (λ s. option_map (λ (x : PageState). x.entry.frame) (page_in s from p)) same ∙ frame_of_page a from p);
-    space = sym (state_holds m to) ∙ ap (λ s. holds_space s to) same ∙ state_holds a to ∙ space;
-  }
-
   pub share_sets : AreLines e.bits
   share_sets = sets_are a.store from p first.x e is.store first_held first.is
 
-  pub share_same : (x : PageView) → page_in m.table from p ≡ Some x → page_state m.store x ≡ page_state a.store first.x
-  share_same x at_x = same_Some _ _ (sym (state_page_there m from p x at_x) ∙ ap (λ s. page_in s from p) same ∙ state_page_there a from p first.x first.there)
-
 -- The page with its overlay, once it is shared.
-module _ (a m : MemoryView) (lifted began new : Store) (from to p : ℕ) (e : Entry) (block : Block) (is : IsJoined a) (m_is : IsJoined m) (same : state_of m ≡ state_of a) (there : IsSome (page_in a.table from p)) (over : overlay_at a.table from p ≡ Some e)
-    (framed : frame_awaiting a.table to p ≡ frame_at a.table from p) (still : StillShares a m from to p e) (absent : page_in m.table to p ≡ None) (order_is : block.order ≡ e.block.order)
-    (lifts : Lifts a.store lifted e.block e.bits) (scratch : KeepsScratch lifted m.store) (so : SharesOverlay m.store began new to p block e.bits) where
-  abbrev now_waits : Awaits m.table from to p (overlay_at m.table from p)
-  now_waits = awaits m.table from to p (overlay_at m.table from p) still.there refl still.frame
+module _ (a : MemoryView) (lifted began new : Store) (from to p : ℕ) (e : Entry) (block : Block) (is : IsJoined a) (m_is : IsJoined (view_of lifted a.table)) (same : state_of (view_of lifted a.table) ≡ state_of a)
+    (there : IsSome (page_in a.table from p)) (over : overlay_at a.table from p ≡ Some e) (framed : frame_awaiting a.table to p ≡ frame_at a.table from p) (space : holds_space a.table to ≡ true) (absent : page_in a.table to p ≡ None)
+    (order_is : block.order ≡ e.block.order) (lifts : Lifts a.store lifted e.block e.bits) (so : SharesOverlay lifted began new to p block e.bits) where
+  abbrev m : MemoryView
+  m = view_of lifted a.table
 
-  abbrev was : Has a.table from p (Some e)
-  was = page_with a.table from p there (Some e) over
+  abbrev waits : Awaits a.table from to p (Some e)
+  waits = awaits a.table from to p (Some e) there over framed
 
   abbrev now_shares : HasPlaceFor m new to p (Some (record { bits = e.bits; block = block }))
-  now_shares =
-      shares_overlay m began new to p block e.bits m_is (ap (λ k. 2 ^ k) order_is ∙ share_size a m from to p e is m_is same there over framed) (share_some a m from to p e is m_is same there over framed) so
+  now_shares = shares_overlay m began new to p block e.bits m_is (ap (λ k. 2 ^ k) order_is ∙ share_size a from p e is there over) (share_some a from p e is there over) so
 
-  overlaid_table : with_page_shared m.table from to p (Some block)
-      ≡ put_awaiting (put_page m.table to p (record { entry = now_waits.entry; overlay = Some (record { bits = e.bits; block = block }) })) to (remove (space_in m.table to).awaiting p)
+  overlaid_table : with_page_shared a.table from to p (Some block)
+      ≡ put_awaiting (put_page a.table to p (record { entry = waits.entry; overlay = Some (record { bits = e.bits; block = block }) })) to (remove (space_in a.table to).awaiting p)
   overlaid_table =
-      shared_table m.table from to p (overlay_at m.table from p) (Some block) now_waits
-      ∙ ap (λ bits. put_awaiting (put_page m.table to p (record { entry = now_waits.entry; overlay = Some (record { bits = bits; block = block }) })) to (remove (space_in m.table to).awaiting p)) still.bits
+      shared_table a.table from to p (Some e) (Some block) waits
+      ∙ ap (λ bits. put_awaiting (put_page a.table to p (record { entry = waits.entry; overlay = Some (record { bits = bits; block = block }) })) to (remove (space_in a.table to).awaiting p)) (ap lines_of over)
 
-  pub overlaid : (table : LedgerView) → table ≡ with_page_shared m.table from to p (Some block)
+  page_same : page_state lifted waits.x ≡ page_state a.store waits.x
+  page_same = same_Some _ _ (sym (state_page_there m from p waits.x waits.there) ∙ ap (λ s. page_in s from p) same ∙ state_page_there a from p waits.x waits.there)
+
+  pub overlaid : (table : LedgerView) → table ≡ with_page_shared a.table from to p (Some block)
       → IsJoined (view_of new table) × (state_of (view_of new table) ≡ changes.with_shared (state_of a) from to p)
   overlaid table is_table =
-      let page = lifted_page a m lifted began new from p to was.x now_waits.x e now_waits.entry block e.bits was.is refl (share_same a m from to p e is m_is same there over framed now_waits.x now_waits.there)
-      (m_is.held from p now_waits.x now_waits.there) (share_sets a m from to p e is m_is same there over framed) lifts scratch so now_waits.frame_is in (
+      let page = lifted_page a m lifted began new from p to waits.x waits.x e waits.entry block e.bits waits.is refl page_same
+      (m_is.held from p waits.x waits.there) (share_sets a from p e is there over) lifts (λ line low. refl) so waits.frame_is in (
         subst (λ t. IsJoined (view_of new t)) (sym (is_table ∙ overlaid_table))
-            (share_joined m new from to p (overlay_at m.table from p) (Some (record { bits = e.bits; block = block })) m_is now_waits still.space absent now_shares),
+            (share_joined m new from to p (Some e) (Some (record { bits = e.bits; block = block })) m_is waits space absent now_shares),
         ap (λ t. state_of (view_of new t)) (is_table ∙ overlaid_table)
-            ∙ share_state m new from to p (overlay_at m.table from p) (Some (record { bits = e.bits; block = block })) m_is now_waits still.space absent now_shares page
+            ∙ share_state m new from to p (Some e) (Some (record { bits = e.bits; block = block })) m_is waits space absent now_shares page
             ∙ ap (λ (s : State). changes.with_shared s from to p) same,
       )

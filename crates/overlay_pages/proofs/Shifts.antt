@@ -1,12 +1,11 @@
-use Rattle.std.proofs.Common.{◌≡◌, ℕ, ◌+◌, ◌-◌, ◌*◌, ◌^◌, ◌%◌, ◌<◌, ◌≤◌, ◌⊎◌, ◌&&◌, Bool, true, false, cond, nat_le, nat_lt, List, Option, Some, None, IsSome, is_some, length, refl, sym, ap, subst, ◌∙◌, arith, inl, inr}
+use Rattle.std.proofs.Common.{◌≡◌, ℕ, ◌+◌, ◌^◌, ◌<◌, ◌≤◌, ◌⊎◌, true, List, [], Option, Some, None, IsSome, is_some, length, refl, sym, ap, subst, ◌∙◌, arith, inl, inr}
 use Rattle.std.proofs.lemmas.Bool.{cases_lt}
 use Rattle.std.proofs.lemmas.Option.{none-some, same_Some}
-use Rattle.std.proofs.lemmas.Bool.Decides.{nat_tests}
 use Rattle.std.specs.Option.{option_and_then, option_map}
-use Rattle.unit_map.specs.Pieces.{free_at, free_units, units_in}
-use Rattle.unit_map.specs.Laws.{by_order, within as inside_piece}
+use Rattle.unit_map.specs.Pieces.{AreSettled, CanSettle, Piece, free_units, units_in}
 use Rattle.unit_map.specs.declared.block.Block.{Block}
 use Rattle.store_compaction.specs.declared.moves.Move.{Move}
+use Rattle.store_compaction.specs.Next.{Ascend}
 use Rattle.overlay_bits.specs.Lines.{has_line}
 use Rattle.overlay_address.specs.Names.{overlay_page, page_of, space_of}
 use Rattle.overlay_address.specs.Laws.{page_back, space_back}
@@ -15,390 +14,372 @@ use Rattle.ledger.specs.PlaceLaws.{by_place}
 use Rattle.ledger.specs.Units.{class, units}
 use Rattle.segment_store.specs.declared.segment.Segment.{Segment}
 use Rattle.segment_store.specs.Kept.{IsStore}
-use Rattle.segment_store.specs.Store.{Store, IsFrame, frame_line, line_in, segment_at}
-use Rattle.segment_store.specs.Changes.{KeepsFrames, MakesMove}
-use Rattle.space_maps.specs.Options.{map_alike, map_twice, map_still, map_from}
+use Rattle.segment_store.specs.Store.{Store, IsFrame, frame_line, segment_at}
+use Rattle.segment_store.specs.Changes.{AreCarried, IsKept, IsOutside, IsTarget, KeepsFrames, MakesMoves, units_after}
+use Rattle.segment_store.specs.Runs.{lands, made_carries, outside_fixed}
+use Rattle.space_maps.specs.Options.{map_twice, map_from}
 use Rattle.space_maps.specs.Laws.{KeepsSpaces, changed_there, keeps_page_set, keeps_still, keeps_twice, page_set_beside, page_set_here, set_some, spaces_alike, there_space}
-use Rattle.space_maps.specs.Spaces.{holds_space, page_in, set_page}
-use Rattle.space_ledger.specs.View.{LedgerView, PageView, ledger_of, lines_of, overlay_at, with_block}
+use Rattle.space_maps.specs.Spaces.{page_in, set_page}
+use Rattle.space_ledger.specs.View.{LedgerView, PageView, ledger_of, lines_of, overlay_at, with_block, with_overlay}
 use Rattle.overlay_pages.specs.LineLaws.{lines_same}
 use Rattle.overlay_pages.specs.State.{books}
-use Rattle.overlay_pages.specs.Steps.{HasMoved, IsOfPage, Moved, relocated}
-use Rattle.overlay_pages.specs.View.{IsHeld, IsJoined, IsOwned, line_seen, page_state, segment_of, state_of, view_of}
+use Rattle.overlay_pages.specs.Calls.{MovesFewBeside}
+use Rattle.overlay_pages.specs.Steps.{FollowsAll, IsAhead, IsBehind, IsOfPage, FollowsAt, Moved, MovesFew, Tells, relocated, went_overlay, went_page}
+use Rattle.overlay_pages.specs.View.{IsHeld, IsJoinedWith, IsOwned, line_seen, page_state, segment_of, state_of, view_of}
 use Rattle.overlay_pages.specs.ViewLaws.{state_books, state_page}
-use Rattle.overlay_pages.proofs.Steps.{by_spot, names_apart, overlay_lines, seen_inside, seen_outside, state_keeps}
+use Rattle.overlay_pages.proofs.Overlaying.{overlay_beside}
+use Rattle.overlay_pages.proofs.Steps.{by_spot, names_apart, seen_inside, seen_outside, state_keeps}
 
--- A move: the blocks of overlays in a range are in another one.
-
-pub within : ℕ → ℕ → ℕ → Bool
-within from count unit = nat_le from unit && nat_lt unit (from + count)
-
-pub shift : ℕ → ℕ → ℕ → Block → Block
-shift from to count b = cond (within from count b.unit) (record { unit = to + (b.unit - from); order = b.order }) b
-
-pub shift_entry : ℕ → ℕ → ℕ → Entry → Entry
-shift_entry from to count e = record { bits = e.bits; block = shift from to count e.block }
-
-pub shift_page : ℕ → ℕ → ℕ → PageView → PageView
-shift_page from to count x = record { entry = x.entry; overlay = option_map (shift_entry from to count) x.overlay }
-
-pub record Shifted (from to count : ℕ) (old new : LedgerView) : Type 0 where
-  pub pages : (q r : ℕ) → page_in new q r ≡ option_map (shift_page from to count) (page_in old q r)
-  pub keeps : KeepsSpaces old new
-
-pub inside : (from count unit : ℕ) → from ≤ unit → unit < from + count → within from count unit ≡ true
-unfolding within
-inside from count unit low high = grind (arith, nat_tests)
-
-pub outside : (from count unit : ℕ) → (unit < from) ⊎ (from + count ≤ unit) → within from count unit ≡ false
-unfolding within
-outside from count unit (inl h) = grind (arith, nat_tests)
-outside from count unit (inr h) = grind (arith, nat_tests)
-
--- a unit is in a range or not
-pub by_range : {P : Type 0} (from count unit : ℕ) → (from ≤ unit → unit < from + count → P) → ((unit < from) ⊎ (from + count ≤ unit) → P) → P
-by_range {P = P} from count unit in_it out = at (cases_lt unit from) (cases_lt unit (from + count))
-  where
-    at : (unit < from) ⊎ (from ≤ unit) → (unit < from + count) ⊎ (from + count ≤ unit) → P
-    at (inl h) k = out (inl h)
-    at (inr h) (inl k) = in_it h k
-    at (inr h) (inr k) = out (inr k)
-
-pub shift_in : (from to count : ℕ) (b : Block) → from ≤ b.unit → b.unit < from + count → shift from to count b ≡ record { unit = to + (b.unit - from); order = b.order }
-unfolding shift
-shift_in from to count b low high = ap (λ c. cond c (record { unit = to + (b.unit - from); order = b.order }) b) (inside from count b.unit low high)
-
-pub shift_out : (from to count : ℕ) (b : Block) → (b.unit < from) ⊎ (from + count ≤ b.unit) → shift from to count b ≡ b
-unfolding shift
-shift_out from to count b out = ap (λ c. cond c (record { unit = to + (b.unit - from); order = b.order }) b) (outside from count b.unit out)
-
-shift_order : (from to count : ℕ) (b : Block) → (shift from to count b).order ≡ b.order
-unfolding shift
-shift_order from to count b = at (within from count b.unit)
-  where
-    at : (c : Bool) → (cond c (record { unit = to + (b.unit - from); order = b.order }) b).order ≡ b.order
-    at true = refl
-    at false = refl
-
--- one unit more makes a difference to the block there alone
-shift_more : (from to i : ℕ) (b : Block) → (b.unit ≡ from + i → ⊥) → shift from to i b ≡ shift from to (i + 1) b
-shift_more from to i b other = by_range from i b.unit
-    (λ low high. shift_in from to i b low high ∙ sym (shift_in from to (i + 1) b low (omega (arith, high))))
-    (λ out. shift_out from to i b out ∙ sym (shift_out from to (i + 1) b (more out)))
-  where
-    more : (b.unit < from) ⊎ (from + i ≤ b.unit) → (b.unit < from) ⊎ (from + (i + 1) ≤ b.unit)
-    more (inl h) = inl h
-    more (inr h) = inr (at (cases_lt (from + i) b.unit))
-      where
-        at : (from + i < b.unit) ⊎ (b.unit ≤ from + i) → from + (i + 1) ≤ b.unit
-        at (inl k) = omega (arith, k)
-        at (inr k) = absurd (other (omega (arith, h, k)))
-
-shift_none : (from to : ℕ) (b : Block) → shift from to 0 b ≡ b
-shift_none from to b = shift_out from to 0 b (at (cases_lt b.unit from))
-  where
-    at : (b.unit < from) ⊎ (from ≤ b.unit) → (b.unit < from) ⊎ (from + 0 ≤ b.unit)
-    at (inl h) = inl h
-    at (inr h) = inr (omega (arith, h))
+-- Segments went where a function tells, and the tables come after it.
 
 entry_in : List ℕ → Block → Entry
 entry_in bits b = record { bits = bits; block = b }
 
-pub shift_page_more : (from to i : ℕ) (x : PageView) → ((e : Entry) → x.overlay ≡ Some e → e.block.unit ≡ from + i → ⊥) → shift_page from to i x ≡ shift_page from to (i + 1) x
-unfolding shift_page shift_entry entry_in
-shift_page_more from to i x other =
-    let same = map_alike (shift_entry from to i) (shift_entry from to (i + 1)) x.overlay (λ e is. ap (entry_in e.bits) (shift_more from to i e.block (other e is))) in
-    λ j. record { entry = x.entry; overlay = same j }
+abbrev put_block : ℕ → ℕ → Entry → Entry
+put_block unit order e = record { bits = e.bits; block = record { unit = unit; order = order } }
 
-shift_page_none : (from to : ℕ) (x : PageView) → shift_page from to 0 x ≡ x
-unfolding shift_page shift_entry entry_in
-shift_page_none from to x =
-    let same = map_still (shift_entry from to 0) (λ e. ap (entry_in e.bits) (shift_none from to e.block)) x.overlay in
-    λ j. record { entry = x.entry; overlay = sym same j }
+page_over : PageView → Option Entry → PageView
+page_over x o = record { entry = x.entry; overlay = o }
 
-pub shifted_none : (from to : ℕ) (v : LedgerView) → Shifted from to 0 v v
-shifted_none from to v = record {
-  pages = λ q r. map_still (shift_page from to 0) (shift_page_none from to) (page_in v q r);
-  keeps = keeps_still v;
-}
+-- a page whose segment stays, or that has none
+pub page_stays : (by : ℕ → ℕ) (x : PageView) → ((e : Entry) → x.overlay ≡ Some e → by e.block.unit ≡ e.block.unit) → went_page by x ≡ x
+unfolding went_page went_overlay entry_in page_over
+page_stays by x stays = at x.overlay refl
+  where
+    over : (o : Option Entry) → ((e : Entry) → o ≡ Some e → by e.block.unit ≡ e.block.unit) → option_map (went_overlay by) o ≡ o
+    over None h = refl
+    over (Some e) h = ap (λ u. Some (entry_in e.bits (record { unit = u; order = e.block.order }))) (h e refl)
 
--- A segment that starts at a unit of the range, and one page's block that is there now.
+    at : (o : Option Entry) → x.overlay ≡ o → went_page by x ≡ x
+    at o is = ap (page_over x) (over x.overlay stays)
 
-module _ (was : Store) (old : LedgerView) (is : IsJoined (view_of was old)) where
-  -- the page of a segment, by its name
-  own_page : (unit : ℕ) (segment : Segment) → segment_at was unit ≡ Some segment → IsOwned old unit segment
-  own_page unit segment there = is.owned unit segment there
+-- the tables before anything is told
+pub behind_none : (was new : Store) (old : LedgerView) (by : ℕ → ℕ) → IsJoinedWith CanSettle (view_of was old) → AreCarried was new by → IsBehind was new old old by
+behind_none was new old by joined carried = record { joined = joined; carried = carried; keeps = keeps_still old; pages = λ q r. inl refl }
 
-  named : (unit : ℕ) (segment : Segment) (there : segment_at was unit ≡ Some segment)
-      → (space_of segment.owner ≡ (own_page unit segment there).space) × (page_of segment.owner ≡ (own_page unit segment there).page)
-  named unit segment there =
-      let own = own_page unit segment there in
-      let held = is.held own.space own.page own.x own.there in (
-        ap space_of own.owner ∙ space_back own.space own.page (omega (arith, held.number)) (omega (arith, held.low)),
-        ap page_of own.owner ∙ page_back own.space own.page (omega (arith, held.number)) (omega (arith, held.low)),
-      )
+-- The page of a segment that is at a unit now, and its block there.
+module _ (was new : Store) (old now : LedgerView) (by : ℕ → ℕ) (behind : IsBehind was new old now by) (unit : ℕ) (segment : Segment) (at_unit : segment_at new unit ≡ Some segment) where
+  abbrev from : ℕ
+  from = (behind.carried.back unit segment at_unit).0
 
-  -- only that page has its segment there
-  only_page : (unit : ℕ) (segment : Segment) (there : segment_at was unit ≡ Some segment) (q r : ℕ) (x : PageView) (e : Entry) → page_in old q r ≡ Some x → x.overlay ≡ Some e → e.block.unit ≡ unit
-      → (q ≡ (own_page unit segment there).space) × (r ≡ (own_page unit segment there).page)
-  only_page unit segment there q r x e at_x over at_unit =
-      let own = own_page unit segment there in
-      let mine = is.held q r x at_x in
-      let theirs = is.held own.space own.page own.x own.there in
-      let found : Some segment ≡ Some (segment_of q r e) = sym there ∙ ap (segment_at was) (sym at_unit) ∙ mine.segment e over in
+  before : segment_at was from ≡ Some segment
+  before = (behind.carried.back unit segment at_unit).1
+
+  comes : by from ≡ unit
+  comes = (behind.carried.back unit segment at_unit).2
+
+  own : IsOwned old from segment
+  own = behind.joined.owned from segment before
+
+  held : IsHeld was own.space own.page own.x
+  held = behind.joined.held own.space own.page own.x own.there
+
+  abbrev s : ℕ
+  s = space_of segment.owner
+
+  abbrev p : ℕ
+  p = page_of segment.owner
+
+  space_is : s ≡ own.space
+  space_is = ap space_of own.owner ∙ space_back own.space own.page (omega (arith, held.number)) (omega (arith, held.low))
+
+  page_is : p ≡ own.page
+  page_is = ap page_of own.owner ∙ page_back own.space own.page (omega (arith, held.number)) (omega (arith, held.low))
+
+  own_there : page_in old s p ≡ Some own.x
+  own_there = ap (λ n. page_in old n p) space_is ∙ ap (page_in old own.space) page_is ∙ own.there
+
+  segment_is : segment ≡ segment_of own.space own.page own.overlay
+  segment_is = same_Some _ _ (sym before ∙ ap (segment_at was) (sym own.unit_is) ∙ held.segment own.overlay own.is)
+
+  -- only that page went there
+  only : (q r : ℕ) (x : PageView) (e : Entry) → page_in old q r ≡ Some x → x.overlay ≡ Some e → by e.block.unit ≡ unit → (q ≡ s) × (r ≡ p)
+  only q r x e at_x over to =
+      let mine = behind.joined.held q r x at_x in
+      let went = (behind.carried.along e.block.unit (segment_of q r e) (mine.segment e over)).there in
+      let found : Some segment ≡ Some (segment_of q r e) = sym at_unit ∙ ap (segment_at new) (sym to) ∙ went in
       let named : overlay_page q r ≡ overlay_page own.space own.page = sym (ap (λ (t : Segment). t.owner) (same_Some _ _ found)) ∙ own.owner in
-      names_apart own.space own.page q r theirs.number theirs.low mine.number mine.low named (λ a b. (a, b))
+      names_apart own.space own.page q r held.number held.low mine.number mine.low named (λ a b. (a ∙ sym space_is, b ∙ sym page_is))
 
-  shifted_absent : (now : LedgerView) (from to i : ℕ) → segment_at was (from + i) ≡ None → Shifted from to i old now → Shifted from to (i + 1) old now
-  shifted_absent now from to i none so = record {
-    pages = λ q r. so.pages q r ∙ map_alike (shift_page from to i) (shift_page from to (i + 1)) (page_in old q r)
-        (λ x e. shift_page_more from to i x (λ f over at_unit. none-some (segment_of q r f) (sym none ∙ ap (segment_at was) (sym at_unit) ∙ (is.held q r x e).segment f over)));
-    keeps = so.keeps;
-  }
+  abbrev put : PageView → PageView
+  put x = record { entry = x.entry; overlay = option_map (put_block unit segment.order) x.overlay }
 
-  -- the page of a segment is overlaid, before and after its block is there
-  shifted_there : (now : LedgerView) (from to i unit : ℕ) (segment : Segment) (there : segment_at was unit ≡ Some segment) → Shifted from to i old now
-      → page_in now (space_of segment.owner) (page_of segment.owner) ≡ Some (shift_page from to i (own_page unit segment there).x)
-  shifted_there now from to i unit segment there so =
-      let own = own_page unit segment there in
-      let names = named unit segment there in
-      ap (λ n. page_in now n (page_of segment.owner)) names.0 ∙ ap (page_in now own.space) names.1 ∙ so.pages own.space own.page ∙ ap (option_map (shift_page from to i)) own.there
-
-  shifted_overlaid : (now : LedgerView) (from to i unit : ℕ) (segment : Segment) (there : segment_at was unit ≡ Some segment) → Shifted from to i old now
-      → IsSome (overlay_at now (space_of segment.owner) (page_of segment.owner))
-  unfolding shift_page
-  shifted_overlaid now from to i unit segment there so =
-      let own = own_page unit segment there in
-      ap (λ (o : Option PageView). is_some (option_and_then (λ (x : PageView). x.overlay) o)) (shifted_there now from to i unit segment there so)
-      ∙ ap (λ (o : Option Entry). is_some (option_map (shift_entry from to i) o)) own.is
-
-  -- and then the blocks are shifted by one unit more
-  shifted_some : (now : LedgerView) (from to i : ℕ) (segment : Segment) (there : segment_at was (from + i) ≡ Some segment) → Shifted from to i old now
-      → Shifted from to (i + 1) old (relocated now (to + i) (Some segment))
-  unfolding with_block shift_page shift_entry entry_in
-  shifted_some now from to i segment there so = record {
-    pages = pages;
-    keeps = keeps_twice old now (relocated now (to + i) (Some segment)) so.keeps (subst (KeepsSpaces now) (sym changed) (keeps_page_set now s p (Some y) has_space));
-  }
+  -- what it becomes, whether it was told before or not
+  put_is : put own.x ≡ went_page by own.x
+  unfolding went_page went_overlay page_over entry_in
+  put_is = ap (page_over own.x) (over own.is)
     where
-      own : IsOwned old (from + i) segment
-      own = own_page (from + i) segment there
-
-      s : ℕ
-      s = space_of segment.owner
-
-      p : ℕ
-      p = page_of segment.owner
-
-      put : PageView → PageView
-      put x = record { entry = x.entry; overlay = option_map (λ (e : Entry). record { bits = e.bits; block = record { unit = to + i; order = segment.order } }) x.overlay }
-
-      y : PageView
-      y = put (shift_page from to i own.x)
-
-      here : page_in now s p ≡ Some (shift_page from to i own.x)
-      here = shifted_there now from to i (from + i) segment there so
-
-      changed : relocated now (to + i) (Some segment) ≡ set_page now s p (Some y)
-      changed = changed_there put now s p (shift_page from to i own.x) here ∙ sym (set_some now s p y)
-
-      names : (s ≡ own.space) × (p ≡ own.page)
-      names = named (from + i) segment there
-
       order_is : segment.order ≡ own.overlay.block.order
-      order_is = ap (λ (t : Segment). t.order) (same_Some _ _ (sym there ∙ ap (segment_at was) (sym own.unit_is) ∙ (is.held own.space own.page own.x own.there).segment own.overlay own.is))
+      order_is = ap (λ (t : Segment). t.order) segment_is
 
-      block_is : shift from to (i + 1) own.overlay.block ≡ record { unit = to + i; order = segment.order }
-      block_is =
-          shift_in from to (i + 1) own.overlay.block (omega (arith, own.unit_is)) (omega (arith, own.unit_is))
-          ∙ (let unit : to + (own.overlay.block.unit - from) ≡ to + i = omega (arith, own.unit_is) in λ j. record { unit = unit j; order = sym order_is j })
+      to_is : unit ≡ by own.overlay.block.unit
+      to_is = sym comes ∙ ap by (sym own.unit_is)
 
-      turned : y ≡ shift_page from to (i + 1) own.x
-      turned = λ j. record { entry = own.x.entry; overlay = over j }
-        where
-          over : y.overlay ≡ (shift_page from to (i + 1) own.x).overlay
-          over =
-              ap (λ (o : Option Entry). option_map (λ (e : Entry). record { bits = e.bits; block = record { unit = to + i; order = segment.order } }) (option_map (shift_entry from to i) o)) own.is
-              ∙ ap (λ b. Some (entry_in own.overlay.bits b)) (sym block_is)
-              ∙ sym (ap (option_map (shift_entry from to (i + 1))) own.is)
+      over : own.x.overlay ≡ Some own.overlay
+          → option_map (put_block unit segment.order) own.x.overlay ≡ option_map (went_overlay by) own.x.overlay
+      over is =
+          ap (option_map (put_block unit segment.order)) is
+          ∙ (λ j. Some (entry_in own.overlay.bits (record { unit = to_is j; order = order_is j })))
+          ∙ sym (ap (option_map (went_overlay by)) is)
 
-      beside : (q r : ℕ) → (q ≡ s → r ≡ p → ⊥) → option_map (shift_page from to i) (page_in old q r) ≡ option_map (shift_page from to (i + 1)) (page_in old q r)
-      beside q r d = map_alike (shift_page from to i) (shift_page from to (i + 1)) (page_in old q r)
-          (λ x e. shift_page_more from to i x (λ f over at_unit.
-          let same = only_page (from + i) segment there q r x f e over at_unit in d (same.0 ∙ sym names.0) (same.1 ∙ sym names.1)))
+  put_twice : put (went_page by own.x) ≡ put own.x
+  unfolding went_page went_overlay page_over
+  put_twice = ap (page_over own.x) (at own.x.overlay)
+    where
+      at : (o : Option Entry) → option_map (put_block unit segment.order) (option_map (went_overlay by) o)
+          ≡ option_map (put_block unit segment.order) o
+      at None = refl
+      at (Some e) = refl
 
-      has_space : holds_space now s ≡ true
-      has_space = there_space now s p (shift_page from to i own.x) here
+  abbrev next : LedgerView
+  next = relocated now unit (Some segment)
 
-      pages : (q r : ℕ) → page_in (relocated now (to + i) (Some segment)) q r ≡ option_map (shift_page from to (i + 1)) (page_in old q r)
-      pages q r = by_place s p q r
-          (λ qq rr.
-          ap (λ (v : LedgerView). page_in v q r) changed ∙ page_set_here now s p (Some y) q r qq rr ∙ ap Some turned
-          ∙ sym (ap (option_map (shift_page from to (i + 1))) (ap (λ n. page_in old n r) (qq ∙ names.0) ∙ ap (page_in old own.space) (rr ∙ names.1) ∙ own.there)))
-          (λ d.
-          ap (λ (v : LedgerView). page_in v q r) changed ∙ page_set_beside now s p (Some y) q r d ∙ so.pages q r ∙ beside q r d)
+  went_some : is_some (went_page by own.x).overlay ≡ true
+  unfolding went_page
+  went_some = ap (λ (o : Option Entry). is_some (option_map (went_overlay by) o)) own.is
 
--- All blocks of a move are there now.
+  -- the page in the tables, before and after
+  now_here : (y : PageView) × (page_in now s p ≡ Some y) × (put y ≡ went_page by own.x) × (is_some y.overlay ≡ true)
+  now_here = elim (behind.pages s p) [
+    | inl e ↦ (own.x, e ∙ own_there, put_is, ap (λ (o : Option Entry). is_some o) own.is)
+    | inr e ↦ (went_page by own.x, e ∙ ap (option_map (went_page by)) own_there, put_twice ∙ put_is, went_some)
+  ]
 
-lines_shifted : (from to count : ℕ) (o : Option Entry) → lines_of (option_map (shift_entry from to count) o) ≡ lines_of o
-unfolding shift_entry
-lines_shifted from to count None = refl
-lines_shifted from to count (Some e) = refl
+  changed : next ≡ set_page now s p (Some (put now_here.0))
+  unfolding with_block
+  changed = changed_there put now s p now_here.0 now_here.1 ∙ sym (set_some now s p (put now_here.0))
 
-some_of : (x : PageView) (from to count : ℕ) (f : Entry) → (shift_page from to count x).overlay ≡ Some f → (P : Entry → Type 0)
-    → ((e : Entry) → x.overlay ≡ Some e → P (shift_entry from to count e)) → P f
-unfolding shift_page
-some_of x from to count f is P go = map_from (shift_entry from to count) x.overlay f is (λ e over same. subst P same (go e over))
+  next_here : (q r : ℕ) → q ≡ s → r ≡ p → page_in next q r ≡ Some (went_page by own.x)
+  next_here q r qq rr = ap (λ (v : LedgerView). page_in v q r) changed ∙ page_set_here now s p (Some (put now_here.0)) q r qq rr ∙ ap Some now_here.2
 
-module _ (was new : Store) (old now : LedgerView) (m : Move) (is : IsJoined (view_of was old)) (moves : MakesMove was new m) (frames : KeepsFrames was new)
-    (so : Shifted m.from m.to (2 ^ m.order) old now) where
-  abbrev count : ℕ
-  count = 2 ^ m.order
+  next_beside : (q r : ℕ) → (q ≡ s → r ≡ p → ⊥) → page_in next q r ≡ page_in now q r
+  next_beside q r d = ap (λ (v : LedgerView). page_in v q r) changed ∙ page_set_beside now s p (Some (put now_here.0)) q r d
 
-  -- a line of an overlay is what it was, wherever its block is
-  moved_line : (q r : ℕ) (x : PageView) (e : Entry) → IsHeld was q r x → x.overlay ≡ Some e → (line : ℕ) → has_line e.bits line ≡ true
-      → line_in new (shift m.from m.to count e.block) line ≡ line_in was e.block line
-  moved_line q r x e held over line has = by_range m.from count e.block.unit
-      (λ low high.
-      ap (λ (b : Block). line_in new b line) (shift_in m.from m.to count e.block low high)
-      ∙ (moves.along e.block.unit (segment_of q r e) (held.segment e over) low high).lines line has)
-      (λ out.
-      ap (λ (b : Block). line_in new b line) (shift_out m.from m.to count e.block out)
-      ∙ (moves.others e.block.unit (segment_of q r e) (held.segment e over) out).lines line (ap (λ l. has_line l line) (overlay_lines was q r x e held over) ∙ has))
+  old_here : (q r : ℕ) → q ≡ s → r ≡ p → page_in old q r ≡ Some own.x
+  old_here q r qq rr = ap (λ n. page_in old n r) qq ∙ ap (page_in old s) rr ∙ own_there
 
-  moved_segment : (q r : ℕ) (x : PageView) (e : Entry) → IsHeld was q r x → x.overlay ≡ Some e → segment_at new (shift m.from m.to count e.block).unit ≡ Some (segment_of q r e)
-  moved_segment q r x e held over = by_range m.from count e.block.unit
-      (λ low high.
-      ap (λ (b : Block). segment_at new b.unit) (shift_in m.from m.to count e.block low high)
-      ∙ (moves.along e.block.unit (segment_of q r e) (held.segment e over) low high).there)
-      (λ out.
-      ap (λ (b : Block). segment_at new b.unit) (shift_out m.from m.to count e.block out)
-      ∙ (moves.others e.block.unit (segment_of q r e) (held.segment e over) out).there ∙ held.segment e over)
+  pub some_behind : IsBehind was new old next by
+  some_behind = record {
+    joined = behind.joined;
+    carried = behind.carried;
+    keeps = keeps_twice old now next behind.keeps (subst (KeepsSpaces now) (sym changed) (keeps_page_set now s p (Some (put now_here.0)) (there_space now s p now_here.0 now_here.1)));
+    pages = λ q r. by_place s p q r
+        (λ qq rr. inr (next_here q r qq rr ∙ sym (ap (option_map (went_page by)) (old_here q r qq rr))))
+        (λ d. elim (behind.pages q r) [ inl e ↦ inl (next_beside q r d ∙ e) | inr e ↦ inr (next_beside q r d ∙ e) ]);
+  }
 
-  moved_seen : (q r : ℕ) (x : PageView) → IsHeld was q r x → (line : ℕ) → line < 64 → line_seen new (shift_page m.from m.to count x) line ≡ line_seen was x line
-  unfolding shift_page shift_entry
-  moved_seen q r x held line low = by_spot x line
+  pub some_kept : (v : ℕ) → FollowsAt by old now v → FollowsAt by old next v
+  some_kept v told q r x e at_x over to = by_place s p q r
+      (λ qq rr. next_here q r qq rr ∙ ap (λ y. Some (went_page by y)) (same_Some _ _ (sym (old_here q r qq rr) ∙ at_x)))
+      (λ d. next_beside q r d ∙ told q r x e at_x over to)
+
+  pub some_told : FollowsAt by old next unit
+  some_told q r x e at_x over to =
+      let is = only q r x e at_x over to in
+      next_here q r is.0 is.1 ∙ ap (λ y. Some (went_page by y)) (same_Some _ _ (sym (old_here q r is.0 is.1) ∙ at_x))
+
+  pub is_overlaid : IsSome (overlay_at now s p)
+  is_overlaid = ap (λ (o : Option PageView). is_some (option_and_then (λ (x : PageView). x.overlay) o)) now_here.1 ∙ now_here.3
+
+-- One unit is told.
+pub before_relocate : (was new : Store) (old now : LedgerView) (by : ℕ → ℕ) (unit : ℕ) → IsBehind was new old now by → IsOfPage now (segment_at new unit)
+before_relocate was new old now by unit behind = at (segment_at new unit) refl
+  where
+    at : (o : Option Segment) → segment_at new unit ≡ o → IsOfPage now o
+    at None e = tt
+    at (Some segment) e = is_overlaid was new old now by behind unit segment e
+
+pub after_relocate : (was new : Store) (old now later : LedgerView) (by : ℕ → ℕ) (unit : ℕ) → IsBehind was new old now by → later ≡ relocated now unit (segment_at new unit) → Tells was new old now later by unit (unit + 1)
+after_relocate was new old now later by unit behind is_later = subst (λ v. Tells was new old now v by unit (unit + 1)) (sym is_later) (at (segment_at new unit) refl)
+  where
+    same : (P : ℕ → Type 0) (v : ℕ) → unit ≤ v → v < unit + 1 → P unit → P v
+    same P v low high h = let e : unit ≡ v = omega (arith, low, high) in subst P e h
+
+    at : (o : Option Segment) → segment_at new unit ≡ o → Tells was new old now (relocated now unit o) by unit (unit + 1)
+    at None e = record {
+      behind = behind;
+      kept = λ v told. told;
+      told = λ v low high q r x f at_x over to.
+          let mine = behind.joined.held q r x at_x in
+          let there = (behind.carried.along f.block.unit (segment_of q r f) (mine.segment f over)).there in
+          let here : by f.block.unit ≡ unit = omega (arith, to, low, high) in
+          absurd (none-some (segment_of q r f) (sym e ∙ ap (segment_at new) (sym here) ∙ there));
+    }
+    at (Some segment) e = record {
+      behind = some_behind was new old now by behind unit segment e;
+      kept = some_kept was new old now by behind unit segment e;
+      told = λ v low high. same (FollowsAt by old (relocated now unit (Some segment))) v low high (some_told was new old now by behind unit segment e);
+    }
+
+-- further units
+pub tells_none : (was new : Store) (old now : LedgerView) (by : ℕ → ℕ) (from : ℕ) → IsBehind was new old now by → Tells was new old now now by from (from + 0)
+tells_none was new old now by from behind = record { behind = behind; kept = λ v told. told; told = λ v low high. absurd (omega (arith, low, high)) }
+
+pub tells_more : (was new : Store) (old table now later : LedgerView) (by : ℕ → ℕ) (from i : ℕ) → Tells was new old table now by from (from + i) → Tells was new old now later by (from + i) (from + i + 1) → Tells was new old table later by from (from + (i + 1))
+tells_more was new old table now later by from i one two = record {
+  behind = two.behind;
+  kept = λ v told. two.kept v (one.kept v told);
+  told = λ v low high. at v low high (cases_lt v (from + i));
+}
+  where
+    at : (v : ℕ) → from ≤ v → v < from + (i + 1) → (v < from + i) ⊎ (from + i ≤ v) → FollowsAt by old later v
+    at v low high (inl h) = two.kept v (one.told v low h)
+    at v low high (inr h) = two.told v h (omega (arith, high))
+
+-- All is told.
+
+pub record Went (by : ℕ → ℕ) (old new : LedgerView) : Type 0 where
+  pub pages : (q r : ℕ) → page_in new q r ≡ option_map (went_page by) (page_in old q r)
+  pub keeps : KeepsSpaces old new
+
+pub all_told : (was new : Store) (old now : LedgerView) (ms : List Move) → IsBehind was new old now (units_after ms) → ((unit : ℕ) → IsTarget ms unit → FollowsAt (units_after ms) old now unit) → Went (units_after ms) old now
+all_told was new old now ms behind told = record {
+  pages = λ q r. elim (behind.pages q r) [ inl e ↦ at q r e (page_in old q r) refl | inr e ↦ e ];
+  keeps = behind.keeps;
+}
+  where
+    over : (q r : ℕ) (x : PageView) → page_in now q r ≡ page_in old q r → page_in old q r ≡ Some x → (o : Option Entry) → x.overlay ≡ o → page_in now q r ≡ Some (went_page (units_after ms) x)
+    over q r x same there None none = same ∙ there ∙ ap Some (sym (page_stays (units_after ms) x (λ e h. absurd (none-some e (sym none ∙ h)))))
+    over q r x same there (Some f) is = elim (lands ms f.block.unit) [
+      | inl stays ↦ same ∙ there ∙ ap Some (sym (page_stays (units_after ms) x (λ e h. subst (λ (g : Entry). units_after ms g.block.unit ≡ g.block.unit) (same_Some _ _ (sym is ∙ h)) stays)))
+      | inr target ↦ told (units_after ms f.block.unit) target q r x f there is refl
+    ]
+
+    at : (q r : ℕ) → page_in now q r ≡ page_in old q r → (o : Option PageView) → page_in old q r ≡ o → page_in now q r ≡ option_map (went_page (units_after ms)) (page_in old q r)
+    at q r same None none = same ∙ none ∙ sym (ap (option_map (went_page (units_after ms))) none)
+    at q r same (Some x) there = over q r x same there x.overlay refl ∙ sym (ap (option_map (went_page (units_after ms))) there)
+
+-- an overlay that stays has its block
+pub overlay_stays : (ms : List Move) (old now : LedgerView) → Went (units_after ms) old now → (q r : ℕ) (e : Entry) → overlay_at old q r ≡ Some e → IsOutside ms e.block.unit → overlay_at now q r ≡ Some e
+unfolding went_page went_overlay entry_in
+overlay_stays ms old now so q r e over out =
+    ap (option_and_then (λ (x : PageView). x.overlay)) (so.pages q r) ∙ at (page_in old q r)
+    ∙ ap (option_map (went_overlay (units_after ms))) over
+    ∙ ap (λ u. Some (entry_in e.bits (record { unit = u; order = e.block.order }))) (outside_fixed ms e.block.unit out)
+  where
+    at : (o : Option PageView) → option_and_then (λ (x : PageView). x.overlay) (option_map (went_page (units_after ms)) o) ≡ option_map (went_overlay (units_after ms)) (option_and_then (λ (x : PageView). x.overlay) o)
+    at None = refl
+    at (Some x) = refl
+
+lines_went : (by : ℕ → ℕ) (o : Option Entry) → lines_of (option_map (went_overlay by) o) ≡ lines_of o
+unfolding went_overlay
+lines_went by None = refl
+lines_went by (Some e) = refl
+
+some_of : (by : ℕ → ℕ) (x : PageView) (f : Entry) → (went_page by x).overlay ≡ Some f → (P : Entry → Type 0) → ((e : Entry) → x.overlay ≡ Some e → P (went_overlay by e)) → P f
+unfolding went_page
+some_of by x f is P go = map_from (went_overlay by) x.overlay f is (λ e over same. subst P same (go e over))
+
+-- So the view is that of a memory, with the same state.
+module _ {P : List Piece → Type 0} (was new : Store) (old now : LedgerView) (by : ℕ → ℕ) (is : IsJoinedWith P (view_of was old)) (carried : AreCarried was new by) (frames : KeepsFrames was new) (so : Went by old now) where
+  went_seen : (q r : ℕ) (x : PageView) → IsHeld was q r x → (line : ℕ) → line < 64 → line_seen new (went_page by x) line ≡ line_seen was x line
+  unfolding went_page went_overlay
+  went_seen q r x held line low = by_spot x line
       (λ e over has.
-      seen_inside new (shift_page m.from m.to count x) (shift_entry m.from m.to count e) line (ap (option_map (shift_entry m.from m.to count)) over) has
-      ∙ moved_line q r x e held over line has ∙ sym (seen_inside was x e line over has))
+      seen_inside new (went_page by x) (went_overlay by e) line (ap (option_map (went_overlay by)) over) has
+      ∙ (carried.along e.block.unit (segment_of q r e) (held.segment e over)).lines line has ∙ sym (seen_inside was x e line over has))
       (λ lacks.
-      seen_outside new (shift_page m.from m.to count x) line (ap (λ l. has_line l line) (lines_shifted m.from m.to count x.overlay) ∙ lacks)
+      seen_outside new (went_page by x) line (ap (λ l. has_line l line) (lines_went by x.overlay) ∙ lacks)
       ∙ (frames x.entry.frame held.frame).lines line low ∙ sym (seen_outside was x line lacks))
 
-  moved_page : (q r : ℕ) (x : PageView) → IsHeld was q r x → page_state new (shift_page m.from m.to count x) ≡ page_state was x
-  unfolding page_state shift_page shift_entry
-  moved_page q r x held =
-      let lines = lines_same (line_seen new (shift_page m.from m.to count x)) (line_seen was x) (moved_seen q r x held) in
+  went_state_page : (q r : ℕ) (x : PageView) → IsHeld was q r x → page_state new (went_page by x) ≡ page_state was x
+  unfolding page_state went_page went_overlay
+  went_state_page q r x held =
+      let lines = lines_same (line_seen new (went_page by x)) (line_seen was x) (went_seen q r x held) in
       let base = lines_same (frame_line new x.entry.frame) (frame_line was x.entry.frame) (frames x.entry.frame held.frame).lines in
-      λ i. record { entry = x.entry; own = lines_shifted m.from m.to count x.overlay i; lines = lines i; base = base i }
+      λ i. record { entry = x.entry; own = lines_went by x.overlay i; lines = lines i; base = base i }
 
-  moved_held : (q r : ℕ) (x : PageView) → IsHeld was q r x → IsHeld new q r (shift_page m.from m.to count x)
-  unfolding shift_page shift_entry
-  moved_held q r x held = record {
+  went_held : (q r : ℕ) (x : PageView) → IsHeld was q r x → IsHeld new q r (went_page by x)
+  unfolding went_page went_overlay
+  went_held q r x held = record {
     number = held.number;
     low = held.low;
     frame = (frames x.entry.frame held.frame).stays;
-    segment = λ f over. some_of x m.from m.to count f over (λ g. segment_at new g.block.unit ≡ Some (segment_of q r g))
-        (λ e is. moved_segment q r x e held is ∙ ap (λ o. Some (record { owner = overlay_page q r; order = o; bits = e.bits })) (sym (shift_order m.from m.to count e.block)));
-    lined = λ f over. some_of x m.from m.to count f over (λ g. 0 < length g.bits) (λ e is. held.lined e is);
-    size = λ f over. some_of x m.from m.to count f over (λ g. 2 ^ g.block.order ≡ class (length g.bits)) (λ e is. ap (λ o. 2 ^ o) (shift_order m.from m.to count e.block) ∙ held.size e is);
+    segment = λ f over. some_of by x f over (λ g. segment_at new g.block.unit ≡ Some (segment_of q r g)) (λ e is. (carried.along e.block.unit (segment_of q r e) (held.segment e is)).there);
+    lined = λ f over. some_of by x f over (λ g. 0 < length g.bits) (λ e is. held.lined e is);
+    size = λ f over. some_of by x f over (λ g. 2 ^ g.block.order ≡ class (length g.bits)) (λ e is. held.size e is);
   }
 
-  page_before : (q r : ℕ) (x : PageView) → page_in now q r ≡ Some x → (P : PageView → Type 0) → ((y : PageView) → page_in old q r ≡ Some y → P (shift_page m.from m.to count y)) → P x
-  page_before q r x there P go = map_from (shift_page m.from m.to count) (page_in old q r) x (sym (so.pages q r) ∙ there) (λ y was_there same. subst P same (go y was_there))
+  page_before : (q r : ℕ) (x : PageView) → page_in now q r ≡ Some x → (Q : PageView → Type 0) → ((y : PageView) → page_in old q r ≡ Some y → Q (went_page by y)) → Q x
+  page_before q r x there Q go = map_from (went_page by) (page_in old q r) x (sym (so.pages q r) ∙ there) (λ y was_there same. subst Q same (go y was_there))
 
-  -- the segments
-  owned_now : (unit at : ℕ) (segment : Segment) (own : IsOwned old unit segment) → (shift m.from m.to count own.overlay.block).unit ≡ at → IsOwned now at segment
-  unfolding shift_page shift_entry
-  owned_now unit at segment own is_at = record {
-    space = own.space;
-    page = own.page;
-    x = shift_page m.from m.to count own.x;
-    overlay = shift_entry m.from m.to count own.overlay;
-    there = so.pages own.space own.page ∙ ap (option_map (shift_page m.from m.to count)) own.there;
-    is = ap (option_map (shift_entry m.from m.to count)) own.is;
-    unit_is = is_at;
-    owner = own.owner;
-  }
+  went_owned : (unit : ℕ) (segment : Segment) → segment_at new unit ≡ Some segment → IsOwned now unit segment
+  unfolding went_page went_overlay
+  went_owned unit segment there =
+      let from = carried.back unit segment there in
+      let own = is.owned from.0 segment from.1 in
+      record {
+        space = own.space;
+        page = own.page;
+        x = went_page by own.x;
+        overlay = went_overlay by own.overlay;
+        there = so.pages own.space own.page ∙ ap (option_map (went_page by)) own.there;
+        is = ap (option_map (went_overlay by)) own.is;
+        unit_is = ap by own.unit_is ∙ from.2;
+        owner = own.owner;
+      }
 
-  moved_owned : (unit : ℕ) (segment : Segment) → segment_at new unit ≡ Some segment → IsOwned now unit segment
-  moved_owned unit segment there = by_range m.to count unit
-      (λ low high.
-      let i : ℕ = unit - m.to in
-      let back : m.to + i ≡ unit = omega (arith, low) in
-      let before : segment_at was (m.from + i) ≡ Some segment = sym (moves.segments.inside i (omega (arith, high, low))) ∙ ap (segment_at new) back ∙ there in
-      let own = is.owned (m.from + i) segment before in
-      owned_now (m.from + i) unit segment own
-      (ap (λ (b : Block). b.unit) (shift_in m.from m.to count own.overlay.block (omega (arith, own.unit_is)) (omega (arith, own.unit_is, high, low))) ∙ omega (arith, own.unit_is, low)))
-      (λ out. by_range m.from count unit
-      (λ low high.
-      let i : ℕ = unit - m.from in
-      let back : m.from + i ≡ unit = omega (arith, low) in
-      absurd (none-some segment (sym (moves.segments.left i (omega (arith, high, low))) ∙ ap (segment_at new) back ∙ there)))
-      (λ away.
-      let own = is.owned unit segment (sym (moves.segments.outside unit away out) ∙ there) in
-      owned_now unit unit segment own (ap (λ (b : Block). b.unit) (shift_out m.from m.to count own.overlay.block (away_too own.overlay.block.unit (own.unit_is) away)) ∙ own.unit_is)))
-    where
-      away_too : (u : ℕ) → u ≡ unit → (unit < m.from) ⊎ (m.from + count ≤ unit) → (u < m.from) ⊎ (m.from + count ≤ u)
-      away_too u same (inl h) = inl (omega (arith, same, h))
-      away_too u same (inr h) = inr (omega (arith, same, h))
-
-  pub moved_state : state_of (view_of new now) ≡ state_of (view_of was old)
-  moved_state = spaces_alike (state_of (view_of was old)) (state_of (view_of new now)) (state_of (view_of was old))
+  pub went_state : state_of (view_of new now) ≡ state_of (view_of was old)
+  went_state = spaces_alike (state_of (view_of was old)) (state_of (view_of new now)) (state_of (view_of was old))
       (state_keeps (view_of was old) (view_of new now) so.keeps) (keeps_still (state_of (view_of was old)))
       (λ q r. state_page (view_of new now) q r ∙ ap (option_map (page_state new)) (so.pages q r)
-      ∙ map_twice (page_state new) (shift_page m.from m.to count) (page_state was) (page_in old q r) (λ x e. moved_page q r x (is.held q r x e)) ∙ sym (state_page (view_of was old) q r))
+      ∙ map_twice (page_state new) (went_page by) (page_state was) (page_in old q r) (λ x e. went_state_page q r x (is.held q r x e)) ∙ sym (state_page (view_of was old) q r))
 
-  pub moved_joined : IsStore new → units_in new.blocks ≡ units_in was.blocks → free_units new.blocks ≡ free_units was.blocks → IsJoined (view_of new now)
-  moved_joined store whole free = record {
+  pub went_joined : {Q : List Piece → Type 0} → Q new.blocks → IsStore new → units_in new.blocks ≡ units_in was.blocks → free_units new.blocks ≡ free_units was.blocks → IsJoinedWith Q (view_of new now)
+  went_joined blocks store whole free = record {
     store = store;
+    blocks = blocks;
     frames = omega (arith, is.frames, whole, so.keeps.frames);
     count = omega (arith, is.count, whole, free, same_units);
     numbers = λ q there. is.numbers q (sym (so.keeps.there q) ∙ there);
     zero = subst (IsFrame new) (sym so.keeps.zero_frame) (frames old.zero_frame is.zero).stays;
     zeros = λ line low. ap (λ f. frame_line new f line) so.keeps.zero_frame ∙ (frames old.zero_frame is.zero).lines line low ∙ is.zeros line low;
-    held = λ q r x there. page_before q r x there (IsHeld new q r) (λ y was_there. moved_held q r y (is.held q r y was_there));
-    owned = moved_owned;
+    held = λ q r x there. page_before q r x there (IsHeld new q r) (λ y was_there. went_held q r y (is.held q r y was_there));
+    owned = went_owned;
   }
     where
       same_units : units (ledger_of now) ≡ units (ledger_of old)
-      same_units = ap units (sym (state_books (view_of new now)) ∙ ap books moved_state ∙ state_books (view_of was old))
+      same_units = ap units (sym (state_books (view_of new now)) ∙ ap books went_state ∙ state_books (view_of was old))
 
--- The block to which a move goes lies inside.
-pub target_inside : (was new : Store) (table : LedgerView) (m : Move) → HasMoved was new table m → m.to + 2 ^ m.order ≤ units_in was.blocks
-target_inside was new table m made = inside_piece was.blocks made.joined.store.pieces (free_at m.to m.order) made.can.there
+-- The store was settled, and the tables came after it.
 
--- before a unit is gone through, the segment there is that of an overlaid page
-pub before_relocate : (was new : Store) (old now : LedgerView) (m : Move) (i : ℕ) → IsJoined (view_of was old) → MakesMove was new m → Shifted m.from m.to i old now → i < 2 ^ m.order
-    → IsOfPage now (segment_at new (m.to + i))
-before_relocate was new old now m i is moves so low = subst (IsOfPage now) (sym (moves.segments.inside i low)) (at (segment_at was (m.from + i)) refl)
-  where
-    at : (o : Option Segment) → segment_at was (m.from + i) ≡ o → IsOfPage now (segment_at was (m.from + i))
-    at None e = subst (IsOfPage now) (sym e) tt
-    at (Some segment) e = subst (IsOfPage now) (sym e) (shifted_overlaid was old is now m.from m.to i (m.from + i) segment e so)
+behind_all : (was new : Store) (old : LedgerView) (ms : List Move) → IsJoinedWith CanSettle (view_of was old) → MakesMoves was ms new → IsBehind was new old old (units_after ms)
+behind_all was new old ms joined made = behind_none was new old (units_after ms) joined (made_carries was new ms made)
 
-pub after_relocate : (was new : Store) (old now next : LedgerView) (m : Move) (i : ℕ) → IsJoined (view_of was old) → MakesMove was new m → Shifted m.from m.to i old now → i < 2 ^ m.order
-    → next ≡ relocated now (m.to + i) (segment_at new (m.to + i)) → Shifted m.from m.to (i + 1) old next
-after_relocate was new old now next m i is moves so low is_next =
-    subst (Shifted m.from m.to (i + 1) old) (sym (is_next ∙ ap (relocated now (m.to + i)) (moves.segments.inside i low))) (at (segment_at was (m.from + i)) refl)
-  where
-    at : (o : Option Segment) → segment_at was (m.from + i) ≡ o → Shifted m.from m.to (i + 1) old (relocated now (m.to + i) (segment_at was (m.from + i)))
-    at None e = subst (λ o. Shifted m.from m.to (i + 1) old (relocated now (m.to + i) o)) (sym e) (shifted_absent was old is now m.from m.to i e so)
-    at (Some segment) e = subst (λ o. Shifted m.from m.to (i + 1) old (relocated now (m.to + i) o)) (sym e) (shifted_some was old is now m.from m.to i segment e so)
+pub settled_ahead : (was new : Store) (old : LedgerView) (ms : List Move) → IsJoinedWith CanSettle (view_of was old) → MakesMoves was ms new → IsAhead new old
+settled_ahead was new old ms joined made = record { was = was; old = old; by = units_after ms; behind = behind_all was new old ms joined made }
 
-pub shifted_count : (order : ℕ) → order < 4 → 1 * 2 ^ order % 4294967296 ≡ 2 ^ order
-shifted_count order h = by_order (λ k. 1 * 2 ^ k % 4294967296 ≡ 2 ^ k) refl refl refl refl refl order (omega (arith, h))
+module _ (was new : Store) (old now : LedgerView) (ms : List Move) (joined : IsJoinedWith CanSettle (view_of was old)) (made : MakesMoves was ms new) (follows : FollowsAll new old now ms) where
+  all_went : Went (units_after ms) old now
+  all_went = let told = follows was old (units_after ms) (behind_all was new old ms joined made) in all_told was new old now ms told.0 told.1
 
--- the move was made, and all blocks are there
-pub all_relocated : (was new : Store) (old now : LedgerView) (m : Move) (i : ℕ) → HasMoved was new old m → Shifted m.from m.to i old now → i ≡ 2 ^ m.order
-    → Moved (view_of was old) (view_of new now)
-all_relocated was new old now m i made so all =
-    let done : Shifted m.from m.to (2 ^ m.order) old now = subst (λ n. Shifted m.from m.to n old now) all so in
-    record {
-      joined = moved_joined was new old now m made.joined made.moves made.frames done made.store made.units made.free;
-      state = moved_state was new old now m made.joined made.moves made.frames done;
-      free = made.free;
-      scratch = made.scratch;
-      frames = made.frames;
-      whole = made.whole;
-    }
+  pub settled_moved : IsKept was new → AreSettled new.blocks → Moved (view_of was old) (view_of new now)
+  settled_moved kept settled =
+      let by = units_after ms in
+      let carried = made_carries was new ms made in
+      record {
+        joined = went_joined was new old now by joined carried kept.frames all_went settled kept.store kept.units kept.free;
+        state = went_state was new old now by joined carried kept.frames all_went;
+        free = kept.free;
+        scratch = kept.scratch;
+        frames = kept.frames;
+        whole = kept.whole;
+      }
+
+  pub settled_few : Ascend 0 4 ms → MovesFew old now
+  settled_few ascend = record { moves = ms; ascend = ascend; stay = overlay_stays ms old now all_went }
+
+-- The same after an overlay of one page ended, for all others; and where nothing moved.
+pub few_beside : (old mid now : LedgerView) (s p : ℕ) (x : PageView) → page_in old s p ≡ Some x → mid ≡ with_overlay old s p None → MovesFew mid now → MovesFewBeside s p old now
+few_beside old mid now s p x there is few = record {
+  moves = few.moves;
+  ascend = few.ascend;
+  stay = λ q r e d over out. few.stay q r e (ap (λ (t : LedgerView). overlay_at t q r) is ∙ overlay_beside old s p None x there q r d ∙ over) out;
+}
+
+pub few_none : (s p : ℕ) (v : LedgerView) → MovesFewBeside s p v v
+few_none s p v = record { moves = []; ascend = omega arith; stay = λ q r e d over out. over }
+
+-- and where the frame of the page is another one then
+pub few_framed : (old mid now : LedgerView) (s p : ℕ) → ((q r : ℕ) → (q ≡ s → r ≡ p → ⊥) → overlay_at now q r ≡ overlay_at mid q r) → MovesFewBeside s p old mid → MovesFewBeside s p old now
+few_framed old mid now s p same few = record { moves = few.moves; ascend = few.ascend; stay = λ q r e d over out. same q r d ∙ few.stay q r e d over out }

@@ -1,4 +1,4 @@
-use Rattle.std.proofs.Common.{◌≡◌, ℕ, ◌+◌, ◌^◌, ◌<◌, ◌≤◌, false, List, length, refl, sym, ap, ◌∙◌, arith}
+use Rattle.std.proofs.Common.{◌≡◌, ℕ, ◌+◌, ◌*◌, ◌%◌, ◌^◌, ◌<◌, ◌≤◌, false, List, length, refl, sym, ap, ◌∙◌, arith}
 use Rattle.unit_map.specs.Laws.{by_order}
 use Rattle.overlay_bits.specs.Lines.{AreLines, has_line, with_line}
 use Rattle.overlay_bits.specs.Laws.{are_with, count_with}
@@ -49,3 +49,7 @@ can_grow order bits line low are in_page absent full =
 pub next_place : (order n : ℕ) → order < 4 → n ≤ capacity_of order → n < capacity_of (order + 1)
 next_place order n low fits =
     by_order (λ k. k < 4 → n ≤ capacity_of k → n < capacity_of (k + 1)) (λ h f. omega (arith, f)) (λ h f. omega (arith, f)) (λ h f. omega (arith, f)) (λ h f. omega (arith, f)) (λ h f. absurd (omega (arith, h))) order (omega (arith, low)) low fits
+
+-- how many units a block below a frame has
+pub shifted_count : (order : ℕ) → order < 4 → 1 * 2 ^ order % 4294967296 ≡ 2 ^ order
+shifted_count order h = by_order (λ k. 1 * 2 ^ k % 4294967296 ≡ 2 ^ k) refl refl refl refl refl order (omega (arith, h))

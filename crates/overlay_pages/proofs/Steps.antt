@@ -3,7 +3,7 @@ use Rattle.std.proofs.lemmas.Option.{none-some, same_Some}
 use Rattle.std.proofs.Common.{◌≡◌, ℕ, ◌+◌, ◌*◌, ◌<◌, ◌≤◌, ◌⊎◌, Bool, true, false, cond, nat_eq, List, Option, Some, None, slice_index_or, slice_set, refl, option_and_then, option_map, sym, ap, subst, ◌∙◌, arith, inl, inr}
 use Rattle.sizes.specs.declared.TheConstants.{FRAME_UNITS, LAST_SPACE, PAGE_END}
 use Rattle.unit_map.specs.declared.block.Block.{Block}
-use Rattle.unit_map.specs.Pieces.{IsPiece, free_units, taken_at, units_in}
+use Rattle.unit_map.specs.Pieces.{AreSettled, IsPiece, Piece, free_units, taken_at, units_in}
 use Rattle.overlay_bits.specs.Lines.{has_line}
 use Rattle.overlay_address.specs.Names.{overlay_page}
 use Rattle.overlay_address.specs.Laws.{same_page, same_space}
@@ -24,7 +24,7 @@ use Rattle.space_ledger.specs.View.{LedgerView, PageView, ledger_of, lines_of, o
 use Rattle.overlay_pages.specs.LineLaws.{lines_same, set_line}
 use Rattle.overlay_pages.specs.Lines.{page_lines}
 use Rattle.overlay_pages.specs.State.{PageState}
-use Rattle.overlay_pages.specs.View.{IsHeld, IsJoined, IsOwned, MemoryView, line_seen, page_state, place_in_page, segment_of, state_of, view_of}
+use Rattle.overlay_pages.specs.View.{IsHeld, IsJoined, IsJoinedWith, IsOwned, MemoryView, line_seen, page_state, place_in_page, segment_of, state_of, view_of}
 use Rattle.overlay_pages.specs.ViewLaws.{state_awaiting, state_frames, state_holds, state_mark, state_page, state_zero}
 
 -- A line of a page: it stands in the segment of the overlay that has it, or in the frame.
@@ -141,12 +141,13 @@ pub segment_still : (store : Store) (block : Block) → KeepsSegment store store
 segment_still store block = record { there = refl; places = λ line has. refl; lines = λ line has. refl }
 
 -- One page is another one now, and all that the others need stays.
-pub record Step (old new : MemoryView) (s p : ℕ) (x : Option PageView) : Type 0 where
+pub record Step (P : List Piece → Type 0) (old new : MemoryView) (s p : ℕ) (x : Option PageView) : Type 0 where
   pub there : holds_space old.table s ≡ true
   pub number : s ≤ LAST_SPACE
   pub low : p < PAGE_END
   pub table_is : new.table ≡ set_page old.table s p x
   pub store : IsStore new.store
+  pub blocks : P new.store.blocks
   pub whole : units_in new.store.blocks ≡ units_in old.store.blocks
   pub segments : (q r : ℕ) (y : PageView) (e : Entry) → (q ≡ s → r ≡ p → ⊥) → page_in old.table q r ≡ Some y → y.overlay ≡ Some e → KeepsSegment old.store new.store e.block
   pub frames : (q r : ℕ) (y : PageView) → (q ≡ s → r ≡ p → ⊥) → page_in old.table q r ≡ Some y → KeepsFrame old.store new.store y.entry.frame
@@ -167,7 +168,7 @@ state_keeps old new keeps = record {
 }
 
 -- So the view is that of a memory still.
-module _ (old new : MemoryView) (s p : ℕ) (x : Option PageView) (is : IsJoined old) (step : Step old new s p x) where
+module _ {P : List Piece → Type 0} (old new : MemoryView) (s p : ℕ) (x : Option PageView) (is : IsJoined old) (step : Step P old new s p x) where
   step_keeps : KeepsSpaces old.table new.table
   step_keeps = subst (KeepsSpaces old.table) (sym step.table_is) (keeps_page_set old.table s p x step.there)
 
@@ -203,9 +204,10 @@ module _ (old new : MemoryView) (s p : ℕ) (x : Option PageView) (is : IsJoined
       at (inl h) = kept h.1 (is.owned unit segment h.0)
       at (inr h) = subst (λ (v : LedgerView). IsOwned v unit segment) (sym step.table_is) h
 
-  pub stepped : IsJoined new
+  pub stepped : IsJoinedWith P new
   stepped = record {
     store = step.store;
+    blocks = step.blocks;
     frames = omega (arith, is.frames, step.whole, step_keeps.frames);
     count = step.count;
     numbers = λ q there. is.numbers q (sym (step_keeps.there q) ∙ there);
@@ -246,7 +248,7 @@ module _ (v : MemoryView) (new : Store) (s p : ℕ) (x : PageView) (is : IsJoine
   segment_same : (unit : ℕ) → segment_at new unit ≡ segment_at v.store unit
   segment_same unit = ap (λ l. slice_index_or l unit None) so.same
 
-  rewrites_step : Step v (view_of new v.table) s p (Some x)
+  rewrites_step : Step AreSettled v (view_of new v.table) s p (Some x)
   rewrites_step =
       let was = is.held s p x there in
       let table = sym (set_some v.table s p x ∙ page_again v.table s p x there) in
@@ -256,6 +258,7 @@ module _ (v : MemoryView) (new : Store) (s p : ℕ) (x : PageView) (is : IsJoine
         low = was.low;
         table_is = table;
         store = so.store;
+        blocks = subst AreSettled (sym so.blocks) is.blocks;
         whole = ap units_in so.blocks;
         segments = so.segments;
         frames = so.frames;

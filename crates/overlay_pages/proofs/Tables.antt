@@ -117,6 +117,7 @@ pub same_joined : (st : store.Store) (a b : LedgerView) → IsJoined (view_of st
     → ((q : ℕ) → holds_space b q ≡ true → q ≤ LAST_SPACE) → units (ledger_of b) ≡ units (ledger_of a) → IsJoined (view_of st b)
 same_joined st a b is frames zero pages numbers same = record {
   store = is.store;
+  blocks = is.blocks;
   frames = ap (λ n. FRAME_UNITS * n) frames ∙ is.frames;
   count = ap (λ n. free_units st.blocks + n) same ∙ is.count;
   numbers = numbers;

@@ -9,11 +9,15 @@ use Rattle.ledger.specs.Events.{Store, ledger_after}
 use Rattle.ledger.specs.Ledger.{Holding, holding_at}
 use Rattle.ledger.specs.Units.{units}
 use Rattle.unit_map.specs.Pieces.{AreSettled}
+use Rattle.store_compaction.specs.declared.moves.Move.{Move}
+use Rattle.store_compaction.specs.Next.{Ascend}
+use Rattle.overlay_mapping_table.specs.declared.entry.Entry.{Entry}
 use Rattle.segment_store.specs.Store.{with_line_at}
-use Rattle.segment_store.specs.Changes.{KeepsFrames, WholeSegmentsStay}
+use Rattle.segment_store.specs.Changes.{IsOutside, KeepsFrames, WholeSegmentsStay}
 use Rattle.space_maps.specs.Spaces.{page_in, space_in}
 pub use Rattle.space_maps.specs.Spaces.{AreMapped}
 use Rattle.space_ledger.specs.Space.{IsLeast}
+use Rattle.space_ledger.specs.View.{LedgerView, overlay_at}
 use Rattle.overlay_pages.specs.State.{PageState, State, books}
 use Rattle.overlay_pages.specs.Changes.{units_of, with_shared}
 use Rattle.overlay_pages.specs.View.{MemoryView}
@@ -83,3 +87,11 @@ pub record RisesBy (state : State) (space page : ℕ) (lines : List ℕ) (rise :
 -- another line at a place of the region
 abbrev pub with_line_at_place : MemoryView → ℕ → List ℕ → MemoryView
 with_line_at_place view at bytes = record { store = with_line_at view.store at bytes; table = view.table }
+
+-- Blocks moved whose orders ascend strictly and are below 4, so four at most. The overlay of each page but one that lay outside them
+-- keeps its block.
+pub record MovesFewBeside (space page : ℕ) (old new : LedgerView) : Type 0 where
+  pub moves : List Move
+  pub ascend : Ascend 0 4 moves
+  pub stay : (q r : ℕ) (e : Entry) → (q ≡ space → r ≡ page → ⊥) → overlay_at old q r ≡ Some e → IsOutside moves e.block.unit
+      → overlay_at new q r ≡ Some e

@@ -1,17 +1,21 @@
-use Rattle.std.specs.Prelude.{◌≡◌, ℕ, cond, nat_eq, List, Option, Some, None, IsSome, slice_set}
-use Rattle.unit_map.specs.Pieces.{free_units, units_in}
-use Rattle.unit_map.specs.Changes.{CanMove}
+use Rattle.std.specs.Prelude.{◌≡◌, ℕ, ◌+◌, ◌^◌, ◌<◌, ◌≤◌, ◌⊎◌, cond, nat_eq, List, Option, Some, None, IsSome, option_map, slice_set}
+use Rattle.unit_map.specs.Pieces.{CanSettle, free_units}
+use Rattle.unit_map.specs.declared.block.Block.{Block}
 use Rattle.store_compaction.specs.declared.moves.Move.{Move}
+use Rattle.store_compaction.specs.Next.{Ascend}
 use Rattle.overlay_address.specs.Names.{page_of, space_of}
 use Rattle.overlay_bits.specs.Lines.{has_line, with_line}
+use Rattle.overlay_mapping_table.specs.declared.entry.Entry.{Entry}
 use Rattle.segment_store.specs.declared.segment.Segment.{Segment}
 use Rattle.segment_store.specs.Kept.{IsStore}
 use Rattle.segment_store.specs.Store.{Store, IsFrame, frame_line, scratch_line}
-use Rattle.segment_store.specs.Changes.{KeepsFrames, KeepsOtherFrames, KeepsScratch, KeepsSegments, MakesMove, WholeSegmentsStay}
-use Rattle.space_ledger.specs.View.{LedgerView, overlay_at, with_block}
+use Rattle.segment_store.specs.Changes.{AreCarried, IsOutside, IsTarget, KeepsFrames, KeepsOtherFrames, KeepsScratch, KeepsSegments, WholeSegmentsStay}
+use Rattle.space_maps.specs.Laws.{KeepsSpaces}
+use Rattle.space_maps.specs.Spaces.{page_in}
+use Rattle.space_ledger.specs.View.{LedgerView, PageView, overlay_at, with_block}
 use Rattle.overlay_pages.specs.Lines.{page_lines}
 use Rattle.overlay_pages.specs.State.{PageState}
-use Rattle.overlay_pages.specs.View.{IsJoined, MemoryView, state_of, view_of}
+use Rattle.overlay_pages.specs.View.{IsJoined, IsJoinedWith, MemoryView, state_of, view_of}
 
 -- What the steps of calls do, of which each leaves a view that is joined.
 
@@ -34,25 +38,60 @@ pub record Moved (old new : MemoryView) : Type 0 where
   pub frames : KeepsFrames old.store new.store
   pub whole : WholeSegmentsStay old.store new.store
 
--- a move was made in the store, and the tables are still those from before it
-pub record HasMoved (old new : Store) (table : LedgerView) (m : Move) : Type 0 where
-  pub joined : IsJoined (view_of old table)
-  pub can : CanMove old.blocks m.from m.to m.order
-  pub moves : MakesMove old new m
-  pub whole : WholeSegmentsStay old new
-  pub frames : KeepsFrames old new
-  pub scratch : KeepsScratch old new
-  pub free : free_units new.blocks ≡ free_units old.blocks
-  pub units : units_in new.blocks ≡ units_in old.blocks
-  pub store : IsStore new
+-- Where blocks are whose segments went to the units that a function tells.
+abbrev pub went : (ℕ → ℕ) → Block → Block
+went by block = record { unit = by block.unit; order = block.order }
 
-pub record IsAhead (new : Store) (table : LedgerView) (m : Move) : Type 0 where
+unfoldable pub went_overlay : (ℕ → ℕ) → Entry → Entry
+went_overlay by overlay = record { bits = overlay.bits; block = went by overlay.block }
+
+unfoldable pub went_page : (ℕ → ℕ) → PageView → PageView
+went_page by x = record { entry = x.entry; overlay = option_map (went_overlay by) x.overlay }
+
+-- segments went so in the store, and the tables have each page as it was before, or with the block that it has now
+pub record IsBehind (was new : Store) (old now : LedgerView) (by : ℕ → ℕ) : Type 0 where
+  pub joined : IsJoinedWith CanSettle (view_of was old)
+  pub carried : AreCarried was new by
+  pub keeps : KeepsSpaces old now
+  pub pages : (q r : ℕ) → (page_in now q r ≡ page_in old q r) ⊎ (page_in now q r ≡ option_map (went_page by) (page_in old q r))
+
+pub record IsAhead (new : Store) (table : LedgerView) : Type 0 where
   pub was : Store
-  pub moved : HasMoved was new table m
+  pub old : LedgerView
+  pub by : ℕ → ℕ
+  pub behind : IsBehind was new old table by
 
--- and the tables came after it
+-- a page whose segment went to a unit has the block there
+abbrev pub FollowsAt : (ℕ → ℕ) → LedgerView → LedgerView → ℕ → Type 0
+FollowsAt by old now unit =
+    (q r : ℕ) (x : PageView) (e : Entry) → page_in old q r ≡ Some x → x.overlay ≡ Some e → by e.block.unit ≡ unit
+    → page_in now q r ≡ Some (went_page by x)
+
+-- the tables came after it at units from one to below another one
+pub record Tells (was new : Store) (old table later : LedgerView) (by : ℕ → ℕ) (from to : ℕ) : Type 0 where
+  pub behind : IsBehind was new old later by
+  pub kept : (unit : ℕ) → FollowsAt by old table unit → FollowsAt by old later unit
+  pub told : (unit : ℕ) → from ≤ unit → unit < to → FollowsAt by old later unit
+
 abbrev pub Follows : Store → LedgerView → LedgerView → Move → Type 0
-Follows new table later m = (was : Store) → HasMoved was new table m → Moved (view_of was table) (view_of new later)
+Follows new table later m =
+    (was : Store) (old : LedgerView) (by : ℕ → ℕ) → IsBehind was new old table by → Tells was new old table later by m.to (m.to + 2 ^ m.order)
+
+-- at those to which moves went
+abbrev pub FollowsAll : Store → LedgerView → LedgerView → List Move → Type 0
+FollowsAll new table later ms =
+    (was : Store) (old : LedgerView) (by : ℕ → ℕ) → IsBehind was new old table by
+    → IsBehind was new old later by × ((unit : ℕ) → IsTarget ms unit → FollowsAt by old later unit)
+
+-- blocks moved whose orders ascend strictly and are below 4: an overlay outside them keeps its block
+pub record MovesFew (old new : LedgerView) : Type 0 where
+  pub moves : List Move
+  pub ascend : Ascend 0 4 moves
+  pub stay : (q r : ℕ) (e : Entry) → overlay_at old q r ≡ Some e → IsOutside moves e.block.unit → overlay_at new q r ≡ Some e
+
+-- every other page keeps its overlay
+abbrev pub KeepsOtherOverlays : ℕ → ℕ → LedgerView → LedgerView → Type 0
+KeepsOtherOverlays space page old new = (q r : ℕ) → (q ≡ space → r ≡ page → ⊥) → overlay_at new q r ≡ overlay_at old q r
 
 -- a page whose overlay gets one more line
 abbrev pub joins : ℕ → List ℕ → PageState → PageState

@@ -2,7 +2,7 @@ use Rattle.std.specs.Prelude.{◌≡◌, ℕ, ◌+◌, ◌*◌, ◌^◌, ◌<◌
 use Rattle.std.specs.Option.{option_map_or}
 use Rattle.sizes.specs.declared.TheConstants.{FRAME_UNITS, LAST_SPACE, PAGE_END, PAGE_LINES}
 use Rattle.line_store.specs.Lines.{line_of}
-use Rattle.unit_map.specs.Pieces.{free_units, units_in}
+use Rattle.unit_map.specs.Pieces.{AreSettled, Piece, free_units, units_in}
 use Rattle.overlay_bits.specs.Lines.{has_line}
 use Rattle.overlay_address.specs.Names.{overlay_page}
 use Rattle.overlay_mapping_table.specs.declared.entry.Entry.{Entry}
@@ -95,9 +95,10 @@ pub record IsHeld (store : Store) (space page : ℕ) (x : PageView) : Type 0 whe
   pub size : (overlay : Entry) → x.overlay ≡ Some overlay → 2 ^ overlay.block.order ≡ class (length overlay.bits)
 
 -- Spaces have numbers in range, each page is held, each segment is a page's, the zero frame is zero, and what isn't free are the
--- units of the ledger.
-pub record IsJoined (view : MemoryView) : Type 0 where
+-- units of the ledger. Beside that something is true of the blocks:
+pub record IsJoinedWith (P : List Piece → Type 0) (view : MemoryView) : Type 0 where
   pub store : IsStore view.store
+  pub blocks : P view.store.blocks
   pub frames : FRAME_UNITS * view.table.frames ≡ units_in view.store.blocks
   pub count : free_units view.store.blocks + units (ledger_of view.table) ≡ units_in view.store.blocks
   pub numbers : (space : ℕ) → holds_space view.table space ≡ true → space ≤ LAST_SPACE
@@ -105,3 +106,7 @@ pub record IsJoined (view : MemoryView) : Type 0 where
   pub zeros : (line : ℕ) → line < PAGE_LINES → frame_line view.store view.table.zero_frame line ≡ zero_line
   pub held : (space page : ℕ) (x : PageView) → page_in view.table space page ≡ Some x → IsHeld view.store space page x
   pub owned : (unit : ℕ) (segment : Segment) → segment_at view.store unit ≡ Some segment → IsOwned view.table unit segment
+
+-- and no two free blocks below a frame are equal in size
+abbrev pub IsJoined : MemoryView → Type 0
+IsJoined = IsJoinedWith AreSettled

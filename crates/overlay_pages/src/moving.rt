@@ -1,14 +1,17 @@
 //! Moves of segments, which the tables follow.
 
-ghost use Rattle.std.specs.Prelude.{◌≡◌, ◌^◌, ◌<◌, ◌≤◌, true, false};
-ghost use Rattle.unit_map.specs.Pieces.{AreSettled, free_blocks, free_units};
-ghost use Rattle.unit_map.specs.Changes.{HasRoom};
+ghost use Rattle.std.specs.Prelude.{◌≡◌, ◌+◌, ◌^◌, ◌<◌, ◌≤◌};
+ghost use Rattle.unit_map.specs.Pieces.{CanSettle};
+ghost use Rattle.segment_store.specs.Changes.{AreLow};
 ghost use Rattle.segment_store.specs.Store.{segment_at};
-ghost use Rattle.overlay_pages.specs.View.{IsJoined, view_of};
-ghost use Rattle.overlay_pages.specs.Steps.{Follows, IsAhead, IsOfPage, Moved, relocated};
+ghost use Rattle.overlay_pages.specs.View.{IsJoinedWith, view_of};
+ghost use Rattle.overlay_pages.specs.Steps.{Follows, FollowsAll, IsAhead, IsOfPage, Moved, MovesFew, relocated};
 
-use segment_store::SegmentStore;
+use arrayvec::ArrayVec;
+use segment_store::{SegmentStore, Steps};
 use space_ledger::SpaceLedger;
+use std::marker::Brand;
+use std::sync::ledger::{Blank, Ledger};
 use store_compaction::Move;
 use unit_map::Block;
 
@@ -26,9 +29,12 @@ fn relocate_at(store: &SegmentStore, ledger: &mut SpaceLedger, unit: u32)
     }
 }
 
-/// The tables follow a move that was made in the store: the page of each segment that went along has its block there.
+/// The tables follow a move that was made in the store, maybe before others: the page of each segment that is where the move went
+/// has its block there.
 fn follow(store: &SegmentStore, ledger: &mut SpaceLedger, m: Move)
-    requires { IsAhead store.now ledger.old m }
+    requires low { m.order < 4 }
+    requires inside { m.to + 2 ^ m.order ≤ 2 ^ 20 }
+    requires ahead { IsAhead store.now ledger.old }
     ensures { Follows store.now ledger.old ledger.new m }
 {
     'following: for i in 0..1u32 << m.order {
@@ -36,57 +42,37 @@ fn follow(store: &SegmentStore, ledger: &mut SpaceLedger, m: Move)
     }
 }
 
-/// Makes a move on the way to room for a block of an order, which the tables follow, and answers whether there was one to make.
-fn make_step(store: &mut SegmentStore, ledger: &mut SpaceLedger, order: u8) -> bool
-    requires order { order ≤ 4 }
-    requires enough { 2 ^ order ≤ free_units store.old.blocks }
-    requires joined { IsJoined (view_of store.old ledger.old) }
-    ensures moved { Moved (view_of store.old ledger.old) (view_of store.new ledger.new) }
-    ensures room { result ≡ false → HasRoom store.new.blocks order }
-    ensures fewer { result ≡ true → free_blocks store.new.blocks < free_blocks store.old.blocks }
+/// The tables follow moves, in any order.
+fn follow_all(store: &SegmentStore, ledger: &mut SpaceLedger, moves: &mut ArrayVec<Move, 4>)
+    requires low { AreLow moves.old.items }
+    requires ahead { IsAhead store.now ledger.old }
+    ensures { FollowsAll store.now ledger.old ledger.new moves.old.items }
 {
-    match store.room_step(order) {
-        Some(m) => {
-            follow(store, ledger, m);
-            true
-        }
-        None => false,
+    'following: while let Some(m) = moves.pop() {
+        follow(store, ledger, m);
     }
 }
 
-/// Makes moves until there is room for a block of an order. As many units have to be free.
-pub(crate) fn make_room(store: &mut SegmentStore, ledger: &mut SpaceLedger, order: u8)
-    requires order { order ≤ 4 }
-    requires enough { 2 ^ order ≤ free_units store.old.blocks }
-    requires joined { IsJoined (view_of store.old ledger.old) }
+/// Settles the store after a segment ended in it, and counts the lines that are copied. The tables follow the moves.
+fn settle_counted<L: Ledger>(store: &mut SegmentStore, ledger: &mut SpaceLedger, blank: Blank)
+    requires name { blank.name ≡ L.name }
+    requires parts { blank.parts ≡ L.parts }
+    requires one { blank.parts ≡ 1 }
+    requires joined { IsJoinedWith CanSettle (view_of store.old ledger.old) }
     ensures moved { Moved (view_of store.old ledger.old) (view_of store.new ledger.new) }
-    ensures room { HasRoom store.new.blocks order }
+    ensures few { MovesFew ledger.old ledger.new }
 {
-    'making: while make_step(store, ledger, order) {}
+    let mut moves = ArrayVec::new();
+    let mut steps = Steps::<L>::new(blank);
+    store.settle(&mut moves, &mut steps);
+    follow_all(store, ledger, &mut moves);
 }
 
-/// Makes a move on the way to a store in which no two free blocks below a frame are equal in size, which the tables follow, and
-/// answers whether there was one to make.
-fn compact_step(store: &mut SegmentStore, ledger: &mut SpaceLedger) -> bool
-    requires { IsJoined (view_of store.old ledger.old) }
+/// Settles the store after a segment ended in it. The tables follow the moves.
+pub(crate) fn settle(store: &mut SegmentStore, ledger: &mut SpaceLedger)
+    requires joined { IsJoinedWith CanSettle (view_of store.old ledger.old) }
     ensures moved { Moved (view_of store.old ledger.old) (view_of store.new ledger.new) }
-    ensures settled { result ≡ false → AreSettled store.new.blocks }
-    ensures fewer { result ≡ true → free_blocks store.new.blocks < free_blocks store.old.blocks }
+    ensures few { MovesFew ledger.old ledger.new }
 {
-    match store.compact_step() {
-        Some(m) => {
-            follow(store, ledger, m);
-            true
-        }
-        None => false,
-    }
-}
-
-/// Makes moves until no two free blocks below a frame are equal in size. These are at most as many as there are free blocks.
-pub(crate) fn compact(store: &mut SegmentStore, ledger: &mut SpaceLedger)
-    requires { IsJoined (view_of store.old ledger.old) }
-    ensures moved { Moved (view_of store.old ledger.old) (view_of store.new ledger.new) }
-    ensures settled { AreSettled store.new.blocks }
-{
-    'compacting: while compact_step(store, ledger) {}
+    settle_counted::<Brand>(store, ledger, Blank::new(1));
 }

@@ -9,12 +9,13 @@ ghost use Rattle.segment_store.specs.Pointers.{capacity_of};
 ghost use Rattle.segment_store.specs.Store.{line_in, scratch_line};
 ghost use Rattle.segment_store.specs.Changes.{KeepsFrames, KeepsScratch};
 ghost use Rattle.space_maps.specs.Spaces.{page_in, turned_page};
-ghost use Rattle.space_ledger.specs.View.{lines_of, overlay_at, with_overlay};
+ghost use Rattle.space_ledger.specs.View.{lines_of, overlay_at};
 ghost use Rattle.overlay_pages.specs.Changes.{Fits, brought, discarded, limit_of, units_of};
+ghost use Rattle.overlay_pages.specs.Calls.{MovesFewBeside};
 ghost use Rattle.overlay_pages.specs.View.{IsJoined, state_of, view_of};
 ghost use Rattle.overlay_pages.specs.Steps.{joins, laid};
 
-use crate::moving::make_room;
+use crate::moving::settle;
 use overlay_address::OverlayPage;
 use overlay_bits::Bits;
 use overlay_mapping_table::Entry;
@@ -36,7 +37,7 @@ fn capacity(order: u8) -> u32
     }
 }
 
-/// The overlay of a page that is there ends, if it has one.
+/// The overlay of a page that is there ends, if it has one. Its segment ends, and the store is settled.
 pub(crate) fn drop_overlay(
     store: &mut SegmentStore,
     ledger: &mut SpaceLedger,
@@ -48,17 +49,21 @@ pub(crate) fn drop_overlay(
     ensures joined { IsJoined (view_of store.new ledger.new) }
     ensures state { state_of (view_of store.new ledger.new)
         ≡ turned_page discarded (state_of (view_of store.old ledger.old)) space page }
-    ensures table { ledger.new ≡ with_overlay ledger.old space page None }
+    ensures there { IsSome (page_in ledger.new space page) }
+    ensures bare { overlay_at ledger.new space page ≡ None }
     ensures scratch { KeepsScratch store.old store.new }
     ensures frames { KeepsFrames store.old store.new }
+    ensures few { MovesFewBeside space page ledger.old ledger.new }
 {
     if let Some(entry) = ledger.overlay(space, page) {
         store.end_segment(entry.block);
         ledger.set_overlay(space, page, None);
+        settle(store, ledger);
     }
 }
 
-/// The overlay of a page ends, with its lines in scratch, and there is room for a block of an order, for which the units are there then.
+/// The overlay of a page ends, with its lines in scratch, and there is room for a block of an order, for which the units are there then:
+/// the store is settled.
 pub(crate) fn take_up(
     store: &mut SegmentStore,
     ledger: &mut SpaceLedger,
@@ -82,10 +87,10 @@ pub(crate) fn take_up(
     ensures lines { (line : ℕ) → line < PAGE_LINES → has_line overlay.now.bits line ≡ true
         → scratch_line store.new line ≡ line_in store.old overlay.now.block line }
     ensures room { HasRoom store.new.blocks order }
+    ensures few { MovesFewBeside space page ledger.old ledger.new }
 {
     store.lift(overlay.block, overlay.bits);
     drop_overlay(store, ledger, space, page);
-    make_room(store, ledger, order);
 }
 
 /// A page that is there and has no overlay gets one, for which there is room: with these lines of scratch, and with one line more.
@@ -192,7 +197,6 @@ fn begin_with(
     ensures state { state_of (view_of store.new ledger.new)
         ≡ turned_page (joins line bytes.now) (state_of (view_of store.old ledger.old)) space page }
 {
-    make_room(store, ledger, 0);
     begin_overlay(store, ledger, space, page, 0, Bits::empty(), line, bytes);
 }
 

@@ -19,10 +19,9 @@ ghost use Rattle.overlay_pages.specs.State.{base_of, books, memory_of};
 ghost use Rattle.overlay_pages.specs.Changes.{AreAbsent, Fits, HasCopyRoom, HasShareRoom, IsPlaced, brought, committed, copied, discarded, is_writable, limit_of, units_of, whole_page, with_brought, with_shared, with_written, with_zeros};
 ghost use Rattle.overlay_pages.specs.View.{HasOwnPlace, IsJoined, place_at, state_of};
 ghost use Rattle.overlay_pages.specs.Spots.{FindsLine, FindsPage, IsFound};
-ghost use Rattle.overlay_pages.specs.Calls.{AreMapped, AreShared, AreZeros, AwaitBare, AwaitsLike, HasSettledBlocks, IsEmptyState, IsNextPage, KeepsWholeBlocks, NoneAwaitsBelow, RisesBy, entries_in, with_line_at_place};
+ghost use Rattle.overlay_pages.specs.Calls.{AreMapped, AreShared, AreZeros, AwaitBare, AwaitsLike, HasSettledBlocks, IsEmptyState, IsNextPage, KeepsWholeBlocks, MovesFewBeside, NoneAwaitsBelow, RisesBy, entries_in, with_line_at_place};
 ghost use Rattle.overlay_pages.specs.contracts.pages.OverlayPages.{the_row};
 
-use crate::moving::{compact, make_room};
 use crate::overlays::{bring_lines, drop_overlay};
 use crate::placing::{place_bytes, take_out, take_run_out};
 use crate::settling::{commit, copy_commit};
@@ -124,7 +123,7 @@ impl OverlayPages {
     }
 
     /// Places a page that isn't there in a new frame, with these bytes. The units that it needs are there. After want of memory
-    /// everything is as before, but that segments may have moved. Costs a copy of the page, and moves.
+    /// everything is as before. Costs a copy of the page.
     pub fn add_page(
         &mut self,
         space: u16,
@@ -146,7 +145,6 @@ impl OverlayPages {
     {
         match self.ledger.map_zero(space, page, 1, perms) {
             Ok(()) => {
-                make_room(&mut self.store, &mut self.ledger, 4);
                 place_bytes(&mut self.store, &mut self.ledger, space, page, bytes);
                 Ok(())
             }
@@ -445,7 +443,7 @@ impl OverlayPages {
 
     /// Makes lines of a page that is there such as can be written where they stand: unless its frame is written, those that
     /// aren't in its overlay are brought there from the frame. The units that this needs are there. Takes no memory. Costs a
-    /// copy of each line that is brought, and moves.
+    /// copy of each line that is brought and, each time that the overlay grows, of its lines and of 60 lines at most that move.
     pub fn bring(&mut self, space: u16, page: u64, lines: Bits)
         requires there { IsSome (page_in (state_of self.old) space page) }
         requires fits { Fits (with_brought (state_of self.old) space page lines) }
@@ -457,25 +455,28 @@ impl OverlayPages {
         bring_lines(&mut self.store, &mut self.ledger, space, page, lines);
     }
 
-    /// The own lines of a page that is there and alone go into its frame. Takes no memory. Costs a copy of each own line.
+    /// The own lines of a page that is there and alone go into its frame. Takes no memory. Costs a copy of each own line, and
+    /// moves that copy 60 lines at most.
     pub fn commit_page(&mut self, space: u16, page: u64)
         requires there { IsSome (page_in (state_of self.old) space page) }
         requires alone { is_alone (books (state_of self.old)) space page ≡ true }
-        ensures { state_of self.new ≡ turned_page committed (state_of self.old) space page }
+        ensures state { state_of self.new ≡ turned_page committed (state_of self.old) space page }
+        ensures few { MovesFewBeside space page self.old.table self.new.table }
     {
         commit(&mut self.store, &mut self.ledger, space, page);
     }
 
     /// A page that is overlaid, and isn't alone, gets a new frame with its lines, and has no own lines any more. The units after
-    /// it are there. Takes no memory. Costs a copy of the page, and moves.
+    /// it are there. Takes no memory. Costs a copy of the page, and moves that copy 60 lines at most.
     pub fn copy_commit_page(&mut self, space: u16, page: u64)
         requires overlaid { IfSome (page_in (state_of self.old) space page) (λ x. 0 < length x.own) }
         requires there { IsSome (page_in (state_of self.old) space page) }
         requires shared { is_alone (books (state_of self.old)) space page ≡ false }
         requires settled { (space_in (state_of self.old) space).awaiting ≡ map.empty }
         requires room { HasCopyRoom (state_of self.old) space page }
-        ensures { IfSome (page_in (state_of self.old) space page)
+        ensures placed { IfSome (page_in (state_of self.old) space page)
             (λ x. IsPlaced (state_of self.old) (state_of self.new) space page (λ frame. copied frame x)) }
+        ensures few { MovesFewBeside space page self.old.table self.new.table }
     {
         let overlay = self.ledger.overlay(space, page);
         match overlay {
@@ -484,23 +485,27 @@ impl OverlayPages {
         }
     }
 
-    /// The overlay of a page that is there is given up. Takes no memory.
+    /// The overlay of a page that is there is given up. Takes no memory. Costs moves that copy 60 lines at most.
     pub fn discard_page(&mut self, space: u16, page: u64)
         requires there { IsSome (page_in (state_of self.old) space page) }
-        ensures { state_of self.new ≡ turned_page discarded (state_of self.old) space page }
+        ensures state { state_of self.new ≡ turned_page discarded (state_of self.old) space page }
+        ensures few { MovesFewBeside space page self.old.table self.new.table }
     {
-        drop_overlay(&mut self.store, &mut self.ledger, space, page);
+        let store = &mut self.store;
+        drop_overlay(store, &mut self.ledger, space, page);
     }
 
-    /// Makes moves until no two free blocks below a frame are equal in size. No page changes, and so no units do; frames and
-    /// segments of 16 units stay where they are. Takes no memory. Costs a copy of each line of what moves, in at most as
-    /// many moves as there are free blocks.
+    /// No two free blocks below a frame are equal in size: that holds between calls, so there is nothing to move. No page changes, and
+    /// so no units do; frames and segments of 16 units stay where they are. Takes no memory. Costs a few steps.
     pub fn compact(&mut self)
         ensures state { state_of self.new ≡ state_of self.old }
         ensures settled { HasSettledBlocks self.new }
         ensures whole { KeepsWholeBlocks self.old self.new }
     {
-        compact(&mut self.store, &mut self.ledger);
+        match self.store.compact_step() {
+            Some(_) => unreachable!(),
+            None => {}
+        }
     }
 
     /// A table with the entries of a space's pages, of which none awaits, or want of memory. Costs a step for each page.
@@ -526,7 +531,7 @@ impl OverlayPages {
     }
 
     /// Shares a page with a space in which it awaits as the least, with the frame that it has: it gets its lines, and an overlay
-    /// of its own. The units after it are there. Takes no memory. Costs a copy of each own line, and moves.
+    /// of its own. The units after it are there. Takes no memory. Costs a copy of each own line.
     pub fn share_page(&mut self, from: u16, to: u16, page: u64)
         requires there { IsSome (page_in (state_of self.old) from page) }
         requires space { holds_space (state_of self.old) to ≡ true }

@@ -10,6 +10,7 @@ ghost use Rattle.space_ledger.specs.Calls.{IsBareRun};
 ghost use Rattle.space_ledger.specs.View.{ledger_of, overlay_at};
 ghost use Rattle.overlay_pages.specs.Lines.{lines_of_bytes, same_lines};
 ghost use Rattle.overlay_pages.specs.Changes.{IsPlaced, moved_to};
+ghost use Rattle.overlay_pages.specs.Steps.{KeepsOtherOverlays};
 ghost use Rattle.overlay_pages.specs.View.{IsJoined, state_of, view_of};
 
 use crate::frames::{fill_bytes, fill_lines};
@@ -101,6 +102,7 @@ pub(crate) fn place_lines(
     ensures placed { IfSome (page_in (state_of (view_of store.old ledger.old)) space page)
         (λ x. IsPlaced (state_of (view_of store.old ledger.old)) (state_of (view_of store.new ledger.new))
         space page (moved_to x (same_lines lines.now))) }
+    ensures others { KeepsOtherOverlays space page ledger.old ledger.new }
 {
     let frame = store.take_frame();
     fill_lines(store, frame, lines);

@@ -7,6 +7,7 @@ ghost use Rattle.ledger.specs.Ledger.{is_alone};
 ghost use Rattle.space_maps.specs.Spaces.{page_in, space_in, turned_page};
 ghost use Rattle.space_ledger.specs.View.{ledger_of, overlay_at};
 ghost use Rattle.overlay_pages.specs.Changes.{HasCopyRoom, IsPlaced, committed, copied};
+ghost use Rattle.overlay_pages.specs.Calls.{MovesFewBeside};
 ghost use Rattle.overlay_pages.specs.View.{IsJoined, state_of, view_of};
 
 use crate::frames::commit_lines;
@@ -35,6 +36,7 @@ pub(crate) fn commit(store: &mut SegmentStore, ledger: &mut SpaceLedger, space: 
     ensures joined { IsJoined (view_of store.new ledger.new) }
     ensures state { state_of (view_of store.new ledger.new)
         ≡ turned_page committed (state_of (view_of store.old ledger.old)) space page }
+    ensures few { MovesFewBeside space page ledger.old ledger.new }
 {
     if let Some(overlay) = ledger.overlay(space, page) {
         let frame = frame_of(ledger, space, page);
@@ -61,6 +63,7 @@ pub(crate) fn copy_commit(
     ensures placed { IfSome (page_in (state_of (view_of store.old ledger.old)) space page)
         (λ x. IsPlaced (state_of (view_of store.old ledger.old)) (state_of (view_of store.new ledger.new))
         space page (λ frame. copied frame x)) }
+    ensures few { MovesFewBeside space page ledger.old ledger.new }
 {
     let frame = frame_of(ledger, space, page);
     take_up(store, ledger, space, page, &overlay, 4);

@@ -9,7 +9,6 @@ ghost use Rattle.overlay_pages.specs.Calls.{AreShared, AwaitBare, NoneAwaitsBelo
 ghost use Rattle.overlay_pages.specs.Changes.{HasShareRoom, with_shared};
 ghost use Rattle.overlay_pages.specs.View.{IsJoined, state_of, view_of};
 
-use crate::moving::make_room;
 use overlay_address::OverlayPage;
 use overlay_mapping_table::Entry;
 use segment_store::SegmentStore;
@@ -51,7 +50,6 @@ fn share_overlaid(
         ≡ with_shared (state_of (view_of store.old ledger.old)) from to page }
 {
     store.lift(overlay.block, overlay.bits);
-    make_room(store, ledger, overlay.block.order);
     let block = store.begin_segment(OverlayPage::of(to, page), overlay.block.order);
     store.lay(block, overlay.bits);
     ledger.share_page(from, to, page, Some(block));

@@ -9,3 +9,4 @@ pub mod Laying
 pub mod Scratch
 pub mod Carrying
 pub mod Known
+pub mod Settling

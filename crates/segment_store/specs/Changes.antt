@@ -1,12 +1,13 @@
-use Rattle.std.specs.Prelude.{◌≡◌, ℕ, ◌+◌, ◌-◌, ◌*◌, ◌^◌, ◌<◌, ◌≤◌, ◌⊎◌, true, List, [], Option, Some, None, length, replicate, slice_index_or, slice_set}
+use Rattle.std.specs.Prelude.{◌≡◌, ℕ, ◌+◌, ◌-◌, ◌*◌, ◌^◌, ◌<◌, ◌≤◌, ◌⊎◌, ◌&&◌, true, cond, nat_le, nat_lt, List, [], ◌∷◌, Option, Some, None, length, replicate, slice_index_or, slice_set}
 use Rattle.sizes.specs.declared.TheConstants.{FRAME_UNITS, PAGE_LINES, UNIT_LINES}
 use Rattle.line_store.specs.Lines.{line_of, with_copied, zero_lines}
-use Rattle.unit_map.specs.Pieces.{free_blocks, free_frames}
-use Rattle.unit_map.specs.Changes.{Gives, Relocates}
+use Rattle.unit_map.specs.Pieces.{free_blocks, free_frames, free_units, units_in}
+use Rattle.unit_map.specs.Changes.{CanMove, Gives, Relocates}
 use Rattle.unit_map.specs.declared.block.Block.{Block}
 use Rattle.store_compaction.specs.declared.moves.Move.{Move}
 use Rattle.overlay_bits.specs.Lines.{has_line, rank_of}
 use Rattle.segment_store.specs.Pointers.{slot_of, IsLowestFree}
+use Rattle.segment_store.specs.Kept.{IsStore}
 use Rattle.segment_store.specs.Places.{BeginsLines}
 use Rattle.segment_store.specs.Store.{Store, segment_at, lines_at, place_of, line_in, frame_line, scratch_place, scratch_line, with_lines_at, IsFrame}
 use Rattle.segment_store.specs.declared.segment.Segment.{Segment}
@@ -142,3 +143,61 @@ pub record MakesMove (old new : Store) (m : Move) : Type 0 where
 -- a segment of 16 units never moves
 abbrev pub WholeSegmentsStay : Store → Store → Type 0
 WholeSegmentsStay old new = (unit : ℕ) (segment : Segment) → segment.order ≡ 4 → segment_at old unit ≡ Some segment → KeepsSegment old new (block_of unit segment)
+
+-- what no move changes: frames, scratch, segments of 16 units, and how many units are free
+pub record IsKept (old new : Store) : Type 0 where
+  pub whole : WholeSegmentsStay old new
+  pub frames : KeepsFrames old new
+  pub scratch : KeepsScratch old new
+  pub free : free_units new.blocks ≡ free_units old.blocks
+  pub units : units_in new.blocks ≡ units_in old.blocks
+  pub store : IsStore new
+
+-- a move was made that could be made
+pub record IsMade (old new : Store) (m : Move) : Type 0 where
+  pub can : CanMove old.blocks m.from m.to m.order
+  pub moves : MakesMove old new m
+  pub kept : IsKept old new
+
+-- these moves were made, one after the other
+abbrev pub MakesMoves : Store → List Move → Store → Type 0
+MakesMoves old [] new = old ≡ new
+MakesMoves old (m ∷ ms) new = (mid : Store) × (IsMade old mid m × MakesMoves mid ms new)
+
+-- a unit lies outside each block that moved
+abbrev pub IsOutside : List Move → ℕ → Type 0
+IsOutside [] unit = Unit {0}
+IsOutside (m ∷ ms) unit = ((unit < m.from) ⊎ (m.from + 2 ^ m.order ≤ unit)) × IsOutside ms unit
+
+-- every segment outside stays
+abbrev pub SegmentsOutsideStay : Store → Store → List Move → Type 0
+SegmentsOutsideStay old new ms =
+    (unit : ℕ) (segment : Segment) → segment_at old unit ≡ Some segment → IsOutside ms unit → KeepsSegment old new (block_of unit segment)
+
+-- the lines that moves copy
+abbrev pub moved_lines : List Move → ℕ
+moved_lines [] = 0
+moved_lines (m ∷ ms) = UNIT_LINES * 2 ^ m.order + moved_lines ms
+
+-- Where a segment goes by moves: by one, and by those that were made one after the other.
+unfoldable pub unit_after : Move → ℕ → ℕ
+unit_after m unit = cond (nat_le m.from unit && nat_lt unit (m.from + 2 ^ m.order)) (m.to + (unit - m.from)) unit
+
+abbrev pub units_after : List Move → ℕ → ℕ
+units_after [] unit = unit
+units_after (m ∷ ms) unit = units_after ms (unit_after m unit)
+
+-- a unit lies in a block to which one of them went
+abbrev pub IsTarget : List Move → ℕ → Type 0
+IsTarget [] unit = ⊥
+IsTarget (m ∷ ms) unit = ((m.to ≤ unit) × (unit < m.to + 2 ^ m.order)) ⊎ IsTarget ms unit
+
+-- each segment goes along to the unit that a function tells, and there are no others
+pub record AreCarried (old new : Store) (by : ℕ → ℕ) : Type 0 where
+  pub along : (unit : ℕ) (segment : Segment) → segment_at old unit ≡ Some segment → GoesAlong old new unit (by unit) segment
+  pub back : (unit : ℕ) (segment : Segment) → segment_at new unit ≡ Some segment → (was : ℕ) × (segment_at old was ≡ Some segment) × (by was ≡ unit)
+
+-- blocks below a frame that lie in a memory
+abbrev pub AreLow : List Move → Type 0
+AreLow [] = Unit {0}
+AreLow (m ∷ ms) = (m.order < 4) × (m.to + 2 ^ m.order ≤ 2 ^ 20) × AreLow ms

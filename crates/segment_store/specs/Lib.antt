@@ -6,3 +6,4 @@ pub mod Places
 pub mod Kept
 pub mod Changes
 pub mod Laws
+pub mod Runs

@@ -10,6 +10,7 @@
 //! - `segment`: what the store keeps of a segment beside its lines
 //! - `slots`: the segments by unit
 //! - `places`: where lines stand in the region, and how they get there
+//! - `steps`: a count of the lines that moves copy
 //! - `store`: all of it, with the unit map
 #![tactic(auto)]
 
@@ -17,7 +18,9 @@ mod places;
 mod pointers;
 mod segment;
 mod slots;
+mod steps;
 mod store;
 
 pub use segment::Segment;
+pub use steps::Steps;
 pub use store::SegmentStore;

@@ -1,28 +1,33 @@
-ghost use Rattle.std.specs.Prelude.{◌≡◌, ◌+◌, ◌-◌, ◌*◌, ◌^◌, ◌<◌, ◌≤◌, IfOk, IfSome, IsTrue, None, Some, [], false, true, length, option_map};
+ghost use Rattle.std.specs.Prelude.{◌≡◌, ◌↔◌, ◌+◌, ◌-◌, ◌*◌, ◌^◌, ◌<◌, ◌≤◌, ◌++◌, IfOk, IfSome, IsTrue, None, Some, [], false, true, length, option_map};
+ghost use Rattle.std.specs.Option.{option_to_list};
 ghost use Rattle.std.specs.Borrow.{Lends, sem, Array, u8 as byte};
+ghost use Rattle.arrayvec.specs.ArrayVec.{array_vec_len};
 ghost use Rattle.sizes.specs.declared.TheConstants.{FRAME_UNITS, LINE_BYTES, MOST_FRAMES, PAGE_LINES};
-ghost use Rattle.unit_map.specs.Pieces.{AreSettled, free_units, units_in};
+ghost use Rattle.unit_map.specs.Pieces.{AreSettled, AreSettledBut, CanSettle, free_units, units_in};
 ghost use Rattle.unit_map.specs.Changes.{CanMove, HasRoom, IsFull, Gives, OnlyGives, OnlyTakes, TakesBlock};
 ghost use Rattle.unit_map.specs.Blocks.{LosesUnits, TakesAsked};
 ghost use Rattle.store_compaction.specs.Runs.{HasPair};
-ghost use Rattle.store_compaction.specs.Next.{IsPairMove, IsRoomMove, RunsShort};
+ghost use Rattle.store_compaction.specs.Next.{Ascend, IsPairMove, IsRoomMove, RunsShort};
 ghost use Rattle.overlay_bits.specs.Lines.{has_line};
 ghost use Rattle.overlay_bits.specs.Composed.{composed};
 ghost use Rattle.segment_store.specs.contracts.store.SegmentStore.{the_row};
 ghost use Rattle.segment_store.specs.Pointers.{capacity_of};
 ghost use Rattle.segment_store.specs.Store.{segment_at, lines_at, place_of, line_in, frame_place, frame_line, frame_page, scratch_page, with_frame_line, with_segment_line, lines_with, IsFrame, IsSegment};
 ghost use Rattle.segment_store.specs.Kept.{IsStore};
-ghost use Rattle.segment_store.specs.Changes.{IsEmptyStore, Begins, Ends, HasLinesNow, Inserts, Lays, Lifts, KeepsSegments, KeepsOtherSegments, KeepsFrames, KeepsOtherFrames, KeepsScratch, MakesMove, WholeSegmentsStay};
+ghost use Rattle.segment_store.specs.Changes.{IsEmptyStore, Begins, Ends, HasLinesNow, Inserts, IsKept, Lays, Lifts, KeepsSegments, KeepsOtherSegments, KeepsFrames, KeepsOtherFrames, KeepsScratch, MakesMove, MakesMoves, SegmentsOutsideStay, WholeSegmentsStay, moved_lines};
 
 use crate::places;
 use crate::segment::Segment;
 use crate::slots::{self, Slots};
+use crate::steps::Steps;
+use arrayvec::ArrayVec;
 use line_store::Region;
 use overlay_address::OverlayPage;
 use overlay_bits::{Bits, compose};
 use std::alloc::{AllocError, Global};
 use std::marker::Model;
-use store_compaction::{Move, apply, next_move, room_for};
+use std::sync::ledger::Ledger;
+use store_compaction::{Move, apply, move_of, next_move, room_for};
 use unit_map::{Block, UnitMap};
 
 /// Frames, and segments of 1, 2, 4, 8 or 16 units with the lines of overlays, in the units of one region.
@@ -52,6 +57,7 @@ impl SegmentStore {
         requires some { 0 < frames }
         requires few { frames ≤ MOST_FRAMES }
         ensures empty { IfOk result (IsEmptyStore frames) }
+        ensures settled { IfOk result (λ store. AreSettled store.blocks) }
         ensures store { IfOk result IsStore }
     {
         let region = Region::new(alloc, frames + 1)?;
@@ -73,6 +79,8 @@ impl SegmentStore {
         requires { order ≤ 4 }
         ensures room { IsTrue result → HasRoom self.now.blocks order }
         ensures full { result ≡ false → IsFull self.now.blocks order }
+        ensures settled { AreSettled self.now.blocks
+            → IsTrue result ↔ (2 ^ order ≤ free_units self.now.blocks) }
         ensures store { IsStore self.now }
     {
         self.map.has_room(order)
@@ -148,6 +156,7 @@ impl SegmentStore {
         ensures scratch { KeepsScratch self.old self.new }
         ensures free { free_units self.new.blocks + FRAME_UNITS ≡ free_units self.old.blocks }
         ensures units { units_in self.new.blocks ≡ units_in self.old.blocks }
+        ensures settled { AreSettled self.old.blocks → AreSettled self.new.blocks }
         ensures store { IsStore self.new }
     {
         match self.map.take(4) {
@@ -169,6 +178,7 @@ impl SegmentStore {
         ensures scratch { KeepsScratch self.old self.new }
         ensures free { free_units self.new.blocks ≡ free_units self.old.blocks + FRAME_UNITS }
         ensures units { units_in self.new.blocks ≡ units_in self.old.blocks }
+        ensures settled { AreSettled self.old.blocks → AreSettled self.new.blocks }
         ensures store { IsStore self.new }
     {
         self.map.give(Block {
@@ -235,6 +245,7 @@ impl SegmentStore {
         ensures scratch { KeepsScratch self.old self.new }
         ensures free { LosesUnits self.old.blocks self.new.blocks result }
         ensures units { units_in self.new.blocks ≡ units_in self.old.blocks }
+        ensures settled { AreSettled self.old.blocks → AreSettled self.new.blocks }
         ensures store { IsStore self.new }
     {
         match self.map.take(order) {
@@ -262,6 +273,7 @@ impl SegmentStore {
         ensures scratch { KeepsScratch self.old self.new }
         ensures free { free_units self.new.blocks ≡ free_units self.old.blocks + 2 ^ block.order }
         ensures units { units_in self.new.blocks ≡ units_in self.old.blocks }
+        ensures settles { AreSettled self.old.blocks → CanSettle self.new.blocks }
         ensures store { IsStore self.new }
     {
         slots::put(&mut self.slots, block.unit, None);
@@ -381,6 +393,46 @@ impl SegmentStore {
         }
     }
 
+    /// Makes moves until no two free blocks below a frame are equal in size, at most one of each order below 4, and lists them in
+    /// their order. At most one free block aside, no two may be equal in size before. Each line that is copied is a step. Costs a few
+    /// steps for each order, and what the moves copy: at most 60 lines.
+    pub fn settle<L: Ledger>(&mut self, moves: &mut ArrayVec<Move, 4>, steps: &mut Steps<L>)
+        requires { CanSettle self.old.blocks }
+        ensures settled { AreSettled self.new.blocks }
+        ensures moves { MakesMoves self.old moves.new.items self.new }
+        ensures ascend { Ascend 0 4 moves.new.items }
+        ensures steps { steps.new ≡ steps.old + moved_lines moves.new.items }
+        ensures few { moved_lines moves.new.items ≤ 60 }
+        ensures outside { SegmentsOutsideStay self.old self.new moves.new.items }
+        ensures kept { IsKept self.old self.new }
+    {
+        let _ = &self.region;
+        moves.clear();
+        'settling: for order in 0..4u8 {
+            let made = self.settle_order(order, steps);
+            list(moves, made);
+        }
+    }
+
+    // Makes the move of an order below 4 if two free blocks have it, below which no two are equal in size.
+    fn settle_order<L: Ledger>(&mut self, order: u8, steps: &mut Steps<L>) -> Option<Move>
+        requires low { order < 4 }
+        requires but { AreSettledBut self.old.blocks order }
+        ensures but { AreSettledBut self.new.blocks (order + 1) }
+        ensures made { MakesMoves self.old (option_to_list result) self.new }
+        ensures order { IfSome result (λ m. m.order ≡ order) }
+        ensures steps { steps.new ≡ steps.old + moved_lines (option_to_list result) }
+    {
+        match move_of(&self.map, order) {
+            None => None,
+            Some(m) => {
+                self.make(m);
+                steps.add(4u32 << order);
+                Some(m)
+            }
+        }
+    }
+
     // Makes a move that can be made: the lines, the owners and the sets of lines go with the blocks.
     fn make(&mut self, m: Move)
         requires { CanMove self.old.blocks m.from m.to m.order }
@@ -396,5 +448,16 @@ impl SegmentStore {
         self.region
             .copy_lines(4 * m.from, 4 * m.to, 4u32 << m.order);
         slots::carry(&mut self.slots, m.from, m.to, 1u32 << m.order);
+    }
+}
+
+// Adds a move to a list, if one was made.
+fn list(moves: &mut ArrayVec<Move, 4>, made: Option<Move>)
+    requires { array_vec_len moves.old < 4 }
+    ensures { moves.new.items ≡ moves.old.items ++ option_to_list made }
+{
+    match made {
+        Some(m) => moves.push(m),
+        None => {}
     }
 }

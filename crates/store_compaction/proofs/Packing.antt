@@ -1,22 +1,14 @@
-use Rattle.std.proofs.Common.{◌≡◌, ℕ, zero, suc, ◌+◌, ◌*◌, ◌^◌, ◌<◌, ◌≤◌, Bool, true, false, cond, ◌⊎◌, inl, inr, List, [], ◌∷◌, ap, ◌∙◌, refl, arith}
+use Rattle.std.proofs.Common.{◌≡◌, ℕ, zero, suc, ◌+◌, ◌^◌, ◌<◌, ◌≤◌, Bool, true, false, cond, ◌⊎◌, inl, inr, List, [], ◌∷◌, ap, ◌∙◌, refl, arith}
 use Rattle.std.proofs.lemmas.Nat.{pow_pos}
 use Rattle.std.proofs.lemmas.Bool.{cases_lt}
-use Rattle.unit_map.specs.Pieces.{Piece, ArePieces, is_free_of, count, free_blocks, free_units}
+use Rattle.unit_map.specs.Pieces.{Piece, ArePieces, count, free_blocks, free_units}
 use Rattle.unit_map.specs.Changes.{IsFull}
-use Rattle.unit_map.specs.Laws.{free_counts, free_of, free_moves, fewer_moves}
+use Rattle.unit_map.specs.Laws.{free_moves, fewer_moves}
+use Rattle.unit_map.specs.Settled.{too_few}
 use Rattle.store_compaction.specs.Runs.{HasPair, Moves}
 use Rattle.store_compaction.specs.Runs.Moves.{Still, Then}
 
 -- Where enough units are free and no free block is large enough, two smaller free blocks are equal in size.
-
--- where no free block is of an order or above, there is none of it
-none_full : (order k : ℕ) (ps : List Piece) → order ≤ k → IsFull ps order → count k ps ≡ 0
-none_full order k [] le full = refl
-none_full order k (p ∷ ps) le full = at (is_free_of k p) (λ e. full p (inl refl) (free_of k p e).0 (omega (arith, (free_of k p e).1, le))) (none_full order k ps le (λ q h. full q (inr h)))
-  where
-    at : (b : Bool) → (b ≡ true → ⊥) → count k ps ≡ 0 → cond b 1 0 + count k ps ≡ 0
-    at true h rest = absurd (h refl)
-    at false h rest = omega (arith, rest)
 
 -- there are two below an order, or fewer than two of each
 two_below : (order : ℕ) (ps : List Piece) → HasPair ps order ⊎ ((k : ℕ) → k < order → count k ps < 2)
@@ -30,19 +22,6 @@ two_below (suc n) ps = elim (two_below n ps) [ inl h ↦ inl (record { size = h.
     at : ((k : ℕ) → k < n → count k ps < 2) → (count n ps < 2) ⊎ (2 ≤ count n ps) → HasPair ps (suc n) ⊎ ((k : ℕ) → k < suc n → count k ps < 2)
     at few (inl lt) = inr (λ k h. here k few lt (cases_lt k n) h)
     at few (inr le) = inl (record { size = n; below = omega arith; two = le })
-
--- one free block of each order below k at most, and none above, are fewer units than one of order k
-pub too_few : (order : ℕ) (ps : List Piece) → order ≤ 4 → ArePieces ps → ((k : ℕ) → k < order → count k ps < 2) → IsFull ps order → 2 ^ order ≤ free_units ps → ⊥
-too_few order ps low are few full enough = at order low (λ k lt. few k lt) (λ k le. none_full order k ps le full) enough (free_counts ps are.aligned)
-  where
-    at : (j : ℕ) → j ≤ 4 → ((k : ℕ) → k < j → count k ps < 2) → ((k : ℕ) → j ≤ k → count k ps ≡ 0) → 2 ^ j ≤ free_units ps
-        → free_units ps ≡ count 0 ps + 2 * count 1 ps + 4 * count 2 ps + 8 * count 3 ps + 16 * count 4 ps → ⊥
-    at zero h few none enough sum = omega (arith, enough, sum, none 0 (omega arith), none 1 (omega arith), none 2 (omega arith), none 3 (omega arith), none 4 (omega arith))
-    at (suc zero) h few none enough sum = omega (arith, enough, sum, few 0 (omega arith), none 1 (omega arith), none 2 (omega arith), none 3 (omega arith), none 4 (omega arith))
-    at (suc (suc zero)) h few none enough sum = omega (arith, enough, sum, few 0 (omega arith), few 1 (omega arith), none 2 (omega arith), none 3 (omega arith), none 4 (omega arith))
-    at (suc (suc (suc zero))) h few none enough sum = omega (arith, enough, sum, few 0 (omega arith), few 1 (omega arith), few 2 (omega arith), none 3 (omega arith), none 4 (omega arith))
-    at (suc (suc (suc (suc zero)))) h few none enough sum = omega (arith, enough, sum, few 0 (omega arith), few 1 (omega arith), few 2 (omega arith), few 3 (omega arith), none 4 (omega arith))
-    at (suc (suc (suc (suc (suc j))))) h few none enough sum = absurd (omega (arith, h))
 
 pub packs : (order : ℕ) (ps : List Piece) → order ≤ 4 → ArePieces ps → 2 ^ order ≤ free_units ps → IsFull ps order → HasPair ps order
 packs order ps low are enough full = elim (two_below order ps) [ inl h ↦ h | inr few ↦ absurd (too_few order ps low are few full enough) ]

@@ -1,4 +1,4 @@
-use Rattle.std.specs.Prelude.{◌≡◌, ℕ, ◌<◌, ◌≤◌, List}
+use Rattle.std.specs.Prelude.{◌≡◌, ℕ, ◌+◌, ◌<◌, ◌≤◌, List, [], ◌∷◌}
 use Rattle.unit_map.specs.Pieces.{Piece, count, free_blocks}
 use Rattle.unit_map.specs.Changes.{IsFull, CanMove}
 use Rattle.store_compaction.specs.Runs.{HasPair, Moves}
@@ -23,3 +23,8 @@ abbrev pub RunsShort : List Piece → ℕ → Type 0
 RunsShort ps order =
     (n : ℕ) (later : List Piece) → Moves n ps later
     → (n < free_blocks ps) × (IsFull later order → HasPair later order)
+
+-- Moves whose orders ascend strictly, from one on and below another one.
+abbrev pub Ascend : ℕ → ℕ → List Move → Type 0
+Ascend from below [] = from ≤ below
+Ascend from below (m ∷ ms) = (from ≤ m.order) × Ascend (m.order + 1) below ms

@@ -8,7 +8,7 @@
 
 mod moves;
 
-pub use moves::{Move, apply, next_move, room_for};
+pub use moves::{Move, apply, move_of, next_move, room_for};
 
 #[cfg(test)]
 mod tests;

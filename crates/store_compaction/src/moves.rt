@@ -7,7 +7,7 @@ ghost use Rattle.store_compaction.specs.Next.{IsPairMove, IsPairMoveOf, IsRoomMo
 use unit_map::UnitMap;
 
 /// The blocks inside the block of 2^order units at `from` go to the free block of that order, 0 to 3, at `to`.
-#[derive(Clone, Copy, Debug, PartialEq, Eq)]
+#[derive(Clone, Copy, Debug, Default, PartialEq, Eq)]
 pub struct Move {
     pub from: u32,
     pub to: u32,
@@ -82,8 +82,10 @@ pub fn apply(map: &mut UnitMap, m: Move)
     map.relocate(m.from, m.to, m.order);
 }
 
-// The move of an order that empties the other half of the upper of two free blocks into the lower one.
-fn move_of(map: &UnitMap, order: u8) -> Option<Move>
+/// The move of an order from 0 to 3 that empties the other half of the upper of two free blocks into the lower one. None exactly
+/// where fewer than two free blocks have the order.
+/// Costs a few steps on each of at most five levels: one of bytes and four of marks.
+pub fn move_of(map: &UnitMap, order: u8) -> Option<Move>
     requires { order < 4 }
     ensures none { result ≡ None → count order map.now < 2 }
     ensures some { IfSome result (IsPairMoveOf map.now order) }

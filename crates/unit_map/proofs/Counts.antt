@@ -1,6 +1,5 @@
 use Rattle.std.proofs.Common.{◌≡◌, ℕ, zero, suc, ◌+◌, ◌-◌, ◌^◌, ◌<◌, ◌≤◌, Bool, true, false, cond, Some, inl, inr, List, [], ◌∷◌, ◌++◌, length, get_or, ap, ◌∙◌, refl, arith}
 use Rattle.std.proofs.lemmas.Bool.{cases_lt}
-use Rattle.std.proofs.lemmas.Bool.Decides.{nat_tests}
 use Rattle.std.proofs.lemmas.Nat.{pow_pos}
 use Rattle.std.specs.Int.{bit_at}
 use Rattle.std.proofs.lemmas.Nat.Bits.{bit_at-pow_same}
@@ -13,7 +12,8 @@ use Rattle.unit_map.proofs.Codes.{code_some}
 use Rattle.unit_map.proofs.Numbers.{twice}
 use Rattle.unit_map.proofs.Reading.{cell_there, from_cells, here_in, in_three, in_two, one_piece, piece_here}
 use Rattle.unit_map.proofs.Tables.{bit_there, block_there, piece_byte, piece_there, there_fits}
-use Rattle.unit_map.specs.Laws.{free_append, free_merges, free_of, one_if}
+use Rattle.unit_map.specs.Laws.{free_append, free_merges}
+use Rattle.unit_map.specs.Settled.{count_append, count_none, count_some}
 
 -- How many units are free, and how many pieces there are of an order.
 
@@ -41,34 +41,6 @@ free_takes old new o from u g le =
 pub free_gives : (old new : List Piece) (u o : ℕ) → Gives old u o new → free_units new ≡ free_units old + 2 ^ o
 free_gives old new u o g =
     omega (arith, free_merges (g.front ++ free_at u o ∷ g.back) new g.merges, ap free_units g.was, free_append g.front (taken_at u o ∷ g.back), free_append g.front (free_at u o ∷ g.back))
-
--- Pieces of an order.
-
-count_append : (k : ℕ) (ps qs : List Piece) → count k (ps ++ qs) ≡ count k ps + count k qs
-count_append k [] qs = omega arith
-count_append k (p ∷ ps) qs = omega (arith, count_append k ps qs)
-
--- where there is none
-count_none : (k : ℕ) (ps : List Piece) → ((p : Piece) → IsPiece ps p → p.free ≡ true → p.order ≡ k → ⊥) → count k ps ≡ 0
-count_none k [] h = refl
-count_none k (p ∷ ps) h = at (is_free_of k p) refl (count_none k ps (λ q g. h q (inr g)))
-  where
-    at : (b : Bool) → is_free_of k p ≡ b → count k ps ≡ 0 → cond b 1 0 + count k ps ≡ 0
-    at false e rest = omega (arith, rest)
-    at true e rest = absurd (h p (inl refl) (free_of k p e).0 (free_of k p e).1)
-
--- where there is one
-count_some : (k : ℕ) (ps : List Piece) (x : ℕ) → IsPiece ps (free_at x k) → 1 ≤ count k ps
-unfolding one_if
-count_some k [] x h = absurd h
-count_some k (p ∷ ps) x (inl i) = at i
-  where
-    is : (q : Piece) → p ≡ q → q.free ≡ true → q.order ≡ k → is_free_of k p ≡ true
-    is q e free order = let a = ap (λ (r : Piece). r.free) e ∙ free in let b = ap (λ (r : Piece). r.order) e ∙ order in grind (arith, nat_tests)
-
-    at : p ≡ free_at x k → 1 ≤ count k (p ∷ ps)
-    at e = omega (arith, ap one_if (is (free_at x k) e refl refl))
-count_some k (p ∷ ps) x (inr h) = omega (arith, count_some k ps x h)
 
 -- The free blocks of an order, by the bits of the table.
 

@@ -174,7 +174,7 @@ free_moves old new from to order r =
     )
 
 -- the other half is none of the pieces that go
-stays : (u v order : ℕ) (front part back : List Piece) → Fills u part → units_in part ≡ 2 ^ order → AreBeside u v order → IsPiece (front ++ (part ++ back)) (free_at v order) → IsPiece (front ++ free_at u order ∷ back) (free_at v order)
+pub stays : (u v order : ℕ) (front part back : List Piece) → Fills u part → units_in part ≡ 2 ^ order → AreBeside u v order → IsPiece (front ++ (part ++ back)) (free_at v order) → IsPiece (front ++ free_at u order ∷ back) (free_at v order)
 stays u v order front part back fills total beside h = elim (in_either front (part ++ back) (free_at v order) h) [
   | inl a ↦ in_lower front (free_at u order ∷ back) _ a
   | inr b ↦ elim (in_either part back (free_at v order) b) [
@@ -185,7 +185,7 @@ stays u v order front part back fills total beside h = elim (in_either front (pa
   ]
 ]
 
-fewer_beside : (old new : List Piece) (u v order : ℕ) → order < 4 → Merges old new → AreMerged new → AreBeside u v order → IsPiece old (free_at u order) → IsPiece old (free_at v order) → free_blocks new < free_blocks old
+pub fewer_beside : (old new : List Piece) (u v order : ℕ) → order < 4 → Merges old new → AreMerged new → AreBeside u v order → IsPiece old (free_at u order) → IsPiece old (free_at v order) → free_blocks new < free_blocks old
 fewer_beside old new u v order low m merged (inl b) at other = fewer_merges old new (free_at u order) (free_at v order) m merged at other (record { lower = refl; upper = refl; order = low; same = refl; unit = b.0; beside = b.1 })
 fewer_beside old new u v order low m merged (inr b) at other = fewer_merges old new (free_at v order) (free_at u order) m merged other at (record { lower = refl; upper = refl; order = low; same = refl; unit = b.0; beside = b.1 })
 

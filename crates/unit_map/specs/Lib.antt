@@ -3,6 +3,7 @@
 pub mod Pieces
 pub mod Changes
 pub mod Laws
+pub mod Settled
 pub mod Blocks
 pub mod Cells
 pub mod Moves

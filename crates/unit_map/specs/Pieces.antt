@@ -51,6 +51,17 @@ free_by_order ps = count 0 ps + 2 * count 1 ps + 4 * count 2 ps + 8 * count 3 ps
 abbrev pub AreSettled : List Piece → Type 0
 AreSettled ps = (order : ℕ) → order < 4 → count order ps < 2
 
+-- the same, at most one free piece aside, of an order from one on: of that order there may be two
+pub record AreSettledBut (ps : List Piece) (from : ℕ) : Type 0 where
+  pub aside : ℕ
+  pub high : from ≤ aside
+  pub two : aside < 4 → count aside ps < 3
+  pub others : (order : ℕ) → order < 4 → (order ≡ aside → ⊥) → count order ps < 2
+
+-- of whatever order it is
+abbrev pub CanSettle : List Piece → Type 0
+CanSettle ps = AreSettledBut ps 0
+
 -- each piece starts where the one before ended, the first at `unit`
 abbrev pub Fills : ℕ → List Piece → Type 0
 Fills unit [] = Unit {0}

@@ -1,6 +1,6 @@
-ghost use Rattle.std.specs.Prelude.{◌≡◌, ◌+◌, ◌*◌, ◌^◌, ◌<◌, ◌≤◌, IfOk, IfSome, IsTrue, None, false, replicate};
+ghost use Rattle.std.specs.Prelude.{◌≡◌, ◌↔◌, ◌+◌, ◌*◌, ◌^◌, ◌<◌, ◌≤◌, IfOk, IfSome, IsTrue, None, false, replicate};
 ghost use Rattle.sizes.specs.declared.TheConstants.{MOST_FRAMES};
-ghost use Rattle.unit_map.specs.Pieces.{ArePieces, IsPiece, AreBlocksApart, free_blocks, free_by_order, free_frames, free_units, taken_at, units_in};
+ghost use Rattle.unit_map.specs.Pieces.{ArePieces, AreSettled, AreSettledBut, IsPiece, AreBlocksApart, free_blocks, free_by_order, free_frames, free_units, taken_at, units_in};
 ghost use Rattle.unit_map.specs.Changes.{HasRoom, IsFull, Gives, CanMove, Relocates, KeepsTaken, KeepsOthers, KeepsOutside, MovesInside, OnlyTakes, OnlyGives, OnlyMoves};
 ghost use Rattle.unit_map.specs.Cells.{IsTable, pieces_of};
 ghost use Rattle.unit_map.specs.Blocks.{AreTwoBlocks, IsTakenBlock, IsWithin, LosesUnits, OverlapsNone, TakesAsked};
@@ -65,6 +65,7 @@ impl UnitMap {
         ensures free { IfSome result (LosesUnits self.old self.new) }
         ensures within { IfSome result (IsWithin self.old) }
         ensures apart { IfSome result (OverlapsNone self.old) }
+        ensures settled { AreSettled self.old → AreSettled self.new }
     {
         let from = self.cells.least(order, FRAME_ORDER + 1)?;
         let unit = self.cells.nearest(from, End::Low)?;
@@ -83,6 +84,7 @@ impl UnitMap {
         ensures units { units_in self.new ≡ units_in self.old }
         ensures free { free_units self.new ≡ free_units self.old + 2 ^ block.order }
         ensures pieces { ArePieces self.new }
+        ensures settled { AreSettled self.old → AreSettledBut self.new block.order }
     {
         cells::clear(&mut self.cells, block);
         self.free += 1u32 << block.order;
@@ -102,6 +104,7 @@ impl UnitMap {
         requires { order ≤ 4 }
         ensures room { IsTrue result → HasRoom self.now order }
         ensures full { result ≡ false → IsFull self.now order }
+        ensures settled { AreSettled self.now → IsTrue result ↔ (2 ^ order ≤ free_units self.now) }
         ensures pieces { ArePieces self.now }
     {
         match self.cells.least(order, FRAME_ORDER + 1) {

@@ -1,11 +1,17 @@
-ghost use Rattle.std.specs.Prelude.{◌≡◌, ◌≤◌, Some};
+ghost use Rattle.std.specs.Prelude.{◌≡◌, ◌+◌, ◌≤◌, Some};
+ghost use Rattle.unit_map.specs.Pieces.{AreSettled};
+ghost use Rattle.segment_store.specs.Changes.{moved_lines};
 ghost use Rattle.segment_store.specs.Pointers.{capacity_of};
 ghost use Rattle.segment_store.specs.Store.{IsSegment, lines_at, segment_at};
 
+use arrayvec::ArrayVec;
 use overlay_address::OverlayPage;
-use segment_store::{Segment, SegmentStore};
+use segment_store::{Segment, SegmentStore, Steps};
+use std::marker::Brand;
 use std::process::Abort;
+use std::sync::ledger::{Blank, Ledger};
 use std::test::Fail;
+use store_compaction::Move;
 use unit_map::Block;
 
 // The most lines that a segment of an order has.
@@ -62,5 +68,73 @@ fn line_63_alone_has_the_pointers_of_the_format(rt: HostRuntime) -> Result<(), F
     expected[40] = 0x0C;
     assert_eq!(rt; *store.frame_line(0, 0), expected);
     assert_eq!(rt; *store.frame_line(0, 1), [5; 64]);
+    Ok(())
+}
+
+// Begins a segment of order 2 in a settled store.
+fn begin_quarter(rt: &impl Abort, store: &mut SegmentStore, unit: u32)
+    requires settled { AreSettled store.old.blocks }
+    ensures settled { AreSettled store.new.blocks }
+{
+    assert!(rt; store.has_room(2));
+    let block = store.begin_segment(OverlayPage::of(1, u64::from(unit)), 2);
+    assert_eq!(rt; block, Block { unit, order: 2 });
+}
+
+// Ends the segment at a unit of a settled store, which is settled again.
+fn end_quarter<L: Ledger>(
+    rt: &impl Abort,
+    store: &mut SegmentStore,
+    unit: u32,
+    moves: &mut ArrayVec<Move, 4>,
+    steps: &mut Steps<L>,
+)
+    requires settled { AreSettled store.old.blocks }
+    ensures settled { AreSettled store.new.blocks }
+    ensures steps { steps.new ≡ steps.old + moved_lines moves.new.items }
+{
+    match store.segment(unit) {
+        Some(segment) => {
+            let order = segment.order;
+            store.end_segment(Block { unit, order });
+            store.settle(moves, steps);
+        }
+        None => panic!(rt; "no segment at {unit}"),
+    }
+}
+
+// Counts the lines that are copied where the first and the third of four quarters of a frame end.
+fn settle_quarters<L: Ledger>(rt: &impl Abort, store: &mut SegmentStore, steps: &mut Steps<L>)
+    requires settled { AreSettled store.old.blocks }
+    ensures settled { AreSettled store.new.blocks }
+    ensures steps { steps.new ≡ steps.old + 16 }
+{
+    begin_quarter(rt, store, 0);
+    begin_quarter(rt, store, 4);
+    begin_quarter(rt, store, 8);
+    begin_quarter(rt, store, 12);
+    let mut moves = ArrayVec::new();
+    end_quarter(rt, store, 0, &mut moves, steps);
+    assert!(rt; moves.is_empty());
+    end_quarter(rt, store, 8, &mut moves, steps);
+    assert!(rt; moves.len() == 1);
+    assert!(rt; moves[0].order == 2);
+    assert!(rt; store.has_room(3));
+}
+
+fn count_quarters<L: Ledger>(rt: &impl Abort, store: &mut SegmentStore, blank: Blank)
+    requires name { blank.name ≡ L.name }
+    requires parts { blank.parts ≡ L.parts }
+    requires one { blank.parts ≡ 1 }
+    requires settled { AreSettled store.old.blocks }
+{
+    let mut steps = Steps::<L>::new(blank);
+    settle_quarters(rt, store, &mut steps);
+}
+
+#[test]
+fn two_quarters_become_a_half(rt: HostRuntime) -> Result<(), Fail> {
+    let mut store = SegmentStore::new(rt.alloc(), 1)?;
+    count_quarters::<Brand>(&rt, &mut store, Blank::new(1));
     Ok(())
 }

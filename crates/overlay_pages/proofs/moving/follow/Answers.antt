@@ -1,28 +1,27 @@
-use Rattle.std.proofs.Common.{arith}
-use Rattle.overlay_pages.proofs.Shifts.{after_relocate, all_relocated, before_relocate, shifted_count, shifted_none, target_inside}
+use Rattle.std.proofs.Common.{◌≡◌, ◌+◌, ◌^◌, subst, arith}
+use Rattle.overlay_pages.specs.Steps.{Tells}
+use Rattle.overlay_pages.proofs.Sizes.{shifted_count}
+use Rattle.overlay_pages.proofs.Shifts.{after_relocate, before_relocate, tells_more, tells_none}
 use Rattle.overlay_pages.proofs.moving.follow.Goals as goal
 
 pub following-init : goal.following-init
-following-init c = shifted_none c.args.m.from c.args.m.to c.args.ledger.now
+following-init c was old by behind = tells_none was c.args.store.now old c.args.ledger.now by c.args.m.to behind
 
 pub overflow_add-m : goal.overflow_add-m
-overflow_add-m c =
-    let made = c.requires.moved in
-    record { fits = omega (arith, target_inside c.requires.was c.args.store.now c.args.ledger.now c.args.m made, made.joined.store.pieces.few, c.following-test.true, shifted_count c.args.m.order made.can.low) }
+overflow_add-m c = record { fits = omega (arith, c.requires.inside, c.following-test.true, shifted_count c.args.m.order c.requires.low) }
 
 pub relocate_at-requires : goal.relocate_at-requires
 relocate_at-requires c =
-    let made = c.requires.moved in
-    before_relocate c.requires.was c.args.store.now c.args.ledger.now c.following.ledger c.args.m c.following.i made.joined made.moves c.following.invariant
-    (omega (arith, c.following-test.true, shifted_count c.args.m.order made.can.low))
+    let a = c.requires.ahead in
+    before_relocate a.was c.args.store.now a.old c.following.ledger a.by (c.args.m.to + c.following.i) (c.following.invariant a.was a.old a.by a.behind).behind
 
 pub following-preserved : goal.following-preserved
-following-preserved c =
-    let made = c.requires.moved in
-    after_relocate c.requires.was c.args.store.now c.args.ledger.now c.following.ledger c.relocate_at.new.ledger c.args.m c.following.i made.joined made.moves c.following.invariant
-    (omega (arith, c.following-test.true, shifted_count c.args.m.order made.can.low)) c.relocate_at.ensures
+following-preserved c was old by behind =
+    let so = c.following.invariant was old by behind in
+    tells_more was c.args.store.now old c.args.ledger.now c.following.ledger c.relocate_at.new.ledger by c.args.m.to c.following.i so
+    (after_relocate was c.args.store.now old c.following.ledger c.relocate_at.new.ledger by (c.args.m.to + c.following.i) so.behind c.relocate_at.ensures)
 
 pub returns : goal.returns
-returns c was made =
-    all_relocated was c.args.store.now c.args.ledger.now c.following.ledger c.args.m c.following.i made c.following.invariant
-    (omega (arith, c.following.auto.i-end, c.following-test.false, shifted_count c.args.m.order made.can.low))
+returns c was old by behind =
+    let all : c.following.i ≡ 2 ^ c.args.m.order = omega (arith, c.following.auto.i-end, c.following-test.false, shifted_count c.args.m.order c.requires.low) in
+    subst (λ n. Tells was c.args.store.now old c.args.ledger.now c.following.ledger by c.args.m.to (c.args.m.to + n)) all (c.following.invariant was old by behind)

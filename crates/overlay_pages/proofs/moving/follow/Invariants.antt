@@ -1,5 +1,9 @@
-use Rattle.overlay_pages.proofs.Shifts.{Shifted}
+use Rattle.std.proofs.Common.{ℕ, ◌+◌}
+use Rattle.segment_store.specs.Store.{Store}
+use Rattle.space_ledger.specs.View.{LedgerView}
+use Rattle.overlay_pages.specs.Steps.{IsBehind, Tells}
 use Rattle.overlay_pages.proofs.moving.follow.Given as goal
 
 abbrev pub invariant-following : goal.invariant-following
-invariant-following l = Shifted l.m.from l.m.to l.i l.fn.ledger l.ledger
+invariant-following l =
+    (was : Store) (old : LedgerView) (by : ℕ → ℕ) → IsBehind was l.fn.store old l.fn.ledger by → Tells was l.fn.store old l.fn.ledger l.ledger by l.m.to (l.m.to + l.i)

@@ -1,4 +1,5 @@
 use Rattle.std.proofs.Common.{[], Some, None, inr, refl, ap, subst, ◌∙◌, arith}
+use Rattle.unit_map.specs.Pieces.{AreSettled}
 use Rattle.overlay_bits.specs.Lines.{with_line}
 use Rattle.overlay_mapping_table.specs.declared.entry.Entry.{Entry}
 use Rattle.segment_store.specs.Laws.{filled_there}
@@ -45,6 +46,7 @@ steps c =
       scratch = b.scratch;
       loses = b.free;
       whole = b.units;
+      settled = b.settled;
       began_is = b.store;
       lays = l.lays;
       laid_lines = l.lines;
@@ -61,7 +63,7 @@ steps c =
 abbrev now : goal.After-set_overlay → Entry
 now c = record { bits = with_line c.args.bits c.args.line; block = c.begin_segment-block.result }
 
-so : (c : goal.After-set_overlay) → Overlays (view_of c.args.store.now c.args.ledger.now) (view_of c.insert.new.self c.set_overlay.new.self) c.args.space c.args.page (page c).x (Some (now c)) c.begin_segment-block.result.unit
+so : (c : goal.After-set_overlay) → Overlays AreSettled (view_of c.args.store.now c.args.ledger.now) (view_of c.insert.new.self c.set_overlay.new.self) c.args.space c.args.page (page c).x (Some (now c)) c.begin_segment-block.result.unit
 so c =
     begun (view_of c.args.store.now c.args.ledger.now) c.begin_segment-block.new.self c.lay.new.self c.insert.new.self c.set_overlay.new.self c.args.space c.args.page (page c).x c.begin_segment-block.result c.args.order c.args.bits c.args.line c.args.bytes.now
     c.requires.joined (page c).there (page c).is c.with-bits.ensures.before c.requires.line c.requires.absent c.requires.size (steps c)

@@ -1,36 +1,60 @@
-use Rattle.std.proofs.Common.{Some, None, sym, ◌∙◌}
-use Rattle.overlay_pages.specs.View.{view_of}
+use Rattle.std.proofs.Common.{◌≡◌, Some, None, sym, ◌∙◌}
+use Rattle.overlay_pages.specs.View.{state_of, view_of}
+use Rattle.unit_map.specs.Pieces.{CanSettle}
+use Rattle.space_maps.specs.Spaces.{turned_page}
 use Rattle.overlay_pages.specs.Changes.{discarded}
 use Rattle.overlay_pages.proofs.Overlaying.{Overlays, overlays_joined, overlays_state}
-use Rattle.overlay_pages.proofs.Joining.{Has, bare_state, bare_table, dropped, dropped_page, overlay_segment, page_with}
+use Rattle.overlay_pages.proofs.Joining.{Has, bare_state, dropped, dropped_page, frames_twice, overlay_segment, page_with}
+use Rattle.overlay_pages.proofs.Growing.{ended_bare, ended_there}
+use Rattle.overlay_pages.proofs.Shifts.{few_beside, few_none}
 use Rattle.overlay_pages.proofs.overlays.drop_overlay.Goals as goal
+use Rattle.overlay_pages.proofs.overlays.drop_overlay.Goals.{After-set_overlay}
 
 pub end_segment-requires : goal.end_segment-requires
 end_segment-requires c =
     overlay_segment (view_of c.args.store.now c.args.ledger.now) c.args.space c.args.page c.in-Some.entry c.requires.joined c.requires.there (sym c.overlay.ensures.overlay ∙ c.in-Some.is)
 
-page : (c : goal.After-set_overlay) → Has c.args.ledger.now c.args.space c.args.page (Some c.in-Some.entry)
+page : (c : After-set_overlay) → Has c.args.ledger.now c.args.space c.args.page (Some c.in-Some.entry)
 page c = page_with c.args.ledger.now c.args.space c.args.page c.requires.there (Some c.in-Some.entry) (sym c.overlay.ensures.overlay ∙ c.in-Some.is)
 
-ended : (c : goal.After-set_overlay) → Overlays (view_of c.args.store.now c.args.ledger.now) (view_of c.end_segment.new.self c.set_overlay.new.self) c.args.space c.args.page (page c).x None c.in-Some.entry.block.unit
+ended : (c : After-set_overlay) → Overlays CanSettle (view_of c.args.store.now c.args.ledger.now) (view_of c.end_segment.new.self c.set_overlay.new.self) c.args.space c.args.page (page c).x None c.in-Some.entry.block.unit
 ended c =
     let e = c.end_segment.ensures in
     dropped (view_of c.args.store.now c.args.ledger.now) c.end_segment.new.self c.set_overlay.new.self c.args.space c.args.page (page c).x c.in-Some.entry c.requires.joined (page c).there (page c).is
-    e.ends e.segments e.frames e.free e.units e.store c.set_overlay.ensures
+    e.ends e.segments e.frames e.free e.units e.store e.settles c.set_overlay.ensures
 
-pub returns-in-Some-clause-joined : goal.returns-in-Some-clause-joined
-returns-in-Some-clause-joined c =
-    overlays_joined (view_of c.args.store.now c.args.ledger.now) (view_of c.end_segment.new.self c.set_overlay.new.self) c.args.space c.args.page (page c).x None c.in-Some.entry.block.unit c.requires.joined (ended c)
+pub settle-requires : goal.settle-requires
+settle-requires c = record {
+  joined = overlays_joined (view_of c.args.store.now c.args.ledger.now) (view_of c.end_segment.new.self c.set_overlay.new.self) c.args.space c.args.page (page (goal.at.settle-requires c).After-set_overlay).x None c.in-Some.entry.block.unit c.requires.joined (ended (goal.at.settle-requires c).After-set_overlay);
+}
 
-pub returns-in-Some-clause-state : goal.returns-in-Some-clause-state
-returns-in-Some-clause-state c =
+state : (c : After-set_overlay) → state_of (view_of c.end_segment.new.self c.set_overlay.new.self) ≡ turned_page discarded (state_of (view_of c.args.store.now c.args.ledger.now)) c.args.space c.args.page
+state c =
     overlays_state (view_of c.args.store.now c.args.ledger.now) (view_of c.end_segment.new.self c.set_overlay.new.self) c.args.space c.args.page (page c).x None c.in-Some.entry.block.unit c.requires.joined (ended c)
     discarded
     (dropped_page (view_of c.args.store.now c.args.ledger.now) c.end_segment.new.self c.args.space c.args.page (page c).x (c.requires.joined.held c.args.space c.args.page (page c).x (page c).there) c.end_segment.ensures.frames)
 
+pub returns-in-Some : goal.returns-in-Some
+returns-in-Some c =
+    let a = view_of c.args.store.now c.args.ledger.now in
+    let v = view_of c.settle.new.store c.settle.new.ledger in
+    let m = c.settle.ensures.moved in
+    let same = m.state ∙ state (goal.at.returns-in-Some c).After-set_overlay in
+    let is = page (goal.at.returns-in-Some c).After-set_overlay in
+    let few = c.settle.ensures.few in
+    record {
+      joined = m.joined;
+      state = same;
+      there = ended_there a v c.args.space c.args.page c.requires.there m.joined same;
+      bare = ended_bare a v c.args.space c.args.page c.requires.there m.joined same;
+      scratch = λ line low. m.scratch line low ∙ c.end_segment.ensures.scratch line low;
+      frames = frames_twice c.args.store.now c.end_segment.new.self c.settle.new.store c.end_segment.ensures.frames m.frames;
+      few = few_beside c.args.ledger.now c.set_overlay.new.self c.settle.new.ledger c.args.space c.args.page is.x is.there c.set_overlay.ensures few;
+    }
+
+pub returns-in_default-clause-few : goal.returns-in_default-clause-few
+returns-in_default-clause-few c = few_none c.args.space c.args.page c.args.ledger.now
+
 pub returns-in_default-clause-state : goal.returns-in_default-clause-state
 returns-in_default-clause-state c =
     bare_state (view_of c.args.store.now c.args.ledger.now) c.args.space c.args.page (page_with c.args.ledger.now c.args.space c.args.page c.requires.there None (sym c.overlay.ensures.overlay ∙ c.in_default.is))
-
-pub returns-in_default-clause-table : goal.returns-in_default-clause-table
-returns-in_default-clause-table c = bare_table c.args.ledger.now c.args.space c.args.page (page_with c.args.ledger.now c.args.space c.args.page c.requires.there None (sym c.overlay.ensures.overlay ∙ c.in_default.is))

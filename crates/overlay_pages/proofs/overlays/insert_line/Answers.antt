@@ -1,4 +1,5 @@
 use Rattle.std.proofs.Common.{◌<◌, Some, length, sym, ap, subst, ◌∙◌}
+use Rattle.unit_map.specs.Pieces.{AreSettled}
 use Rattle.overlay_bits.specs.Lines.{has_line, with_line}
 use Rattle.overlay_mapping_table.specs.declared.entry.Entry.{Entry}
 use Rattle.segment_store.specs.Pointers.{capacity_of}
@@ -30,7 +31,7 @@ held c = c.requires.joined.held c.args.space c.args.page (page c).x (page c).the
 abbrev now : goal.After-set_overlay → Entry
 now c = record { bits = with_line c.args.entry.bits c.args.line; block = c.args.entry.block }
 
-so : (c : goal.After-set_overlay) → Overlays (view_of c.args.store.now c.args.ledger.now) (view_of c.insert.new.self c.set_overlay.new.self) c.args.space c.args.page (page c).x (Some (now c)) c.args.entry.block.unit
+so : (c : goal.After-set_overlay) → Overlays AreSettled (view_of c.args.store.now c.args.ledger.now) (view_of c.insert.new.self c.set_overlay.new.self) c.args.space c.args.page (page c).x (Some (now c)) c.args.entry.block.unit
 so c =
     let e = c.insert.ensures in
     inserted (view_of c.args.store.now c.args.ledger.now) c.insert.new.self c.set_overlay.new.self c.args.space c.args.page (page c).x c.args.entry c.args.line c.requires.joined (page c).there (page c).is c.requires.line

@@ -15,7 +15,7 @@ page c = page_with c.args.ledger.now c.args.space c.args.page c.requires.there N
 takes : (c : goal.After-set_frame) → TakesFrame c.args.store.now c.take_frame-frame.new.self c.fill_bytes.new.store c.take_frame-frame.result (λ i. take LINE_BYTES (drop (LINE_BYTES * i) c.args.bytes.now))
 takes c =
     let t = c.take_frame-frame.ensures in
-    record { there = t.frame; fresh = t.fresh; same = t.same; segments = t.segments; frames = t.frames; free = t.free; whole = t.units; taken_is = t.store; fills = c.fill_bytes.ensures.fills; lines = c.fill_bytes.ensures.lines }
+    record { there = t.frame; fresh = t.fresh; same = t.same; segments = t.segments; frames = t.frames; settled = t.settled; free = t.free; whole = t.units; taken_is = t.store; fills = c.fill_bytes.ensures.fills; lines = c.fill_bytes.ensures.lines }
 
 pub returns-clause-joined : goal.returns-clause-joined
 returns-clause-joined c =

@@ -16,7 +16,7 @@ returns-in-Some c =
     let g = c.give_frame.ensures in
     let went = went_some (view_of c.args.store.now c.args.ledger.now) c.remove_page.new.self c.args.space c.args.page c.remove_page.result
     c.requires.joined has c.remove_page.ensures.gone c.remove_page.ensures.freed c.give_frame.new.self c.in-Some.frame c.in-Some.is
-    (gives_frame c.args.store.now c.give_frame.new.self c.in-Some.frame g.same g.segments g.frames g.free g.units g.store) in
+    (gives_frame c.args.store.now c.give_frame.new.self c.in-Some.frame g.same g.segments g.frames g.settled g.free g.units g.store) in
     record { joined = went.0; state = went.1 }
 
 pub returns-in-None : goal.returns-in-None

@@ -46,7 +46,7 @@ giving-preserved c = elim c.if-is_unused.branch [
       c.requires.joined c.requires.there c.requires.bare c.remove_run.new.self c.remove_run.ensures.given
       c.giving.i c.giving-test.true c.giving.store c.giving.invariant c.entry_at-entry.result c.entry_at-entry.ensures c.is_unused.result c.is_unused.ensures
       w.give_frame.new.self w.if-is_unused.true
-      (gives_frame c.giving.store w.give_frame.new.self c.entry_at-entry.result.frame g.same g.segments g.frames g.free g.units g.store))
+      (gives_frame c.giving.store w.give_frame.new.self c.entry_at-entry.result.frame g.same g.segments g.frames g.settled g.free g.units g.store))
   | else-is_unused w ↦
       subst (λ (st : Store). HasLeft c.args.store.now st c.args.ledger.now c.args.space c.args.run.now (c.giving.i + 1)) (sym w.store-is)
       (one_kept c.args.store.now c.args.ledger.now c.args.space c.args.run.now

@@ -3,6 +3,7 @@ use Rattle.segment_store.specs.Laws.{frame_inside}
 use Rattle.overlay_pages.specs.View.{view_of}
 use Rattle.overlay_pages.proofs.Joining.{Has, page_with}
 use Rattle.overlay_pages.proofs.Committing.{composed_lines_are, copied_at, copy_enough, copy_settled, copy_shared, page_frame}
+use Rattle.overlay_pages.proofs.Shifts.{few_framed}
 use Rattle.overlay_pages.proofs.settling.copy_commit.Goals as goal
 use Rattle.overlay_pages.proofs.settling.copy_commit.Goals.{After-frame_of-frame}
 
@@ -36,3 +37,6 @@ returns-clause-placed c =
     (view_of c.take_up.new.store c.take_up.new.ledger) c.frame_of-frame.result c.compose_scratch.new.out c.take_up.ensures.lines c.take_up.ensures.frames
     (framed (goal.at.returns-clause-placed c).After-frame_of-frame) c.compose_scratch.ensures.lines)
     c.place_lines.ensures.placed
+
+pub returns-clause-few : goal.returns-clause-few
+returns-clause-few c = few_framed c.args.ledger.now c.take_up.new.ledger c.place_lines.new.ledger c.args.space c.args.page c.place_lines.ensures.others c.take_up.ensures.few

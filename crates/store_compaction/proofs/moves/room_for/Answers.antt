@@ -1,5 +1,6 @@
 use Rattle.std.proofs.Common.{arith}
-use Rattle.store_compaction.proofs.Packing.{packs, runs, too_few}
+use Rattle.unit_map.specs.Settled.{too_few}
+use Rattle.store_compaction.proofs.Packing.{packs, runs}
 use Rattle.store_compaction.proofs.moves.room_for.Goals as goal
 
 pub returns-then-has_room-clause-run : goal.returns-then-has_room-clause-run

@@ -11,7 +11,7 @@ use Rattle.overlay_memory.proofs.memory.OverlayMemory.commit_page.Goals as goal
 pub invariant_of-self : goal.invariant_of-self
 invariant_of-self c = (
   with_cache (seen.state_of c.commit_page.new.self) _ c.flush.new.self c.flush.ensures.flushed
-      (turned_translated committed (seen.state_of c.self.inside.pages) (seen.state_of c.commit_page.new.self) c.args.space c.args.page c.self.inside.cache c.commit_page.ensures
+      (turned_translated committed (seen.state_of c.self.inside.pages) (seen.state_of c.commit_page.new.self) c.args.space c.args.page c.self.inside.cache c.commit_page.ensures.state
       (ap (λ m. is_some (page_in (state_of m) c.args.space c.args.page)) c.self.view_is ∙ c.requires.there) c.self.invariant.0),
   none_known _ _ _ c.clear.ensures,
 )

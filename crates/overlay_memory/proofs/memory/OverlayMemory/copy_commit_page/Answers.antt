@@ -12,7 +12,7 @@ pub invariant_of-self : goal.invariant_of-self
 invariant_of-self c = (
   with_cache (seen.state_of c.copy_commit_page.new.self) _ c.flush.new.self c.flush.ensures.flushed
       (copied_translated (seen.state_of c.self.inside.pages) (seen.state_of c.copy_commit_page.new.self) c.args.space c.args.page (λ x frame. copied frame x) c.self.inside.cache
-      c.copy_commit_page.ensures
+      c.copy_commit_page.ensures.placed
       (ap (λ m. is_some (page_in (state_of m) c.args.space c.args.page)) c.self.view_is ∙ c.requires.there)
       (ap (λ m. (space_in (state_of m) c.args.space).awaiting) c.self.view_is ∙ c.requires.settled) c.self.invariant.0),
   none_known _ _ _ c.clear.ensures,

@@ -14,7 +14,7 @@ pub invariant_of-result : goal.invariant_of-result
 invariant_of-result c =
     let t = c.take_frame-zero.ensures in
     let l = c.in_ok-ledger.ensures in
-    made_joined c.in_ok-store.store c.take_frame-zero.new.self c.in_ok-ledger.ledger c.args.frames c.take_frame-zero.result c.in_ok-store.ensures.empty t.frame t.lines t.same t.free t.units t.store l.spaces l.frames l.zero
+    made_joined c.in_ok-store.store c.take_frame-zero.new.self c.in_ok-ledger.ledger c.args.frames c.take_frame-zero.result c.in_ok-store.ensures.empty t.frame t.lines t.same t.free t.units t.store l.spaces l.frames l.zero (t.settled c.in_ok-store.ensures.settled)
 
 pub returns : goal.returns
 returns c =

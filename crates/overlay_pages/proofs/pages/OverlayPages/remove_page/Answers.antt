@@ -1,26 +1,16 @@
 use Rattle.std.proofs.Common.{refl, sym, ap, subst, ◌∙◌}
 use Rattle.std.specs.Option.{IsSome}
 use Rattle.space_maps.specs.Spaces.{cut_page, page_in}
-use Rattle.space_ledger.specs.View.{LedgerView, overlay_at}
+use Rattle.space_ledger.specs.View.{overlay_at}
 use Rattle.overlay_pages.specs.Changes.{discarded}
 use Rattle.overlay_pages.specs.View.{MemoryView, state_of, view_of}
 use Rattle.overlay_pages.proofs.Tables.{page_some}
 use Rattle.overlay_pages.proofs.Joining.{page_with}
-use Rattle.overlay_pages.proofs.Placed.{cut_turned, dropped_at}
+use Rattle.overlay_pages.proofs.Placed.{cut_turned}
 use Rattle.overlay_pages.proofs.pages.OverlayPages.remove_page.Goals as goal
 
 pub drop_overlay-requires-clause-there : goal.drop_overlay-requires-clause-there
 drop_overlay-requires-clause-there c = page_some (view_of c.self.inside.store c.self.inside.ledger) c.args.space c.args.page (subst (λ (m : MemoryView). IsSome (page_in (state_of m) c.args.space c.args.page)) (sym c.self.view_is) c.requires.there)
-
-pub take_out-requires-clause-there : goal.take_out-requires-clause-there
-take_out-requires-clause-there c =
-    subst (λ (t : LedgerView). IsSome (page_in t c.args.space c.args.page)) (sym c.drop_overlay.ensures.table)
-    (dropped_at c.self.inside.ledger c.args.space c.args.page (page_some (view_of c.self.inside.store c.self.inside.ledger) c.args.space c.args.page (subst (λ (m : MemoryView). IsSome (page_in (state_of m) c.args.space c.args.page)) (sym c.self.view_is) c.requires.there))).0
-
-pub take_out-requires-clause-bare : goal.take_out-requires-clause-bare
-take_out-requires-clause-bare c =
-    ap (λ (t : LedgerView). overlay_at t c.args.space c.args.page) c.drop_overlay.ensures.table
-    ∙ (dropped_at c.self.inside.ledger c.args.space c.args.page (page_some (view_of c.self.inside.store c.self.inside.ledger) c.args.space c.args.page (subst (λ (m : MemoryView). IsSome (page_in (state_of m) c.args.space c.args.page)) (sym c.self.view_is) c.requires.there))).1
 
 pub returns-clause-gone : goal.returns-clause-gone
 returns-clause-gone c =

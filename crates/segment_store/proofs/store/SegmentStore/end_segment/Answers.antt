@@ -1,4 +1,6 @@
-use Rattle.std.proofs.Common.{subst, sym, refl}
+use Rattle.std.proofs.Common.{subst, sym, refl, arith}
+use Rattle.unit_map.specs.Pieces.{AreSettled}
+use Rattle.unit_map.specs.Settled.{lower_settled}
 use Rattle.segment_store.specs.Store.{IsSegment}
 use Rattle.segment_store.specs.contracts.store.SegmentStore.{the_view}
 use Rattle.segment_store.proofs.Beginning.{ended}
@@ -11,3 +13,6 @@ invariant_of-self c =
 
 pub returns-clause-store : goal.returns-clause-store
 returns-clause-store c = invariant_of-self c
+
+pub returns-clause-settles : goal.returns-clause-settles
+returns-clause-settles c settled = lower_settled _ 0 c.args.block.order (omega arith) (c.give.ensures.settled (subst (λ s. AreSettled s.blocks) (sym c.self.view_is) settled))

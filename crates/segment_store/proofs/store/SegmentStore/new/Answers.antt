@@ -1,4 +1,6 @@
-use Rattle.std.proofs.Common.{rules}
+use Rattle.std.proofs.Common.{rules, sym, subst}
+use Rattle.unit_map.specs.Pieces.{AreSettled}
+use Rattle.unit_map.specs.Settled.{frames_settled}
 use Rattle.segment_store.proofs.Making.{new_store}
 use Rattle.segment_store.proofs.store.SegmentStore.new.Goals as goal
 
@@ -10,3 +12,6 @@ invariant_of-result c =
 
 pub returns-clause-store : goal.returns-clause-store
 returns-clause-store c = invariant_of-result c
+
+pub returns-clause-settled : goal.returns-clause-settled
+returns-clause-settled c = subst AreSettled (sym c.in_ok-map.ensures.free) (frames_settled 0 c.args.frames)

@@ -1,6 +1,7 @@
 use Rattle.std.proofs.Common.{arith}
 use Rattle.unit_map.specs.Cells.{pieces_of}
 use Rattle.unit_map.specs.Laws.{free_le}
+use Rattle.unit_map.specs.Settled.{gives_settled}
 use Rattle.unit_map.proofs.Calls.{IsGiven, giving, taken_held}
 use Rattle.unit_map.proofs.Numbers.{pow_mono, size_is}
 use Rattle.unit_map.proofs.Tables.{table_fills, table_pieces}
@@ -29,4 +30,4 @@ invariant_of-self c = let is = given c.before in record { table = c.clear.ensure
 pub returns : goal.returns
 returns c =
     let is = given c.before in
-    rw (← c.self.view_is) (record { gives = is.gives; others = is.others; only = is.only; units = is.units; free = is.free; pieces = table_pieces c.clear.new.cells c.clear.ensures.table })
+    rw (← c.self.view_is) (record { gives = is.gives; others = is.others; only = is.only; units = is.units; free = is.free; pieces = table_pieces c.clear.new.cells c.clear.ensures.table; settled = gives_settled _ _ _ _ is.gives })

@@ -1,4 +1,5 @@
 use Rattle.std.proofs.Common.{◌≤◌, true, refl, arith}
+use Rattle.unit_map.specs.Settled.{takes_settled}
 use Rattle.unit_map.proofs.Calls.{IsTaken, taking}
 use Rattle.unit_map.proofs.Counts.{least_none}
 use Rattle.unit_map.proofs.Numbers.{size_is}
@@ -39,6 +40,7 @@ returns c =
       free = is.free;
       within = is.within;
       apart = is.apart;
+      settled = takes_settled _ _ _ _ is.block;
     })
 
 pub returns-in_err-from-clause-none : goal.returns-in_err-from-clause-none
