@@ -1,6 +1,6 @@
 -- In reading order: the copying machine's state, what a session keeps, what a change is and comes to, what a fork makes, what speculation
--- and promotion make of a process, checkpoints, what the debugger changes, all changes, the turns of processes, what each command comes to,
--- and what is looked up.
+-- and promotion make of a process, checkpoints, what the debugger changes, all changes, the turns of processes, what each command comes to
+-- and by which cases, and what is looked up.
 pub mod State
 pub mod Sessions
 pub mod Kept
@@ -16,6 +16,7 @@ pub mod Debugging
 pub mod Changes
 pub mod Turns
 pub mod Commands
+pub mod CommandCases
 pub mod Looks
 pub mod Standing
 pub mod LikeLaws

@@ -23,7 +23,6 @@ use Rattle.report_text.specs.declared.answer.Stop.{Stop}
 use Rattle.report_text.specs.declared.answer.Stop.TheVariants as stop
 use Rattle.report_text.specs.Answers.{answer_text, stop_text, turn_text}
 use Rattle.script_text.specs.declared.command.Command.{Command}
-use Rattle.script_text.specs.declared.command.Command.TheVariants as command
 use Rattle.command_core.specs.declared.turns.Order.{Order}
 use Rattle.command_core.specs.declared.turns.Order.TheVariants.{ByTurns, Alone}
 use Rattle.command_core.specs.declared.TheConstants.{WORD_BYTES}
@@ -34,7 +33,8 @@ use Rattle.command_core.specs.Giving.{ComesTo, GivesChange}
 use Rattle.command_core.specs.Changes.{change_row, load_row}
 use Rattle.command_core.specs.Turns.{InRun, Progress, Ran, break_at, ending, ending_by, event_then, first_event, last_break, left_by, left_of, next_of, alone, by_turns, ran, ran_text, rest_of, run_after, run_found, stopped, turns_by, ran_from, unless_broken}
 use Rattle.command_core.specs.Looks.{counts_of}
-use Rattle.command_core.specs.Commands.{Performed, checkpoint_text, counts_text, disasm_text, dump_text, exec_done, exec_turns, list_head, list_text, performed, prints_of, prints_read, process_text, regs_done, regs_of, row_told, stats_text, step_done, steps, takes_turns, told, rules}
+use Rattle.command_core.specs.Commands.{Performed, change_told, checkpoint_text, counts_text, disasm_text, dump_text, exec_done, exec_turns, list_head, list_text, performed, prints_of, prints_read, process_text, regs_done, regs_of, row_told, stats_text, step_done, steps, takes_turns, told, rules}
+use Rattle.command_core.specs.CommandCases.{GoesBy, ByExec, ByRun, ByStep, ByList, ByStats, ByRegs, ByDump, ByDisasm, ByChange, goes_by}
 use Rattle.command_core.specs.Standing.{GivesAs}
 
 -- States that differ in the numbers of origins alone come to the same texts, and stay so.
@@ -380,30 +380,21 @@ stats_same : (a b : State) → AreLikeStates a b → stats_text a ≡ stats_text
 unfolding stats_text
 stats_same a b like = ap counts_text (counts_same a.wholes b.wholes like.wholes)
 
+like_changed : (file : List ℕ) (c : Command) (a b : State) → AreLikeStates a b → AreLikePerformed (change_told rules file c a) (change_told rules file c b)
+like_changed file c a b like = like_told (change_row file c) a b like
+
 pub like_performed : (quantum : ℕ) (file : List ℕ) (c : Command) (a b : State) → AreLikeStates a b → AreLikePerformed (performed quantum file c a) (performed quantum file c b)
-like_performed quantum file (command.Exec x y) a b like = like_exec file y a b like
-like_performed quantum file (command.Run x) a b like = like_takes (by_turns quantum x) a b like
-like_performed quantum file (command.Step x y) a b like = like_step x y a b like
-like_performed quantum file command.List a b like = record { text = list_same a b like; after = like; wants = refl }
-like_performed quantum file (command.Load x) a b like = like_told (change_row file (command.Load x)) a b like
-like_performed quantum file (command.Fork x) a b like = like_told (change_row file (command.Fork x)) a b like
-like_performed quantum file (command.Checkpoint x y) a b like = like_told (change_row file (command.Checkpoint x y)) a b like
-like_performed quantum file (command.Restore x y) a b like = like_told (change_row file (command.Restore x y)) a b like
-like_performed quantum file (command.Forget x) a b like = like_told (change_row file (command.Forget x)) a b like
-like_performed quantum file (command.Speculate x) a b like = like_told (change_row file (command.Speculate x)) a b like
-like_performed quantum file (command.Commit x) a b like = like_told (change_row file (command.Commit x)) a b like
-like_performed quantum file (command.Discard x) a b like = like_told (change_row file (command.Discard x)) a b like
-like_performed quantum file (command.Promote x y) a b like = like_told (change_row file (command.Promote x y)) a b like
-like_performed quantum file (command.PromoteAll x) a b like = like_told (change_row file (command.PromoteAll x)) a b like
-like_performed quantum file command.Compact a b like = like_told (change_row file command.Compact) a b like
-like_performed quantum file (command.Map x y z w) a b like = like_told (change_row file (command.Map x y z w)) a b like
-like_performed quantum file (command.Unmap x y z) a b like = like_told (change_row file (command.Unmap x y z)) a b like
-like_performed quantum file (command.Drop x) a b like = like_told (change_row file (command.Drop x)) a b like
-like_performed quantum file (command.Regs x) a b like = like_regs x a b like
-like_performed quantum file (command.Dump x y z) a b like = like_prints x y z (λ memory. dump_text memory y z) a b like
-like_performed quantum file (command.Poke x y z) a b like = like_told (change_row file (command.Poke x y z)) a b like
-like_performed quantum file (command.Set x y z) a b like = like_told (change_row file (command.Set x y z)) a b like
-like_performed quantum file (command.Break x y) a b like = like_told (change_row file (command.Break x y)) a b like
-like_performed quantum file (command.Unbreak x y) a b like = like_told (change_row file (command.Unbreak x y)) a b like
-like_performed quantum file (command.Disasm x y z) a b like = like_prints x y (WORD_BYTES * z) (λ memory. disasm_text memory y z) a b like
-like_performed quantum file command.Stats a b like = record { text = stats_same a b like; after = like; wants = refl }
+like_performed quantum file command a b like = by_case command (goes_by rules rules quantum file command)
+  where
+    by_case : (c : Command) → GoesBy rules rules quantum file c → AreLikePerformed (performed quantum file c a) (performed quantum file c b)
+    by_case _ (ByExec name turns) = like_exec file turns a b like
+    by_case _ (ByRun turns) = like_takes (by_turns quantum turns) a b like
+    by_case _ (ByStep p turns) = like_step p turns a b like
+    by_case _ ByList = record { text = list_same a b like; after = like; wants = refl }
+    by_case _ ByStats = record { text = stats_same a b like; after = like; wants = refl }
+    by_case _ (ByRegs p) = like_regs p a b like
+    by_case _ (ByDump p address count) = like_prints p address count (λ memory. dump_text memory address count) a b like
+    by_case _ (ByDisasm p address words) = like_prints p address (WORD_BYTES * words) (λ memory. disasm_text memory address words) a b like
+    by_case _ (ByChange c here there counts) =
+        subst (λ x. AreLikePerformed x (performed quantum file c b)) (sym (here a))
+        (subst (λ y. AreLikePerformed (change_told rules file c a) y) (sym (here b)) (like_changed file c a b like))

@@ -20,13 +20,13 @@ use Rattle.report_text.specs.declared.answer.Stop.TheVariants as stop
 use Rattle.report_text.specs.Answers.{answer_text, stop_text, turn_text}
 use Rattle.report_text.specs.FullLines.{AreWholeLines, answer_lines, answer_shows, behind_lines, ends_checkpoint, ends_disasm, ends_dump, ends_list, ends_process, ends_register, ends_regs, ends_stats, has_full_line, lines_both, no_lines, stop_lines, turn_lines, turn_shows}
 use Rattle.script_text.specs.declared.command.Command.{Command}
-use Rattle.script_text.specs.declared.command.Command.TheVariants as command
 use Rattle.command_core.specs.declared.TheConstants.{WORD_BYTES}
 use Rattle.command_core.specs.State.{Registry, State, registry_of}
 use Rattle.command_core.specs.Rows.{Changed, MemoryTaken, Row, TakesFirst, TakesLast, TakesNone, accepts, change_by, event_needs, falls_short, first_refusal, is_full as is_row_full, may_want_memory, refuses, wants_by}
 use Rattle.command_core.specs.Changes.{change_row, load_row}
 use Rattle.command_core.specs.Turns.{Progress, Ran, alone, by_turns, event_then, first_event, last_break, next_of, ran, ran_by, ran_from, ran_text, rest_of, run_after, stopped, turns_by, unless_broken}
-use Rattle.command_core.specs.Commands.{Performed, checkpoint_text, checkpoints_text, disasm_text, dump_from, dump_text, exec_done, exec_turns, list_head, list_text, performed, performed_by, printed, prints_of, prints_read, process_text, processes_text, registers_from, regs_head, regs_of, regs_text, row_told, rules, stats_text, steps, takes_turns, told}
+use Rattle.command_core.specs.Commands.{Performed, change_told, checkpoint_text, checkpoints_text, disasm_text, dump_from, dump_text, exec_done, exec_turns, list_head, list_text, performed, performed_by, printed, prints_of, prints_read, process_text, processes_text, registers_from, regs_head, regs_of, regs_text, row_told, rules, stats_text, steps, takes_turns, told}
+use Rattle.command_core.specs.CommandCases.{GoesBy, ByExec, ByRun, ByStep, ByList, ByStats, ByRegs, ByDump, ByDisasm, ByChange, goes_by, prints_counts}
 use Rattle.command_core.specs.Unbounded.{Unbounded, change_unbounded, does_row, after_step_of, step_among, takes_unbounded, unbounded, unbounded_turns, wants_unbounded}
 
 -- As long as no line says `full`, the copying machine says and does what the unbounded one does.
@@ -325,41 +325,40 @@ module _ (counts : List (List ℕ)) (behind : List ℕ) (file : List ℕ) (turns
 
 -- the lines of counts that a command prints, before others
 abbrev pub with_stats : Command → State → List (List ℕ) → List (List ℕ)
-with_stats command.Stats state counts = stats_text state ∷ counts
-with_stats other state counts = counts
+with_stats command state counts = cond (prints_counts command) (stats_text state ∷ counts) counts
 
 -- Where a command's text has no line of `full`, it comes to what it comes to in the unbounded machine.
+module _ (counts : List (List ℕ)) (behind : List ℕ) (quantum : ℕ) (file : List ℕ) (state : State) where
+  abbrev ComesSame : Command → Type 0
+  ComesSame c = ShowsNoFull (performed quantum file c state) behind
+      → PerformedSame counts (performed quantum file c state) (performed_by unbounded quantum file c (unbounded_of (with_stats c state counts) state))
+
+  -- a change, of which it is known that it prints no counts
+  same_changed : (c : Command) → ((at : State) → performed quantum file c at ≡ change_told rules file c at)
+      → ((at : Unbounded) → performed_by unbounded quantum file c at ≡ change_told unbounded file c at) → prints_counts c ≡ false → ComesSame c
+  same_changed c here there is none =
+      let same = same_told counts behind (change_row file c (registry_of state)) state (subst (λ x. ShowsNoFull x behind) (here state) none) in
+      let left = subst (λ x. PerformedSame counts x (change_told unbounded file c (unbounded_of counts state))) (sym (here state)) same in
+      subst (λ b. PerformedSame counts (performed quantum file c state) (performed_by unbounded quantum file c (unbounded_of (cond b (stats_text state ∷ counts) counts) state))) (sym is)
+      (subst (λ y. PerformedSame counts (performed quantum file c state) y) (sym (there (unbounded_of counts state))) left)
+
+  same_case : (c : Command) → GoesBy rules unbounded quantum file c → ComesSame c
+  same_case _ (ByExec name turns) none = same_exec counts behind file turns state none
+  same_case _ (ByRun turns) none = same_takes counts behind (by_turns quantum turns) state none
+  same_case _ (ByStep p turns) none = same_steps counts behind p turns (get state.wholes.processes p) state none
+  same_case _ ByList none = same_printed counts behind (list_text (registry_of state)) state
+  same_case _ ByStats none = record { text = refl; after = refl; wants = refl }
+  same_case _ (ByRegs p) none = same_regs counts behind p (get state.wholes.processes p) state
+  same_case _ (ByDump p address count) none =
+      same_prints counts behind address count (λ memory. dump_text memory address count) (get state.wholes.processes p) state
+  same_case _ (ByDisasm p address words) none =
+      same_prints counts behind address (WORD_BYTES * words) (λ memory. disasm_text memory address words) (get state.wholes.processes p) state
+  same_case _ (ByChange c here there is) none = same_changed c here there is none
+
 pub same_performed : (counts : List (List ℕ)) (behind : List ℕ) (quantum : ℕ) (file : List ℕ) (c : Command) (state : State)
     → ShowsNoFull (performed quantum file c state) behind
     → PerformedSame counts (performed quantum file c state) (performed_by unbounded quantum file c (unbounded_of (with_stats c state counts) state))
-same_performed counts behind quantum file (command.Exec x y) state none = same_exec counts behind file y state none
-same_performed counts behind quantum file (command.Run x) state none = same_takes counts behind (by_turns quantum x) state none
-same_performed counts behind quantum file (command.Step x y) state none = same_steps counts behind x y (get state.wholes.processes x) state none
-same_performed counts behind quantum file command.List state none = same_printed counts behind (list_text (registry_of state)) state
-same_performed counts behind quantum file command.Stats state none = record { text = refl; after = refl; wants = refl }
-same_performed counts behind quantum file (command.Regs x) state none = same_regs counts behind x (get state.wholes.processes x) state
-same_performed counts behind quantum file (command.Dump x y z) state none =
-    same_prints counts behind y z (λ memory. dump_text memory y z) (get state.wholes.processes x) state
-same_performed counts behind quantum file (command.Disasm x y z) state none =
-    same_prints counts behind y (WORD_BYTES * z) (λ memory. disasm_text memory y z) (get state.wholes.processes x) state
-same_performed counts behind quantum file (command.Load x) state none = same_told counts behind (change_row file (command.Load x) (registry_of state)) state none
-same_performed counts behind quantum file (command.Fork x) state none = same_told counts behind (change_row file (command.Fork x) (registry_of state)) state none
-same_performed counts behind quantum file (command.Checkpoint x y) state none = same_told counts behind (change_row file (command.Checkpoint x y) (registry_of state)) state none
-same_performed counts behind quantum file (command.Restore x y) state none = same_told counts behind (change_row file (command.Restore x y) (registry_of state)) state none
-same_performed counts behind quantum file (command.Forget x) state none = same_told counts behind (change_row file (command.Forget x) (registry_of state)) state none
-same_performed counts behind quantum file (command.Speculate x) state none = same_told counts behind (change_row file (command.Speculate x) (registry_of state)) state none
-same_performed counts behind quantum file (command.Commit x) state none = same_told counts behind (change_row file (command.Commit x) (registry_of state)) state none
-same_performed counts behind quantum file (command.Discard x) state none = same_told counts behind (change_row file (command.Discard x) (registry_of state)) state none
-same_performed counts behind quantum file (command.Promote x y) state none = same_told counts behind (change_row file (command.Promote x y) (registry_of state)) state none
-same_performed counts behind quantum file (command.PromoteAll x) state none = same_told counts behind (change_row file (command.PromoteAll x) (registry_of state)) state none
-same_performed counts behind quantum file command.Compact state none = same_told counts behind (change_row file command.Compact (registry_of state)) state none
-same_performed counts behind quantum file (command.Map x y z w) state none = same_told counts behind (change_row file (command.Map x y z w) (registry_of state)) state none
-same_performed counts behind quantum file (command.Unmap x y z) state none = same_told counts behind (change_row file (command.Unmap x y z) (registry_of state)) state none
-same_performed counts behind quantum file (command.Drop x) state none = same_told counts behind (change_row file (command.Drop x) (registry_of state)) state none
-same_performed counts behind quantum file (command.Poke x y z) state none = same_told counts behind (change_row file (command.Poke x y z) (registry_of state)) state none
-same_performed counts behind quantum file (command.Set x y z) state none = same_told counts behind (change_row file (command.Set x y z) (registry_of state)) state none
-same_performed counts behind quantum file (command.Break x y) state none = same_told counts behind (change_row file (command.Break x y) (registry_of state)) state none
-same_performed counts behind quantum file (command.Unbreak x y) state none = same_told counts behind (change_row file (command.Unbreak x y) (registry_of state)) state none
+same_performed counts behind quantum file c state none = same_case counts behind quantum file state c (goes_by rules unbounded quantum file c) none
 
 -- Each command's text is whole lines, or none.
 
@@ -431,33 +430,21 @@ unfolding stats_text
 stats_lines state = ends_stats _ _ _ _ _ true
 
 pub performed_lines : (quantum : ℕ) (file : List ℕ) (c : Command) (state : State) → AreWholeLines (performed quantum file c state).text
-performed_lines quantum file (command.Exec x y) state =
-    let loaded = change_by (load_row file (registry_of state)) state in
-    lines_both (answer_text loaded.answer) _ (answer_lines loaded.answer) (exec_turns_lines y loaded.answer loaded.after)
-performed_lines quantum file (command.Run x) state = ran_lines (ran_from state.breakpoints state.wholes (by_turns quantum x))
-performed_lines quantum file (command.Step x y) state = steps_lines x y (get state.wholes.processes x) state
-performed_lines quantum file command.List state = list_lines (registry_of state)
-performed_lines quantum file command.Stats state = stats_lines state
-performed_lines quantum file (command.Regs x) state = regs_lines x (get state.wholes.processes x) state
-performed_lines quantum file (command.Dump x y z) state =
-    prints_lines y z (λ memory. dump_text memory y z) (λ memory. dump_lines _ memory y z) (get state.wholes.processes x) state
-performed_lines quantum file (command.Disasm x y z) state =
-    prints_lines y (WORD_BYTES * z) (λ memory. disasm_text memory y z) (λ memory. disasm_lines memory y z) (get state.wholes.processes x) state
-performed_lines quantum file (command.Load x) state = answer_lines (change_by (change_row file (command.Load x) (registry_of state)) state).answer
-performed_lines quantum file (command.Fork x) state = answer_lines (change_by (change_row file (command.Fork x) (registry_of state)) state).answer
-performed_lines quantum file (command.Checkpoint x y) state = answer_lines (change_by (change_row file (command.Checkpoint x y) (registry_of state)) state).answer
-performed_lines quantum file (command.Restore x y) state = answer_lines (change_by (change_row file (command.Restore x y) (registry_of state)) state).answer
-performed_lines quantum file (command.Forget x) state = answer_lines (change_by (change_row file (command.Forget x) (registry_of state)) state).answer
-performed_lines quantum file (command.Speculate x) state = answer_lines (change_by (change_row file (command.Speculate x) (registry_of state)) state).answer
-performed_lines quantum file (command.Commit x) state = answer_lines (change_by (change_row file (command.Commit x) (registry_of state)) state).answer
-performed_lines quantum file (command.Discard x) state = answer_lines (change_by (change_row file (command.Discard x) (registry_of state)) state).answer
-performed_lines quantum file (command.Promote x y) state = answer_lines (change_by (change_row file (command.Promote x y) (registry_of state)) state).answer
-performed_lines quantum file (command.PromoteAll x) state = answer_lines (change_by (change_row file (command.PromoteAll x) (registry_of state)) state).answer
-performed_lines quantum file command.Compact state = answer_lines (change_by (change_row file command.Compact (registry_of state)) state).answer
-performed_lines quantum file (command.Map x y z w) state = answer_lines (change_by (change_row file (command.Map x y z w) (registry_of state)) state).answer
-performed_lines quantum file (command.Unmap x y z) state = answer_lines (change_by (change_row file (command.Unmap x y z) (registry_of state)) state).answer
-performed_lines quantum file (command.Drop x) state = answer_lines (change_by (change_row file (command.Drop x) (registry_of state)) state).answer
-performed_lines quantum file (command.Poke x y z) state = answer_lines (change_by (change_row file (command.Poke x y z) (registry_of state)) state).answer
-performed_lines quantum file (command.Set x y z) state = answer_lines (change_by (change_row file (command.Set x y z) (registry_of state)) state).answer
-performed_lines quantum file (command.Break x y) state = answer_lines (change_by (change_row file (command.Break x y) (registry_of state)) state).answer
-performed_lines quantum file (command.Unbreak x y) state = answer_lines (change_by (change_row file (command.Unbreak x y) (registry_of state)) state).answer
+performed_lines quantum file command state = by_case command (goes_by rules rules quantum file command)
+  where
+    by_case : (c : Command) → GoesBy rules rules quantum file c → AreWholeLines (performed quantum file c state).text
+    by_case _ (ByExec name turns) =
+        let loaded = change_by (load_row file (registry_of state)) state in
+        lines_both (answer_text loaded.answer) _ (answer_lines loaded.answer) (exec_turns_lines turns loaded.answer loaded.after)
+    by_case _ (ByRun turns) = ran_lines (ran_from state.breakpoints state.wholes (by_turns quantum turns))
+    by_case _ (ByStep p turns) = steps_lines p turns (get state.wholes.processes p) state
+    by_case _ ByList = list_lines (registry_of state)
+    by_case _ ByStats = stats_lines state
+    by_case _ (ByRegs p) = regs_lines p (get state.wholes.processes p) state
+    by_case _ (ByDump p address count) =
+        prints_lines address count (λ memory. dump_text memory address count) (λ memory. dump_lines _ memory address count) (get state.wholes.processes p) state
+    by_case _ (ByDisasm p address words) =
+        prints_lines address (WORD_BYTES * words) (λ memory. disasm_text memory address words) (λ memory. disasm_lines memory address words)
+        (get state.wholes.processes p) state
+    by_case _ (ByChange c here there counts) =
+        subst (λ x. AreWholeLines x.text) (sym (here state)) (answer_lines (change_by (change_row file c (registry_of state)) state).answer)

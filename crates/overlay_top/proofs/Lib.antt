@@ -16,3 +16,4 @@ pub mod Beginnings
 pub mod Doing
 pub mod Endings
 pub mod Unbounded
+pub mod InOrder

@@ -117,7 +117,6 @@ says_by runs (SaysOutside line) = ended (bad_line line) BadLine
 abbrev pub said_outcome : Settings → ScriptSays → (List ℕ → Option (List ℕ)) → RunOutcome
 said_outcome settings says files = says_by (λ commands. run_all settings commands files) says
 
--- The outcome of words, a script and files by name. What isn't the command's sets nothing, and nothing is done.
 -- The script and the files of a call: those that are made, the file under every name, where a seed is set; else those of the outside.
 abbrev pub chosen_script : Option ℕ → List ℕ → List ℕ
 chosen_script None script = script
@@ -127,9 +126,16 @@ abbrev pub chosen_files : Option ℕ → (List ℕ → Option (List ℕ)) → Li
 chosen_files None files = files
 chosen_files (Some seed) files = λ name. Some made_file
 
+-- The outcome of what words set, of a script and of files by name, by what the commands come to. What isn't the command's sets nothing, and
+-- nothing is done.
+abbrev pub set_by : (Settings → List Command → (List ℕ → Option (List ℕ)) → RunOutcome) → Option Settings → List ℕ → (List ℕ → Option (List ℕ))
+    → RunOutcome
+set_by runs (Some settings) script files =
+    says_by (λ commands. runs settings commands (chosen_files settings.seed files)) (said (chosen_script settings.seed script))
+set_by runs None script files = ended [] BadWords
+
 abbrev pub outcome_set : Option Settings → List ℕ → (List ℕ → Option (List ℕ)) → RunOutcome
-outcome_set (Some settings) script files = said_outcome settings (said (chosen_script settings.seed script)) (chosen_files settings.seed files)
-outcome_set None script files = ended [] BadWords
+outcome_set set script files = set_by run_all set script files
 
 abbrev pub run_outcome : List (List ℕ) → List ℕ → (List ℕ → Option (List ℕ)) → RunOutcome
 run_outcome words script files = outcome_set (settings_of words) script files

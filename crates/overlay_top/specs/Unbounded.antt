@@ -1,4 +1,4 @@
-use Rattle.std.specs.Prelude.{◌≡◌, ℕ, false, List, [], Option, Some, None}
+use Rattle.std.specs.Prelude.{◌≡◌, ℕ, false, List, Option}
 use Rattle.ovl_io.specs.declared.source.Source.{Ghosts as SourceOf}
 use Rattle.ovl_io.specs.declared.shelf.Shelf.{Ghosts as ShelfOf}
 use Rattle.ovl_io.specs.declared.sink.Sink.{Ghosts as SinkOf}
@@ -6,9 +6,8 @@ use Rattle.script_text.specs.declared.command.Command.{Command}
 use Rattle.report_text.specs.FullLines.{has_full_line}
 use Rattle.command_core.specs.Unbounded.{fresh_unbounded, unbounded}
 use Rattle.overlay_top.specs.declared.words.Settings.{Settings}
-use Rattle.overlay_top.specs.declared.status.Status.TheVariants.{BadWords}
 use Rattle.overlay_top.specs.Words.{settings_of}
-use Rattle.overlay_top.specs.Outcome.{Asking, RunOutcome, chosen_files, chosen_script, ended, report_of, run_by, run_outcome, said, says_by}
+use Rattle.overlay_top.specs.Outcome.{Asking, RunOutcome, report_of, run_by, run_outcome, set_by}
 use Rattle.overlay_top.specs.Ends.{EndsWith, World}
 
 -- What a call comes to in the unbounded machine, which copies the whole memory at each fork, checkpoint and speculation start, and has no
@@ -18,9 +17,7 @@ abbrev pub run_unbounded : List (List ℕ) → Settings → List Command → (Li
 run_unbounded counts settings commands files = run_by unbounded settings.quantum commands (fresh_unbounded counts) files
 
 abbrev pub unbounded_set : List (List ℕ) → Option Settings → List ℕ → (List ℕ → Option (List ℕ)) → RunOutcome
-unbounded_set counts (Some settings) script files =
-    says_by (λ commands. run_unbounded counts settings commands (chosen_files settings.seed files)) (said (chosen_script settings.seed script))
-unbounded_set counts None script files = ended [] BadWords
+unbounded_set counts set script files = set_by (run_unbounded counts) set script files
 
 abbrev pub unbounded_outcome : List (List ℕ) → List (List ℕ) → List ℕ → (List ℕ → Option (List ℕ)) → RunOutcome
 unbounded_outcome counts words script files = unbounded_set counts (settings_of words) script files

@@ -1,7 +1,8 @@
-ghost use Rattle.std.specs.Prelude.{◌≡◌, ◌≢◌, ◌⊎◌, ◌≤◌, IsSome, None, map, string_bytes};
+ghost use Rattle.std.specs.Prelude.{◌≡◌, ◌≢◌, ◌⊎◌, ◌≤◌, true, IsSome, None, map, string_bytes};
 ghost use Rattle.workload.specs.Script.{made_script};
 ghost use Rattle.workload.specs.File.{made_file};
 ghost use Rattle.overlay_top.specs.Outcome.{asking_of, chosen_files, chosen_script, names_asked, run_asking, run_outcome, said, said_outcome};
+ghost use Rattle.overlay_top.specs.InOrder.{is_in_order};
 ghost use Rattle.overlay_top.specs.Unbounded.{EndsUnbounded};
 ghost use Rattle.overlay_top.specs.Words.{AreInRange, seed_set, settings_of};
 ghost use Rattle.overlay_top.specs.Status.{code_of};
@@ -229,6 +230,14 @@ pub fn run_program<S: Source, H: Shelf, K: Sink>(
         → (run_outcome (map string_bytes words.now) (S.left script.old) (H.files shelf.old)).status ≡ Status.Done
         → NoFault S.Source H.Shelf K.Sink (world_of script.old shelf.old sink.old) (world_of script.new shelf.new sink.new)
         → IsCompleteWith K.Sink (run_outcome (map string_bytes words.now) (S.left script.old) (H.files shelf.old)) sink.old sink.new result }
+
+    // That status is 0 exactly where all is in order with the words, the script and the files.
+    ensures in_order { S.tells → H.tells
+        → is_in_order (map string_bytes words.now) (S.left script.old) (H.files shelf.old) ≡ true
+        → NoFault S.Source H.Shelf K.Sink (world_of script.old shelf.old sink.old) (world_of script.new shelf.new sink.new)
+        → IsCompleteWith K.Sink (run_outcome (map string_bytes words.now) (S.left script.old) (H.files shelf.old)) sink.old sink.new result }
+    ensures status0 { S.tells → H.tells → result ≡ 0
+        → is_in_order (map string_bytes words.now) (S.left script.old) (H.files shelf.old) ≡ true }
 {
     match read_words(alloc, words) {
         Ok(settings) => run_chosen(alloc, settings, script, shelf, sink).code(),

@@ -1,10 +1,11 @@
 use Rattle.std.proofs.Common.{map, string_bytes, subst, Err}
 use Rattle.overlay_top.specs.declared.status.Status.TheVariants.{BadWords, NoMemory}
 use Rattle.overlay_top.specs.Outcome.{run_asking, run_outcome}
-use Rattle.overlay_top.specs.Words.{ReadsWords}
+use Rattle.overlay_top.specs.Words.{ReadsWords, settings_of}
 use Rattle.overlay_top.specs.Ends.{world_of}
 use Rattle.overlay_top.proofs.Chosen.{asks_none, asks_set, complete_as, ends_refused, ends_set, memory_as, memory_takes, no_seed, says_set, seed_is, takes_set, told_both, told_made, words_take}
 use Rattle.overlay_top.proofs.Codes.{other_number}
+use Rattle.overlay_top.proofs.InOrder.{done_in_order, in_order_done, with_done}
 use Rattle.overlay_top.proofs.Unbounded.{as_unbounded}
 use Rattle.overlay_top.proofs.top.run_program.Goals as goal
 
@@ -64,6 +65,19 @@ returns-in-Ok-clause-complete g c s h =
     complete_as g.S.Source g.H.Shelf g.K.Sink (run_outcome words left (g.H.Shelf.files c.args.shelf.now)) (run_asking words left) _ _ c.run_chosen.result c.code.result c.code.ensures
     (ends_set words c.in-Ok.settings left c.in-Ok.ensures.reads g.S.Source g.H.Shelf g.K.Sink
     (g.H.Shelf.files c.args.shelf.now) _ _ c.run_chosen.result (c.run_chosen.ensures.ends (told_both c.in-Ok.settings.seed s h)))
+
+pub returns-in-Ok-clause-in_order : goal.returns-in-Ok-clause-in_order
+returns-in-Ok-clause-in_order g c s h order =
+    returns-in-Ok-clause-complete g c s h
+    (in_order_done (settings_of (map string_bytes c.args.words.now)) (g.S.Source.left c.args.script.now) (g.H.Shelf.files c.args.shelf.now) order)
+
+pub returns-in-Ok-clause-status0 : goal.returns-in-Ok-clause-status0
+returns-in-Ok-clause-status0 g c s h none =
+    let words = map string_bytes c.args.words.now in
+    let left = g.S.Source.left c.args.script.now in
+    let files = g.H.Shelf.files c.args.shelf.now in
+    done_in_order (settings_of words) left files
+    (with_done g.S.Source g.H.Shelf g.K.Sink (run_outcome words left files) (run_asking words left) _ _ c.code.result (returns-in-Ok-clause-headline g c s h) none)
 
 -- They aren't the command's.
 
