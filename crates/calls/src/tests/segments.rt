@@ -47,7 +47,9 @@ fn expect_segment(rt: &impl Abort, store: &SegmentStore, block: Block) -> Segmen
 }
 
 // Puts a line of equal bytes into a segment, which lacks it and has a place for it.
-fn put(rt: &impl Abort, store: &mut SegmentStore, block: Block, line: u8, byte: u8) {
+fn put(rt: &impl Abort, store: &mut SegmentStore, block: Block, line: u8, byte: u8)
+    ensures settled { AreSettled store.old.blocks → AreSettled store.new.blocks }
+{
     let segment = expect_segment(rt, store, block);
     assert!(rt; line < 64);
     assert!(rt; !segment.bits.has(line));
@@ -136,5 +138,117 @@ fn count_quarters<L: Ledger>(rt: &impl Abort, store: &mut SegmentStore, blank: B
 fn two_quarters_become_a_half(rt: HostRuntime) -> Result<(), Fail> {
     let mut store = SegmentStore::new(rt.alloc(), 1)?;
     count_quarters::<Brand>(&rt, &mut store, Blank::new(1));
+    Ok(())
+}
+
+// The name of a page of space 1.
+fn name(page: u8) -> OverlayPage {
+    OverlayPage::of(1, 977 * u64::from(page))
+}
+
+// The block of the segment of an owner among the first 64 units, which has to be there with an order.
+fn block_of(rt: &impl Abort, store: &SegmentStore, owner: OverlayPage, order: u8) -> Block {
+    for unit in 0..64 {
+        if store.owner_at(unit) == Some(owner) {
+            return Block { unit, order };
+        }
+    }
+    panic!(rt; "no segment of {owner:?}")
+}
+
+// Begins a segment of a page with one line, if there is room for its order, and answers whether it did.
+fn try_begin(rt: &impl Abort, store: &mut SegmentStore, page: u8, order: u8) -> bool
+    requires settled { AreSettled store.old.blocks }
+    ensures settled { AreSettled store.new.blocks }
+{
+    assert!(rt; order <= 4);
+    let room = store.has_room(order);
+    assert_eq!(rt; room, store.free_units() >= 1 << order);
+    if room {
+        let block = store.begin_segment(name(page), order);
+        put(rt, store, block, page, page);
+    }
+    room
+}
+
+// Ends the segment of a page, and settles the store.
+fn end<L: Ledger>(
+    rt: &impl Abort,
+    store: &mut SegmentStore,
+    page: u8,
+    order: u8,
+    steps: &mut Steps<L>,
+)
+    requires settled { AreSettled store.old.blocks }
+    ensures settled { AreSettled store.new.blocks }
+{
+    let block = block_of(rt, store, name(page), order);
+    expect_segment(rt, store, block);
+    store.end_segment(block);
+    let mut moves = ArrayVec::new();
+    store.settle(&mut moves, steps);
+}
+
+// The segment of a page has its one line.
+fn expect_line(rt: &impl Abort, store: &SegmentStore, page: u8, order: u8) {
+    let block = block_of(rt, store, name(page), order);
+    let segment = expect_segment(rt, store, block);
+    assert!(rt; page < 64);
+    assert!(rt; segment.bits.len() == 1);
+    assert!(rt; segment.bits.has(page));
+    assert_eq!(rt; *store.get(block, page), [page; 64]);
+}
+
+// Begins the segment of a page, or ends it.
+fn turn<L: Ledger>(
+    rt: &impl Abort,
+    store: &mut SegmentStore,
+    orders: &mut [Option<u8>; 24],
+    seed: u32,
+    steps: &mut Steps<L>,
+)
+    requires settled { AreSettled store.old.blocks }
+    ensures settled { AreSettled store.new.blocks }
+{
+    let page = (seed >> 16) as usize % 24;
+    match orders[page] {
+        Some(order) => {
+            end(rt, store, page as u8, order, steps);
+            orders[page] = None;
+        }
+        None => {
+            let order = (seed >> 29) as u8 % 5;
+            if try_begin(rt, store, page as u8, order) {
+                orders[page] = Some(order);
+            }
+        }
+    }
+}
+
+// Segments of 24 pages in four frames, beside a list of their orders.
+fn segments_beside_a_list<L: Ledger>(rt: &impl Abort, store: &mut SegmentStore, blank: Blank)
+    requires name { blank.name ≡ L.name }
+    requires parts { blank.parts ≡ L.parts }
+    requires one { blank.parts ≡ 1 }
+    requires settled { AreSettled store.old.blocks }
+{
+    let mut steps = Steps::<L>::new(blank);
+    let mut orders: [Option<u8>; 24] = [None; 24];
+    let mut seed = 1u32;
+    'turning: for _turn in 0..2000 {
+        seed = seed.wrapping_mul(1_664_525).wrapping_add(1_013_904_223);
+        turn(rt, store, &mut orders, seed, &mut steps);
+        for page in 0..24usize {
+            if let Some(order) = orders[page] {
+                expect_line(rt, store, page as u8, order);
+            }
+        }
+    }
+}
+
+#[test]
+fn segments_stay_what_they_are_while_others_end(rt: HostRuntime) -> Result<(), Fail> {
+    let mut store = SegmentStore::new(rt.alloc(), 4)?;
+    segments_beside_a_list::<Brand>(&rt, &mut store, Blank::new(1));
     Ok(())
 }
