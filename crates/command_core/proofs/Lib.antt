@@ -20,3 +20,4 @@ pub mod Debugging
 pub mod Bytes
 pub mod Stores
 pub mod Stills
+pub mod Wanting

@@ -6,6 +6,7 @@ use Rattle.std.specs.Prelude.{IfSome}
 use Rattle.std.proofs.lemmas.Bool.Decides.{nat_tests}
 use Rattle.std.specs.FinMap.{FinMap, empty, get, get-empty, insert, remove}
 use Rattle.number_maps.specs.Keys.{alike, by_key, get_other, get_same, removed_other, removed_same}
+use Rattle.number_maps.specs.Views.{viewed, viewed_empty}
 use Rattle.sizes.specs.declared.TheConstants.{LAST_SPACE}
 use Rattle.overlay_pages.specs.Calls.{IsEmptyState}
 use Rattle.overlay_pages.specs.State.{SpaceState, State, base_of, books, held_page}
@@ -23,7 +24,7 @@ use Rattle.machine_core.specs.Laws.{processes_at, runs_shown, whole_by}
 use Rattle.machine_core.specs.Load.{IsAsBefore, IsLoaded, loaded_process}
 use Rattle.round_robin.specs.MemberLaws.{next_has}
 use Rattle.round_robin.specs.Turns.{Turns, next_number}
-use Rattle.command_core.specs.Sessions.{IsFree, IsSession, KeepsFree, KeepsSession, OwnSpaces, Rise}
+use Rattle.command_core.specs.Sessions.{IsFree, IsSession, KeepsFree, KeepsSession, OwnSpaces, Rise, bases_of}
 use Rattle.command_core.proofs.Keeping.{each, each_more, rise_more, rise_on}
 
 -- Which spaces and processes are there.
@@ -143,6 +144,10 @@ module _ (machine : Machine) (frames : ℕ) (none : IsEmptyState frames (spaces_
 
   no_wholes : processes_of machine ≡ empty
   no_wholes = alike _ _ (λ q. processes_at machine q ∙ ap (option_map (whole_in (spaces_of machine) q)) (no_process_yet q) ∙ sym (get-empty nat_cmp q))
+
+  pub no_bases : bases_of (spaces_of machine) ≡ empty
+  unfolding bases_of
+  no_bases = ap (viewed (λ p (_ : SpaceState). base_of (spaces_of machine) p)) none.spaces ∙ viewed_empty (λ p (_ : SpaceState). base_of (spaces_of machine) p)
 
   pub wholes_start : lists_of machine ≡ no_translations → wholes machine ≡ (fresh frames).wholes
   wholes_start no_lists = λ i. record { processes = no_wholes i; ledger = no_books i; frames = none.count i; translations = no_lists i }

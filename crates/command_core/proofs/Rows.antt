@@ -161,6 +161,7 @@ module _ (row : Registry → Row) (old new : Machine) where
     gives = λ kept breaks drawn. row_refused (row (registry_of (state_of old kept breaks drawn))) (state_of old kept breaks drawn) (state_of new kept breaks drawn) code
         (is (registry_of (state_of old kept breaks drawn))) (same_likes same kept breaks drawn);
     keeps = keeps_same old new same;
+    want = tt;
   }
 
   pub machine_full : (event : Event) (needed limit : ℕ) → ((r : Registry) → first_refusal (row r).refusals ≡ None)
@@ -174,6 +175,7 @@ module _ (row : Registry → Row) (old new : Machine) where
         row_full (row r) before (state_of new kept breaks drawn) needed limit (none r) (may r) (ap (λ e. is_event_full e before.wholes) (by r) ∙ full)
         (needed_is ∙ sym (ap (λ e. event_needs e before.wholes) (by r))) limit_is (same_likes same kept breaks drawn);
     keeps = keeps_same old new same;
+    want = tt;
   }
 
   pub machine_done : ((r : Registry) → first_refusal (row r).refusals ≡ None)
@@ -190,6 +192,7 @@ module _ (row : Registry → Row) (old new : Machine) where
         (row_accepted (row r) before (state_of new kept breaks drawn) (none r) (enough kept breaks drawn)
         (record { wholes = like kept breaks drawn; checkpoints = kept_is r; breakpoints = breaks_is r; drawn = drawn_is r }));
     keeps = keeps;
+    want = tt;
   }
 
 -- What is shown of checkpoints stays where their spaces do.

@@ -15,7 +15,7 @@ use Rattle.translation_cache.specs.Bare.{BareTranslations}
 use Rattle.translation_cache.specs.Codes.{translations_code}
 use base.Stored.{coded_unit}
 use Rattle.command_core.specs.State.{Checkpoint, State}
-use Rattle.command_core.specs.Sessions.{InSession}
+use Rattle.command_core.specs.Sessions.{Bases, InSession}
 
 -- How sessions are told apart as values: by their parts.
 
@@ -64,5 +64,10 @@ state_code =
     (λ s. (s.wholes, (s.checkpoints, (s.breakpoints, s.drawn))))
     (λ t. record { wholes = t.0; checkpoints = t.1.0; breakpoints = t.1.1.0; drawn = t.1.1.1 }) (λ _. refl)
 
+abbrev pub bases_code : Coded Bases
+bases_code = code coded_ℕ memory_code
+
 abbrev pub session_code : Coded InSession
-session_code = code_by (State × ℕ) (coded× state_code coded_ℕ) (λ s. (s.state, s.quantum)) (λ t. record { state = t.0; quantum = t.1 }) (λ _. refl)
+session_code =
+    code_by (State × (ℕ × Bases)) (coded× state_code (coded× coded_ℕ bases_code)) (λ s. (s.state, (s.quantum, s.bases)))
+    (λ t. record { state = t.0; quantum = t.1.0; bases = t.1.1 }) (λ _. refl)

@@ -1,10 +1,11 @@
 use Rattle.std.specs.Prelude.{◌≡◌, ℕ, List, true}
 use Rattle.breakpoints.specs.Breakpoints.{Breaks}
 use Rattle.machine_core.specs.Machine.{Machine}
+use Rattle.machine_core.specs.Load.{IsAsBefore}
 use Rattle.report_text.specs.declared.answer.Answer.{Answer}
 use Rattle.report_text.specs.declared.answer.Answer.TheVariants.{Memory}
 use Rattle.command_core.specs.State.{AreLikeStates, Checkpoint, Registry, State, registry_of}
-use Rattle.command_core.specs.Sessions.{KeepsSession, state_of}
+use Rattle.command_core.specs.Sessions.{InSession, KeepsSession, state_of}
 use Rattle.command_core.specs.Rows.{Changed, Row, change_by, may_want_memory}
 
 -- What an object answers of a change.
@@ -20,9 +21,20 @@ abbrev pub GivesChange : Row → State → Answer → State → Type 0
 GivesChange row old Memory new = (may_want_memory row old ≡ true) × (new ≡ old)
 GivesChange row old answer new = ComesTo (change_by row old) answer new
 
+-- After want of memory all of a session is as before, and so are the bases of its spaces. A machine then has the same spaces,
+-- translations and processes.
+abbrev pub WantKeeps : InSession → Answer → InSession → Type 0
+WantKeeps old Memory new = new ≡ old
+WantKeeps old answer new = Unit {0}
+
+abbrev pub WantKeepsMachine : Machine → Answer → Machine → Type 0
+WantKeepsMachine old Memory new = IsAsBefore old new
+WantKeepsMachine old answer new = Unit {0}
+
 -- what a machine answers of it, whatever checkpoints and breakpoints there are and however many numbers were drawn; and it stays that of
 -- a session
 pub record MachineGives (row : Registry → Row) (old : Machine) (answer : Answer) (new : Machine) : Type 0 where
   pub gives : (kept : List Checkpoint) (breaks : Breaks) (drawn : ℕ)
       → GivesChange (row (registry_of (state_of old kept breaks drawn))) (state_of old kept breaks drawn) answer (state_of new kept breaks drawn)
   pub keeps : KeepsSession old new
+  pub want : WantKeepsMachine old answer new

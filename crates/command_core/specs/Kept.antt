@@ -8,7 +8,7 @@ use Rattle.machine_core.specs.Machine.{Machine, spaces_of}
 use Rattle.report_text.specs.Answers.{IsCheckpointName}
 use Rattle.command_core.specs.declared.checkpoints.Kept.{Kept}
 use Rattle.command_core.specs.State.{Checkpoint, State as Shown}
-use Rattle.command_core.specs.Sessions.{InSession, state_of}
+use Rattle.command_core.specs.Sessions.{InSession, bases_of, state_of}
 
 -- What a session keeps of checkpoints, and what it shows of them.
 
@@ -48,7 +48,8 @@ abbrev pub shown_state : Machine → List Kept → Breaks → ℕ → Shown
 shown_state machine xs breakpoints drawn = state_of machine (checkpoints_in (spaces_of machine) xs) breakpoints drawn
 
 abbrev pub shown_session : Machine → List Kept → Breaks → ℕ → ℕ → InSession
-shown_session machine xs breakpoints drawn quantum = record { state = shown_state machine xs breakpoints drawn; quantum = quantum }
+shown_session machine xs breakpoints drawn quantum =
+    record { state = shown_state machine xs breakpoints drawn; quantum = quantum; bases = bases_of (spaces_of machine) }
 
 -- the spaces of checkpoints
 abbrev pub spaces_kept : List Kept → List ℕ

@@ -1,7 +1,11 @@
 use Rattle.std.specs.Prelude.{◌≡◌, ℕ, ◌<◌, ◌≤◌, true, false, List, [], ◌∷◌, None}
 use Rattle.std.specs.Option.{is_some}
 use Rattle.std.specs.List.{AllByRecursion}
-use Rattle.std.specs.FinMap.{empty, get}
+use Rattle.std.specs.Ordering.{nat_cmp}
+use Rattle.std.specs.FinMap.{FinMap, empty, get}
+use Rattle.number_maps.specs.Views.{viewed}
+use Rattle.ovl_io.specs.Memory.{Memory}
+use Rattle.overlay_pages.specs.State.{State as Spaces, base_of}
 use Rattle.breakpoints.specs.Breakpoints.{Breaks}
 use Rattle.sizes.specs.declared.TheConstants.{LAST_SPACE}
 use Rattle.space_maps.specs.Spaces.{space_in}
@@ -54,10 +58,18 @@ abbrev pub state_of : Machine → List Checkpoint → Breaks → ℕ → State
 state_of machine checkpoints breakpoints drawn =
     record { wholes = wholes machine; checkpoints = checkpoints; breakpoints = breakpoints; drawn = drawn }
 
--- A session: the state, and the quantum of turns by round robin.
+-- The base of each space that is there: what it would be without its overlays. The state tells that of speculating processes alone.
+abbrev pub Bases : Type 0
+Bases = FinMap nat_cmp Memory
+
+unfoldable pub bases_of : Spaces → Bases
+bases_of spaces = viewed (λ p _. base_of spaces p) spaces.spaces
+
+-- A session: the state, the quantum of turns by round robin, and the bases of all spaces.
 pub record InSession : Type 0 where
   pub state : State
   pub quantum : ℕ
+  pub bases : Bases
 
 -- all but the processes is as it was
 pub record KeepsRest (old new : InSession) : Type 0 where

@@ -4,7 +4,7 @@ ghost use Rattle.report_text.specs.Answers.{IsCheckpointName};
 ghost use Rattle.sizes.specs.declared.TheConstants.{ADDRESS_END, LAST_SPACE, MOST_FRAMES, PAGE_BYTES};
 ghost use Rattle.command_core.specs.State.{fresh, registry_of};
 ghost use Rattle.command_core.specs.Sessions.{KeepsRest};
-ghost use Rattle.command_core.specs.Giving.{GivesChange};
+ghost use Rattle.command_core.specs.Giving.{GivesChange, WantKeeps};
 ghost use Rattle.command_core.specs.Rows.{still_row};
 ghost use Rattle.command_core.specs.Copies.{fork_row};
 ghost use Rattle.command_core.specs.Overlays.{overlay_row};
@@ -15,7 +15,7 @@ ghost use Rattle.command_core.specs.Commands.{RunsLoaded, asks};
 ghost use Rattle.command_core.specs.Looks.{BeginsStep, CanRead, LooksAt, LooksAtCheckpoint, NextProcess, ReadsBytes, counts_of, look_of, looked_at};
 ghost use Rattle.command_core.specs.Ample.{IsAmplyDone};
 ghost use Rattle.command_core.specs.Standing.{SessionAnswersAs, GivesAs, HoldsFor, SessionStandsFor, TurnsAs, begun_run, begun_step, ends_run, speaks, takes_turn};
-ghost use Rattle.std.specs.FinMap.{get};
+ghost use Rattle.std.specs.FinMap.{empty, get};
 ghost use Rattle.command_core.specs.Turns.{begun_by, lines_left, run_found};
 
 use crate::checkpoints::{Checkpoints, Kept};
@@ -68,7 +68,7 @@ pub struct Counts {
     pub limit: u32,
     /// The own lines of their pages.
     pub lines: u32,
-    /// The translations that were there, and those that weren't; 0, since they aren't counted.
+    /// The translations that were there, and those that weren't.
     pub hits: u64,
     pub misses: u64,
 }
@@ -130,7 +130,7 @@ impl Session {
         requires few { frames ≤ MOST_FRAMES }
         requires quantum { 1 ≤ quantum }
         ensures session { IfOk result (λ session. session
-            ≡ record { state = fresh frames; quantum = quantum }) }
+            ≡ record { state = fresh frames; quantum = quantum; bases = empty }) }
         ensures stands { IfOk result (λ session. SessionStandsFor session (fresh frames)) }
     {
         Ok(Session {
@@ -151,6 +151,7 @@ impl Session {
             result self.new.state }
         ensures stands { GivesAs (load_row file.now) self.old result self.new }
         ensures ample { IsAmplyDone (load_row file.now) self.old result }
+        ensures want { WantKeeps self.old result self.new }
         ensures told { CanBeTold result }
         ensures runs { RunsLoaded result self.new.state }
         ensures quantum { self.new.quantum ≡ self.old.quantum }
@@ -186,6 +187,7 @@ impl Session {
     fn fork(&mut self, p: u16) -> Answer
         ensures gives { GivesChange (on_process p (fork_row p) (registry_of self.old.state)) self.old.state
             result self.new.state }
+        ensures want { WantKeeps self.old result self.new }
         ensures told { CanBeTold result }
         ensures quantum { self.new.quantum ≡ self.old.quantum }
     {
@@ -214,6 +216,7 @@ impl Session {
         requires { IsCheckpointName name.now }
         ensures gives { GivesChange (on_process p (checkpoint_row p name.now) (registry_of self.old.state))
             self.old.state result self.new.state }
+        ensures want { WantKeeps self.old result self.new }
         ensures told { CanBeTold result }
         ensures quantum { self.new.quantum ≡ self.old.quantum }
     {
@@ -250,6 +253,7 @@ impl Session {
     fn restore(&mut self, p: u16, name: &Bytes) -> Answer
         ensures gives { GivesChange (on_process p (restore_row p name.now) (registry_of self.old.state))
             self.old.state result self.new.state }
+        ensures want { WantKeeps self.old result self.new }
         ensures told { CanBeTold result }
         ensures quantum { self.new.quantum ≡ self.old.quantum }
     {
@@ -276,6 +280,7 @@ impl Session {
         ensures gives { GivesChange
             (on_checkpoint name.now (forget_row name.now) (registry_of self.old.state))
             self.old.state result self.new.state }
+        ensures want { WantKeeps self.old result self.new }
         ensures told { CanBeTold result }
         ensures quantum { self.new.quantum ≡ self.old.quantum }
     {
@@ -293,6 +298,7 @@ impl Session {
     fn change_overlays(&mut self, p: u16, change: OverlayChange) -> Answer
         ensures gives { GivesChange (on_process p (overlay_row p change) (registry_of self.old.state))
             self.old.state result self.new.state }
+        ensures want { WantKeeps self.old result self.new }
         ensures told { CanBeTold result }
         ensures quantum { self.new.quantum ≡ self.old.quantum }
     {
@@ -309,6 +315,7 @@ impl Session {
     fn compact(&mut self) -> Answer
         ensures gives { GivesChange (still_row (registry_of self.old.state)) self.old.state
             result self.new.state }
+        ensures want { WantKeeps self.old result self.new }
         ensures told { CanBeTold result }
         ensures quantum { self.new.quantum ≡ self.old.quantum }
     {
@@ -322,6 +329,7 @@ impl Session {
         requires { length bytes.now ≤ PAGE_BYTES }
         ensures gives { GivesChange (on_process p (poke_row p address bytes.now) (registry_of self.old.state))
             self.old.state result self.new.state }
+        ensures want { WantKeeps self.old result self.new }
         ensures told { CanBeTold result }
         ensures quantum { self.new.quantum ≡ self.old.quantum }
     {
@@ -338,6 +346,7 @@ impl Session {
     fn add_breakpoint(&mut self, p: u16, address: u64) -> Answer
         ensures gives { GivesChange (on_process p (break_row p address) (registry_of self.old.state))
             self.old.state result self.new.state }
+        ensures want { WantKeeps self.old result self.new }
         ensures told { CanBeTold result }
         ensures quantum { self.new.quantum ≡ self.old.quantum }
     {
@@ -356,6 +365,7 @@ impl Session {
     fn remove_breakpoint(&mut self, p: u16, address: u64) -> Answer
         ensures gives { GivesChange (on_process p (unbreak_row p address) (registry_of self.old.state))
             self.old.state result self.new.state }
+        ensures want { WantKeeps self.old result self.new }
         ensures told { CanBeTold result }
         ensures quantum { self.new.quantum ≡ self.old.quantum }
     {
@@ -371,6 +381,7 @@ impl Session {
     fn drop_process(&mut self, p: u16) -> Answer
         ensures gives { GivesChange (on_process p (drop_row p) (registry_of self.old.state)) self.old.state
             result self.new.state }
+        ensures want { WantKeeps self.old result self.new }
         ensures told { CanBeTold result }
         ensures quantum { self.new.quantum ≡ self.old.quantum }
     {
@@ -390,6 +401,7 @@ impl Session {
         requires given { IsGiven command.now }
         ensures gives { GivesChange (change_row [] command.now (registry_of self.old.state)) self.old.state
             result self.new.state }
+        ensures want { WantKeeps self.old result self.new }
         ensures told { CanBeTold result }
         ensures quantum { self.new.quantum ≡ self.old.quantum }
     {
@@ -434,6 +446,7 @@ impl Session {
             result self.new.state }
         ensures stands { GivesAs (change_row [] command.now) self.old result self.new }
         ensures ample { IsAmplyDone (change_row [] command.now) self.old result }
+        ensures want { WantKeeps self.old result self.new }
         ensures told { CanBeTold result }
         ensures quantum { self.new.quantum ≡ self.old.quantum }
     {

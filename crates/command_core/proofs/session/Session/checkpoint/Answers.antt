@@ -5,13 +5,14 @@ use Rattle.report_text.specs.declared.answer.Answer.TheVariants.{Refused, Saved}
 use Rattle.command_core.specs.declared.checkpoints.Kept.{Kept}
 use Rattle.command_core.specs.State.{registry_of}
 use Rattle.command_core.specs.Sessions.{InSession, IsSession}
-use Rattle.command_core.specs.Kept.{shown_state, spaces_kept}
-use Rattle.command_core.specs.Giving.{GivesChange}
+use Rattle.command_core.specs.Kept.{shown_session, shown_state, spaces_kept}
+use Rattle.command_core.specs.Giving.{GivesChange, WantKeeps}
 use Rattle.command_core.specs.Checkpoints.{SavesSpace, checkpoint_row}
 use Rattle.command_core.specs.Changes.{answer_of, on_process}
 use Rattle.command_core.proofs.Breaks.{above_more}
 use Rattle.command_core.proofs.Copies.{copy_keeps}
 use Rattle.command_core.proofs.Savings.{checkpoint_refused, checkpoint_saved, checkpoint_unsaved, session_of_saved, taken_is, told_mark}
+use Rattle.command_core.proofs.Wanting.{copy_keeps_all, told_keeps}
 use Rattle.command_core.proofs.session.Session.checkpoint.Goals as goal
 
 pub returns-in-Some-checkpoint_refusal-clause-gives : goal.returns-in-Some-checkpoint_refusal-clause-gives
@@ -86,3 +87,14 @@ returns-in-Err-clause-gives c =
     (told_mark s.machine p c.is_speculating-speculating.result c.memory.result.now c.is_speculating-speculating.ensures.mark c.memory.ensures)
     (taken_is s.checkpoints c.as_slice.result.now name c.has-taken.result c.as_slice.ensures c.has-taken.ensures)
     c.save_process.new.machine c.self.invariant.0 (sym c.in-None-checkpoint_refusal.ensures) c.in-Err.error c.in-Err.ensures.saves)))
+
+pub returns-in-Err-clause-want : goal.returns-in-Err-clause-want
+returns-in-Err-clause-want c =
+    let s = c.self.inside in
+    let old = shown_session s.machine s.checkpoints s.breakpoints s.drawn s.quantum in
+    let new = c.save_process.new.machine in
+    told_keeps c.args.self.now old (shown_session new c.save_process.new.checkpoints s.breakpoints s.drawn s.quantum)
+    c.not_made.result (answer_of c.in-Err.error) c.self.view_is c.not_made.ensures
+    (subst (λ (xs : List Kept). WantKeeps (shown_session c.self.inside.machine c.self.inside.checkpoints c.self.inside.breakpoints c.self.inside.drawn c.self.inside.quantum)
+    (answer_of c.in-Err.error) (shown_session c.save_process.new.machine xs c.self.inside.breakpoints c.self.inside.drawn c.self.inside.quantum)) (sym c.in-Err.ensures.kept)
+    (copy_keeps_all s.machine new s.checkpoints s.breakpoints s.drawn s.quantum c.args.p (s.drawn + 1) c.in-Err.error c.in-Err.ensures.saves))

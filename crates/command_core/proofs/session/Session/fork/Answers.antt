@@ -2,14 +2,15 @@ use Rattle.std.proofs.Common.{rules, arith, ◌+◌, ◌≤◌, subst, sym, Some
 use Rattle.sizes.specs.declared.TheConstants.{LAST_SPACE}
 use Rattle.command_core.specs.State.{registry_of}
 use Rattle.command_core.specs.Sessions.{InSession}
-use Rattle.command_core.specs.Kept.{shown_state, spaces_kept}
+use Rattle.command_core.specs.Kept.{shown_session, shown_state, spaces_kept}
 use Rattle.command_core.specs.Giving.{GivesChange}
 use Rattle.command_core.specs.Copies.{fork_row}
-use Rattle.command_core.specs.Changes.{on_process}
+use Rattle.command_core.specs.Changes.{answer_of, on_process}
 use Rattle.report_text.specs.declared.answer.Answer.TheVariants.{Forked, Refused}
 use Rattle.command_core.proofs.Breaks.{above_more}
 use Rattle.command_core.proofs.Copies.{copy_keeps}
 use Rattle.command_core.proofs.Forkings.{fork_refused, forked, not_forked, refusal_by, session_forked}
+use Rattle.command_core.proofs.Wanting.{copy_keeps_all, told_keeps}
 use Rattle.command_core.proofs.session.Session.fork.Goals as goal
 
 pub invariant_of-self : goal.invariant_of-self
@@ -59,3 +60,11 @@ returns-in-Err-clause-gives c =
     (not_forked s.machine s.checkpoints s.breakpoints s.drawn p c.in-Some.process.now c.fork_process.new.machine c.self.invariant.0 (sym c.in-Some.ensures.kept)
     (refusal_by s.machine s.drawn p c.in-Some.process.now c.is_speculating-speculating.result c.memory.result.now None
     c.in-None-fork_refusal.ensures c.is_speculating-speculating.ensures.mark c.memory.ensures) (c.self.invariant.2 (s.drawn + 1) (omega arith)) c.in-Err.error c.in-Err.ensures))
+
+pub returns-in-Err-clause-want : goal.returns-in-Err-clause-want
+returns-in-Err-clause-want c =
+    let s = c.self.inside in
+    let new = c.fork_process.new.machine in
+    told_keeps c.args.self.now (shown_session s.machine s.checkpoints s.breakpoints s.drawn s.quantum) (shown_session new s.checkpoints s.breakpoints s.drawn s.quantum)
+    c.not_made.result (answer_of c.in-Err.error) c.self.view_is c.not_made.ensures
+    (copy_keeps_all s.machine new s.checkpoints s.breakpoints s.drawn s.quantum c.args.p (s.drawn + 1) c.in-Err.error c.in-Err.ensures)

@@ -5,7 +5,7 @@ use Rattle.command_core.specs.State.{registry_of}
 use Rattle.command_core.specs.Sessions.{InSession}
 use Rattle.command_core.specs.Kept.{checkpoints_in, shown_session, shown_state, spaces_kept}
 use Rattle.command_core.specs.Giving.{GivesChange}
-use Rattle.command_core.specs.Changes.{load_row}
+use Rattle.command_core.specs.Changes.{answer_of, load_row}
 use Rattle.report_text.specs.declared.answer.Answer.TheVariants.{Loaded}
 use Rattle.command_core.specs.Ample.{amply_loaded}
 use Rattle.command_core.specs.LikeLaws.{gives_as}
@@ -13,6 +13,7 @@ use Rattle.command_core.proofs.Breaks.{above_more}
 use Rattle.command_core.proofs.Loadings.{gives_loaded, gives_other, runs_loaded, session_other}
 use Rattle.command_core.proofs.Places.{free_same, is_below, next_same, session_load}
 use Rattle.command_core.proofs.Rows.{gives_kept}
+use Rattle.command_core.proofs.Wanting.{load_keeps_all, told_keeps}
 use Rattle.command_core.proofs.session.Session.load.Goals as goal
 
 pub invariant_of-self : goal.invariant_of-self
@@ -85,3 +86,11 @@ pub returns-clause-ample : goal.returns-clause-ample
 returns-clause-ample c =
     amply_loaded c.args.file.now c.args.self.now
     (shown_session c.load.new.self c.self.inside.checkpoints c.self.inside.breakpoints c.self.inside.drawn c.self.inside.quantum) c.not_made.result (returns-clause-stands c)
+
+pub returns-clause-want : goal.returns-clause-want
+returns-clause-want c =
+    let s = c.self.inside in
+    let new = c.load.new.self in
+    told_keeps c.args.self.now (shown_session s.machine s.checkpoints s.breakpoints s.drawn s.quantum) (shown_session new s.checkpoints s.breakpoints s.drawn s.quantum)
+    c.not_made.result (answer_of c.in-Err-load.error) c.self.view_is c.not_made.ensures
+    (load_keeps_all s.machine new s.checkpoints s.breakpoints s.drawn s.quantum (s.drawn + 1) c.args.file.now c.in-Err-load.error c.in-Err-load.ensures.loads)

@@ -4,18 +4,22 @@ use Rattle.std.specs.FinMap.{empty, get, get-empty}
 use Rattle.breakpoints.specs.Breakpoints.{Breaks}
 use Rattle.machine_core.specs.Machine.{Wholes}
 use Rattle.command_core.specs.State.{State, fresh}
-use Rattle.command_core.specs.Sessions.{InSession, IsSession}
+use Rattle.command_core.specs.Sessions.{Bases, InSession, IsSession}
 use Rattle.command_core.specs.Kept.{shown_session, shown_state, spaces_kept}
 use Rattle.command_core.specs.LikeLaws.{states_same}
-use Rattle.command_core.proofs.Places.{session_start, wholes_start}
+use Rattle.command_core.proofs.Places.{no_bases, session_start, wholes_start}
 use Rattle.command_core.proofs.session.Session.new.Goals as goal
 
 pub returns-clause-session : goal.returns-clause-session
 returns-clause-session c =
-    let started : Wholes → InSession = λ w. record { state = record { wholes = w; checkpoints = []; breakpoints = empty; drawn = 0 }; quantum = c.args.quantum } in
+    let started : Wholes → Bases → InSession =
+    λ w bases. record { state = record { wholes = w; checkpoints = []; breakpoints = empty; drawn = 0 }; quantum = c.args.quantum; bases = bases } in
+    let machine = c.in_ok-new.field-0 in
+    let all = wholes_start machine c.args.frames c.in_ok-new.ensures.spaces c.in_ok-new.ensures.processes c.in_ok-new.ensures.lists in
+    let none = no_bases machine c.args.frames c.in_ok-new.ensures.spaces c.in_ok-new.ensures.processes in
     ap (λ xs. shown_session c.in_ok-new.field-0 xs c.new-3.result 0 c.args.quantum) c.new-2.ensures
     ∙ ap (λ (breaks : Breaks). shown_session c.in_ok-new.field-0 [] breaks 0 c.args.quantum) c.new-3.ensures
-    ∙ ap started (wholes_start c.in_ok-new.field-0 c.args.frames c.in_ok-new.ensures.spaces c.in_ok-new.ensures.processes c.in_ok-new.ensures.lists)
+    ∙ λ i. started (all i) (none i)
 
 pub returns-clause-stands : goal.returns-clause-stands
 returns-clause-stands c =

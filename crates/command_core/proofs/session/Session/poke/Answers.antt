@@ -1,13 +1,14 @@
-use Rattle.std.proofs.Common.{subst, sym}
+use Rattle.std.proofs.Common.{refl, subst, sym}
 use Rattle.machine_core.specs.Machine.{spaces_of, whole_in}
 use Rattle.command_core.specs.State.{registry_of}
 use Rattle.command_core.specs.Sessions.{InSession, state_of}
-use Rattle.command_core.specs.Kept.{checkpoints_in, shown_state, spaces_kept}
+use Rattle.command_core.specs.Kept.{checkpoints_in, shown_session, shown_state, spaces_kept}
 use Rattle.command_core.specs.Giving.{GivesChange, MachineGives}
 use Rattle.command_core.specs.Debugging.{poke_row}
 use Rattle.command_core.specs.Changes.{on_process}
 use Rattle.command_core.proofs.Places.{free_same}
 use Rattle.command_core.proofs.Rows.{gives_found, gives_kept}
+use Rattle.command_core.proofs.Wanting.{machine_keeps, told_keeps}
 use Rattle.command_core.proofs.session.Session.poke.Goals as goal
 
 pub invariant_of-self : goal.invariant_of-self
@@ -27,3 +28,11 @@ returns-in-Some-clause-gives c =
     (gives_kept (on_process c.args.p row) old new s.checkpoints s.breakpoints s.drawn (free_same old new (spaces_kept s.checkpoints) done.keeps.free c.self.invariant.0.free) c.poke.result s.drawn
     (gives_found old kept s.breakpoints s.drawn c.args.p row c.in-Some.process.now c.poke.result (state_of new kept s.breakpoints s.drawn) (sym c.in-Some.ensures.kept)
     (done.gives kept s.breakpoints s.drawn)))
+
+pub returns-in-Some-clause-want : goal.returns-in-Some-clause-want
+returns-in-Some-clause-want c =
+    let s = c.self.inside in
+    let new = c.poke.new.machine in
+    told_keeps c.args.self.now (shown_session s.machine s.checkpoints s.breakpoints s.drawn s.quantum) (shown_session new s.checkpoints s.breakpoints s.drawn s.quantum)
+    c.poke.result c.poke.result c.self.view_is refl
+    (machine_keeps s.machine new s.checkpoints s.breakpoints s.drawn s.quantum c.poke.result c.poke.ensures.done.want)

@@ -5,15 +5,16 @@ use Rattle.report_text.specs.declared.answer.Answer.TheVariants.{Done, Refused}
 use Rattle.report_text.specs.declared.answer.Code.TheVariants.{NoCheckpoint}
 use Rattle.command_core.specs.State.{registry_of}
 use Rattle.command_core.specs.Sessions.{InSession, IsFree}
-use Rattle.command_core.specs.Kept.{kept_named, shown_state, spaces_kept}
+use Rattle.command_core.specs.Kept.{kept_named, shown_session, shown_state, spaces_kept}
 use Rattle.command_core.specs.Giving.{GivesChange}
 use Rattle.command_core.specs.Copies.{CopiesProcess}
 use Rattle.command_core.specs.Checkpoints.{restore_row}
-use Rattle.command_core.specs.Changes.{on_process}
+use Rattle.command_core.specs.Changes.{answer_of, on_process}
 use Rattle.command_core.proofs.Copies.{copy_keeps}
 use Rattle.command_core.proofs.Keeping.{found_has}
 use Rattle.command_core.proofs.Places.{not_free}
 use Rattle.command_core.proofs.Savings.{free_unmarked, not_restored, restore_unnamed, restored_done, session_of_restored, told_mark}
+use Rattle.command_core.proofs.Wanting.{copy_keeps_all, told_keeps}
 use Rattle.command_core.proofs.session.Session.restore.Goals as goal
 
 pub returns-in-None-get-clause-gives : goal.returns-in-None-get-clause-gives
@@ -88,3 +89,11 @@ returns-in-Err-clause-gives c =
     (not_restored s.machine s.checkpoints s.breakpoints s.drawn c.args.p c.args.name.now c.in-Some.field-0.now (sym c.in-Some.ensures.kept) c.restore_process.new.machine x c.self.invariant.0
     (sym c.if-is_speculating.false ∙ told_mark s.machine c.args.p c.is_speculating.result c.memory.result.now c.is_speculating.ensures.mark c.memory.ensures)
     (sym (c.in-Some-get.ensures ∙ ap (λ n. kept_named n s.checkpoints) c.as_slice.ensures)) c.in-Err.error c.in-Err.ensures))
+
+pub returns-in-Err-clause-want : goal.returns-in-Err-clause-want
+returns-in-Err-clause-want c =
+    let s = c.self.inside in
+    let new = c.restore_process.new.machine in
+    told_keeps c.args.self.now (shown_session s.machine s.checkpoints s.breakpoints s.drawn s.quantum) (shown_session new s.checkpoints s.breakpoints s.drawn s.quantum)
+    c.not_made.result (answer_of c.in-Err.error) c.self.view_is c.not_made.ensures
+    (copy_keeps_all s.machine new s.checkpoints s.breakpoints s.drawn s.quantum c.in-Some-get.kept.now.space c.args.p c.in-Err.error c.in-Err.ensures)
