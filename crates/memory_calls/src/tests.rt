@@ -1,0 +1,3 @@
+mod ledgers;
+mod memory;
+mod spaces;

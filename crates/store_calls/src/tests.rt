@@ -1,0 +1,2 @@
+mod segments;
+mod stores;
