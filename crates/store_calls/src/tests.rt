@@ -1,2 +1,3 @@
+mod releases;
 mod segments;
 mod stores;
