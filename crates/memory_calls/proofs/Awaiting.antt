@@ -1,12 +1,12 @@
-use Rattle.std.specs.Prelude.{◌≡◌, ℕ, List, Option, Some, None, Result, Ok, Err, OnOk, OnErr, refl, zero, suc, ◌+◌}
-use Rattle.std.proofs.Common.{ap, ◌∙◌, sym}
+use Rattle.std.specs.Prelude.{◌≡◌, ℕ, Bool, List, Option, IfSome, IsSome, Some, None, Result, Ok, Err, OnOk, OnErr, refl, zero, suc, ◌+◌}
+use Rattle.std.proofs.Common.{true≢false, ap, ◌∙◌, subst, sym}
 use Rattle.std.specs.Option.{option_map_or}
 use Rattle.std.specs.FinMap as map
-use Rattle.number_maps.specs.Keys.{by_key}
+use Rattle.number_maps.specs.Keys.{by_key, removed_same}
 use Rattle.page_table.specs.declared.entry.PageEntry.{PageEntry}
 use Rattle.overlay_pages.specs.Lines.{zero_page}
 use Rattle.overlay_pages.specs.State.{PageState, SpaceState, State}
-use Rattle.overlay_pages.specs.Changes.{whole_page, with_written, with_zeros, written}
+use Rattle.overlay_pages.specs.Changes.{IsPlaced, copied, whole_page, with_written, with_zeros, written}
 use Rattle.overlay_pages.specs.Calls.{IsEmptyState}
 use Rattle.overlay_pages.specs.View as seen
 use Rattle.overlay_pages.specs.View.{MemoryView}
@@ -16,8 +16,9 @@ use Rattle.overlay_memory.specs.declared.error.MemoryError.TheVariants.{Unmapped
 use Rattle.overlay_memory.specs.declared.error.SpaceError.{SpaceError}
 use Rattle.overlay_memory.specs.declared.error.SpaceError.TheVariants as refused
 use Rattle.overlay_memory.specs.View.{TranslatedView, state_of}
-use Rattle.space_maps.specs.Laws.{space_absent, space_beside, space_put}
-use Rattle.space_maps.specs.Spaces.{cut_page, cut_pages, bare_space, page_in, put_page, put_space, space_in, turned_page, put_pages}
+use Rattle.space_maps.specs.Laws.{space_absent, space_beside, space_left, space_put}
+use Rattle.space_maps.specs.Options.{by_option}
+use Rattle.space_maps.specs.Spaces.{cut_page, cut_pages, cut_space, bare_space, page_in, put_mark, put_page, put_space, space_in, turned_page, put_pages}
 use Rattle.fork_checkpoint.specs.Copied.{Copies}
 
 -- No page of any space awaits, and what calls do leaves it so.
@@ -105,3 +106,20 @@ pub none_awaits_cut : (n from : ℕ) (v : State) (s : ℕ) → NoneAwaits v → 
 unfolding cut_pages cut_page
 none_awaits_cut zero from v s settled = settled
 none_awaits_cut (suc n) from v s settled = none_awaits_put (cut_pages v s from n) s _ (none_awaits_cut n from v s settled) (none_awaits_cut n from v s settled s)
+
+-- what a mark, a space that goes, and a page that is copied leave
+pub none_awaits_marked : (v : State) (s : ℕ) (on : Bool) → NoneAwaits v → NoneAwaits (put_mark v s on)
+unfolding put_mark
+none_awaits_marked v s on settled = none_awaits_put v s _ settled (settled s)
+
+pub none_awaits_gone : (v : State) (s : ℕ) → NoneAwaits v → NoneAwaits (cut_space v s)
+unfolding cut_space
+none_awaits_gone v s settled q = by_key q s
+    (λ same. ap (λ (x : SpaceState). x.awaiting) (space_absent (cut_space v s) q (removed_same v.spaces s q same)))
+    (λ other. ap (λ (x : SpaceState). x.awaiting) (space_left v s q other) ∙ settled q)
+
+pub none_awaits_copied : (old new : State) (s p : ℕ) → IfSome (page_in old s p) (λ x. IsPlaced old new s p (λ frame. copied frame x)) → IsSome (page_in old s p) → NoneAwaits old → NoneAwaits new
+none_awaits_copied old new s p placed there settled = by_option (page_in old s p)
+    (λ none. absurd (true≢false (sym (subst IsSome none there))))
+    (λ x found. let h = subst (λ o. IfSome o (λ y. IsPlaced old new s p (λ frame. copied frame y))) found placed in
+    none_awaits_as _ new h.placed (none_awaits_page old s p _ settled))

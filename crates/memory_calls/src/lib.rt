@@ -4,6 +4,8 @@
 //!
 //! - `ledgers`: calls of `space_ledger`
 //! - `memory`: calls of `overlay_memory` and `fork_checkpoint`
+//! - `many_calls`: calls as they are drawn, beside plain pages
+//! - `plain_pages`: these
 //! - `spaces`: a memory in which no page awaits
 #![tactic(auto)]
 

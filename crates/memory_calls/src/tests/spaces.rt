@@ -1,8 +1,8 @@
 //! A memory in which no page awaits: whatever a call asks for is tried first.
 
-ghost use Rattle.std.specs.Prelude.{◌≡◌, ◌+◌, ◌<◌, ◌≤◌, IsTrue, IsSome, None, true};
+ghost use Rattle.std.specs.Prelude.{◌≡◌, ◌+◌, ◌<◌, ◌≤◌, IfSome, IsTrue, IsSome, None, length, true};
 ghost use Rattle.sizes.specs.declared.TheConstants.{PAGE_END, PAGE_LINES};
-ghost use Rattle.overlay_pages.specs.Changes.{AreAbsent, is_writable};
+ghost use Rattle.overlay_pages.specs.Changes.{AreAbsent, HasCopyRoom, is_writable};
 ghost use Rattle.overlay_memory.specs.View.{state_of};
 ghost use Rattle.space_maps.specs.Spaces.{page_in};
 
@@ -12,6 +12,7 @@ use overlay_memory::{MemoryError, OverlayMemory, SpaceError};
 use ovl_io::Perms;
 use page_table::PageTable;
 use sizes::PAGE_BYTES;
+use space_ledger::class_of;
 use std::alloc::{AllocError, Global};
 use std::marker::Model;
 use std::process::Abort;
@@ -191,6 +192,56 @@ impl Spaces {
         assert!(rt; line < 64 && self.has_page(space, page));
         assert!(rt; self.is_writable(space, page, line));
         self.memory.line_mut(space, page, line)[1] = byte;
+    }
+
+    // The own lines of a page that is there are given up.
+    pub(super) fn discard_page(&mut self, rt: &impl Abort, space: u16, page: u64) {
+        assert!(rt; self.has_page(space, page));
+        self.memory.discard_page(space, page);
+    }
+
+    // The own lines of a page that is there and alone go into its frame.
+    pub(super) fn commit_page(&mut self, rt: &impl Abort, space: u16, page: u64) {
+        assert!(rt; self.has_page(space, page) && self.memory.is_alone(space, page));
+        self.memory.commit_page(space, page);
+    }
+
+    // Whether a page that is there has own lines, and the units suffice for a copy of it.
+    fn has_copy_room(&self, space: u16, page: u64) -> bool
+        requires { IsSome (page_in (state_of self.now) space page) }
+        ensures overlaid { IsTrue result
+            → IfSome (page_in (state_of self.now) space page) (λ x. 0 < length x.own) }
+        ensures room { IsTrue result → HasCopyRoom (state_of self.now) space page }
+        ensures there { IsSome (page_in (state_of self.now) space page) }
+    {
+        let own = self.memory.lines_of(space, page).len();
+        let class = class_of(own);
+        own > 0 && class <= 16 && self.memory.units() + 16 <= self.memory.limit() + class
+    }
+
+    // The same, of a page that has to be there.
+    pub(super) fn can_copy(&self, rt: &impl Abort, space: u16, page: u64) -> bool {
+        assert!(rt; self.has_page(space, page));
+        self.has_copy_room(space, page)
+    }
+
+    // The own lines of a page that is there and not alone go into a new frame, for which there is room.
+    pub(super) fn copy_commit_page(&mut self, rt: &impl Abort, space: u16, page: u64) {
+        assert!(rt; self.has_page(space, page) && !self.memory.is_alone(space, page));
+        assert!(rt; self.has_copy_room(space, page));
+        self.memory.copy_commit_page(space, page);
+    }
+
+    // Gives up a space that is there, with its pages.
+    pub(super) fn drop_space(&mut self, rt: &impl Abort, space: u16) {
+        assert!(rt; self.memory.has_space(space));
+        self.memory.drop_space(space);
+    }
+
+    // Sets the mark of a space that is there, or takes it away.
+    pub(super) fn set_speculating(&mut self, rt: &impl Abort, space: u16, on: bool) {
+        assert!(rt; self.memory.has_space(space));
+        self.memory.set_speculating(space, on);
     }
 
     // The entries of a space that is there, or want of memory.
