@@ -1,10 +1,15 @@
 //! What becomes of the overlays of 64 pages in the run `--make 1`, as a model has it that was written apart from this. It begins with
-//! process 1, and with two frames that are taken: the zero frame and that of the program's code.
+//! process 1, and with two frames that are taken: the zero frame, and that of the program's code.
 //!
-//! `?` to `~` is a page, to which happens what the sign before it says, of `+` its overlay begins with a unit, or ends and begins with
-//! twice as many; `-` it ends; `*` it ends, and a frame is taken; `&` the space after the process's gets one that is equal. `/` goes
-//! from process 1 to process 2, or back. `1` to `>`, which is 14, behind a page that had an overlay: when that ended, four times as
-//! many lines were copied, and where there is no such sign, none.
+//! | Sign | What it says |
+//! |---|---|
+//! | `+` | each page behind it: its overlay begins, with one unit, or ends and begins with twice as many |
+//! | `-` | each page behind it: its overlay ends |
+//! | `*` | each page behind it: its overlay ends, and a frame is taken |
+//! | `&` | each page behind it: it is copied to the next space, with an overlay of the same size |
+//! | `?` to `~` | a page of the process |
+//! | `/` | from process 1 to process 2, or back |
+//! | `1` to `>`, which are 1 to 14 | that the overlay of the page before it ended, and four times as many lines were copied; where there is none, no line was |
 
 /// What becomes of them.
 pub(super) const RUN: &str =
