@@ -1,15 +1,9 @@
 mod addresses;
 mod blocks;
-mod files;
 mod frames;
-mod instructions;
 mod levels;
 mod lines;
 mod names;
 mod numbers;
 mod pages;
-mod reports;
-mod scripts;
 mod turns;
-mod words;
-mod workloads;
