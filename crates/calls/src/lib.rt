@@ -1,22 +1,12 @@
-//! Tests of calls: those that no script shows, those that take memory, each done once where there is enough, and tables of
-//! files, scripts, words and lines of reports.
+//! Tests of calls of the lower crates: those that no script shows, and those that take memory, each done once where there is enough.
 //!
 //! It has nothing but tests. They stand here and not in the crates whose calls they are, since a crate with tests is proved twice.
 //!
-//! - `scripts`: calls of `script_text`
-//! - `files`: calls of `elf_loader`
-//! - `words`: calls of `rv_decode`
-//! - `reports`, `instructions`: calls of `report_text`
 //! - `turns`: calls of `round_robin`
 //! - `levels`, `blocks`, `names`: calls of `mark_levels`, `unit_map` and `overlay_mapping_table`
 //! - `lines`, `addresses`, `frames`: calls of `overlay_bits`, `overlay_address` and `frame_pool`
 //! - `numbers`: calls of `by_number`
 //! - `pages`: calls of `page_table`
-//! - `segments`: calls of `segment_store`
-//! - `ledgers`: calls of `space_ledger`
-//! - `memory`: calls of `overlay_memory` and `fork_checkpoint`
-//! - `workloads`: calls of `workload`
-//! - `spaces`: a memory in which no page awaits
 #![tactic(auto)]
 
 #[cfg(test)]

@@ -1,5 +1,0 @@
-use Rattle.unit_map.specs.Pieces.{AreSettled}
-use Rattle.calls.proofs.tests.segments.segments_beside_a_list.Given as goal
-
-abbrev pub invariant-turning : goal.invariant-turning
-invariant-turning g l = AreSettled l.store.blocks

@@ -1,0 +1,268 @@
+use super::spaces::{Spaces, open};
+use overlay_memory::SpaceError;
+use ovl_io::Perms;
+use sizes::PAGE_BYTES;
+use std::process::Abort;
+use std::test::Fail;
+
+// What is asked of a memory, or has to be there.
+#[derive(Clone, Copy)]
+enum Step {
+    // a space without a page
+    Add(u16),
+    // of a space the first page and how many: on the zero frame, to be read and written, or to be read
+    Map(u16, u64, u32),
+    MapShut(u16, u64, u32),
+    Unmap(u16, u64, u32),
+    // of a space a page, whose bytes are all this one
+    Place(u16, u64, u8),
+    // of a space an address, and how many bytes become this one
+    Write(u16, u64, usize, u8),
+    // of space 1 a page and a line, whose byte 1 becomes this one where it stands
+    SetByte1(u64, u8, u8),
+    // a new space with the pages of one
+    Fork(u16, u16),
+    // the pages of a space in the place of those of another one, and the answer
+    Restore(u16, u16, Result<(), SpaceError>),
+    // units and own lines
+    Counts(u32, u32),
+    // how many pages a space has
+    Pages(u16, u32),
+    // how many a copy of its table has
+    Copy(u16, u32),
+    // of space 1 the first of so many pages that isn't there
+    Absent(u64, u32, Option<u64>),
+    // of space 1 the two bytes from an address on
+    Two(u64, [u8; 2]),
+}
+
+// Asserts that the bytes from an address on are these two.
+fn assert_two(rt: &impl Abort, spaces: &Spaces, address: u64, bytes: [u8; 2]) {
+    let mut into = [0xEE; 2];
+    assert_eq!(rt; spaces.read(rt, 1, address, &mut into), Ok(()));
+    assert_eq!(rt; into, bytes, "at {address}");
+}
+
+// Stores bytes that are all equal.
+fn write_equal(rt: &impl Abort, spaces: &mut Spaces, space: u16, address: u64, n: usize, byte: u8) {
+    assert!(rt; n <= PAGE_BYTES);
+    let bytes = [byte; PAGE_BYTES];
+    let written = spaces.write(rt, space, address, &bytes[..n]);
+    assert_eq!(rt; written, Ok(()), "at {address}");
+}
+
+// Pages come or go, or get bytes.
+fn change_pages(rt: &impl Abort, spaces: &mut Spaces, step: Step) -> Result<(), Fail> {
+    match step {
+        Step::Map(space, page, n) => spaces.map_zero(rt, space, page, n, open())?,
+        Step::MapShut(space, page, n) => spaces.map_zero(rt, space, page, n, Perms::R)?,
+        Step::Unmap(space, page, n) => spaces.unmap(rt, space, page, n),
+        Step::Place(space, page, byte) => {
+            let placed = spaces.place_page(rt, space, page, open(), &[byte; PAGE_BYTES]);
+            assert_eq!(rt; placed, Ok(()));
+        }
+        Step::Write(space, address, n, byte) => write_equal(rt, spaces, space, address, n, byte),
+        Step::SetByte1(page, line, byte) => spaces.set_byte_1(rt, 1, page, line, byte),
+        _ => {}
+    }
+    Ok(())
+}
+
+// A space comes, or gets other pages.
+fn change_space(rt: &impl Abort, spaces: &mut Spaces, step: Step) -> Result<(), Fail> {
+    match step {
+        Step::Add(space) => spaces.add_space(rt, space)?,
+        Step::Fork(from, to) => {
+            assert_eq!(rt; spaces.fork(rt, from, to), Ok(()));
+        }
+        Step::Restore(saved, into, answer) => {
+            assert_eq!(rt; spaces.restore(rt, saved, into), answer);
+        }
+        Step::Copy(space, n) => assert_eq!(rt; spaces.copy_table(rt, space)?.len(), n),
+        _ => {}
+    }
+    Ok(())
+}
+
+// Asserts what has to be there.
+fn look(rt: &impl Abort, spaces: &Spaces, step: Step) {
+    match step {
+        Step::Counts(units, lines) => {
+            assert_eq!(rt;
+                (spaces.memory.units(), spaces.memory.lines()),
+                (units, lines)
+            );
+        }
+        Step::Pages(space, n) => assert_eq!(rt; spaces.memory.pages(space), n),
+        Step::Absent(page, n, found) => {
+            assert_eq!(rt; spaces.first_absent(rt, 1, page, n), found);
+        }
+        Step::Two(address, bytes) => assert_two(rt, spaces, address, bytes),
+        _ => {}
+    }
+}
+
+// Does each step.
+fn take_steps(rt: &impl Abort, spaces: &mut Spaces, steps: &[Step]) -> Result<(), Fail> {
+    for &step in steps {
+        change_pages(rt, spaces, step)?;
+        change_space(rt, spaces, step)?;
+        look(rt, spaces, step);
+    }
+    Ok(())
+}
+
+// A page that was placed is written where it stands, and one on the zero frame in its overlay.
+const LENT: [Step; 9] = [
+    Step::Add(1),
+    Step::Place(1, 16, 0),
+    Step::Map(1, 17, 1),
+    Step::Write(1, 0x1_1000, 1, 0x07),
+    Step::SetByte1(16, 0, 0x5A),
+    Step::SetByte1(17, 0, 0x5A),
+    Step::Two(0x1_0000, [0x00, 0x5A]),
+    Step::Two(0x1_1000, [0x07, 0x5A]),
+    Step::Counts(33, 1),
+];
+
+#[test]
+fn lines_are_lent_where_they_stand(rt: HostRuntime) -> Result<(), Fail> {
+    let mut spaces = Spaces::new(&rt, rt.alloc(), 3)?;
+    take_steps(&rt, &mut spaces, &LENT)
+}
+
+const AMPLE: [Step; 5] = [
+    Step::Add(1),
+    Step::Map(1, 16, 3),
+    Step::Copy(1, 3),
+    Step::Fork(1, 2),
+    Step::Pages(2, 3),
+];
+
+#[test]
+fn what_takes_memory_is_done_where_there_is_memory(rt: HostRuntime) -> Result<(), Fail> {
+    let mut spaces = Spaces::new(&rt, rt.alloc(), 2)?;
+    take_steps(&rt, &mut spaces, &AMPLE)
+}
+
+// Space 2 has an overlay of 16 units, and a page with a frame of its own. It fits into space 1 once space 3 has no segment any more.
+const RESTORED: [Step; 19] = [
+    Step::Add(1),
+    Step::Map(1, 16, 1),
+    Step::Write(1, 0x1_0000, 1, 0x07),
+    Step::Fork(1, 3),
+    Step::Add(2),
+    Step::Map(2, 16, 1),
+    Step::Write(2, 0x1_0000, PAGE_BYTES, 0x5A),
+    Step::Place(2, 17, 0x09),
+    Step::Restore(2, 1, Err(SpaceError::Full(65, 64))),
+    Step::Counts(50, 66),
+    Step::Two(0x1_0000, [0x07, 0x00]),
+    Step::Add(4),
+    Step::Restore(4, 3, Ok(())),
+    Step::Restore(2, 1, Ok(())),
+    Step::Counts(64, 128),
+    Step::Two(0x1_0000, [0x5A, 0x5A]),
+    Step::Two(0x1_1000, [0x09, 0x09]),
+    Step::Restore(2, 1, Ok(())),
+    Step::Counts(64, 128),
+];
+
+#[test]
+fn a_space_gets_the_pages_of_another_one(rt: HostRuntime) -> Result<(), Fail> {
+    let mut spaces = Spaces::new(&rt, rt.alloc(), 4)?;
+    take_steps(&rt, &mut spaces, &RESTORED)
+}
+
+// How many own lines a page has: 1, 4, 8 or 16, so that its segment has 1, 2, 4 or 8 units.
+fn own_lines(page: u64) -> u64 {
+    match page % 4 {
+        0 => 1,
+        1 => 4,
+        2 => 8,
+        _ => 16,
+    }
+}
+
+// The address of a line of one of the first 64 pages, and what is stored there.
+fn line_address(page: u64, line: u64) -> u64 {
+    4096 * (page % 64) + 64 * (line % 64)
+}
+
+fn line_byte(page: u64, line: u64) -> u8 {
+    (page % 16 * 16 + line % 16) as u8
+}
+
+// Stores into the own lines of a page, at the first byte of each.
+fn store_lines(rt: &impl Abort, spaces: &mut Spaces, page: u64) {
+    'storing: for line in 0..own_lines(page) {
+        let bytes = [line_byte(page, line)];
+        assert_eq!(rt;
+            spaces.write(rt, 1, line_address(page, line), &bytes),
+            Ok(())
+        );
+    }
+}
+
+// Asserts that the own lines of a page have what was stored.
+fn assert_lines(rt: &impl Abort, spaces: &Spaces, page: u64) {
+    'reading: for line in 0..own_lines(page) {
+        assert_two(
+            rt,
+            spaces,
+            line_address(page, line),
+            [line_byte(page, line), 0],
+        );
+    }
+}
+
+// Stores into 40 pages, with segments of four sizes, and takes every third away, so that free blocks lie between those that stay.
+fn scatter(rt: &impl Abort, spaces: &mut Spaces) -> Result<(), Fail> {
+    take_steps(rt, spaces, &[Step::Add(1), Step::Map(1, 0, 40)])?;
+    'storing: for page in 0..40 {
+        store_lines(rt, spaces, page);
+    }
+    'removing: for i in 0..13 {
+        spaces.unmap(rt, 1, 3 * i, 1);
+    }
+    Ok(())
+}
+
+// What is read is as it was, before compaction and after it.
+#[test]
+fn compaction_leaves_what_is_read(rt: HostRuntime) -> Result<(), Fail> {
+    let mut spaces = Spaces::new(&rt, rt.alloc(), 20)?;
+    scatter(&rt, &mut spaces)?;
+    let units = spaces.memory.units();
+    'compacting: for _round in 0..2 {
+        'reading: for i in 0..13 {
+            assert_lines(&rt, &spaces, 3 * i + 1);
+            assert_lines(&rt, &spaces, 3 * i + 2);
+        }
+        spaces.compact();
+        assert_eq!(rt; spaces.memory.units(), units);
+    }
+    Ok(())
+}
+
+// Pages go from the middle of a run, over several runs, and at both ends of the pages that there may be; where they are mapped again they
+// are zero.
+const GOING: [Step; 3] = [Step::Add(1), Step::Map(1, 0, 8), Step::MapShut(1, 8, 8)];
+
+const COMING: [Step; 7] = [
+    Step::Unmap(1, 2, 3),
+    Step::Absent(0, 16, Some(2)),
+    Step::Map(1, 2, 3),
+    Step::Two(0x3000, [0, 0]),
+    Step::Unmap(1, 0, 16),
+    Step::Pages(1, 0),
+    Step::Counts(16, 0),
+];
+
+#[test]
+fn pages_go_and_come_again_as_zeros(rt: HostRuntime) -> Result<(), Fail> {
+    let mut spaces = Spaces::new(&rt, rt.alloc(), 4)?;
+    take_steps(&rt, &mut spaces, &GOING)?;
+    store_lines(&rt, &mut spaces, 3);
+    take_steps(&rt, &mut spaces, &COMING)
+}

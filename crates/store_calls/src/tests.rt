@@ -1,0 +1,3 @@
+mod releases;
+mod segments;
+mod stores;

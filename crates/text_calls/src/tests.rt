@@ -1,0 +1,6 @@
+mod files;
+mod instructions;
+mod reports;
+mod scripts;
+mod words;
+mod workloads;
