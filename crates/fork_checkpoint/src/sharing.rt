@@ -38,7 +38,7 @@ fn share_all(mem: &mut OverlayMemory, from: u16, to: u16)
 
 // A space without a page gets those of another one, whose entries the table has.
 fn share_table(mem: &mut OverlayMemory, from: u16, to: u16, table: PageTable)
-    requires ready { CanHave (state_of mem.old) from to table }
+    requires ready { CanHave (state_of mem.old) from to table.pages }
     ensures shared { state_of mem.new ≡ with_copy (state_of mem.old) from to }
     ensures translations { translations_of mem.new ≡ translations_of mem.old }
 {

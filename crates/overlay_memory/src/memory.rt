@@ -477,8 +477,8 @@ impl OverlayMemory {
         requires there { holds_space (state_of self.old) from ≡ true }
         requires settled { (space_in (state_of self.old) from).awaiting ≡ map.empty }
         requires space { holds_space (state_of self.old) to ≡ true }
-        ensures table { IfOk result (λ table. table ≡ entries_in (state_of self.old) from) }
-        ensures once { IfOk result (λ table. NamesOnce (state_of self.old).zero_frame table) }
+        ensures table { IfOk result (λ table. table.pages ≡ entries_in (state_of self.old) from) }
+        ensures once { IfOk result (λ table. NamesOnce (state_of self.old).zero_frame table.pages) }
         ensures same { self.new ≡ self.old }
     {
         self.pages.copy_table(from)
@@ -490,8 +490,8 @@ impl OverlayMemory {
         requires there { holds_space (state_of self.old) to ≡ true }
         requires empty { (space_in (state_of self.old) to).pages ≡ map.empty }
         requires settled { (space_in (state_of self.old) to).awaiting ≡ map.empty }
-        requires once { NamesOnce (state_of self.old).zero_frame table }
-        ensures state { state_of self.new ≡ put_awaiting (state_of self.old) to table }
+        requires once { NamesOnce (state_of self.old).zero_frame table.pages }
+        ensures state { state_of self.new ≡ put_awaiting (state_of self.old) to table.pages }
         ensures translations { translations_of self.new ≡ translations_of self.old }
     {
         self.fronts.clear();

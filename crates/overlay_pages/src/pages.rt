@@ -512,8 +512,8 @@ impl OverlayPages {
     pub fn copy_table(&self, space: u16) -> Result<PageTable, AllocError>
         requires there { holds_space (state_of self.now) space ≡ true }
         requires settled { (space_in (state_of self.now) space).awaiting ≡ map.empty }
-        ensures table { IfOk result (λ table. table ≡ entries_in (state_of self.now) space) }
-        ensures once { IfOk result (λ table. NamesOnce (state_of self.now).zero_frame table) }
+        ensures table { IfOk result (λ table. table.pages ≡ entries_in (state_of self.now) space) }
+        ensures once { IfOk result (λ table. NamesOnce (state_of self.now).zero_frame table.pages) }
     {
         self.ledger.copy_table(space)
     }
@@ -524,8 +524,8 @@ impl OverlayPages {
         requires there { holds_space (state_of self.old) to ≡ true }
         requires empty { (space_in (state_of self.old) to).pages ≡ map.empty }
         requires settled { (space_in (state_of self.old) to).awaiting ≡ map.empty }
-        requires once { NamesOnce (state_of self.old).zero_frame table }
-        ensures { state_of self.new ≡ put_awaiting (state_of self.old) to table }
+        requires once { NamesOnce (state_of self.old).zero_frame table.pages }
+        ensures { state_of self.new ≡ put_awaiting (state_of self.old) to table.pages }
     {
         self.ledger.adopt_table(to, table);
     }

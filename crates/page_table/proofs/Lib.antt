@@ -1,4 +1,11 @@
 pub mod Pages
 pub mod Places
 pub mod Edits
+pub mod Few
+pub mod Trees
+pub mod Slots
 pub mod Tables
+pub mod Steps
+pub mod Nexts
+pub mod Fronts
+pub mod Held

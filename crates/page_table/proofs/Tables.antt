@@ -11,7 +11,7 @@ use Rattle.page_table.specs.declared.entry.PageEntry.{PageEntry}
 use Rattle.page_table.specs.declared.run.PageRun.{PageRun}
 use Rattle.page_table.specs.Table.{Pages, is_within, IsFree, AreThere, IsUnmapped, IsNext}
 use Rattle.page_table.specs.Run.{IsRunFrom, entry_at}
-use Rattle.page_table.specs.Kept.{AreKept, AreSame, HasFilled, HasRun, HasSet, HaveLost, IsRunBehind, IsPlace, IsRun, ComeInOrder, entry_for, plain_run, find_in, lies_in, pages_of, run_at, single, tail_of, total}
+use Rattle.page_table.specs.Kept.{IsRest, AreSame, HasFilled, HasRun, HasSet, HaveLost, IsRunBehind, IsPlace, IsRun, ComeInOrder, entry_for, plain_run, find_in, lies_in, pages_of, run_at, single, tail_of, total}
 use Rattle.page_table.proofs.Pages.{get_in, len_in, same_pages, within_at, within_behind, within_from, within_is, within_none, within_to}
 use Rattle.page_table.proofs.Places.{found_at, found_none, ends_behind}
 use Rattle.page_table.proofs.Edits.{entry_tail, find_insert, item_at, find_put, is_tail, low_at, rise_insert, rise_put, tail_fits, total_insert, total_put}
@@ -74,7 +74,7 @@ run_fits run is rising =
 
 -- the next run from a page on is that run, where it begins at the page or behind it
 pub whole_run : (pages : Pages) (runs : List PageRun) (page : ℕ) (run : PageRun) → pages_of runs ≡ pages → IsRunBehind runs page run → page ≤ run.page
-    → IsRunFrom pages page run
+    → IsRest pages page run
 whole_run pages runs page run same h le = record {
   from = le;
   some = h.own.some;
@@ -86,7 +86,7 @@ whole_run pages runs page run same h le = record {
 
 -- and else its pages from that one on
 pub rest_of_run : (pages : Pages) (runs : List PageRun) (page : ℕ) (run : PageRun) → pages_of runs ≡ pages → IsRunBehind runs page run → run.page < page
-    → IsRunFrom pages page (tail_of run (page - run.page))
+    → IsRest pages page (tail_of run (page - run.page))
 rest_of_run pages runs page run same h lt =
     let n = page - run.page in
     let own = is_tail run n h.own (omega (arith, h.to, lt)) in
@@ -122,7 +122,7 @@ next_first pages page run next = (next.from, has, next.none)
 -- What is kept.
 
 -- A run of n pages is put in.
-pub filled_run : (runs new : List PageRun) (from n at : ℕ) (entry : PageEntry) → ComeInOrder 0 runs → IsFree (pages_of runs) from n → from + n ≤ 2 ^ 36
+pub filled_run : (runs new : List PageRun) (from n at : ℕ) (entry : PageEntry) → ComeInOrder 0 runs → IsFree (pages_of runs) from n → from + n ≤ 2 ^ 41
     → 0 < n → n < 2 ^ 32 → entry.frame < 2 ^ 32 → IsPlace runs from at → new ≡ list.insert runs at (plain_run from n entry)
     → HasFilled runs from n entry new
 filled_run runs new from n at entry h free low some few fits place is =
@@ -255,11 +255,11 @@ cloned runs copies each = AllZip-map (λ run. run) runs copies each ∙ map-id r
 
 -- A page that is there is low, so a run of them ends.
 
-low_found : (from : ℕ) (runs : List PageRun) (page : ℕ) → ComeInOrder from runs → IsSome (find_in runs page) → page < 2 ^ 36
+low_found : (from : ℕ) (runs : List PageRun) (page : ℕ) → ComeInOrder from runs → IsSome (find_in runs page) → page < 2 ^ 41
 low_found from [] page h some = cc
 low_found from (run ∷ runs) page h some = by (lies_in run page) refl (low_found (run.page + run.n) runs page h.2)
   where
-    by : (b : Bool) → lies_in run page ≡ b → (IsSome (find_in runs page) → page < 2 ^ 36) → page < 2 ^ 36
+    by : (b : Bool) → lies_in run page ≡ b → (IsSome (find_in runs page) → page < 2 ^ 41) → page < 2 ^ 41
     by true is behind = omega (arith, within_to run.page run.n page is, h.1.low)
     by false is behind = behind (sym (ap (λ (b : Bool). is_some (cond b (Some (entry_for run page)) (find_in runs page))) is) ∙ some)
 

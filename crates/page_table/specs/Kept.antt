@@ -1,5 +1,9 @@
-use Rattle.std.specs.Prelude.{◌≡◌, ℕ, zero, suc, ◌+◌, ◌-◌, ◌^◌, ◌<◌, ◌≤◌, Bool, true, false, List, [], ◌∷◌, length, get_or, nat_le, if◌then◌else◌, Option, Some, None}
-use Rattle.std.specs.FinMap.{empty, insert}
+use Rattle.std.specs.Prelude.{◌≡◌, ℕ, zero, suc, ◌+◌, ◌-◌, ◌*◌, ◌^◌, ◌<◌, ◌≤◌, Bool, true, false, List, [], ◌∷◌, length, get_or, nat_le, nat_lt, if◌then◌else◌, Option, Some, None, IsSome}
+use Rattle.std.specs.FinMap.{empty, get, insert, len}
+use Rattle.sizes.specs.declared.TheConstants.{TABLE_SLOTS}
+use Rattle.number_maps.specs.Rows.{Rise, key_at, map_of}
+use Rattle.page_table.specs.Next.{NoneFrom}
+use Rattle.page_table.specs.Nodes.{Links, Table, look, node_at, slot, slot_of, pages_by, size}
 use Rattle.page_table.specs.declared.entry.PageEntry.{PageEntry}
 use Rattle.page_table.specs.declared.run.PageRun.{PageRun}
 use Rattle.page_table.specs.Table.{Pages, IsMapped, is_within}
@@ -36,7 +40,7 @@ total (run ∷ runs) = run.n + total runs
 pub record IsRun (run : PageRun) : Type 0 where
   pub some : 0 < run.n
   pub few : run.n < 2 ^ 32
-  pub low : run.page + run.n ≤ 2 ^ 36
+  pub low : run.page + run.n ≤ 2 ^ 41
   pub frames : (i : ℕ) → i < run.n → (entry_at run i).frame < 2 ^ 32
 
 -- runs come one after the other, the first from a page on
@@ -139,3 +143,140 @@ single page entry = record { page = page; n = 1; entry = entry; rising = false }
 -- n pages with one entry
 abbrev pub plain_run : ℕ → ℕ → PageEntry → PageRun
 plain_run from n entry = record { page = from; n = n; entry = entry; rising = false }
+
+-- a node stands at the end of a path: on a level, for the digits above it
+pub record IsSpot (links : Links) (node : ℕ) : Type 0 where
+  pub level : ℕ
+  pub above : ℕ
+  pub deep : level < 4
+  pub low : above < size level
+  pub at : node_at links level above ≡ Some node
+
+-- and it is no leaf
+pub record IsUpper (links : Links) (node : ℕ) : Type 0 where
+  pub level : ℕ
+  pub above : ℕ
+  pub deep : level < 3
+  pub low : above < size level
+  pub at : node_at links level above ≡ Some node
+
+-- What the links of a table keep: rows by rising slots. The slots are those of nodes that there are, and the nodes that they lead to
+-- too; no two lead to one.
+pub record IsTree (links : List (ℕ × ℕ)) : Type 0 where
+  pub rise : Rise 0 links
+  pub spots : (node : ℕ) → node < length links + 1 → IsSpot (map_of links) node
+  pub low : (k c : ℕ) → get (map_of links) k ≡ Some c → (k < TABLE_SLOTS * (length links + 1)) × (c < length links + 1)
+  pub once : (j k c : ℕ) → get (map_of links) j ≡ Some c → get (map_of links) k ≡ Some c → j ≡ k
+
+-- no slot from one on has an entry
+abbrev pub EndBy : (ℕ → Option PageEntry) → ℕ → Type 0
+EndBy has end = (s : ℕ) → end ≤ s → has s ≡ None
+
+-- what there is of a table: its links, its runs of slots, how many pages it has, and the room for runs
+pub record AreHeld (links : List (ℕ × ℕ)) (runs : List PageRun) (count room : ℕ) : Type 0 where
+  pub tree : IsTree links
+  pub kept : AreKept runs count room
+  pub ends : EndBy (get (pages_of runs)) (TABLE_SLOTS * (length links + 1))
+  pub counted : len (pages_by (map_of links) (pages_of runs)) ≡ count
+
+-- and a page below which there is none
+pub record IsTable (links : List (ℕ × ℕ)) (runs : List PageRun) (count room front : ℕ) : Type 0 where
+  pub held : AreHeld links runs count room
+  pub none : NoneFrom (pages_by (map_of links) (pages_of runs)) 0 front
+
+-- links to more nodes, which have no entry, lead to what they led to before
+pub record HaveGrown (old new : List (ℕ × ℕ)) : Type 0 where
+  pub tree : IsTree new
+  pub more : length old ≤ length new
+  pub kept : (k c : ℕ) → get (map_of old) k ≡ Some c → get (map_of new) k ≡ Some c
+  pub same : (has : ℕ → Option PageEntry) → EndBy has (TABLE_SLOTS * (length old + 1)) → (page : ℕ)
+      → look has (slot_of (map_of new) page) ≡ look has (slot_of (map_of old) page)
+
+-- a node has a child, which was made where there was none
+pub record HasChild (old : List (ℕ × ℕ)) (node digit : ℕ) (new : List (ℕ × ℕ)) (child : ℕ) : Type 0 where
+  pub grown : HaveGrown old new
+  pub one : length new ≤ length old + 1
+  pub there : get (map_of new) (slot node digit) ≡ Some child
+  pub low : child < length new + 1
+
+-- a path leads to a leaf
+pub record HasLeaf (old : List (ℕ × ℕ)) (above : ℕ) (new : List (ℕ × ℕ)) : Type 0 where
+  pub grown : HaveGrown old new
+  pub three : length new ≤ length old + 3
+  pub there : IsSome (node_at (map_of new) 3 above)
+
+pub record HaveLeaves (old : List (ℕ × ℕ)) (from to : ℕ) (new : List (ℕ × ℕ)) : Type 0 where
+  pub grown : HaveGrown old new
+  pub three : length new ≤ length old + 3 * (to - from)
+  pub there : (above : ℕ) → from ≤ above → above < to → IsSome (node_at (map_of new) 3 above)
+
+-- the n pages from one on have paths
+abbrev pub HavePaths : Links → ℕ → ℕ → Type 0
+HavePaths links from n = (page : ℕ) → is_within from n page ≡ true → slot_of links page ≡ None → ⊥
+
+-- what each page has after a change of a run of them
+abbrev pub Changed : Option PageEntry → Pages → ℕ → ℕ → Pages → Type 0
+Changed x old from n new = (q : ℕ) → get new q ≡ (if is_within from n q then x else get old q)
+
+-- n pages that weren't there have the entry, by their slots
+pub record HaveFilled (links : List (ℕ × ℕ)) (old : List PageRun) (from n : ℕ) (entry : PageEntry) (new : List PageRun) : Type 0 where
+  pub pages : Changed (Some entry) (pages_by (map_of links) (pages_of old)) from n (pages_by (map_of links) (pages_of new))
+  pub rise : ComeInOrder 0 new
+  pub ends : EndBy (get (pages_of new)) (TABLE_SLOTS * (length links + 1))
+  pub count : total new ≡ total old + n
+
+-- n pages were taken away
+pub record HaveCleared (links : List (ℕ × ℕ)) (old : List PageRun) (from n : ℕ) (new : List PageRun) : Type 0 where
+  pub pages : Changed None (pages_by (map_of links) (pages_of old)) from n (pages_by (map_of links) (pages_of new))
+  pub rise : ComeInOrder 0 new
+  pub ends : EndBy (get (pages_of new)) (TABLE_SLOTS * (length links + 1))
+  pub count : total new + n ≡ total old
+
+-- what is seen of a table
+abbrev pub seen : List (ℕ × ℕ) → List PageRun → Table
+seen links runs = record { pages = pages_by (map_of links) (pages_of runs); links = map_of links; leaves = pages_of runs }
+
+-- the links from a slot on begin at a place
+pub record IsStart (links : List (ℕ × ℕ)) (key at : ℕ) : Type 0 where
+  pub inside : at ≤ length links
+  pub before : (j : ℕ) → j < at → key_at links j < key
+  pub behind : (j : ℕ) → at ≤ j → j < length links → key ≤ key_at links j
+
+-- a node has no child from a digit on, below another
+abbrev pub NoChild : Links → ℕ → ℕ → ℕ → Type 0
+NoChild links node from to = (e : ℕ) → from ≤ e → e < to → get links (slot node e) ≡ None
+
+-- the first child of a node from a digit on, whose link stands at a place
+pub record IsChildFrom (links : List (ℕ × ℕ)) (node digit at : ℕ) (found : ℕ × ℕ) : Type 0 where
+  pub from : digit ≤ found.0
+  pub low : found.0 < TABLE_SLOTS
+  pub none : NoChild (map_of links) node digit found.0
+  pub has : get (map_of links) (slot node found.0) ≡ Some found.1
+  pub there : at < length links
+  pub start : IsStart links (slot node (found.0 + 1)) (at + 1)
+
+abbrev pub IsNextChild : List (ℕ × ℕ) → ℕ → ℕ → ℕ → Option (ℕ × ℕ) → Type 0
+IsNextChild links node digit at None = NoChild (map_of links) node digit TABLE_SLOTS
+IsNextChild links node digit at (Some found) = IsChildFrom links node digit at found
+
+-- the first slots not below one: as many as lie in one run, or that there is none
+pub record IsRest (leaves : Pages) (at : ℕ) (run : PageRun) : Type 0 where
+  pub from : at ≤ run.page
+  pub some : 0 < run.n
+  pub none : (q : ℕ) → at ≤ q → q < run.page → get leaves q ≡ None
+  pub has : (i : ℕ) → i < run.n → get leaves (run.page + i) ≡ Some (entry_at run i)
+  pub low : run.page + run.n ≤ 2 ^ 41
+  pub fits : run.rising ≡ true → run.entry.frame + run.n ≤ 2 ^ 32
+
+abbrev pub HasRest : Pages → ℕ → Option PageRun → Type 0
+HasRest leaves at None = (q : ℕ) → at ≤ q → get leaves q ≡ None
+HasRest leaves at (Some run) = IsRest leaves at run
+
+-- the pages of slots of a leaf
+abbrev pub moved_run : PageRun → ℕ → ℕ → PageRun
+moved_run run base begin = record {
+  page = begin + (run.page - base);
+  n = if nat_lt run.n (base + TABLE_SLOTS - run.page) then run.n else base + TABLE_SLOTS - run.page;
+  entry = run.entry;
+  rising = run.rising;
+}

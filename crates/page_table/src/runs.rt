@@ -1,17 +1,18 @@
 //! Runs of pages in the order of their pages, and what changes them without changing the pages that they stand for.
 
-ghost use Rattle.std.specs.Prelude.{◌≡◌, ◌+◌, ◌^◌, ◌<◌, ◌≤◌, ◌⊎◌, length, slice_set, IsSome, None};
+ghost use Rattle.std.specs.Prelude.{◌≡◌, ◌+◌, ◌^◌, ◌<◌, ◌≤◌, ◌⊎◌, length, slice_set, IsSome, IsTrue, None};
+ghost use Rattle.std.specs.FinMap as map;
 ghost use Rattle.std.specs.List as list;
 ghost use Rattle.std.specs.VecDeque.{deque_capacity};
-ghost use Rattle.page_table.specs.Kept.{AreSame, HasBegun, HasFilled, HasRun, HasSet, HaveLost, IsPlace, ComeInOrder, plain_run, find_in, head_of, is_before, pages_of, run_at, tail_of, total};
+ghost use Rattle.page_table.specs.Kept.{AreSame, HasBegun, HasFilled, HasRest, HasRun, HasSet, HaveLost, IsPlace, ComeInOrder, plain_run, find_in, head_of, is_before, pages_of, run_at, tail_of, total};
 ghost use Rattle.page_table.specs.Table.{AreThere, IsFree};
 
 use crate::entry::PageEntry;
+use crate::links::place_in;
+use crate::nodes::Nodes;
 use crate::run::PageRun;
+use sizes::TABLE_SLOTS;
 use std::collections::VecDeque;
-
-// So many runs are gone over, and more are searched.
-const FEW: usize = 8;
 
 // Pages with one entry.
 fn run_of(page: u64, n: u32, entry: PageEntry) -> PageRun
@@ -33,41 +34,108 @@ fn lies_before(run: &PageRun, page: u64) -> bool
     page.saturating_sub(run.page) >= u64::from(run.n)
 }
 
-/// The place of the run that holds a page, or of the first one behind it. A few runs are gone over from the first one on, since a
-/// search takes turns that no processor foresees.
-#[inline]
-fn place_of(runs: &VecDeque<PageRun>, page: u64) -> usize
-    requires { ComeInOrder 0 runs.now.items }
-    ensures { IsPlace runs.now.items page result }
+/// Whether a run holds a page.
+#[inline(always)]
+fn holds(run: &PageRun, page: u64) -> bool
+    ensures { IsTrue result → (run.now.page ≤ page) × (page < run.now.page + run.now.n) }
 {
-    if runs.len() > FEW {
-        return search(runs, page);
-    }
-    let mut at = 0;
-    'looking: while at < runs.len() {
-        if !lies_before(&runs[at], page) {
-            return at;
-        }
-        at += 1;
-    }
-    at
+    run.page <= page && page - run.page < u64::from(run.n)
 }
 
-/// The same, by a binary search.
-fn search(runs: &VecDeque<PageRun>, page: u64) -> usize
+/// The place of the run that holds a page, or of the first one behind it. It may be that of a guess.
+#[inline]
+fn place_of(runs: &VecDeque<PageRun>, page: u64, guess: usize) -> usize
     requires { ComeInOrder 0 runs.now.items }
     ensures { IsPlace runs.now.items page result }
 {
-    runs.partition_point(|run| lies_before(run, page))
+    if guess < runs.len() && holds(&runs[guess], page) {
+        return guess;
+    }
+    search(runs, page, guess)
+}
+
+/// The same. Looks at a guess first, then further and further from it, and then in the middle of what is left.
+fn search(runs: &VecDeque<PageRun>, page: u64, guess: usize) -> usize
+    requires { ComeInOrder 0 runs.now.items }
+    ensures { IsPlace runs.now.items page result }
+{
+    let mut low = 0;
+    let mut high = runs.len();
+    let mut guess = guess;
+    let mut step: usize = 1;
+    'looking: while low < high {
+        let at = place_in(low, high, guess);
+        if lies_before(&runs[at], page) {
+            low = at + 1;
+            guess = at.wrapping_add(step);
+        } else {
+            high = at;
+            guess = at.wrapping_sub(step);
+        }
+        step = step.wrapping_add(step);
+    }
+    low
 }
 
 /// The run that holds a page, or the first one behind it.
 #[inline]
-pub(crate) fn run_from(runs: &VecDeque<PageRun>, page: u64) -> Option<PageRun>
+pub(crate) fn run_from(runs: &VecDeque<PageRun>, page: u64, guess: usize) -> Option<PageRun>
     requires { ComeInOrder 0 runs.now.items }
     ensures { HasRun runs.now.items page result }
 {
-    runs.get(place_of(runs, page)).copied()
+    runs.get(place_of(runs, page, guess)).copied()
+}
+
+/// The entry of a slot, if it has one.
+#[inline]
+pub(crate) fn entry_in(runs: &VecDeque<PageRun>, page: u64, guess: usize) -> Option<PageEntry>
+    requires { ComeInOrder 0 runs.now.items }
+    ensures { result ≡ map.get (pages_of runs.now.items) page }
+{
+    match run_from(runs, page, guess) {
+        Some(run) => {
+            if run.page <= page {
+                Some(run.entry_at((page - run.page) as u32))
+            } else {
+                None
+            }
+        }
+        None => None,
+    }
+}
+
+/// The first slots not below one: as many as lie in one run.
+#[inline]
+pub(crate) fn next_slots(runs: &VecDeque<PageRun>, page: u64, guess: usize) -> Option<PageRun>
+    requires { ComeInOrder 0 runs.now.items }
+    ensures { HasRest (pages_of runs.now.items) page result }
+{
+    match run_from(runs, page, guess) {
+        Some(run) => {
+            if run.page < page {
+                Some(run.tail((page - run.page) as u32))
+            } else {
+                Some(run)
+            }
+        }
+        None => None,
+    }
+}
+
+/// Where the run of a slot may stand.
+#[inline]
+pub(crate) fn guess_of(runs: &VecDeque<PageRun>, nodes: &Nodes, slot: u64) -> usize {
+    let rows = nodes.runs_of(slot / TABLE_SLOTS, runs.len());
+    match rows.few() {
+        Some(first) => first,
+        None => match runs.get(rows.first()) {
+            Some(from) => match runs.get(rows.last()) {
+                Some(to) => rows.between(slot, from.page, to.page),
+                None => rows.first(),
+            },
+            None => rows.first(),
+        },
+    }
 }
 
 /// Makes two runs of one: its first n pages, and the others behind them. There is room for them.
@@ -92,14 +160,14 @@ fn cut(runs: &mut VecDeque<PageRun>, at: usize, n: u32)
 }
 
 /// Makes a page that is there the first one of its run. Answers the place of the run.
-fn begin(runs: &mut VecDeque<PageRun>, page: u64) -> usize
+fn begin(runs: &mut VecDeque<PageRun>, page: u64, guess: usize) -> usize
     requires rise { ComeInOrder 0 runs.old.items }
     requires there { IsSome (find_in runs.old.items page) }
     requires room { total runs.old.items ≤ deque_capacity runs.old }
     ensures begun { HasBegun runs.old.items page result runs.new.items }
     ensures room { deque_capacity runs.old ≤ deque_capacity runs.new }
 {
-    let at = place_of(runs, page);
+    let at = place_of(runs, page, guess);
     let first = runs[at].page;
     if first == page {
         return at;
@@ -109,7 +177,7 @@ fn begin(runs: &mut VecDeque<PageRun>, page: u64) -> usize
 }
 
 /// Makes a page that is there a run of its own. Answers the place of the run.
-fn isolate(runs: &mut VecDeque<PageRun>, page: u64) -> usize
+fn isolate(runs: &mut VecDeque<PageRun>, page: u64, guess: usize) -> usize
     requires rise { ComeInOrder 0 runs.old.items }
     requires there { IsSome (find_in runs.old.items page) }
     requires room { total runs.old.items ≤ deque_capacity runs.old }
@@ -117,7 +185,7 @@ fn isolate(runs: &mut VecDeque<PageRun>, page: u64) -> usize
     ensures one { (run_at runs.new.items result).n ≡ 1 }
     ensures room { deque_capacity runs.old ≤ deque_capacity runs.new }
 {
-    let at = begin(runs, page);
+    let at = begin(runs, page, guess);
     if runs[at].n > 1 {
         cut(runs, at, 1);
     }
@@ -160,7 +228,7 @@ fn join_round(runs: &mut VecDeque<PageRun>, at: usize)
 }
 
 /// Gives a page that is there another entry.
-pub(crate) fn set_page(runs: &mut VecDeque<PageRun>, page: u64, entry: PageEntry)
+pub(crate) fn set_page(runs: &mut VecDeque<PageRun>, page: u64, guess: usize, entry: PageEntry)
     requires rise { ComeInOrder 0 runs.old.items }
     requires there { IsSome (find_in runs.old.items page) }
     requires few { total runs.old.items < 2 ^ 32 }
@@ -168,16 +236,22 @@ pub(crate) fn set_page(runs: &mut VecDeque<PageRun>, page: u64, entry: PageEntry
     ensures set { HasSet runs.old.items page entry runs.new.items }
     ensures room { deque_capacity runs.old ≤ deque_capacity runs.new }
 {
-    let at = isolate(runs, page);
+    let at = isolate(runs, page, guess);
     runs[at] = run_of(page, 1, entry);
     join_round(runs, at);
 }
 
 /// Gives n pages that aren't there an entry. There is room for them.
-pub(crate) fn fill_pages(runs: &mut VecDeque<PageRun>, from: u64, n: u32, entry: PageEntry)
+pub(crate) fn fill_pages(
+    runs: &mut VecDeque<PageRun>,
+    from: u64,
+    n: u32,
+    guess: usize,
+    entry: PageEntry,
+)
     requires rise { ComeInOrder 0 runs.old.items }
     requires free { IsFree (pages_of runs.old.items) from n }
-    requires low { from + n ≤ 2 ^ 36 }
+    requires low { from + n ≤ 2 ^ 41 }
     requires few { total runs.old.items + n < 2 ^ 32 }
     requires room { total runs.old.items + n ≤ deque_capacity runs.old }
     ensures filled { HasFilled runs.old.items from n entry runs.new.items }
@@ -186,7 +260,7 @@ pub(crate) fn fill_pages(runs: &mut VecDeque<PageRun>, from: u64, n: u32, entry:
     if n == 0 {
         return;
     }
-    let at = place_of(runs, from);
+    let at = place_of(runs, from, guess);
     match runs.insert(at, run_of(from, n, entry)) {
         Ok(()) => join_round(runs, at),
         Err(_) => unreachable!(),
@@ -194,7 +268,7 @@ pub(crate) fn fill_pages(runs: &mut VecDeque<PageRun>, from: u64, n: u32, entry:
 }
 
 /// Takes away a page that is there, and as many of those behind it in its run as are asked for. Answers how many went.
-fn clear_run(runs: &mut VecDeque<PageRun>, page: u64, most: u32) -> u32
+fn clear_run(runs: &mut VecDeque<PageRun>, page: u64, most: u32, guess: usize) -> u32
     requires rise { ComeInOrder 0 runs.old.items }
     requires there { IsSome (find_in runs.old.items page) }
     requires some { 0 < most }
@@ -204,7 +278,7 @@ fn clear_run(runs: &mut VecDeque<PageRun>, page: u64, most: u32) -> u32
     ensures most { result ≤ most }
     ensures room { deque_capacity runs.old ≤ deque_capacity runs.new }
 {
-    let at = begin(runs, page);
+    let at = begin(runs, page, guess);
     let run = runs[at];
     if most < run.n {
         runs[at] = run.tail(most);
@@ -216,7 +290,7 @@ fn clear_run(runs: &mut VecDeque<PageRun>, page: u64, most: u32) -> u32
 }
 
 /// Takes away the n pages from `from` on, which are there, run by run.
-pub(crate) fn clear_pages(runs: &mut VecDeque<PageRun>, from: u64, n: u32)
+pub(crate) fn clear_pages(runs: &mut VecDeque<PageRun>, from: u64, n: u32, guess: usize)
     requires rise { ComeInOrder 0 runs.old.items }
     requires there { AreThere (pages_of runs.old.items) from n }
     requires room { total runs.old.items ≤ deque_capacity runs.old }
@@ -227,7 +301,7 @@ pub(crate) fn clear_pages(runs: &mut VecDeque<PageRun>, from: u64, n: u32)
     let mut at = from;
     let mut left = n;
     'clearing: while left > 0 {
-        let gone = clear_run(runs, at, left);
+        let gone = clear_run(runs, at, left, guess);
         at += u64::from(gone);
         left -= gone;
     }

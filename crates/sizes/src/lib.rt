@@ -40,6 +40,9 @@ pub const ADDRESS_END: u64 = 1 << 38;
 /// Page numbers are below this.
 pub const PAGE_END: u64 = ADDRESS_END / PAGE_BYTES as u64;
 
+/// Slots of a node of a page table: one for each value of a digit of a page's number, which has four.
+pub const TABLE_SLOTS: u64 = 512;
+
 /// Pages of the stack, the last ones below the end of user addresses.
 pub const STACK_PAGES: u64 = 16;
 

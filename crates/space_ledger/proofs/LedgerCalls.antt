@@ -5,6 +5,7 @@ use Rattle.std.specs.FinMap.{empty, get}
 use Rattle.number_maps.specs.Views.{get_viewed}
 use Rattle.sizes.specs.declared.TheConstants.{PAGE_LINES}
 use Rattle.page_table.specs.Table.{Pages}
+use Rattle.page_table.specs.Nodes.{Table}
 use Rattle.page_table.specs.declared.entry.PageEntry.{PageEntry}
 use Rattle.overlay_mapping_table.specs.declared.entry.Entry.{Entry}
 use Rattle.unit_map.specs.declared.block.Block.{Block}
@@ -240,13 +241,12 @@ shared_holding v from to p entry x own o block there frame own_is o_is given =
     same (Some e) None h = cc
     same (Some e) (Some b) h = refl
 
--- a table that was copied names no frame but the zero frame twice
-pub copied_once : {E : Type 0} (v w : LedgerView) (counts : List ℕ) (u n : ℕ) → IsBooked v counts u n → (s : ℕ) (r : Result Pages E) → v ≡ w → IfOk r (λ table. table ≡ entries_of v s)
-    → IfOk r (λ table. NamesOnce w.zero_frame table)
+-- pages that are those of a space name no frame but the zero frame twice
+pub named_once : (v w : LedgerView) (counts : List ℕ) (u n : ℕ) → IsBooked v counts u n → (s : ℕ) (pages : Pages) → v ≡ w → pages ≡ entries_of v s
+    → NamesOnce w.zero_frame pages
 unfolding entries_of
-copied_once v w counts u n kept s (Err e) same h = h
-copied_once v w counts u n kept s (Ok table) same is =
-    subst (λ (k : LedgerView). NamesOnce k.zero_frame table) same
+named_once v w counts u n kept s pages same is =
+    subst (λ (k : LedgerView). NamesOnce k.zero_frame pages) same
     (λ p q a b at_p at_q frames isnt.
     let x = entry_of p a at_p in
     let y = entry_of q b at_q in
@@ -254,7 +254,13 @@ copied_once v w counts u n kept s (Ok table) same is =
     (ap (λ (e : PageEntry). e.frame) x.2 ∙ frames ∙ sym (ap (λ (e : PageEntry). e.frame) y.2))
     (λ zero_x. isnt (sym (ap (λ (e : PageEntry). e.frame) x.2) ∙ zero_x)))
   where
-    entry_of : (p : ℕ) (a : PageEntry) → get table p ≡ Some a → (x : PageView) × (get (space_in v s).pages p ≡ Some x) × (x.entry ≡ a)
+    entry_of : (p : ℕ) (a : PageEntry) → get pages p ≡ Some a → (x : PageView) × (get (space_in v s).pages p ≡ Some x) × (x.entry ≡ a)
     entry_of p a at =
         map_from (λ (y : PageView). y.entry) (get (space_in v s).pages p) a (sym (ap (λ (m : Pages). get m p) is ∙ get_viewed (λ page (y : PageView). y.entry) (space_in v s).pages p) ∙ at)
         (λ x there same. (x, there, same))
+
+-- and so does a table that was copied
+pub copied_once : {E : Type 0} (v w : LedgerView) (counts : List ℕ) (u n : ℕ) → IsBooked v counts u n → (s : ℕ) (r : Result Table E) → v ≡ w
+    → IfOk r (λ table. table.pages ≡ entries_of v s) → IfOk r (λ table. NamesOnce w.zero_frame table.pages)
+copied_once v w counts u n kept s (Err e) same h = h
+copied_once v w counts u n kept s (Ok table) same is = named_once v w counts u n kept s table.pages same is

@@ -35,9 +35,9 @@ impl Model for Space {
 
     ghost use Rattle.space_ledger.specs.Space.{IsCounted, pages_below, pages_from};
 
-    ghost view = { λ s. record { pages = pages_below s.table s.end; awaiting = pages_from s.table s.end; speculating = s.speculating } };
+    ghost view = { λ s. record { pages = pages_below s.table.pages s.end; awaiting = pages_from s.table.pages s.end; speculating = s.speculating } };
 
-    ghost invariant = { λ s. IsCounted s.table s.end s.count };
+    ghost invariant = { λ s. IsCounted s.table.pages s.end s.count };
 }
 
 impl Space {
@@ -169,7 +169,7 @@ impl Space {
     /// An equal table, where no page awaits, or want of memory.
     pub(crate) fn copy(&self) -> Result<PageTable, AllocError>
         requires { self.now.awaiting ≡ map.empty }
-        ensures { IfOk result (λ table. table ≡ self.now.pages) }
+        ensures { IfOk result (λ table. table.pages ≡ self.now.pages) }
     {
         self.table.copy()
     }
@@ -178,7 +178,7 @@ impl Space {
     pub(crate) fn adopt(&mut self, table: PageTable)
         requires empty { self.old.pages ≡ map.empty }
         requires settled { self.old.awaiting ≡ map.empty }
-        ensures { self.new ≡ adopted self.old table }
+        ensures { self.new ≡ adopted self.old table.pages }
     {
         self.table = table;
         self.end = 0;

@@ -232,8 +232,8 @@ impl SpaceLedger {
     pub fn copy_table(&self, space: u16) -> Result<PageTable, AllocError>
         requires there { holds_space self.now space ≡ true }
         requires settled { (space_in self.now space).awaiting ≡ map.empty }
-        ensures table { IfOk result (λ table. table ≡ entries_of self.now space) }
-        ensures once { IfOk result (λ table. NamesOnce self.now.zero_frame table) }
+        ensures table { IfOk result (λ table. table.pages ≡ entries_of self.now space) }
+        ensures once { IfOk result (λ table. NamesOnce self.now.zero_frame table.pages) }
     {
         self.tables.copy(space)
     }
@@ -244,8 +244,8 @@ impl SpaceLedger {
         requires there { holds_space self.old to ≡ true }
         requires empty { (space_in self.old to).pages ≡ map.empty }
         requires settled { (space_in self.old to).awaiting ≡ map.empty }
-        requires once { NamesOnce self.old.zero_frame table }
-        ensures { self.new ≡ put_awaiting self.old to table }
+        requires once { NamesOnce self.old.zero_frame table.pages }
+        ensures { self.new ≡ put_awaiting self.old to table.pages }
     {
         self.tables.adopt(to, table);
     }

@@ -301,7 +301,7 @@ impl Tables {
     pub(crate) fn copy(&self, space: u16) -> Result<PageTable, AllocError>
         requires there { holds_space self.now space ≡ true }
         requires settled { (space_in self.now space).awaiting ≡ map.empty }
-        ensures table { IfOk result (λ table. table ≡ entries_of self.now space) }
+        ensures table { IfOk result (λ table. table.pages ≡ entries_of self.now space) }
         ensures sound { IsSound self.now }
     {
         match self.spaces.get(space) {
@@ -315,7 +315,7 @@ impl Tables {
         requires there { holds_space self.old space ≡ true }
         requires empty { (space_in self.old space).pages ≡ map.empty }
         requires settled { (space_in self.old space).awaiting ≡ map.empty }
-        ensures { self.new ≡ put_awaiting self.old space table }
+        ensures { self.new ≡ put_awaiting self.old space table.pages }
     {
         match self.spaces.get_mut(space) {
             Some(space) => space.adopt(table),

@@ -3,6 +3,7 @@ ghost use Rattle.page_table.specs.Table.{IsFree, AreThere};
 
 use ovl_io::Perms;
 use page_table::{PageEntry, PageTable};
+use sizes::TABLE_SLOTS;
 use std::alloc::AllocError;
 use std::process::Abort;
 use std::test::Fail;
@@ -23,7 +24,7 @@ const DATA: PageEntry = PageEntry {
 // Whether none of the n pages from `from` on is there.
 fn is_free(table: &PageTable, from: u64, n: u32) -> bool
     requires { from + n ≤ 2 ^ 36 }
-    ensures { IsTrue result → IsFree table.now from n }
+    ensures { IsTrue result → IsFree table.now.pages from n }
 {
     match table.next_from(from) {
         Some((found, _)) => from + u64::from(n) <= found,
@@ -34,7 +35,7 @@ fn is_free(table: &PageTable, from: u64, n: u32) -> bool
 // Whether all n pages from `from` on are there.
 fn is_there(table: &PageTable, from: u64, n: u32) -> bool
     requires { from + n ≤ 2 ^ 36 }
-    ensures { IsTrue result → AreThere table.now from n }
+    ensures { IsTrue result → AreThere table.now.pages from n }
 {
     'asking: for i in 0..n {
         if table.get(from + u64::from(i)).is_none() {
@@ -97,12 +98,21 @@ fn a_mapping_is_whole_or_nothing(rt: HostRuntime) -> Result<(), Fail> {
     Ok(())
 }
 
-// The pages of the test below stand from this one on.
-const FIRST: u64 = 977;
+// The pages of the test below: five pieces of eight pages, in the middle of each of which another digit changes, and the last pages.
+const PIECE: usize = 8;
 
-const PAGES: usize = 40;
+const PIECES: [u64; 5] = [508, (1 << 18) - 4, (1 << 27) - 4, (5 << 27) - 4, LAST - 7];
 
-// What a page of the plain list has.
+const PAGES: usize = PIECE * PIECES.len();
+
+// The page at a place of the list.
+fn page_at(at: usize) -> u64
+    requires { at < PAGES }
+{
+    PIECES[at / PIECE] + (at % PIECE) as u64
+}
+
+// What a page of the list has: a map from pages to frames, by rising pages.
 fn listed(frames: &[Option<u32>; PAGES], at: usize) -> Option<PageEntry>
     requires { at < PAGES }
 {
@@ -116,17 +126,17 @@ fn listed(frames: &[Option<u32>; PAGES], at: usize) -> Option<PageEntry>
 fn next_listed(frames: &[Option<u32>; PAGES], at: usize) -> Option<(u64, PageEntry)> {
     for next in at..PAGES {
         if let Some(entry) = listed(frames, next) {
-            return Some((FIRST + next as u64, entry));
+            return Some((page_at(next), entry));
         }
     }
     None
 }
 
-// How many pages of the list from `at` on, at most 5, are there, or aren't.
+// How many pages of the list from `at` on, in its piece, are there, or aren't.
 fn run_listed(frames: &[Option<u32>; PAGES], at: usize, there: bool) -> u32
     requires { at < PAGES }
 {
-    let end = PAGES.min(at + 5);
+    let end = PAGES.min(at + PIECE - at % PIECE);
     let mut n = 0;
     for next in at..end {
         if frames[next].is_some() != there {
@@ -148,16 +158,29 @@ fn list(frames: &mut [Option<u32>; PAGES], at: usize, n: u32, frame: Option<u32>
     }
 }
 
-// Runs of 40 pages, beside a list of the frames that they were given: first more come than go, then more go.
+// What the path of a page leads to, from the first node on.
+fn walked(rt: &impl Abort, table: &PageTable, page: u64) -> Option<PageEntry> {
+    let mut node = 0;
+    for shift in [27u32, 18, 9] {
+        if node >= table.nodes() {
+            return None;
+        }
+        node = table.child(node, ((page >> shift) % TABLE_SLOTS) as u16)?;
+    }
+    assert!(rt; node < table.nodes());
+    table.leaf(node, (page % TABLE_SLOTS) as u16)
+}
+
+// Runs of pages at all digits, beside a list of the frames that they were given: first more come than go, then more go.
 #[test]
 fn a_table_answers_as_a_plain_list_does(rt: HostRuntime) -> Result<(), Fail> {
     let mut table = PageTable::new(rt.alloc());
     let mut frames: [Option<u32>; PAGES] = [None; PAGES];
     let mut seed = 1u32;
-    for call in 0..6000u32 {
+    for call in 0..10_000u32 {
         seed = seed.wrapping_mul(1_664_525).wrapping_add(1_013_904_223);
         let at = (seed >> 16) as usize % PAGES;
-        let page = FIRST + at as u64;
+        let page = page_at(at);
         let entry = PageEntry {
             perms: Perms::W,
             frame: call,
@@ -172,7 +195,7 @@ fn a_table_answers_as_a_plain_list_does(rt: HostRuntime) -> Result<(), Fail> {
             list(&mut frames, at, n, None);
         }
         let at = (seed >> 24) as usize % PAGES;
-        let page = FIRST + at as u64;
+        let page = page_at(at);
         if frames[at].is_some() {
             set(&rt, &mut table, page, entry);
             frames[at] = Some(call);
@@ -189,15 +212,60 @@ fn a_table_answers_as_a_plain_list_does(rt: HostRuntime) -> Result<(), Fail> {
             "call {call}"
         );
         for at in 0..PAGES {
-            assert_eq!(rt;
-                table.get(FIRST + at as u64),
-                listed(&frames, at),
-                "call {call}"
-            );
+            assert_eq!(rt; table.get(page_at(at)), listed(&frames, at), "call {call}");
         }
-        assert_eq!(rt; table.get(FIRST - 1), None, "call {call}");
-        assert_eq!(rt; table.get(FIRST + PAGES as u64), None, "call {call}");
+        assert_eq!(rt;
+            walked(&rt, &table, page),
+            listed(&frames, at),
+            "call {call}"
+        );
+        assert_eq!(rt; table.get(PIECES[0] - 1), None, "call {call}");
+        assert_eq!(rt; table.get(1 << 18 | 512), None, "call {call}");
     }
+    Ok(())
+}
+
+#[test]
+fn a_path_of_four_nodes_leads_to_a_page(rt: HostRuntime) -> Result<(), Fail> {
+    let mut table = PageTable::new(rt.alloc());
+    assert_eq!(rt; table.nodes(), 0);
+    assert_eq!(rt; walked(&rt, &table, 5), None);
+
+    // two places, far from one another, each of which ends behind the leaf that it begins in
+    map_pages(&rt, &mut table, 505, 17, CODE)?;
+    map_pages(&rt, &mut table, LAST - 520, 17, DATA)?;
+    assert_eq!(rt; table.nodes(), 9);
+    for page in [
+        504,
+        505,
+        511,
+        512,
+        521,
+        522,
+        LAST - 521,
+        LAST - 520,
+        LAST - 504,
+        LAST - 503,
+        LAST,
+        1 << 27,
+    ] {
+        assert_eq!(rt; walked(&rt, &table, page), table.get(page), "page {page}");
+    }
+    assert_eq!(rt; walked(&rt, &table, 521), Some(CODE));
+
+    // nodes stay where pages go, and are passed over, also by a copy
+    unmap(&rt, &mut table, 505, 17);
+    assert_eq!(rt; table.nodes(), 9);
+    assert_eq!(rt; walked(&rt, &table, 511), None);
+    assert_eq!(rt; table.next_from(0), Some((LAST - 520, DATA)));
+    let copy = table.copy()?;
+    assert_eq!(rt; copy.nodes(), 9);
+    assert_eq!(rt; copy.next_from(0), Some((LAST - 520, DATA)));
+
+    // pages that are mapped below the first one are found again
+    map_pages(&rt, &mut table, 3, 1, CODE)?;
+    assert_eq!(rt; table.next_from(0), Some((3, CODE)));
+    assert_eq!(rt; copy.next_from(0), Some((LAST - 520, DATA)));
     Ok(())
 }
 

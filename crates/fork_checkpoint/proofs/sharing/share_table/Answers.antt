@@ -4,7 +4,7 @@ use Rattle.fork_checkpoint.proofs.Shares.{HasAdopted, has_adopted}
 use Rattle.fork_checkpoint.proofs.sharing.share_table.Goals as goal
 
 abbrev adopted : (c : goal.After-share_all-arg-1) → HasAdopted (state_of c.args.mem.now) (state_of c.adopt_table.new.self) c.args.from c.args.to
-adopted c = has_adopted (state_of c.args.mem.now) (state_of c.adopt_table.new.self) c.args.from c.args.to c.args.table c.requires.ready c.adopt_table.ensures.state
+adopted c = has_adopted (state_of c.args.mem.now) (state_of c.adopt_table.new.self) c.args.from c.args.to c.args.table.pages c.requires.ready c.adopt_table.ensures.state
 
 pub share_all-requires-clause-there : goal.share_all-requires-clause-there
 share_all-requires-clause-there c = (adopted c).beside.there c.requires.ready.there
@@ -27,4 +27,4 @@ share_all-requires-clause-fits c = (adopted c).beside.fits c.requires.ready.fits
 pub returns-clause-shared : goal.returns-clause-shared
 returns-clause-shared c =
     c.share_all.ensures.shared
-    ∙ (has_adopted (state_of c.args.mem.now) (state_of c.adopt_table.new.self) c.args.from c.args.to c.args.table c.requires.ready c.adopt_table.ensures.state).copy
+    ∙ (has_adopted (state_of c.args.mem.now) (state_of c.adopt_table.new.self) c.args.from c.args.to c.args.table.pages c.requires.ready c.adopt_table.ensures.state).copy

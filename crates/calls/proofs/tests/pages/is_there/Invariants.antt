@@ -3,4 +3,4 @@ use Rattle.calls.proofs.tests.pages.is_there.Given as goal
 
 -- the first pages are there
 abbrev pub invariant-asking : goal.invariant-asking
-invariant-asking l = AreThere l.table l.from l.i
+invariant-asking l = AreThere l.table.pages l.from l.i

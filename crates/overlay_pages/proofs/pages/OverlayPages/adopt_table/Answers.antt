@@ -17,13 +17,13 @@ pub adopt_table-requires-clause-settled : goal.adopt_table-requires-clause-settl
 adopt_table-requires-clause-settled c = sym (state_awaiting (view_of c.self.inside.store c.self.inside.ledger) c.args.to) ∙ ap (λ (m : MemoryView). (space_in (state_of m) c.args.to).awaiting) c.self.view_is ∙ c.requires.settled
 
 pub adopt_table-requires-clause-once : goal.adopt_table-requires-clause-once
-adopt_table-requires-clause-once c = subst (λ z. NamesOnce z c.args.table) (ap (λ (m : MemoryView). (state_of m).zero_frame) (sym c.self.view_is) ∙ state_zero (view_of c.self.inside.store c.self.inside.ledger)) c.requires.once
+adopt_table-requires-clause-once c = subst (λ z. NamesOnce z c.args.table.pages) (ap (λ (m : MemoryView). (state_of m).zero_frame) (sym c.self.view_is) ∙ state_zero (view_of c.self.inside.store c.self.inside.ledger)) c.requires.once
 
 pub invariant_of-self : goal.invariant_of-self
 invariant_of-self c =
-    subst (λ t. IsJoined (view_of c.self.inside.store t)) (sym c.adopt_table.ensures) (awaiting_joined c.self.inside.store c.self.inside.ledger c.args.to c.args.table c.self.invariant (sym (state_holds (view_of c.self.inside.store c.self.inside.ledger) c.args.to) ∙ ap (λ (m : MemoryView). holds_space (state_of m) c.args.to) c.self.view_is ∙ c.requires.there))
+    subst (λ t. IsJoined (view_of c.self.inside.store t)) (sym c.adopt_table.ensures) (awaiting_joined c.self.inside.store c.self.inside.ledger c.args.to c.args.table.pages c.self.invariant (sym (state_holds (view_of c.self.inside.store c.self.inside.ledger) c.args.to) ∙ ap (λ (m : MemoryView). holds_space (state_of m) c.args.to) c.self.view_is ∙ c.requires.there))
 
 pub returns : goal.returns
 returns c =
-    ap (λ t. state_of (view_of c.self.inside.store t)) c.adopt_table.ensures ∙ state_awaiting_put c.self.inside.store c.self.inside.ledger c.args.to c.args.table
-    ∙ ap (λ (m : MemoryView). put_awaiting (state_of m) c.args.to c.args.table) c.self.view_is
+    ap (λ t. state_of (view_of c.self.inside.store t)) c.adopt_table.ensures ∙ state_awaiting_put c.self.inside.store c.self.inside.ledger c.args.to c.args.table.pages
+    ∙ ap (λ (m : MemoryView). put_awaiting (state_of m) c.args.to c.args.table.pages) c.self.view_is

@@ -15,7 +15,7 @@ pub copy_table-requires-clause-settled : goal.copy_table-requires-clause-settled
 copy_table-requires-clause-settled c = sym (state_awaiting (view_of c.self.inside.store c.self.inside.ledger) c.args.space) ∙ ap (λ (m : MemoryView). (space_in (state_of m) c.args.space).awaiting) c.self.view_is ∙ c.requires.settled
 
 pub returns-clause-table : goal.returns-clause-table
-returns-clause-table c = subst (λ (e : Pages). IfOk c.copy_table.result (λ table. table ≡ e)) (entries_state (view_of c.self.inside.store c.self.inside.ledger) c.args.space ∙ ap (λ (m : MemoryView). entries_in (state_of m) c.args.space) c.self.view_is) c.copy_table.ensures.table
+returns-clause-table c = subst (λ (e : Pages). IfOk c.copy_table.result (λ table. table.pages ≡ e)) (entries_state (view_of c.self.inside.store c.self.inside.ledger) c.args.space ∙ ap (λ (m : MemoryView). entries_in (state_of m) c.args.space) c.self.view_is) c.copy_table.ensures.table
 
 pub returns-clause-once : goal.returns-clause-once
-returns-clause-once c = subst (λ z. IfOk c.copy_table.result (λ table. NamesOnce z table)) (sym (state_zero (view_of c.self.inside.store c.self.inside.ledger)) ∙ ap (λ (m : MemoryView). (state_of m).zero_frame) c.self.view_is) c.copy_table.ensures.once
+returns-clause-once c = subst (λ z. IfOk c.copy_table.result (λ table. NamesOnce z table.pages)) (sym (state_zero (view_of c.self.inside.store c.self.inside.ledger)) ∙ ap (λ (m : MemoryView). (state_of m).zero_frame) c.self.view_is) c.copy_table.ensures.once

@@ -1,28 +1,35 @@
-use Rattle.std.proofs.Common.{ap, subst, sym, ◌∙◌, arith, length}
-use Rattle.page_table.specs.Kept.{ComeInOrder, pages_of, total}
+use Rattle.std.proofs.Common.{◌≡◌, List, ap, ◌∙◌, arith, length}
+use Rattle.page_table.specs.declared.run.PageRun.{PageRun}
+use Rattle.page_table.specs.Kept.{seen}
 use Rattle.page_table.proofs.Pages.{length_total}
 use Rattle.page_table.proofs.Tables.{cloned}
+use Rattle.page_table.proofs.Held.{held_copy, links_cloned}
+use Rattle.page_table.proofs.Fronts.{front_same}
 use Rattle.page_table.proofs.table.PageTable.copy.Goals as goal
+use Rattle.page_table.proofs.table.PageTable.copy.Goals.{In_ok-nodes}
+
+same_links : (c : In_ok-nodes) → c.in_ok-links.links.items ≡ c.self.inside.links.items
+same_links c = links_cloned c.self.inside.links.items c.in_ok-links.links.items c.in_ok-links.ensures.cases.0
+
+same_runs : (c : In_ok-nodes) → c.reserve.new.self.items ≡ c.self.inside.runs.items
+same_runs c = c.in_ok-reserve.ensures.items ∙ cloned c.self.inside.runs.items c.in_ok-runs.runs.items c.in_ok-runs.ensures.cases.0
 
 pub overflow_sub-self-inside : goal.overflow_sub-self-inside
 overflow_sub-self-inside c =
     let runs = c.self.inside.runs.items in
     let same = cloned runs c.in_ok-runs.runs.items c.in_ok-runs.ensures.cases.0 in
-    omega (arith, c.len.ensures, c.in_ok-runs.runs.ok.0, ap length same, length_total 0 runs c.self.invariant.rise, c.self.invariant.counted)
+    omega (arith, c.len.ensures, c.in_ok-runs.runs.ok.0, ap length same, length_total 0 runs c.self.invariant.held.kept.rise, c.self.invariant.held.kept.counted)
 
 pub invariant_of-result : goal.invariant_of-result
-invariant_of-result c =
-    let runs = c.self.inside.runs.items in
-    let same = c.in_ok-reserve.ensures.items ∙ cloned runs c.in_ok-runs.runs.items c.in_ok-runs.ensures.cases.0 in
-    let count = ap total same in
-    record {
-      rise = subst (ComeInOrder 0) (sym same) c.self.invariant.rise;
-      few = c.self.invariant.few;
-      counted = omega (arith, c.self.invariant.counted, count);
-      roomy = omega (arith, c.self.invariant.counted, count, c.in_ok-reserve.ensures.ok, c.in_ok-reserve.ensures.len, c.len.ensures);
-    }
+invariant_of-result c = record {
+  held = held_copy c.self.inside.links.items c.in_ok-links.links.items c.self.inside.runs.items c.reserve.new.self.items c.self.inside.count _ _
+      c.self.invariant.held (same_links c) (same_runs c)
+      (omega (arith, c.in_ok-reserve.ensures.ok, c.in_ok-reserve.ensures.len, c.len.ensures));
+  none = front_same c.in_ok-links.links.items c.self.inside.links.items c.reserve.new.self.items c.self.inside.runs.items c.self.inside.front
+      (same_links c) (same_runs c) c.self.invariant.none;
+}
 
 pub returns : goal.returns
 returns c =
-    ap pages_of (c.in_ok-reserve.ensures.items ∙ cloned c.self.inside.runs.items c.in_ok-runs.runs.items c.in_ok-runs.ensures.cases.0)
-    ∙ c.self.view_is
+    ap (λ l. seen l c.reserve.new.self.items) (same_links c)
+    ∙ ap (λ (r : List PageRun). seen c.self.inside.links.items r) (same_runs c) ∙ c.self.view_is

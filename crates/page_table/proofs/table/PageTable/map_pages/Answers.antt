@@ -1,59 +1,100 @@
-use Rattle.std.proofs.Common.{ap, subst, ◌∙◌, refl, arith}
-use Rattle.page_table.specs.declared.entry.PageEntry.{PageEntry}
-use Rattle.page_table.specs.Kept.{pages_of, total}
-use Rattle.page_table.specs.Table.{IsMapped}
+use Rattle.std.proofs.Common.{ℕ, ◌+◌, ◌-◌, ◌/◌, List, ap, subst, sym, ◌∙◌, refl, arith}
+use Rattle.number_maps.specs.Rows.{map_of}
+use Rattle.page_table.specs.declared.run.PageRun.{PageRun}
+use Rattle.page_table.specs.Kept.{HaveFilled, HaveLeaves, HavePaths, pages_of}
+use Rattle.page_table.specs.Nodes.{pages_by}
+use Rattle.page_table.specs.Table.{IsFree}
 use Rattle.page_table.specs.Laws.{one_mapped_at}
 use Rattle.page_table.proofs.Pages.{length_total}
-use Rattle.page_table.proofs.Tables.{counted}
+use Rattle.page_table.proofs.Held.{grown_pages, have_paths, held_mapped, mapped_len, mapped_table}
+use Rattle.page_table.proofs.Fronts.{front_mapped, front_seen}
 use Rattle.page_table.proofs.table.PageTable.map_pages.Goals as goal
+use Rattle.page_table.proofs.table.PageTable.map_pages.Goals.{After-make_leaves, After-fill_paths}
+
+-- the nodes that were made, and the pages that were filled, as changes of what the table had
+made : (c : After-make_leaves) → HaveLeaves c.self.inside.links.items (c.args.from / 512) ((c.args.from + c.from.result - 1) / 512 + 1) c.make_leaves.new.links.items
+made c =
+    subst (λ l. HaveLeaves l (c.args.from / 512) ((c.args.from + c.from.result - 1) / 512 + 1) c.make_leaves.new.links.items)
+    c.in_ok-reserve_leaves.ensures.items c.make_leaves.ensures.made
+
+filled : (c : After-fill_paths) → HaveFilled c.make_leaves.new.links.items c.self.inside.runs.items c.args.from c.args.n
+    (record { perms = c.args.perms; frame = c.args.frame }) c.fill_paths.new.runs.items
+filled c =
+    subst (λ l. HaveFilled l c.self.inside.runs.items c.args.from c.args.n (record { perms = c.args.perms; frame = c.args.frame }) c.fill_paths.new.runs.items)
+    c.deref.ensures.value
+    (subst (λ (r : List PageRun). HaveFilled c.deref.result.now r c.args.from c.args.n (record { perms = c.args.perms; frame = c.args.frame }) c.fill_paths.new.runs.items)
+    c.in_ok-reserve.ensures.items c.fill_paths.ensures.filled)
 
 pub overflow_sub-spare : goal.overflow_sub-spare
 overflow_sub-spare c =
-    let short = length_total 0 c.self.inside.runs.items c.self.invariant.rise in
-    omega (arith, c.len.ensures, c.self.inside.runs.ok.0, short, c.self.invariant.counted)
+    let short = length_total 0 c.self.inside.runs.items c.self.invariant.held.kept.rise in
+    omega (arith, c.len.ensures, c.self.inside.runs.ok.0, short, c.self.invariant.held.kept.counted)
 
-pub fill_pages-requires-clause-few : goal.fill_pages-requires-clause-few
-fill_pages-requires-clause-few c =
-    let before = counted c.args.self.now c.self.inside.runs.items c.self.view_is c.self.invariant.rise in
-    omega (arith, ap total c.in_ok-reserve.ensures.items, before, c.requires.few)
+pub fill_paths-requires-clause-paths : goal.fill_paths-requires-clause-paths
+fill_paths-requires-clause-paths c =
+    let here = (goal.at.fill_paths-requires-clause-paths c).After-make_leaves in
+    subst (λ l. HavePaths (map_of l) c.args.from c.args.n) (sym c.deref.ensures.value)
+    (have_paths c.self.inside.links.items c.make_leaves.new.links.items c.args.from c.args.n (c.args.from / 512) ((c.args.from + c.from.result - 1) / 512 + 1)
+    (made here) refl (ap (λ (n : ℕ). (c.args.from + n - 1) / 512 + 1) c.from.ensures) c.requires.low)
 
-pub overflow_add-self : goal.overflow_add-self
-overflow_add-self c =
-    omega (arith, c.requires.few, counted c.args.self.now c.self.inside.runs.items c.self.view_is c.self.invariant.rise, c.self.invariant.counted)
+pub fill_paths-requires-clause-free : goal.fill_paths-requires-clause-free
+fill_paths-requires-clause-free c =
+    let here = (goal.at.fill_paths-requires-clause-free c).After-make_leaves in
+    let same = ap (λ l. pages_by (map_of l) (pages_of c.reserve.new.self.items)) c.deref.ensures.value
+    ∙ ap (λ (r : List PageRun). pages_by (map_of c.make_leaves.new.links.items) (pages_of r)) c.in_ok-reserve.ensures.items
+    ∙ grown_pages c.args.self.now c.self.inside.links.items c.make_leaves.new.links.items c.self.inside.runs.items c.self.inside.count _ c.self.view_is
+    c.self.invariant.held (made here).grown in
+    subst (λ m. IsFree m c.args.from c.args.n) (sym same) c.requires.free
 
 pub invariant_of-self-2 : goal.invariant_of-self-2
 invariant_of-self-2 c =
-    let made = c.fill_pages.ensures in
-    let count = ap total c.in_ok-reserve.ensures.items in
-    let before = counted c.args.self.now c.self.inside.runs.items c.self.view_is c.self.invariant.rise in
+    let here = (goal.at.invariant_of-self-2 c).After-fill_paths in
+    let before = (goal.at.invariant_of-self-2 c).After-make_leaves in
     record {
-      rise = made.filled.rise;
-      few = omega (arith, c.requires.few, before, c.self.invariant.counted);
-      counted = omega (arith, made.filled.count, count, c.self.invariant.counted);
-      roomy = omega (
-        arith,
-        made.filled.count,
-        count,
-        made.room,
-        c.in_ok-reserve.ensures.ok,
-        c.in_ok-reserve.ensures.len,
-        c.len.ensures,
-        c.self.invariant.counted,
-        length_total 0 c.self.inside.runs.items c.self.invariant.rise,
-        c.self.inside.runs.ok.0,
-      );
+      held = held_mapped c.args.self.now c.self.inside.links.items c.make_leaves.new.links.items c.self.inside.runs.items c.fill_paths.new.runs.items
+          c.self.inside.count _ _ c.args.from c.args.n (record { perms = c.args.perms; frame = c.args.frame }) c.self.view_is c.self.invariant.held (made before).grown
+          (filled here) c.requires.free c.requires.few
+          (omega (
+            arith,
+            c.fill_paths.ensures.room,
+            c.in_ok-reserve.ensures.ok,
+            c.in_ok-reserve.ensures.len,
+            c.len.ensures,
+            c.self.invariant.held.kept.counted,
+            length_total 0 c.self.inside.runs.items c.self.invariant.held.kept.rise,
+            c.self.inside.runs.ok.0,
+          ));
+      none = front_mapped c.args.self.now.pages (pages_by (map_of c.make_leaves.new.links.items) (pages_of c.fill_paths.new.runs.items)) c.self.inside.front
+          c.sooner-self-inside.result c.args.from c.args.n (record { perms = c.args.perms; frame = c.args.frame })
+          (front_seen c.args.self.now c.self.inside.links.items c.self.inside.runs.items c.self.inside.front c.self.view_is c.self.invariant.none)
+          (mapped_table c.args.self.now c.self.inside.links.items c.make_leaves.new.links.items c.self.inside.runs.items c.fill_paths.new.runs.items
+          c.self.inside.count _ c.args.from c.args.n (record { perms = c.args.perms; frame = c.args.frame }) c.self.view_is c.self.invariant.held
+          (made before).grown (filled here))
+          c.sooner-self-inside.ensures.page c.sooner-self-inside.ensures.other;
     }
+
+pub returns-clause-mapped : goal.returns-clause-mapped
+returns-clause-mapped c =
+    let here = (goal.at.returns-clause-mapped c).After-fill_paths in
+    let before = (goal.at.returns-clause-mapped c).After-make_leaves in
+    mapped_table c.args.self.now c.self.inside.links.items c.make_leaves.new.links.items c.self.inside.runs.items c.fill_paths.new.runs.items
+    c.self.inside.count _ c.args.from c.args.n (record { perms = c.args.perms; frame = c.args.frame }) c.self.view_is c.self.invariant.held (made before).grown
+    (filled here)
 
 pub returns-clause-one : goal.returns-clause-one
 returns-clause-one c is =
-    let entry : PageEntry = record { perms = c.args.perms; frame = c.args.frame } in
-    let new = pages_of c.fill_pages.new.runs.items in
-    one_mapped_at c.args.self.now new c.args.from c.args.n entry is
-    (subst (λ old. IsMapped old c.args.from c.args.n entry new) (ap pages_of c.in_ok-reserve.ensures.items ∙ c.self.view_is) c.fill_pages.ensures.filled.pages)
+    let here = (goal.at.returns-clause-one c).After-fill_paths in
+    let before = (goal.at.returns-clause-one c).After-make_leaves in
+    one_mapped_at c.args.self.now.pages (pages_by (map_of c.make_leaves.new.links.items) (pages_of c.fill_paths.new.runs.items)) c.args.from c.args.n
+    (record { perms = c.args.perms; frame = c.args.frame }) is
+    (mapped_table c.args.self.now c.self.inside.links.items c.make_leaves.new.links.items c.self.inside.runs.items c.fill_paths.new.runs.items
+    c.self.inside.count _ c.args.from c.args.n (record { perms = c.args.perms; frame = c.args.frame }) c.self.view_is c.self.invariant.held (made before).grown
+    (filled here))
 
 pub returns-clause-count : goal.returns-clause-count
 returns-clause-count c =
-    let new = c.fill_pages.new.runs.items in
-    let made = c.fill_pages.ensures.filled in
-    let before = counted c.args.self.now c.self.inside.runs.items c.self.view_is c.self.invariant.rise in
-    omega (arith, made.count, ap total c.in_ok-reserve.ensures.items, before, counted (pages_of new) new refl made.rise)
+    let here = (goal.at.returns-clause-count c).After-fill_paths in
+    let before = (goal.at.returns-clause-count c).After-make_leaves in
+    mapped_len c.args.self.now c.self.inside.links.items c.make_leaves.new.links.items c.self.inside.runs.items c.fill_paths.new.runs.items
+    c.self.inside.count _ c.args.from c.args.n (record { perms = c.args.perms; frame = c.args.frame }) c.self.view_is c.self.invariant.held (made before).grown
+    (filled here) c.requires.free

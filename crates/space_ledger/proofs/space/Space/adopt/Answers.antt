@@ -5,9 +5,9 @@ use Rattle.space_ledger.proofs.space.Space.adopt.Goals as goal
 
 pub invariant_of-self : goal.invariant_of-self
 invariant_of-self c =
-    count_adopted c.self.inside.table c.args.table c.self.inside.end c.self.inside.count (ap (λ (s : SpaceTable). s.pages) c.self.view_is ∙ c.requires.empty) c.self.invariant
+    count_adopted c.self.inside.table.pages c.args.table.pages c.self.inside.end c.self.inside.count (ap (λ (s : SpaceTable). s.pages) c.self.view_is ∙ c.requires.empty) c.self.invariant
 
 pub returns : goal.returns
 returns c =
-    adopt_entry c.args.table c.self.inside.table c.self.inside.end c.self.inside.speculating
-    ∙ ap (λ (s : SpaceTable). adopted s c.args.table) c.self.view_is
+    adopt_entry c.args.table.pages c.self.inside.table.pages c.self.inside.end c.self.inside.speculating
+    ∙ ap (λ (s : SpaceTable). adopted s c.args.table.pages) c.self.view_is

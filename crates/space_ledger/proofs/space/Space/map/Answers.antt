@@ -8,13 +8,13 @@ use Rattle.space_ledger.proofs.space.Space.map.Goals as goal
 
 pub map_pages-requires-clause-free : goal.map_pages-requires-clause-free
 map_pages-requires-clause-free c =
-    free_too c.self.inside.table c.self.inside.end c.args.from c.args.n (ap (λ (s : SpaceTable). s.awaiting) c.self.view_is ∙ c.requires.settled)
+    free_too c.self.inside.table.pages c.self.inside.end c.args.from c.args.n (ap (λ (s : SpaceTable). s.awaiting) c.self.view_is ∙ c.requires.settled)
     (subst (λ (s : SpaceTable). IsFree s.pages c.args.from c.args.n) (sym c.self.view_is) c.requires.free)
 
 pub map_pages-requires-clause-few : goal.map_pages-requires-clause-few
 map_pages-requires-clause-few c =
     let settled = ap (λ (s : SpaceTable). s.awaiting) c.self.view_is ∙ c.requires.settled in
-    let whole = ap len (all_inside c.self.inside.table c.self.inside.end settled) in
+    let whole = ap len (all_inside c.self.inside.table.pages c.self.inside.end settled) in
     let same = ap (λ (s : SpaceTable). len s.pages) c.self.view_is in
     omega (arith, whole, same, c.requires.few)
 
@@ -25,13 +25,13 @@ overflow_add-self c =
 
 pub invariant_of-self : goal.invariant_of-self
 invariant_of-self c =
-    count_mapped c.self.inside.table c.map_pages.new.self c.self.inside.end c.args.from c.args.n c.self.inside.count (record { perms = c.args.perms; frame = c.args.frame })
+    count_mapped c.self.inside.table.pages c.map_pages.new.self.pages c.self.inside.end c.args.from c.args.n c.self.inside.count (record { perms = c.args.perms; frame = c.args.frame })
     (ap (λ (s : SpaceTable). s.awaiting) c.self.view_is ∙ c.requires.settled) c.in-Ok.ensures.mapped c.in-Ok.ensures.count c.requires.low c.self.invariant
 
 pub returns-in-Ok-clause-mapped : goal.returns-in-Ok-clause-mapped
 returns-in-Ok-clause-mapped c =
     let entry : PageEntry = record { perms = c.args.perms; frame = c.args.frame } in
-    let new : SpaceTable = record { pages = pages_below c.map_pages.new.self (2 ^ 64 - 1); awaiting = pages_from c.map_pages.new.self (2 ^ 64 - 1); speculating = c.self.inside.speculating } in
+    let new : SpaceTable = record { pages = pages_below c.map_pages.new.self.pages (2 ^ 64 - 1); awaiting = pages_from c.map_pages.new.self.pages (2 ^ 64 - 1); speculating = c.self.inside.speculating } in
     subst (λ (s : SpaceTable). HasMapped s c.args.from c.args.n entry new) c.self.view_is
-    (map_all c.self.inside.table c.map_pages.new.self c.self.inside.end c.args.from c.args.n entry c.self.inside.speculating
+    (map_all c.self.inside.table.pages c.map_pages.new.self.pages c.self.inside.end c.args.from c.args.n entry c.self.inside.speculating
     (ap (λ (s : SpaceTable). s.awaiting) c.self.view_is ∙ c.requires.settled) c.in-Ok.ensures.mapped c.in-Ok.ensures.count c.requires.low c.self.invariant.reach)

@@ -6,14 +6,14 @@ use Rattle.space_ledger.proofs.space.Space.next.Goals as goal
 pub returns-then-found-self : goal.returns-then-found-self
 returns-then-found-self c =
     subst (λ (s : SpaceTable). IsLeastFrom s.pages c.args.page (Some c.in-Some.found)) c.self.view_is
-    (next_inside c.self.inside.table c.self.inside.end c.args.page c.in-Some.found _ c.in-Some.ensures.next c.if-found-self.true)
+    (next_inside c.self.inside.table.pages c.self.inside.end c.args.page c.in-Some.found _ c.in-Some.ensures.next c.if-found-self.true)
 
 pub returns-else-found-self : goal.returns-else-found-self
 returns-else-found-self c =
     subst (λ (s : SpaceTable). IsLeastFrom s.pages c.args.page None) c.self.view_is
-    (next_waits c.self.inside.table c.self.inside.end c.args.page c.in-Some.found _ c.in-Some.ensures.next c.if-found-self.false)
+    (next_waits c.self.inside.table.pages c.self.inside.end c.args.page c.in-Some.found _ c.in-Some.ensures.next c.if-found-self.false)
 
 pub returns-in-None : goal.returns-in-None
 returns-in-None c =
     subst (λ (s : SpaceTable). IsLeastFrom s.pages c.args.page None) c.self.view_is
-    (next_none c.self.inside.table c.self.inside.end c.args.page c.in-None.ensures.next)
+    (next_none c.self.inside.table.pages c.self.inside.end c.args.page c.in-None.ensures.next)

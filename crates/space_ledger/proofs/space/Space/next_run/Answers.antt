@@ -8,5 +8,5 @@ use Rattle.space_ledger.proofs.space.Space.next_run.Goals as goal
 pub returns : goal.returns
 returns c =
     subst (λ (m : Pages). IsNextRun m c.args.page c.next_run.result)
-    (sym (all_inside c.self.inside.table c.self.inside.end (ap (λ (s : SpaceTable). s.awaiting) c.self.view_is ∙ c.requires)) ∙ ap (λ (s : SpaceTable). s.pages) c.self.view_is)
+    (sym (all_inside c.self.inside.table.pages c.self.inside.end (ap (λ (s : SpaceTable). s.awaiting) c.self.view_is ∙ c.requires)) ∙ ap (λ (s : SpaceTable). s.pages) c.self.view_is)
     c.next_run.ensures

@@ -6,8 +6,8 @@ use Rattle.space_ledger.proofs.space.Space.next_run_awaiting.Goals as goal
 pub returns-in-Some : goal.returns-in-Some
 returns-in-Some c =
     subst (λ (s : SpaceTable). AwaitsRun s.awaiting c.args.until c.cut.result) c.self.view_is
-    (cut_waits c.self.inside.table c.self.inside.end c.args.until c.in-Some.found c.in-Some.ensures c.cut.result c.cut.ensures)
+    (cut_waits c.self.inside.table.pages c.self.inside.end c.args.until c.in-Some.found c.in-Some.ensures c.cut.result c.cut.ensures)
 
 pub returns-in-None : goal.returns-in-None
 returns-in-None c =
-    subst (λ (s : SpaceTable). AwaitsRun s.awaiting c.args.until None) c.self.view_is (no_run c.self.inside.table c.self.inside.end c.args.until c.in-None.ensures)
+    subst (λ (s : SpaceTable). AwaitsRun s.awaiting c.args.until None) c.self.view_is (no_run c.self.inside.table.pages c.self.inside.end c.args.until c.in-None.ensures)

@@ -7,27 +7,27 @@ use Rattle.space_ledger.proofs.space.Space.share.Goals as goal
 
 pub invariant_of-self : goal.invariant_of-self
 invariant_of-self c =
-    share_counted c.self.inside.table c.self.inside.end c.args.page c.self.inside.count c.in-Some.entry
+    share_counted c.self.inside.table.pages c.self.inside.end c.args.page c.self.inside.count c.in-Some.entry
     (subst (λ (s : SpaceTable). IsLeast s.awaiting c.args.page) (sym c.self.view_is) c.requires.least) (sym c.in-Some.ensures) c.requires.low c.self.invariant
 
 pub unreachable-requires : goal.unreachable-requires
 unreachable-requires c =
     let least = subst (λ (s : SpaceTable). IsLeast s.awaiting c.args.page) (sym c.self.view_is) c.requires.least in
-    let none = sym least.there ∙ ap is_some (waits_in c.self.inside.table c.self.inside.end c.args.page least None (sym c.in-None.ensures)) in cc
+    let none = sym least.there ∙ ap is_some (waits_in c.self.inside.table.pages c.self.inside.end c.args.page least None (sym c.in-None.ensures)) in cc
 
 pub returns-clause-entry : goal.returns-clause-entry
 returns-clause-entry c =
     ap (λ (s : SpaceTable). get s.awaiting c.args.page) (sym c.self.view_is)
-    ∙ waits_in c.self.inside.table c.self.inside.end c.args.page (subst (λ (s : SpaceTable). IsLeast s.awaiting c.args.page) (sym c.self.view_is) c.requires.least) _ (sym c.in-Some.ensures)
+    ∙ waits_in c.self.inside.table.pages c.self.inside.end c.args.page (subst (λ (s : SpaceTable). IsLeast s.awaiting c.args.page) (sym c.self.view_is) c.requires.least) _ (sym c.in-Some.ensures)
 
 pub returns-clause-shared : goal.returns-clause-shared
 returns-clause-shared c =
-    share_entry c.self.inside.table c.self.inside.end c.args.page c.in-Some.entry c.self.inside.speculating
+    share_entry c.self.inside.table.pages c.self.inside.end c.args.page c.in-Some.entry c.self.inside.speculating
     (subst (λ (s : SpaceTable). IsLeast s.awaiting c.args.page) (sym c.self.view_is) c.requires.least) (sym c.in-Some.ensures)
     ∙ ap (λ (s : SpaceTable). awaited s c.args.page c.in-Some.entry) c.self.view_is
 
 pub returns-clause-apart : goal.returns-clause-apart
 returns-clause-apart c =
     ap (λ (s : SpaceTable). get s.pages c.args.page) (sym c.self.view_is)
-    ∙ outside c.self.inside.table c.self.inside.end c.args.page
-    (is_waiting c.self.inside.table c.self.inside.end c.args.page c.in-Some.entry (subst (λ (s : SpaceTable). IsLeast s.awaiting c.args.page) (sym c.self.view_is) c.requires.least) (sym c.in-Some.ensures))
+    ∙ outside c.self.inside.table.pages c.self.inside.end c.args.page
+    (is_waiting c.self.inside.table.pages c.self.inside.end c.args.page c.in-Some.entry (subst (λ (s : SpaceTable). IsLeast s.awaiting c.args.page) (sym c.self.view_is) c.requires.least) (sym c.in-Some.ensures))

@@ -1,10 +1,10 @@
-use Rattle.std.proofs.Common.{Ok, ap, sym}
+use Rattle.std.proofs.Common.{ap, sym}
 use Rattle.space_ledger.specs.Calls.{entries_of}
 use Rattle.space_ledger.specs.View.{LedgerView}
-use Rattle.space_ledger.proofs.LedgerCalls.{copied_once}
+use Rattle.space_ledger.proofs.LedgerCalls.{named_once}
 use Rattle.space_ledger.proofs.spaces.SpaceLedger.pages.Goals as goal
 
 pub returns-clause-once : goal.returns-clause-once
 returns-clause-once c =
-    copied_once {E = Unit {0}} c.self.inside.tables c.args.self.now c.self.inside.pool c.self.inside.units c.self.inside.lines c.self.invariant c.args.space (Ok (entries_of c.args.self.now c.args.space))
+    named_once c.self.inside.tables c.args.self.now c.self.inside.pool c.self.inside.units c.self.inside.lines c.self.invariant c.args.space (entries_of c.args.self.now c.args.space)
     c.self.view_is (ap (λ (v : LedgerView). entries_of v c.args.space) (sym c.self.view_is))

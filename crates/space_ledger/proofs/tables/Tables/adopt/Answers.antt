@@ -13,7 +13,7 @@ pub unreachable-requires : goal.unreachable-requires
 unreachable-requires c = no_space_is (shows c.self.view_is c.self.invariant) c.args.space (sym c.in-None.ensures.value) c.requires.there
 
 pub invariant_of-self : goal.invariant_of-self
-invariant_of-self c = kept_of (shown_adopted (shows c.self.view_is c.self.invariant) c.args.space c.in-Some.space.now c.adopt.new.self c.in-Some.ensures.value c.args.table c.adopt.ensures c.requires.empty)
+invariant_of-self c = kept_of (shown_adopted (shows c.self.view_is c.self.invariant) c.args.space c.in-Some.space.now c.adopt.new.self c.in-Some.ensures.value c.args.table.pages c.adopt.ensures c.requires.empty)
 
 pub returns : goal.returns
-returns c = (shown_adopted (shows c.self.view_is c.self.invariant) c.args.space c.in-Some.space.now c.adopt.new.self c.in-Some.ensures.value c.args.table c.adopt.ensures c.requires.empty).is
+returns c = (shown_adopted (shows c.self.view_is c.self.invariant) c.args.space c.in-Some.space.now c.adopt.new.self c.in-Some.ensures.value c.args.table.pages c.adopt.ensures c.requires.empty).is

@@ -1,9 +1,11 @@
 use Rattle.std.proofs.Common.{◌≡◌, Result, Ok, Err, IfOk, sym, ◌∙◌}
+use Rattle.page_table.specs.Table.{Pages}
+use Rattle.page_table.specs.Nodes.{Table}
 use Rattle.space_ledger.proofs.Seen.{no_space_is, shows}
 use Rattle.space_ledger.proofs.TableOps.{settled_in, entries_is, is_sound}
 use Rattle.space_ledger.proofs.tables.Tables.copy.Goals as goal
 
-if_ok : {E X : Type 0} {x y : X} (r : Result X E) → IfOk r (λ copy. copy ≡ x) → x ≡ y → IfOk r (λ copy. copy ≡ y)
+if_ok : {E : Type 0} {x y : Pages} (r : Result Table E) → IfOk r (λ copy. copy.pages ≡ x) → x ≡ y → IfOk r (λ copy. copy.pages ≡ y)
 if_ok (Ok copy) h same = h ∙ same
 if_ok (Err e) h same = h
 
