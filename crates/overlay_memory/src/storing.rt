@@ -226,7 +226,6 @@ pub(crate) fn store_line(
                 (address % LINE_BYTES as u64) as usize,
                 bytes,
             );
-            fronts.forget_line(address / LINE_BYTES as u64);
             return Ok(());
         }
     }
