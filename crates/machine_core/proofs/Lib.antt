@@ -1,4 +1,8 @@
 pub mod Requests
+pub mod Bytes
+pub mod Holding
+pub mod Leaving
+pub mod Executing
 pub mod Rising
 pub mod Listed
 pub mod Accessing

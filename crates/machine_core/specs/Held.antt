@@ -1,13 +1,8 @@
-use Rattle.std.specs.Prelude.{◌≡◌, ◌⊎◌, ℕ, ◌+◌, ◌-◌, ◌/◌, ◌%◌, ◌^◌, ◌<◌, ◌&&◌, ◌==◌, ◌<=◌, Bool, true, not, List, [], slice_index_or, Option, Some, None, IfSome, Result, Ok, Err, if◌then◌else◌}
+use Rattle.std.specs.Prelude.{◌≡◌, ℕ, ◌+◌, ◌-◌, ◌/◌, ◌%◌, ◌^◌, ◌<◌, ◌&&◌, ◌==◌, nat_le, Bool, not, List, [], slice_index_or, Some, Result, Ok, Err, if◌then◌else◌}
 use Rattle.sizes.specs.declared.TheConstants.{LINE_BYTES, PAGE_BYTES}
 use Rattle.decoded_lines.specs.declared.TheConstants.{KEPT_LINES, LINE_WORDS}
 use Rattle.ovl_io.specs.Memory.{denied_at}
-use Rattle.ovl_io.specs.declared.process_state.FaultKind.{FaultKind}
-use Rattle.ovl_io.specs.declared.process_state.FaultKind.TheVariants.{Align, Fetch}
-use Rattle.rv_decode.specs.Encodable.{IsEncodable}
-use Rattle.rv_decode.specs.Meaning.{meaning}
-use Rattle.rv_decode.specs.declared.instruction.Instr.{Instr}
-use Rattle.rv_execute.specs.Calls.{fetch_at, word_at}
+use Rattle.rv_execute.specs.Calls.{fetch_at}
 use Rattle.rv_execute.specs.declared.action.Action.{Action}
 use Rattle.rv_execute.specs.declared.action.Action.TheVariants as action
 use Rattle.overlay_memory.specs.Code.{IsCodeLine}
@@ -17,6 +12,8 @@ use Rattle.overlay_pages.specs.State.{memory_of}
 use Rattle.translation_cache.specs.declared.TheConstants.{SETS}
 use Rattle.machine_core.specs.Access.{IsUnchanged, spaces_lent}
 use Rattle.machine_core.specs.declared.hand.Hand.{Hand}
+use Rattle.machine_core.specs.declared.hand.Refusal.{Refusal}
+use Rattle.machine_core.specs.declared.hand.Refusal.TheVariants.{Askew, Denied}
 use Rattle.machine_core.specs.declared.view.View.{View}
 
 -- The line that instructions are taken from, decoded.
@@ -28,6 +25,7 @@ distance start address = (address + (2 ^ 64 - start)) % 2 ^ 64
 -- A line of a space stands among those that are decoded, from a place on, with the bytes that the memory has.
 pub record IsHeld (lines : List (List ℕ)) (memory : TranslatedView) (space : ℕ) (hand : Hand) : Type 0 where
   pub start : hand.start % LINE_BYTES ≡ 0
+  pub low : hand.start < 2 ^ 64
   pub first : hand.first % LINE_WORDS ≡ 0
   pub inside : hand.first / LINE_WORDS < KEPT_LINES
   pub code : IsCodeLine memory space hand.start (slice_index_or lines (hand.first / LINE_WORDS) [])
@@ -58,47 +56,44 @@ pub record IsRefused (old new : TranslatedView) (space address at : ℕ) : Type 
   pub same : state_of new ≡ state_of old
   pub lists : translations_of new ≡ after_access old space (fetch_at address)
 
-pub record IsAskew (old new : TranslatedView) (address at : ℕ) : Type 0 where
-  pub askew : address % 4 ≡ 0 → ⊥
-  pub at_is : at ≡ address
-  pub same : new ≡ old
+-- why not
+abbrev pub Refuses : TranslatedView → TranslatedView → ℕ → ℕ → Refusal → Type 0
+Refuses old new space address Askew = (address % 4 ≡ 0 → ⊥) × (new ≡ old)
+Refuses old new space address (Denied at) = IsRefused old new space address at
 
-abbrev pub Refuses : TranslatedView → TranslatedView → ℕ → ℕ → FaultKind → ℕ → Type 0
-Refuses old new space address Align at = IsAskew old new address at
-Refuses old new space address Fetch at = IsRefused old new space address at
-Refuses old new space address kind at = ⊥
-
-abbrev pub Reaches : TranslatedView → TranslatedView → ℕ → List (List ℕ) → ℕ → Result ℕ (FaultKind × ℕ) → Type 0
+abbrev pub Reaches : TranslatedView → TranslatedView → ℕ → List (List ℕ) → ℕ → Result ℕ Refusal → Type 0
 Reaches old new space lines address (Ok first) = IsReached old new space lines address first
-Reaches old new space lines address (Err (kind, at)) = Refuses old new space address kind at
+Reaches old new space lines address (Err refusal) = Refuses old new space address refusal
 
--- What having the word of an address decoded comes to: it may be fetched, and was; or why not.
-abbrev pub IsDenied : View → View → ℕ → FaultKind × ℕ → Type 0
-IsDenied old new address (kind, at) =
-    ((address % 4 ≡ 0 → ⊥) × (kind ≡ Align) × (at ≡ address) × (new ≡ old))
-    ⊎ ((address % 4 ≡ 0) × (kind ≡ Fetch) × (denied_at (memory_of (spaces_lent old) old.space) (fetch_at address) ≡ Some at) × IsUnchanged (fetch_at address) old new)
+-- What fetching a word comes to: where its meaning stands, or why it may not be fetched.
+pub record IsFetched (old new : View) (lines : List (List ℕ)) (hand : Hand) (address at : ℕ) : Type 0 where
+  pub low : address < 2 ^ 64
+  pub there : IsAt lines new.memory.now new.space hand address at
+  pub counted : IsUnchanged (fetch_at address) old new
 
-abbrev pub Has : View → View → List (List ℕ) → Hand → ℕ → Result ℕ (FaultKind × ℕ) → Type 0
-Has old new lines hand address (Ok at) = IsAt lines new.memory.now new.space hand address at × IsUnchanged (fetch_at address) old new
-Has old new lines hand address (Err denied) = IsDenied old new address denied
+abbrev pub Fetches : View → View → List (List ℕ) → Hand → ℕ → Result ℕ Refusal → Type 0
+Fetches old new lines hand address (Ok at) = IsFetched old new lines hand address at
+Fetches old new lines hand address (Err Askew) = (address % 4 ≡ 0 → ⊥) × (new ≡ old)
+Fetches old new lines hand address (Err (Denied at)) =
+    (address % 4 ≡ 0) × (denied_at (memory_of (spaces_lent old) old.space) (fetch_at address) ≡ Some at) × IsUnchanged (fetch_at address) old new
 
 -- An access whose page isn't in the list of the line's page, and that lies in one page, leaves the line in hand.
 abbrev pub is_apart : ℕ → ℕ → Bool
-is_apart address pc = not (address / PAGE_BYTES % SETS == pc / PAGE_BYTES % SETS) && (address % PAGE_BYTES <= PAGE_BYTES - 8)
-
-abbrev pub stays : Action → ℕ → Bool
-stays (action.Load address size extension) pc = is_apart address pc
-stays (action.Store address size value) pc = is_apart address pc
-stays (action.Write value) pc = true
-stays (action.Link target) pc = true
-stays (action.Goto target) pc = true
-stays action.Next pc = true
-stays action.Ask pc = true
-stays action.Stop pc = true
+is_apart address pc = not (address / PAGE_BYTES % SETS == pc / PAGE_BYTES % SETS) && nat_le (address % PAGE_BYTES) (PAGE_BYTES - 8)
 
 -- no line, where what follows is 4 behind an address
 abbrev pub lost : ℕ → Hand → Hand
 lost pc hand = record { start = (pc + (LINE_BYTES + 4)) % 2 ^ 64; first = hand.first }
 
+abbrev pub left_at : ℕ → ℕ → Hand → Hand
+left_at address pc hand = if is_apart address pc then hand else lost pc hand
+
 abbrev pub left_by : Action → ℕ → Hand → Hand
-left_by a pc hand = if stays a pc then hand else lost pc hand
+left_by (action.Load address size extension) pc hand = left_at address pc hand
+left_by (action.Store address size value) pc hand = left_at address pc hand
+left_by (action.Write value) pc hand = hand
+left_by (action.Link target) pc hand = hand
+left_by (action.Goto target) pc hand = hand
+left_by action.Next pc hand = hand
+left_by action.Ask pc hand = hand
+left_by action.Stop pc hand = hand

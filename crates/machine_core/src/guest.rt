@@ -11,17 +11,21 @@ ghost use Rattle.translation_cache.specs.Counted.{counted};
 ghost use Rattle.space_maps.specs.Spaces.{holds_space};
 ghost use Rattle.machine_core.specs.Turns.{answered_by, executed, outcome_of};
 ghost use Rattle.machine_core.specs.Executions.{all_executed, executions, stops_in};
-ghost use Rattle.machine_core.specs.Access.{IsReadyView, spaces_lent};
+ghost use Rattle.machine_core.specs.Access.{IsReadyView, PerformsLent, spaces_lent};
+ghost use Rattle.machine_core.specs.Held.{IsInHand};
+ghost use Rattle.rv_execute.specs.Execution.{Executed, execution, full_in};
 ghost use Rattle.machine_core.specs.Kept.{IsBeside, guest_in, guest_lent};
 
+use crate::hand::{Hand, Refusal, fetch};
 use crate::process::Process;
 use crate::view::View;
 use arrayvec::ArrayVec;
 use bitflags::Flags;
 use breakpoints::Addresses;
+use decoded_lines::DecodedLines;
 use overlay_memory::OverlayMemory;
-use ovl_io::{Perms, ProcessState, Turn, Written};
-use rv_execute::{Outcome, execute};
+use ovl_io::{FaultKind, Perms, ProcessState, Turn, Written};
+use rv_execute::{Outcome, Regs, action_on, perform};
 use sizes::MOST_WRITTEN;
 
 /// The requests that there are, by their numbers in a7: those of Linux for RISC-V.
@@ -122,12 +126,55 @@ pub(crate) fn answer_request(process: &mut Process, memory: &mut OverlayMemory, 
     }
 }
 
+/// As `execute`, of the word in hand where pc lies in the line in hand.
+#[inline]
+fn execute_held(
+    regs: &mut Regs,
+    view: &mut View,
+    lines: &mut DecodedLines,
+    hand: &mut Hand,
+) -> Outcome
+    requires ready { IsReadyView view.old }
+    requires hand { IsInHand lines.old view.old hand.old regs.old.pc }
+    ensures ready { IsReadyView view.new }
+    ensures done { Executed execution
+        regs.old (memory_of (spaces_lent view.old) view.old.space)
+        regs.new (memory_of (spaces_lent view.new) view.new.space) result }
+    ensures made { PerformsLent
+        (execution regs.old (memory_of (spaces_lent view.old) view.old.space)).calls
+        view.old (full_in result) view.new }
+    ensures hand { result ≡ Outcome.Stepped → IsInHand lines.new view.new hand.new regs.new.pc }
+{
+    let pc = regs.pc();
+    let at = match fetch(view, lines, hand, pc) {
+        Ok(at) => at,
+        Err(Refusal::Askew) => return Outcome::Fault(FaultKind::Align, pc),
+        Err(Refusal::Denied(address)) => return Outcome::Fault(FaultKind::Fetch, address),
+    };
+    match lines.get(at) {
+        Some(i) => {
+            let action = action_on(&i, regs);
+            hand.leave(&action, pc);
+            perform(action, i.rd, regs, view)
+        }
+        None => Outcome::Fault(FaultKind::Illegal, pc),
+    }
+}
+
 /// Executes the instruction at its pc, in the space that is lent, which is there.
 #[inline]
-fn execute_one(process: &mut Process, view: &mut View) -> Outcome
+fn execute_one(
+    process: &mut Process,
+    view: &mut View,
+    lines: &mut DecodedLines,
+    hand: &mut Hand,
+) -> Outcome
     requires runs { process.old.state ≡ ProcessState.Running }
     requires ready { IsReadyView view.old }
+    requires hand { IsInHand lines.old view.old hand.old process.old.regs.pc }
     ensures ready { IsReadyView view.new }
+    ensures hand { result ≡ Outcome.Stepped
+        → IsInHand lines.new view.new hand.new process.new.regs.pc }
     ensures loan { view.new.memory.ghost_name ≡ view.old.memory.ghost_name }
     ensures space { view.new.space ≡ view.old.space }
     ensures outcome { result ≡ outcome_of view.old.space (guest_lent view.old process.old) }
@@ -136,7 +183,7 @@ fn execute_one(process: &mut Process, view: &mut View) -> Outcome
     ensures saved { process.new.saved ≡ process.old.saved }
     ensures beside { IsBeside view.old.space (spaces_lent view.old) (spaces_lent view.new) }
 {
-    let outcome = execute(&mut process.regs, view);
+    let outcome = execute_held(&mut process.regs, view, lines, hand);
     if let Outcome::Fault(kind, address) = outcome {
         process.state = ProcessState::Faulted(kind, address);
     }
@@ -167,6 +214,7 @@ fn is_stop(stops: Option<&Addresses>, address: u64) -> bool
 fn step_up_to(
     process: &mut Process,
     view: &mut View,
+    lines: &mut DecodedLines,
     most: u32,
     stops: Option<&Addresses>,
 ) -> (u32, Outcome)
@@ -184,8 +232,9 @@ fn step_up_to(
     ensures beside { IsBeside view.old.space (spaces_lent view.old) (spaces_lent view.new) }
 {
     let mut steps = 0u32;
+    let mut hand = Hand::none(process.regs.pc());
     'stepping: while steps < most {
-        match execute_one(process, view) {
+        match execute_one(process, view, lines, &mut hand) {
             Outcome::Stepped => {
                 steps += 1;
                 if is_stop(stops, process.regs.pc()) {
@@ -206,6 +255,7 @@ fn step_up_to(
 pub(crate) fn execute_up_to(
     process: &mut Process,
     memory: &mut OverlayMemory,
+    lines: &mut DecodedLines,
     p: u16,
     most: u32,
     stops: Option<&Addresses>,
@@ -222,5 +272,5 @@ pub(crate) fn execute_up_to(
     ensures beside { IsBeside p (state_of memory.old) (state_of memory.new) }
 {
     let mut view = View { memory, space: p };
-    step_up_to(process, &mut view, most, stops)
+    step_up_to(process, &mut view, lines, most, stops)
 }

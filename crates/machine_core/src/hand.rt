@@ -1,15 +1,14 @@
 //! The line that instructions are taken from, decoded.
 
-ghost use Rattle.std.specs.Prelude.{◌≡◌, ◌%◌, ◌<◌};
-ghost use Rattle.rv_execute.specs.Calls.{fetch_at};
-ghost use Rattle.machine_core.specs.Access.{IsReadyView, IsSameLoan};
-ghost use Rattle.machine_core.specs.Held.{Has, IsInHand, Reaches, is_apart, left_by};
+ghost use Rattle.std.specs.Prelude.{◌≡◌, ◌≤◌};
+ghost use Rattle.sizes.specs.declared.TheConstants.{LINE_BYTES};
+ghost use Rattle.machine_core.specs.Access.{IsReadyView};
+ghost use Rattle.machine_core.specs.Held.{Fetches, IsInHand, Reaches, distance, is_apart, left_at, left_by};
 
 use crate::view::{View, denied};
 use bitflags::Flags;
 use decoded_lines::DecodedLines;
 use overlay_memory::OverlayMemory;
-use ovl_io::FaultKind;
 use rv_execute::Action;
 use sizes::{LINE_BYTES, PAGE_BYTES};
 use translation_cache::SETS;
@@ -19,6 +18,14 @@ use translation_cache::SETS;
 pub(crate) struct Hand {
     start: u64,
     first: usize,
+}
+
+/// Why a word isn't fetched.
+pub(crate) enum Refusal {
+    /// Its address isn't a multiple of 4.
+    Askew,
+    /// The byte at this address, its first, may not be fetched.
+    Denied(u64),
 }
 
 /// Whether an access of at most 8 bytes lies in one page, of another list of translations than that of pc.
@@ -72,11 +79,11 @@ fn reach(
     space: u16,
     lines: &mut DecodedLines,
     pc: u64,
-) -> Result<usize, (FaultKind, u64)>
+) -> Result<usize, Refusal>
     ensures { Reaches memory.old memory.new space lines.new pc result }
 {
     if pc % 4 != 0 {
-        return Err((FaultKind::Align, pc));
+        return Err(Refusal::Askew);
     }
     if let Some(line) = memory.code_line(space, pc) {
         let first = lines.enter(pc / LINE_BYTES as u64, line);
@@ -86,7 +93,7 @@ fn reach(
     let mut line = [0; LINE_BYTES];
     match memory.fetch(space, pc, &mut line) {
         Ok(()) => Ok(lines.enter(pc / LINE_BYTES as u64, &line)),
-        Err(error) => Err((FaultKind::Fetch, denied(error).address)),
+        Err(error) => Err(Refusal::Denied(denied(error).address)),
     }
 }
 
@@ -97,11 +104,11 @@ pub(crate) fn fetch(
     lines: &mut DecodedLines,
     hand: &mut Hand,
     pc: u64,
-) -> Result<usize, (FaultKind, u64)>
+) -> Result<usize, Refusal>
     requires ready { IsReadyView view.old }
     requires hand { IsInHand lines.old view.old hand.old pc }
     ensures ready { IsReadyView view.new }
-    ensures has { Has view.old view.new lines.new hand.new pc result }
+    ensures fetched { Fetches view.old view.new lines.new hand.new pc result }
 {
     let place = pc.wrapping_sub(hand.start);
     if place < LINE_BYTES as u64 && place % 4 == 0 {
@@ -115,6 +122,6 @@ pub(crate) fn fetch(
             hand.first = first;
             Ok(first + (place / 4) as usize)
         }
-        Err(fault) => Err(fault),
+        Err(refusal) => Err(refusal),
     }
 }

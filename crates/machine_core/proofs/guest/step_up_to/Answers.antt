@@ -1,4 +1,4 @@
-use Rattle.std.proofs.Common.{rules, ◌+◌, ap, ◌∙◌, arith}
+use Rattle.std.proofs.Common.{rules, ◌+◌, ap, ◌∙◌, refl, arith}
 use Rattle.std.specs.FinSet.{contains}
 use Rattle.rv_execute.specs.declared.outcome.Outcome.TheVariants.{Asked, Fault, Full, Stepped}
 use Rattle.machine_core.specs.Executions.{executions, stops_in}
@@ -66,9 +66,10 @@ stepping-preserved c =
       there = search rules;
       all = step_in (stops_in c.args.stops) p c.stepping.view.space so_far.space (executions (stops_in c.args.stops) p c.args.most (guest_lent c.args.view.now c.args.process.now)) c.args.most c.stepping.steps now next
           (omega (arith, c.stepping-test.true)) so_far.all c.in-Stepped.ensures.outcome c.in-Stepped.ensures.after
-          (c.if-is_stop.ensures ∙ ap (contains (stops_in c.args.stops)) c.pc.ensures);
+          (c.if-is_stop.ensures ∙ ap (contains (stops_in c.args.stops)) c.pc-in-Stepped.ensures);
       running = still_runs c.stepping.view.space now next so_far.running c.in-Stepped.ensures.outcome c.in-Stepped.ensures.after;
       saved = c.in-Stepped.ensures.saved ∙ so_far.saved;
+      hand = c.in-Stepped.ensures.hand refl;
       beside = search rules;
       within = omega (arith, c.stepping-test.true);
     }
@@ -91,7 +92,7 @@ stopped c =
     stop_in (stops_in c.args.stops) p c.stepping.view.space c.stepping.invariant.space
     (executions (stops_in c.args.stops) p c.args.most (guest_lent c.args.view.now c.args.process.now)) c.args.most c.stepping.steps (guest_lent c.stepping.view c.stepping.process)
     (guest_lent c.execute_one.new.view c.execute_one.new.process) (omega (arith, c.stepping-test.true)) c.stepping.invariant.all
-    c.in-Stepped.ensures.outcome c.in-Stepped.ensures.after (c.if-is_stop.ensures ∙ ap (contains (stops_in c.args.stops)) c.pc.ensures)
+    c.in-Stepped.ensures.outcome c.in-Stepped.ensures.after (c.if-is_stop.ensures ∙ ap (contains (stops_in c.args.stops)) c.pc-in-Stepped.ensures)
 
 pub returns-then-is_stop-clause-steps : goal.returns-then-is_stop-clause-steps
 returns-then-is_stop-clause-steps c = (stopped c).steps
@@ -109,3 +110,19 @@ returns-in-Fault-clause-outcome c =
     (last_in (stops_in c.args.stops) p c.stepping.view.space c.stepping.invariant.space (Fault c.in-Fault.kind c.in-Fault.address) all c.args.most c.stepping.steps
     (guest_lent c.stepping.view c.stepping.process) (guest_lent c.execute_one.new.view c.execute_one.new.process) (omega (arith, c.stepping-test.true)) c.stepping.invariant.all
     c.in-Fault.ensures.outcome (λ same. cc) c.in-Fault.ensures.after).outcome_is
+
+pub returns-in-Fault-clause-steps : goal.returns-in-Fault-clause-steps
+returns-in-Fault-clause-steps c =
+    let p = c.args.view.now.space in
+    let all = executions (stops_in c.args.stops) p c.args.most (guest_lent c.args.view.now c.args.process.now) in
+    (last_in (stops_in c.args.stops) p c.stepping.view.space c.stepping.invariant.space (Fault c.in-Fault.kind c.in-Fault.address) all c.args.most c.stepping.steps
+    (guest_lent c.stepping.view c.stepping.process) (guest_lent c.execute_one.new.view c.execute_one.new.process) (omega (arith, c.stepping-test.true)) c.stepping.invariant.all
+    c.in-Fault.ensures.outcome (λ same. cc) c.in-Fault.ensures.after).steps
+
+pub returns-in-Fault-clause-after : goal.returns-in-Fault-clause-after
+returns-in-Fault-clause-after c =
+    let p = c.args.view.now.space in
+    let all = executions (stops_in c.args.stops) p c.args.most (guest_lent c.args.view.now c.args.process.now) in
+    (last_in (stops_in c.args.stops) p c.stepping.view.space c.stepping.invariant.space (Fault c.in-Fault.kind c.in-Fault.address) all c.args.most c.stepping.steps
+    (guest_lent c.stepping.view c.stepping.process) (guest_lent c.execute_one.new.view c.execute_one.new.process) (omega (arith, c.stepping-test.true)) c.stepping.invariant.all
+    c.in-Fault.ensures.outcome (λ same. cc) c.in-Fault.ensures.after).after_is

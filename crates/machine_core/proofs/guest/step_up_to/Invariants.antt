@@ -3,6 +3,7 @@ use Rattle.ovl_io.specs.declared.process_state.ProcessState.TheVariants.{Running
 use Rattle.space_maps.specs.Spaces.{holds_space}
 use Rattle.machine_core.specs.Access.{spaces_lent}
 use Rattle.machine_core.specs.Executions.{executions, stops_in}
+use Rattle.machine_core.specs.Held.{IsInHand}
 use Rattle.machine_core.specs.Kept.{IsBeside, guest_lent}
 use Rattle.machine_core.proofs.Stepping.{behind}
 use Rattle.machine_core.proofs.guest.step_up_to.Given as goal
@@ -17,6 +18,7 @@ invariant-stepping l = record {
       ≡ behind l.steps (executions (stops_in l.stops) l.fn.view.space (l.most - l.steps) (guest_lent l.view l.process));
   running : l.process.state ≡ Running;
   saved : l.process.saved ≡ l.fn.process.saved;
+  hand : IsInHand l.lines l.view l.hand l.process.regs.pc;
   beside : IsBeside l.fn.view.space (spaces_lent l.fn.view) (spaces_lent l.view);
   within : l.steps ≤ l.most;
 }
