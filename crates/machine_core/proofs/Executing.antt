@@ -1,5 +1,4 @@
-use Rattle.std.proofs.Common.{◌≡◌, ℕ, ◌/◌, ◌%◌, ◌^◌, ◌<◌, ◌==◌, Bool, true, cond, List, [], get_or, Option, Some, None, sym, ap, subst, ◌∙◌, refl, arith}
-use Rattle.sizes.specs.declared.TheConstants.{PAGE_BYTES}
+use Rattle.std.proofs.Common.{◌≡◌, ℕ, ◌/◌, ◌%◌, ◌<◌, ◌==◌, cond, List, [], get_or, Option, Some, None, sym, ap, subst, ◌∙◌, refl, arith}
 use Rattle.decoded_lines.specs.Decoded.{word_of}
 use Rattle.decoded_lines.specs.declared.TheConstants.{LINE_WORDS}
 use Rattle.ovl_io.specs.Memory.{Memory, denied_at}

@@ -18,9 +18,9 @@ use Rattle.rv_execute.specs.declared.memory.Refused.{Refused}
 use Rattle.rv_execute.specs.declared.memory.Refused.TheVariants as refused
 use Rattle.overlay_memory.specs.Code.{IsCodeLine}
 use Rattle.overlay_memory.specs.View.{TranslatedView}
-use Rattle.overlay_pages.specs.State.{State, memory_of}
+use Rattle.overlay_pages.specs.State.{memory_of}
 use Rattle.translation_cache.specs.declared.TheConstants.{SETS}
-use Rattle.machine_core.specs.Access.{IsSameLoan, IsStoredBy, IsUnchanged, PerformsLent, spaces_lent}
+use Rattle.machine_core.specs.Access.{IsStoredBy, PerformsLent, spaces_lent}
 use Rattle.machine_core.specs.Held.{IsHeld, IsInHand, distance, is_apart, left_at, left_by, lost}
 use Rattle.machine_core.specs.declared.hand.Hand.{Hand}
 use Rattle.machine_core.specs.declared.view.View.{View}

@@ -1,11 +1,9 @@
-use Rattle.std.proofs.Common.{rules, ◌≡◌, ◌≤◌, ◌+◌, ◌-◌, ◌/◌, ◌%◌, ◌<◌, get_or, sym, ap, subst, ◌∙◌, refl, arith}
+use Rattle.std.proofs.Common.{rules, ◌≡◌, ◌+◌, ◌-◌, ◌/◌, ◌%◌, ◌<◌, sym, ap, ◌∙◌, refl, arith}
 use Rattle.sizes.specs.declared.TheConstants.{LINE_BYTES}
-use Rattle.overlay_memory.specs.Code.{IsCodeLine}
 use Rattle.overlay_memory.specs.View.{state_of, translations_of}
 use Rattle.overlay_pages.specs.State.{memory_of}
 use Rattle.overlay_pages.specs.View as seen
-use Rattle.translation_cache.specs.CountedLaws.{IsFront}
-use Rattle.machine_core.specs.Held.{IsAt, IsHeld, distance}
+use Rattle.machine_core.specs.Held.{IsAt, distance}
 use Rattle.machine_core.proofs.Holding.{at_front, code_counted, code_moved, fetched_front}
 use Rattle.machine_core.proofs.hand.fetch.Goals as goal
 
