@@ -25,6 +25,7 @@ use Rattle.translation_cache.specs.Translations.{with_hits}
 use Rattle.translation_cache.specs.declared.TheConstants.{SETS}
 use Rattle.machine_core.specs.Held.{IsAt, distance}
 use Rattle.machine_core.specs.declared.hand.Hand.{Hand}
+use Rattle.machine_core.specs.declared.view.View.{View}
 use Rattle.machine_core.proofs.Bytes.{bytes_beside, some_bytes}
 
 -- The line in hand: what a fetch from it is, and what leaves it.
@@ -152,3 +153,8 @@ module _ (old new : TranslatedView) (space start address need count : ℕ) (line
       out (inl same) = absurd (apart.sets (ap (λ n. n % SETS) same))
       out (inr (inl less)) = let fits = apart.one_page in inr (omega (arith, less, fits, few, length_is))
       out (inr (inr more)) = inl (omega (arith, more))
+
+-- a memory that didn't change leaves the view
+pub unmoved : (view : View) (memory : TranslatedView) → memory ≡ view.memory.now
+    → record { memory = record { ref_ptr = view.memory.ref_ptr; ghost_name = view.memory.ghost_name; now = memory }; space = view.space } ≡ view
+unmoved view memory same = λ i. record { memory = record { ref_ptr = view.memory.ref_ptr; ghost_name = view.memory.ghost_name; now = same i }; space = view.space }

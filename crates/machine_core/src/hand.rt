@@ -1,8 +1,9 @@
 //! The line that instructions are taken from, decoded.
 
-ghost use Rattle.std.specs.Prelude.{◌≡◌, ◌≤◌};
+ghost use Rattle.std.specs.Prelude.{◌≡◌, ◌+◌, ◌^◌, ◌<◌, ◌≤◌};
 ghost use Rattle.sizes.specs.declared.TheConstants.{LINE_BYTES};
-ghost use Rattle.machine_core.specs.Access.{IsReadyView};
+ghost use Rattle.machine_core.specs.Access.{IsReadyView, IsSameLoan, lists_lent, spaces_lent};
+ghost use Rattle.machine_core.specs.Ahead.{ahead};
 ghost use Rattle.machine_core.specs.Held.{Fetches, IsInHand, Reaches, distance, is_apart, left_at, left_by};
 
 use crate::view::{View, denied};
@@ -13,11 +14,13 @@ use rv_execute::Action;
 use sizes::{LINE_BYTES, PAGE_BYTES};
 use translation_cache::SETS;
 
-/// A line: its address, and where the meaning of its first word stands.
+/// A line: its address, and where the meaning of its first word stands. A fetch from it is a hit that moves nothing; how many of these
+/// are still to be counted is kept here.
 #[derive(Clone, Copy, Debug)]
 pub(crate) struct Hand {
     start: u64,
     first: usize,
+    owed: u32,
 }
 
 /// Why a word isn't fetched.
@@ -26,6 +29,16 @@ pub(crate) enum Refusal {
     Askew,
     /// The byte at this address, its first, may not be fetched.
     Denied(u64),
+}
+
+/// What reaching for the line of an instruction comes to.
+pub(crate) enum Reached {
+    /// The meaning of its first word stands here, and the fetch from it is still to be counted.
+    Owed(usize),
+    /// It stands here, and the fetch was counted.
+    Counted(usize),
+    /// Nothing may be fetched.
+    Not(Refusal),
 }
 
 /// Whether an access of at most 8 bytes lies in one page, of another list of translations than that of pc.
@@ -40,11 +53,24 @@ fn is_apart(address: u64, pc: u64) -> bool
 impl Hand {
     /// No line, where the next instruction is that at pc.
     pub(crate) fn none(pc: u64) -> Hand
-        ensures { LINE_BYTES ≤ distance result.start pc }
+        ensures none { LINE_BYTES ≤ distance result.start pc }
+        ensures owed { result.owed ≡ 0 }
     {
         Hand {
             start: pc.wrapping_add(LINE_BYTES as u64),
             first: 0,
+            owed: 0,
+        }
+    }
+
+    /// Counts the fetches that are still to be counted.
+    pub(crate) fn pay(&self, view: &mut View)
+        ensures same { IsSameLoan view.old view.new }
+        ensures spaces { spaces_lent view.new ≡ spaces_lent view.old }
+        ensures lists { lists_lent view.new ≡ ahead self.now.owed (lists_lent view.old) }
+    {
+        if self.owed > 0 {
+            view.memory.count_fronts(u64::from(self.owed));
         }
     }
 
@@ -71,29 +97,21 @@ impl Hand {
     }
 }
 
-/// Has the line of the instruction at pc decoded, and fetches from it. Answers where the meaning of its first word stands, or why nothing may be
-/// fetched.
+/// Has the line of the instruction at pc decoded.
 #[inline(never)]
-fn reach(
-    memory: &mut OverlayMemory,
-    space: u16,
-    lines: &mut DecodedLines,
-    pc: u64,
-) -> Result<usize, Refusal>
+fn reach(memory: &mut OverlayMemory, space: u16, lines: &mut DecodedLines, pc: u64) -> Reached
     ensures { Reaches memory.old memory.new space lines.new pc result }
 {
     if pc % 4 != 0 {
-        return Err(Refusal::Askew);
+        return Reached::Not(Refusal::Askew);
     }
     if let Some(line) = memory.code_line(space, pc) {
-        let first = lines.enter(pc / LINE_BYTES as u64, line);
-        memory.count_fronts(1);
-        return Ok(first);
+        return Reached::Owed(lines.enter(pc / LINE_BYTES as u64, line));
     }
     let mut line = [0; LINE_BYTES];
     match memory.fetch(space, pc, &mut line) {
-        Ok(()) => Ok(lines.enter(pc / LINE_BYTES as u64, &line)),
-        Err(error) => Err(Refusal::Denied(denied(error).address)),
+        Ok(()) => Reached::Counted(lines.enter(pc / LINE_BYTES as u64, &line)),
+        Err(error) => Reached::Not(Refusal::Denied(denied(error).address)),
     }
 }
 
@@ -107,21 +125,28 @@ pub(crate) fn fetch(
 ) -> Result<usize, Refusal>
     requires ready { IsReadyView view.old }
     requires hand { IsInHand lines.old view.old hand.old pc }
+    requires few { hand.old.owed + 1 < 2 ^ 32 }
     ensures ready { IsReadyView view.new }
-    ensures fetched { Fetches view.old view.new lines.new hand.new pc result }
+    ensures fetched { Fetches view.old view.new lines.new hand.old hand.new pc result }
 {
     let place = pc.wrapping_sub(hand.start);
     if place < LINE_BYTES as u64 && place % 4 == 0 {
-        view.memory.count_fronts(1);
+        hand.owed += 1;
         return Ok(hand.first + (place / 4) as usize);
     }
+    let place = pc % LINE_BYTES as u64;
     match reach(&mut *view.memory, view.space, lines, pc) {
-        Ok(first) => {
-            let place = pc % LINE_BYTES as u64;
+        Reached::Owed(first) => {
+            hand.start = pc - place;
+            hand.first = first;
+            hand.owed += 1;
+            Ok(first + (place / 4) as usize)
+        }
+        Reached::Counted(first) => {
             hand.start = pc - place;
             hand.first = first;
             Ok(first + (place / 4) as usize)
         }
-        Err(refusal) => Err(refusal),
+        Reached::Not(refusal) => Err(refusal),
     }
 }

@@ -65,7 +65,7 @@ impl<'a> GuestMemory for View<'a> {
         }
     }
 
-    #[inline]
+    #[inline(always)]
     fn load(&mut self, address: u64, into: &mut [u8]) -> Result<(), Denied> {
         match self.memory.load(self.space, address, into, Perms::R) {
             Ok(()) => Ok(()),
@@ -74,7 +74,7 @@ impl<'a> GuestMemory for View<'a> {
     }
 
     // After a store the units are asked for what their contract says alone: that there are enough.
-    #[inline]
+    #[inline(always)]
     fn store(&mut self, address: u64, bytes: &[u8]) -> Result<(), Refused> {
         match self.memory.store(self.space, address, bytes) {
             Ok(()) => {

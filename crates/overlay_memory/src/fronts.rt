@@ -14,7 +14,7 @@ pub(crate) struct Fronts {
 }
 
 /// The list of a page.
-#[inline]
+#[inline(always)]
 fn set_of(page: u64) -> usize
     ensures set { result ≡ page % SETS }
     ensures inside { result < SETS }
@@ -41,7 +41,7 @@ impl Fronts {
     }
 
     /// A page, where it is known to be at the front of its list.
-    #[inline]
+    #[inline(always)]
     pub(crate) fn page(&self, space: u16, page: u64) -> Option<FoundPage>
         ensures { IfSome result (λ found. (found.space ≡ space) × (found.page ≡ page)
             × (head_of self.now page ≡ Some found)) }

@@ -250,7 +250,7 @@ impl OverlayMemory {
 
     /// Fills `into` with the bytes from an address on, for which each page needs the permission: X for a fetch, R for a load.
     /// Unmapped or Forbidden exactly at the first byte whose page isn't there or lacks it; Full never.
-    #[inline]
+    #[inline(always)]
     pub fn load(
         &mut self,
         space: u16,
@@ -339,7 +339,7 @@ impl OverlayMemory {
     }
 
     /// As `write`, for an instruction.
-    #[inline]
+    #[inline(always)]
     pub fn store(&mut self, space: u16, address: u64, bytes: &[u8]) -> Result<(), MemoryError>
         requires there { holds_space (state_of self.old) space ≡ true }
         requires few { length bytes.now ≤ PAGE_BYTES }

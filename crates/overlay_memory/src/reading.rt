@@ -24,7 +24,7 @@ use sizes::{LINE_BYTES, PAGE_BYTES, PAGE_LINES};
 use translation_cache::Cache;
 
 /// The number of the line of its page that an address lies in.
-#[inline]
+#[inline(always)]
 pub(crate) fn line_of(address: u64) -> u8
     ensures line { result ≡ address / LINE_BYTES % PAGE_LINES }
     ensures low { result < PAGE_LINES }
@@ -33,7 +33,7 @@ pub(crate) fn line_of(address: u64) -> u8
 }
 
 /// Whether some bytes from an address on all lie in one line.
-#[inline]
+#[inline(always)]
 pub(crate) fn is_in_line(address: u64, count: usize) -> bool
     ensures { result ≡ true → (0 < count) × (address % LINE_BYTES + count ≤ LINE_BYTES) }
 {
@@ -85,7 +85,7 @@ pub(crate) fn permit(
 }
 
 /// Fills `into`, of some bytes, with those from an address on, all in a line that was found.
-#[inline]
+#[inline(always)]
 pub(crate) fn read_found(
     pages: &OverlayPages,
     found: FoundLine,
@@ -181,7 +181,7 @@ pub(crate) fn read_bytes(
 }
 
 /// As `load` of `OverlayMemory`, of some bytes all in one line.
-#[inline]
+#[inline(always)]
 pub(crate) fn load_line(
     pages: &OverlayPages,
     cache: &mut Cache,
