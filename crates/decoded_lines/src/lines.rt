@@ -1,6 +1,6 @@
 //! The lines and their instructions.
 
-ghost use Rattle.std.specs.Prelude.{◌≡◌, ◌+◌, ◌*◌, ◌<◌, ◌≤◌, ◌⊎◌, ℕ, [], IfOk, IfSome, length, replicate, slice_index_or, None};
+ghost use Rattle.std.specs.Prelude.{◌≡◌, ◌+◌, ◌*◌, ◌/◌, ◌%◌, ◌<◌, ◌≤◌, ◌⊎◌, ℕ, [], IfOk, IfSome, length, replicate, slice_index_or, slice_set, None};
 ghost use Rattle.rv_decode.specs.Encodable.{IsEncodable};
 ghost use Rattle.rv_decode.specs.Meaning.{meaning};
 ghost use Rattle.decoded_lines.specs.Decoded.{AreOfLine, word_of};
@@ -70,27 +70,39 @@ impl DecodedLines {
         })
     }
 
-    /// Has a line, of some number, in a slot, and answers that. Costs a comparison where the line is there, and else what decoding it costs.
+    /// Has a line, of some number, among those that are kept, and answers where the meaning of its first word stands. Costs a comparison
+    /// where the line is there, and else what decoding it costs.
+    #[inline]
     pub fn enter(&mut self, number: u64, line: &[u8; 64]) -> usize
-        ensures slot { result < KEPT_LINES }
-        ensures line { slice_index_or self.new result [] ≡ line.now }
+        ensures first { result % LINE_WORDS ≡ 0 }
+        ensures inside { result / LINE_WORDS < KEPT_LINES }
+        ensures line { slice_index_or self.new (result / LINE_WORDS) [] ≡ line.now }
     {
         let slot = (number % KEPT_LINES as u64) as usize;
         if self.lines[slot] != *line {
-            self.lines[slot] = *line;
-            decode_line(&mut self.instructions, slot, line);
+            self.change(slot, line);
         }
-        slot
+        LINE_WORDS * slot
     }
 
-    /// What a word of the line in a slot means: none exactly where it is no instruction. Costs a step.
+    /// Has another line in a slot.
+    #[inline(never)]
+    fn change(&mut self, slot: usize, line: &[u8; 64])
+        requires { slot < KEPT_LINES }
+        ensures { self.new ≡ slice_set self.old slot line.now }
+    {
+        self.lines[slot] = *line;
+        decode_line(&mut self.instructions, slot, line);
+    }
+
+    /// What the word at a place means: none exactly where it is no instruction. Costs a step.
     #[inline]
-    pub fn get(&self, slot: usize, place: usize) -> Option<Instr>
-        requires slot { slot < KEPT_LINES }
-        requires place { place < LINE_WORDS }
-        ensures means { result ≡ meaning (word_of (slice_index_or self.now slot []) place) }
+    pub fn get(&self, at: usize) -> Option<Instr>
+        requires { at / LINE_WORDS < KEPT_LINES }
+        ensures means { result
+            ≡ meaning (word_of (slice_index_or self.now (at / LINE_WORDS) []) (at % LINE_WORDS)) }
         ensures encodable { IfSome result IsEncodable }
     {
-        self.instructions[LINE_WORDS * slot + place]
+        self.instructions[at]
     }
 }

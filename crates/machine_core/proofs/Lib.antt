@@ -1,4 +1,10 @@
 pub mod Requests
+pub mod Bytes
+pub mod Holding
+pub mod Leaving
+pub mod Executing
+pub mod Ahead
+pub mod Owing
 pub mod Rising
 pub mod Listed
 pub mod Accessing

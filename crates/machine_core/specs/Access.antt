@@ -1,7 +1,7 @@
 use Rattle.std.specs.Prelude.{◌≡◌, ℕ, ◌<◌, true, List, [], ◌∷◌, length, Option, Some, None, Result, Ok, Err}
 use Rattle.ledger.specs.Units.{units}
 use Rattle.ovl_io.specs.Memory.{Access, denied_at}
-use Rattle.rv_execute.specs.Calls.{store_at}
+use Rattle.rv_execute.specs.Calls.{Call, Performs, fetch_at, load_at, store_at}
 use Rattle.rv_execute.specs.declared.memory.Refused.{Refused}
 use Rattle.rv_execute.specs.declared.memory.Refused.TheVariants as refused
 use Rattle.overlay_memory.specs.Access.{IsStored, stored_books}
@@ -67,3 +67,9 @@ abbrev pub IsStoredBy : View → ℕ → List ℕ → Result (Unit {0}) Refused 
 IsStoredBy old address bytes answer new =
     IsSameLoan old new × Leaves old.space (spaces_lent old) address bytes answer (spaces_lent new)
     × (lists_lent new ≡ lists_after old (store_at address (length bytes)))
+
+-- what calls made of it, one after the other
+abbrev pub PerformsLent : List Call → View → Option (ℕ × ℕ) → View → Type 0
+PerformsLent calls old full new = Performs (λ old address new. IsUnchanged (fetch_at address) old new)
+    (λ old address count new. IsUnchanged (load_at address count) old new)
+    (λ old address bytes answer new. IsStoredBy old address bytes answer new) calls old full new

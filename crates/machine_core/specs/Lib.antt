@@ -5,6 +5,8 @@ pub mod Executions
 pub mod Play
 pub mod Codes
 pub mod Access
+pub mod Held
+pub mod Ahead
 pub mod Load
 pub mod Loading
 pub mod PageLines

@@ -13,6 +13,7 @@ use crate::process::{Process, is_running};
 use crate::running::{list, reserve};
 use breakpoints::Addresses;
 use by_number::ByNumber;
+use decoded_lines::DecodedLines;
 use overlay_memory::OverlayMemory;
 use ovl_io::Turn;
 use rv_execute::Outcome;
@@ -43,6 +44,7 @@ fn relist(processes: &ByNumber<Process>, running: &mut Vec<u16>, p: u16)
 fn execute_in(
     processes: &mut ByNumber<Process>,
     memory: &mut OverlayMemory,
+    lines: &mut DecodedLines,
     p: u16,
     most: u32,
     stops: Option<&Addresses>,
@@ -59,7 +61,7 @@ fn execute_in(
 {
     match processes.get_mut(p) {
         Some(process) => {
-            let came = execute_up_to(process, memory, p, most, stops);
+            let came = execute_up_to(process, memory, lines, p, most, stops);
             (came, is_running(process))
         }
         None => unreachable!(),
@@ -73,6 +75,7 @@ pub(crate) fn execute_turns(
     processes: &mut ByNumber<Process>,
     memory: &mut OverlayMemory,
     running: &mut Vec<u16>,
+    lines: &mut DecodedLines,
     p: u16,
     most: u32,
     stops: Option<&Addresses>,
@@ -88,7 +91,7 @@ pub(crate) fn execute_turns(
         (after_executions (stops_in stops.entry) most (wholes (machine_of memory.old processes.old)) p) }
     ensures kept { IsRunningList processes.new running.new }
 {
-    let (came, runs) = execute_in(processes, memory, p, most, stops);
+    let (came, runs) = execute_in(processes, memory, lines, p, most, stops);
     if runs {
         return came;
     }

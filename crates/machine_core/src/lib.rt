@@ -6,6 +6,7 @@
 //!
 //! - `process`: what is shown of a process
 //! - `view`: the memory of one space, as an instruction sees it
+//! - `hand`: the line that instructions are taken from, decoded
 //! - `guest`: one process, its turn, and what it asks for
 //! - `load`: what a load makes of an image
 //! - `running`: the numbers that run, ascending
@@ -14,6 +15,7 @@
 #![tactic(auto)]
 
 mod guest;
+mod hand;
 mod keeping;
 mod load;
 mod machine;

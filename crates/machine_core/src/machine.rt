@@ -25,6 +25,7 @@ use crate::load::{load_space, stored_in};
 use crate::process::Process;
 use breakpoints::Addresses;
 use by_number::ByNumber;
+use decoded_lines::DecodedLines;
 use elf_loader::Image;
 use overlay_memory::{OverlayMemory, SpaceError};
 use ovl_io::{ProcessState, Turn};
@@ -39,6 +40,7 @@ pub struct Machine {
     memory: OverlayMemory,
     processes: ByNumber<Process>,
     running: Vec<u16>,
+    lines: DecodedLines,
 }
 
 impl Model for Machine {
@@ -70,6 +72,7 @@ impl Machine {
             memory: OverlayMemory::new(alloc, frames)?,
             processes: ByNumber::new(alloc),
             running: Vec::new(alloc),
+            lines: DecodedLines::new(alloc)?,
         })
     }
 
@@ -240,6 +243,7 @@ impl Machine {
             &mut self.processes,
             &mut self.memory,
             &mut self.running,
+            &mut self.lines,
             p,
             most,
             stops,

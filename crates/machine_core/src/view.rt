@@ -1,15 +1,12 @@
 //! The memory of one space, as an instruction sees it.
 
-ghost use Rattle.std.specs.Prelude.{◌≡◌, IfSome, IsSome, Some};
-ghost use Rattle.rv_decode.specs.Encodable.{IsEncodable};
-ghost use Rattle.rv_decode.specs.Meaning.{meaning};
+ghost use Rattle.std.specs.Prelude.{◌≡◌, IsSome, Some};
 ghost use Rattle.machine_core.specs.Access.{failed_at, refusal_of};
 
 use bitflags::Flags;
 use byteorder::{ByteOrder, LittleEndian};
 use overlay_memory::{MemoryError, OverlayMemory};
 use ovl_io::Perms;
-use rv_decode::{Instr, decode};
 use rv_execute::{Denied, GuestMemory, Refused};
 
 /// The memory of all spaces, and the number of one that is there.
@@ -21,7 +18,7 @@ pub(crate) struct View<'a> {
 
 /// Where bytes may not be used.
 #[inline]
-fn denied(error: MemoryError) -> Denied
+pub(crate) fn denied(error: MemoryError) -> Denied
     requires { IsSome (failed_at error) }
     ensures { failed_at error ≡ Some result.address }
 {
@@ -44,15 +41,6 @@ fn refused(error: MemoryError) -> Refused
     }
 }
 
-/// What a word means. Apart, so that what is done with each word that is known stays short.
-#[inline(never)]
-fn decoded(word: u32) -> Option<Instr>
-    ensures means { result ≡ meaning word }
-    ensures encodable { IfSome result IsEncodable }
-{
-    decode(word)
-}
-
 impl<'a> GuestMemory for View<'a> {
     ghost use Rattle.overlay_pages.specs.State.{memory_of};
     ghost use Rattle.rv_execute.specs.Calls.{fetch_at, load_at};
@@ -68,26 +56,16 @@ impl<'a> GuestMemory for View<'a> {
 
     ghost stored = { λ old address bytes answer new. IsStoredBy old address bytes answer new };
 
+    #[inline(never)]
     fn fetch(&mut self, address: u64) -> Result<u32, Denied> {
         let mut word = [0; 4];
-        match self.memory.fetch(self.space, address, &mut word) {
+        match self.memory.load(self.space, address, &mut word, Perms::X) {
             Ok(()) => Ok(LittleEndian::read_u32(&word)),
             Err(error) => Err(denied(error)),
         }
     }
 
-    #[inline]
-    fn instruction(&mut self, address: u64) -> Result<Option<Instr>, Denied> {
-        match self.memory.fetch_known(self.space, address) {
-            Some(i) => Ok(i),
-            None => match self.fetch(address) {
-                Ok(word) => Ok(decoded(word)),
-                Err(denied) => Err(denied),
-            },
-        }
-    }
-
-    #[inline]
+    #[inline(always)]
     fn load(&mut self, address: u64, into: &mut [u8]) -> Result<(), Denied> {
         match self.memory.load(self.space, address, into, Perms::R) {
             Ok(()) => Ok(()),
@@ -96,7 +74,7 @@ impl<'a> GuestMemory for View<'a> {
     }
 
     // After a store the units are asked for what their contract says alone: that there are enough.
-    #[inline]
+    #[inline(always)]
     fn store(&mut self, address: u64, bytes: &[u8]) -> Result<(), Refused> {
         match self.memory.store(self.space, address, bytes) {
             Ok(()) => {

@@ -1,40 +1,32 @@
-use Rattle.std.proofs.Common.{◌≡◌, ℕ, zero, suc, ◌+◌, ◌*◌, ◌/◌, ◌%◌, ◌<◌, ◌≤◌, ◌⊎◌, inl, inr, true, List, [], take, drop, length, get_or, replicate, Option, Some, None, is_some, sym, ap, subst, ◌∙◌, refl, arith}
+use Rattle.std.proofs.Common.{◌≡◌, ℕ, zero, suc, ◌*◌, ◌/◌, ◌%◌, true, false, List, take, drop, length, get_or, replicate, Option, Some, None, is_some, sym, ap, subst, ◌∙◌, refl, arith}
 use Rattle.std.proofs.lemmas.Option.{none-some}
 use Rattle.sizes.specs.declared.TheConstants.{LINE_BYTES, PAGE_BYTES, PAGE_LINES}
 use Rattle.std.specs.Option.{option_map}
 use Rattle.std.specs.FinMap.{get}
-use Rattle.std.proofs.lemmas.Bool.{cases_order}
 use Rattle.std.proofs.lemmas.List.{get_or-set_other, get_or-set_same, length-set, take_all}
 use Rattle.number_maps.specs.Keys.{by_key}
-use Rattle.number_maps.specs.Views.{viewed}
 use Rattle.ovl_io.specs.Permissions.{executable, permits}
 use Rattle.ovl_io.specs.declared.perms.Perms.{Perms}
-use Rattle.byteorder.specs.Endian.{little_number}
-use Rattle.decoded_lines.specs.Decoded.{word_of}
-use Rattle.decoded_lines.specs.declared.TheConstants.{KEPT_LINES, LINE_WORDS}
 use Rattle.ovl_io.specs.Memory.{bytes_at}
-use Rattle.ovl_io.specs.MemoryLaws.{all_allowed}
-use Rattle.overlay_memory.specs.Access.{IsAllowed, IsFoundIn}
-use Rattle.overlay_memory.specs.Fronts.{AreFronts, ForgetsLine, IsClear, IsCode, IsHead, KeepsCode, code_of, head_of, held_of, with_head}
-use Rattle.overlay_memory.specs.PageLaws.{some_is}
-use Rattle.overlay_memory.specs.Pieces.{IsFilled, IsPermitted}
-use Rattle.overlay_memory.proofs.Bytes.{bytes_beside, some_bytes}
+use Rattle.overlay_memory.specs.Access.{IsFoundIn}
+use Rattle.overlay_memory.specs.Code.{IsCodeLine}
+use Rattle.overlay_memory.specs.Fronts.{AreFronts, IsClear, IsHead, head_of, held_of, with_head}
+use Rattle.overlay_memory.specs.Pieces.{IsLacking, IsPermitted}
 use Rattle.overlay_memory.proofs.Counting.{allows_is}
 use Rattle.overlay_memory.proofs.Pieced.{found_piece}
 use Rattle.overlay_pages.specs.Lines.{line_in_page}
 use Rattle.overlay_memory.specs.StateMemory.{memory_at}
-use Rattle.overlay_memory.specs.View.{AreTrue, cached_in, cached_page}
-use Rattle.overlay_memory.specs.declared.fronts.CodeLine.{CodeLine}
+use Rattle.overlay_memory.specs.View.{AreTrue, cached_in, cached_page, view_of}
 use Rattle.overlay_memory.specs.declared.fronts.Fronts.{Fronts}
 use Rattle.overlay_pages.specs.Spots.{FindsPage, IsFoundAt, IsFoundPage, IsFoundPageAt}
-use Rattle.overlay_pages.specs.State.{PageState, SpaceState, State, memory_of, seen_page}
+use Rattle.overlay_pages.specs.State.{PageState, State, memory_of, seen_page}
 use Rattle.overlay_pages.specs.View.{IsJoined, MemoryView, page_state, state_of}
 use Rattle.overlay_pages.specs.ViewLaws.{state_page_there}
 use Rattle.overlay_pages.specs.declared.spots.FoundLine.{FoundLine}
 use Rattle.overlay_pages.specs.declared.spots.FoundPage.{FoundPage}
 use Rattle.space_ledger.specs.View.{LedgerView}
-use Rattle.space_maps.specs.Spaces.{page_in, space_in}
-use Rattle.translation_cache.specs.Bare.{BareTranslations}
+use Rattle.space_maps.specs.Spaces.{page_in}
+use Rattle.translation_cache.specs.Bare.{BareTranslations, bare}
 use Rattle.translation_cache.specs.Counted.{translated}
 use Rattle.translation_cache.specs.CountedLaws.{IsFront, front_beside, front_hits, front_translated, translated_front}
 use Rattle.translation_cache.specs.Finding.{found_hits}
@@ -54,9 +46,8 @@ none_at (suc n) (suc set) = none_at n set
 -- so whatever memories are, they may be known so
 pub none_known : (view : MemoryView) (t : BareTranslations) (fronts : Fronts) → IsClear fronts → AreFronts view t fronts
 none_known view t fronts is = record {
-  count = ap length is.heads;
-  heads = λ set found at. absurd (none-some found (sym (none_at SETS set) ∙ sym (ap (λ heads. get_or heads set None) is.heads) ∙ at));
-  code = λ code at. absurd (none-some code (sym is.code ∙ at));
+  count = ap length is;
+  heads = λ set found at. absurd (none-some found (sym (none_at SETS set) ∙ sym (ap (λ heads. get_or heads set None) is) ∙ at));
 }
 
 -- hits are counted
@@ -67,56 +58,19 @@ pub hits_fronts : (view : MemoryView) (t u : BareTranslations) (n : ℕ) (fronts
 hits_fronts view t u n fronts is are = subst (λ (w : BareTranslations). AreFronts view w fronts) (sym is) (record {
   count = are.count;
   heads = λ set found at. let head = are.heads set found at in (head.0, head_hits view.table t n found head.1);
-  code = λ code at.
-      let one = are.code code at in
-      record { page_is = one.page_is; may = one.may; head = head_hits view.table t n code.page one.head; low = one.low; bytes = one.bytes };
 })
 
 pub hits_true : (v : State) (t u : Translations Cached) (n : ℕ) → u ≡ with_hits n t → AreTrue v t → AreTrue v u
 hits_true v t u n is entries q r held found_now = entries q r held (sym (ap (found q r) is ∙ found_hits q r n t) ∙ found_now)
 
-memory_same : (a b : State) (q : ℕ) → space_in a q ≡ space_in b q → memory_of a q ≡ memory_of b q
-unfolding memory_of
-memory_same a b q same = ap (λ (x : SpaceState). viewed (λ _ (y : PageState). seen_page y) x.pages) same
-
--- Bytes are stored where they stand, all in a line, which is forgotten.
-module _ (old new : MemoryView) (t : BareTranslations) (before after : Fronts) (s a number : ℕ) (bytes : List ℕ) (table : new.table ≡ old.table)
-    (filled : IsFilled (state_of old) (state_of new) s a bytes) (from : LINE_BYTES * number ≤ a) (within : a + length bytes ≤ LINE_BYTES * number + LINE_BYTES)
-    (forgets : ForgetsLine number before after) (are : AreFronts old t before) where
-  still : (found : FoundPage) → IsHead old.table t found → IsHead new.table t found
-  still found head = record { is = subst (λ (v : LedgerView). IsFoundPage v found) (sym table) head.is; front = head.front }
-
-  -- the bytes of another line of any space stay
-  stay : (q other : ℕ) → (other ≡ number → ⊥)
-      → bytes_at (memory_of (state_of old) q) (LINE_BYTES * other) LINE_BYTES ≡ bytes_at (memory_of (state_of new) q) (LINE_BYTES * other) LINE_BYTES
-  stay q other differ = by_key q s
-      (λ same.
-      ap (λ n. bytes_at (memory_of (state_of old) n) (LINE_BYTES * other) LINE_BYTES) same
-      ∙ sym (bytes_beside (memory_of (state_of old) s) a bytes (LINE_BYTES * other) LINE_BYTES (apart (cases_order other number)))
-      ∙ sym (ap (λ m. bytes_at m (LINE_BYTES * other) LINE_BYTES) filled.memory)
-      ∙ sym (ap (λ n. bytes_at (memory_of (state_of new) n) (LINE_BYTES * other) LINE_BYTES) same))
-      (λ beside. ap (λ m. bytes_at m (LINE_BYTES * other) LINE_BYTES) (memory_same (state_of old) (state_of new) q (sym (filled.beside.others q beside))))
-    where
-      apart : (other ≡ number) ⊎ ((other < number) ⊎ (number < other)) → (LINE_BYTES * other + LINE_BYTES ≤ a) ⊎ (a + length bytes ≤ LINE_BYTES * other)
-      apart (inl same) = absurd (differ same)
-      apart (inr (inl less)) = inl (omega (arith, less, from))
-      apart (inr (inr more)) = inr (omega (arith, more, within))
-
-  pub filled_fronts : AreFronts new t after
-  filled_fronts = record {
-    count = ap length forgets.heads ∙ are.count;
-    heads = λ set found at. let head = are.heads set found (sym (ap (λ heads. get_or heads set None) forgets.heads) ∙ at) in (head.0, still found head.1);
-    code = λ code at.
-        let was = forgets.code code at in
-        let one = are.code code was.0 in
-        record {
-          page_is = one.page_is;
-          may = one.may;
-          head = still code.page one.head;
-          low = one.low;
-          bytes = ap (λ lines. get_or lines code.slot []) forgets.decoded ∙ one.bytes ∙ stay code.page.space code.number was.1;
-        };
-  }
+-- Bytes are stored where they stand.
+pub filled_fronts : (old new : MemoryView) (t : BareTranslations) (fronts : Fronts) → new.table ≡ old.table → AreFronts old t fronts → AreFronts new t fronts
+filled_fronts old new t fronts table are = record {
+  count = are.count;
+  heads = λ set found at.
+      let head = are.heads set found at in
+      (head.0, record { is = subst (λ (v : LedgerView). IsFoundPage v found) (sym table) head.1.is; front = head.1.front });
+}
 
 -- What was found of a page.
 
@@ -142,18 +96,18 @@ absent_held v s p none = sym (ap (option_map cached_page) none)
 
 module _ (view : MemoryView) (s p : ℕ) (found : FoundPage) (t : BareTranslations) (fronts : Fronts) (are : AreFronts view t fronts)
     (so : (found.space ≡ s) × (found.page ≡ p) × (head_of fronts p ≡ Some found)) where
-  known : IsHead view.table t found
-  known = (are.heads (p % SETS) found so.2).1
+  pub known_head : IsHead view.table t found
+  known_head = (are.heads (p % SETS) found so.2).1
 
   pub known_found : IsFoundPageAt view s p found
-  known_found = record { space_is = so.0; page_is = so.1; is = known.is }
+  known_found = record { space_is = so.0; page_is = so.1; is = known_head.is }
 
   pub known_front : (u : BareTranslations) → u ≡ with_hits 1 t → IsFront found.space found.page u
-  known_front u is = subst (IsFront found.space found.page) (sym is) (front_hits found.space found.page 1 t known.front)
+  known_front u is = subst (IsFront found.space found.page) (sym is) (front_hits found.space found.page 1 t known_head.front)
 
   pub known_translated : (u : BareTranslations) → u ≡ with_hits 1 t → u ≡ translated s (memory_of (state_of view) s) p t
   known_translated u is =
-      is ∙ sym (translated_front s p (memory_of (state_of view) s) t (subst (λ n. IsFront s n t) so.1 (subst (λ n. IsFront n found.page t) so.0 known.front)))
+      is ∙ sym (translated_front s p (memory_of (state_of view) s) t (subst (λ n. IsFront s n t) so.1 (subst (λ n. IsFront n found.page t) so.0 known_head.front)))
 
 -- A page that was translated is at the front of its list.
 
@@ -199,12 +153,10 @@ module _ (view : MemoryView) (s p : ℕ) (result : Option FoundPage) (t u : Bare
         let one = here found (sym (get_or-set_same fronts.heads (p % SETS) result None (omega (arith, are.count))) ∙ ap (λ n. get_or left.heads n None) (sym same) ∙ at) in
         (one.0 ∙ sym same, one.1))
         (λ other. beside set found other (sym (get_or-set_other fronts.heads (p % SETS) set result None other) ∙ at));
-    code = λ code none. absurd (none-some code none);
   }
 
--- The line that is fetched from.
-
-line_bytes : (view : MemoryView) (address : ℕ) (found : FoundLine) (line : List ℕ) → IsFoundIn view found.space address found
+-- The line of an address, whole.
+pub line_bytes : (view : MemoryView) (address : ℕ) (found : FoundLine) (line : List ℕ) → IsFoundIn view found.space address found
     → option_map (λ (x : PageState). line_in_page x.lines found.line) (page_in (state_of view) found.space found.page) ≡ Some line → length line ≡ LINE_BYTES
     → line ≡ bytes_at (memory_of (state_of view) found.space) (LINE_BYTES * (address / LINE_BYTES)) LINE_BYTES
 line_bytes view address found line it value long =
@@ -215,66 +167,6 @@ line_bytes view address found line it value long =
     sym (take_all LINE_BYTES line (omega (arith, long))) ∙ ap (λ n. take LINE_BYTES (drop n line)) (sym none)
     ∙ found_piece view start LINE_BYTES found line
     (record { space_is = refl; page_is = it.page_is ∙ page; line_is = it.line_is ∙ number; is = it.is }) (omega arith) value long
-
-pub kept_fronts : (view : MemoryView) (s address : ℕ) (page : FoundPage) (found : FoundLine) (line : List ℕ) (t : BareTranslations) (before after : Fronts)
-    → AreFronts view t before → IsHead view.table t page → page.page ≡ address / PAGE_BYTES → permits page.perms.0 executable ≡ true
-    → KeepsCode (address / LINE_BYTES) page line before after → IsFoundIn view found.space address found → found.space ≡ page.space
-    → option_map (λ (x : PageState). line_in_page x.lines found.line) (page_in (state_of view) found.space found.page) ≡ Some line → length line ≡ LINE_BYTES
-    → AreFronts view t after
-kept_fronts view s address page found line t before after are head page_is may keeps it space_is value long = record {
-  count = ap length keeps.heads ∙ are.count;
-  heads = λ set f at. are.heads set f (sym (ap (λ heads. get_or heads set None) keeps.heads) ∙ at);
-  code = λ code at.
-      subst (IsCode view t after.decoded) (some_is (code_of (address / LINE_BYTES) page keeps.slot) code (sym keeps.code ∙ at))
-      (record {
-        page_is = page_is ∙ of_line;
-        may = may;
-        head = head;
-        low = keeps.low;
-        bytes =
-            keeps.bytes ∙ line_bytes view address found line it value long
-            ∙ ap (λ q. bytes_at (memory_of (state_of view) q) (LINE_BYTES * (address / LINE_BYTES)) LINE_BYTES) space_is;
-      });
-}
-  where
-    of_line : address / PAGE_BYTES ≡ address / LINE_BYTES / PAGE_LINES
-    of_line = omega arith
-
-module _ (view : MemoryView) (s address : ℕ) (code : CodeLine) (t : BareTranslations) (fronts : Fronts) (are : AreFronts view t fronts)
-    (so : (code.page.space ≡ s) × (code.number ≡ address / LINE_BYTES) × (fronts.code ≡ Some code)) where
-  is_code : IsCode view t fronts.decoded code
-  is_code = are.code code so.2
-
-  page_is : code.page.page ≡ address / PAGE_BYTES
-  page_is = let same = is_code.page_is in let number = so.1 in omega (arith, same, number)
-
-  pub code_low : code.slot < KEPT_LINES
-  code_low = is_code.low
-
-  code_found : IsFoundPageAt view s (address / PAGE_BYTES) code.page
-  code_found = record { space_is = so.0; page_is = page_is; is = is_code.head.is }
-
-  pub code_allowed : address % 4 ≡ 0 → IsAllowed (state_of view) s executable address 4
-  code_allowed aligned =
-      all_allowed (memory_of (state_of view) s) executable (address / PAGE_BYTES) address 4
-      (sym (allows_is (state_of view) s (address / PAGE_BYTES) no_translations (held_of code.page) executable
-      (sym (held_there view s (address / PAGE_BYTES) code.page code_found))) ∙ is_code.may)
-      (omega arith) (omega (arith, aligned))
-
-  pub code_translated : (u : BareTranslations) → u ≡ with_hits 1 t → u ≡ translated s (memory_of (state_of view) s) (address / PAGE_BYTES) t
-  code_translated u is =
-      is ∙ sym (translated_front s (address / PAGE_BYTES) (memory_of (state_of view) s) t
-      (subst (λ n. IsFront s n t) page_is (subst (λ n. IsFront n code.page.page t) so.0 is_code.head.front)))
-
-  pub code_word : address % 4 ≡ 0
-      → word_of (get_or fronts.decoded code.slot []) (address / 4 % LINE_WORDS) ≡ little_number 4 (bytes_at (memory_of (state_of view) s) address 4)
-  code_word aligned =
-      let number = so.1 in
-      let place : LINE_BYTES * code.number + 4 * (address / 4 % LINE_WORDS) ≡ address = omega (arith, aligned, number) in
-      ap (λ line. word_of line (address / 4 % LINE_WORDS)) is_code.bytes
-      ∙ ap (little_number 4)
-      (some_bytes (memory_of (state_of view) code.page.space) (LINE_BYTES * code.number) (4 * (address / 4 % LINE_WORDS)) 4 LINE_BYTES (omega arith)
-      ∙ ap (λ n. bytes_at (memory_of (state_of view) code.page.space) n 4) place ∙ ap (λ q. bytes_at (memory_of (state_of view) q) address 4) so.0)
 
 -- The line of an address, of its page that was found.
 
@@ -302,4 +194,24 @@ module _ (view : MemoryView) (s address line : ℕ) (page : FoundPage) (found : 
     there = page_there view s (address / PAGE_BYTES) page at;
     may = ap (λ (k : Perms). permits k.0 need) at.is.perms ∙ may;
     joined = joined;
+  }
+
+  pub may_not_be_used : (need : ℕ) → permits page.perms.0 need ≡ false → IsLacking view s need address
+  unfolding page_state
+  may_not_be_used need lacks = record {
+    page = page_state view.store at.is.x;
+    there = page_there view s (address / PAGE_BYTES) page at;
+    lacks = ap (λ (k : Perms). permits k.0 need) at.is.perms ∙ lacks;
+  }
+
+  -- and may be fetched from
+  pub code_there : (held : Translations Cached) (bytes : List ℕ) → permits page.perms.0 executable ≡ true → IsFront page.space page.page (bare held)
+      → option_map (λ (x : PageState). line_in_page x.lines found.line) (page_in (state_of view) found.space found.page) ≡ Some bytes → length bytes ≡ LINE_BYTES
+      → IsCodeLine (view_of view held) s address bytes
+  code_there held bytes may front value long = record {
+    may = sym (allows_is (state_of view) s (address / PAGE_BYTES) no_translations (held_of page) executable
+        (sym (held_there view s (address / PAGE_BYTES) page at))) ∙ may;
+    front = subst (λ n. IsFront s n (bare held)) at.page_is (subst (λ n. IsFront n page.page (bare held)) at.space_is front);
+    bytes = line_bytes view address found bytes line_found value long
+        ∙ ap (λ q. bytes_at (memory_of (state_of view) q) (LINE_BYTES * (address / LINE_BYTES)) LINE_BYTES) line_space;
   }

@@ -1,6 +1,5 @@
 pub mod Overwritten
 pub mod LineBytes
-pub mod Bytes
 pub mod Views
 pub mod Touching
 pub mod Pieced

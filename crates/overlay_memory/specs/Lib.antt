@@ -1,6 +1,7 @@
 -- In reading order: what memories are seen as, and what becomes of translations; whether units fit, how reads and stores come out, and what they come to piece by piece; then laws: of states,
 -- of pages that are there and of their frames, of what own lines count, and of what is true of every memory.
 pub mod View
+pub mod Code
 pub mod Codes
 pub mod Translated
 pub mod Room

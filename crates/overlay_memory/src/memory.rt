@@ -18,19 +18,19 @@ ghost use Rattle.overlay_pages.specs.Changes.{AreAbsent, Fits, HasCopyRoom, HasS
 ghost use Rattle.overlay_pages.specs.View.{HasOwnPlace, IsJoined, place_at};
 ghost use Rattle.overlay_pages.specs.Calls.{AreMapped, AreShared, AreZeros, AwaitBare, AwaitsLike, HasSettledBlocks, IsEmptyState, IsNextPage, KeepsWholeBlocks, MovesFewBeside, NoneAwaitsBelow, entries_in};
 ghost use Rattle.overlay_memory.specs.Access.{IsFirstAbsent, Places, Reads, Stores};
-ghost use Rattle.overlay_memory.specs.Fronts.{IsKnownWord};
+ghost use Rattle.overlay_memory.specs.Code.{IsCodeLine};
 ghost use Rattle.overlay_memory.specs.Pieces.{emptied_space};
 ghost use Rattle.overlay_memory.specs.Room.{FallsShort};
 ghost use Rattle.overlay_memory.specs.Translated.{access_at, after_access};
 ghost use Rattle.overlay_memory.specs.View.{AreTrue, state_of, translations_of, with_line_at_place};
 ghost use Rattle.translation_cache.specs.Bare.{bare};
 ghost use Rattle.translation_cache.specs.Formed.{IsFormed};
-ghost use Rattle.translation_cache.specs.Translations.{flushed, no_translations};
+ghost use Rattle.translation_cache.specs.Translations.{flushed, no_translations, with_hits};
 ghost use Rattle.overlay_memory.specs.contracts.memory.OverlayMemory.{the_row};
 
 use crate::error::{MemoryError, Shortage, SpaceError};
 use crate::fronts::Fronts;
-use crate::reading::{fetch_anew, is_in_line, load_line, read_bytes};
+use crate::reading::{fetch_line, is_in_line, line_of, load_line, read_bytes};
 use crate::removing::{remove_pages, unmap_pages};
 use crate::room::{shortage_by, shortage_of};
 use crate::storing::{store_line, write_pages};
@@ -40,7 +40,6 @@ use overlay_bits::Bits;
 use overlay_pages::OverlayPages;
 use ovl_io::Perms;
 use page_table::PageTable;
-use rv_decode::Instr;
 use sizes::{FRAME_UNITS, PAGE_BYTES};
 use std::alloc::{AllocError, Global};
 use std::marker::Model;
@@ -82,7 +81,7 @@ impl OverlayMemory {
         ensures translations { IfOk result (λ made. translations_of made ≡ no_translations) }
     {
         let pages = OverlayPages::new(alloc, frames)?;
-        let fronts = Fronts::new(alloc)?;
+        let fronts = Fronts::new();
         let cache = Cache::new();
         Ok(OverlayMemory {
             pages,
@@ -251,7 +250,7 @@ impl OverlayMemory {
 
     /// Fills `into` with the bytes from an address on, for which each page needs the permission: X for a fetch, R for a load.
     /// Unmapped or Forbidden exactly at the first byte whose page isn't there or lacks it; Full never.
-    #[inline]
+    #[inline(always)]
     pub fn load(
         &mut self,
         space: u16,
@@ -291,49 +290,56 @@ impl OverlayMemory {
         read_bytes(&self.pages, space, address, into, need)
     }
 
-    /// As `load` with the need X, of the four bytes at an address that is a multiple of 4.
+    /// As `load` with the need X, of the four bytes at an address that is a multiple of 4, but that it fills `line` with the line in which
+    /// they lie.
     #[inline(never)]
-    pub fn fetch(&mut self, space: u16, address: u64, word: &mut [u8; 4]) -> Result<(), MemoryError>
+    pub fn fetch(&mut self, space: u16, address: u64, line: &mut [u8; 64]) -> Result<(), MemoryError>
         requires aligned { address % 4 ≡ 0 }
         ensures access { Reads (state_of self.old) space executable address 4 result }
-        ensures bytes { OnOk result (word.new
-            ≡ bytes_at (memory_of (state_of self.old) space) address 4) }
+        ensures line { OnOk result (IsCodeLine self.new space address line.new) }
         ensures same { self.new.pages ≡ self.old.pages }
         ensures translations { translations_of self.new
             ≡ after_access self.old space (access_at executable address 4) }
     {
-        fetch_anew(
+        fetch_line(
             &self.pages,
             &mut self.cache,
             &mut self.fronts,
             space,
             address,
-            word,
+            line,
         )
     }
 
-    /// As `fetch`, of a word in the line that was fetched from last, with what it means by the table of instructions; or none, and nothing
-    /// was done. Costs a few steps.
+    /// The line with the byte at an address, where its page may be executed and is known to be at the front of its list. None says
+    /// nothing. It counts nothing, and costs a few steps.
     #[inline]
-    pub fn fetch_known(&mut self, space: u16, address: u64) -> Option<Option<Instr>>
-        requires aligned { address % 4 ≡ 0 }
-        ensures word { IfSome result (IsKnownWord (state_of self.old) space address) }
-        ensures same { self.new.pages ≡ self.old.pages }
-        ensures none { result ≡ None → self.new ≡ self.old }
-        ensures translations { IfSome result (λ i. translations_of self.new
-            ≡ after_access self.old space (access_at executable address 4)) }
+    pub fn code_line(&self, space: u16, address: u64) -> Option<&[u8; 64]>
+        ensures { IfSome result (λ line. IsCodeLine self.now space address line.now) }
     {
-        match self.fronts.code(space, address) {
-            Some(code) => {
-                self.cache.count_hits(1);
-                Some(self.fronts.instruction(code, address))
+        match self.fronts.page(space, address / PAGE_BYTES as u64) {
+            Some(page) => {
+                if page.perms.contains(Perms::X) {
+                    Some(self.pages.line_at(page.line(line_of(address))))
+                } else {
+                    None
+                }
             }
             None => None,
         }
     }
 
-    /// As `write`, for an instruction.
+    /// Counts so many accesses to pages that are at the front of their lists.
     #[inline]
+    pub fn count_fronts(&mut self, n: u64)
+        ensures same { self.new.pages ≡ self.old.pages }
+        ensures translations { translations_of self.new ≡ with_hits n (translations_of self.old) }
+    {
+        self.cache.count_hits(n);
+    }
+
+    /// As `write`, for an instruction.
+    #[inline(always)]
     pub fn store(&mut self, space: u16, address: u64, bytes: &[u8]) -> Result<(), MemoryError>
         requires there { holds_space (state_of self.old) space ≡ true }
         requires few { length bytes.now ≤ PAGE_BYTES }

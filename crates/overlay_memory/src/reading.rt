@@ -7,9 +7,10 @@ ghost use Rattle.ovl_io.specs.Permissions.{executable};
 ghost use Rattle.overlay_pages.specs.State.{memory_of};
 ghost use Rattle.overlay_pages.specs.View.{IsJoined, state_of};
 ghost use Rattle.overlay_memory.specs.Access.{FindsIn, IsFoundIn, Reads};
+ghost use Rattle.overlay_memory.specs.Code.{IsCodeLine};
 ghost use Rattle.overlay_memory.specs.Fronts.{AreFronts};
 ghost use Rattle.overlay_memory.specs.Pieces.{Finds, Permits};
-ghost use Rattle.overlay_memory.specs.View.{AreTrue};
+ghost use Rattle.overlay_memory.specs.View.{AreTrue, view_of};
 ghost use Rattle.translation_cache.specs.Bare.{bare};
 ghost use Rattle.translation_cache.specs.Counted.{translated};
 
@@ -23,7 +24,7 @@ use sizes::{LINE_BYTES, PAGE_BYTES, PAGE_LINES};
 use translation_cache::Cache;
 
 /// The number of the line of its page that an address lies in.
-#[inline]
+#[inline(always)]
 pub(crate) fn line_of(address: u64) -> u8
     ensures line { result ≡ address / LINE_BYTES % PAGE_LINES }
     ensures low { result < PAGE_LINES }
@@ -32,7 +33,7 @@ pub(crate) fn line_of(address: u64) -> u8
 }
 
 /// Whether some bytes from an address on all lie in one line.
-#[inline]
+#[inline(always)]
 pub(crate) fn is_in_line(address: u64, count: usize) -> bool
     ensures { result ≡ true → (0 < count) × (address % LINE_BYTES + count ≤ LINE_BYTES) }
 {
@@ -84,7 +85,7 @@ pub(crate) fn permit(
 }
 
 /// Fills `into`, of some bytes, with those from an address on, all in a line that was found.
-#[inline]
+#[inline(always)]
 pub(crate) fn read_found(
     pages: &OverlayPages,
     found: FoundLine,
@@ -180,7 +181,7 @@ pub(crate) fn read_bytes(
 }
 
 /// As `load` of `OverlayMemory`, of some bytes all in one line.
-#[inline]
+#[inline(always)]
 pub(crate) fn load_line(
     pages: &OverlayPages,
     cache: &mut Cache,
@@ -209,21 +210,20 @@ pub(crate) fn load_line(
     }
 }
 
-/// As `fetch` of `OverlayMemory`. The line is known from then on.
-pub(crate) fn fetch_anew(
+/// As `fetch` of `OverlayMemory`.
+pub(crate) fn fetch_line(
     pages: &OverlayPages,
     cache: &mut Cache,
     fronts: &mut Fronts,
     space: u16,
     address: u64,
-    word: &mut [u8; 4],
+    line: &mut [u8; 64],
 ) -> Result<(), MemoryError>
     requires aligned { address % 4 ≡ 0 }
     requires held { AreTrue (state_of pages.now) cache.old }
     requires fronts { AreFronts pages.now (bare cache.old) fronts.old }
     ensures access { Reads (state_of pages.now) space executable address 4 result }
-    ensures bytes { OnOk result (word.new
-        ≡ bytes_at (memory_of (state_of pages.now) space) address 4) }
+    ensures line { OnOk result (IsCodeLine (view_of pages.now cache.new) space address line.new) }
     ensures translated { bare cache.new
         ≡ translated space (memory_of (state_of pages.now) space) (address / PAGE_BYTES) (bare cache.old) }
     ensures held { AreTrue (state_of pages.now) cache.new }
@@ -231,11 +231,13 @@ pub(crate) fn fetch_anew(
 {
     match translate(pages, cache, fronts, space, address / PAGE_BYTES as u64) {
         Some(page) => {
-            let found = page.line(line_of(address));
+            let bytes = pages.line_at(page.line(line_of(address)));
             if page.perms.contains(Perms::X) {
-                fronts.keep_code(address / LINE_BYTES as u64, page, pages.line_at(found));
+                *line = *bytes;
+                Ok(())
+            } else {
+                Err(MemoryError::Forbidden(address))
             }
-            read_found(pages, found, address, word, Perms::X)
         }
         None => Err(MemoryError::Unmapped(address)),
     }

@@ -47,7 +47,7 @@ fn lines_at(at: usize, count: usize) -> Bits
 }
 
 /// Replaces some bytes of a line that was found and can be written.
-#[inline]
+#[inline(always)]
 fn put(pages: &mut OverlayPages, found: FoundLine, at: usize, bytes: &[u8])
     requires found { IsFound pages.old found }
     requires some { 0 < length bytes.now }
@@ -198,7 +198,7 @@ pub(crate) fn write_pages(
 }
 
 /// As `store` of `OverlayMemory`, of some bytes all in one line. Where that can be written it takes no units.
-#[inline]
+#[inline(always)]
 pub(crate) fn store_line(
     pages: &mut OverlayPages,
     cache: &mut Cache,
@@ -226,7 +226,6 @@ pub(crate) fn store_line(
                 (address % LINE_BYTES as u64) as usize,
                 bytes,
             );
-            fronts.forget_line(address / LINE_BYTES as u64);
             return Ok(());
         }
     }

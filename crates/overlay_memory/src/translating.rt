@@ -99,7 +99,7 @@ fn look_in_vain(pages: &OverlayPages, cache: &mut Cache, space: u16, page: u64)
 
 /// Translates a page: counts the look-up, and enters the page where its entry isn't there and it is. Answers what was found of it: of
 /// a page that is known to be at the front of its list, without a look at a table.
-#[inline]
+#[inline(always)]
 pub(crate) fn translate(
     pages: &OverlayPages,
     cache: &mut Cache,

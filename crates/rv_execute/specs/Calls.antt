@@ -1,10 +1,7 @@
-use Rattle.std.specs.Prelude.{◌≡◌, ℕ, ◌==◌, ◌||◌, Bool, List, [], ◌∷◌, length, Option, Some, None, IfSome, Result, Ok, Err}
+use Rattle.std.specs.Prelude.{◌≡◌, ℕ, ◌==◌, ◌||◌, Bool, List, [], ◌∷◌, length, Option, Some, None, Result, Ok, Err}
 use Rattle.byteorder.specs.Endian.{little_number}
 use Rattle.ovl_io.specs.Permissions.{readable, writable, executable}
 use Rattle.ovl_io.specs.Memory.{Memory, Access, bytes_at, denied_at, with_bytes}
-use Rattle.rv_decode.specs.Encodable.{IsEncodable}
-use Rattle.rv_decode.specs.Meaning.{meaning}
-use Rattle.rv_decode.specs.declared.instruction.Instr.{Instr}
 use Rattle.rv_execute.specs.declared.memory.Denied.{Denied}
 use Rattle.rv_execute.specs.declared.memory.Refused.{Refused}
 use Rattle.rv_execute.specs.declared.memory.Refused.TheVariants.{At, Full}
@@ -41,12 +38,6 @@ word_at memory address = little_number 4 (bytes_at memory address 4)
 abbrev pub Fetches : Memory → ℕ → Result ℕ Denied → Type 0
 Fetches memory address (Ok word) = (denied_at memory (fetch_at address) ≡ None) × (word ≡ word_at memory address)
 Fetches memory address (Err denied) = denied_at memory (fetch_at address) ≡ Some denied.address
-
--- The same with what the word means.
-abbrev pub Decodes : Memory → ℕ → Result (Option Instr) Denied → Type 0
-Decodes memory address (Ok i) =
-    (denied_at memory (fetch_at address) ≡ None) × (i ≡ meaning (word_at memory address)) × IfSome i IsEncodable
-Decodes memory address (Err denied) = denied_at memory (fetch_at address) ≡ Some denied.address
 
 -- What a load answers, and what it gives.
 abbrev pub Loads : {Done : Type 0} → Memory → ℕ → ℕ → List ℕ → Result Done Denied → Type 0

@@ -14,7 +14,7 @@ use crate::regs::Regs;
 use crate::rows::action_of;
 use byteorder::{ByteOrder, LittleEndian};
 use ovl_io::FaultKind;
-use rv_decode::Instr;
+use rv_decode::{Instr, decode};
 
 // Numbers of two bytes are below this.
 const HALF_END: u64 = 1 << 16;
@@ -188,7 +188,7 @@ fn go_to(regs: &mut Regs, target: u64) -> Outcome
 
 /// What an instruction does on these registers. `rs1` and `rs2` are below 32.
 #[inline]
-fn action_on(i: &Instr, regs: &Regs) -> Action
+pub fn action_on(i: &Instr, regs: &Regs) -> Action
     requires rs1 { i.now.rs1 < 32 }
     requires rs2 { i.now.rs2 < 32 }
     ensures { result ≡ action_on i.now regs.now }
@@ -198,27 +198,24 @@ fn action_on(i: &Instr, regs: &Regs) -> Action
     action_of(i.name, a, b, i.imm.cast_unsigned(), regs.pc())
 }
 
-/// Does an instruction. `rd`, `rs1` and `rs2` are below 32.
+/// Does an action, as what the instruction at pc does, where `rd`, below 32, is the register that gets its result. This is `execute` where
+/// the word at pc means that instruction, but that the memory is asked for no fetch. Takes no memory.
 #[inline]
-fn perform<M: GuestMemory>(i: &Instr, regs: &mut Regs, mem: &mut M) -> Outcome
-    requires rd { i.now.rd < 32 }
-    requires rs1 { i.now.rs1 < 32 }
-    requires rs2 { i.now.rs2 < 32 }
+pub fn perform<M: GuestMemory>(action: Action, rd: u8, regs: &mut Regs, mem: &mut M) -> Outcome
+    requires rd { rd < 32 }
     requires ready { M.ready mem.old }
     ensures ready { M.ready mem.new }
-    ensures done { Executed (effect (action_on i.now regs.old) i.now.rd)
+    ensures done { Executed (effect action rd)
         regs.old (M.memory mem.old) regs.new (M.memory mem.new) result }
     ensures made { Performs M.fetched M.loaded M.stored
-        (effect (action_on i.now regs.old) i.now.rd regs.old (M.memory mem.old)).calls
+        (effect action rd regs.old (M.memory mem.old)).calls
         mem.old (full_in result) mem.new }
 {
-    match action_on(i, regs) {
-        Action::Write(value) => write(regs, i.rd, value),
-        Action::Link(target) => link(regs, i.rd, target),
+    match action {
+        Action::Write(value) => write(regs, rd, value),
+        Action::Link(target) => link(regs, rd, target),
         Action::Goto(target) => go_to(regs, target),
-        Action::Load(address, size, extension) => {
-            load(regs, mem, i.rd, address, size, extension)
-        }
+        Action::Load(address, size, extension) => load(regs, mem, rd, address, size, extension),
         Action::Store(address, size, value) => store(regs, mem, address, size, value),
         Action::Next => {
             next(regs);
@@ -260,9 +257,15 @@ pub fn execute<M: GuestMemory>(regs: &mut Regs, mem: &mut M) -> Outcome
     if pc % 4 != 0 {
         return Outcome::Fault(FaultKind::Align, pc);
     }
-    match mem.instruction(pc) {
-        Ok(Some(i)) => perform(&i, regs, mem),
-        Ok(None) => Outcome::Fault(FaultKind::Illegal, pc),
-        Err(denied) => Outcome::Fault(FaultKind::Fetch, denied.address),
+    let word = match mem.fetch(pc) {
+        Ok(word) => word,
+        Err(denied) => return Outcome::Fault(FaultKind::Fetch, denied.address),
+    };
+    match decode(word) {
+        Some(i) => {
+            let action = action_on(&i, regs);
+            perform(action, i.rd, regs, mem)
+        }
+        None => Outcome::Fault(FaultKind::Illegal, pc),
     }
 }

@@ -19,7 +19,7 @@
 //! | `rows` | the action of each of the 52 names |
 //! | `memory` | `GuestMemory`, the trait of a memory, and how it refuses: `Denied` and `Refused` |
 //! | `outcome` | `Outcome`: what came of an instruction |
-//! | `instruction` | `execute`: fetch, decode, and the action done |
+//! | `instruction` | `execute`: fetch, decode, and the action done; and `action_on` and `perform`, its last two parts, for a word that is decoded already |
 #![tactic(auto)]
 
 mod action;
@@ -32,7 +32,8 @@ mod rows;
 #[cfg(test)]
 mod tests;
 
-pub use instruction::execute;
+pub use action::{Action, Extension, Size};
+pub use instruction::{action_on, execute, perform};
 pub use memory::{Denied, GuestMemory, Refused};
 pub use outcome::Outcome;
 pub use regs::Regs;

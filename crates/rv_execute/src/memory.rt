@@ -3,9 +3,7 @@
 ghost use Rattle.std.specs.Prelude.{◌≡◌, ℕ, ◌%◌, List, Result, IsTrue, length};
 ghost use Rattle.ovl_io.specs.Memory.{Memory};
 ghost use Rattle.rv_execute.specs.declared.memory.Refused.{Refused};
-ghost use Rattle.rv_execute.specs.Calls.{Decodes, Fetches, is_count, Loads, Stores};
-
-use rv_decode::Instr;
+ghost use Rattle.rv_execute.specs.Calls.{Fetches, is_count, Loads, Stores};
 
 /// An access that failed.
 #[derive(Clone, Copy, Debug, PartialEq, Eq)]
@@ -49,15 +47,6 @@ pub trait GuestMemory {
         requires ready { ready self.old }
         ensures ready { ready self.new }
         ensures answer { Fetches (memory self.old) address result }
-        ensures kept { memory self.new ≡ memory self.old }
-        ensures made { fetched self.old address self.new };
-
-    /// As `fetch`, with what the word means by the table of instructions: none exactly where no row fits it.
-    fn instruction(&mut self, address: u64) -> Result<Option<Instr>, Denied>
-        requires aligned { address % 4 ≡ 0 }
-        requires ready { ready self.old }
-        ensures ready { ready self.new }
-        ensures answer { Decodes (memory self.old) address result }
         ensures kept { memory self.new ≡ memory self.old }
         ensures made { fetched self.old address self.new };
 

@@ -7,7 +7,7 @@ use crate::action::{Action, Size};
 use crate::rows::action_of;
 use byteorder::{ByteOrder, LittleEndian};
 use ovl_io::FaultKind;
-use rv_decode::{Instr, Name, decode};
+use rv_decode::Name;
 use std::test::Fail;
 
 // A memory of one page, from 0x10000 on, which may be executed and written to but not read. There is no unit for any
@@ -38,10 +38,6 @@ impl GuestMemory for CodePage {
         } else {
             Err(Denied { address })
         }
-    }
-
-    fn instruction(&mut self, address: u64) -> Result<Option<Instr>, Denied> {
-        Ok(decode(self.fetch(address)?))
     }
 
     fn load(&mut self, address: u64, into: &mut [u8]) -> Result<(), Denied> {

@@ -1,4 +1,4 @@
-use Rattle.std.proofs.Common.{◌≡◌, ◌+◌, ◌*◌, ◌/◌, ◌%◌, ◌≤◌, true, length, sym, ◌∙◌, arith}
+use Rattle.std.proofs.Common.{◌≡◌, ◌+◌, ◌*◌, ◌/◌, ◌%◌, true, sym, ◌∙◌}
 use Rattle.ovl_io.specs.Permissions.{writable}
 use Rattle.overlay_pages.specs.View.{state_of}
 use Rattle.overlay_pages.specs.Changes.{is_writable}
@@ -35,18 +35,7 @@ returns-then-is_writable-clause-held c =
 
 pub returns-then-is_writable-clause-fronts : goal.returns-then-is_writable-clause-fronts
 returns-then-is_writable-clause-fronts c =
-    let view = c.args.pages.now in
-    let new = c.put.new.pages in
-    let at = c.in-Some.ensures.found in
-    let address = c.args.address in
-    let start = 4096 * (address / 4096) + (64 * (address / 64 % 64) + address % 64) in
-    let from : 64 * (address / 64) ≤ start = omega arith in
-    let within : start + length c.args.bytes.now ≤ 64 * (address / 64) + 64 = omega (arith, c.requires.one_line) in
-    filled_fronts view new (bare c.translate.new.cache) c.translate.new.fronts c.forget_line.new.self c.args.space start (address / 64) c.args.bytes.now c.put.ensures.table
-    (found_at view c.args.space (address / 4096) (address / 64 % 64) c.line.result
-    (line_there view c.args.space address c.line_of-line.result c.in-Some.page c.line.result at c.line_of-line.ensures.line (c.line.ensures view at.is))
-    (λ s p l. IsFilled (state_of view) (state_of new) s (4096 * p + (64 * l + address % 64)) c.args.bytes.now) c.put.ensures.filled)
-    from within c.forget_line.ensures c.in-Some.ensures.fronts
+    filled_fronts c.args.pages.now c.put.new.pages (bare c.translate.new.cache) c.translate.new.fronts c.put.ensures.table c.in-Some.ensures.fronts
 
 pub returns-clause-fronts : goal.returns-clause-fronts
 returns-clause-fronts c = none_known _ _ _ c.clear.ensures

@@ -7,32 +7,24 @@ use Rattle.rv_execute.proofs.instruction.perform.Goals as goal
 pub returns-in-Link-clause-done : goal.returns-in-Link-clause-done
 returns-in-Link-clause-done g c =
     let memory = g.M.GuestMemory.memory c.args.mem.now in
-    let rd = c.args.i.now.rd in
-    let regs = c.args.regs.now in
-    subst (λ a. Executes (effect a rd regs memory) regs memory c.link.new.regs memory c.link.result) c.in-Link.ensures (c.link.ensures.done memory)
+    subst (λ a. Executes (effect a c.args.rd c.args.regs.now memory) c.args.regs.now memory c.link.new.regs memory c.link.result) (sym c.in-Link.is) (c.link.ensures.done memory)
 
 pub returns-in-Link-clause-made : goal.returns-in-Link-clause-made
 returns-in-Link-clause-made g c =
     let memory = g.M.GuestMemory.memory c.args.mem.now in
-    let rd = c.args.i.now.rd in
-    let regs = c.args.regs.now in
-    let none = ap (λ a. (effect a rd regs memory).calls) (sym c.in-Link.ensures) ∙ link_calls c.in-Link.target rd regs memory in
+    let none = ap (λ a. (effect a c.args.rd c.args.regs.now memory).calls) c.in-Link.is ∙ link_calls c.in-Link.target c.args.rd c.args.regs.now memory in
     subst (λ calls. Performs g.M.GuestMemory.fetched g.M.GuestMemory.loaded g.M.GuestMemory.stored calls c.args.mem.now (full_in c.link.result) c.args.mem.now)
     (sym none) (c.link.ensures.not_full, refl)
 
 pub returns-in-Goto-clause-done : goal.returns-in-Goto-clause-done
 returns-in-Goto-clause-done g c =
     let memory = g.M.GuestMemory.memory c.args.mem.now in
-    let rd = c.args.i.now.rd in
-    let regs = c.args.regs.now in
-    subst (λ a. Executes (effect a rd regs memory) regs memory c.go_to.new.regs memory c.go_to.result) c.in-Goto.ensures (c.go_to.ensures.done memory rd)
+    subst (λ a. Executes (effect a c.args.rd c.args.regs.now memory) c.args.regs.now memory c.go_to.new.regs memory c.go_to.result) (sym c.in-Goto.is) (c.go_to.ensures.done memory c.args.rd)
 
 pub returns-in-Goto-clause-made : goal.returns-in-Goto-clause-made
 returns-in-Goto-clause-made g c =
     let memory = g.M.GuestMemory.memory c.args.mem.now in
-    let rd = c.args.i.now.rd in
-    let regs = c.args.regs.now in
-    let none = ap (λ a. (effect a rd regs memory).calls) (sym c.in-Goto.ensures) ∙ go_to_calls c.in-Goto.target rd regs memory in
+    let none = ap (λ a. (effect a c.args.rd c.args.regs.now memory).calls) c.in-Goto.is ∙ go_to_calls c.in-Goto.target c.args.rd c.args.regs.now memory in
     subst (λ calls. Performs g.M.GuestMemory.fetched g.M.GuestMemory.loaded g.M.GuestMemory.stored calls c.args.mem.now (full_in c.go_to.result) c.args.mem.now)
     (sym none) (c.go_to.ensures.not_full, refl)
 
@@ -40,14 +32,10 @@ pub returns-in-Store-clause-done : goal.returns-in-Store-clause-done
 returns-in-Store-clause-done g c =
     let memory = g.M.GuestMemory.memory c.args.mem.now in
     let after = g.M.GuestMemory.memory c.store.new.mem in
-    let rd = c.args.i.now.rd in
-    let regs = c.args.regs.now in
-    subst (λ a. Executes (effect a rd regs memory) regs memory c.store.new.regs after c.store.result) c.in-Store.ensures (c.store.ensures.done rd)
+    subst (λ a. Executes (effect a c.args.rd c.args.regs.now memory) c.args.regs.now memory c.store.new.regs after c.store.result) (sym c.in-Store.is) (c.store.ensures.done c.args.rd)
 
 pub returns-in-Store-clause-made : goal.returns-in-Store-clause-made
 returns-in-Store-clause-made g c =
     let memory = g.M.GuestMemory.memory c.args.mem.now in
-    let rd = c.args.i.now.rd in
-    let regs = c.args.regs.now in
-    subst (λ a. Performs g.M.GuestMemory.fetched g.M.GuestMemory.loaded g.M.GuestMemory.stored (effect a rd regs memory).calls c.args.mem.now (full_in c.store.result) c.store.new.mem)
-    c.in-Store.ensures (c.store.ensures.made rd)
+    subst (λ a. Performs g.M.GuestMemory.fetched g.M.GuestMemory.loaded g.M.GuestMemory.stored (effect a c.args.rd c.args.regs.now memory).calls c.args.mem.now (full_in c.store.result) c.store.new.mem)
+    (sym c.in-Store.is) (c.store.ensures.made c.args.rd)

@@ -2,10 +2,12 @@ use Rattle.std.proofs.Common.{◌≡◌, ◌-◌, ◌≤◌, true}
 use Rattle.ovl_io.specs.declared.process_state.ProcessState.TheVariants.{Running}
 use Rattle.space_maps.specs.Spaces.{holds_space}
 use Rattle.machine_core.specs.Access.{spaces_lent}
+use Rattle.machine_core.specs.Ahead.{guest_ahead}
 use Rattle.machine_core.specs.Executions.{executions, stops_in}
+use Rattle.machine_core.specs.Held.{IsInHand}
 use Rattle.machine_core.specs.Kept.{IsBeside, guest_lent}
 use Rattle.machine_core.proofs.Stepping.{behind}
-use Rattle.machine_core.proofs.guest.step_up_to.Given as goal
+use Rattle.machine_core.proofs.guest.step_owing.Given as goal
 
 -- those so far were steps, in the space that was lent
 abbrev pub invariant-stepping : goal.invariant-stepping
@@ -14,9 +16,11 @@ invariant-stepping l = record {
   space : l.view.space ≡ l.fn.view.space;
   there : holds_space (spaces_lent l.view) l.fn.view.space ≡ true;
   all : executions (stops_in l.stops) l.fn.view.space l.most (guest_lent l.fn.view l.fn.process)
-      ≡ behind l.steps (executions (stops_in l.stops) l.fn.view.space (l.most - l.steps) (guest_lent l.view l.process));
+      ≡ behind l.steps (executions (stops_in l.stops) l.fn.view.space (l.most - l.steps) (guest_ahead l.hand.owed (guest_lent l.view l.process)));
   running : l.process.state ≡ Running;
   saved : l.process.saved ≡ l.fn.process.saved;
+  few : l.hand.owed ≤ l.steps;
+  hand : IsInHand l.lines l.view l.hand l.process.regs.pc;
   beside : IsBeside l.fn.view.space (spaces_lent l.fn.view) (spaces_lent l.view);
   within : l.steps ≤ l.most;
 }

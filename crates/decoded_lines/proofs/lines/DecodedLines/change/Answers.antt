@@ -1,8 +1,8 @@
 use Rattle.std.proofs.Common.{◌<◌, ◌%◌, arith}
 use Rattle.decoded_lines.proofs.Decoding.{entered}
-use Rattle.decoded_lines.proofs.lines.DecodedLines.enter.Goals as goal
+use Rattle.decoded_lines.proofs.lines.DecodedLines.change.Goals as goal
 
 pub invariant_of-self : goal.invariant_of-self
 invariant_of-self c =
-    entered c.self.inside.lines.items c.self.inside.instructions.items c.decode_line.new.instructions.items _ c.args.line.now c.self.invariant (omega arith)
+    entered c.self.inside.lines.items c.self.inside.instructions.items c.decode_line.new.instructions.items _ c.args.line.now c.self.invariant c.requires
     c.decode_line.ensures.all c.decode_line.ensures.here c.decode_line.ensures.beside

@@ -1,0 +1,160 @@
+use Rattle.std.proofs.Common.{◌≡◌, ℕ, ◌+◌, ◌-◌, ◌*◌, ◌/◌, ◌%◌, ◌^◌, ◌<◌, ◌≤◌, ◌⊎◌, inl, inr, false, List, [], ◌∷◌, length, get_or, Option, Some, None, sym, ap, subst, ◌∙◌, refl, arith}
+use Rattle.std.specs.Option.{option_map_or}
+use Rattle.std.specs.FinMap.{get, insert}
+use Rattle.std.proofs.lemmas.Bool.{cases_order}
+use Rattle.number_maps.specs.Keys.{by_key, get_other, get_same}
+use Rattle.sizes.specs.declared.TheConstants.{LINE_BYTES, PAGE_BYTES}
+use Rattle.byteorder.specs.Endian.{little_number}
+use Rattle.decoded_lines.specs.Decoded.{word_of}
+use Rattle.decoded_lines.specs.declared.TheConstants.{LINE_WORDS}
+use Rattle.ovl_io.specs.Memory.{Memory, Page, bytes_at, denied_at, with_byte, with_bytes, with_page_byte}
+use Rattle.ovl_io.specs.MemoryLaws.{all_allowed}
+use Rattle.ovl_io.specs.PageBytes.{page_allows}
+use Rattle.ovl_io.specs.Permissions.{executable, permits}
+use Rattle.rv_execute.specs.Calls.{fetch_at, word_at}
+use Rattle.overlay_memory.specs.Code.{IsCodeLine}
+use Rattle.overlay_memory.specs.View.{TranslatedView, state_of, translations_of}
+use Rattle.overlay_memory.specs.Translated.{after_access}
+use Rattle.overlay_pages.specs.State.{State, memory_of}
+use Rattle.overlay_pages.specs.View as seen
+use Rattle.overlay_pages.specs.View.{MemoryView}
+use Rattle.translation_cache.specs.Bare.{BareTranslations}
+use Rattle.translation_cache.specs.Counted.{counted}
+use Rattle.translation_cache.specs.CountedLaws.{IsFront, access_in_page, counted_one, front_beside, front_hits, translated_front}
+use Rattle.translation_cache.specs.Translations.{with_hits}
+use Rattle.translation_cache.specs.declared.TheConstants.{SETS}
+use Rattle.machine_core.specs.Held.{IsAt, distance}
+use Rattle.machine_core.specs.declared.hand.Hand.{Hand}
+use Rattle.machine_core.specs.declared.view.View.{View}
+use Rattle.machine_core.proofs.Bytes.{bytes_beside, some_bytes}
+
+-- The line in hand: what a fetch from it is, and what leaves it.
+
+-- A fetch from a page at the front of its list is a hit.
+pub fetched_front : (space pc : ℕ) (m : Memory) (t : BareTranslations) → pc % 4 ≡ 0 → IsFront space (pc / PAGE_BYTES) t
+    → counted space m (fetch_at pc ∷ []) t ≡ with_hits 1 t
+fetched_front space pc m t aligned front =
+    counted_one space m (fetch_at pc) t ∙ access_in_page space m (fetch_at pc) t (omega arith) (omega (arith, aligned))
+    ∙ translated_front space (pc / PAGE_BYTES) m t front
+
+-- hits leave the line, and so does another address of it
+pub code_counted : (old new : TranslatedView) (space address n : ℕ) (line : List ℕ) → new.pages ≡ old.pages → translations_of new ≡ with_hits n (translations_of old)
+    → IsCodeLine old space address line → IsCodeLine new space address line
+code_counted old new space address n line same is code = record {
+  may = ap (λ (v : MemoryView). page_allows (memory_of (seen.state_of v) space) executable (address / PAGE_BYTES)) same ∙ code.may;
+  front = subst (IsFront space (address / PAGE_BYTES)) (sym is) (front_hits space (address / PAGE_BYTES) n (translations_of old) code.front);
+  bytes = code.bytes ∙ sym (ap (λ (v : MemoryView). bytes_at (memory_of (seen.state_of v) space) (LINE_BYTES * (address / LINE_BYTES)) LINE_BYTES) same);
+}
+
+pub code_moved : (view : TranslatedView) (space a b : ℕ) (line : List ℕ) → b / LINE_BYTES ≡ a / LINE_BYTES → IsCodeLine view space a line → IsCodeLine view space b line
+code_moved view space a b line same code =
+    let page : b / PAGE_BYTES ≡ a / PAGE_BYTES = omega (arith, same) in
+    record {
+      may = ap (page_allows (memory_of (state_of view) space) executable) page ∙ code.may;
+      front = subst (λ n. IsFront space n (translations_of view)) (sym page) code.front;
+      bytes = code.bytes ∙ sym (ap (λ n. bytes_at (memory_of (state_of view) space) (LINE_BYTES * n) LINE_BYTES) same);
+    }
+
+-- An address of it may be fetched, and its word stands decoded there.
+module _ (lines : List (List ℕ)) (view : TranslatedView) (space : ℕ) (hand : Hand) (pc at : ℕ) (is : IsAt lines view space hand pc at)
+    (low : pc < 2 ^ 64) where
+  near : pc ≡ hand.start + distance hand.start pc
+  near = let within = is.within in let start = is.held.start in let start_low = is.held.low in omega (arith, within, start, low, start_low)
+
+  pub page_is : pc / PAGE_BYTES ≡ hand.start / PAGE_BYTES
+  page_is = let here = near in let within = is.within in let start = is.held.start in omega (arith, here, within, start)
+
+  pub at_allowed : denied_at (memory_of (state_of view) space) (fetch_at pc) ≡ None
+  at_allowed =
+      let aligned = is.aligned in
+      all_allowed (memory_of (state_of view) space) executable (pc / PAGE_BYTES) pc 4
+      (ap (page_allows (memory_of (state_of view) space) executable) page_is ∙ is.held.code.may) (omega arith) (omega (arith, aligned))
+
+  pub at_front : IsFront space (pc / PAGE_BYTES) (translations_of view)
+  at_front = subst (λ n. IsFront space n (translations_of view)) (sym page_is) is.held.code.front
+
+  pub at_word : word_of (get_or lines (at / LINE_WORDS) []) (at % LINE_WORDS) ≡ word_at (memory_of (state_of view) space) pc
+  at_word =
+      let within = is.within in
+      let aligned = is.aligned in
+      let start = is.held.start in
+      let first = is.held.first in
+      let at_is = is.at_is in
+      let here = near in
+      let slot : at / LINE_WORDS ≡ hand.first / LINE_WORDS = omega (arith, within, first, at_is) in
+      let place : 4 * (at % LINE_WORDS) ≡ distance hand.start pc = omega (arith, within, first, at_is, aligned, start, here) in
+      let line : LINE_BYTES * (hand.start / LINE_BYTES) + 4 * (at % LINE_WORDS) ≡ pc = omega (arith, start, place, here) in
+      ap (λ n. word_of (get_or lines n []) (at % LINE_WORDS)) slot
+      ∙ ap (λ l. word_of l (at % LINE_WORDS)) is.held.code.bytes
+      ∙ ap (little_number 4)
+      (some_bytes (memory_of (state_of view) space) (LINE_BYTES * (hand.start / LINE_BYTES)) (4 * (at % LINE_WORDS)) 4 LINE_BYTES (omega (arith, within, place))
+      ∙ ap (λ n. bytes_at (memory_of (state_of view) space) n 4) line)
+
+-- What a store does beside a page.
+
+-- permissions stay
+byte_allows : (m : Memory) (a value need q : ℕ) → page_allows (with_byte m a value) need q ≡ page_allows m need q
+byte_allows m a value need q = by_page (get m (a / PAGE_BYTES)) refl
+  where
+    by_page : (o : Option Page) → get m (a / PAGE_BYTES) ≡ o → page_allows (with_byte m a value) need q ≡ page_allows m need q
+    by_page None none =
+        ap (λ (n : Memory). page_allows n need q)
+        (ap (λ (o : Option Page). option_map_or (λ (y : Page). insert m (a / PAGE_BYTES) (with_page_byte (a % PAGE_BYTES) value y)) o m) none)
+    by_page (Some page) there =
+        let changed : Memory = insert m (a / PAGE_BYTES) (with_page_byte (a % PAGE_BYTES) value page) in
+        ap (λ (n : Memory). page_allows n need q)
+        (ap (λ (o : Option Page). option_map_or (λ (y : Page). insert m (a / PAGE_BYTES) (with_page_byte (a % PAGE_BYTES) value y)) o m) there)
+        ∙ by_key q (a / PAGE_BYTES)
+        (λ same.
+        ap (λ (o : Option Page). option_map_or (λ (y : Page). permits y.perms need) o false) (get_same m (a / PAGE_BYTES) q (with_page_byte (a % PAGE_BYTES) value page) same)
+        ∙ sym (ap (λ (o : Option Page). option_map_or (λ (y : Page). permits y.perms need) o false) (ap (get m) same ∙ there)))
+        (λ apart. ap (λ (o : Option Page). option_map_or (λ (y : Page). permits y.perms need) o false) (get_other m (a / PAGE_BYTES) q (with_page_byte (a % PAGE_BYTES) value page) apart))
+
+bytes_allow : (m : Memory) (a : ℕ) (bytes : List ℕ) (need q : ℕ) → page_allows (with_bytes m a bytes) need q ≡ page_allows m need q
+bytes_allow m a [] need q = refl
+bytes_allow m a (b ∷ bytes) need q = bytes_allow (with_byte m a b) (a + 1) bytes need q ∙ byte_allows m a b need q
+
+-- An access in one page of another list leaves the line.
+
+pub record IsApart (address start : ℕ) : Type 0 where
+  pub sets : address / PAGE_BYTES % SETS ≡ start / PAGE_BYTES % SETS → ⊥
+  pub one_page : address % PAGE_BYTES ≤ PAGE_BYTES - 8
+
+module _ (old new : TranslatedView) (space start address need count : ℕ) (line : List ℕ) (apart : IsApart address start) (some : 0 < count) (few : count ≤ 8)
+    (lists : translations_of new ≡ after_access old space (record { need = need; address = address; length = count }))
+    (code : IsCodeLine old space start line) where
+  front_left : IsFront space (start / PAGE_BYTES) (translations_of new)
+  front_left =
+      let fits = apart.one_page in
+      subst (IsFront space (start / PAGE_BYTES))
+      (sym (lists ∙ counted_one space (memory_of (state_of old) space) (record { need = need; address = address; length = count }) (translations_of old)
+      ∙ access_in_page space (memory_of (state_of old) space) (record { need = need; address = address; length = count }) (translations_of old) some (omega (arith, fits, few))))
+      (front_beside space space (start / PAGE_BYTES) (address / PAGE_BYTES) (memory_of (state_of old) space) (translations_of old) (λ same. apart.sets (sym same)) code.front)
+
+  pub code_kept : state_of new ≡ state_of old → IsCodeLine new space start line
+  code_kept same = record {
+    may = ap (λ (s : State). page_allows (memory_of s space) executable (start / PAGE_BYTES)) same ∙ code.may;
+    front = front_left;
+    bytes = code.bytes ∙ sym (ap (λ (s : State). bytes_at (memory_of s space) (LINE_BYTES * (start / LINE_BYTES)) LINE_BYTES) same);
+  }
+
+  pub code_beside : (bytes : List ℕ) → length bytes ≡ count → memory_of (state_of new) space ≡ with_bytes (memory_of (state_of old) space) address bytes
+      → IsCodeLine new space start line
+  code_beside bytes length_is memory = record {
+    may = ap (λ m. page_allows m executable (start / PAGE_BYTES)) memory ∙ bytes_allow (memory_of (state_of old) space) address bytes executable (start / PAGE_BYTES) ∙ code.may;
+    front = front_left;
+    bytes = code.bytes
+        ∙ sym (ap (λ m. bytes_at m (LINE_BYTES * (start / LINE_BYTES)) LINE_BYTES) memory
+        ∙ bytes_beside (memory_of (state_of old) space) address bytes (LINE_BYTES * (start / LINE_BYTES)) LINE_BYTES (out (cases_order (address / PAGE_BYTES) (start / PAGE_BYTES))));
+  }
+    where
+      out : (address / PAGE_BYTES ≡ start / PAGE_BYTES) ⊎ ((address / PAGE_BYTES < start / PAGE_BYTES) ⊎ (start / PAGE_BYTES < address / PAGE_BYTES))
+          → (LINE_BYTES * (start / LINE_BYTES) + LINE_BYTES ≤ address) ⊎ (address + length bytes ≤ LINE_BYTES * (start / LINE_BYTES))
+      out (inl same) = absurd (apart.sets (ap (λ n. n % SETS) same))
+      out (inr (inl less)) = let fits = apart.one_page in inr (omega (arith, less, fits, few, length_is))
+      out (inr (inr more)) = inl (omega (arith, more))
+
+-- a memory that didn't change leaves the view
+pub unmoved : (view : View) (memory : TranslatedView) → memory ≡ view.memory.now
+    → record { memory = record { ref_ptr = view.memory.ref_ptr; ghost_name = view.memory.ghost_name; now = memory }; space = view.space } ≡ view
+unmoved view memory same = λ i. record { memory = record { ref_ptr = view.memory.ref_ptr; ghost_name = view.memory.ghost_name; now = same i }; space = view.space }
