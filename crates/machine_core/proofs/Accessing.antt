@@ -25,11 +25,10 @@ use Rattle.machine_core.specs.declared.view.View.{View}
 use Rattle.machine_core.specs.Process.{Whole, is_speculating}
 use Rattle.machine_core.specs.Machine.{kept_in, kept_whole, none_saved}
 use Rattle.translation_cache.specs.Bare.{BareTranslations}
-use Rattle.rv_execute.specs.CallLaws.{are_tried}
-use Rattle.machine_core.specs.Tried.{each_counted, tried_counted}
+use Rattle.machine_core.specs.Tried.{each_counted}
 use Rattle.machine_core.specs.Access.{IsSameLoan, IsStoredBy, IsUnchanged, Leaves, lists_after, lists_lent, spaces_lent}
 use Rattle.machine_core.specs.Turns.{Guest, executed, execution_of, exceeds, guest_executed, guest_refused, is_full, ledger_executed, ledger_stored, outcome_of, state_executed, store_made, store_of, translations_executed, units_needed}
-use Rattle.machine_core.specs.Kept.{IsBeside, guest_lent, guest_seen}
+use Rattle.machine_core.specs.Kept.{IsBeside, guest_seen}
 
 -- What the calls of one instruction make of the memory of all spaces.
 
@@ -248,38 +247,6 @@ module _ (p : ℕ) (old new : State) (t u : BareTranslations) (process : declare
   pub executes : Came p old new (store_made (memory_of old p) (execution process.regs (memory_of old p)).calls) (full_in o) → IsExecuted p old new t u process left o
   unfolding store_of
   executes came = by_store _ refl came
-
--- the same in the space that is lent
-pub record IsExecutedLent (old new : View) (before after : declared.Process) (o : Outcome) : Type 0 where
-  pub loan : new.memory.ghost_name ≡ old.memory.ghost_name
-  pub space : new.space ≡ old.space
-  pub outcome_is : o ≡ outcome_of old.space (guest_lent old before)
-  pub after_is : guest_lent new after ≡ executed old.space (guest_lent old before)
-  pub beside : IsBeside old.space (spaces_lent old) (spaces_lent new)
-
-pub lent : (old new : View) (process : declared.Process) (regs : Registers) (o : Outcome)
-    → Executes (execution process.regs (memory_of (spaces_lent old) old.space)) process.regs (memory_of (spaces_lent old) old.space) regs (memory_of (spaces_lent new) new.space) o
-    → process.state ≡ state.Running
-    → Performs (λ old address new. IsUnchanged (fetch_at address) old new) (λ old address count new. IsUnchanged (load_at address count) old new)
-    (λ old address bytes answer new. IsStoredBy old address bytes answer new)
-    (execution process.regs (memory_of (spaces_lent old) old.space)).calls old (full_in o) new
-    → IsExecutedLent old new process (record { regs = regs; state = state_left o process.state; saved = process.saved }) o
-unfolding translations_executed
-lent old new process regs o done runs made =
-    let all = performed _ old new (full_in o) made in
-    let moved = ap (memory_of (spaces_lent new)) all.same.space in
-    let memory = memory_of (spaces_lent old) old.space in
-    let counts = all.lists ∙ tried_counted old.space memory (execution process.regs memory).calls (lists_lent old) (are_tried process.regs memory) in
-    let one = executes old.space (spaces_lent old) (spaces_lent new) (lists_lent old) (lists_lent new) process regs o
-    (subst (λ (m : Memory). Executes (execution process.regs memory) process.regs memory regs m o) moved done) runs counts all.came in
-    record {
-      loan = all.same.loan;
-      space = all.same.space;
-      outcome_is = one.outcome_is;
-      after_is = ap (λ p. guest_seen p (spaces_lent new) (lists_lent new) (record { regs = regs; state = state_left o process.state; saved = process.saved })) all.same.space
-          ∙ one.after_is;
-      beside = one.beside;
-    }
 
 pub state_kept : (o : Outcome) (s : ProcessState) → ((kind : FaultKind) (address : ℕ) → o ≡ outcome.Fault kind address → ⊥) → state_left o s ≡ s
 state_kept outcome.Stepped s other = refl

@@ -23,7 +23,7 @@ use Rattle.translation_cache.specs.Counted.{counted}
 use Rattle.translation_cache.specs.CountedLaws.{IsFront, access_in_page, counted_one, front_beside, front_hits, translated_front}
 use Rattle.translation_cache.specs.Translations.{with_hits}
 use Rattle.translation_cache.specs.declared.TheConstants.{SETS}
-use Rattle.machine_core.specs.Held.{IsAt, distance}
+use Rattle.machine_core.specs.Held.{IsAt, distance, IsReached}
 use Rattle.machine_core.specs.declared.hand.Hand.{Hand}
 use Rattle.machine_core.specs.declared.view.View.{View}
 use Rattle.machine_core.proofs.Bytes.{bytes_beside, some_bytes}
@@ -158,3 +158,22 @@ module _ (old new : TranslatedView) (space start address need count : ℕ) (line
 pub unmoved : (view : View) (memory : TranslatedView) → memory ≡ view.memory.now
     → record { memory = record { ref_ptr = view.memory.ref_ptr; ghost_name = view.memory.ghost_name; now = memory }; space = view.space } ≡ view
 unmoved view memory same = λ i. record { memory = record { ref_ptr = view.memory.ref_ptr; ghost_name = view.memory.ghost_name; now = same i }; space = view.space }
+
+-- A line that was reached is in hand, and its word stands there.
+pub reached_at : (lines : List (List ℕ)) (memory : TranslatedView) (space pc first owed : ℕ) → pc < 2 ^ 64 → IsReached memory space lines pc first
+    → IsAt lines memory space (record { start = pc - pc % LINE_BYTES; first = first; owed = owed }) pc (first + pc % LINE_BYTES / 4)
+reached_at lines memory space pc first owed low reached =
+    let near : distance (pc - pc % 64) pc ≡ pc % 64 = omega (arith, low) in
+    let line : (pc - pc % 64) / LINE_BYTES ≡ pc / LINE_BYTES = omega arith in
+    record {
+      held = record {
+        start = omega arith;
+        low = omega (arith, low);
+        first = reached.first_is;
+        inside = reached.inside;
+        code = code_moved memory space pc (pc - pc % 64) _ line reached.code;
+      };
+      aligned = reached.aligned;
+      within = omega (arith, near);
+      at_is = ap (λ n. first + n / 4) (sym near);
+    }

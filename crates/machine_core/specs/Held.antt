@@ -61,14 +61,14 @@ pub record IsRefused (old new : TranslatedView) (space address at : ℕ) : Type 
   pub counted : IsCounted old new space address
 
 -- why not
-abbrev pub Refuses : TranslatedView → TranslatedView → ℕ → ℕ → Refusal → Type 0
-Refuses old new space address Askew = (address % 4 ≡ 0 → ⊥) × (new ≡ old)
-Refuses old new space address (Denied at) = IsRefused old new space address at
+abbrev pub IsNotReached : TranslatedView → TranslatedView → ℕ → ℕ → Refusal → Type 0
+IsNotReached old new space address Askew = (address % 4 ≡ 0 → ⊥) × (new ≡ old)
+IsNotReached old new space address (Denied at) = IsRefused old new space address at
 
 abbrev pub Reaches : TranslatedView → TranslatedView → ℕ → List (List ℕ) → ℕ → Reached → Type 0
 Reaches old new space lines address (Owed first) = IsReached new space lines address first × (new ≡ old)
 Reaches old new space lines address (Counted first) = IsReached new space lines address first × IsCounted old new space address
-Reaches old new space lines address (Not refusal) = Refuses old new space address refusal
+Reaches old new space lines address (Not refusal) = IsNotReached old new space address refusal
 
 -- What fetching a word comes to: where its meaning stands, or why it may not be fetched.
 abbrev pub IsOwed : View → View → ℕ → ℕ → ℕ → Type 0
@@ -79,10 +79,10 @@ pub record IsFetched (old new : View) (lines : List (List ℕ)) (before after : 
   pub there : IsAt lines new.memory.now new.space after address at
   pub counted : IsOwed old new address before.owed after.owed
 
-abbrev pub Fetches : View → View → List (List ℕ) → Hand → Hand → ℕ → Result ℕ Refusal → Type 0
-Fetches old new lines before after address (Ok at) = IsFetched old new lines before after address at
-Fetches old new lines before after address (Err Askew) = (address % 4 ≡ 0 → ⊥) × (new ≡ old) × (after.owed ≡ before.owed)
-Fetches old new lines before after address (Err (Denied at)) =
+abbrev pub TakesWord : View → View → List (List ℕ) → Hand → Hand → ℕ → Result ℕ Refusal → Type 0
+TakesWord old new lines before after address (Ok at) = IsFetched old new lines before after address at
+TakesWord old new lines before after address (Err Askew) = (address % 4 ≡ 0 → ⊥) × (new ≡ old) × (after.owed ≡ before.owed)
+TakesWord old new lines before after address (Err (Denied at)) =
     (address % 4 ≡ 0) × (denied_at (memory_of (spaces_lent old) old.space) (fetch_at address) ≡ Some at) × IsUnchanged (fetch_at address) old new
     × (after.owed ≡ before.owed)
 

@@ -258,33 +258,6 @@ fn step_owing(
     (steps, Outcome::Stepped)
 }
 
-/// The same, and each fetch is counted.
-fn step_up_to(
-    process: &mut Process,
-    view: &mut View,
-    lines: &mut DecodedLines,
-    most: u32,
-    stops: Option<&Addresses>,
-) -> (u32, Outcome)
-    requires runs { process.old.state ≡ ProcessState.Running }
-    requires ready { IsReadyView view.old }
-    ensures loan { view.new.memory.ghost_name ≡ view.old.memory.ghost_name }
-    ensures space { view.new.space ≡ view.old.space }
-    ensures steps { result.0
-        ≡ (executions (stops_in stops.entry) view.old.space most (guest_lent view.old process.old)).steps }
-    ensures outcome { result.1
-        ≡ (executions (stops_in stops.entry) view.old.space most (guest_lent view.old process.old)).outcome }
-    ensures after { guest_lent view.new process.new
-        ≡ all_executed (stops_in stops.entry) view.old.space most (guest_lent view.old process.old) }
-    ensures saved { process.new.saved ≡ process.old.saved }
-    ensures beside { IsBeside view.old.space (spaces_lent view.old) (spaces_lent view.new) }
-{
-    let mut hand = Hand::none(process.regs.pc());
-    let came = step_owing(process, view, lines, &mut hand, most, stops);
-    hand.pay(view);
-    came
-}
-
 /// Executes up to so many instructions in space `p`, which is there, as long as each is a step and leaves the pc at no stop.
 /// Answers how many were steps, and what came of the last one.
 #[inline]
@@ -308,5 +281,8 @@ pub(crate) fn execute_up_to(
     ensures beside { IsBeside p (state_of memory.old) (state_of memory.new) }
 {
     let mut view = View { memory, space: p };
-    step_up_to(process, &mut view, lines, most, stops)
+    let mut hand = Hand::none(process.regs.pc());
+    let came = step_owing(process, &mut view, lines, &mut hand, most, stops);
+    hand.pay(&mut view);
+    came
 }

@@ -4,7 +4,7 @@ ghost use Rattle.std.specs.Prelude.{◌≡◌, ◌+◌, ◌^◌, ◌<◌, ◌≤
 ghost use Rattle.sizes.specs.declared.TheConstants.{LINE_BYTES};
 ghost use Rattle.machine_core.specs.Access.{IsReadyView, IsSameLoan, lists_lent, spaces_lent};
 ghost use Rattle.machine_core.specs.Ahead.{ahead};
-ghost use Rattle.machine_core.specs.Held.{Fetches, IsInHand, Reaches, distance, is_apart, left_at, left_by};
+ghost use Rattle.machine_core.specs.Held.{TakesWord, IsInHand, Reaches, distance, is_apart, left_at, left_by};
 
 use crate::view::{View, denied};
 use bitflags::Flags;
@@ -115,7 +115,7 @@ fn reach(memory: &mut OverlayMemory, space: u16, lines: &mut DecodedLines, pc: u
     }
 }
 
-/// Fetches the word at pc, out of the line in hand where that is its line. Answers where its meaning stands, or why it may not be fetched.
+/// TakesWord the word at pc, out of the line in hand where that is its line. Answers where its meaning stands, or why it may not be fetched.
 #[inline]
 pub(crate) fn fetch(
     view: &mut View,
@@ -127,7 +127,7 @@ pub(crate) fn fetch(
     requires hand { IsInHand lines.old view.old hand.old pc }
     requires few { hand.old.owed + 1 < 2 ^ 32 }
     ensures ready { IsReadyView view.new }
-    ensures fetched { Fetches view.old view.new lines.new hand.old hand.new pc result }
+    ensures fetched { TakesWord view.old view.new lines.new hand.old hand.new pc result }
 {
     let place = pc.wrapping_sub(hand.start);
     if place < LINE_BYTES as u64 && place % 4 == 0 {

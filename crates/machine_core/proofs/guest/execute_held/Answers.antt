@@ -4,14 +4,14 @@ use Rattle.rv_execute.specs.Execution.{execution, full_in}
 use Rattle.machine_core.specs.Access.{spaces_lent}
 use Rattle.machine_core.specs.declared.hand.Hand.{Hand}
 use Rattle.std.specs.Prelude.{Err}
-use Rattle.machine_core.specs.Held.{Fetches, Makes}
+use Rattle.machine_core.specs.Held.{TakesWord, Makes}
 use Rattle.machine_core.proofs.Executing.{done_illegal, done_known, few_owed, hand_known, low_registers, made_denied, made_illegal, made_known, owed_left}
 use Rattle.machine_core.proofs.guest.execute_held.Goals as goal
 
 pub returns-in-Err-Denied-clause-made : goal.returns-in-Err-Denied-clause-made
 returns-in-Err-Denied-clause-made c =
     made_denied c.args.regs.now c.pc-pc.result c.in-Err-Denied.address c.args.hand.now.owed c.fetch.new.hand.owed c.args.view.now c.fetch.new.view c.pc-pc.ensures
-    (subst (λ refusal. Fetches c.args.view.now c.fetch.new.view c.fetch.new.lines c.args.hand.now c.fetch.new.hand c.pc-pc.result (Err refusal)) c.in-Err-Denied.field-0-is
+    (subst (λ refusal. TakesWord c.args.view.now c.fetch.new.view c.fetch.new.lines c.args.hand.now c.fetch.new.hand c.pc-pc.result (Err refusal)) c.in-Err-Denied.field-0-is
     c.in-Err-Denied.ensures.fetched)
 
 pub action_on-action-requires-clause-rs1 : goal.action_on-action-requires-clause-rs1
