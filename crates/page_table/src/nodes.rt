@@ -44,17 +44,17 @@ impl Rows {
         self.first.wrapping_add(self.n).wrapping_sub(1)
     }
 
-    /// The place of a slot, where the slots of the first row and of the last one are these: those between have each digit, or lie as
-    /// evenly as digits do.
+    /// The place of a slot, where the slots of the first row and of the last one are these, and those between lie evenly.
     #[inline]
     pub(crate) fn between(&self, slot: u64, from: u64, to: u64) -> usize {
-        if slot <= from {
+        if slot <= from || to <= from {
             return self.first;
         }
-        let part = if to.wrapping_sub(from) < self.n as u64 {
+        let n = self.n as u64;
+        let part = if to - from < n {
             slot - from
         } else {
-            (slot % TABLE_SLOTS).wrapping_mul(self.n as u64) / TABLE_SLOTS
+            (slot - from).wrapping_mul(n.wrapping_sub(1)) / (to - from)
         };
         self.first.wrapping_add(part as usize)
     }
