@@ -293,7 +293,12 @@ impl OverlayMemory {
     /// As `load` with the need X, of the four bytes at an address that is a multiple of 4, but that it fills `line` with the line in which
     /// they lie.
     #[inline(never)]
-    pub fn fetch(&mut self, space: u16, address: u64, line: &mut [u8; 64]) -> Result<(), MemoryError>
+    pub fn fetch(
+        &mut self,
+        space: u16,
+        address: u64,
+        line: &mut [u8; 64],
+    ) -> Result<(), MemoryError>
         requires aligned { address % 4 ≡ 0 }
         ensures access { Reads (state_of self.old) space executable address 4 result }
         ensures line { OnOk result (IsCodeLine self.new space address line.new) }

@@ -27,6 +27,3 @@ mod table;
 pub use entry::PageEntry;
 pub use run::PageRun;
 pub use table::PageTable;
-
-#[cfg(test)]
-mod tests;

@@ -26,9 +26,11 @@ pub returns-else-contains-clause-access : goal.returns-else-contains-clause-acce
 returns-else-contains-clause-access c =
     let view = c.args.pages.now in
     let at = c.in-Some.ensures.found in
-    reads_of view c.args.space executable c.args.address 4 (Err (Forbidden c.args.address)) (omega arith) (omega (arith, c.requires.aligned))
-    (refl, may_not_be_used view c.args.space c.args.address c.line_of.result c.in-Some.page c.line.result at c.line_of.ensures.line (c.line.ensures view at.is) executable
-    (sym (c.contains.ensures tt) ∙ c.if-contains.false))
+    reads_of view c.args.space executable c.args.address 4 (Err (Forbidden c.args.address)) (omega arith) (omega (arith, c.requires.aligned)) (
+      refl,
+      may_not_be_used view c.args.space c.args.address c.line_of.result c.in-Some.page c.line.result at c.line_of.ensures.line (c.line.ensures view at.is) executable
+          (sym (c.contains.ensures tt) ∙ c.if-contains.false),
+    )
 
 pub returns-in-None-clause-access : goal.returns-in-None-clause-access
 returns-in-None-clause-access c =
