@@ -4,7 +4,7 @@ ghost use Rattle.std.specs.Prelude.{◌≡◌, ◌+◌, ◌^◌, ◌<◌, ◌≤
 ghost use Rattle.sizes.specs.declared.TheConstants.{LINE_BYTES};
 ghost use Rattle.machine_core.specs.Access.{IsReadyView, IsSameLoan, lists_lent, spaces_lent};
 ghost use Rattle.machine_core.specs.Ahead.{ahead};
-ghost use Rattle.machine_core.specs.Held.{TakesWord, IsInHand, Reaches, distance, is_apart, left_at, left_by};
+ghost use Rattle.machine_core.specs.Held.{IsInHand, Reaches, TakesWord, distance, is_apart, left_at, left_by};
 
 use crate::view::{View, denied};
 use bitflags::Flags;
@@ -115,7 +115,7 @@ fn reach(memory: &mut OverlayMemory, space: u16, lines: &mut DecodedLines, pc: u
     }
 }
 
-/// TakesWord the word at pc, out of the line in hand where that is its line. Answers where its meaning stands, or why it may not be fetched.
+/// Fetches the word at pc, out of the line in hand where that is its line. Answers where its meaning stands, or why it may not be fetched.
 #[inline]
 pub(crate) fn fetch(
     view: &mut View,

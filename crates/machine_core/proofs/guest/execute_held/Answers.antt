@@ -4,7 +4,7 @@ use Rattle.rv_execute.specs.Execution.{execution, full_in}
 use Rattle.machine_core.specs.Access.{spaces_lent}
 use Rattle.machine_core.specs.declared.hand.Hand.{Hand}
 use Rattle.std.specs.Prelude.{Err}
-use Rattle.machine_core.specs.Held.{TakesWord, Makes}
+use Rattle.machine_core.specs.Held.{Makes, TakesWord}
 use Rattle.machine_core.proofs.Executing.{done_illegal, done_known, few_owed, hand_known, low_registers, made_denied, made_illegal, made_known, owed_left}
 use Rattle.machine_core.proofs.guest.execute_held.Goals as goal
 

@@ -8,53 +8,61 @@ use Rattle.machine_core.proofs.Ahead.{begun}
 use Rattle.machine_core.proofs.Stepping.{IsLast, last_in, step_in, still_runs, stop_in}
 use Rattle.machine_core.proofs.guest.step_owing.Goals as goal
 
-pub returns-in-Asked-clause-steps : goal.returns-in-Asked-clause-steps
-returns-in-Asked-clause-steps c =
+-- one that is no step
+
+asked_last : (c : goal.In-Asked) → IsLast (executions (stops_in c.args.stops) c.args.view.now.space c.args.most (guest_lent c.args.view.now c.args.process.now)) c.stepping.steps Asked
+    (guest_ahead c.execute_one.new.hand.owed (guest_lent c.execute_one.new.view c.execute_one.new.process))
+asked_last c =
     let p = c.args.view.now.space in
     let all = executions (stops_in c.args.stops) p c.args.most (guest_lent c.args.view.now c.args.process.now) in
-    (last_in (stops_in c.args.stops) p c.stepping.view.space c.stepping.invariant.space Asked all c.args.most c.stepping.steps (guest_ahead c.stepping.hand.owed (guest_lent c.stepping.view c.stepping.process))
-    (guest_ahead c.execute_one.new.hand.owed (guest_lent c.execute_one.new.view c.execute_one.new.process)) (omega (arith, c.stepping-test.true)) c.stepping.invariant.all
-    c.in-Asked.ensures.outcome (λ same. cc) c.in-Asked.ensures.after).steps
+    last_in (stops_in c.args.stops) p c.stepping.view.space c.stepping.invariant.space Asked all c.args.most c.stepping.steps
+    (guest_ahead c.stepping.hand.owed (guest_lent c.stepping.view c.stepping.process)) (guest_ahead c.execute_one.new.hand.owed (guest_lent c.execute_one.new.view c.execute_one.new.process))
+    (omega (arith, c.stepping-test.true)) c.stepping.invariant.all c.in-Asked.ensures.outcome (λ same. cc) c.in-Asked.ensures.after
+
+pub returns-in-Asked-clause-steps : goal.returns-in-Asked-clause-steps
+returns-in-Asked-clause-steps c = (asked_last c).steps
 
 pub returns-in-Asked-clause-outcome : goal.returns-in-Asked-clause-outcome
-returns-in-Asked-clause-outcome c =
-    let p = c.args.view.now.space in
-    let all = executions (stops_in c.args.stops) p c.args.most (guest_lent c.args.view.now c.args.process.now) in
-    (last_in (stops_in c.args.stops) p c.stepping.view.space c.stepping.invariant.space Asked all c.args.most c.stepping.steps (guest_ahead c.stepping.hand.owed (guest_lent c.stepping.view c.stepping.process))
-    (guest_ahead c.execute_one.new.hand.owed (guest_lent c.execute_one.new.view c.execute_one.new.process)) (omega (arith, c.stepping-test.true)) c.stepping.invariant.all
-    c.in-Asked.ensures.outcome (λ same. cc) c.in-Asked.ensures.after).outcome_is
+returns-in-Asked-clause-outcome c = (asked_last c).outcome_is
 
 pub returns-in-Asked-clause-after : goal.returns-in-Asked-clause-after
-returns-in-Asked-clause-after c =
+returns-in-Asked-clause-after c = (asked_last c).after_is
+
+fault_last : (c : goal.In-Fault) → IsLast (executions (stops_in c.args.stops) c.args.view.now.space c.args.most (guest_lent c.args.view.now c.args.process.now)) c.stepping.steps (Fault c.in-Fault.kind c.in-Fault.address)
+    (guest_ahead c.execute_one.new.hand.owed (guest_lent c.execute_one.new.view c.execute_one.new.process))
+fault_last c =
     let p = c.args.view.now.space in
     let all = executions (stops_in c.args.stops) p c.args.most (guest_lent c.args.view.now c.args.process.now) in
-    (last_in (stops_in c.args.stops) p c.stepping.view.space c.stepping.invariant.space Asked all c.args.most c.stepping.steps (guest_ahead c.stepping.hand.owed (guest_lent c.stepping.view c.stepping.process))
-    (guest_ahead c.execute_one.new.hand.owed (guest_lent c.execute_one.new.view c.execute_one.new.process)) (omega (arith, c.stepping-test.true)) c.stepping.invariant.all
-    c.in-Asked.ensures.outcome (λ same. cc) c.in-Asked.ensures.after).after_is
+    last_in (stops_in c.args.stops) p c.stepping.view.space c.stepping.invariant.space (Fault c.in-Fault.kind c.in-Fault.address) all c.args.most c.stepping.steps
+    (guest_ahead c.stepping.hand.owed (guest_lent c.stepping.view c.stepping.process)) (guest_ahead c.execute_one.new.hand.owed (guest_lent c.execute_one.new.view c.execute_one.new.process))
+    (omega (arith, c.stepping-test.true)) c.stepping.invariant.all c.in-Fault.ensures.outcome (λ same. cc) c.in-Fault.ensures.after
+
+pub returns-in-Fault-clause-steps : goal.returns-in-Fault-clause-steps
+returns-in-Fault-clause-steps c = (fault_last c).steps
+
+pub returns-in-Fault-clause-outcome : goal.returns-in-Fault-clause-outcome
+returns-in-Fault-clause-outcome c = (fault_last c).outcome_is
+
+pub returns-in-Fault-clause-after : goal.returns-in-Fault-clause-after
+returns-in-Fault-clause-after c = (fault_last c).after_is
+
+full_last : (c : goal.In-Full) → IsLast (executions (stops_in c.args.stops) c.args.view.now.space c.args.most (guest_lent c.args.view.now c.args.process.now)) c.stepping.steps (Full c.in-Full.units c.in-Full.limit)
+    (guest_ahead c.execute_one.new.hand.owed (guest_lent c.execute_one.new.view c.execute_one.new.process))
+full_last c =
+    let p = c.args.view.now.space in
+    let all = executions (stops_in c.args.stops) p c.args.most (guest_lent c.args.view.now c.args.process.now) in
+    last_in (stops_in c.args.stops) p c.stepping.view.space c.stepping.invariant.space (Full c.in-Full.units c.in-Full.limit) all c.args.most c.stepping.steps
+    (guest_ahead c.stepping.hand.owed (guest_lent c.stepping.view c.stepping.process)) (guest_ahead c.execute_one.new.hand.owed (guest_lent c.execute_one.new.view c.execute_one.new.process))
+    (omega (arith, c.stepping-test.true)) c.stepping.invariant.all c.in-Full.ensures.outcome (λ same. cc) c.in-Full.ensures.after
 
 pub returns-in-Full-clause-steps : goal.returns-in-Full-clause-steps
-returns-in-Full-clause-steps c =
-    let p = c.args.view.now.space in
-    let all = executions (stops_in c.args.stops) p c.args.most (guest_lent c.args.view.now c.args.process.now) in
-    (last_in (stops_in c.args.stops) p c.stepping.view.space c.stepping.invariant.space (Full c.in-Full.units c.in-Full.limit) all c.args.most c.stepping.steps (guest_ahead c.stepping.hand.owed (guest_lent c.stepping.view c.stepping.process))
-    (guest_ahead c.execute_one.new.hand.owed (guest_lent c.execute_one.new.view c.execute_one.new.process)) (omega (arith, c.stepping-test.true)) c.stepping.invariant.all
-    c.in-Full.ensures.outcome (λ same. cc) c.in-Full.ensures.after).steps
+returns-in-Full-clause-steps c = (full_last c).steps
 
 pub returns-in-Full-clause-outcome : goal.returns-in-Full-clause-outcome
-returns-in-Full-clause-outcome c =
-    let p = c.args.view.now.space in
-    let all = executions (stops_in c.args.stops) p c.args.most (guest_lent c.args.view.now c.args.process.now) in
-    (last_in (stops_in c.args.stops) p c.stepping.view.space c.stepping.invariant.space (Full c.in-Full.units c.in-Full.limit) all c.args.most c.stepping.steps (guest_ahead c.stepping.hand.owed (guest_lent c.stepping.view c.stepping.process))
-    (guest_ahead c.execute_one.new.hand.owed (guest_lent c.execute_one.new.view c.execute_one.new.process)) (omega (arith, c.stepping-test.true)) c.stepping.invariant.all
-    c.in-Full.ensures.outcome (λ same. cc) c.in-Full.ensures.after).outcome_is
+returns-in-Full-clause-outcome c = (full_last c).outcome_is
 
 pub returns-in-Full-clause-after : goal.returns-in-Full-clause-after
-returns-in-Full-clause-after c =
-    let p = c.args.view.now.space in
-    let all = executions (stops_in c.args.stops) p c.args.most (guest_lent c.args.view.now c.args.process.now) in
-    (last_in (stops_in c.args.stops) p c.stepping.view.space c.stepping.invariant.space (Full c.in-Full.units c.in-Full.limit) all c.args.most c.stepping.steps (guest_ahead c.stepping.hand.owed (guest_lent c.stepping.view c.stepping.process))
-    (guest_ahead c.execute_one.new.hand.owed (guest_lent c.execute_one.new.view c.execute_one.new.process)) (omega (arith, c.stepping-test.true)) c.stepping.invariant.all
-    c.in-Full.ensures.outcome (λ same. cc) c.in-Full.ensures.after).after_is
+returns-in-Full-clause-after c = (full_last c).after_is
 
 pub stepping-preserved : goal.stepping-preserved
 stepping-preserved c =
@@ -105,30 +113,6 @@ returns-then-is_stop-clause-outcome c = (stopped c).outcome_is
 
 pub returns-then-is_stop-clause-after : goal.returns-then-is_stop-clause-after
 returns-then-is_stop-clause-after c = (stopped c).after_is
-
-pub returns-in-Fault-clause-outcome : goal.returns-in-Fault-clause-outcome
-returns-in-Fault-clause-outcome c =
-    let p = c.args.view.now.space in
-    let all = executions (stops_in c.args.stops) p c.args.most (guest_lent c.args.view.now c.args.process.now) in
-    (last_in (stops_in c.args.stops) p c.stepping.view.space c.stepping.invariant.space (Fault c.in-Fault.kind c.in-Fault.address) all c.args.most c.stepping.steps
-    (guest_ahead c.stepping.hand.owed (guest_lent c.stepping.view c.stepping.process)) (guest_ahead c.execute_one.new.hand.owed (guest_lent c.execute_one.new.view c.execute_one.new.process)) (omega (arith, c.stepping-test.true)) c.stepping.invariant.all
-    c.in-Fault.ensures.outcome (λ same. cc) c.in-Fault.ensures.after).outcome_is
-
-pub returns-in-Fault-clause-steps : goal.returns-in-Fault-clause-steps
-returns-in-Fault-clause-steps c =
-    let p = c.args.view.now.space in
-    let all = executions (stops_in c.args.stops) p c.args.most (guest_lent c.args.view.now c.args.process.now) in
-    (last_in (stops_in c.args.stops) p c.stepping.view.space c.stepping.invariant.space (Fault c.in-Fault.kind c.in-Fault.address) all c.args.most c.stepping.steps
-    (guest_ahead c.stepping.hand.owed (guest_lent c.stepping.view c.stepping.process)) (guest_ahead c.execute_one.new.hand.owed (guest_lent c.execute_one.new.view c.execute_one.new.process)) (omega (arith, c.stepping-test.true)) c.stepping.invariant.all
-    c.in-Fault.ensures.outcome (λ same. cc) c.in-Fault.ensures.after).steps
-
-pub returns-in-Fault-clause-after : goal.returns-in-Fault-clause-after
-returns-in-Fault-clause-after c =
-    let p = c.args.view.now.space in
-    let all = executions (stops_in c.args.stops) p c.args.most (guest_lent c.args.view.now c.args.process.now) in
-    (last_in (stops_in c.args.stops) p c.stepping.view.space c.stepping.invariant.space (Fault c.in-Fault.kind c.in-Fault.address) all c.args.most c.stepping.steps
-    (guest_ahead c.stepping.hand.owed (guest_lent c.stepping.view c.stepping.process)) (guest_ahead c.execute_one.new.hand.owed (guest_lent c.execute_one.new.view c.execute_one.new.process)) (omega (arith, c.stepping-test.true)) c.stepping.invariant.all
-    c.in-Fault.ensures.outcome (λ same. cc) c.in-Fault.ensures.after).after_is
 
 pub stepping-init : goal.stepping-init
 stepping-init c = record {
