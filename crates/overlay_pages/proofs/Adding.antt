@@ -1,19 +1,7 @@
-use Rattle.std.proofs.Common.{◌≡◌, ℕ, ◌+◌, ◌<◌, ◌≤◌, true, false, IfSome, IsSome, IsTrue, List, Option, Some, None, is_some, refl, option_and_then, sym, ap, subst, ◌∙◌, arith}
-use Rattle.std.proofs.lemmas.Bool.Decides.{nat_tests}
-use Rattle.std.specs.FinMap.{empty}
-use Rattle.sizes.specs.declared.TheConstants.{FRAME_UNITS, PAGE_END}
-use Rattle.unit_map.specs.Pieces.{free_units}
-use Rattle.page_table.specs.Table.{is_within}
-use Rattle.page_table.specs.declared.entry.PageEntry.{PageEntry}
-use Rattle.ledger.specs.Ledger.{Ledger, is_alone}
-use Rattle.space_maps.specs.Laws.{keeps_page_put, page_put_here}
-use Rattle.space_maps.specs.Spaces.{holds_space, page_in, put_page, put_space, space_in}
-use Rattle.space_ledger.specs.View.{LedgerView, PageView, ledger_of, overlay_at, with_zero_pages}
-use Rattle.overlay_pages.specs.Lines.{zero_page}
-use Rattle.overlay_pages.specs.State.{State}
-use Rattle.overlay_pages.specs.Changes.{IsPlaced, limit_of, moved_to, units_of, whole_page}
-use Rattle.overlay_pages.specs.View.{IsJoined, MemoryView, state_of, view_of}
-use Rattle.overlay_pages.specs.ViewLaws.{state_awaiting, state_books, state_holds, state_zero}
+use Rattle.overlay_pages.proofs.Common.{◌≡◌, ℕ, ◌+◌, ◌<◌, ◌≤◌, true, false, IfSome, IsSome, IsTrue, List, Option, Some, None, is_some, refl, option_and_then, sym, ap, subst, ◌∙◌, arith, nat_tests, empty, FRAME_UNITS, PAGE_END}
+use Rattle.overlay_pages.proofs.Stores.{free_units}
+use Rattle.overlay_pages.proofs.Books.{is_within, PageEntry, Ledger, is_alone, keeps_page_put, page_put_here, holds_space, page_in, put_page, put_space, space_in, LedgerView, PageView, ledger_of, overlay_at, with_zero_pages}
+use Rattle.overlay_pages.proofs.Views.{zero_page, State, IsPlaced, limit_of, moved_to, units_of, whole_page, IsJoined, MemoryView, state_of, view_of, state_awaiting, state_books, state_holds, state_zero}
 use Rattle.overlay_pages.proofs.Growing.{free_is}
 use Rattle.overlay_pages.proofs.Tables.{none_back}
 use Rattle.overlay_pages.proofs.Zeros.{zeros_joined}

@@ -1,29 +1,8 @@
-use Rattle.std.proofs.Common.{◌≡◌, ℕ, ◌+◌, ◌*◌, ◌<◌, ◌≤◌, Bool, true, false, cond, nat_eq, List, [], ◌∷◌, ◌++◌, Option, Some, None, IsSome, is_some, length, slice_set, refl, sym, ap, subst, ◌∙◌, arith}
-use Rattle.std.proofs.lemmas.Option.{same_Some}
-use Rattle.std.specs.Option.{option_map}
+use Rattle.overlay_pages.proofs.Common.{◌≡◌, ℕ, ◌+◌, ◌*◌, ◌<◌, ◌≤◌, true, false, List, [], ◌∷◌, ◌++◌, Option, Some, IsSome, is_some, length, slice_set, refl, sym, ap, subst, ◌∙◌, arith, same_Some, option_map}
+use Rattle.overlay_pages.proofs.Stores.{AreLines, has_line, has_next, with_there, Entry, frame_line, frame_inside, units_in}
+use Rattle.overlay_pages.proofs.Books.{with_line, with_lines, class, class_le, longer, PageEntry, map_from, by_option, page_again, page_put_here, page_in, put_page, turned_page, put_same, PageView, lines_of, overlay_at}
+use Rattle.overlay_pages.proofs.Views.{page_lines, PageState, Fits, brought, limit_of, units_of, joins, IsJoined, MemoryView, line_seen, page_state, state_of, state_page_some, state_page_there}
 use Rattle.overlay_bits.specs.Lines as bits
-use Rattle.overlay_bits.specs.Lines.{AreLines, has_line}
-use Rattle.overlay_bits.specs.Laws.{has_next, with_there}
-use Rattle.overlay_mapping_table.specs.declared.entry.Entry.{Entry}
-use Rattle.ledger.specs.Changes.{with_line, with_lines}
-use Rattle.ledger.specs.Units.{class}
-use Rattle.ledger.specs.ClassLaws.{class_le}
-use Rattle.ledger.specs.StoreLaws.{longer}
-use Rattle.segment_store.specs.Store.{frame_line}
-use Rattle.segment_store.specs.Laws.{frame_inside}
-use Rattle.unit_map.specs.Pieces.{units_in}
-use Rattle.page_table.specs.declared.entry.PageEntry.{PageEntry}
-use Rattle.space_maps.specs.Options.{map_from, by_option}
-use Rattle.space_maps.specs.Laws.{page_again, page_put_here}
-use Rattle.space_maps.specs.Spaces.{page_in, put_page, turned_page}
-use Rattle.space_ledger.specs.Joined.{put_same}
-use Rattle.space_ledger.specs.View.{PageView, lines_of, overlay_at}
-use Rattle.overlay_pages.specs.Lines.{page_lines}
-use Rattle.overlay_pages.specs.State.{PageState}
-use Rattle.overlay_pages.specs.Changes.{Fits, brought, limit_of, units_of}
-use Rattle.overlay_pages.specs.Steps.{joins}
-use Rattle.overlay_pages.specs.View.{IsJoined, MemoryView, line_seen, page_state, state_of}
-use Rattle.overlay_pages.specs.ViewLaws.{state_page_some, state_page_there}
 use Rattle.overlay_pages.proofs.Steps.{seen_outside, set_lines}
 use Rattle.overlay_pages.proofs.Joining.{Has, page_with, sets_are}
 use Rattle.overlay_pages.proofs.Growing.{turn_is, turned_limit, turned_twice, turned_units}

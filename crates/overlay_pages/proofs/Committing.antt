@@ -1,51 +1,23 @@
-use Rattle.std.proofs.Common.{option_map, ◌≡◌, ℕ, ◌+◌, ◌*◌, ◌<◌, ◌≤◌, Bool, true, false, cond, List, [], Option, Some, None, IfSome, IsSome, drop, take, get_or, refl, sym, ap, subst, ◌∙◌, arith}
-use Rattle.std.proofs.lemmas.Option.{same_Some}
-use Rattle.std.specs.FinMap.{empty}
-use Rattle.overlay_bits.specs.Lines.{has_line}
-use Rattle.overlay_bits.specs.Composed.{composed, composed_at}
-use Rattle.overlay_mapping_table.specs.declared.entry.Entry.{Entry}
-use Rattle.ledger.specs.Ledger.{Ledger, has_origin, holding_at, is_alone}
-use Rattle.ledger.specs.PlaceLaws.{put_again}
-use Rattle.ledger.specs.ClassLaws.{class_none}
-use Rattle.ledger.specs.AloneLaws.{origin_with, unused_from, unused_parts}
-use Rattle.segment_store.specs.Store.{Store, IsFrame, frame_line, frame_page, frame_place, line_in, place_of, scratch_line, scratch_page, segment_at}
-use Rattle.segment_store.specs.Changes.{KeepsFrames}
-use Rattle.space_maps.specs.Books.{books_page, books_put_page}
-use Rattle.space_maps.specs.Laws.{keeps_page_put, page_again, page_over, page_put_here, there_space}
-use Rattle.space_maps.specs.Spaces.{page_in, put_page, space_in, turned_page}
-use Rattle.space_ledger.specs.View.{LedgerView, PageView, ledger_of, lines_of, overlay_at}
-use Rattle.overlay_pages.specs.Lines.{line_in_page, page_lines, same_lines}
-use Rattle.overlay_pages.specs.LineLaws.{lines_same}
-use Rattle.overlay_pages.specs.State.{PageState, State, books, held_page}
-use Rattle.overlay_pages.specs.Changes.{HasCopyRoom, IsNewFrame, IsPlaced, committed, copied, discarded, limit_of, moved_to, units_of}
-use Rattle.overlay_pages.specs.Steps.{FillsFrame}
-use Rattle.overlay_pages.specs.View.{IsHeld, IsJoined, MemoryView, line_seen, page_state, segment_of, state_of, view_of}
-use Rattle.overlay_pages.specs.ViewLaws.{state_awaiting, state_books, state_holds, state_page_there}
-use Rattle.overlay_pages.proofs.Steps.{Rewrites, rewritten_joined, rewritten_state, seen_bare, seen_inside, seen_outside}
+use Rattle.overlay_pages.proofs.Common.{option_map, ◌≡◌, ℕ, ◌+◌, ◌*◌, ◌<◌, ◌≤◌, Bool, true, false, cond, List, [], Option, Some, None, IfSome, IsSome, drop, take, get_or, refl, sym, ap, subst, ◌∙◌, arith, same_Some, empty}
+use Rattle.overlay_pages.proofs.Stores.{has_line, composed, composed_at, Entry, Store, frame_line, frame_page, line_in, scratch_line, scratch_page, KeepsFrames}
+use Rattle.overlay_pages.proofs.Books.{Ledger, has_origin, holding_at, is_alone, put_again, class_none, origin_with, books_page, books_put_page, keeps_page_put, page_again, page_over, page_put_here, there_space, page_in, put_page, space_in, turned_page, LedgerView, PageView, ledger_of, lines_of, overlay_at}
+use Rattle.overlay_pages.proofs.Views.{line_in_page, page_lines, same_lines, lines_same, PageState, State, books, held_page, HasCopyRoom, IsNewFrame, IsPlaced, committed, copied, discarded, limit_of, moved_to, units_of, FillsFrame, IsHeld, IsJoined, MemoryView, line_seen, page_state, state_of, view_of, state_awaiting, state_books, state_holds, state_page_there}
+use Rattle.overlay_pages.proofs.Steps.{alone_other, rewritten, seen_bare, seen_inside, seen_outside}
 use Rattle.overlay_pages.proofs.Joining.{Has, page_with}
 use Rattle.overlay_pages.proofs.Growing.{turn_is, turned_units}
 use Rattle.overlay_pages.proofs.NewFrames.{new_still}
-use Rattle.overlay_pages.proofs.Lending.{alone_frame, alone_not_zero}
 
 -- A frame that is a page's alone is filled.
 
-module _ (v : MemoryView) (new : Store) (s p : ℕ) (x : PageView) (frame : ℕ) (is : IsJoined v) (there : page_in v.table s p ≡ Some x) (frame_is : x.entry.frame ≡ frame)
-    (alone : is_alone (ledger_of v.table) s p ≡ true) (fills : FillsFrame v.store new frame) where
-  fills_rewrites : Rewrites v new s p
-  fills_rewrites = record {
-    blocks = fills.blocks;
-    same = fills.same;
-    store = fills.store;
-    segments = λ q r y e d at_y over. fills.segments e.block.unit (segment_of q r e) ((is.held q r y at_y).segment e over);
-    frames = λ q r y d at_y. fills.frames y.entry.frame (λ e. alone_frame v s p x q r y there alone at_y d (e ∙ sym frame_is)) (is.held q r y at_y).frame;
-    zero = fills.frames v.table.zero_frame (λ e. alone_not_zero v s p x there alone (frame_is ∙ sym e)) is.zero;
-  }
-
-  pub fills_joined : IsJoined (view_of new v.table)
-  fills_joined = rewritten_joined v new s p x is there fills_rewrites
-
-  pub fills_state : state_of (view_of new v.table) ≡ put_page (state_of v) s p (page_state new x)
-  fills_state = rewritten_state v new s p x is there fills_rewrites
+pub filled_up : (v : MemoryView) (new : Store) (s p : ℕ) (x : PageView) (frame : ℕ) → IsJoined v → page_in v.table s p ≡ Some x → x.entry.frame ≡ frame → is_alone (ledger_of v.table) s p ≡ true → FillsFrame v.store new frame
+    → IsJoined (view_of new v.table) × (state_of (view_of new v.table) ≡ put_page (state_of v) s p (page_state new x))
+filled_up v new s p x frame is there frame_is alone fills = rewritten v new s p x is there (record {
+  blocks = fills.blocks;
+  same = fills.same;
+  store = fills.store;
+  segments = λ unit segment _ at_unit. fills.segments unit segment at_unit;
+  frames = λ f taken other. fills.frames f (λ same. alone_other v.table s p x there alone f other (same ∙ sym frame_is)) taken;
+})
 
 -- The lines of the overlay are in the frame; once the overlay ended, the page is committed.
 pub committed_page : (old new : Store) (x : PageView) (e : Entry) (frame : ℕ) → x.overlay ≡ Some e → x.entry.frame ≡ frame
@@ -91,7 +63,7 @@ page_line n at i lines low = Rattle.std.proofs.lemmas.List.get_or-take n (drop a
 
 -- A page that has an overlay, as the state has it once that ended.
 module _ (a : MemoryView) (s p : ℕ) (e : Entry) (is : IsJoined a) (there : IsSome (page_in a.table s p)) (over : overlay_at a.table s p ≡ Some e) where
-  abbrev pub own : Has a.table s p (Some e)
+  abbrev own : Has a.table s p (Some e)
   own = page_with a.table s p there (Some e) over
 
   abbrev was : PageState

@@ -1,16 +1,6 @@
-use Rattle.std.proofs.Common.{◌≡◌, ℕ, ◌+◌, ◌*◌, ◌<◌, ◌≤◌, ◌⊎◌, ◌||◌, Bool, true, false, cond, List, [], ◌∷◌, ◌++◌, Option, Some, None, drop, take, length, get_or, refl, sym, ap, subst, ◌∙◌, arith, inl, inr}
-use Rattle.std.proofs.lemmas.Bool.{cases_eq}
-use Rattle.std.proofs.lemmas.Bool.Decides.{nat_tests}
-use Rattle.std.proofs.lemmas.List.{get_or-set_other}
-use Rattle.unit_map.specs.declared.block.Block.{Block}
-use Rattle.overlay_bits.specs.Lines.{AreLines, has_line}
-use Rattle.overlay_bits.specs.Laws.{has_next}
-use Rattle.overlay_bits.specs.Below.{has_append}
-use Rattle.segment_store.specs.Kept.{IsStore}
-use Rattle.segment_store.specs.Store.{Store, IsFrame, IsSegment, frame_line, frame_place, line_in, lines_at, with_frame_line, with_line_at}
-use Rattle.segment_store.specs.Changes.{KeepsSegments, block_of}
-use Rattle.segment_store.specs.Laws.{frame_alters, frame_inside, frame_set_here, frame_set_store, frame_stays, scratch_stays, segments_stay, stays_twice}
-use Rattle.overlay_pages.specs.Steps.{FillsFrame, PutsLine}
+use Rattle.overlay_pages.proofs.Common.{◌≡◌, ℕ, ◌+◌, ◌*◌, ◌<◌, ◌⊎◌, ◌||◌, Bool, true, false, cond, List, [], ◌∷◌, ◌++◌, None, refl, sym, ap, ◌∙◌, arith, inl, inr, cases_eq, nat_tests, get_or-set_other}
+use Rattle.overlay_pages.proofs.Stores.{Block, AreLines, has_line, has_next, has_append, IsStore, Store, IsFrame, IsSegment, frame_line, line_in, lines_at, with_frame_line, KeepsSegments, block_of, frame_alters, frame_inside, frame_set_here, frame_set_store, frame_stays, scratch_stays, segments_stay, stays_twice}
+use Rattle.overlay_pages.proofs.Views.{FillsFrame, PutsLine}
 
 -- A frame is filled.
 

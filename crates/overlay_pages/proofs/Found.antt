@@ -1,25 +1,7 @@
-use Rattle.std.proofs.Common.{◌≡◌, ℕ, ◌+◌, ◌*◌, ◌<◌, ◌≤◌, Bool, true, false, ◌||◌, ◌&&◌, not, List, Option, Some, None, refl, option_map, sym, ap, subst, ◌∙◌, arith}
-use Rattle.std.specs.Option.{option_and_then}
-use Rattle.sizes.specs.declared.TheConstants.{PAGE_LINES}
-use Rattle.overlay_bits.specs.Lines.{has_line}
-use Rattle.overlay_mapping_table.specs.declared.entry.Entry.{Entry}
-use Rattle.page_table.specs.declared.entry.PageEntry.{PageEntry}
-use Rattle.ledger.specs.Ledger.{is_alone}
-use Rattle.segment_store.specs.Laws.{frame_inside}
-use Rattle.space_maps.specs.Options.{map_from}
-use Rattle.space_maps.specs.Spaces.{page_in, space_in}
-use Rattle.space_ledger.specs.View.{PageView, frame_at, ledger_of, lines_of, overlay_at}
-use Rattle.unit_map.specs.declared.block.Block.{Block}
-use Rattle.overlay_pages.specs.declared.spots.FoundLine.{FoundLine}
-use Rattle.overlay_pages.specs.declared.spots.FoundPage.{FoundPage}
-use Rattle.overlay_pages.specs.declared.spots.Spot.{Spot}
-use Rattle.overlay_pages.specs.declared.spots.Spot.TheVariants.{Frame, Segment}
-use Rattle.overlay_pages.specs.Changes.{is_writable}
-use Rattle.overlay_pages.specs.Spots.{IsFound, IsFoundAt, IsFoundPage, IsFoundPageAt, IsSpot}
-use Rattle.overlay_pages.specs.SpotLaws.{found_at}
-use Rattle.overlay_pages.specs.State.{PageState}
-use Rattle.overlay_pages.specs.View.{IsJoined, MemoryView, page_state, state_of}
-use Rattle.overlay_pages.specs.ViewLaws.{state_page_there}
+use Rattle.overlay_pages.proofs.Common.{◌≡◌, ℕ, ◌<◌, Bool, true, false, ◌||◌, ◌&&◌, not, List, Option, Some, None, refl, option_map, sym, ap, subst, ◌∙◌, arith, option_and_then, PAGE_LINES}
+use Rattle.overlay_pages.proofs.Stores.{has_line, Entry, frame_inside, Block}
+use Rattle.overlay_pages.proofs.Books.{PageEntry, is_alone, map_from, page_in, space_in, PageView, frame_at, ledger_of, lines_of, overlay_at}
+use Rattle.overlay_pages.proofs.Views.{FoundLine, FoundPage, Spot, Frame, Segment, is_writable, IsFound, IsFoundAt, IsFoundPage, IsFoundPageAt, IsSpot, found_at, PageState, IsJoined, MemoryView, page_state, state_of, state_page_there}
 use Rattle.overlay_pages.proofs.Lending.{writable_outside, writable_segment}
 
 -- Pages and lines that were found, in the tables that they were found in.

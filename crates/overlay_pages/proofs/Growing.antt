@@ -1,33 +1,7 @@
-use Rattle.std.proofs.Common.{◌≡◌, ℕ, ◌+◌, ◌^◌, ◌<◌, ◌≤◌, Bool, true, false, cond, nat_eq, List, [], Option, Some, None, IsSome, is_some, length, slice_set, refl, sym, ap, subst, ◌∙◌, arith}
-use Rattle.std.specs.Option.{option_and_then, option_map, option_map_or}
-use Rattle.std.specs.FinMap.{get, insert}
-use Rattle.unit_map.specs.Pieces.{AreSettled, free_units, units_in}
-use Rattle.unit_map.specs.Changes.{HasRoom}
-use Rattle.unit_map.specs.Settled.{settled_room}
-use Rattle.overlay_bits.specs.Lines.{AreLines, has_line, with_line}
-use Rattle.overlay_bits.specs.Laws.{count_with}
-use Rattle.overlay_mapping_table.specs.declared.entry.Entry.{Entry}
-use Rattle.ledger.specs.Ledger.{Ledger}
-use Rattle.ledger.specs.Units.{class, units}
-use Rattle.ledger.specs.UnitLaws.{units_own}
-use Rattle.ledger.specs.ClassLaws.{class_none, class_one}
-use Rattle.segment_store.specs.Kept.{IsStore}
-use Rattle.segment_store.specs.Pointers.{capacity_of}
-use Rattle.segment_store.specs.Store.{Store, frame_line, line_in, scratch_line}
-use Rattle.segment_store.specs.Changes.{KeepsFrames, KeepsSegments}
-use Rattle.segment_store.specs.Laws.{count_fits}
-use Rattle.space_maps.specs.Options.{map_alike, by_option}
-use Rattle.space_maps.specs.Books.{books_page, books_put_page}
-use Rattle.space_maps.specs.Laws.{changed_there, keeps_still, page_over, page_put_here, spaces_alike}
-use Rattle.space_maps.specs.Spaces.{page_in, put_page, put_space, turned_page}
-use Rattle.space_ledger.specs.View.{LedgerView, PageView, ledger_of, lines_of, overlay_at}
-use Rattle.overlay_pages.specs.LineLaws.{lines_same, set_line}
-use Rattle.overlay_pages.specs.Lines.{page_lines}
-use Rattle.overlay_pages.specs.State.{PageState, State, books, held_page}
-use Rattle.overlay_pages.specs.Changes.{Fits, discarded, limit_of, units_of}
-use Rattle.overlay_pages.specs.Steps.{joins, laid, laid_line}
-use Rattle.overlay_pages.specs.View.{IsHeld, IsJoined, MemoryView, line_seen, page_state, segment_of, state_of, view_of}
-use Rattle.overlay_pages.specs.ViewLaws.{state_books, state_frames, state_page, state_page_some, state_page_there}
+use Rattle.overlay_pages.proofs.Common.{◌≡◌, ℕ, ◌+◌, ◌^◌, ◌<◌, ◌≤◌, Bool, true, false, cond, nat_eq, List, [], Option, Some, None, IsSome, is_some, length, slice_set, refl, sym, ap, subst, ◌∙◌, arith, option_map, option_map_or}
+use Rattle.overlay_pages.proofs.Stores.{AreSettled, free_units, units_in, HasRoom, settled_room, AreLines, has_line, with_line, count_with, Entry, IsStore, capacity_of, Store, frame_line, line_in, scratch_line, KeepsFrames, KeepsSegments, count_fits}
+use Rattle.overlay_pages.proofs.Books.{Ledger, class, units, units_own, class_none, class_one, map_alike, by_option, books_page, books_put_page, changed_there, keeps_still, page_over, page_put_here, spaces_alike, page_in, put_page, put_space, turned_page, LedgerView, PageView, lines_of, overlay_at}
+use Rattle.overlay_pages.proofs.Views.{lines_same, set_line, page_lines, PageState, State, books, held_page, Fits, discarded, limit_of, units_of, joins, laid, laid_line, IsHeld, IsJoined, MemoryView, line_seen, page_state, segment_of, state_of, view_of, state_books, state_frames, state_page, state_page_some, state_page_there}
 use Rattle.overlay_pages.proofs.Steps.{held_kept, page_kept, seen_bare, seen_inside, seen_outside, state_keeps}
 use Rattle.overlay_pages.proofs.Joining.{Has, order_low, overlay_segment, overlay_set, page_with, sets_are}
 use Rattle.overlay_pages.proofs.Sizes.{can_grow, next_place, next_size}

@@ -1,35 +1,10 @@
-use Rattle.std.proofs.Common.{option_and_then, ◌≡◌, ℕ, ◌+◌, ◌*◌, ◌^◌, ◌<◌, ◌≤◌, ◌||◌, Bool, true, false, cond, nat_eq, List, [], Option, Some, None, IsSome, length, get_or, slice_index_or, slice_set, refl, true≢false, sym, ap, subst, ◌∙◌, arith, pow_pos}
-use Rattle.std.proofs.lemmas.Bool.Decides.{nat_tests}
-use Rattle.std.proofs.lemmas.Option.{none-some, same_Some}
-use Rattle.std.proofs.lemmas.List.{get_or-set_other, get_or-set_same}
-use Rattle.unit_map.specs.Pieces.{AreSettled, CanSettle, free_units, units_in}
-use Rattle.unit_map.specs.declared.block.Block.{Block}
-use Rattle.overlay_bits.specs.Lines.{AreLines, has_line, with_line}
-use Rattle.overlay_bits.specs.Laws.{count_with, has_with}
-use Rattle.overlay_address.specs.Names.{overlay_page}
-use Rattle.overlay_mapping_table.specs.declared.entry.Entry.{Entry}
-use Rattle.ledger.specs.AloneLaws.{are}
-use Rattle.ledger.specs.Units.{class, overlaid_pages}
-use Rattle.ledger.specs.TallyLaws.{overlaid_few}
-use Rattle.ledger.specs.ClassLaws.{class_none}
-use Rattle.segment_store.specs.declared.segment.Segment.{Segment}
-use Rattle.segment_store.specs.Kept.{IsStore}
-use Rattle.segment_store.specs.Pointers.{capacity_of}
-use Rattle.segment_store.specs.Store.{Store, IsSegment, frame_line, line_in, lines_at, lines_with, scratch_line, segment_at}
-use Rattle.segment_store.specs.Changes.{Begins, Ends, HasLinesNow, Inserts, KeepsFrame, KeepsFrames, KeepsOtherSegments, KeepsScratch, KeepsSegments, Lays, block_of}
-use Rattle.segment_store.specs.Laws.{inside_of, lines_there, order_of, refilled, stays_twice}
+use Rattle.overlay_pages.proofs.Common.{option_and_then, ◌≡◌, ℕ, ◌+◌, ◌*◌, ◌^◌, ◌<◌, ◌≤◌, ◌||◌, Bool, true, false, cond, nat_eq, List, [], Option, Some, None, IsSome, length, get_or, slice_index_or, slice_set, refl, true≢false, sym, ap, subst, ◌∙◌, arith, inl, inr, pow_pos, nat_tests, none-some, same_Some, get_or-set_other, get_or-set_same, cases_eq}
+use Rattle.overlay_pages.proofs.Stores.{AreSettled, CanSettle, free_units, units_in, Block, AreLines, has_line, with_line, count_with, has_with, overlay_page, Entry, Segment, IsStore, capacity_of, Store, IsSegment, frame_line, line_in, lines_at, lines_with, scratch_line, segment_at, Begins, Ends, HasLinesNow, Inserts, KeepsFrame, KeepsFrames, KeepsOtherSegments, KeepsScratch, KeepsSegments, Lays, block_of, inside_of, lines_there, order_of, refilled, stays_twice}
+use Rattle.overlay_pages.proofs.Books.{are, class, overlaid_pages, overlaid_few, class_none, changed_there, page_again, page_in, put_page, turned_page, LedgerView, PageView, ledger_of, lines_of, overlay_at, with_overlay}
+use Rattle.overlay_pages.proofs.Views.{page_lines, lines_same, set_line, state_page_there, discarded, joins, laid, laid_line, IsHeld, IsJoined, MemoryView, line_seen, page_state, segment_of, state_of, view_of}
 use Rattle.overlay_pages.proofs.Sizes.{still_fits}
-use Rattle.space_maps.specs.Laws.{changed_there, page_again}
-use Rattle.space_maps.specs.Spaces.{page_in, put_page, turned_page}
-use Rattle.space_ledger.specs.View.{LedgerView, PageView, ledger_of, lines_of, overlay_at, with_overlay}
-use Rattle.overlay_pages.specs.Lines.{page_lines}
-use Rattle.overlay_pages.specs.LineLaws.{lines_same, set_line}
-use Rattle.overlay_pages.specs.ViewLaws.{state_page_there}
-use Rattle.overlay_pages.specs.Changes.{discarded}
-use Rattle.overlay_pages.specs.Steps.{joins, laid, laid_line}
-use Rattle.overlay_pages.specs.View.{IsHeld, IsJoined, MemoryView, line_seen, page_state, segment_of, state_of, view_of}
 use Rattle.overlay_pages.proofs.Steps.{overlay_lines, overlay_there, seen_bare, seen_inside, seen_outside}
-use Rattle.overlay_pages.proofs.Overlaying.{Overlays}
+use Rattle.overlay_pages.proofs.Overlaying.{Overlays, segments_some}
 
 -- An overlay that ends, one that begins, and one that gets a line.
 
@@ -61,24 +36,27 @@ unit_low store is u segment there = omega (arith, inside_of store is u segment t
 -- A page whose overlay ended.
 pub dropped : (old : MemoryView) (store : Store) (table : LedgerView) (s p : ℕ) (x : PageView) (e : Entry) → IsJoined old → page_in old.table s p ≡ Some x → x.overlay ≡ Some e
     → Ends old.store store e.block → KeepsOtherSegments old.store e.block.unit store → KeepsFrames old.store store → free_units store.blocks ≡ free_units old.store.blocks + 2 ^ e.block.order
-    → units_in store.blocks ≡ units_in old.store.blocks → IsStore store → (AreSettled old.store.blocks → CanSettle store.blocks) → table ≡ with_overlay old.table s p None → Overlays CanSettle old (view_of store table) s p x None e.block.unit
+    → units_in store.blocks ≡ units_in old.store.blocks → IsStore store → (AreSettled old.store.blocks → CanSettle store.blocks) → table ≡ with_overlay old.table s p None → Overlays CanSettle old (view_of store table) s p x None
 dropped old store table s p x e is there over ends kept frames free whole is_store settles table_is =
     let held = is.held s p x there in
+    let gone = segment_set old.store e.block.unit store.segments None (unit_low old.store is.store e.block.unit (segment_of s p e) (held.segment e over)) ends.segments in
     record {
       there = there;
       table_is = table_is;
-      was_there = λ f same. ap (λ (y : Entry). y.block.unit) (same_Some _ _ (sym same ∙ over));
-      was_free = λ none. absurd (none-some e (sym none ∙ over));
-      now_there = λ f h. absurd (none-some f h);
-      here = segment_set old.store e.block.unit store.segments None (unit_low old.store is.store e.block.unit (segment_of s p e) (held.segment e over)) ends.segments;
-      elsewhere = segment_beside old.store e.block.unit store.segments None ends.segments;
-      kept = kept;
+      segments = record {
+        kept = λ unit segment apart at_unit. kept unit segment (λ same. apart e over same) at_unit;
+        others = λ unit segment at_unit. elim (cases_eq unit e.block.unit) [
+          | inl same ↦ absurd (none-some segment (sym gone ∙ ap (segment_at store) (sym same) ∙ at_unit))
+          | inr away ↦ inl (λ f h same. away (same ∙ ap (λ (y : Entry). y.block.unit) (same_Some f e (sym h ∙ over))), sym (segment_beside old.store e.block.unit store.segments None ends.segments unit away) ∙ at_unit)
+        ];
+        there = λ f h. absurd (none-some f h);
+        lined = λ f h. absurd (none-some f h);
+        size = λ f h. absurd (none-some f h);
+        blocks = settles is.blocks;
+        whole = whole;
+        store = is_store;
+      };
       frames = frames;
-      store = is_store;
-      blocks = settles is.blocks;
-      whole = whole;
-      lined = λ f h. absurd (none-some f h);
-      size = λ f h. absurd (none-some f h);
       free = omega (arith, free, held.size e over, class_none, ap (λ (o : Option Entry). class (length (lines_of o))) over);
     }
 
@@ -165,25 +143,19 @@ pub inserted : (old : MemoryView) (store : Store) (table : LedgerView) (s p : �
     → line < 64 → has_line e.bits line ≡ false → length e.bits < capacity_of e.block.order
     → HasLinesNow old.store store e.block (lines_with old.store e.block line) → KeepsOtherSegments old.store e.block.unit store → KeepsFrames old.store store → IsStore store
     → table ≡ with_overlay old.table s p (Some (record { bits = with_line e.bits line; block = e.block }))
-    → Overlays AreSettled old (view_of store table) s p x (Some (record { bits = with_line e.bits line; block = e.block })) e.block.unit
+    → Overlays AreSettled old (view_of store table) s p x (Some (record { bits = with_line e.bits line; block = e.block }))
 inserted old store table s p x e line is there over low absent fits now kept frames is_store table_is =
     record {
       there = there;
       table_is = table_is;
-      was_there = λ f same. ap (λ (y : Entry). y.block.unit) (same_Some _ _ (sym same ∙ over));
-      was_free = λ none. absurd (none-some e (sym none ∙ over));
-      now_there = λ f same. ap (λ (y : Entry). y.block.unit) (same_Some _ _ (sym same));
-      here = ap (λ l. get_or l e.block.unit None) now.segments
+      segments = segments_some old.store store s p x.overlay (record { bits = with_line e.bits line; block = e.block })
+          (λ f same. ap (λ (y : Entry). y.block.unit) (same_Some _ _ (sym same ∙ over))) (λ none. absurd (none-some e (sym none ∙ over)))
+          (ap (λ l. get_or l e.block.unit None) now.segments
           ∙ refilled old.store.segments e.block.unit (segment_of s p e) (lines_with old.store e.block line) (held.segment e over) (unit_low old.store is.store e.block.unit (segment_of s p e) (held.segment e over))
-          ∙ ap (λ l. Some (record { owner = overlay_page s p; order = e.block.order; bits = with_line l line })) (overlay_lines old.store s p x e held over);
-      elsewhere = segment_beside old.store e.block.unit store.segments _ now.segments;
-      kept = kept;
+          ∙ ap (λ l. Some (record { owner = overlay_page s p; order = e.block.order; bits = with_line l line })) (overlay_lines old.store s p x e held over))
+          (segment_beside old.store e.block.unit store.segments _ now.segments) kept (omega (arith, count)) size_now
+          (subst AreSettled (sym now.blocks) is.blocks) (ap units_in now.blocks) is_store;
       frames = frames;
-      store = is_store;
-      blocks = subst AreSettled (sym now.blocks) is.blocks;
-      whole = ap units_in now.blocks;
-      lined = λ f same. subst (λ (g : Entry). 0 < length g.bits) (same_Some _ f same) (omega (arith, count));
-      size = λ f same. subst (λ (g : Entry). 2 ^ g.block.order ≡ class (length g.bits)) (same_Some _ f same) size_now;
       free = omega (arith, ap free_units now.blocks, size_now, held.size e over, ap (λ (o : Option Entry). class (length (lines_of o))) over);
     }
   where
@@ -269,23 +241,17 @@ module _ (old : MemoryView) (began filled store : Store) (table : LedgerView) (s
   pub begun_frames : KeepsFrames old.store store
   begun_frames = frames_twice old.store began store so.frames (frames_twice began filled store so.laid_frames so.new_frames)
 
-  pub begun : table ≡ with_overlay old.table s p (Some entry) → Overlays AreSettled old (view_of store table) s p x (Some entry) block.unit
+  pub begun : table ≡ with_overlay old.table s p (Some entry) → Overlays AreSettled old (view_of store table) s p x (Some entry)
   begun table_is = record {
     there = there;
     table_is = table_is;
-    was_there = λ f over. absurd (none-some f (sym bare ∙ over));
-    was_free = λ none. so.begins.fresh;
-    now_there = λ f same. ap (λ (y : Entry). y.block.unit) (same_Some _ _ (sym same));
-    here = now_there;
-    elsewhere = λ unit away. segment_beside filled block.unit store.segments _ so.lines_now.segments unit away ∙ segment_beside began block.unit filled.segments _ so.laid_lines.segments unit away
-        ∙ segment_beside old.store block.unit began.segments _ so.begins.segments unit away;
-    kept = others_twice old.store began store block.unit (λ unit segment away here. so.segments unit segment here) (others_twice began filled store block.unit so.laid_kept so.kept);
+    segments = segments_some old.store store s p x.overlay entry (λ f over. absurd (none-some f (sym bare ∙ over))) (λ none. so.begins.fresh) now_there
+        (λ unit away. segment_beside filled block.unit store.segments _ so.lines_now.segments unit away ∙ segment_beside began block.unit filled.segments _ so.laid_lines.segments unit away
+        ∙ segment_beside old.store block.unit began.segments _ so.begins.segments unit away)
+        (others_twice old.store began store block.unit (λ unit segment away here. so.segments unit segment here) (others_twice began filled store block.unit so.laid_kept so.kept))
+        (omega (arith, count_now)) size_now (subst AreSettled (sym (so.lines_now.blocks ∙ so.laid_lines.blocks)) (so.settled is.blocks))
+        (ap units_in so.lines_now.blocks ∙ ap units_in so.laid_lines.blocks ∙ so.whole) so.new_is;
     frames = begun_frames;
-    store = so.new_is;
-    blocks = subst AreSettled (sym (so.lines_now.blocks ∙ so.laid_lines.blocks)) (so.settled is.blocks);
-    whole = ap units_in so.lines_now.blocks ∙ ap units_in so.laid_lines.blocks ∙ so.whole;
-    lined = λ f same. subst (λ (g : Entry). 0 < length g.bits) (same_Some _ f same) (omega (arith, count_now));
-    size = λ f same. subst (λ (g : Entry). 2 ^ g.block.order ≡ class (length g.bits)) (same_Some _ f same) size_now;
     free = omega (arith, ap free_units so.lines_now.blocks, ap free_units so.laid_lines.blocks, so.loses, size_now, class_none, ap (λ (o : Option Entry). class (length (lines_of o))) bare);
   }
 

@@ -1,24 +1,9 @@
-use Rattle.std.proofs.Common.{◌≡◌, ℕ, ◌+◌, Bool, true, false, cond, nat_eq, Option, Some, None, is_some, length, refl, true≢false, option_and_then, option_map, sym, ap, subst, ◌∙◌, arith, inl}
-use Rattle.std.proofs.lemmas.Option.{none-some}
-use Rattle.unit_map.specs.Pieces.{AreSettled, free_units, units_in}
-use Rattle.overlay_mapping_table.specs.declared.entry.Entry.{Entry}
-use Rattle.ledger.specs.AloneLaws.{are, origin_of, unused_parts}
-use Rattle.ledger.specs.Ledger.{has_origin, is_alone, is_unused, without_page}
-use Rattle.ledger.specs.Units.{class, units}
-use Rattle.ledger.specs.ClassLaws.{class_none}
-use Rattle.ledger.specs.UnitLaws.{alone_is, frame_for, units_at}
-use Rattle.segment_store.specs.Kept.{IsStore}
-use Rattle.segment_store.specs.Store.{Store, IsFrame}
-use Rattle.segment_store.specs.Changes.{KeepsFrame, KeepsOtherFrames, KeepsSegments, block_of}
-use Rattle.space_maps.specs.Books.{books_cut_page, books_page}
-use Rattle.space_maps.specs.Laws.{page_set_beside, there_space}
-use Rattle.space_maps.specs.Spaces.{cut_page, page_in, put_space, set_page}
+use Rattle.overlay_pages.proofs.Common.{◌≡◌, ℕ, ◌+◌, Bool, true, false, cond, Option, Some, None, is_some, length, refl, sym, ap, subst, ◌∙◌, arith, none-some}
+use Rattle.overlay_pages.proofs.Stores.{AreSettled, free_units, units_in, Entry, IsStore, Store, IsFrame, KeepsFrame, KeepsOtherFrames, KeepsSegments, block_of}
+use Rattle.overlay_pages.proofs.Books.{holding_at, is_alone, is_unused, without_page, class, units, class_none, alone_is, frame_for, units_at, books_cut_page, books_there, keeps_page_cut, there_space, cut_page, holds_space, page_in, set_page, LedgerView, PageView, holding_of, ledger_of, lines_of, given_as, given_up}
+use Rattle.overlay_pages.proofs.Views.{IsJoined, MemoryView, state_of, view_of}
 use Rattle.space_ledger.specs.View as view
-use Rattle.space_ledger.specs.View.{LedgerView, PageView, holding_of, ledger_of, lines_of}
-use Rattle.space_ledger.specs.ViewLaws.{given_as}
-use Rattle.space_ledger.specs.Calls.{given_up}
-use Rattle.overlay_pages.specs.View.{IsJoined, MemoryView, segment_of, state_of, view_of}
-use Rattle.overlay_pages.proofs.Steps.{Step, frame_still, not_owned, segment_still, state_stepped, stepped}
+use Rattle.overlay_pages.proofs.Steps.{alone_other, frame_still, segment_still, segments_bare, stepped}
 use Rattle.overlay_pages.proofs.Joining.{Has}
 
 -- A page that goes, and with it its frame, where no page names it any more.
@@ -76,33 +61,20 @@ gives_frame old new frame same segments frames settled free whole store = record
   store = store;
 }
 
-module _ (a : MemoryView) (store : Store) (table : LedgerView) (s p : ℕ) (x : PageView) (given : Bool) (is : IsJoined a) (there : page_in a.table s p ≡ Some x) (bare : x.overlay ≡ None)
-    (table_is : table ≡ cut_page a.table s p) (given_is : given ≡ is_left table x) (leaves : LeavesStore a.store store x.entry.frame given) where
-  zero_same : table.zero_frame ≡ a.table.zero_frame
-  unfolding cut_page put_space
-  zero_same = ap (λ (v : LedgerView). v.zero_frame) table_is
-
-  -- no page that stays names a frame that is given up, which isn't the zero frame either
-  stays_named : (q r : ℕ) (y : PageView) → (q ≡ s → r ≡ p → ⊥) → page_in a.table q r ≡ Some y → given ≡ true → y.entry.frame ≡ x.entry.frame → ⊥
-  unfolding set_page
-  stays_named q r y d at_y gone same =
-      let now = ap (λ (v : LedgerView). page_in v q r) table_is ∙ page_set_beside a.table s p None q r d ∙ at_y in
-      let named = origin_of (ledger_of table) q r (holding_of table.zero_frame y) (books_page holding_of table q r ∙ ap (option_map (holding_of table.zero_frame)) now) in
-      let none = (unused_parts (ledger_of table) (view.origin_of table.zero_frame x.entry.frame) (sym given_is ∙ gone)).1 in
-      true≢false (sym named ∙ ap (λ f. has_origin (ledger_of table) (view.origin_of table.zero_frame f)) same ∙ none)
-
-  zero_stays : given ≡ true → a.table.zero_frame ≡ x.entry.frame → ⊥
-  zero_stays gone same =
-      let isnt = (unused_parts (ledger_of table) (view.origin_of table.zero_frame x.entry.frame) (sym given_is ∙ gone)).0 in
-      true≢false (ap (λ b. nat_eq (cond b 0 (x.entry.frame + 1)) 0) (sym (are x.entry.frame table.zero_frame (sym (zero_same ∙ same)))) ∙ isnt)
-
-  units_now : free_units store.blocks + units (ledger_of table) ≡ units_in store.blocks
-  units_now =
-      let held = books_page holding_of a.table s p ∙ ap (option_map (holding_of a.table.zero_frame)) there in
-      let gone : ledger_of table ≡ without_page (ledger_of a.table) s p = ap ledger_of table_is ∙ books_cut_page holding_of a.table s p in
-      let alone : is_alone (ledger_of a.table) s p ≡ given =
-      alone_is (ledger_of a.table) s p (holding_of a.table.zero_frame x) held ∙ (λ i. is_unused (sym gone i) (view.origin_of (sym zero_same i) x.entry.frame)) ∙ sym given_is in
-      omega (
+pub left_out : (a : MemoryView) (store : Store) (table : LedgerView) (s p : ℕ) (x : PageView) (given : Bool) → IsJoined a → page_in a.table s p ≡ Some x → x.overlay ≡ None
+    → table ≡ cut_page a.table s p → given ≡ is_left table x → LeavesStore a.store store x.entry.frame given
+    → IsJoined (view_of store table) × (state_of (view_of store table) ≡ cut_page (state_of a) s p)
+unfolding set_page
+left_out a store table s p x given is there bare table_is given_is leaves =
+    stepped a (view_of store table) s p (Some (record { entry = x.entry; overlay = None })) None is (record {
+      there = space;
+      low = (is.held s p x there).low;
+      was = there ∙ (λ i. Some (record { entry = x.entry; overlay = bare i }));
+      table_is = table_is;
+      segments = segments_bare a.store store s p leaves.same leaves.segments (leaves.settled is.blocks) leaves.whole leaves.store;
+      frames = λ frame f other. leaves.frames frame (λ gives same. alone_other a.table s p x there (alone ∙ gives) frame other same) f;
+      frame = λ y h. absurd (none-some y h);
+      count = omega (
         arith,
         is.count,
         leaves.free,
@@ -112,34 +84,25 @@ module _ (a : MemoryView) (store : Store) (table : LedgerView) (s p : ℕ) (x : 
         ap frame_for alone,
         ap (λ (o : Option Entry). class (length (lines_of o))) bare,
         class_none,
-      )
+      );
+    })
+  where
+    space : holds_space a.table s ≡ true
+    space = there_space a.table s p x there
 
-  leaving_step : Step AreSettled a (view_of store table) s p None
-  unfolding set_page
-  leaving_step = record {
-    there = there_space a.table s p x there;
-    number = (is.held s p x there).number;
-    low = (is.held s p x there).low;
-    table_is = table_is;
-    store = leaves.store;
-    blocks = leaves.settled is.blocks;
-    whole = leaves.whole;
-    segments = λ q r y e d at_y over. leaves.segments e.block.unit (segment_of q r e) ((is.held q r y at_y).segment e over);
-    frames = λ q r y d at_y. leaves.frames y.entry.frame (stays_named q r y d at_y) (is.held q r y at_y).frame;
-    zero = leaves.frames a.table.zero_frame zero_stays is.zero;
-    held = λ y h. absurd (none-some y h);
-    owned = λ unit segment at_unit.
-        let before = sym (ap (λ l. Rattle.std.specs.Prelude.slice_index_or l unit None) leaves.same) ∙ at_unit in
-        inl (before, not_owned a s p unit segment is (is.held s p x there).number (is.held s p x there).low (ap (option_and_then (λ (y : PageView). y.overlay)) there ∙ bare) before);
-    count = units_now;
-  }
+    held : holding_at (ledger_of a.table) s p ≡ Some (holding_of a.table.zero_frame x)
+    held = books_there holding_of a.table s p x there
 
-  pub left_joined : IsJoined (view_of store table)
-  left_joined = stepped a (view_of store table) s p None is leaving_step
+    gone : ledger_of table ≡ without_page (ledger_of a.table) s p
+    gone = ap ledger_of table_is ∙ books_cut_page holding_of a.table s p
 
-  pub left_state : state_of (view_of store table) ≡ cut_page (state_of a) s p
-  unfolding set_page
-  left_state = state_stepped a (view_of store table) s p None is leaving_step
+    zero_same : table.zero_frame ≡ a.table.zero_frame
+    zero_same = ap (λ (v : LedgerView). v.zero_frame) table_is ∙ (keeps_page_cut a.table s p space).zero_frame
+
+    -- a frame that nothing names then was the page's alone
+    alone : is_alone (ledger_of a.table) s p ≡ given
+    alone =
+        alone_is (ledger_of a.table) s p (holding_of a.table.zero_frame x) held ∙ (λ i. is_unused (sym gone i) (view.origin_of (sym zero_same i) x.entry.frame)) ∙ sym given_is
 
 -- The ledger tells which frame was given up.
 module _ (a : MemoryView) (table : LedgerView) (s p : ℕ) (freed : Option ℕ) (is : IsJoined a) (has : Has a.table s p None) (table_is : table ≡ cut_page a.table s p)
@@ -152,11 +115,7 @@ module _ (a : MemoryView) (table : LedgerView) (s p : ℕ) (freed : Option ℕ) 
 
   left : (store : Store) (given : Bool) → is_some freed ≡ given → LeavesStore a.store store has.x.entry.frame given
       → IsJoined (view_of store table) × (state_of (view_of store table) ≡ cut_page (state_of a) s p)
-  left store given some leaves =
-      let given_is = sym some ∙ ap is_some freed_of ∙ is_given table has.x in (
-        left_joined a store table s p has.x given is has.there has.is table_is given_is leaves,
-        left_state a store table s p has.x given is has.there has.is table_is given_is leaves,
-      )
+  left store given some leaves = left_out a store table s p has.x given is has.there has.is table_is (sym some ∙ ap is_some freed_of ∙ is_given table has.x) leaves
 
   pub went_some : (store : Store) (frame : ℕ) → freed ≡ Some frame → LeavesStore a.store store frame true
       → IsJoined (view_of store table) × (state_of (view_of store table) ≡ cut_page (state_of a) s p)

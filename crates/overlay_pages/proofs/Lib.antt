@@ -1,3 +1,7 @@
+pub mod Common
+pub mod Stores
+pub mod Books
+pub mod Views
 pub mod Results
 pub mod Steps
 pub mod Shifts

@@ -1,33 +1,9 @@
-use Rattle.std.proofs.Common.{◌≡◌, ℕ, ◌+◌, ◌<◌, Bool, true, false, cond, nat_eq, List, [], Option, Some, None, IfSome, length, refl, true≢false, sym, ap, subst, ◌∙◌, arith, inl}
-use Rattle.std.proofs.lemmas.Option.{none-some, same_Some}
-use Rattle.std.proofs.lemmas.Bool.Decides.{nat_tests}
-use Rattle.std.specs.Option.{option_and_then, option_map, option_map_or}
-use Rattle.sizes.specs.declared.TheConstants.{FRAME_UNITS}
-use Rattle.unit_map.specs.Pieces.{AreSettled, free_units, units_in}
-use Rattle.overlay_mapping_table.specs.declared.entry.Entry.{Entry}
-use Rattle.ledger.specs.Ledger.{Holding, Ledger, has_origin, holding_at, is_alone, is_unused, with_page, without_page}
-use Rattle.ledger.specs.Units.{class, units}
-use Rattle.ledger.specs.ClassLaws.{class_none}
-use Rattle.ledger.specs.UnitLaws.{frame_for, units_changed}
-use Rattle.ledger.specs.AloneLaws.{arent, holder, not_true, unused_from, unused_parts, unused_without}
-use Rattle.segment_store.specs.Kept.{IsStore}
-use Rattle.segment_store.specs.Store.{Store, IsFrame, frame_line}
-use Rattle.segment_store.specs.Changes.{KeepsFrame, KeepsFrames, KeepsSegments}
-use Rattle.segment_store.specs.Laws.{frame_inside}
-use Rattle.space_maps.specs.Options.{map_from}
-use Rattle.space_maps.specs.Books.{books_page, books_put_page}
-use Rattle.space_maps.specs.Laws.{changed_there, page_set_beside, set_some, there_space}
-use Rattle.space_maps.specs.Spaces.{page_in, put_page, put_space, set_page}
+use Rattle.overlay_pages.proofs.Common.{◌≡◌, ℕ, ◌+◌, ◌<◌, Bool, true, false, cond, nat_eq, List, [], Option, Some, None, IfSome, length, refl, true≢false, sym, ap, subst, ◌∙◌, arith, same_Some, nat_tests, option_and_then, option_map, FRAME_UNITS}
+use Rattle.overlay_pages.proofs.Stores.{AreSettled, free_units, units_in, Entry, IsStore, Store, IsFrame, frame_line, KeepsFrame, KeepsFrames, KeepsSegments, frame_inside}
+use Rattle.overlay_pages.proofs.Books.{Holding, Ledger, has_origin, holding_at, is_alone, is_unused, with_page, without_page, class, units, class_none, frame_for, units_changed, arent, holder, not_true, unused_from, unused_parts, unused_without, map_from, books_page, books_put_page, changed_there, page_set_beside, set_some, there_space, page_in, put_page, put_space, set_page, LedgerView, PageView, holding_of, ledger_of, lines_of, overlay_at, with_frame}
+use Rattle.overlay_pages.proofs.Views.{page_lines, lines_same, PageState, State, books, IsNewFrame, IsPlaced, moved_to, FillsFrame, KeepsOtherOverlays, IsJoined, MemoryView, page_state, state_of, view_of, state_books, state_frames, state_page_there, state_zero}
 use Rattle.space_ledger.specs.View as view
-use Rattle.space_ledger.specs.View.{LedgerView, PageView, holding_of, ledger_of, lines_of, overlay_at, with_frame}
-use Rattle.overlay_pages.specs.Lines.{page_lines}
-use Rattle.overlay_pages.specs.LineLaws.{lines_same}
-use Rattle.overlay_pages.specs.State.{PageState, State, books}
-use Rattle.overlay_pages.specs.Changes.{IsNewFrame, IsPlaced, moved_to}
-use Rattle.overlay_pages.specs.Steps.{FillsFrame, KeepsOtherOverlays}
-use Rattle.overlay_pages.specs.View.{IsHeld, IsJoined, MemoryView, page_state, segment_of, state_of, view_of}
-use Rattle.overlay_pages.specs.ViewLaws.{state_books, state_frames, state_page_there, state_zero}
-use Rattle.overlay_pages.proofs.Steps.{Step, not_owned, state_stepped, stepped}
+use Rattle.overlay_pages.proofs.Steps.{segments_bare, stepped}
 use Rattle.overlay_pages.proofs.Filling.{segments_twice}
 
 -- A frame that wasn't taken is named by no page.
@@ -69,6 +45,9 @@ pub record TakesFrame (old taken filled : Store) (frame : ℕ) (given : ℕ → 
   pub fills : FillsFrame taken filled frame
   pub lines : (i : ℕ) → i < 64 → frame_line filled frame i ≡ given i
 
+pub frame_inside_of : (old taken : Store) (table : LedgerView) (frame : ℕ) → IsJoined (view_of old table) → IsFrame taken frame → units_in taken.blocks ≡ units_in old.blocks → IsStore taken → frame < table.frames
+frame_inside_of old taken table frame is f whole store = omega (arith, frame_inside taken store frame f, whole, is.frames)
+
 module _ (a : MemoryView) (taken filled : Store) (table : LedgerView) (s p : ℕ) (x : PageView) (frame : ℕ) (given : ℕ → List ℕ) (is : IsJoined a) (there : page_in a.table s p ≡ Some x) (bare : x.overlay ≡ None)
     (shared : is_alone (ledger_of a.table) s p ≡ false) (takes : TakesFrame a.store taken filled frame given) (table_is : table ≡ with_frame a.table s p frame) where
   abbrev placed : PageView
@@ -86,12 +65,9 @@ module _ (a : MemoryView) (taken filled : Store) (table : LedgerView) (s p : ℕ
       table_is ∙ changed_there (λ (y : PageView). record { entry = record { perms = y.entry.perms; frame = frame }; overlay = y.overlay }) a.table s p x there
       ∙ ap (put_page a.table s p) changed_is ∙ sym (set_some a.table s p placed)
 
-  pub frame_in : frame < a.table.frames
-  frame_in = omega (arith, frame_inside taken takes.taken_is frame takes.there, takes.whole, is.frames)
-
   pub frame_new : IsNewFrame (state_of a) frame
   frame_new = record {
-    inside = omega (arith, frame_in, state_frames a);
+    inside = omega (arith, frame_inside_of a.store taken a.table frame is takes.there takes.whole takes.taken_is, state_frames a);
     other = λ e. takes.fresh (subst (IsFrame a.store) (sym (e ∙ state_zero a)) is.zero);
     unused = ap (λ (l : Ledger). is_unused l (frame + 1)) (state_books a) ∙ unused_from (ledger_of a.table) (frame + 1) (arent (frame + 1) 0 (λ n. omega (arith, n))) nobody;
   }
@@ -104,9 +80,6 @@ module _ (a : MemoryView) (taken filled : Store) (table : LedgerView) (s p : ℕ
       let one = takes.frames other f in
       let two = takes.fills.frames other (λ e. takes.fresh (subst (IsFrame a.store) e f)) one.stays in
       record { stays = two.stays; lines = λ line low. two.lines line low ∙ one.lines line low }
-
-  segments_kept : KeepsSegments a.store filled
-  segments_kept = segments_twice a.store taken filled takes.segments takes.fills.segments
 
   units_now : units (ledger_of table) ≡ units (ledger_of a.table) + 16
   unfolding frame_for
@@ -123,37 +96,19 @@ module _ (a : MemoryView) (taken filled : Store) (table : LedgerView) (s p : ℕ
       let after : frame_for (is_unused (without_page l s p) (view.origin_of a.table.zero_frame frame)) ≡ 16 = ap (λ o. frame_for (is_unused (without_page l s p) o)) origin ∙ ap frame_for unused in
       omega (arith, ap units now, changes, none, before, after, class_none)
 
-  placed_step : Step AreSettled a (view_of filled table) s p (Some placed)
-  placed_step = record {
+  placed_both : IsJoined (view_of filled table) × (state_of (view_of filled table) ≡ put_page (state_of a) s p (page_state filled placed))
+  unfolding set_page
+  placed_both = stepped a (view_of filled table) s p (Some (record { entry = x.entry; overlay = None })) (Some placed) is (record {
     there = there_space a.table s p x there;
-    number = (is.held s p x there).number;
     low = (is.held s p x there).low;
+    was = there ∙ (λ i. Some (record { entry = x.entry; overlay = bare i }));
     table_is = table_now;
-    store = takes.fills.store;
-    blocks = subst AreSettled (sym takes.fills.blocks) (takes.settled is.blocks);
-    whole = ap units_in takes.fills.blocks ∙ takes.whole;
-    segments = λ q r y e d at_y over. segments_kept e.block.unit (segment_of q r e) ((is.held q r y at_y).segment e over);
-    frames = λ q r y d at_y. frame_kept y.entry.frame (is.held q r y at_y).frame;
-    zero = frame_kept a.table.zero_frame is.zero;
-    held = λ y same. subst (IsHeld filled s p) (same_Some placed y same) held_now;
-    owned = λ unit segment at_unit.
-        let before = sym (ap (λ l. Rattle.std.specs.Prelude.slice_index_or l unit None) (takes.fills.same ∙ takes.same)) ∙ at_unit in
-        inl (before, not_owned a s p unit segment is (is.held s p x there).number (is.held s p x there).low (ap (option_and_then (λ (y : PageView). y.overlay)) there ∙ bare) before);
+    segments = segments_bare a.store filled s p (takes.fills.same ∙ takes.same) (segments_twice a.store taken filled takes.segments takes.fills.segments)
+        (subst AreSettled (sym takes.fills.blocks) (takes.settled is.blocks)) (ap units_in takes.fills.blocks ∙ takes.whole) takes.fills.store;
+    frames = λ other f _. frame_kept other f;
+    frame = λ y same. subst (λ (z : PageView). IsFrame filled z.entry.frame) (same_Some placed y same) takes.fills.stays;
     count = omega (arith, is.count, units_now, takes.free, ap free_units takes.fills.blocks, ap units_in takes.fills.blocks, takes.whole);
-  }
-    where
-      held_now : IsHeld filled s p placed
-      held_now = record {
-        number = (is.held s p x there).number;
-        low = (is.held s p x there).low;
-        frame = takes.fills.stays;
-        segment = λ e h. absurd (none-some e h);
-        lined = λ e h. absurd (none-some e h);
-        size = λ e h. absurd (none-some e h);
-      }
-
-  pub placed_joined : IsJoined (view_of filled table)
-  placed_joined = stepped a (view_of filled table) s p (Some placed) is placed_step
+  })
 
   placed_page : page_state filled placed ≡ moved_to (page_state a.store x) (page_lines given) frame
   unfolding page_state
@@ -161,21 +116,13 @@ module _ (a : MemoryView) (taken filled : Store) (table : LedgerView) (s p : ℕ
       let lines = lines_same (frame_line filled frame) given takes.lines in
       λ i. record { entry = record { perms = x.entry.perms; frame = frame }; own = []; lines = lines i; base = lines i }
 
-  placed_at : IsPlaced (state_of a) (state_of (view_of filled table)) s p (moved_to (page_state a.store x) (page_lines given))
-  unfolding set_page
-  placed_at = record {
-    frame = frame;
-    fresh = frame_new;
-    placed = state_stepped a (view_of filled table) s p (Some placed) is placed_step ∙ ap (put_page (state_of a) s p) placed_page;
-  }
-
-  pub is_placed : (lines : List (List ℕ)) → page_lines given ≡ lines → IfSome (page_in (state_of a) s p) (λ y. IsPlaced (state_of a) (state_of (view_of filled table)) s p (moved_to y lines))
-  is_placed lines same =
-      subst (λ o. IfSome o (λ y. IsPlaced (state_of a) (state_of (view_of filled table)) s p (moved_to y lines))) (sym (state_page_there a s p x there))
-      (subst (λ l. IsPlaced (state_of a) (state_of (view_of filled table)) s p (moved_to (page_state a.store x) l)) same placed_at)
-
-pub frame_inside_of : (old taken : Store) (table : LedgerView) (frame : ℕ) → IsJoined (view_of old table) → IsFrame taken frame → units_in taken.blocks ≡ units_in old.blocks → IsStore taken → frame < table.frames
-frame_inside_of old taken table frame is f whole store = omega (arith, frame_inside taken store frame f, whole, is.frames)
+  pub is_placed : (lines : List (List ℕ)) → page_lines given ≡ lines
+      → IsJoined (view_of filled table) × IfSome (page_in (state_of a) s p) (λ y. IsPlaced (state_of a) (state_of (view_of filled table)) s p (moved_to y lines))
+  is_placed lines same = (
+    placed_both.0,
+    subst (λ o. IfSome o (λ y. IsPlaced (state_of a) (state_of (view_of filled table)) s p (moved_to y lines))) (sym (state_page_there a s p x there))
+        (record { frame = frame; fresh = frame_new; placed = placed_both.1 ∙ ap (put_page (state_of a) s p) (placed_page ∙ ap (λ l. moved_to (page_state a.store x) l frame) same) }),
+  )
 
 -- Other pages keep their overlays.
 pub others_framed : (v table : LedgerView) (s p frame : ℕ) (x : PageView) → page_in v s p ≡ Some x → table ≡ with_frame v s p frame → KeepsOtherOverlays s p v table

@@ -1,16 +1,7 @@
-use Rattle.std.proofs.Common.{◌≡◌, ℕ, ◌+◌, ◌*◌, ◌^◌, ◌<◌, ◌≤◌, ◌⊎◌, true, false, Option, Some, IsSome, refl, sym, ap, ◌∙◌, arith, inl, inr}
-use Rattle.std.proofs.lemmas.Bool.{cases_eq}
-use Rattle.std.proofs.lemmas.Option.{none-some, same_Some}
-use Rattle.std.specs.Option.{option_map, option_map_or}
-use Rattle.overlay_bits.specs.Lines.{has_line}
-use Rattle.overlay_mapping_table.specs.declared.entry.Entry.{Entry}
-use Rattle.segment_store.specs.declared.segment.Segment.{Segment}
-use Rattle.segment_store.specs.Store.{IsFrame, IsSegment, frame_place, place_of, scratch_place, segment_at}
-use Rattle.segment_store.specs.Places.{LiesIn}
-use Rattle.segment_store.specs.Laws.{frame_inside, inside_of, line_lies, places_differ, segment_range, order_of}
-use Rattle.space_maps.specs.Spaces.{page_in}
-use Rattle.space_ledger.specs.View.{PageView, lines_of, overlay_at}
-use Rattle.overlay_pages.specs.View.{HasOwnPlace, IsJoined, MemoryView, ShareFrameLine, place_at, place_in_page, segment_of}
+use Rattle.overlay_pages.proofs.Common.{◌≡◌, ℕ, ◌+◌, ◌*◌, ◌^◌, ◌<◌, ◌≤◌, ◌⊎◌, true, false, Option, Some, IsSome, refl, sym, ap, ◌∙◌, arith, inl, inr, cases_eq, none-some, same_Some, option_map, option_map_or}
+use Rattle.overlay_pages.proofs.Stores.{has_line, Entry, Segment, IsFrame, IsSegment, frame_place, place_of, scratch_place, segment_at, LiesIn, frame_inside, inside_of, line_lies, places_differ, segment_range, order_of}
+use Rattle.overlay_pages.proofs.Books.{page_in, PageView, lines_of, overlay_at}
+use Rattle.overlay_pages.proofs.Views.{HasOwnPlace, IsJoined, MemoryView, ShareFrameLine, place_at, place_in_page, segment_of}
 use Rattle.overlay_pages.proofs.Steps.{by_spot, names_apart, place_inside, place_outside}
 use Rattle.overlay_pages.proofs.Joining.{Has, page_with}
 

@@ -1,35 +1,8 @@
-use Rattle.std.proofs.Common.{◌≡◌, ℕ, zero, suc, ◌+◌, ◌*◌, ◌<◌, ◌||◌, Bool, true, false, cond, nat_eq, IsSome, List, [], Option, Some, None, is_some, replicate, slice_index_or, refl, true≢false, option_map, nat_cmp, sym, ap, subst, ◌∙◌, arith, inl}
-use Rattle.std.proofs.lemmas.Bool.Decides.{nat_tests}
-use Rattle.std.proofs.lemmas.List.{get_or-replicate}
-use Rattle.std.specs.FinMap.{FinMap, empty, get, get-empty}
-use Rattle.sizes.specs.declared.TheConstants.{FRAME_UNITS, PAGE_LINES}
-use Rattle.unit_map.specs.Pieces.{AreSettled, free_at, free_frames, free_units, units_in}
-use Rattle.unit_map.specs.Changes.{HasRoom}
-use Rattle.line_store.specs.Lines.{line_of, zero_lines}
-use Rattle.page_table.specs.declared.entry.PageEntry.{PageEntry}
-use Rattle.ledger.specs.Ledger.{Ledger, all_holdings, has_origin, holding_at, is_alone, is_unused, without_page}
-use Rattle.ledger.specs.Units.{units, units_of}
-use Rattle.ledger.specs.ClassLaws.{class_none}
-use Rattle.ledger.specs.TallyLaws.{no_holdings}
-use Rattle.ledger.specs.UnitLaws.{alone_is, frame_for, no_units, units_new}
-use Rattle.ledger.specs.AloneLaws.{origin_with, without_absent}
-use Rattle.segment_store.specs.declared.segment.Segment.{Segment}
-use Rattle.segment_store.specs.Kept.{IsStore}
-use Rattle.segment_store.specs.Store.{Store, IsFrame, frame_line, segment_at}
-use Rattle.segment_store.specs.Changes.{IsEmptyStore}
-use Rattle.segment_store.specs.Laws.{frame_inside}
-use Rattle.space_maps.specs.Books.{books_empty, books_page, books_put_page, books_spaces}
-use Rattle.space_maps.specs.Laws.{cut_over, page_absent, page_over}
-use Rattle.space_maps.specs.Spaces.{cut_page, holds_space, page_in, put_page, put_pages, turned_page}
-use Rattle.space_maps.specs.Mapped.{mapped, mapped_none}
+use Rattle.overlay_pages.proofs.Common.{◌≡◌, ℕ, zero, suc, ◌+◌, ◌*◌, ◌<◌, ◌||◌, Bool, true, false, cond, nat_eq, IsSome, List, [], Option, Some, None, is_some, replicate, slice_index_or, refl, true≢false, option_map, nat_cmp, sym, ap, subst, ◌∙◌, arith, inl, nat_tests, get_or-replicate, FinMap, empty, get, get-empty, FRAME_UNITS, PAGE_LINES}
+use Rattle.overlay_pages.proofs.Stores.{AreSettled, free_at, free_frames, free_units, units_in, HasRoom, line_of, zero_lines, Segment, IsStore, Store, IsFrame, frame_line, segment_at, IsEmptyStore, frame_inside}
+use Rattle.overlay_pages.proofs.Books.{PageEntry, Ledger, all_holdings, has_origin, holding_at, is_alone, is_unused, without_page, units, units_of, class_none, no_holdings, alone_is, frame_for, no_units, units_new, origin_with, without_absent, books_empty, books_page, books_put_page, books_spaces, cut_over, page_absent, page_over, cut_page, holds_space, page_in, put_page, put_pages, turned_page, mapped, mapped_none, LedgerView, PageView, SpaceView, holding_of, ledger_of, overlay_at, with_zero_pages}
+use Rattle.overlay_pages.proofs.Views.{bytes_of_line, zero_line, zero_page, PageState, State, books, held_page, IsNewFrame, IsPlaced, whole_page, with_zeros, IsEmptyState, IsJoined, MemoryView, page_state, state_of, view_of, state_page_there}
 use Rattle.space_ledger.specs.View as view
-use Rattle.space_ledger.specs.View.{LedgerView, PageView, SpaceView, holding_of, ledger_of, overlay_at, with_overlay, with_zero_pages}
-use Rattle.overlay_pages.specs.Lines.{bytes_of_line, zero_line, zero_page}
-use Rattle.overlay_pages.specs.State.{PageState, State, books, held_page}
-use Rattle.overlay_pages.specs.Changes.{IsNewFrame, IsPlaced, whole_page, with_zeros}
-use Rattle.overlay_pages.specs.Calls.{IsEmptyState}
-use Rattle.overlay_pages.specs.View.{IsJoined, MemoryView, page_state, state_of, view_of}
-use Rattle.overlay_pages.specs.ViewLaws.{state_page_there}
 use Rattle.overlay_pages.proofs.NewFrames.{new_still}
 use Rattle.overlay_pages.proofs.Growing.{turn_is}
 use Rattle.overlay_pages.proofs.Joining.{page_with}

@@ -1,17 +1,7 @@
-use Rattle.std.proofs.Common.{option_and_then, option_map, ◌≡◌, ℕ, zero, suc, ◌+◌, ◌<◌, ◌≤◌, true, cond, nat_eq, Option, Some, None, IsSome, is_some, refl, sym, ap, subst, ◌∙◌, arith}
-use Rattle.std.proofs.lemmas.Option.{same_Some}
-use Rattle.std.proofs.lemmas.Bool.Decides.{nat_tests}
-use Rattle.sizes.specs.declared.TheConstants.{PAGE_END}
-use Rattle.ledger.specs.Ledger.{Ledger, holding_at}
-use Rattle.space_maps.specs.Books.{books_page}
-use Rattle.space_maps.specs.Spaces.{AreMapped, page_in}
-use Rattle.space_ledger.specs.View.{LedgerView, PageView, frame_at, holding_of, ledger_of, lines_of, origin_of, overlay_at}
-use Rattle.page_table.specs.declared.entry.PageEntry.{PageEntry}
-use Rattle.page_table.specs.declared.run.PageRun.{PageRun}
+use Rattle.overlay_pages.proofs.Common.{option_and_then, option_map, ◌≡◌, ℕ, zero, suc, ◌+◌, ◌<◌, ◌≤◌, true, cond, nat_eq, Option, Some, None, IsSome, is_some, refl, sym, ap, subst, ◌∙◌, arith, same_Some, nat_tests, PAGE_END}
+use Rattle.overlay_pages.proofs.Books.{Ledger, holding_at, books_page, AreMapped, page_in, LedgerView, PageView, frame_at, holding_of, ledger_of, lines_of, origin_of, overlay_at, PageEntry, PageRun}
+use Rattle.overlay_pages.proofs.Views.{AreZeros, zero_holding, IsJoined, MemoryView, page_state, state_of, state_books, state_page, state_page_some}
 use Rattle.space_ledger.specs.Calls as calls
-use Rattle.overlay_pages.specs.Calls.{AreZeros, zero_holding}
-use Rattle.overlay_pages.specs.View.{IsJoined, MemoryView, page_state, state_of}
-use Rattle.overlay_pages.specs.ViewLaws.{state_books, state_page, state_page_some}
 
 -- Pages on the zero frame, without own lines: told of the tables, they are such pages of the state.
 

@@ -1,4 +1,4 @@
-use Rattle.std.specs.Prelude.{Result, Ok, Err, OnOk, OnErr}
+use Rattle.overlay_pages.proofs.Common.{Result, Ok, Err, OnOk, OnErr}
 
 -- What holds of a result in either case.
 

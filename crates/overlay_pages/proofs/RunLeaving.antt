@@ -1,18 +1,8 @@
-use Rattle.std.proofs.Common.{option_and_then, option_map, ◌≡◌, ℕ, zero, suc, ◌+◌, ◌≤◌, ◌<◌, Bool, true, false, Option, Some, None, is_some, refl, sym, ap, subst, ◌∙◌, arith}
-use Rattle.std.proofs.lemmas.Option.{same_Some}
-use Rattle.page_table.specs.Run.{entry_at}
-use Rattle.page_table.specs.declared.entry.PageEntry.{PageEntry}
-use Rattle.page_table.specs.declared.run.PageRun.{PageRun}
-use Rattle.ledger.specs.Ledger.{is_unused}
-use Rattle.segment_store.specs.Store.{Store, IsFrame}
-use Rattle.segment_store.specs.Laws.{frame_inside}
-use Rattle.space_maps.specs.Laws.{after_cut, are_cut}
-use Rattle.space_maps.specs.Spaces.{cut_page, cut_pages, holds_space, page_in}
-use Rattle.space_ledger.specs.View.{LedgerView, PageView, ledger_of, origin_of}
-use Rattle.space_ledger.specs.Calls.{GivesNothingUp, GivesUpAtLast, IsBareRun, given_up}
-use Rattle.overlay_pages.specs.State.{State}
-use Rattle.overlay_pages.specs.View.{IsJoined, state_of, view_of}
-use Rattle.overlay_pages.proofs.Leaving.{LeavesStore, is_given, is_left, leaves_none, left_joined, left_state}
+use Rattle.overlay_pages.proofs.Common.{option_and_then, option_map, ◌≡◌, ℕ, zero, suc, ◌+◌, ◌≤◌, ◌<◌, Bool, true, false, Option, Some, None, is_some, refl, sym, ap, subst, ◌∙◌, arith, same_Some}
+use Rattle.overlay_pages.proofs.Stores.{Store, IsFrame, frame_inside}
+use Rattle.overlay_pages.proofs.Books.{entry_at, PageEntry, PageRun, is_unused, after_cut, are_cut, cut_page, cut_pages, holds_space, page_in, LedgerView, PageView, ledger_of, origin_of, GivesNothingUp, GivesUpAtLast, IsBareRun, given_up}
+use Rattle.overlay_pages.proofs.Views.{State, IsJoined, state_of, view_of}
+use Rattle.overlay_pages.proofs.Leaving.{LeavesStore, is_given, is_left, leaves_none, left_out}
 
 -- Pages of a run that go: the tables are without all of them at once, and the store follows page by page, as if each went only then.
 
@@ -67,11 +57,9 @@ module _ (old : Store) (v : LedgerView) (s : ℕ) (run : PageRun) (is : IsJoined
         let then = cut_page w s (run.page + k) in
         let at_last = given k low ∙ ap (given_up new) (page k low).there in
         let left_then : left ≡ is_left then x =
-        left_is ∙ sym (is_given new x) ∙ ap is_some (sym at_last ∙ ap (given_up then) (page k low).there) ∙ is_given then x in record {
-          joined = left_joined (view_of now w) next then s (run.page + k) x left so_far.joined there over refl left_then leaves;
-          state = left_state (view_of now w) next then s (run.page + k) x left so_far.joined there over refl left_then leaves
-              ∙ ap (λ (m : State). cut_page m s (run.page + k)) so_far.state;
-        }
+        left_is ∙ sym (is_given new x) ∙ ap is_some (sym at_last ∙ ap (given_up then) (page k low).there) ∙ is_given then x in
+        let all = left_out (view_of now w) next then s (run.page + k) x left so_far.joined there over refl left_then leaves in
+        record { joined = all.0; state = all.1 ∙ ap (λ (m : State). cut_page m s (run.page + k)) so_far.state }
 
     -- a frame that nothing names is given back, and one that is named stays
     module _ (k : ℕ) (low : k < run.n) (now : Store) (so_far : HasLeft old now v s run k) (entry : PageEntry) (entry_is : entry ≡ entry_at run k)

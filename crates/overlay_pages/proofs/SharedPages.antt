@@ -1,43 +1,13 @@
-use Rattle.std.proofs.Common.{◌≡◌, ℕ, ◌+◌, ◌^◌, ◌<◌, ◌≤◌, ◌⊎◌, ◌&&◌, not, Bool, true, false, cond, nat_eq, List, [], Option, Some, None, IsSome, length, refl, sym, ap, subst, ◌∙◌, arith, inl, inr}
-use Rattle.std.proofs.lemmas.Option.{none-some, same_Some}
-use Rattle.std.proofs.lemmas.Bool.{cases_eq}
-use Rattle.std.specs.Option.{option_and_then, option_map, option_map_or}
-use Rattle.std.specs.FinMap.{get, insert, remove}
-use Rattle.sizes.specs.declared.TheConstants.{PAGE_END}
-use Rattle.unit_map.specs.Pieces.{AreSettled, free_units, units_in}
-use Rattle.unit_map.specs.Changes.{HasRoom}
-use Rattle.unit_map.specs.declared.block.Block.{Block}
-use Rattle.overlay_bits.specs.Lines.{AreLines, has_line}
-use Rattle.overlay_address.specs.Names.{overlay_page}
-use Rattle.overlay_mapping_table.specs.declared.entry.Entry.{Entry}
-use Rattle.page_table.specs.Table.{Pages}
-use Rattle.page_table.specs.declared.entry.PageEntry.{PageEntry}
-use Rattle.ledger.specs.Ledger.{has_origin, is_unused}
-use Rattle.ledger.specs.Units.{class}
-use Rattle.ledger.specs.UnitLaws.{frame_for}
+use Rattle.overlay_pages.proofs.Common.{◌≡◌, ℕ, ◌+◌, ◌^◌, ◌<◌, ◌≤◌, ◌&&◌, not, Bool, true, false, cond, nat_eq, List, [], Option, Some, None, IsSome, length, refl, sym, ap, subst, ◌∙◌, arith, none-some, same_Some, option_map, option_map_or, get, remove, PAGE_END}
+use Rattle.overlay_pages.proofs.Stores.{AreSettled, free_units, units_in, HasRoom, Block, AreLines, has_line, overlay_page, Entry, IsStore, Store, IsFrame, frame_line, segment_at, Begins, HasLinesNow, KeepsFrames, KeepsOtherSegments, KeepsScratch, KeepsSegments, Lays, Lifts, block_of, capacity_of, count_fits, refilled, stays_twice}
+use Rattle.overlay_pages.proofs.Books.{Pages, PageEntry, has_origin, is_unused, class, frame_for, map_from, books_page, page_put_here, put_shared_as, there_space, holds_space, page_in, put_awaiting, put_page, put_shared, space_in, LedgerView, PageView, frame_at, frame_awaiting, holding_of, ledger_of, lines_of, overlay_at, with_page_shared}
+use Rattle.overlay_pages.proofs.Views.{line_in_page, page_lines, line_at, lines_same, PageState, State, HasShareRoom, shared_page, state_awaiting_put, IsHeld, IsJoined, MemoryView, line_seen, page_state, state_of, view_of, state_awaiting, state_page_there}
 use Rattle.ledger.specs.AloneLaws.{origin_of}
-use Rattle.segment_store.specs.declared.segment.Segment.{Segment}
-use Rattle.segment_store.specs.Kept.{IsStore}
-use Rattle.segment_store.specs.Store.{Store, IsFrame, frame_line, segment_at}
-use Rattle.segment_store.specs.Changes.{Begins, HasLinesNow, KeepsFrames, KeepsOtherSegments, KeepsScratch, KeepsSegments, Lays, Lifts, block_of}
-use Rattle.space_maps.specs.Options.{map_from}
-use Rattle.space_maps.specs.Books.{books_page}
-use Rattle.space_maps.specs.Laws.{page_put_here, put_shared_as, there_space}
-use Rattle.space_maps.specs.Spaces.{holds_space, page_in, put_awaiting, put_page, put_shared, space_in}
 use Rattle.space_ledger.specs.View as view
-use Rattle.space_ledger.specs.View.{LedgerView, PageView, SpaceView, frame_at, frame_awaiting, holding_of, ledger_of, lines_of, overlay_at, with_page_shared}
-use Rattle.overlay_pages.specs.Lines.{line_in_page, page_lines}
-use Rattle.overlay_pages.specs.LineLaws.{line_at, lines_same}
-use Rattle.overlay_pages.specs.State.{PageState, State}
 use Rattle.overlay_pages.specs.Changes as changes
-use Rattle.overlay_pages.specs.Changes.{HasShareRoom, limit_of, shared_page, units_of}
-use Rattle.overlay_pages.specs.TableLaws.{state_awaiting_put}
-use Rattle.overlay_pages.specs.View.{IsHeld, IsJoined, MemoryView, line_seen, page_state, segment_of, state_of, view_of}
-use Rattle.overlay_pages.specs.ViewLaws.{state_awaiting, state_page_there}
 use Rattle.overlay_pages.proofs.Steps.{seen_bare, seen_inside, seen_outside}
-use Rattle.overlay_pages.proofs.Coming.{HasPlaceFor, came_joined, came_state}
-use Rattle.segment_store.specs.Pointers.{capacity_of}
-use Rattle.segment_store.specs.Laws.{count_fits, refilled, stays_twice}
+use Rattle.overlay_pages.proofs.Coming.{HasPlaceFor, came}
+use Rattle.overlay_pages.proofs.Overlaying.{segments_some}
 use Rattle.overlay_pages.proofs.Joining.{Has, frames_twice, order_low, overlay_segment, overlay_set, page_with, segment_beside, sets_are, unit_low}
 use Rattle.overlay_pages.proofs.Growing.{free_is, has_room}
 use Rattle.overlay_pages.proofs.Tables.{awaiting_joined}
@@ -101,16 +71,17 @@ module _ (m : MemoryView) (new : Store) (from to p : ℕ) (was now : Option Entr
   there_now : holds_space (put_page m.table to p (record { entry = w.entry; overlay = now })) to ≡ true
   there_now = there_space (put_page m.table to p (record { entry = w.entry; overlay = now })) to p (record { entry = w.entry; overlay = now }) (page_put_here m.table to p (record { entry = w.entry; overlay = now }) to p refl refl)
 
-  pub share_joined : IsJoined (view_of new (put_awaiting (put_page m.table to p page) to (remove (space_in m.table to).awaiting p)))
-  share_joined = awaiting_joined new (put_page m.table to p page) to (remove (space_in m.table to).awaiting p) (came_joined m new to p page is there theirs.low absent taken no_frame so) there_now
-
-  pub share_state : page_state new page ≡ shared_page w.entry (page_state m.store w.x)
-      → state_of (view_of new (put_awaiting (put_page m.table to p page) to (remove (space_in m.table to).awaiting p))) ≡ changes.with_shared (state_of m) from to p
-  share_state same =
-      state_awaiting_put new (put_page m.table to p page) to (remove (space_in m.table to).awaiting p)
-      ∙ ap (λ s. put_awaiting s to (remove (space_in m.table to).awaiting p)) (came_state m new to p page is there theirs.low absent taken no_frame so ∙ ap (put_page (state_of m) to p) same)
-      ∙ ap (λ (t : Pages). put_awaiting (put_page (state_of m) to p (shared_page w.entry (page_state m.store w.x))) to (remove t p)) (sym (state_awaiting m to))
-      ∙ sym (shared_state m from to p was w)
+  pub shares : page_state new page ≡ shared_page w.entry (page_state m.store w.x)
+      → IsJoined (view_of new (put_awaiting (put_page m.table to p page) to (remove (space_in m.table to).awaiting p)))
+      × (state_of (view_of new (put_awaiting (put_page m.table to p page) to (remove (space_in m.table to).awaiting p))) ≡ changes.with_shared (state_of m) from to p)
+  shares same =
+      let one = came m new to p page is there theirs.low absent taken no_frame so in (
+        awaiting_joined new (put_page m.table to p page) to (remove (space_in m.table to).awaiting p) one.0 there_now,
+        state_awaiting_put new (put_page m.table to p page) to (remove (space_in m.table to).awaiting p)
+            ∙ ap (λ s. put_awaiting s to (remove (space_in m.table to).awaiting p)) (one.1 ∙ ap (put_page (state_of m) to p) same)
+            ∙ ap (λ (t : Pages). put_awaiting (put_page (state_of m) to p (shared_page w.entry (page_state m.store w.x))) to (remove t p)) (sym (state_awaiting m to))
+            ∙ sym (shared_state m from to p was w),
+      )
 
 -- A page without an overlay.
 pub bare_shared : (store : Store) (x : PageView) (entry : PageEntry) → x.overlay ≡ None → entry.frame ≡ x.entry.frame → page_state store (record { entry = entry; overlay = None }) ≡ shared_page entry (page_state store x)
@@ -145,33 +116,18 @@ module _ (m : MemoryView) (began new : Store) (to p : ℕ) (block : Block) (bits
       ap (λ l. Rattle.std.specs.Prelude.slice_index_or l block.unit None) so.laid_lines.segments
       ∙ refilled began.segments block.unit (record { owner = overlay_page to p; order = block.order; bits = [] }) bits so.begins.there (unit_low began so.began_is block.unit _ so.begins.there)
 
-  kept_all : KeepsSegments m.store new
-  kept_all unit segment there =
-      let first = so.segments unit segment there in
-      stays_twice m.store began new (block_of unit segment) first (so.laid_kept unit segment away (first.there ∙ there))
-    where
-      away : unit ≡ block.unit → ⊥
-      away same = none-some segment (sym so.begins.fresh ∙ ap (segment_at m.store) (sym same) ∙ there)
+  kept_all : KeepsOtherSegments m.store block.unit new
+  kept_all unit segment away there =
+      let first = so.segments unit segment there in stays_twice m.store began new (block_of unit segment) first (so.laid_kept unit segment away (first.there ∙ there))
 
   pub shares_overlay : HasPlaceFor m new to p (Some (record { bits = bits; block = block }))
   shares_overlay = record {
-    segments = kept_all;
+    segments = segments_some m.store new to p None (record { bits = bits; block = block }) (λ e h. absurd (none-some e h)) (λ _. so.begins.fresh) now_segment
+        (λ unit away. segment_beside began block.unit new.segments _ so.laid_lines.segments unit away ∙ segment_beside m.store block.unit began.segments _ so.begins.segments unit away)
+        kept_all some size (subst AreSettled (sym so.laid_lines.blocks) (so.settled is.blocks)) (ap units_in so.laid_lines.blocks ∙ so.whole) so.new_is;
     frames = frames_twice m.store began new so.frames so.laid_frames;
-    blocks = subst AreSettled (sym so.laid_lines.blocks) (so.settled is.blocks);
-    whole = ap units_in so.laid_lines.blocks ∙ so.whole;
-    store = so.new_is;
-    now_there = λ e same. subst (λ (f : Entry). segment_at new f.block.unit ≡ Some (segment_of to p f)) (same_Some _ e same) now_segment;
-    lined = λ e same. subst (λ (f : Entry). 0 < length f.bits) (same_Some _ e same) some;
-    size = λ e same. subst (λ (f : Entry). 2 ^ f.block.order ≡ class (length f.bits)) (same_Some _ e same) size;
-    others = λ unit segment there. at unit segment there (cases_eq unit block.unit);
     free = omega (arith, ap free_units so.laid_lines.blocks, so.loses, size);
   }
-    where
-      at : (unit : ℕ) (segment : Segment) → segment_at new unit ≡ Some segment → (unit ≡ block.unit) ⊎ (unit ≡ block.unit → ⊥)
-          → (segment_at m.store unit ≡ Some segment) ⊎ ((e : Entry) × (Some (record { bits = bits; block = block }) ≡ Some e) × (e.block.unit ≡ unit))
-      at unit segment there (inl same) = inr (record { bits = bits; block = block }, refl, sym same)
-      at unit segment there (inr away) =
-          inl (sym (segment_beside began block.unit new.segments _ so.laid_lines.segments unit away ∙ segment_beside m.store block.unit began.segments _ so.begins.segments unit away) ∙ there)
 
 -- The lines of the page, wherever its overlay is: those that were lifted.
 pub lifted_page : (a m : MemoryView) (lifted began new : Store) (from p to : ℕ) (xa xm : PageView) (ea : Entry) (entry : PageEntry) (block : Block) (bits : List ℕ) → xa.overlay ≡ Some ea → bits ≡ ea.bits → page_state m.store xm ≡ page_state a.store xa
@@ -260,10 +216,8 @@ module _ (a : MemoryView) (lifted began new : Store) (from to p : ℕ) (e : Entr
       → IsJoined (view_of new table) × (state_of (view_of new table) ≡ changes.with_shared (state_of a) from to p)
   overlaid table is_table =
       let page = lifted_page a m lifted began new from p to waits.x waits.x e waits.entry block e.bits waits.is refl page_same
-      (m_is.held from p waits.x waits.there) (share_sets a from p e is there over) lifts (λ line low. refl) so waits.frame_is in (
-        subst (λ t. IsJoined (view_of new t)) (sym (is_table ∙ overlaid_table))
-            (share_joined m new from to p (Some e) (Some (record { bits = e.bits; block = block })) m_is waits space absent now_shares),
-        ap (λ t. state_of (view_of new t)) (is_table ∙ overlaid_table)
-            ∙ share_state m new from to p (Some e) (Some (record { bits = e.bits; block = block })) m_is waits space absent now_shares page
-            ∙ ap (λ (s : State). changes.with_shared s from to p) same,
+      (m_is.held from p waits.x waits.there) (share_sets a from p e is there over) lifts (λ line low. refl) so waits.frame_is in
+      let all = shares m new from to p (Some e) (Some (record { bits = e.bits; block = block })) m_is waits space absent now_shares page in (
+        subst (λ t. IsJoined (view_of new t)) (sym (is_table ∙ overlaid_table)) all.0,
+        ap (λ t. state_of (view_of new t)) (is_table ∙ overlaid_table) ∙ all.1 ∙ ap (λ (s : State). changes.with_shared s from to p) same,
       )

@@ -1,30 +1,10 @@
-use Rattle.std.proofs.Common.{true≢false, ◌≡◌, ℕ, true, false, nat_lt, length, Option, Some, None, IsSome, is_some, refl, sym, ap, subst, ◌∙◌, arith}
-use Rattle.segment_store.specs.Store.{Store}
-use Rattle.std.specs.Option.{option_and_then, option_map, option_map_or}
-use Rattle.std.proofs.lemmas.Bool.Decides.{nat_tests}
-use Rattle.std.specs.FinMap.{get, remove}
-use Rattle.number_maps.specs.Keys.{by_key, removed_other, removed_same}
-use Rattle.page_table.specs.Table.{Pages}
-use Rattle.page_table.specs.declared.entry.PageEntry.{PageEntry}
-use Rattle.ledger.specs.Changes.{has_own}
-use Rattle.ledger.specs.Ledger.{Holding}
-use Rattle.space_maps.specs.Books.{books_page}
-use Rattle.space_maps.specs.Options.{by_option, map_from}
-use Rattle.space_maps.specs.Laws.{page_shared_beside, put_there, space_put}
-use Rattle.space_maps.specs.Spaces.{holds_space, page_in, put_shared, space_in}
-use Rattle.space_ledger.specs.Space.{IsLeast}
-use Rattle.space_ledger.specs.Calls.{AreBareBelow, AreSharedBare}
-use Rattle.space_ledger.specs.Calls.AreSharedBare.{Still, Then}
-use Rattle.space_ledger.specs.View.{LedgerView, PageView, frame_at, frame_awaiting, lines_of, overlay_at, with_page_shared}
-use Rattle.overlay_mapping_table.specs.declared.entry.Entry.{Entry}
-use Rattle.overlay_pages.specs.State.{PageState, SpaceState, State, books, held_page}
-use Rattle.overlay_pages.specs.Changes.{shared_page, with_shared}
-use Rattle.overlay_pages.specs.Calls.{AreShared, AwaitBare, AwaitsLike}
+use Rattle.overlay_pages.proofs.Common.{true≢false, ◌≡◌, ℕ, true, false, nat_lt, length, Option, Some, None, IsSome, is_some, refl, sym, ap, subst, ◌∙◌, arith, option_and_then, option_map, option_map_or, nat_tests, get, remove}
+use Rattle.overlay_pages.proofs.Stores.{Store, Entry}
+use Rattle.overlay_pages.proofs.Books.{by_key, removed_other, removed_same, Pages, PageEntry, has_own, Holding, books_page, by_option, map_from, page_shared_beside, put_there, space_put, holds_space, page_in, put_shared, space_in, IsLeast, AreBareBelow, AreSharedBare, Still, Then, LedgerView, PageView, frame_at, frame_awaiting, lines_of, overlay_at, with_page_shared}
+use Rattle.overlay_pages.proofs.Views.{PageState, SpaceState, State, books, held_page, shared_page, with_shared, AreShared, AwaitBare, AwaitsLike, IsJoined, MemoryView, page_state, state_of, view_of, state_page_there, state_awaiting, state_holds, state_page_some}
 use Rattle.overlay_pages.specs.Calls.AreShared.{Still as unchanged, Then as one_shared}
-use Rattle.overlay_pages.specs.View.{IsJoined, MemoryView, page_state, state_of, view_of}
-use Rattle.overlay_pages.specs.ViewLaws.{state_page_there, state_awaiting, state_holds, state_page_some}
 use Rattle.overlay_pages.proofs.Coming.{place_for_bare}
-use Rattle.overlay_pages.proofs.SharedPages.{awaits, bare_shared, share_joined, share_state, shared_table}
+use Rattle.overlay_pages.proofs.SharedPages.{awaits, bare_shared, shared_table, shares}
 use Rattle.overlay_pages.proofs.Tables.{frame_of_page}
 
 -- Pages without own lines that are shared one after the other.
@@ -106,12 +86,9 @@ pub bare_step : (store : Store) (v : LedgerView) (from to page : ℕ) → IsJoin
     × (state_of (view_of store (with_page_shared v from to page None)) ≡ with_shared (state_of (view_of store v)) from to page)
 bare_step store v from to page joined there bare frame space absent =
     let w = awaits v from to page None there bare frame in
-    let none = place_for_bare (view_of store v) to page joined in
-    let table = shared_table v from to page None None w in (
-      subst (λ (t : LedgerView). IsJoined (view_of store t)) (sym table) (share_joined (view_of store v) store from to page None None joined w space absent none),
-      ap (λ (t : LedgerView). state_of (view_of store t)) table
-          ∙ share_state (view_of store v) store from to page None None joined w space absent none (bare_shared store w.x w.entry w.is w.frame_is),
-    )
+    let table = shared_table v from to page None None w in
+    let all = shares (view_of store v) store from to page None None joined w space absent (place_for_bare (view_of store v) to page joined) (bare_shared store w.x w.entry w.is w.frame_is) in
+    (subst (λ (t : LedgerView). IsJoined (view_of store t)) (sym table) all.0, ap (λ (t : LedgerView). state_of (view_of store t)) table ∙ all.1)
 
 -- The pages that the ledger has shared, one after the other.
 module _ (store : Store) (from to until : ℕ) (differs : from ≡ to → ⊥) where

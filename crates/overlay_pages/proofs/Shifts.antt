@@ -1,32 +1,7 @@
-use Rattle.std.proofs.Common.{◌≡◌, ℕ, ◌+◌, ◌^◌, ◌<◌, ◌≤◌, ◌⊎◌, true, List, [], Option, Some, None, IsSome, is_some, length, refl, sym, ap, subst, ◌∙◌, arith, inl, inr}
-use Rattle.std.proofs.lemmas.Bool.{cases_lt}
-use Rattle.std.proofs.lemmas.Option.{none-some, same_Some}
-use Rattle.std.specs.Option.{option_and_then, option_map}
-use Rattle.unit_map.specs.Pieces.{AreSettled, CanSettle, Piece, free_units, units_in}
-use Rattle.unit_map.specs.declared.block.Block.{Block}
-use Rattle.store_compaction.specs.declared.moves.Move.{Move}
-use Rattle.store_compaction.specs.Next.{Ascend}
-use Rattle.overlay_bits.specs.Lines.{has_line}
-use Rattle.overlay_address.specs.Names.{overlay_page, page_of, space_of}
-use Rattle.overlay_address.specs.Laws.{page_back, space_back}
-use Rattle.overlay_mapping_table.specs.declared.entry.Entry.{Entry}
-use Rattle.ledger.specs.PlaceLaws.{by_place}
-use Rattle.ledger.specs.Units.{class, units}
-use Rattle.segment_store.specs.declared.segment.Segment.{Segment}
-use Rattle.segment_store.specs.Kept.{IsStore}
-use Rattle.segment_store.specs.Store.{Store, IsFrame, frame_line, segment_at}
-use Rattle.segment_store.specs.Changes.{AreCarried, IsKept, IsOutside, IsTarget, KeepsFrames, MakesMoves, units_after}
-use Rattle.segment_store.specs.Runs.{lands, made_carries, outside_fixed}
-use Rattle.space_maps.specs.Options.{map_twice, map_from}
-use Rattle.space_maps.specs.Laws.{KeepsSpaces, changed_there, keeps_page_set, keeps_still, keeps_twice, page_set_beside, page_set_here, set_some, spaces_alike, there_space}
-use Rattle.space_maps.specs.Spaces.{page_in, set_page}
-use Rattle.space_ledger.specs.View.{LedgerView, PageView, ledger_of, lines_of, overlay_at, with_block, with_overlay}
-use Rattle.overlay_pages.specs.LineLaws.{lines_same}
-use Rattle.overlay_pages.specs.State.{books}
-use Rattle.overlay_pages.specs.Calls.{MovesFewBeside}
-use Rattle.overlay_pages.specs.Steps.{FollowsAll, IsAhead, IsBehind, IsOfPage, FollowsAt, Moved, MovesFew, Tells, relocated, went_overlay, went_page}
-use Rattle.overlay_pages.specs.View.{IsHeld, IsJoinedWith, IsOwned, line_seen, page_state, segment_of, state_of, view_of}
-use Rattle.overlay_pages.specs.ViewLaws.{state_books, state_page}
+use Rattle.overlay_pages.proofs.Common.{◌≡◌, ℕ, ◌+◌, ◌^◌, ◌<◌, ◌≤◌, ◌⊎◌, true, List, [], Option, Some, None, IsSome, is_some, length, refl, sym, ap, subst, ◌∙◌, arith, inl, inr, cases_lt, none-some, same_Some, option_and_then, option_map}
+use Rattle.overlay_pages.proofs.Stores.{AreSettled, CanSettle, Piece, free_units, units_in, Block, Move, Ascend, has_line, overlay_page, page_of, space_of, page_back, space_back, Entry, Segment, IsStore, Store, IsFrame, frame_line, segment_at, AreCarried, IsKept, IsOutside, IsTarget, KeepsFrames, MakesMoves, units_after, lands, made_carries, outside_fixed}
+use Rattle.overlay_pages.proofs.Books.{by_place, class, units, map_twice, map_from, KeepsSpaces, changed_there, keeps_page_set, keeps_still, keeps_twice, page_set_beside, page_set_here, set_some, spaces_alike, there_space, page_in, set_page, LedgerView, PageView, ledger_of, lines_of, overlay_at, with_block, with_overlay}
+use Rattle.overlay_pages.proofs.Views.{lines_same, books, MovesFewBeside, FollowsAll, IsAhead, IsBehind, IsOfPage, FollowsAt, Moved, MovesFew, Tells, relocated, went_overlay, went_page, IsHeld, IsJoinedWith, IsOwned, line_seen, page_state, segment_of, state_of, view_of, state_books, state_page}
 use Rattle.overlay_pages.proofs.Overlaying.{overlay_beside}
 use Rattle.overlay_pages.proofs.Steps.{by_spot, names_apart, seen_inside, seen_outside, state_keeps}
 

@@ -1,10 +1,6 @@
-use Rattle.std.proofs.Common.{◌≡◌, ℕ, ◌+◌, ◌*◌, ◌%◌, ◌^◌, ◌<◌, ◌≤◌, false, List, length, refl, sym, ap, ◌∙◌, arith}
-use Rattle.unit_map.specs.Laws.{by_order}
-use Rattle.overlay_bits.specs.Lines.{AreLines, has_line, with_line}
-use Rattle.overlay_bits.specs.Laws.{are_with, count_with}
-use Rattle.ledger.specs.Units.{class}
-use Rattle.ledger.specs.ClassLaws.{class_le}
-use Rattle.segment_store.specs.Pointers.{capacity_of}
+use Rattle.overlay_pages.proofs.Common.{◌≡◌, ℕ, ◌+◌, ◌*◌, ◌%◌, ◌^◌, ◌<◌, ◌≤◌, false, List, length, refl, sym, ap, ◌∙◌, arith}
+use Rattle.overlay_pages.proofs.Stores.{by_order, AreLines, has_line, with_line, are_with, count_with, capacity_of}
+use Rattle.overlay_pages.proofs.Books.{class, class_le}
 
 -- How large a segment is for its lines.
 

@@ -1,31 +1,7 @@
-use Rattle.std.proofs.lemmas.Bool.{cases_eq}
-use Rattle.std.proofs.lemmas.Option.{none-some, same_Some}
-use Rattle.std.proofs.Common.{◌≡◌, ℕ, ◌+◌, ◌*◌, ◌<◌, ◌≤◌, ◌⊎◌, Bool, true, false, cond, nat_eq, List, Option, Some, None, slice_index_or, slice_set, refl, option_and_then, option_map, sym, ap, subst, ◌∙◌, arith, inl, inr}
-use Rattle.sizes.specs.declared.TheConstants.{FRAME_UNITS, LAST_SPACE, PAGE_END}
-use Rattle.unit_map.specs.declared.block.Block.{Block}
-use Rattle.unit_map.specs.Pieces.{AreSettled, IsPiece, Piece, free_units, taken_at, units_in}
-use Rattle.overlay_bits.specs.Lines.{has_line}
-use Rattle.overlay_address.specs.Names.{overlay_page}
-use Rattle.overlay_address.specs.Laws.{same_page, same_space}
-use Rattle.overlay_mapping_table.specs.declared.entry.Entry.{Entry}
-use Rattle.line_store.specs.Lines.{line_of}
-use Rattle.ledger.specs.AloneLaws.{are, arent}
-use Rattle.ledger.specs.PlaceLaws.{by_place}
-use Rattle.ledger.specs.Units.{units}
-use Rattle.segment_store.specs.declared.segment.Segment.{Segment}
-use Rattle.segment_store.specs.Kept.{IsStore}
-use Rattle.segment_store.specs.Store.{Store, IsFrame, IsSegment, frame_line, frame_place, line_in, lines_at, place_of, segment_at}
-use Rattle.segment_store.specs.Changes.{KeepsFrame, KeepsSegment}
-use Rattle.segment_store.specs.Laws.{lines_there}
-use Rattle.space_maps.specs.Options.{map_alike, by_option}
-use Rattle.space_maps.specs.Laws.{KeepsSpaces, keeps_page_set, page_again, page_set_beside, page_set_here, set_some, spaces_alike, there_space}
-use Rattle.space_maps.specs.Spaces.{holds_space, page_in, put_page, set_page}
-use Rattle.space_ledger.specs.View.{LedgerView, PageView, ledger_of, lines_of, overlay_at}
-use Rattle.overlay_pages.specs.LineLaws.{lines_same, set_line}
-use Rattle.overlay_pages.specs.Lines.{page_lines}
-use Rattle.overlay_pages.specs.State.{PageState}
-use Rattle.overlay_pages.specs.View.{IsHeld, IsJoined, IsJoinedWith, IsOwned, MemoryView, line_seen, page_state, place_in_page, segment_of, state_of, view_of}
-use Rattle.overlay_pages.specs.ViewLaws.{state_awaiting, state_frames, state_holds, state_mark, state_page, state_zero}
+use Rattle.overlay_pages.proofs.Common.{cases_eq, none-some, same_Some, ◌≡◌, ℕ, ◌+◌, ◌*◌, ◌^◌, ◌<◌, ◌≤◌, ◌⊎◌, Bool, true, false, cond, nat_eq, List, Option, Some, None, length, slice_index_or, slice_set, refl, true≢false, option_and_then, option_map, sym, ap, subst, ◌∙◌, arith, inl, inr, FRAME_UNITS, LAST_SPACE, PAGE_END}
+use Rattle.overlay_pages.proofs.Stores.{Block, AreSettled, IsPiece, Piece, free_units, taken_at, units_in, has_line, overlay_page, same_page, same_space, Entry, line_of, Segment, IsStore, Store, IsFrame, IsSegment, frame_line, frame_place, line_in, lines_at, place_of, segment_at, KeepsFrame, KeepsSegment, KeepsSegments, block_of, lines_there}
+use Rattle.overlay_pages.proofs.Books.{alone_apart, are, arent, Holding, is_alone, books_there, by_place, class, units, map_alike, by_option, KeepsSpaces, keeps_page_set, page_again, page_set_beside, page_set_here, set_some, spaces_alike, there_space, holds_space, page_in, put_page, set_page, LedgerView, PageView, holding_of, ledger_of, lines_of, origin_of}
+use Rattle.overlay_pages.proofs.Views.{lines_same, set_line, page_lines, PageState, IsHeld, IsJoined, IsJoinedWith, IsOwned, MemoryView, line_seen, page_state, place_in_page, segment_of, state_of, view_of, state_awaiting, state_frames, state_holds, state_mark, state_page, state_zero}
 
 -- A line of a page: it stands in the segment of the overlay that has it, or in the frame.
 pub by_spot : {P : Type 0} (x : PageView) (i : ℕ) → ((e : Entry) → x.overlay ≡ Some e → has_line e.bits i ≡ true → P) → (has_line (lines_of x.overlay) i ≡ false → P) → P
@@ -115,16 +91,7 @@ names_apart s p q r hs hp hq hr same go =
     go (same_space q r s p (omega (arith, hq)) (omega (arith, hr)) (omega (arith, hs)) (omega (arith, hp)) same)
     (same_page q r s p (omega (arith, hq)) (omega (arith, hr)) (omega (arith, hs)) (omega (arith, hp)) same)
 
--- no segment is that of a page without an overlay
-pub not_owned : (v : MemoryView) (s p unit : ℕ) (segment : Segment) → IsJoined v → s ≤ LAST_SPACE → p < PAGE_END → overlay_at v.table s p ≡ None → segment_at v.store unit ≡ Some segment
-    → segment.owner ≡ overlay_page s p → ⊥
-not_owned v s p unit segment is number low bare at_unit named =
-    let own = is.owned unit segment at_unit in
-    let theirs = is.held own.space own.page own.x own.there in
-    names_apart s p own.space own.page number low theirs.number theirs.low (sym own.owner ∙ named)
-    (λ qq rr. none-some own.overlay (sym bare ∙ (λ i. overlay_at v.table (sym qq i) (sym rr i)) ∙ ap (option_and_then (λ (x : PageView). x.overlay)) own.there ∙ own.is))
-
--- and two overlaid pages have their segments at different units
+-- two overlaid pages have their segments at different units
 pub units_apart : (v : MemoryView) (s p : ℕ) (x : PageView) (e : Entry) (q r : ℕ) (y : PageView) (f : Entry) → IsJoined v → page_in v.table s p ≡ Some x → x.overlay ≡ Some e
     → page_in v.table q r ≡ Some y → y.overlay ≡ Some f → (q ≡ s → r ≡ p → ⊥) → f.block.unit ≡ e.block.unit → ⊥
 units_apart v s p x e q r y f is at_x over at_y other d same =
@@ -140,21 +107,66 @@ frame_still store frame is = record { stays = is; lines = λ line low. refl }
 pub segment_still : (store : Store) (block : Block) → KeepsSegment store store block
 segment_still store block = record { there = refl; places = λ line has. refl; lines = λ line has. refl }
 
+abbrev pub overlay_of : Option PageView → Option Entry
+overlay_of = option_and_then (λ (x : PageView). x.overlay)
+
+-- a unit isn't that of an overlay
+abbrev pub IsElse : Option Entry → ℕ → Type 0
+IsElse o unit = (e : Entry) → o ≡ Some e → unit ≡ e.block.unit → ⊥
+
+-- What a store does where the overlay of a page was one and is another one now: it has the segment of this in place of that of the
+-- other, and keeps the rest.
+pub record Segments (P : List Piece → Type 0) (old new : Store) (s p : ℕ) (was now : Option Entry) : Type 0 where
+  pub kept : (unit : ℕ) (segment : Segment) → IsElse was unit → segment_at old unit ≡ Some segment → KeepsSegment old new (block_of unit segment)
+  pub others : (unit : ℕ) (segment : Segment) → segment_at new unit ≡ Some segment
+      → (IsElse was unit × (segment_at old unit ≡ Some segment)) ⊎ ((e : Entry) × (now ≡ Some e) × (e.block.unit ≡ unit))
+  pub there : (e : Entry) → now ≡ Some e → segment_at new e.block.unit ≡ Some (segment_of s p e)
+  pub lined : (e : Entry) → now ≡ Some e → 0 < length e.bits
+  pub size : (e : Entry) → now ≡ Some e → 2 ^ e.block.order ≡ class (length e.bits)
+  pub blocks : P new.blocks
+  pub whole : units_in new.blocks ≡ units_in old.blocks
+  pub store : IsStore new
+
+-- of a page that has no overlay before and after, where no segment changed
+pub segments_bare : {P : List Piece → Type 0} (old new : Store) (s p : ℕ) → new.segments ≡ old.segments → KeepsSegments old new → P new.blocks → units_in new.blocks ≡ units_in old.blocks → IsStore new
+    → Segments P old new s p None None
+segments_bare old new s p same kept blocks whole store = record {
+  kept = λ unit segment _ there. kept unit segment there;
+  others = λ unit segment there. inl (λ e h. absurd (none-some e h), sym (ap (λ l. slice_index_or l unit None) same) ∙ there);
+  there = λ e h. absurd (none-some e h);
+  lined = λ e h. absurd (none-some e h);
+  size = λ e h. absurd (none-some e h);
+  blocks = blocks;
+  whole = whole;
+  store = store;
+}
+
+-- a frame that the zero frame is, or one of another page
+abbrev pub IsOthers : LedgerView → ℕ → ℕ → ℕ → Type 0
+IsOthers v s p frame =
+    (frame ≡ v.zero_frame) ⊎ ((q : ℕ) × (r : ℕ) × (y : PageView) × (q ≡ s → r ≡ p → ⊥) × (page_in v q r ≡ Some y) × (frame ≡ y.entry.frame))
+
+-- the frame of a page that is alone is none of those
+pub alone_other : (v : LedgerView) (s p : ℕ) (x : PageView) → page_in v s p ≡ Some x → is_alone (ledger_of v) s p ≡ true → (frame : ℕ) → IsOthers v s p frame → frame ≡ x.entry.frame → ⊥
+alone_other v s p x there alone frame other same =
+    let apart = alone_apart (ledger_of v) s p alone in
+    let origin : apart.holding.origin ≡ origin_of v.zero_frame x.entry.frame = ap (λ (h : Holding). h.origin) (same_Some _ _ (sym apart.there ∙ books_there holding_of v s p x there)) in
+    elim other [
+      | inl zero ↦ true≢false (sym (are apart.holding.origin 0 (origin ∙ ap (λ b. cond b 0 (x.entry.frame + 1)) (are x.entry.frame v.zero_frame (sym same ∙ zero)))) ∙ apart.not_zero)
+      | inr y ↦
+          let equal = ap (origin_of v.zero_frame) (sym y.5 ∙ same) ∙ sym origin in
+          true≢false (sym (are (origin_of v.zero_frame y.2.entry.frame) apart.holding.origin equal) ∙ apart.others y.0 y.1 (holding_of v.zero_frame y.2) y.3 (books_there holding_of v y.0 y.1 y.2 y.4))
+    ]
+
 -- One page is another one now, and all that the others need stays.
-pub record Step (P : List Piece → Type 0) (old new : MemoryView) (s p : ℕ) (x : Option PageView) : Type 0 where
+pub record Step (P : List Piece → Type 0) (old new : MemoryView) (s p : ℕ) (a b : Option PageView) : Type 0 where
   pub there : holds_space old.table s ≡ true
-  pub number : s ≤ LAST_SPACE
   pub low : p < PAGE_END
-  pub table_is : new.table ≡ set_page old.table s p x
-  pub store : IsStore new.store
-  pub blocks : P new.store.blocks
-  pub whole : units_in new.store.blocks ≡ units_in old.store.blocks
-  pub segments : (q r : ℕ) (y : PageView) (e : Entry) → (q ≡ s → r ≡ p → ⊥) → page_in old.table q r ≡ Some y → y.overlay ≡ Some e → KeepsSegment old.store new.store e.block
-  pub frames : (q r : ℕ) (y : PageView) → (q ≡ s → r ≡ p → ⊥) → page_in old.table q r ≡ Some y → KeepsFrame old.store new.store y.entry.frame
-  pub zero : KeepsFrame old.store new.store old.table.zero_frame
-  pub held : (y : PageView) → x ≡ Some y → IsHeld new.store s p y
-  pub owned : (unit : ℕ) (segment : Segment) → segment_at new.store unit ≡ Some segment
-      → ((segment_at old.store unit ≡ Some segment) × (segment.owner ≡ overlay_page s p → ⊥)) ⊎ IsOwned (set_page old.table s p x) unit segment
+  pub was : page_in old.table s p ≡ a
+  pub table_is : new.table ≡ set_page old.table s p b
+  pub segments : Segments P old.store new.store s p (overlay_of a) (overlay_of b)
+  pub frames : (frame : ℕ) → IsFrame old.store frame → IsOthers old.table s p frame → KeepsFrame old.store new.store frame
+  pub frame : (y : PageView) → b ≡ Some y → IsFrame new.store y.entry.frame
   pub count : free_units new.store.blocks + units (ledger_of new.table) ≡ units_in new.store.blocks
 
 -- what the tables keep, the state does
@@ -168,116 +180,148 @@ state_keeps old new keeps = record {
 }
 
 -- So the view is that of a memory still.
-module _ {P : List Piece → Type 0} (old new : MemoryView) (s p : ℕ) (x : Option PageView) (is : IsJoined old) (step : Step P old new s p x) where
+module _ {P : List Piece → Type 0} (old new : MemoryView) (s p : ℕ) (a b : Option PageView) (is : IsJoined old) (step : Step P old new s p a b) where
   step_keeps : KeepsSpaces old.table new.table
-  step_keeps = subst (KeepsSpaces old.table) (sym step.table_is) (keeps_page_set old.table s p x step.there)
+  step_keeps = subst (KeepsSpaces old.table) (sym step.table_is) (keeps_page_set old.table s p b step.there)
 
-  step_here : (q r : ℕ) → q ≡ s → r ≡ p → page_in new.table q r ≡ x
-  step_here q r qq rr = ap (λ (v : LedgerView). page_in v q r) step.table_is ∙ page_set_here old.table s p x q r qq rr
+  step_here : (q r : ℕ) → q ≡ s → r ≡ p → page_in new.table q r ≡ b
+  step_here q r qq rr = ap (λ (v : LedgerView). page_in v q r) step.table_is ∙ page_set_here old.table s p b q r qq rr
 
   step_beside : (q r : ℕ) → (q ≡ s → r ≡ p → ⊥) → page_in new.table q r ≡ page_in old.table q r
-  step_beside q r d = ap (λ (v : LedgerView). page_in v q r) step.table_is ∙ page_set_beside old.table s p x q r d
+  step_beside q r d = ap (λ (v : LedgerView). page_in v q r) step.table_is ∙ page_set_beside old.table s p b q r d
+
+  frame_kept : (q r : ℕ) (y : PageView) → (q ≡ s → r ≡ p → ⊥) → page_in old.table q r ≡ Some y → KeepsFrame old.store new.store y.entry.frame
+  frame_kept q r y d there = step.frames y.entry.frame (is.held q r y there).frame (inr (q, r, y, d, there, refl))
+
+  segment_kept : (q r : ℕ) (y : PageView) (f : Entry) → (q ≡ s → r ≡ p → ⊥) → page_in old.table q r ≡ Some y → y.overlay ≡ Some f → KeepsSegment old.store new.store f.block
+  segment_kept q r y f d there over =
+      step.segments.kept f.block.unit (segment_of q r f) (λ e was. by_option a
+      (λ none. absurd (none-some e (sym (ap overlay_of none) ∙ was)))
+      (λ x some. units_apart old s p x e q r y f is (step.was ∙ some) (sym (ap overlay_of some) ∙ was) there over d)) ((is.held q r y there).segment f over)
 
   step_held : (q r : ℕ) (y : PageView) → page_in new.table q r ≡ Some y → IsHeld new.store q r y
   step_held q r y there = by_place s p q r
-      (λ qq rr. subst (λ n. IsHeld new.store n r y) (sym qq) (subst (λ n. IsHeld new.store s n y) (sym rr) (step.held y (sym (step_here q r qq rr) ∙ there))))
+      (λ qq rr.
+      let here = ap overlay_of (sym (step_here q r qq rr) ∙ there) in
+      subst (λ n. IsHeld new.store n r y) (sym qq) (subst (λ n. IsHeld new.store s n y) (sym rr) (record {
+        number = is.numbers s step.there;
+        low = step.low;
+        frame = step.frame y (sym (step_here q r qq rr) ∙ there);
+        segment = λ e over. step.segments.there e (here ∙ over);
+        lined = λ e over. step.segments.lined e (here ∙ over);
+        size = λ e over. step.segments.size e (here ∙ over);
+      })))
       (λ d.
       let before : page_in old.table q r ≡ Some y = sym (step_beside q r d) ∙ there in
-      held_kept old.store new.store q r y (is.held q r y before) (step.frames q r y d before) (λ e over. step.segments q r y e d before over))
+      held_kept old.store new.store q r y (is.held q r y before) (frame_kept q r y d before) (λ e over. segment_kept q r y e d before over))
 
   step_owned : (unit : ℕ) (segment : Segment) → segment_at new.store unit ≡ Some segment → IsOwned new.table unit segment
-  step_owned unit segment there = at (step.owned unit segment there)
-    where
-      kept : (segment.owner ≡ overlay_page s p → ⊥) → IsOwned old.table unit segment → IsOwned new.table unit segment
-      kept other was = record {
-        space = was.space;
-        page = was.page;
-        x = was.x;
-        overlay = was.overlay;
-        there = step_beside was.space was.page (λ qq rr. other (was.owner ∙ ap (λ n. overlay_page n was.page) qq ∙ ap (overlay_page s) rr)) ∙ was.there;
-        is = was.is;
-        unit_is = was.unit_is;
-        owner = was.owner;
-      }
-
-      at : ((segment_at old.store unit ≡ Some segment) × (segment.owner ≡ overlay_page s p → ⊥)) ⊎ IsOwned (set_page old.table s p x) unit segment → IsOwned new.table unit segment
-      at (inl h) = kept h.1 (is.owned unit segment h.0)
-      at (inr h) = subst (λ (v : LedgerView). IsOwned v unit segment) (sym step.table_is) h
-
-  pub stepped : IsJoinedWith P new
-  stepped = record {
-    store = step.store;
-    blocks = step.blocks;
-    frames = omega (arith, is.frames, step.whole, step_keeps.frames);
-    count = step.count;
-    numbers = λ q there. is.numbers q (sym (step_keeps.there q) ∙ there);
-    zero = subst (IsFrame new.store) (sym step_keeps.zero_frame) step.zero.stays;
-    zeros = λ line low. ap (λ f. frame_line new.store f line) step_keeps.zero_frame ∙ step.zero.lines line low ∙ is.zeros line low;
-    held = step_held;
-    owned = step_owned;
-  }
+  step_owned unit segment there = elim (step.segments.others unit segment there) [
+    | inl h ↦
+        let own = is.owned unit segment h.1 in
+        record {
+          space = own.space;
+          page = own.page;
+          x = own.x;
+          overlay = own.overlay;
+          there = step_beside own.space own.page (λ qq rr. h.0 own.overlay (ap overlay_of (sym step.was ∙ (λ i. page_in old.table (sym qq i) (sym rr i)) ∙ own.there) ∙ own.is) (sym own.unit_is)) ∙ own.there;
+          is = own.is;
+          unit_is = own.unit_is;
+          owner = own.owner;
+        }
+    | inr h ↦ by_option b
+        (λ none. absurd (none-some h.0 (sym (ap overlay_of none) ∙ h.1)))
+        (λ y some. record {
+          space = s;
+          page = p;
+          x = y;
+          overlay = h.0;
+          there = step_here s p refl refl ∙ some;
+          is = sym (ap overlay_of some) ∙ h.1;
+          unit_is = h.2;
+          owner = ap (λ (g : Segment). g.owner) (same_Some _ _ (sym there ∙ ap (segment_at new.store) (sym h.2) ∙ step.segments.there h.0 h.1));
+        })
+  ]
 
   state_beside : (q r : ℕ) → (q ≡ s → r ≡ p → ⊥) → page_in (state_of new) q r ≡ page_in (state_of old) q r
   state_beside q r d =
       state_page new q r ∙ ap (option_map (page_state new.store)) (step_beside q r d)
       ∙ map_alike (page_state new.store) (page_state old.store) (page_in old.table q r)
-      (λ y e. page_kept old.store new.store q r y (is.held q r y e) (step.frames q r y d e) (λ o over. step.segments q r y o d e over))
+      (λ y e. page_kept old.store new.store q r y (is.held q r y e) (frame_kept q r y d e) (λ o over. segment_kept q r y o d e over))
       ∙ sym (state_page old q r)
 
-  pub state_stepped : state_of new ≡ set_page (state_of old) s p (option_map (page_state new.store) x)
-  state_stepped = spaces_alike (state_of old) (state_of new) (set_page (state_of old) s p z)
-      (state_keeps old new step_keeps)
-      (keeps_page_set (state_of old) s p z (state_holds old s ∙ step.there))
-      (λ q r. by_place s p q r
-      (λ qq rr. state_page new q r ∙ ap (option_map (page_state new.store)) (step_here q r qq rr) ∙ sym (page_set_here (state_of old) s p z q r qq rr))
-      (λ d. state_beside q r d ∙ sym (page_set_beside (state_of old) s p z q r d)))
+  pub stepped : IsJoinedWith P new × (state_of new ≡ set_page (state_of old) s p (option_map (page_state new.store) b))
+  stepped = (
+    record {
+      store = step.segments.store;
+      blocks = step.segments.blocks;
+      frames = omega (arith, is.frames, step.segments.whole, step_keeps.frames);
+      count = step.count;
+      numbers = λ q there. is.numbers q (sym (step_keeps.there q) ∙ there);
+      zero = subst (IsFrame new.store) (sym step_keeps.zero_frame) zero.stays;
+      zeros = λ line low. ap (λ f. frame_line new.store f line) step_keeps.zero_frame ∙ zero.lines line low ∙ is.zeros line low;
+      held = step_held;
+      owned = step_owned;
+    },
+    spaces_alike (state_of old) (state_of new) (set_page (state_of old) s p z)
+        (state_keeps old new step_keeps)
+        (keeps_page_set (state_of old) s p z (state_holds old s ∙ step.there))
+        (λ q r. by_place s p q r
+        (λ qq rr. state_page new q r ∙ ap (option_map (page_state new.store)) (step_here q r qq rr) ∙ sym (page_set_here (state_of old) s p z q r qq rr))
+        (λ d. state_beside q r d ∙ sym (page_set_beside (state_of old) s p z q r d))),
+  )
     where
       z : Option PageState
-      z = option_map (page_state new.store) x
+      z = option_map (page_state new.store) b
+
+      zero : KeepsFrame old.store new.store old.table.zero_frame
+      zero = step.frames old.table.zero_frame is.zero (inl refl)
 
 -- Lines of one page are others now, and the page and the tables are as they were.
-pub record Rewrites (v : MemoryView) (new : Store) (s p : ℕ) : Type 0 where
+pub record Rewrites (v : MemoryView) (new : Store) (s p : ℕ) (x : PageView) : Type 0 where
   pub blocks : new.blocks ≡ v.store.blocks
   pub same : new.segments ≡ v.store.segments
   pub store : IsStore new
-  pub segments : (q r : ℕ) (y : PageView) (e : Entry) → (q ≡ s → r ≡ p → ⊥) → page_in v.table q r ≡ Some y → y.overlay ≡ Some e → KeepsSegment v.store new e.block
-  pub frames : (q r : ℕ) (y : PageView) → (q ≡ s → r ≡ p → ⊥) → page_in v.table q r ≡ Some y → KeepsFrame v.store new y.entry.frame
-  pub zero : KeepsFrame v.store new v.table.zero_frame
+  pub segments : (unit : ℕ) (segment : Segment) → IsElse x.overlay unit → segment_at v.store unit ≡ Some segment → KeepsSegment v.store new (block_of unit segment)
+  pub frames : (frame : ℕ) → IsFrame v.store frame → IsOthers v.table s p frame → KeepsFrame v.store new frame
 
-module _ (v : MemoryView) (new : Store) (s p : ℕ) (x : PageView) (is : IsJoined v) (there : page_in v.table s p ≡ Some x) (so : Rewrites v new s p) where
+module _ (v : MemoryView) (new : Store) (s p : ℕ) (x : PageView) (is : IsJoined v) (there : page_in v.table s p ≡ Some x) (so : Rewrites v new s p x) where
   segment_same : (unit : ℕ) → segment_at new unit ≡ segment_at v.store unit
   segment_same unit = ap (λ l. slice_index_or l unit None) so.same
 
-  rewrites_step : Step AreSettled v (view_of new v.table) s p (Some x)
+  rewrites_step : Step AreSettled v (view_of new v.table) s p (Some x) (Some x)
   rewrites_step =
       let was = is.held s p x there in
-      let table = sym (set_some v.table s p x ∙ page_again v.table s p x there) in
       record {
         there = there_space v.table s p x there;
-        number = was.number;
         low = was.low;
-        table_is = table;
-        store = so.store;
-        blocks = subst AreSettled (sym so.blocks) is.blocks;
-        whole = ap units_in so.blocks;
-        segments = so.segments;
-        frames = so.frames;
-        zero = so.zero;
-        held = λ y same. subst (IsHeld new s p) (same_Some x y same) (record {
-          number = was.number;
-          low = was.low;
-          frame = record { taken = subst (λ l. IsPiece l (taken_at (FRAME_UNITS * x.entry.frame) 4)) (sym so.blocks) was.frame.taken; alone = segment_same (FRAME_UNITS * x.entry.frame) ∙ was.frame.alone };
-          segment = λ e over. segment_same e.block.unit ∙ was.segment e over;
+        was = there;
+        table_is = sym (set_some v.table s p x ∙ page_again v.table s p x there);
+        segments = record {
+          kept = so.segments;
+          others = λ unit segment at_unit.
+              let before = sym (segment_same unit) ∙ at_unit in
+              by_option x.overlay
+              (λ none. inl (λ e h. absurd (none-some e (sym none ∙ h)), before))
+              (λ f over. elim (cases_eq unit f.block.unit) [
+                | inl same ↦ inr (f, over, sym same)
+                | inr away ↦ inl (λ e h same. away (same ∙ ap (λ (g : Entry). g.block.unit) (same_Some e f (sym h ∙ over))), before)
+              ]);
+          there = λ e over. segment_same e.block.unit ∙ was.segment e over;
           lined = was.lined;
           size = was.size;
+          blocks = subst AreSettled (sym so.blocks) is.blocks;
+          whole = ap units_in so.blocks;
+          store = so.store;
+        };
+        frames = so.frames;
+        frame = λ y same. subst (λ (z : PageView). IsFrame new z.entry.frame) (same_Some x y same) (record {
+          taken = subst (λ l. IsPiece l (taken_at (FRAME_UNITS * x.entry.frame) 4)) (sym so.blocks) was.frame.taken;
+          alone = segment_same (FRAME_UNITS * x.entry.frame) ∙ was.frame.alone;
         });
-        owned = λ unit segment at_unit. inr (subst (λ (t : LedgerView). IsOwned t unit segment) table (is.owned unit segment (sym (segment_same unit) ∙ at_unit)));
         count = ap (λ l. free_units l + units (ledger_of v.table)) so.blocks ∙ is.count ∙ sym (ap units_in so.blocks);
       }
 
-  pub rewritten_joined : IsJoined (view_of new v.table)
-  rewritten_joined = stepped v (view_of new v.table) s p (Some x) is rewrites_step
-
-  pub rewritten_state : state_of (view_of new v.table) ≡ put_page (state_of v) s p (page_state new x)
+  pub rewritten : IsJoined (view_of new v.table) × (state_of (view_of new v.table) ≡ put_page (state_of v) s p (page_state new x))
   unfolding set_page
-  rewritten_state = state_stepped v (view_of new v.table) s p (Some x) is rewrites_step
+  rewritten = stepped v (view_of new v.table) s p (Some x) (Some x) is rewrites_step

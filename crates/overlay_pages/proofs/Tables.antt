@@ -1,33 +1,9 @@
-use Rattle.std.proofs.Common.{true≢false, ◌≡◌, ℕ, ◌+◌, ◌*◌, ◌≤◌, ◌<◌, ◌&&◌, Bool, true, false, cond, not, List, [], ◌∷◌, Option, Some, None, IfSome, IsSome, is_some, length, refl, nat_cmp, sym, ap, subst, ◌∙◌, arith}
-use Rattle.std.proofs.lemmas.Option.{none-some}
-use Rattle.std.specs.Option.{option_and_then, option_map, option_map_or}
-use Rattle.std.specs.FinMap.{FinMap, empty, get, get-empty, len}
-use Rattle.sizes.specs.declared.TheConstants.{FRAME_UNITS, LAST_SPACE, PAGE_END}
-use Rattle.number_maps.specs.Keys.{alike}
-use Rattle.number_maps.specs.Values.{len_low}
-use Rattle.number_maps.specs.Views.{get_viewed}
-use Rattle.unit_map.specs.Pieces.{free_units}
-use Rattle.page_table.specs.Table.{Pages}
-use Rattle.page_table.specs.declared.entry.PageEntry.{PageEntry}
-use Rattle.ledger.specs.Ledger.{Ledger, is_alone}
-use Rattle.ledger.specs.Units.{units}
-use Rattle.ledger.specs.ClassLaws.{class_most}
-use Rattle.ledger.specs.TallyLaws.{same_units}
-use Rattle.ledger.specs.Events.{Store, ledger_after}
-use Rattle.ledger.specs.StoreLaws.{store_joins, store_nothing, units_joined}
-use Rattle.ledger.specs.Changes.{with_lines}
+use Rattle.overlay_pages.proofs.Common.{true≢false, ◌≡◌, ℕ, ◌+◌, ◌*◌, ◌≤◌, ◌<◌, ◌&&◌, Bool, true, false, cond, not, List, [], ◌∷◌, Option, Some, None, IfSome, IsSome, is_some, length, refl, nat_cmp, sym, ap, subst, ◌∙◌, arith, none-some, option_and_then, option_map, option_map_or, FinMap, empty, get, get-empty, len, FRAME_UNITS, LAST_SPACE, PAGE_END}
+use Rattle.overlay_pages.proofs.Stores.{free_units}
+use Rattle.overlay_pages.proofs.Books.{alike, len_low, get_viewed, Pages, PageEntry, Ledger, is_alone, units, class_most, same_units, Store, ledger_after, store_joins, store_nothing, units_joined, with_lines, map_twice, by_option, by_test, books_added, books_awaiting, books_lost, books_marked, books_page, page_added, page_awaited, page_lost, page_marked, there_cut, there_put, bare_space, cut_space, holds_space, page_in, put_awaiting, put_mark, put_space, space_in, turned_page, LedgerView, PageView, frame_at, holding_of, ledger_of, lines_of, overlay_at}
+use Rattle.overlay_pages.proofs.Views.{PageState, books, brought, with_brought, writes_frame, IsNextPage, RisesBy, entries_in, IsJoined, MemoryView, page_state, state_of, view_of, state_books, state_mark, state_page, state_page_some, state_pages}
 use Rattle.segment_store.specs.Store as store
-use Rattle.space_maps.specs.Options.{map_twice, by_option, by_test}
-use Rattle.space_maps.specs.Books.{books_added, books_awaiting, books_lost, books_marked, books_page}
-use Rattle.space_maps.specs.Laws.{page_added, page_awaited, page_lost, page_marked, there_cut, there_put}
-use Rattle.space_maps.specs.Spaces.{bare_space, cut_space, holds_space, page_in, put_awaiting, put_mark, put_space, space_in, turned_page}
-use Rattle.space_ledger.specs.View.{LedgerView, PageView, frame_at, holding_of, ledger_of, lines_of, overlay_at}
 use Rattle.space_ledger.specs.Calls as calls
-use Rattle.overlay_pages.specs.State.{PageState, books}
-use Rattle.overlay_pages.specs.Changes.{brought, with_brought, writes_frame}
-use Rattle.overlay_pages.specs.Calls.{IsNextPage, RisesBy, entries_in}
-use Rattle.overlay_pages.specs.View.{IsJoined, MemoryView, page_state, state_of, view_of}
-use Rattle.overlay_pages.specs.ViewLaws.{state_books, state_mark, state_page, state_page_some, state_pages}
 
 -- What calls that only read the tables answer, said of the state.
 

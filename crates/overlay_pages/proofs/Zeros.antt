@@ -1,20 +1,8 @@
-use Rattle.std.proofs.Common.{◌≡◌, ℕ, zero, suc, ◌+◌, ◌≤◌, ◌<◌, true, cond, [], None, refl, sym, ap, subst, ◌∙◌, arith}
-use Rattle.std.proofs.lemmas.Bool.Decides.{nat_tests}
-use Rattle.sizes.specs.declared.TheConstants.{PAGE_END}
-use Rattle.page_table.specs.Table.{is_within}
-use Rattle.page_table.specs.declared.entry.PageEntry.{PageEntry}
-use Rattle.ledger.specs.Ledger.{is_unused}
-use Rattle.ledger.specs.UnitLaws.{frame_for}
-use Rattle.ledger.specs.AloneLaws.{are}
-use Rattle.segment_store.specs.Store.{Store, IsFrame, frame_line}
-use Rattle.space_maps.specs.Laws.{keeps_page_put, page_put_beside}
-use Rattle.space_maps.specs.Spaces.{holds_space, page_in, put_page, put_pages, put_space}
-use Rattle.space_ledger.specs.View.{LedgerView, PageView, ledger_of, origin_of, with_zero_pages}
-use Rattle.overlay_pages.specs.Lines.{zero_line, zero_page}
-use Rattle.overlay_pages.specs.LineLaws.{lines_same}
-use Rattle.overlay_pages.specs.Changes.{whole_page, with_zeros}
-use Rattle.overlay_pages.specs.View.{IsJoined, page_state, state_of, view_of}
-use Rattle.overlay_pages.proofs.Coming.{came_joined, came_state, place_for_bare}
+use Rattle.overlay_pages.proofs.Common.{◌≡◌, ℕ, zero, suc, ◌+◌, ◌≤◌, ◌<◌, true, cond, [], None, refl, sym, ap, subst, ◌∙◌, arith, nat_tests, PAGE_END}
+use Rattle.overlay_pages.proofs.Stores.{Store, IsFrame, frame_line}
+use Rattle.overlay_pages.proofs.Books.{is_within, PageEntry, is_unused, frame_for, are, keeps_page_put, page_put_beside, holds_space, page_in, put_page, put_pages, put_space, LedgerView, PageView, ledger_of, origin_of, with_zero_pages}
+use Rattle.overlay_pages.proofs.Views.{zero_line, zero_page, lines_same, whole_page, with_zeros, IsJoined, page_state, state_of, view_of}
+use Rattle.overlay_pages.proofs.Coming.{came, place_for_bare}
 
 -- Pages that are mapped on the zero frame.
 
@@ -35,11 +23,8 @@ zero_joined : (st : Store) (v : LedgerView) (s p : ℕ) (entry : PageEntry) → 
     × (state_of (view_of st (put_page v s p (record { entry = entry; overlay = None }))) ≡ put_page (state_of (view_of st v)) s p (whole_page entry zero_page))
 zero_joined st v s p entry is there low absent same =
     let x : PageView = record { entry = entry; overlay = None } in
-    let frame = subst (IsFrame st) (sym same) is.zero in
-    let place = place_for_bare (view_of st v) s p is in (
-      came_joined (view_of st v) st s p x is there low absent frame (zero_known v entry.frame same) place,
-      came_state (view_of st v) st s p x is there low absent frame (zero_known v entry.frame same) place ∙ ap (put_page (state_of (view_of st v)) s p) (zero_is st v entry is same),
-    )
+    let one = came (view_of st v) st s p x is there low absent (subst (IsFrame st) (sym same) is.zero) (zero_known v entry.frame same) (place_for_bare (view_of st v) s p is) in
+    (one.0, one.1 ∙ ap (put_page (state_of (view_of st v)) s p) (zero_is st v entry is same))
 
 there_next : (v : LedgerView) (s p : ℕ) (x : PageView) → holds_space v s ≡ true → holds_space (put_page v s p x) s ≡ true
 there_next v s p x there = (keeps_page_put v s p x there).there s ∙ there

@@ -1,5 +1,4 @@
-use Rattle.std.proofs.Common.{◌*◌, drop, take}
-use Rattle.sizes.specs.declared.TheConstants.{LINE_BYTES}
+use Rattle.overlay_pages.proofs.Common.{◌*◌, drop, take, LINE_BYTES}
 use Rattle.overlay_pages.proofs.Filling.{HasFilled}
 use Rattle.overlay_pages.proofs.frames.fill_bytes.Given as goal
 

@@ -1,4 +1,4 @@
-use Rattle.std.proofs.Common.{[], get_or}
+use Rattle.overlay_pages.proofs.Common.{[], get_or}
 use Rattle.overlay_pages.proofs.Filling.{HasFilled}
 use Rattle.overlay_pages.proofs.frames.fill_lines.Given as goal
 

@@ -1,5 +1,5 @@
-use Rattle.std.proofs.Common.{◌≡◌, ◌+◌, ◌^◌, subst, arith}
-use Rattle.overlay_pages.specs.Steps.{Tells}
+use Rattle.overlay_pages.proofs.Common.{◌≡◌, ◌+◌, ◌^◌, subst, arith}
+use Rattle.overlay_pages.proofs.Views.{Tells}
 use Rattle.overlay_pages.proofs.Sizes.{shifted_count}
 use Rattle.overlay_pages.proofs.Shifts.{after_relocate, before_relocate, tells_more, tells_none}
 use Rattle.overlay_pages.proofs.moving.follow.Goals as goal

@@ -1,7 +1,7 @@
-use Rattle.std.proofs.Common.{ℕ, ◌+◌}
-use Rattle.segment_store.specs.Store.{Store}
-use Rattle.space_ledger.specs.View.{LedgerView}
-use Rattle.overlay_pages.specs.Steps.{IsBehind, Tells}
+use Rattle.overlay_pages.proofs.Common.{ℕ, ◌+◌}
+use Rattle.overlay_pages.proofs.Stores.{Store}
+use Rattle.overlay_pages.proofs.Books.{LedgerView}
+use Rattle.overlay_pages.proofs.Views.{IsBehind, Tells}
 use Rattle.overlay_pages.proofs.moving.follow.Given as goal
 
 abbrev pub invariant-following : goal.invariant-following

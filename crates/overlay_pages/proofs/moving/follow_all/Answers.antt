@@ -1,6 +1,5 @@
-use Rattle.std.proofs.Common.{◌^◌, ◌+◌, ◌<◌, ◌≤◌, inl, inr, subst}
-use Rattle.segment_store.specs.Changes.{AreLow, IsTarget}
-use Rattle.segment_store.specs.Runs.{low_last, target_last}
+use Rattle.overlay_pages.proofs.Common.{◌^◌, ◌+◌, ◌<◌, ◌≤◌, inl, inr, subst}
+use Rattle.overlay_pages.proofs.Stores.{AreLow, IsTarget, low_last, target_last}
 use Rattle.overlay_pages.proofs.moving.follow_all.Goals as goal
 use Rattle.overlay_pages.proofs.moving.follow_all.Goals.{In-Some}
 

@@ -1,8 +1,7 @@
-use Rattle.std.proofs.Common.{ℕ, ◌⊎◌, length}
-use Rattle.segment_store.specs.Store.{Store}
-use Rattle.segment_store.specs.Changes.{AreLow, IsTarget}
-use Rattle.space_ledger.specs.View.{LedgerView}
-use Rattle.overlay_pages.specs.Steps.{IsBehind, FollowsAt}
+use Rattle.overlay_pages.proofs.Common.{ℕ, ◌⊎◌, length}
+use Rattle.overlay_pages.proofs.Stores.{Store, AreLow, IsTarget}
+use Rattle.overlay_pages.proofs.Books.{LedgerView}
+use Rattle.overlay_pages.proofs.Views.{IsBehind, FollowsAt}
 use Rattle.overlay_pages.proofs.moving.follow_all.Given as goal
 
 abbrev pub invariant-following : goal.invariant-following

@@ -1,4 +1,4 @@
-use Rattle.segment_store.specs.Runs.{made_low}
+use Rattle.overlay_pages.proofs.Stores.{made_low}
 use Rattle.overlay_pages.proofs.Shifts.{settled_ahead, settled_few, settled_moved}
 use Rattle.overlay_pages.proofs.moving.settle_counted.Goals as goal
 

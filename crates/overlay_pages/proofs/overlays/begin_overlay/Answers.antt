@@ -1,15 +1,11 @@
-use Rattle.std.proofs.Common.{[], Some, None, inr, refl, ap, subst, ◌∙◌, arith}
-use Rattle.unit_map.specs.Pieces.{AreSettled}
-use Rattle.overlay_bits.specs.Lines.{with_line}
-use Rattle.overlay_mapping_table.specs.declared.entry.Entry.{Entry}
-use Rattle.segment_store.specs.Laws.{filled_there}
-use Rattle.segment_store.specs.Changes.{Begins}
-use Rattle.space_ledger.specs.View.{with_overlay}
-use Rattle.overlay_pages.specs.Steps.{laid}
-use Rattle.overlay_pages.specs.View.{view_of}
-use Rattle.overlay_pages.proofs.Overlaying.{Overlays, overlays_joined, overlays_state}
-use Rattle.overlay_pages.proofs.Joining.{BeginsWith, Has, begun, begun_page, overlay_room, page_with}
+use Rattle.overlay_pages.proofs.Common.{[], Some, None, inr, refl, ap, subst, ◌∙◌, arith}
+use Rattle.overlay_pages.proofs.Stores.{with_line, filled_there, Begins}
+use Rattle.overlay_pages.proofs.Books.{with_overlay}
+use Rattle.overlay_pages.proofs.Views.{laid, view_of}
+use Rattle.overlay_pages.proofs.Overlaying.{overlays}
+use Rattle.overlay_pages.proofs.Joining.{BeginsWith, begun, begun_page, overlay_room, page_with}
 use Rattle.overlay_pages.proofs.overlays.begin_overlay.Goals as goal
+use Rattle.overlay_pages.proofs.overlays.begin_overlay.Goals.{After-set_overlay}
 
 pub of-requires-clause-few : goal.of-requires-clause-few
 of-requires-clause-few c =
@@ -30,10 +26,7 @@ insert-requires-clause-there c =
 pub set_overlay-requires-clause-room : goal.set_overlay-requires-clause-room
 set_overlay-requires-clause-room c = inr (overlay_room (view_of c.args.store.now c.args.ledger.now) c.requires.joined)
 
-page : (c : goal.After-set_overlay) → Has c.args.ledger.now c.args.space c.args.page None
-page c = page_with c.args.ledger.now c.args.space c.args.page c.requires.there None c.requires.bare
-
-steps : (c : goal.After-set_overlay) → BeginsWith c.args.store.now c.begin_segment-block.new.self c.lay.new.self c.insert.new.self c.args.space c.args.page c.begin_segment-block.result c.args.order c.args.bits c.args.line c.args.bytes.now
+steps : (c : After-set_overlay) → BeginsWith c.args.store.now c.begin_segment-block.new.self c.lay.new.self c.insert.new.self c.args.space c.args.page c.begin_segment-block.result c.args.order c.args.bits c.args.line c.args.bytes.now
 steps c =
     let b = c.begin_segment-block.ensures in
     let l = c.lay.ensures in
@@ -60,22 +53,16 @@ steps c =
       new_is = i.store;
     }
 
-abbrev now : goal.After-set_overlay → Entry
-now c = record { bits = with_line c.args.bits c.args.line; block = c.begin_segment-block.result }
-
-so : (c : goal.After-set_overlay) → Overlays AreSettled (view_of c.args.store.now c.args.ledger.now) (view_of c.insert.new.self c.set_overlay.new.self) c.args.space c.args.page (page c).x (Some (now c)) c.begin_segment-block.result.unit
-so c =
-    begun (view_of c.args.store.now c.args.ledger.now) c.begin_segment-block.new.self c.lay.new.self c.insert.new.self c.set_overlay.new.self c.args.space c.args.page (page c).x c.begin_segment-block.result c.args.order c.args.bits c.args.line c.args.bytes.now
-    c.requires.joined (page c).there (page c).is c.with-bits.ensures.before c.requires.line c.requires.absent c.requires.size (steps c)
-    (c.set_overlay.ensures ∙ ap (λ bits. with_overlay c.args.ledger.now c.args.space c.args.page (Some (record { bits = bits; block = c.begin_segment-block.result }))) c.with-bits.ensures.lines)
-
-pub returns-clause-joined : goal.returns-clause-joined
-returns-clause-joined c =
-    overlays_joined (view_of c.args.store.now c.args.ledger.now) (view_of c.insert.new.self c.set_overlay.new.self) c.args.space c.args.page (page c).x (Some (now c)) c.begin_segment-block.result.unit c.requires.joined (so c)
-
-pub returns-clause-state : goal.returns-clause-state
-returns-clause-state c =
-    overlays_state (view_of c.args.store.now c.args.ledger.now) (view_of c.insert.new.self c.set_overlay.new.self) c.args.space c.args.page (page c).x (Some (now c)) c.begin_segment-block.result.unit c.requires.joined (so c)
+pub returns : goal.returns
+returns c =
+    let a = view_of c.args.store.now c.args.ledger.now in
+    let f = page_with c.args.ledger.now c.args.space c.args.page c.requires.there None c.requires.bare in
+    let so = steps (goal.at.returns c).After-set_overlay in
+    let all = overlays a (view_of c.insert.new.self c.set_overlay.new.self) c.args.space c.args.page f.x (Some (record { bits = with_line c.args.bits c.args.line; block = c.begin_segment-block.result })) c.requires.joined
+    (begun a c.begin_segment-block.new.self c.lay.new.self c.insert.new.self c.set_overlay.new.self c.args.space c.args.page f.x c.begin_segment-block.result c.args.order c.args.bits c.args.line c.args.bytes.now
+    c.requires.joined f.there f.is c.with-bits.ensures.before c.requires.line c.requires.absent c.requires.size so
+    (c.set_overlay.ensures ∙ ap (λ bits. with_overlay c.args.ledger.now c.args.space c.args.page (Some (record { bits = bits; block = c.begin_segment-block.result }))) c.with-bits.ensures.lines))
     (laid c.args.store.now c.args.bits c.args.line c.args.bytes.now)
-    (begun_page (view_of c.args.store.now c.args.ledger.now) c.begin_segment-block.new.self c.lay.new.self c.insert.new.self c.set_overlay.new.self c.args.space c.args.page (page c).x c.begin_segment-block.result c.args.order c.args.bits c.args.line c.args.bytes.now
-    c.requires.joined (page c).there (page c).is c.with-bits.ensures.before c.requires.line c.requires.absent c.requires.size (steps c))
+    (begun_page a c.begin_segment-block.new.self c.lay.new.self c.insert.new.self c.set_overlay.new.self c.args.space c.args.page f.x c.begin_segment-block.result c.args.order c.args.bits c.args.line c.args.bytes.now
+    c.requires.joined f.there f.is c.with-bits.ensures.before c.requires.line c.requires.absent c.requires.size so) in
+    record { joined = all.0; state = all.1 }

@@ -1,11 +1,9 @@
-use Rattle.std.proofs.Common.{◌+◌, length, sym, ap, ◌∙◌, arith}
-use Rattle.ledger.specs.Units.{class}
-use Rattle.overlay_pages.specs.Steps.{laid}
-use Rattle.overlay_pages.specs.View.{state_of, view_of}
+use Rattle.overlay_pages.proofs.Common.{◌+◌, length, sym, ap, ◌∙◌, arith}
+use Rattle.overlay_pages.proofs.Books.{class, turned_page}
+use Rattle.overlay_pages.proofs.Views.{laid, state_of, view_of}
 use Rattle.overlay_pages.proofs.Growing.{begins_room, begun_first, has_room}
 use Rattle.overlay_pages.proofs.Sizes.{first_size}
 use Rattle.overlay_pages.proofs.overlays.begin_with.Goals as goal
-use Rattle.space_maps.specs.Spaces.{turned_page}
 
 pub begin_overlay-requires-clause-room : goal.begin_overlay-requires-clause-room
 begin_overlay-requires-clause-room c =

@@ -1,7 +1,6 @@
-use Rattle.std.proofs.Common.{sym, subst, ◌∙◌}
-use Rattle.overlay_pages.specs.Changes.{Fits}
-use Rattle.overlay_pages.specs.View.{view_of}
-use Rattle.space_ledger.specs.ViewLaws.{entry_frame}
+use Rattle.overlay_pages.proofs.Common.{sym, subst, ◌∙◌}
+use Rattle.overlay_pages.proofs.Books.{entry_frame}
+use Rattle.overlay_pages.proofs.Views.{Fits, view_of}
 use Rattle.overlay_pages.proofs.Bringing.{brought_already, brought_is, frame_in}
 use Rattle.overlay_pages.proofs.overlays.bring_line.Goals as goal
 

@@ -1,5 +1,5 @@
-use Rattle.std.proofs.Common.{◌∙◌}
-use Rattle.overlay_pages.specs.View.{view_of}
+use Rattle.overlay_pages.proofs.Common.{◌∙◌}
+use Rattle.overlay_pages.proofs.Views.{view_of}
 use Rattle.overlay_pages.proofs.Bringing.{brought_there, next_fits, next_low, none_brought, one_brought}
 use Rattle.overlay_pages.proofs.overlays.bring_lines.Goals as goal
 

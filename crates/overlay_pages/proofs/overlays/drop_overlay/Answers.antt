@@ -1,9 +1,8 @@
-use Rattle.std.proofs.Common.{◌≡◌, Some, None, sym, ◌∙◌}
-use Rattle.overlay_pages.specs.View.{state_of, view_of}
-use Rattle.unit_map.specs.Pieces.{CanSettle}
-use Rattle.space_maps.specs.Spaces.{turned_page}
-use Rattle.overlay_pages.specs.Changes.{discarded}
-use Rattle.overlay_pages.proofs.Overlaying.{Overlays, overlays_joined, overlays_state}
+use Rattle.overlay_pages.proofs.Common.{◌≡◌, Some, None, sym, ◌∙◌}
+use Rattle.overlay_pages.proofs.Stores.{CanSettle}
+use Rattle.overlay_pages.proofs.Books.{turned_page}
+use Rattle.overlay_pages.proofs.Views.{IsJoinedWith, state_of, view_of, discarded}
+use Rattle.overlay_pages.proofs.Overlaying.{overlays}
 use Rattle.overlay_pages.proofs.Joining.{Has, bare_state, dropped, dropped_page, frames_twice, overlay_segment, page_with}
 use Rattle.overlay_pages.proofs.Growing.{ended_bare, ended_there}
 use Rattle.overlay_pages.proofs.Shifts.{few_beside, few_none}
@@ -17,29 +16,26 @@ end_segment-requires c =
 page : (c : After-set_overlay) → Has c.args.ledger.now c.args.space c.args.page (Some c.in-Some.entry)
 page c = page_with c.args.ledger.now c.args.space c.args.page c.requires.there (Some c.in-Some.entry) (sym c.overlay.ensures.overlay ∙ c.in-Some.is)
 
-ended : (c : After-set_overlay) → Overlays CanSettle (view_of c.args.store.now c.args.ledger.now) (view_of c.end_segment.new.self c.set_overlay.new.self) c.args.space c.args.page (page c).x None c.in-Some.entry.block.unit
+-- the overlay ended
+ended : (c : After-set_overlay) → IsJoinedWith CanSettle (view_of c.end_segment.new.self c.set_overlay.new.self)
+    × (state_of (view_of c.end_segment.new.self c.set_overlay.new.self) ≡ turned_page discarded (state_of (view_of c.args.store.now c.args.ledger.now)) c.args.space c.args.page)
 ended c =
     let e = c.end_segment.ensures in
-    dropped (view_of c.args.store.now c.args.ledger.now) c.end_segment.new.self c.set_overlay.new.self c.args.space c.args.page (page c).x c.in-Some.entry c.requires.joined (page c).there (page c).is
-    e.ends e.segments e.frames e.free e.units e.store e.settles c.set_overlay.ensures
+    let a = view_of c.args.store.now c.args.ledger.now in
+    overlays a (view_of c.end_segment.new.self c.set_overlay.new.self) c.args.space c.args.page (page c).x None c.requires.joined
+    (dropped a c.end_segment.new.self c.set_overlay.new.self c.args.space c.args.page (page c).x c.in-Some.entry c.requires.joined (page c).there (page c).is
+    e.ends e.segments e.frames e.free e.units e.store e.settles c.set_overlay.ensures) discarded
+    (dropped_page a c.end_segment.new.self c.args.space c.args.page (page c).x (c.requires.joined.held c.args.space c.args.page (page c).x (page c).there) e.frames)
 
 pub settle-requires : goal.settle-requires
-settle-requires c = record {
-  joined = overlays_joined (view_of c.args.store.now c.args.ledger.now) (view_of c.end_segment.new.self c.set_overlay.new.self) c.args.space c.args.page (page (goal.at.settle-requires c).After-set_overlay).x None c.in-Some.entry.block.unit c.requires.joined (ended (goal.at.settle-requires c).After-set_overlay);
-}
-
-state : (c : After-set_overlay) → state_of (view_of c.end_segment.new.self c.set_overlay.new.self) ≡ turned_page discarded (state_of (view_of c.args.store.now c.args.ledger.now)) c.args.space c.args.page
-state c =
-    overlays_state (view_of c.args.store.now c.args.ledger.now) (view_of c.end_segment.new.self c.set_overlay.new.self) c.args.space c.args.page (page c).x None c.in-Some.entry.block.unit c.requires.joined (ended c)
-    discarded
-    (dropped_page (view_of c.args.store.now c.args.ledger.now) c.end_segment.new.self c.args.space c.args.page (page c).x (c.requires.joined.held c.args.space c.args.page (page c).x (page c).there) c.end_segment.ensures.frames)
+settle-requires c = record { joined = (ended (goal.at.settle-requires c).After-set_overlay).0 }
 
 pub returns-in-Some : goal.returns-in-Some
 returns-in-Some c =
     let a = view_of c.args.store.now c.args.ledger.now in
     let v = view_of c.settle.new.store c.settle.new.ledger in
     let m = c.settle.ensures.moved in
-    let same = m.state ∙ state (goal.at.returns-in-Some c).After-set_overlay in
+    let same = m.state ∙ (ended (goal.at.returns-in-Some c).After-set_overlay).1 in
     let is = page (goal.at.returns-in-Some c).After-set_overlay in
     let few = c.settle.ensures.few in
     record {

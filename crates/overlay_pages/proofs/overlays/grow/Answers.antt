@@ -1,5 +1,5 @@
-use Rattle.std.proofs.Common.{arith}
-use Rattle.overlay_pages.specs.View.{state_of, view_of}
+use Rattle.overlay_pages.proofs.Common.{arith}
+use Rattle.overlay_pages.proofs.Views.{state_of, view_of}
 use Rattle.overlay_pages.proofs.Growing.{grown_state, grows_enough, grows_fits, grows_low, grows_size}
 use Rattle.overlay_pages.proofs.overlays.grow.Goals as goal
 

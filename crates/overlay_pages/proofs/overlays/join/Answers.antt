@@ -1,4 +1,4 @@
-use Rattle.overlay_pages.specs.View.{view_of}
+use Rattle.overlay_pages.proofs.Views.{view_of}
 use Rattle.overlay_pages.proofs.Joining.{overlay_order}
 use Rattle.overlay_pages.proofs.overlays.join.Goals as goal
 

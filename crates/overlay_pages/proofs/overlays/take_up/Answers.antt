@@ -1,7 +1,6 @@
-use Rattle.std.proofs.Common.{◌≡◌, ◌^◌, ap, ◌∙◌}
-use Rattle.space_maps.specs.Spaces.{turned_page}
-use Rattle.overlay_pages.specs.Changes.{discarded}
-use Rattle.overlay_pages.specs.View.{IsJoined, state_of, view_of}
+use Rattle.overlay_pages.proofs.Common.{◌≡◌, ◌^◌, ap, ◌∙◌}
+use Rattle.overlay_pages.proofs.Books.{turned_page}
+use Rattle.overlay_pages.proofs.Views.{discarded, IsJoined, state_of, view_of}
 use Rattle.overlay_pages.proofs.Growing.{all_kept, ended_room, has_room}
 use Rattle.overlay_pages.proofs.Joining.{frames_twice, overlay_segment, overlay_set}
 use Rattle.overlay_pages.proofs.overlays.take_up.Goals as goal

@@ -1,5 +1,5 @@
-use Rattle.std.proofs.Common.{None}
-use Rattle.overlay_pages.specs.View.{view_of}
+use Rattle.overlay_pages.proofs.Common.{None}
+use Rattle.overlay_pages.proofs.Views.{view_of}
 use Rattle.overlay_pages.proofs.Joining.{page_with}
 use Rattle.overlay_pages.proofs.Leaving.{freed_there, gives_frame, went_none, went_some}
 use Rattle.overlay_pages.proofs.placing.take_out.Goals as goal

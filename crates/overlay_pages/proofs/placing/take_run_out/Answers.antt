@@ -1,7 +1,7 @@
-use Rattle.std.proofs.Common.{◌+◌, sym, ap, subst, ◌∙◌}
-use Rattle.segment_store.specs.Store.{Store}
-use Rattle.space_ledger.specs.View.{LedgerView}
-use Rattle.overlay_pages.specs.View.{IsJoined, state_of, view_of}
+use Rattle.overlay_pages.proofs.Common.{◌+◌, sym, ap, subst, ◌∙◌}
+use Rattle.overlay_pages.proofs.Stores.{Store}
+use Rattle.overlay_pages.proofs.Books.{LedgerView}
+use Rattle.overlay_pages.proofs.Views.{IsJoined, state_of, view_of}
 use Rattle.overlay_pages.proofs.Leaving.{gives_frame}
 use Rattle.overlay_pages.proofs.RunLeaving.{HasLeft, all_left, frame_below, frame_taken, none_left, one_given, one_kept}
 use Rattle.overlay_pages.proofs.placing.take_run_out.Goals as goal

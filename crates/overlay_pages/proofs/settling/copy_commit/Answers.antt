@@ -1,6 +1,6 @@
-use Rattle.std.proofs.Common.{◌≡◌, Some, arith}
-use Rattle.segment_store.specs.Laws.{frame_inside}
-use Rattle.overlay_pages.specs.View.{view_of}
+use Rattle.overlay_pages.proofs.Common.{◌≡◌, Some, arith}
+use Rattle.overlay_pages.proofs.Stores.{frame_inside}
+use Rattle.overlay_pages.proofs.Views.{view_of}
 use Rattle.overlay_pages.proofs.Joining.{Has, page_with}
 use Rattle.overlay_pages.proofs.Committing.{composed_lines_are, copied_at, copy_enough, copy_settled, copy_shared, page_frame}
 use Rattle.overlay_pages.proofs.Shifts.{few_framed}

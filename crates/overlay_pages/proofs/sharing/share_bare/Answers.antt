@@ -1,7 +1,6 @@
-use Rattle.std.proofs.Common.{◌≡◌, None, sym, ap, subst, ◌∙◌}
-use Rattle.space_ledger.specs.View.{LedgerView, with_page_shared}
-use Rattle.overlay_pages.specs.Changes.{with_shared}
-use Rattle.overlay_pages.specs.View.{IsJoined, state_of, view_of}
+use Rattle.overlay_pages.proofs.Common.{◌≡◌, None, sym, ap, subst, ◌∙◌}
+use Rattle.overlay_pages.proofs.Books.{LedgerView, with_page_shared}
+use Rattle.overlay_pages.proofs.Views.{with_shared, IsJoined, state_of, view_of}
 use Rattle.overlay_pages.proofs.SharedRuns.{bare_step}
 use Rattle.overlay_pages.proofs.sharing.share_bare.Goals as goal
 

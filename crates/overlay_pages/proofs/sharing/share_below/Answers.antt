@@ -1,8 +1,6 @@
-use Rattle.std.proofs.Common.{ap, ◌∙◌}
-use Rattle.std.specs.FinMap.{get}
-use Rattle.page_table.specs.Table.{Pages}
-use Rattle.overlay_pages.specs.View.{view_of}
-use Rattle.overlay_pages.specs.ViewLaws.{state_awaiting}
+use Rattle.overlay_pages.proofs.Common.{ap, ◌∙◌, get}
+use Rattle.overlay_pages.proofs.Books.{Pages}
+use Rattle.overlay_pages.proofs.Views.{view_of, state_awaiting}
 use Rattle.overlay_pages.proofs.SharedRuns.{bare_below, shared_all}
 use Rattle.overlay_pages.proofs.sharing.share_below.Goals as goal
 

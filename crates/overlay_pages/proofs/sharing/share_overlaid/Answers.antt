@@ -1,9 +1,6 @@
-use Rattle.std.proofs.Common.{◌≡◌, ◌≤◌, is_some, length, sym, ap, subst, arith}
-use Rattle.unit_map.specs.Changes.{HasRoom}
-use Rattle.segment_store.specs.Changes.{Begins}
-use Rattle.segment_store.specs.Pointers.{capacity_of}
-use Rattle.overlay_pages.specs.View.{IsJoined, state_of, view_of}
-use Rattle.overlay_pages.specs.Changes.{with_shared}
+use Rattle.overlay_pages.proofs.Common.{◌≡◌, ◌≤◌, is_some, length, sym, ap, subst, arith}
+use Rattle.overlay_pages.proofs.Stores.{HasRoom, Begins, capacity_of}
+use Rattle.overlay_pages.proofs.Views.{IsJoined, state_of, view_of, with_shared}
 use Rattle.overlay_pages.proofs.Joining.{overlay_room, overlay_segment, overlay_set}
 use Rattle.overlay_pages.proofs.Growing.{all_kept}
 use Rattle.overlay_pages.proofs.SharedPages.{overlaid, share_fits, share_low, share_order, share_room}

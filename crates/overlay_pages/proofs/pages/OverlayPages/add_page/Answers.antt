@@ -1,14 +1,10 @@
-use Rattle.std.proofs.Common.{◌≡◌, ◌+◌, ◌≤◌, refl, sym, ap, subst, ◌∙◌, arith}
-use Rattle.std.specs.FinMap.{len}
-use Rattle.overlay_pages.specs.Lines.{lines_of_bytes}
-use Rattle.overlay_pages.specs.Changes.{IsPlaced, limit_of, units_of, whole_page}
-use Rattle.overlay_pages.specs.View.{MemoryView, state_of, view_of}
-use Rattle.overlay_pages.specs.ViewLaws.{state_count, state_awaiting, state_holds}
+use Rattle.overlay_pages.proofs.Common.{◌≡◌, ◌+◌, ◌≤◌, refl, sym, ap, subst, ◌∙◌, arith, len}
+use Rattle.overlay_pages.proofs.Books.{holds_space, page_in, space_in}
+use Rattle.overlay_pages.proofs.Views.{lines_of_bytes, IsPlaced, limit_of, units_of, whole_page, MemoryView, state_of, view_of, state_count, state_awaiting, state_holds}
 use Rattle.overlay_pages.proofs.Tables.{none_back}
 use Rattle.overlay_pages.proofs.Growing.{has_room}
 use Rattle.overlay_pages.proofs.Adding.{added, added_room, added_units, mapped_in, only_one, ready_bare, ready_settled, ready_shared, ready_there}
 use Rattle.overlay_pages.proofs.pages.OverlayPages.add_page.Goals as goal
-use Rattle.space_maps.specs.Spaces.{holds_space, page_in, space_in}
 
 pub map_zero-requires-clause-there : goal.map_zero-requires-clause-there
 map_zero-requires-clause-there c = (sym (state_holds (view_of c.self.inside.store c.self.inside.ledger) c.args.space) ∙ ap (λ (m : MemoryView). holds_space (state_of m) c.args.space) c.self.view_is ∙ c.requires.there)

@@ -1,11 +1,9 @@
-use Rattle.std.proofs.Common.{◌≡◌, sym, ap, subst, ◌∙◌}
-use Rattle.overlay_pages.specs.View.{IsJoined, MemoryView, state_of, view_of}
-use Rattle.overlay_pages.specs.ViewLaws.{state_holds}
-use Rattle.overlay_pages.specs.TableLaws.{state_added}
+use Rattle.overlay_pages.proofs.Common.{◌≡◌, sym, ap, subst, ◌∙◌}
+use Rattle.overlay_pages.proofs.Books.{bare_space, holds_space, put_space}
+use Rattle.overlay_pages.proofs.Views.{IsJoined, MemoryView, state_of, view_of, state_holds, state_added}
 use Rattle.overlay_pages.proofs.Tables.{space_added}
 use Rattle.overlay_pages.proofs.Results.{either, on_ok}
 use Rattle.overlay_pages.proofs.pages.OverlayPages.add_space.Goals as goal
-use Rattle.space_maps.specs.Spaces.{bare_space, holds_space, put_space}
 
 pub add_space-requires-clause-absent : goal.add_space-requires-clause-absent
 add_space-requires-clause-absent c = sym (state_holds (view_of c.self.inside.store c.self.inside.ledger) c.args.space) ∙ ap (λ (m : MemoryView). holds_space (state_of m) c.args.space) c.self.view_is ∙ c.requires.absent

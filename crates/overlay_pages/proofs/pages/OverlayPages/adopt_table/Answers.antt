@@ -1,10 +1,7 @@
-use Rattle.std.proofs.Common.{sym, ap, subst, ◌∙◌}
-use Rattle.overlay_pages.specs.View.{IsJoined, MemoryView, state_of, view_of}
-use Rattle.overlay_pages.specs.ViewLaws.{state_awaiting, state_holds, state_zero}
-use Rattle.overlay_pages.specs.TableLaws.{state_awaiting_put}
+use Rattle.overlay_pages.proofs.Common.{sym, ap, subst, ◌∙◌}
+use Rattle.overlay_pages.proofs.Books.{holds_space, put_awaiting, space_in, NamesOnce}
+use Rattle.overlay_pages.proofs.Views.{IsJoined, MemoryView, state_of, view_of, state_awaiting, state_holds, state_zero, state_awaiting_put}
 use Rattle.overlay_pages.proofs.Tables.{awaiting_joined, no_pages_state}
-use Rattle.space_maps.specs.Spaces.{holds_space, put_awaiting, space_in}
-use Rattle.space_ledger.specs.Calls.{NamesOnce}
 use Rattle.overlay_pages.proofs.pages.OverlayPages.adopt_table.Goals as goal
 
 pub adopt_table-requires-clause-there : goal.adopt_table-requires-clause-there

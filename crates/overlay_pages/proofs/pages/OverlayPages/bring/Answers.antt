@@ -1,10 +1,8 @@
-use Rattle.std.proofs.Common.{◌≡◌, sym, ap, subst, ◌∙◌}
-use Rattle.std.specs.Option.{IsSome}
-use Rattle.overlay_pages.specs.Changes.{Fits, with_brought}
-use Rattle.overlay_pages.specs.View.{MemoryView, state_of, view_of}
+use Rattle.overlay_pages.proofs.Common.{◌≡◌, sym, ap, subst, ◌∙◌, IsSome}
+use Rattle.overlay_pages.proofs.Books.{page_in}
+use Rattle.overlay_pages.proofs.Views.{Fits, with_brought, MemoryView, state_of, view_of}
 use Rattle.overlay_pages.proofs.Tables.{brought_frame, brought_overlay, page_some}
 use Rattle.overlay_pages.proofs.pages.OverlayPages.bring.Goals as goal
-use Rattle.space_maps.specs.Spaces.{page_in}
 
 pub writes_frame-requires : goal.writes_frame-requires
 writes_frame-requires c = page_some (view_of c.self.inside.store c.self.inside.ledger) c.args.space c.args.page (subst (λ (m : MemoryView). IsSome (page_in (state_of m) c.args.space c.args.page)) (sym c.self.view_is) c.requires.there)

@@ -1,11 +1,8 @@
-use Rattle.std.proofs.Common.{sym, ap, subst, ◌∙◌}
-use Rattle.std.specs.Option.{IsSome}
-use Rattle.ledger.specs.Ledger.{is_alone}
-use Rattle.overlay_pages.specs.State.{books}
-use Rattle.overlay_pages.specs.View.{MemoryView, state_of, view_of}
+use Rattle.overlay_pages.proofs.Common.{sym, ap, subst, ◌∙◌, IsSome}
+use Rattle.overlay_pages.proofs.Books.{is_alone, page_in}
+use Rattle.overlay_pages.proofs.Views.{books, MemoryView, state_of, view_of}
 use Rattle.overlay_pages.proofs.Tables.{alone_state, page_some}
 use Rattle.overlay_pages.proofs.pages.OverlayPages.commit_page.Goals as goal
-use Rattle.space_maps.specs.Spaces.{page_in}
 
 pub commit-requires-clause-there : goal.commit-requires-clause-there
 commit-requires-clause-there c = page_some (view_of c.self.inside.store c.self.inside.ledger) c.args.space c.args.page (subst (λ (m : MemoryView). IsSome (page_in (state_of m) c.args.space c.args.page)) (sym c.self.view_is) c.requires.there)

@@ -1,13 +1,8 @@
-use Rattle.std.proofs.Common.{IfSome, ◌<◌, sym, ap, subst, ◌∙◌, length}
-use Rattle.std.specs.Option.{IsSome}
-use Rattle.ledger.specs.Ledger.{is_alone}
-use Rattle.overlay_pages.specs.State.{PageState, books}
-use Rattle.overlay_pages.specs.Changes.{HasCopyRoom}
-use Rattle.overlay_pages.specs.View.{MemoryView, state_of, view_of}
-use Rattle.overlay_pages.specs.ViewLaws.{state_awaiting}
+use Rattle.overlay_pages.proofs.Common.{IfSome, ◌<◌, sym, ap, subst, ◌∙◌, length, IsSome}
+use Rattle.overlay_pages.proofs.Books.{is_alone, page_in, space_in}
+use Rattle.overlay_pages.proofs.Views.{PageState, books, HasCopyRoom, MemoryView, state_of, view_of, state_awaiting}
 use Rattle.overlay_pages.proofs.Tables.{alone_state, overlaid_bare, page_some}
 use Rattle.overlay_pages.proofs.pages.OverlayPages.copy_commit_page.Goals as goal
-use Rattle.space_maps.specs.Spaces.{page_in, space_in}
 
 pub overlay-overlay-requires : goal.overlay-overlay-requires
 overlay-overlay-requires c = page_some (view_of c.self.inside.store c.self.inside.ledger) c.args.space c.args.page (subst (λ (m : MemoryView). IsSome (page_in (state_of m) c.args.space c.args.page)) (sym c.self.view_is) c.requires.there)

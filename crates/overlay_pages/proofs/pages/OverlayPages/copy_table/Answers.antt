@@ -1,11 +1,7 @@
-use Rattle.std.proofs.Common.{IfOk, ◌≡◌, sym, ap, subst, ◌∙◌}
-use Rattle.overlay_pages.specs.View.{MemoryView, state_of, view_of}
-use Rattle.overlay_pages.specs.ViewLaws.{state_awaiting, state_holds, state_zero}
+use Rattle.overlay_pages.proofs.Common.{IfOk, ◌≡◌, sym, ap, subst, ◌∙◌}
+use Rattle.overlay_pages.proofs.Books.{Pages, holds_space, space_in, NamesOnce}
+use Rattle.overlay_pages.proofs.Views.{MemoryView, state_of, view_of, state_awaiting, state_holds, state_zero, entries_in}
 use Rattle.overlay_pages.proofs.Tables.{entries_state}
-use Rattle.page_table.specs.Table.{Pages}
-use Rattle.space_maps.specs.Spaces.{holds_space, space_in}
-use Rattle.space_ledger.specs.Calls.{NamesOnce}
-use Rattle.overlay_pages.specs.Calls.{entries_in}
 use Rattle.overlay_pages.proofs.pages.OverlayPages.copy_table.Goals as goal
 
 pub copy_table-requires-clause-there : goal.copy_table-requires-clause-there

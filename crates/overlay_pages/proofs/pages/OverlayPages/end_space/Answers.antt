@@ -1,10 +1,8 @@
-use Rattle.std.proofs.Common.{sym, ap, subst, ◌∙◌}
-use Rattle.overlay_pages.specs.View.{IsJoined, MemoryView, state_of, view_of}
-use Rattle.overlay_pages.specs.ViewLaws.{state_awaiting, state_holds}
-use Rattle.overlay_pages.specs.TableLaws.{state_cut_space}
+use Rattle.overlay_pages.proofs.Common.{sym, ap, subst, ◌∙◌}
+use Rattle.overlay_pages.proofs.Books.{cut_space, holds_space, space_in}
+use Rattle.overlay_pages.proofs.Views.{IsJoined, MemoryView, state_of, view_of, state_awaiting, state_holds, state_cut_space}
 use Rattle.overlay_pages.proofs.Tables.{no_pages_state, space_gone}
 use Rattle.overlay_pages.proofs.pages.OverlayPages.end_space.Goals as goal
-use Rattle.space_maps.specs.Spaces.{cut_space, holds_space, space_in}
 
 pub end_space-requires-clause-there : goal.end_space-requires-clause-there
 end_space-requires-clause-there c = sym (state_holds (view_of c.self.inside.store c.self.inside.ledger) c.args.space) ∙ ap (λ (m : MemoryView). holds_space (state_of m) c.args.space) c.self.view_is ∙ c.requires.there

@@ -1,5 +1,3 @@
-use Rattle.std.proofs.Common.{sym, subst}
-use Rattle.overlay_pages.specs.Spots.{IsFoundAt}
 use Rattle.overlay_pages.proofs.Found.{of_page}
 use Rattle.overlay_pages.proofs.pages.OverlayPages.find.Goals as goal
 

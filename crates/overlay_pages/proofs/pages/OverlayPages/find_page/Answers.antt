@@ -1,6 +1,6 @@
-use Rattle.std.proofs.Common.{sym, ap, subst, ◌<◌, ◌∙◌}
-use Rattle.space_maps.specs.Spaces.{page_in}
-use Rattle.overlay_pages.specs.View.{MemoryView, state_of, view_of}
+use Rattle.overlay_pages.proofs.Common.{sym, ap, subst, ◌<◌, ◌∙◌}
+use Rattle.overlay_pages.proofs.Books.{page_in}
+use Rattle.overlay_pages.proofs.Views.{MemoryView, state_of, view_of}
 use Rattle.overlay_pages.proofs.Found.{frame_in_range, page_found}
 use Rattle.overlay_pages.proofs.Tables.{absent_state}
 use Rattle.overlay_pages.proofs.pages.OverlayPages.find_page.Goals as goal

@@ -1,7 +1,5 @@
-use Rattle.std.proofs.Common.{sym, ap, ◌∙◌, arith, ◌*◌}
-use Rattle.overlay_pages.specs.View.{MemoryView, state_of, view_of}
-use Rattle.overlay_pages.specs.Changes.{limit_of}
-use Rattle.overlay_pages.specs.ViewLaws.{state_frames}
+use Rattle.overlay_pages.proofs.Common.{sym, ap, ◌∙◌, arith, ◌*◌}
+use Rattle.overlay_pages.proofs.Views.{MemoryView, state_of, view_of, limit_of, state_frames}
 use Rattle.overlay_pages.proofs.pages.OverlayPages.limit.Goals as goal
 
 pub returns-clause-limit : goal.returns-clause-limit

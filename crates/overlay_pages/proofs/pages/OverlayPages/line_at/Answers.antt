@@ -1,12 +1,9 @@
-use Rattle.std.proofs.Common.{option_map, Some, sym, ap, ◌∙◌}
-use Rattle.overlay_pages.specs.Lines.{line_in_page}
-use Rattle.overlay_pages.specs.State.{PageState}
-use Rattle.overlay_pages.specs.View.{MemoryView, state_of, view_of}
-use Rattle.overlay_pages.specs.declared.spots.Spot.TheVariants.{Segment, Frame}
+use Rattle.overlay_pages.proofs.Common.{option_map, Some, sym, ap, ◌∙◌}
+use Rattle.overlay_pages.proofs.Books.{page_in}
+use Rattle.overlay_pages.proofs.Views.{line_in_page, PageState, MemoryView, state_of, view_of, Segment, Frame}
 use Rattle.overlay_pages.proofs.Found.{found_spot}
 use Rattle.overlay_pages.proofs.Lending.{frame_low, outside_value, segment_has, segment_there, segment_value}
 use Rattle.overlay_pages.proofs.pages.OverlayPages.line_at.Goals as goal
-use Rattle.space_maps.specs.Spaces.{page_in}
 
 pub get-requires-clause-there : goal.get-requires-clause-there
 get-requires-clause-there c = segment_there (view_of c.self.inside.store c.self.inside.ledger) c.args.found.space c.args.found.page c.args.found.line c.in-Segment.block c.self.invariant (found_spot (view_of c.self.inside.store c.self.inside.ledger) c.args.self.now c.args.found (Segment c.in-Segment.block) c.self.view_is c.requires.found c.in-Segment.is)

@@ -1,8 +1,6 @@
-use Rattle.std.proofs.Common.{sym, ap, ◌∙◌}
-use Rattle.overlay_pages.specs.View.{MemoryView, state_of, view_of}
-use Rattle.ledger.specs.Units.{own_lines}
-use Rattle.overlay_pages.specs.State.{books}
-use Rattle.overlay_pages.specs.ViewLaws.{state_books}
+use Rattle.overlay_pages.proofs.Common.{sym, ap, ◌∙◌}
+use Rattle.overlay_pages.proofs.Books.{own_lines}
+use Rattle.overlay_pages.proofs.Views.{MemoryView, state_of, view_of, books, state_books}
 use Rattle.overlay_pages.proofs.pages.OverlayPages.lines.Goals as goal
 
 pub returns : goal.returns

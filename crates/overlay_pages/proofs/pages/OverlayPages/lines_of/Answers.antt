@@ -1,9 +1,6 @@
-use Rattle.std.proofs.Common.{sym, ap, subst, ◌∙◌, Some}
-use Rattle.overlay_pages.specs.View.{MemoryView, state_of, view_of}
-use Rattle.std.specs.Option.{IsSome, option_map}
-use Rattle.space_maps.specs.Spaces.{page_in}
-use Rattle.space_ledger.specs.View.{lines_of}
-use Rattle.overlay_pages.specs.State.{PageState}
+use Rattle.overlay_pages.proofs.Common.{sym, ap, subst, ◌∙◌, Some, IsSome, option_map}
+use Rattle.overlay_pages.proofs.Books.{page_in, lines_of}
+use Rattle.overlay_pages.proofs.Views.{MemoryView, state_of, view_of, PageState}
 use Rattle.overlay_pages.proofs.Tables.{own_state, page_some}
 use Rattle.overlay_pages.proofs.pages.OverlayPages.lines_of.Goals as goal
 

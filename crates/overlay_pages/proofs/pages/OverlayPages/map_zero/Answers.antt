@@ -1,10 +1,6 @@
-use Rattle.std.proofs.Common.{◌≡◌, refl, sym, ap, subst, ◌∙◌, arith}
-use Rattle.std.specs.FinMap.{len}
-use Rattle.overlay_pages.specs.View.{IsJoined, MemoryView, state_of, view_of}
-use Rattle.overlay_pages.specs.Changes.{with_zeros}
-use Rattle.overlay_pages.specs.ViewLaws.{state_count, state_awaiting, state_holds, state_zero}
-use Rattle.space_maps.specs.Spaces.{holds_space, page_in, space_in}
-use Rattle.space_ledger.specs.View.{with_zero_pages}
+use Rattle.overlay_pages.proofs.Common.{◌≡◌, refl, sym, ap, subst, ◌∙◌, arith, len}
+use Rattle.overlay_pages.proofs.Books.{holds_space, page_in, space_in, with_zero_pages}
+use Rattle.overlay_pages.proofs.Views.{IsJoined, MemoryView, state_of, view_of, with_zeros, state_count, state_awaiting, state_holds, state_zero}
 use Rattle.overlay_pages.proofs.Results.{either, on_ok}
 use Rattle.overlay_pages.proofs.Tables.{none_back}
 use Rattle.overlay_pages.proofs.Zeros.{is_inside, zeros_joined}

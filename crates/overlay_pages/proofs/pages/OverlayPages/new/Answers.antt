@@ -1,5 +1,5 @@
-use Rattle.std.proofs.Common.{sym, subst}
-use Rattle.unit_map.specs.Changes.{HasRoom}
+use Rattle.overlay_pages.proofs.Common.{sym, subst}
+use Rattle.overlay_pages.proofs.Stores.{HasRoom}
 use Rattle.overlay_pages.proofs.Placed.{frames_room, made_frame, made_joined, made_state}
 use Rattle.overlay_pages.proofs.pages.OverlayPages.new.Goals as goal
 

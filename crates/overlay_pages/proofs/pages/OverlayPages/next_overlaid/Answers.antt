@@ -1,10 +1,6 @@
-use Rattle.std.proofs.Common.{sym, ap, subst, ◌∙◌}
-use Rattle.ledger.specs.Ledger.{Ledger}
-use Rattle.space_maps.specs.Spaces.{holds_space}
-use Rattle.space_ledger.specs.Calls.{IsNextOwn}
-use Rattle.overlay_pages.specs.State.{books}
-use Rattle.overlay_pages.specs.View.{MemoryView, state_of, view_of}
-use Rattle.overlay_pages.specs.ViewLaws.{state_books, state_holds}
+use Rattle.overlay_pages.proofs.Common.{sym, ap, subst, ◌∙◌}
+use Rattle.overlay_pages.proofs.Books.{Ledger, holds_space, IsNextOwn}
+use Rattle.overlay_pages.proofs.Views.{books, MemoryView, state_of, view_of, state_books, state_holds}
 use Rattle.overlay_pages.proofs.pages.OverlayPages.next_overlaid.Goals as goal
 
 pub next_overlaid-requires : goal.next_overlaid-requires

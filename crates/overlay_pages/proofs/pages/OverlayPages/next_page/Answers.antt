@@ -1,6 +1,5 @@
-use Rattle.std.proofs.Common.{subst}
-use Rattle.overlay_pages.specs.View.{MemoryView, state_of, view_of}
-use Rattle.overlay_pages.specs.Calls.{IsNextPage}
+use Rattle.overlay_pages.proofs.Common.{subst}
+use Rattle.overlay_pages.proofs.Views.{MemoryView, state_of, view_of, IsNextPage}
 use Rattle.overlay_pages.proofs.Tables.{next_state}
 use Rattle.overlay_pages.proofs.pages.OverlayPages.next_page.Goals as goal
 

@@ -1,10 +1,6 @@
-use Rattle.std.proofs.Common.{sym, ap, subst, ◌∙◌, arith}
-use Rattle.overlay_pages.specs.View.{MemoryView, state_of, view_of}
-use Rattle.std.specs.FinMap.{len}
-use Rattle.space_maps.specs.Spaces.{space_in}
-use Rattle.space_ledger.specs.Calls.{NamesOnce}
-use Rattle.overlay_pages.specs.Calls.{entries_in}
-use Rattle.overlay_pages.specs.ViewLaws.{state_count, state_zero}
+use Rattle.overlay_pages.proofs.Common.{sym, ap, subst, ◌∙◌, arith, len}
+use Rattle.overlay_pages.proofs.Books.{space_in, NamesOnce}
+use Rattle.overlay_pages.proofs.Views.{MemoryView, state_of, view_of, entries_in, state_count, state_zero}
 use Rattle.overlay_pages.proofs.Tables.{entries_state, pages_few}
 use Rattle.overlay_pages.proofs.pages.OverlayPages.pages.Goals as goal
 

@@ -1,8 +1,6 @@
-use Rattle.std.proofs.Common.{sym, ap, subst, ◌∙◌}
-use Rattle.space_maps.specs.Spaces.{page_in, space_in}
-use Rattle.overlay_pages.specs.Calls.{AreMapped}
-use Rattle.overlay_pages.specs.View.{MemoryView, state_of, view_of}
-use Rattle.overlay_pages.specs.ViewLaws.{state_awaiting}
+use Rattle.overlay_pages.proofs.Common.{sym, ap, subst, ◌∙◌}
+use Rattle.overlay_pages.proofs.Books.{page_in, space_in}
+use Rattle.overlay_pages.proofs.Views.{AreMapped, MemoryView, state_of, view_of, state_awaiting}
 use Rattle.overlay_pages.proofs.Removing.{mapped_low, mapped_state, none_state}
 use Rattle.overlay_pages.proofs.pages.OverlayPages.pages_from.Goals as goal
 

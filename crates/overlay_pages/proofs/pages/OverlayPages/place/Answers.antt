@@ -1,9 +1,6 @@
-use Rattle.std.proofs.Common.{sym, ap, subst, ◌∙◌, arith}
-use Rattle.std.specs.Option.{IsSome, is_some}
-use Rattle.space_maps.specs.Spaces.{page_in}
-use Rattle.overlay_pages.specs.View.{HasOwnPlace, MemoryView, state_of, view_of}
-use Rattle.overlay_pages.specs.ViewLaws.{state_frames}
-use Rattle.overlay_pages.specs.declared.spots.Spot.TheVariants.{Frame, Segment}
+use Rattle.overlay_pages.proofs.Common.{sym, ap, subst, ◌∙◌, arith, IsSome, is_some}
+use Rattle.overlay_pages.proofs.Books.{page_in}
+use Rattle.overlay_pages.proofs.Views.{HasOwnPlace, MemoryView, state_of, view_of, state_frames, Frame, Segment}
 use Rattle.overlay_pages.proofs.Found.{spot_at}
 use Rattle.overlay_pages.proofs.OwnPlaces.{has_own_place}
 use Rattle.overlay_pages.proofs.Tables.{page_some}

@@ -1,9 +1,6 @@
-use Rattle.std.proofs.Common.{refl, sym, ap, subst, ◌∙◌}
-use Rattle.std.specs.Option.{IsSome}
-use Rattle.space_maps.specs.Spaces.{cut_page, page_in}
-use Rattle.space_ledger.specs.View.{overlay_at}
-use Rattle.overlay_pages.specs.Changes.{discarded}
-use Rattle.overlay_pages.specs.View.{MemoryView, state_of, view_of}
+use Rattle.overlay_pages.proofs.Common.{refl, sym, ap, subst, ◌∙◌, IsSome}
+use Rattle.overlay_pages.proofs.Books.{cut_page, page_in, overlay_at}
+use Rattle.overlay_pages.proofs.Views.{discarded, MemoryView, state_of, view_of}
 use Rattle.overlay_pages.proofs.Tables.{page_some}
 use Rattle.overlay_pages.proofs.Joining.{page_with}
 use Rattle.overlay_pages.proofs.Placed.{cut_turned}

@@ -1,8 +1,6 @@
-use Rattle.std.proofs.Common.{sym, ap, ◌∙◌}
-use Rattle.space_maps.specs.Laws.{cut_one}
-use Rattle.space_maps.specs.Spaces.{holds_space, space_in}
-use Rattle.overlay_pages.specs.View.{MemoryView, state_of, view_of}
-use Rattle.overlay_pages.specs.ViewLaws.{state_awaiting, state_holds}
+use Rattle.overlay_pages.proofs.Common.{sym, ap, ◌∙◌}
+use Rattle.overlay_pages.proofs.Books.{cut_one, holds_space, space_in}
+use Rattle.overlay_pages.proofs.Views.{MemoryView, state_of, view_of, state_awaiting, state_holds}
 use Rattle.overlay_pages.proofs.Removing.{run_low}
 use Rattle.overlay_pages.proofs.pages.OverlayPages.remove_run.Goals as goal
 

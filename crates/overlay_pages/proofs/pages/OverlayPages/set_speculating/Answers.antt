@@ -1,10 +1,8 @@
-use Rattle.std.proofs.Common.{sym, ap, subst, ◌∙◌}
-use Rattle.overlay_pages.specs.View.{IsJoined, MemoryView, state_of, view_of}
-use Rattle.overlay_pages.specs.ViewLaws.{state_holds}
-use Rattle.overlay_pages.specs.TableLaws.{state_mark_put}
+use Rattle.overlay_pages.proofs.Common.{sym, ap, subst, ◌∙◌}
+use Rattle.overlay_pages.proofs.Books.{holds_space, put_mark}
+use Rattle.overlay_pages.proofs.Views.{IsJoined, MemoryView, state_of, view_of, state_holds, state_mark_put}
 use Rattle.overlay_pages.proofs.Tables.{mark_joined}
 use Rattle.overlay_pages.proofs.pages.OverlayPages.set_speculating.Goals as goal
-use Rattle.space_maps.specs.Spaces.{holds_space, put_mark}
 
 pub set_speculating-requires : goal.set_speculating-requires
 set_speculating-requires c = sym (state_holds (view_of c.self.inside.store c.self.inside.ledger) c.args.space) ∙ ap (λ (m : MemoryView). holds_space (state_of m) c.args.space) c.self.view_is ∙ c.requires.there

@@ -1,8 +1,7 @@
-use Rattle.std.proofs.Common.{sym, ap, ◌∙◌}
-use Rattle.overlay_pages.specs.View.{MemoryView, state_of, view_of}
-use Rattle.overlay_pages.specs.ViewLaws.{state_holds}
+use Rattle.overlay_pages.proofs.Common.{sym, ap, ◌∙◌}
+use Rattle.overlay_pages.proofs.Books.{holds_space}
+use Rattle.overlay_pages.proofs.Views.{MemoryView, state_of, view_of, state_holds}
 use Rattle.overlay_pages.proofs.pages.OverlayPages.share_bare.Goals as goal
-use Rattle.space_maps.specs.Spaces.{holds_space}
 
 pub share_below-requires-clause-space : goal.share_below-requires-clause-space
 share_below-requires-clause-space c =

@@ -1,14 +1,6 @@
-use Rattle.std.proofs.Common.{sym, ap, subst, ◌∙◌}
-use Rattle.std.specs.Option.{IsSome, option_map}
-use Rattle.std.specs.FinMap.{get}
-use Rattle.page_table.specs.Table.{Pages}
-use Rattle.page_table.specs.declared.entry.PageEntry.{PageEntry}
-use Rattle.space_maps.specs.Spaces.{holds_space, page_in, space_in}
-use Rattle.space_ledger.specs.Space.{IsLeast}
-use Rattle.overlay_pages.specs.Changes.{HasShareRoom, with_shared}
-use Rattle.overlay_pages.specs.Calls.{AwaitsLike}
-use Rattle.overlay_pages.specs.View.{MemoryView, state_of, view_of}
-use Rattle.overlay_pages.specs.ViewLaws.{state_awaiting, state_holds}
+use Rattle.overlay_pages.proofs.Common.{sym, ap, subst, ◌∙◌, IsSome, option_map, get}
+use Rattle.overlay_pages.proofs.Books.{Pages, PageEntry, holds_space, page_in, space_in, IsLeast}
+use Rattle.overlay_pages.proofs.Views.{HasShareRoom, with_shared, AwaitsLike, MemoryView, state_of, view_of, state_awaiting, state_holds}
 use Rattle.overlay_pages.proofs.Tables.{frame_of_page, page_some}
 use Rattle.overlay_pages.proofs.pages.OverlayPages.share_page.Goals as goal
 

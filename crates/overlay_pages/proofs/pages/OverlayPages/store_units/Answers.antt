@@ -1,10 +1,8 @@
-use Rattle.std.proofs.Common.{sym, subst}
-use Rattle.overlay_pages.specs.View.{MemoryView, state_of, view_of}
-use Rattle.std.specs.Option.{IsSome}
-use Rattle.overlay_pages.specs.Calls.{RisesBy}
+use Rattle.overlay_pages.proofs.Common.{sym, subst, IsSome}
+use Rattle.overlay_pages.proofs.Books.{page_in}
+use Rattle.overlay_pages.proofs.Views.{MemoryView, state_of, view_of, RisesBy}
 use Rattle.overlay_pages.proofs.Tables.{page_some, rise_few, rises_state}
 use Rattle.overlay_pages.proofs.pages.OverlayPages.store_units.Goals as goal
-use Rattle.space_maps.specs.Spaces.{page_in}
 
 pub store_units-requires : goal.store_units-requires
 store_units-requires c = page_some (view_of c.self.inside.store c.self.inside.ledger) c.args.space c.args.page (subst (λ (m : MemoryView). IsSome (page_in (state_of m) c.args.space c.args.page)) (sym c.self.view_is) c.requires.there)

@@ -1,8 +1,6 @@
-use Rattle.std.proofs.Common.{sym, ap, subst, ◌∙◌, arith}
-use Rattle.overlay_pages.specs.View.{MemoryView, state_of, view_of}
-use Rattle.ledger.specs.Units.{units}
-use Rattle.overlay_pages.specs.Changes.{Fits, units_of}
-use Rattle.overlay_pages.specs.ViewLaws.{state_books}
+use Rattle.overlay_pages.proofs.Common.{sym, ap, subst, ◌∙◌, arith}
+use Rattle.overlay_pages.proofs.Books.{units}
+use Rattle.overlay_pages.proofs.Views.{MemoryView, state_of, view_of, Fits, units_of, state_books}
 use Rattle.overlay_pages.proofs.Growing.{free_is}
 use Rattle.overlay_pages.proofs.pages.OverlayPages.units.Goals as goal
 

@@ -1,8 +1,6 @@
-use Rattle.std.proofs.Common.{sym, ap, subst, ◌∙◌}
-use Rattle.space_maps.specs.Spaces.{holds_space, space_in}
-use Rattle.overlay_pages.specs.Calls.{AreZeros}
-use Rattle.overlay_pages.specs.View.{MemoryView, state_of, view_of}
-use Rattle.overlay_pages.specs.ViewLaws.{state_awaiting, state_holds}
+use Rattle.overlay_pages.proofs.Common.{sym, ap, subst, ◌∙◌}
+use Rattle.overlay_pages.proofs.Books.{holds_space, space_in}
+use Rattle.overlay_pages.proofs.Views.{AreZeros, MemoryView, state_of, view_of, state_awaiting, state_holds}
 use Rattle.overlay_pages.proofs.Removing.{zeros_low, zeros_state}
 use Rattle.overlay_pages.proofs.pages.OverlayPages.zeros_from.Goals as goal
 

@@ -1,4 +1,4 @@
-use Rattle.std.proofs.Common.{◌||◌, sym, ap, ◌∙◌}
+use Rattle.overlay_pages.proofs.Common.{◌||◌, sym, ap, ◌∙◌}
 use Rattle.overlay_pages.proofs.Found.{writable_found}
 use Rattle.overlay_pages.proofs.spots.FoundPage.is_writable.Goals as goal
 

@@ -1,5 +1,5 @@
-use Rattle.std.proofs.Common.{sym, subst, ◌∙◌}
-use Rattle.overlay_pages.specs.Spots.{IsSpot}
+use Rattle.overlay_pages.proofs.Common.{sym, subst, ◌∙◌}
+use Rattle.overlay_pages.proofs.Views.{IsSpot}
 use Rattle.overlay_pages.proofs.Found.{frame_spot, line_found, own_spot}
 use Rattle.overlay_pages.proofs.spots.FoundPage.line.Goals as goal
 use Rattle.overlay_pages.proofs.spots.FoundPage.line.Goals.{then-has, else-has}
