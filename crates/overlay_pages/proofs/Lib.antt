@@ -3,6 +3,7 @@ pub mod Stores
 pub mod Books
 pub mod Views
 pub mod Results
+pub mod Laws
 pub mod Steps
 pub mod Shifts
 pub mod Sizes

@@ -1,22 +1,13 @@
-use Rattle.overlay_pages.proofs.Common.{◌≡◌, ◌+◌, ◌≤◌, refl, sym, ap, subst, ◌∙◌, arith, len}
+use Rattle.overlay_pages.proofs.Common.{◌≡◌, ◌+◌, ◌≤◌, refl, sym, ap, subst, ◌∙◌, arith}
 use Rattle.overlay_pages.proofs.Books.{holds_space, page_in, space_in}
-use Rattle.overlay_pages.proofs.Views.{lines_of_bytes, IsPlaced, limit_of, units_of, whole_page, MemoryView, state_of, view_of, state_count, state_awaiting, state_holds}
+use Rattle.overlay_pages.proofs.Views.{lines_of_bytes, IsPlaced, limit_of, units_of, whole_page, MemoryView, state_of, view_of, state_awaiting, state_holds}
 use Rattle.overlay_pages.proofs.Tables.{none_back}
 use Rattle.overlay_pages.proofs.Growing.{has_room}
 use Rattle.overlay_pages.proofs.Adding.{added, added_room, added_units, mapped_in, only_one, ready_bare, ready_settled, ready_shared, ready_there}
 use Rattle.overlay_pages.proofs.pages.OverlayPages.add_page.Goals as goal
 
-pub map_zero-requires-clause-there : goal.map_zero-requires-clause-there
-map_zero-requires-clause-there c = (sym (state_holds (view_of c.self.inside.store c.self.inside.ledger) c.args.space) ∙ ap (λ (m : MemoryView). holds_space (state_of m) c.args.space) c.self.view_is ∙ c.requires.there)
-
-pub map_zero-requires-clause-settled : goal.map_zero-requires-clause-settled
-map_zero-requires-clause-settled c = sym (state_awaiting (view_of c.self.inside.store c.self.inside.ledger) c.args.space) ∙ ap (λ (m : MemoryView). (space_in (state_of m) c.args.space).awaiting) c.self.view_is ∙ c.requires.settled
-
 pub map_zero-requires-clause-free : goal.map_zero-requires-clause-free
 map_zero-requires-clause-free c q inside = only_one c.self.inside.ledger c.args.space c.args.page q inside (none_back (view_of c.self.inside.store c.self.inside.ledger) c.args.space c.args.page (ap (λ (m : MemoryView). page_in (state_of m) c.args.space c.args.page) c.self.view_is ∙ c.requires.absent))
-
-pub map_zero-requires-clause-few : goal.map_zero-requires-clause-few
-map_zero-requires-clause-few c = omega (arith, c.requires.few, sym (state_count (view_of c.self.inside.store c.self.inside.ledger) c.args.space) ∙ ap (λ (m : MemoryView). len (space_in (state_of m) c.args.space).pages) c.self.view_is)
 
 pub place_bytes-requires-clause-joined : goal.place_bytes-requires-clause-joined
 place_bytes-requires-clause-joined c = (mapped_in (view_of c.self.inside.store c.self.inside.ledger) c.map_zero.new.self c.args.space c.args.page (record { perms = c.args.perms; frame = c.self.inside.ledger.zero_frame }) c.self.invariant (sym (state_holds (view_of c.self.inside.store c.self.inside.ledger) c.args.space) ∙ ap (λ (m : MemoryView). holds_space (state_of m) c.args.space) c.self.view_is ∙ c.requires.there) c.requires.low (ap (λ (m : MemoryView). page_in (state_of m) c.args.space c.args.page) c.self.view_is ∙ c.requires.absent) refl c.in-Ok.ensures.mapped).joined

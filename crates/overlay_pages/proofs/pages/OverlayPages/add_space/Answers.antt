@@ -5,9 +5,6 @@ use Rattle.overlay_pages.proofs.Tables.{space_added}
 use Rattle.overlay_pages.proofs.Results.{either, on_ok}
 use Rattle.overlay_pages.proofs.pages.OverlayPages.add_space.Goals as goal
 
-pub add_space-requires-clause-absent : goal.add_space-requires-clause-absent
-add_space-requires-clause-absent c = sym (state_holds (view_of c.self.inside.store c.self.inside.ledger) c.args.space) ∙ ap (λ (m : MemoryView). holds_space (state_of m) c.args.space) c.self.view_is ∙ c.requires.absent
-
 pub invariant_of-self : goal.invariant_of-self
 invariant_of-self c =
     either (IsJoined (view_of c.self.inside.store c.add_space.new.self)) (c.add_space.new.self ≡ put_space c.self.inside.ledger c.args.space bare_space) (c.add_space.new.self ≡ c.self.inside.ledger) c.add_space.result c.add_space.ensures.added c.add_space.ensures.kept

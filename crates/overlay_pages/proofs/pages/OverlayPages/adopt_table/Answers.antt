@@ -1,20 +1,11 @@
 use Rattle.overlay_pages.proofs.Common.{sym, ap, subst, ◌∙◌}
-use Rattle.overlay_pages.proofs.Books.{holds_space, put_awaiting, space_in, NamesOnce}
-use Rattle.overlay_pages.proofs.Views.{IsJoined, MemoryView, state_of, view_of, state_awaiting, state_holds, state_zero, state_awaiting_put}
+use Rattle.overlay_pages.proofs.Books.{holds_space, put_awaiting, space_in}
+use Rattle.overlay_pages.proofs.Views.{IsJoined, MemoryView, state_of, view_of, state_holds, state_awaiting_put}
 use Rattle.overlay_pages.proofs.Tables.{awaiting_joined, no_pages_state}
 use Rattle.overlay_pages.proofs.pages.OverlayPages.adopt_table.Goals as goal
 
-pub adopt_table-requires-clause-there : goal.adopt_table-requires-clause-there
-adopt_table-requires-clause-there c = sym (state_holds (view_of c.self.inside.store c.self.inside.ledger) c.args.to) ∙ ap (λ (m : MemoryView). holds_space (state_of m) c.args.to) c.self.view_is ∙ c.requires.there
-
 pub adopt_table-requires-clause-empty : goal.adopt_table-requires-clause-empty
 adopt_table-requires-clause-empty c = no_pages_state (view_of c.self.inside.store c.self.inside.ledger) c.args.to (ap (λ (m : MemoryView). (space_in (state_of m) c.args.to).pages) c.self.view_is ∙ c.requires.empty)
-
-pub adopt_table-requires-clause-settled : goal.adopt_table-requires-clause-settled
-adopt_table-requires-clause-settled c = sym (state_awaiting (view_of c.self.inside.store c.self.inside.ledger) c.args.to) ∙ ap (λ (m : MemoryView). (space_in (state_of m) c.args.to).awaiting) c.self.view_is ∙ c.requires.settled
-
-pub adopt_table-requires-clause-once : goal.adopt_table-requires-clause-once
-adopt_table-requires-clause-once c = subst (λ z. NamesOnce z c.args.table.pages) (ap (λ (m : MemoryView). (state_of m).zero_frame) (sym c.self.view_is) ∙ state_zero (view_of c.self.inside.store c.self.inside.ledger)) c.requires.once
 
 pub invariant_of-self : goal.invariant_of-self
 invariant_of-self c =

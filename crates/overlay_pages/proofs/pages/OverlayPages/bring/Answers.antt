@@ -1,19 +1,12 @@
-use Rattle.overlay_pages.proofs.Common.{◌≡◌, sym, ap, subst, ◌∙◌, IsSome}
-use Rattle.overlay_pages.proofs.Books.{page_in}
+use Rattle.overlay_pages.proofs.Common.{◌≡◌, sym, ap, subst, ◌∙◌}
 use Rattle.overlay_pages.proofs.Views.{Fits, with_brought, MemoryView, state_of, view_of}
-use Rattle.overlay_pages.proofs.Tables.{brought_frame, brought_overlay, page_some}
+use Rattle.overlay_pages.proofs.Tables.{brought_frame, brought_overlay}
 use Rattle.overlay_pages.proofs.pages.OverlayPages.bring.Goals as goal
-
-pub writes_frame-requires : goal.writes_frame-requires
-writes_frame-requires c = page_some (view_of c.self.inside.store c.self.inside.ledger) c.args.space c.args.page (subst (λ (m : MemoryView). IsSome (page_in (state_of m) c.args.space c.args.page)) (sym c.self.view_is) c.requires.there)
 
 pub returns-then-writes_frame : goal.returns-then-writes_frame
 returns-then-writes_frame c =
     subst (λ (m : MemoryView). state_of m ≡ with_brought (state_of m) c.args.space c.args.page c.args.lines) c.self.view_is
     (brought_frame (view_of c.self.inside.store c.self.inside.ledger) c.args.space c.args.page c.args.lines (sym c.writes_frame.ensures ∙ c.if-writes_frame.true))
-
-pub bring_lines-requires-clause-there : goal.bring_lines-requires-clause-there
-bring_lines-requires-clause-there c = page_some (view_of c.self.inside.store c.self.inside.ledger) c.args.space c.args.page (subst (λ (m : MemoryView). IsSome (page_in (state_of m) c.args.space c.args.page)) (sym c.self.view_is) c.requires.there)
 
 pub bring_lines-requires-clause-fits : goal.bring_lines-requires-clause-fits
 bring_lines-requires-clause-fits c =

@@ -1,17 +1,11 @@
 use Rattle.overlay_pages.proofs.Common.{sym, ap, subst, ◌∙◌}
 use Rattle.overlay_pages.proofs.Books.{cut_space, holds_space, space_in}
-use Rattle.overlay_pages.proofs.Views.{IsJoined, MemoryView, state_of, view_of, state_awaiting, state_holds, state_cut_space}
+use Rattle.overlay_pages.proofs.Views.{IsJoined, MemoryView, state_of, view_of, state_holds, state_cut_space}
 use Rattle.overlay_pages.proofs.Tables.{no_pages_state, space_gone}
 use Rattle.overlay_pages.proofs.pages.OverlayPages.end_space.Goals as goal
 
-pub end_space-requires-clause-there : goal.end_space-requires-clause-there
-end_space-requires-clause-there c = sym (state_holds (view_of c.self.inside.store c.self.inside.ledger) c.args.space) ∙ ap (λ (m : MemoryView). holds_space (state_of m) c.args.space) c.self.view_is ∙ c.requires.there
-
 pub end_space-requires-clause-empty : goal.end_space-requires-clause-empty
 end_space-requires-clause-empty c = no_pages_state (view_of c.self.inside.store c.self.inside.ledger) c.args.space (ap (λ (m : MemoryView). (space_in (state_of m) c.args.space).pages) c.self.view_is ∙ c.requires.empty)
-
-pub end_space-requires-clause-settled : goal.end_space-requires-clause-settled
-end_space-requires-clause-settled c = sym (state_awaiting (view_of c.self.inside.store c.self.inside.ledger) c.args.space) ∙ ap (λ (m : MemoryView). (space_in (state_of m) c.args.space).awaiting) c.self.view_is ∙ c.requires.settled
 
 pub invariant_of-self : goal.invariant_of-self
 invariant_of-self c =

@@ -1,22 +1,13 @@
-use Rattle.overlay_pages.proofs.Common.{◌≡◌, refl, sym, ap, subst, ◌∙◌, arith, len}
-use Rattle.overlay_pages.proofs.Books.{holds_space, page_in, space_in, with_zero_pages}
-use Rattle.overlay_pages.proofs.Views.{IsJoined, MemoryView, state_of, view_of, with_zeros, state_count, state_awaiting, state_holds, state_zero}
+use Rattle.overlay_pages.proofs.Common.{◌≡◌, refl, sym, ap, subst, ◌∙◌}
+use Rattle.overlay_pages.proofs.Books.{holds_space, page_in, with_zero_pages}
+use Rattle.overlay_pages.proofs.Views.{IsJoined, MemoryView, state_of, view_of, with_zeros, state_holds, state_zero}
 use Rattle.overlay_pages.proofs.Results.{either, on_ok}
 use Rattle.overlay_pages.proofs.Tables.{none_back}
 use Rattle.overlay_pages.proofs.Zeros.{is_inside, zeros_joined}
 use Rattle.overlay_pages.proofs.pages.OverlayPages.map_zero.Goals as goal
 
-pub map_zero-requires-clause-there : goal.map_zero-requires-clause-there
-map_zero-requires-clause-there c = (sym (state_holds (view_of c.self.inside.store c.self.inside.ledger) c.args.space) ∙ ap (λ (m : MemoryView). holds_space (state_of m) c.args.space) c.self.view_is ∙ c.requires.there)
-
-pub map_zero-requires-clause-settled : goal.map_zero-requires-clause-settled
-map_zero-requires-clause-settled c = sym (state_awaiting (view_of c.self.inside.store c.self.inside.ledger) c.args.space) ∙ ap (λ (m : MemoryView). (space_in (state_of m) c.args.space).awaiting) c.self.view_is ∙ c.requires.settled
-
 pub map_zero-requires-clause-free : goal.map_zero-requires-clause-free
 map_zero-requires-clause-free c page inside = none_back (view_of c.self.inside.store c.self.inside.ledger) c.args.space page (ap (λ (m : MemoryView). page_in (state_of m) c.args.space page) c.self.view_is ∙ c.requires.absent page inside)
-
-pub map_zero-requires-clause-few : goal.map_zero-requires-clause-few
-map_zero-requires-clause-few c = omega (arith, c.requires.few, sym (state_count (view_of c.self.inside.store c.self.inside.ledger) c.args.space) ∙ ap (λ (m : MemoryView). len (space_in (state_of m) c.args.space).pages) c.self.view_is)
 
 pub invariant_of-self : goal.invariant_of-self
 invariant_of-self c =

@@ -1,11 +1,8 @@
-use Rattle.overlay_pages.proofs.Common.{sym, ap, subst, ◌∙◌, arith, len}
-use Rattle.overlay_pages.proofs.Books.{space_in, NamesOnce}
-use Rattle.overlay_pages.proofs.Views.{MemoryView, state_of, view_of, entries_in, state_count, state_zero}
+use Rattle.overlay_pages.proofs.Common.{sym, subst, arith}
+use Rattle.overlay_pages.proofs.Books.{NamesOnce}
+use Rattle.overlay_pages.proofs.Views.{MemoryView, state_of, view_of, entries_in, state_zero}
 use Rattle.overlay_pages.proofs.Tables.{entries_state, pages_few}
 use Rattle.overlay_pages.proofs.pages.OverlayPages.pages.Goals as goal
-
-pub returns-clause-count : goal.returns-clause-count
-returns-clause-count c = c.pages.ensures.count ∙ sym (state_count (view_of c.self.inside.store c.self.inside.ledger) c.args.space) ∙ ap (λ (m : MemoryView). len (space_in (state_of m) c.args.space).pages) c.self.view_is
 
 pub returns-clause-few : goal.returns-clause-few
 returns-clause-few c = omega (arith, c.pages.ensures.count, pages_few (view_of c.self.inside.store c.self.inside.ledger) c.args.space c.self.invariant)

@@ -1,12 +1,8 @@
 use Rattle.overlay_pages.proofs.Common.{sym, ap, subst, ◌∙◌}
-use Rattle.overlay_pages.proofs.Books.{page_in, space_in}
-use Rattle.overlay_pages.proofs.Views.{AreMapped, MemoryView, state_of, view_of, state_awaiting}
+use Rattle.overlay_pages.proofs.Books.{page_in}
+use Rattle.overlay_pages.proofs.Views.{AreMapped, MemoryView, state_of, view_of}
 use Rattle.overlay_pages.proofs.Removing.{mapped_low, mapped_state, none_state}
 use Rattle.overlay_pages.proofs.pages.OverlayPages.pages_from.Goals as goal
-
-pub pages_from-requires : goal.pages_from-requires
-pages_from-requires c =
-    sym (state_awaiting (view_of c.self.inside.store c.self.inside.ledger) c.args.space) ∙ ap (λ (m : MemoryView). (space_in (state_of m) c.args.space).awaiting) c.self.view_is ∙ c.requires
 
 pub returns-clause-there : goal.returns-clause-there
 returns-clause-there c =

@@ -6,9 +6,6 @@ use Rattle.overlay_pages.proofs.Joining.{page_with}
 use Rattle.overlay_pages.proofs.Placed.{cut_turned}
 use Rattle.overlay_pages.proofs.pages.OverlayPages.remove_page.Goals as goal
 
-pub drop_overlay-requires-clause-there : goal.drop_overlay-requires-clause-there
-drop_overlay-requires-clause-there c = page_some (view_of c.self.inside.store c.self.inside.ledger) c.args.space c.args.page (subst (λ (m : MemoryView). IsSome (page_in (state_of m) c.args.space c.args.page)) (sym c.self.view_is) c.requires.there)
-
 pub returns-clause-gone : goal.returns-clause-gone
 returns-clause-gone c =
     c.take_out.ensures.state ∙ ap (λ st. cut_page st c.args.space c.args.page) c.drop_overlay.ensures.state

@@ -4,9 +4,6 @@ use Rattle.overlay_pages.proofs.Views.{IsJoined, MemoryView, state_of, view_of, 
 use Rattle.overlay_pages.proofs.Tables.{mark_joined}
 use Rattle.overlay_pages.proofs.pages.OverlayPages.set_speculating.Goals as goal
 
-pub set_speculating-requires : goal.set_speculating-requires
-set_speculating-requires c = sym (state_holds (view_of c.self.inside.store c.self.inside.ledger) c.args.space) ∙ ap (λ (m : MemoryView). holds_space (state_of m) c.args.space) c.self.view_is ∙ c.requires.there
-
 pub invariant_of-self : goal.invariant_of-self
 invariant_of-self c =
     subst (λ t. IsJoined (view_of c.self.inside.store t)) (sym c.set_speculating.ensures) (mark_joined c.self.inside.store c.self.inside.ledger c.args.space c.args.on c.self.invariant (sym (state_holds (view_of c.self.inside.store c.self.inside.ledger) c.args.space) ∙ ap (λ (m : MemoryView). holds_space (state_of m) c.args.space) c.self.view_is ∙ c.requires.there))

@@ -1,14 +1,8 @@
-use Rattle.overlay_pages.proofs.Common.{sym, ap, subst, ◌∙◌, IsSome, option_map, get}
-use Rattle.overlay_pages.proofs.Books.{Pages, PageEntry, holds_space, page_in, space_in, IsLeast}
-use Rattle.overlay_pages.proofs.Views.{HasShareRoom, with_shared, AwaitsLike, MemoryView, state_of, view_of, state_awaiting, state_holds}
-use Rattle.overlay_pages.proofs.Tables.{frame_of_page, page_some}
+use Rattle.overlay_pages.proofs.Common.{sym, ap, subst, ◌∙◌, option_map, get}
+use Rattle.overlay_pages.proofs.Books.{Pages, PageEntry, space_in, IsLeast}
+use Rattle.overlay_pages.proofs.Views.{HasShareRoom, with_shared, AwaitsLike, MemoryView, state_of, view_of, state_awaiting}
+use Rattle.overlay_pages.proofs.Tables.{frame_of_page}
 use Rattle.overlay_pages.proofs.pages.OverlayPages.share_page.Goals as goal
-
-pub share-requires-clause-there : goal.share-requires-clause-there
-share-requires-clause-there c = page_some (view_of c.self.inside.store c.self.inside.ledger) c.args.from c.args.page (subst (λ (m : MemoryView). IsSome (page_in (state_of m) c.args.from c.args.page)) (sym c.self.view_is) c.requires.there)
-
-pub share-requires-clause-space : goal.share-requires-clause-space
-share-requires-clause-space c = sym (state_holds (view_of c.self.inside.store c.self.inside.ledger) c.args.to) ∙ ap (λ (m : MemoryView). holds_space (state_of m) c.args.to) c.self.view_is ∙ c.requires.space
 
 pub share-requires-clause-least : goal.share-requires-clause-least
 share-requires-clause-least c =

@@ -4,9 +4,6 @@ use Rattle.overlay_pages.proofs.Views.{MemoryView, state_of, view_of, RisesBy}
 use Rattle.overlay_pages.proofs.Tables.{page_some, rise_few, rises_state}
 use Rattle.overlay_pages.proofs.pages.OverlayPages.store_units.Goals as goal
 
-pub store_units-requires : goal.store_units-requires
-store_units-requires c = page_some (view_of c.self.inside.store c.self.inside.ledger) c.args.space c.args.page (subst (λ (m : MemoryView). IsSome (page_in (state_of m) c.args.space c.args.page)) (sym c.self.view_is) c.requires.there)
-
 pub returns-clause-rise : goal.returns-clause-rise
 returns-clause-rise c =
     subst (λ (m : MemoryView). RisesBy (state_of m) c.args.space c.args.page c.args.lines c.store_units.result) c.self.view_is
