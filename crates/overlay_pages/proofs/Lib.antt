@@ -3,7 +3,6 @@ pub mod Stores
 pub mod Books
 pub mod Views
 pub mod Results
-pub mod Laws
 pub mod Steps
 pub mod Shifts
 pub mod Sizes
@@ -27,3 +26,5 @@ pub mod Committing
 pub mod SharedPages
 pub mod SharedRuns
 pub mod OwnPlaces
+pub mod Laws
+pub mod Needs

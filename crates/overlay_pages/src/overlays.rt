@@ -1,5 +1,7 @@
 //! Lines that come into the overlay of a page, and overlays that end.
 
+#![tactic(auto, using(crate::proofs::Needs::needs))]
+
 ghost use Rattle.std.specs.Prelude.{◌≡◌, ℕ, ◌+◌, ◌^◌, ◌<◌, ◌≤◌, IsSome, Some, None, [], ◌∷◌, true, false, length};
 ghost use Rattle.sizes.specs.declared.TheConstants.{PAGE_LINES};
 ghost use Rattle.unit_map.specs.Changes.{HasRoom};

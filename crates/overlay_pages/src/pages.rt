@@ -57,7 +57,7 @@ impl Model for OverlayPages {
     ghost invariant = { λ m. IsJoined (record { store = m.store; table = m.ledger }) };
 }
 
-#[tactic(auto, using(crate::proofs::Laws::reads))]
+#[tactic(auto, using(crate::proofs::Laws::reads, crate::proofs::Laws::answers))]
 impl OverlayPages {
     /// No space, and 1 to 65,536 frames, of which one is the zero frame. Takes all the memory that frames, segments and overlays
     /// ever need, or answers the want of it.

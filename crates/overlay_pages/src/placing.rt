@@ -1,5 +1,7 @@
 //! Pages that come into new frames, and pages that go.
 
+#![tactic(auto, using(crate::proofs::Needs::needs))]
+
 ghost use Rattle.std.specs.Prelude.{◌≡◌, ◌+◌, ◌≤◌, IfSome, IsSome, None, false, true};
 ghost use Rattle.std.specs.FinMap as map;
 ghost use Rattle.sizes.specs.declared.TheConstants.{FRAME_UNITS, PAGE_BYTES};

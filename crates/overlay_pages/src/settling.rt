@@ -1,5 +1,7 @@
 //! Overlays that go into frames.
 
+#![tactic(auto, using(crate::proofs::Needs::needs))]
+
 ghost use Rattle.std.specs.Prelude.{◌≡◌, ℕ, IfSome, IsSome, Some, None, false, true};
 ghost use Rattle.std.specs.FinMap as map;
 ghost use Rattle.std.specs.Option.{option_map};

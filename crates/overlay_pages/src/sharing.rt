@@ -1,5 +1,7 @@
 //! Pages that are shared with another space.
 
+#![tactic(auto, using(crate::proofs::Needs::needs))]
+
 ghost use Rattle.std.specs.Prelude.{◌≡◌, ◌≢◌, IsSome, Some, None, true};
 ghost use Rattle.page_table.specs.Table.{Pages};
 ghost use Rattle.space_maps.specs.Spaces.{holds_space, page_in, space_in};

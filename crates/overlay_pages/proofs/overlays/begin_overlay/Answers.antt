@@ -1,30 +1,17 @@
-use Rattle.overlay_pages.proofs.Common.{[], Some, None, inr, refl, ap, subst, ◌∙◌, arith}
+use Rattle.overlay_pages.proofs.Common.{[], Some, None, refl, ap, subst, ◌∙◌}
 use Rattle.overlay_pages.proofs.Stores.{with_line, filled_there, Begins}
 use Rattle.overlay_pages.proofs.Books.{with_overlay}
 use Rattle.overlay_pages.proofs.Views.{laid, view_of}
 use Rattle.overlay_pages.proofs.Overlaying.{overlays}
-use Rattle.overlay_pages.proofs.Joining.{BeginsWith, begun, begun_page, overlay_room, page_with}
+use Rattle.overlay_pages.proofs.Joining.{BeginsWith, begun, begun_page, page_with}
 use Rattle.overlay_pages.proofs.overlays.begin_overlay.Goals as goal
 use Rattle.overlay_pages.proofs.overlays.begin_overlay.Goals.{After-set_overlay}
-
-pub of-requires-clause-few : goal.of-requires-clause-few
-of-requires-clause-few c =
-    let found = page_with c.args.ledger.now c.args.space c.args.page c.requires.there None c.requires.bare in
-    omega (arith, (c.requires.joined.held c.args.space c.args.page found.x found.there).number)
-
-pub of-requires-clause-low : goal.of-requires-clause-low
-of-requires-clause-low c =
-    let found = page_with c.args.ledger.now c.args.space c.args.page c.requires.there None c.requires.bare in
-    omega (arith, (c.requires.joined.held c.args.space c.args.page found.x found.there).low)
 
 pub insert-requires-clause-there : goal.insert-requires-clause-there
 insert-requires-clause-there c =
     let b = c.begin_segment-block.ensures in
     filled_there c.begin_segment-block.new.self c.lay.new.self c.begin_segment-block.result c.args.bits b.store
     (record { segment = record { owner = c.of.result; order = c.begin_segment-block.result.order; bits = [] }; there = b.begins.there; order = refl }) c.lay.ensures.lines
-
-pub set_overlay-requires-clause-room : goal.set_overlay-requires-clause-room
-set_overlay-requires-clause-room c = inr (overlay_room (view_of c.args.store.now c.args.ledger.now) c.requires.joined)
 
 steps : (c : After-set_overlay) → BeginsWith c.args.store.now c.begin_segment-block.new.self c.lay.new.self c.insert.new.self c.args.space c.args.page c.begin_segment-block.result c.args.order c.args.bits c.args.line c.args.bytes.now
 steps c =

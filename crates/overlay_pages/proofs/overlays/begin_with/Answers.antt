@@ -1,17 +1,13 @@
-use Rattle.overlay_pages.proofs.Common.{◌+◌, length, sym, ap, ◌∙◌, arith}
-use Rattle.overlay_pages.proofs.Books.{class, turned_page}
+use Rattle.overlay_pages.proofs.Common.{ap, ◌∙◌, arith}
+use Rattle.overlay_pages.proofs.Books.{turned_page}
 use Rattle.overlay_pages.proofs.Views.{laid, state_of, view_of}
 use Rattle.overlay_pages.proofs.Growing.{begins_room, begun_first, has_room}
-use Rattle.overlay_pages.proofs.Sizes.{first_size}
 use Rattle.overlay_pages.proofs.overlays.begin_with.Goals as goal
 
 pub begin_overlay-requires-clause-room : goal.begin_overlay-requires-clause-room
 begin_overlay-requires-clause-room c =
     has_room (view_of c.args.store.now c.args.ledger.now) c.requires.joined 0 (omega arith)
     (begins_room (view_of c.args.store.now c.args.ledger.now) c.args.space c.args.page c.args.line c.args.bytes.now c.requires.joined c.requires.there c.requires.bare c.requires.fits)
-
-pub begin_overlay-requires-clause-size : goal.begin_overlay-requires-clause-size
-begin_overlay-requires-clause-size c = first_size ∙ ap (λ l. class (length l + 1)) (sym c.empty.ensures)
 
 pub returns-clause-state : goal.returns-clause-state
 returns-clause-state c =

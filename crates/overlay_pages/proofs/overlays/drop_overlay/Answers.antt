@@ -3,15 +3,11 @@ use Rattle.overlay_pages.proofs.Stores.{CanSettle}
 use Rattle.overlay_pages.proofs.Books.{turned_page}
 use Rattle.overlay_pages.proofs.Views.{IsJoinedWith, state_of, view_of, discarded}
 use Rattle.overlay_pages.proofs.Overlaying.{overlays}
-use Rattle.overlay_pages.proofs.Joining.{Has, bare_state, dropped, dropped_page, frames_twice, overlay_segment, page_with}
+use Rattle.overlay_pages.proofs.Joining.{Has, bare_state, dropped, dropped_page, frames_twice, page_with}
 use Rattle.overlay_pages.proofs.Growing.{ended_bare, ended_there}
 use Rattle.overlay_pages.proofs.Shifts.{few_beside, few_none}
 use Rattle.overlay_pages.proofs.overlays.drop_overlay.Goals as goal
 use Rattle.overlay_pages.proofs.overlays.drop_overlay.Goals.{After-set_overlay}
-
-pub end_segment-requires : goal.end_segment-requires
-end_segment-requires c =
-    overlay_segment (view_of c.args.store.now c.args.ledger.now) c.args.space c.args.page c.in-Some.entry c.requires.joined c.requires.there (sym c.overlay.ensures.overlay ∙ c.in-Some.is)
 
 page : (c : After-set_overlay) → Has c.args.ledger.now c.args.space c.args.page (Some c.in-Some.entry)
 page c = page_with c.args.ledger.now c.args.space c.args.page c.requires.there (Some c.in-Some.entry) (sym c.overlay.ensures.overlay ∙ c.in-Some.is)

@@ -1,22 +1,10 @@
 use Rattle.overlay_pages.proofs.Common.{arith}
 use Rattle.overlay_pages.proofs.Views.{state_of, view_of}
-use Rattle.overlay_pages.proofs.Growing.{grown_state, grows_enough, grows_fits, grows_low, grows_size}
+use Rattle.overlay_pages.proofs.Growing.{grown_state, grows_low}
 use Rattle.overlay_pages.proofs.overlays.grow.Goals as goal
-
-pub overflow_add-order : goal.overflow_add-order
-overflow_add-order c = record { fits = omega (arith, grows_low (view_of c.args.store.now c.args.ledger.now) c.args.space c.args.page c.args.entry c.args.line c.args.bytes.now c.requires.joined c.requires.there c.requires.overlaid c.requires.line c.requires.absent c.requires.full c.requires.fits) }
 
 pub take_up-requires-clause-order : goal.take_up-requires-clause-order
 take_up-requires-clause-order c = omega (arith, grows_low (view_of c.args.store.now c.args.ledger.now) c.args.space c.args.page c.args.entry c.args.line c.args.bytes.now c.requires.joined c.requires.there c.requires.overlaid c.requires.line c.requires.absent c.requires.full c.requires.fits)
-
-pub take_up-requires-clause-enough : goal.take_up-requires-clause-enough
-take_up-requires-clause-enough c = grows_enough (view_of c.args.store.now c.args.ledger.now) c.args.space c.args.page c.args.entry c.args.line c.args.bytes.now c.requires.joined c.requires.there c.requires.overlaid c.requires.line c.requires.absent c.requires.full c.requires.fits
-
-pub begin_overlay-requires-clause-fits : goal.begin_overlay-requires-clause-fits
-begin_overlay-requires-clause-fits c = grows_fits (view_of c.args.store.now c.args.ledger.now) c.args.space c.args.page c.args.entry c.args.line c.args.bytes.now c.requires.joined c.requires.there c.requires.overlaid c.requires.line c.requires.absent c.requires.full c.requires.fits
-
-pub begin_overlay-requires-clause-size : goal.begin_overlay-requires-clause-size
-begin_overlay-requires-clause-size c = grows_size (view_of c.args.store.now c.args.ledger.now) c.args.space c.args.page c.args.entry c.args.line c.args.bytes.now c.requires.joined c.requires.there c.requires.overlaid c.requires.line c.requires.absent c.requires.full c.requires.fits
 
 pub returns-clause-state : goal.returns-clause-state
 returns-clause-state c =

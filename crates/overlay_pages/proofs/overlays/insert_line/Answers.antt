@@ -1,22 +1,10 @@
-use Rattle.overlay_pages.proofs.Common.{◌<◌, Some, length, sym, ap, subst, ◌∙◌}
-use Rattle.overlay_pages.proofs.Stores.{has_line, with_line, capacity_of}
+use Rattle.overlay_pages.proofs.Common.{Some, ap, ◌∙◌}
+use Rattle.overlay_pages.proofs.Stores.{with_line}
 use Rattle.overlay_pages.proofs.Books.{with_overlay}
 use Rattle.overlay_pages.proofs.Views.{joins, view_of}
 use Rattle.overlay_pages.proofs.Overlaying.{overlays}
-use Rattle.overlay_pages.proofs.Joining.{inserted, inserted_fills, joined_page, overlay_segment, overlay_set, page_with}
+use Rattle.overlay_pages.proofs.Joining.{inserted, inserted_fills, joined_page, page_with}
 use Rattle.overlay_pages.proofs.overlays.insert_line.Goals as goal
-
-pub insert-requires-clause-there : goal.insert-requires-clause-there
-insert-requires-clause-there c = overlay_segment (view_of c.args.store.now c.args.ledger.now) c.args.space c.args.page c.args.entry c.requires.joined c.requires.there c.requires.overlaid
-
-pub insert-requires-clause-absent : goal.insert-requires-clause-absent
-insert-requires-clause-absent c =
-    ap (λ l. has_line l c.args.line) (overlay_set (view_of c.args.store.now c.args.ledger.now) c.args.space c.args.page c.args.entry c.requires.joined c.requires.there c.requires.overlaid) ∙ c.requires.absent
-
-pub insert-requires-clause-room : goal.insert-requires-clause-room
-insert-requires-clause-room c =
-    subst (λ l. length l < capacity_of c.args.entry.block.order)
-    (sym (overlay_set (view_of c.args.store.now c.args.ledger.now) c.args.space c.args.page c.args.entry c.requires.joined c.requires.there c.requires.overlaid)) c.requires.fits
 
 pub returns : goal.returns
 returns c =

@@ -2,7 +2,7 @@ use Rattle.overlay_pages.proofs.Common.{◌≡◌, ◌^◌, ap, ◌∙◌}
 use Rattle.overlay_pages.proofs.Books.{turned_page}
 use Rattle.overlay_pages.proofs.Views.{discarded, IsJoined, state_of, view_of}
 use Rattle.overlay_pages.proofs.Growing.{all_kept, ended_room, has_room}
-use Rattle.overlay_pages.proofs.Joining.{frames_twice, overlay_segment, overlay_set}
+use Rattle.overlay_pages.proofs.Joining.{frames_twice}
 use Rattle.overlay_pages.proofs.overlays.take_up.Goals as goal
 use Rattle.overlay_pages.proofs.overlays.take_up.Goals.{After-lift}
 
@@ -10,12 +10,6 @@ use Rattle.overlay_pages.proofs.overlays.take_up.Goals.{After-lift}
 lifted : (c : After-lift) → IsJoined (view_of c.lift.new.self c.args.ledger.now) × (state_of (view_of c.lift.new.self c.args.ledger.now) ≡ state_of (view_of c.args.store.now c.args.ledger.now))
 lifted c =
     let l = c.lift.ensures in all_kept c.args.store.now c.lift.new.self c.args.ledger.now c.requires.joined l.segments l.frames l.lifts.blocks l.lifts.segments l.store
-
-pub lift-requires-clause-there : goal.lift-requires-clause-there
-lift-requires-clause-there c = overlay_segment (view_of c.args.store.now c.args.ledger.now) c.args.space c.args.page c.args.overlay.now c.requires.joined c.requires.there c.requires.overlaid
-
-pub lift-requires-clause-lines : goal.lift-requires-clause-lines
-lift-requires-clause-lines c = overlay_set (view_of c.args.store.now c.args.ledger.now) c.args.space c.args.page c.args.overlay.now c.requires.joined c.requires.there c.requires.overlaid
 
 pub drop_overlay-requires-clause-joined : goal.drop_overlay-requires-clause-joined
 drop_overlay-requires-clause-joined c = (lifted (goal.at.drop_overlay-requires-clause-joined c).After-lift).0

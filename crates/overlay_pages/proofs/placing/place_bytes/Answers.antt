@@ -1,11 +1,8 @@
 use Rattle.overlay_pages.proofs.Common.{None, refl, drop, take, ◌*◌, LINE_BYTES}
 use Rattle.overlay_pages.proofs.Views.{lines_of_bytes, view_of}
 use Rattle.overlay_pages.proofs.Joining.{page_with}
-use Rattle.overlay_pages.proofs.NewFrames.{frame_inside_of, is_placed}
+use Rattle.overlay_pages.proofs.NewFrames.{is_placed}
 use Rattle.overlay_pages.proofs.placing.place_bytes.Goals as goal
-
-pub set_frame-requires-clause-inside : goal.set_frame-requires-clause-inside
-set_frame-requires-clause-inside c = frame_inside_of c.args.store.now c.take_frame-frame.new.self c.args.ledger.now c.take_frame-frame.result c.requires.joined c.take_frame-frame.ensures.frame c.take_frame-frame.ensures.units c.take_frame-frame.ensures.store
 
 pub returns : goal.returns
 unfolding lines_of_bytes

@@ -1,7 +1,7 @@
 use Rattle.overlay_pages.proofs.Common.{None, Some, sym, subst, ◌∙◌}
 use Rattle.overlay_pages.proofs.Stores.{IsFrame}
 use Rattle.overlay_pages.proofs.Views.{view_of}
-use Rattle.overlay_pages.proofs.Joining.{overlay_segment, overlay_set, page_with}
+use Rattle.overlay_pages.proofs.Joining.{page_with}
 use Rattle.overlay_pages.proofs.Committing.{bare_committed, committed_page, commits, filled_up, page_frame}
 use Rattle.overlay_pages.proofs.settling.commit.Goals as goal
 
@@ -10,12 +10,6 @@ commit_lines-requires-clause-frame c =
     let found = page_with c.args.ledger.now c.args.space c.args.page c.requires.there (Some c.in-Some.overlay) (sym c.overlay.ensures.overlay ∙ c.in-Some.is) in
     subst (IsFrame c.args.store.now) (page_frame c.args.ledger.now c.args.space c.args.page found.x c.frame_of-frame.result found.there c.frame_of-frame.ensures)
     (c.requires.joined.held c.args.space c.args.page found.x found.there).frame
-
-pub commit_lines-requires-clause-there : goal.commit_lines-requires-clause-there
-commit_lines-requires-clause-there c = overlay_segment (view_of c.args.store.now c.args.ledger.now) c.args.space c.args.page c.in-Some.overlay c.requires.joined c.requires.there (sym c.overlay.ensures.overlay ∙ c.in-Some.is)
-
-pub commit_lines-requires-clause-lines : goal.commit_lines-requires-clause-lines
-commit_lines-requires-clause-lines c = overlay_set (view_of c.args.store.now c.args.ledger.now) c.args.space c.args.page c.in-Some.overlay c.requires.joined c.requires.there (sym c.overlay.ensures.overlay ∙ c.in-Some.is)
 
 pub drop_overlay-requires-clause-joined : goal.drop_overlay-requires-clause-joined
 drop_overlay-requires-clause-joined c =

@@ -3,9 +3,17 @@ use Rattle.overlay_pages.proofs.Stores.{frame_inside}
 use Rattle.overlay_pages.proofs.Views.{view_of}
 use Rattle.overlay_pages.proofs.Joining.{Has, page_with}
 use Rattle.overlay_pages.proofs.Committing.{composed_lines_are, copied_at, copy_enough, copy_settled, copy_shared, page_frame}
-use Rattle.overlay_pages.proofs.Shifts.{few_framed}
 use Rattle.overlay_pages.proofs.settling.copy_commit.Goals as goal
 use Rattle.overlay_pages.proofs.settling.copy_commit.Goals.{After-frame_of-frame}
+
+pub take_up-requires-clause-enough : goal.take_up-requires-clause-enough
+take_up-requires-clause-enough c = copy_enough (view_of c.args.store.now c.args.ledger.now) c.args.space c.args.page c.args.overlay c.requires.joined c.requires.there c.requires.overlaid c.requires.room
+
+pub place_lines-requires-clause-shared : goal.place_lines-requires-clause-shared
+place_lines-requires-clause-shared c = copy_shared (view_of c.args.store.now c.args.ledger.now) c.args.space c.args.page c.args.overlay c.requires.joined c.requires.there c.requires.overlaid (view_of c.take_up.new.store c.take_up.new.ledger) c.take_up.ensures.state c.requires.shared
+
+pub place_lines-requires-clause-settled : goal.place_lines-requires-clause-settled
+place_lines-requires-clause-settled c = copy_settled (view_of c.args.store.now c.args.ledger.now) c.args.space c.args.page c.args.overlay c.requires.joined c.requires.there c.requires.overlaid (view_of c.take_up.new.store c.take_up.new.ledger) c.take_up.ensures.state c.requires.settled
 
 -- the page and its frame
 abbrev page : (c : After-frame_of-frame) → Has c.args.ledger.now c.args.space c.args.page (Some c.args.overlay)
@@ -14,20 +22,11 @@ page c = page_with c.args.ledger.now c.args.space c.args.page c.requires.there (
 framed : (c : After-frame_of-frame) → (page c).x.entry.frame ≡ c.frame_of-frame.result
 framed c = page_frame c.args.ledger.now c.args.space c.args.page (page c).x c.frame_of-frame.result (page c).there c.frame_of-frame.ensures
 
-pub take_up-requires-clause-enough : goal.take_up-requires-clause-enough
-take_up-requires-clause-enough c = copy_enough (view_of c.args.store.now c.args.ledger.now) c.args.space c.args.page c.args.overlay c.requires.joined c.requires.there c.requires.overlaid c.requires.room
-
 pub compose_scratch-requires : goal.compose_scratch-requires
 compose_scratch-requires c =
     let found = page (goal.at.compose_scratch-requires c).After-frame_of-frame in
     let taken = (c.take_up.ensures.frames found.x.entry.frame (c.requires.joined.held c.args.space c.args.page found.x found.there).frame).stays in
     omega (arith, frame_inside c.take_up.new.store c.take_up.ensures.joined.store found.x.entry.frame taken, framed (goal.at.compose_scratch-requires c).After-frame_of-frame)
-
-pub place_lines-requires-clause-shared : goal.place_lines-requires-clause-shared
-place_lines-requires-clause-shared c = copy_shared (view_of c.args.store.now c.args.ledger.now) c.args.space c.args.page c.args.overlay c.requires.joined c.requires.there c.requires.overlaid (view_of c.take_up.new.store c.take_up.new.ledger) c.take_up.ensures.state c.requires.shared
-
-pub place_lines-requires-clause-settled : goal.place_lines-requires-clause-settled
-place_lines-requires-clause-settled c = copy_settled (view_of c.args.store.now c.args.ledger.now) c.args.space c.args.page c.args.overlay c.requires.joined c.requires.there c.requires.overlaid (view_of c.take_up.new.store c.take_up.new.ledger) c.take_up.ensures.state c.requires.settled
 
 pub returns-clause-placed : goal.returns-clause-placed
 returns-clause-placed c =
@@ -37,6 +36,3 @@ returns-clause-placed c =
     (view_of c.take_up.new.store c.take_up.new.ledger) c.frame_of-frame.result c.compose_scratch.new.out c.take_up.ensures.lines c.take_up.ensures.frames
     (framed (goal.at.returns-clause-placed c).After-frame_of-frame) c.compose_scratch.ensures.lines)
     c.place_lines.ensures.placed
-
-pub returns-clause-few : goal.returns-clause-few
-returns-clause-few c = few_framed c.args.ledger.now c.take_up.new.ledger c.place_lines.new.ledger c.args.space c.args.page c.place_lines.ensures.others c.take_up.ensures.few

@@ -1,6 +1,3 @@
-use Rattle.overlay_pages.proofs.Common.{ap, ◌∙◌, get}
-use Rattle.overlay_pages.proofs.Books.{Pages}
-use Rattle.overlay_pages.proofs.Views.{view_of, state_awaiting}
 use Rattle.overlay_pages.proofs.SharedRuns.{bare_below, shared_all}
 use Rattle.overlay_pages.proofs.sharing.share_below.Goals as goal
 
@@ -17,7 +14,3 @@ pub returns-clause-shared : goal.returns-clause-shared
 returns-clause-shared c =
     (shared_all c.args.store.now c.args.from c.args.to c.args.until c.requires.differ c.args.ledger.now c.share_bare.new.self c.share_bare.ensures.shared
     c.requires.joined c.requires.space c.requires.bare).1
-
-pub returns-clause-none : goal.returns-clause-none
-returns-clause-none c page low =
-    ap (λ (m : Pages). get m page) (state_awaiting (view_of c.args.store.now c.share_bare.new.self) c.args.to) ∙ c.share_bare.ensures.none page low

@@ -1,44 +1,25 @@
-use Rattle.overlay_pages.proofs.Common.{◌≡◌, ◌≤◌, is_some, length, sym, ap, subst, arith}
+use Rattle.overlay_pages.proofs.Common.{◌≡◌, ◌≤◌, length, sym, subst}
 use Rattle.overlay_pages.proofs.Stores.{HasRoom, Begins, capacity_of}
 use Rattle.overlay_pages.proofs.Views.{IsJoined, state_of, view_of, with_shared}
-use Rattle.overlay_pages.proofs.Joining.{overlay_room, overlay_segment, overlay_set}
 use Rattle.overlay_pages.proofs.Growing.{all_kept}
-use Rattle.overlay_pages.proofs.SharedPages.{overlaid, share_fits, share_low, share_order, share_room}
+use Rattle.overlay_pages.proofs.SharedPages.{overlaid, share_fits, share_room}
 use Rattle.overlay_pages.proofs.sharing.share_overlaid.Goals as goal
 use Rattle.overlay_pages.proofs.sharing.share_overlaid.Goals.{After-lift, After-share_page}
-
--- the lines in scratch change nothing
-lifted : (c : After-lift) → IsJoined (view_of c.lift.new.self c.args.ledger.now) × (state_of (view_of c.lift.new.self c.args.ledger.now) ≡ state_of (view_of c.args.store.now c.args.ledger.now))
-lifted c =
-    let l = c.lift.ensures in all_kept c.args.store.now c.lift.new.self c.args.ledger.now c.requires.joined l.segments l.frames l.lifts.blocks l.lifts.segments l.store
-
-pub lift-requires-clause-there : goal.lift-requires-clause-there
-lift-requires-clause-there c = overlay_segment (view_of c.args.store.now c.args.ledger.now) c.args.from c.args.page c.args.overlay c.requires.joined c.requires.there c.requires.overlaid
-
-pub lift-requires-clause-lines : goal.lift-requires-clause-lines
-lift-requires-clause-lines c = overlay_set (view_of c.args.store.now c.args.ledger.now) c.args.from c.args.page c.args.overlay c.requires.joined c.requires.there c.requires.overlaid
-
-pub begin_segment-block-requires-clause-order : goal.begin_segment-block-requires-clause-order
-begin_segment-block-requires-clause-order c = share_order (view_of c.args.store.now c.args.ledger.now) c.args.from c.args.page c.args.overlay c.requires.joined c.requires.there c.requires.overlaid
 
 pub begin_segment-block-requires-clause-room : goal.begin_segment-block-requires-clause-room
 begin_segment-block-requires-clause-room c =
     subst (λ blocks. HasRoom blocks c.args.overlay.block.order) (sym c.lift.ensures.lifts.blocks)
     (share_room (view_of c.args.store.now c.args.ledger.now) c.args.from c.args.page c.args.overlay c.requires.joined c.requires.there c.requires.overlaid c.requires.room)
 
-pub of-requires-clause-low : goal.of-requires-clause-low
-of-requires-clause-low c = omega (arith, share_low (view_of c.args.store.now c.args.ledger.now) c.args.from c.args.page c.args.overlay c.requires.joined c.requires.there c.requires.overlaid)
-
 pub lay-requires-clause-room : goal.lay-requires-clause-room
 lay-requires-clause-room c =
     subst (λ k. length c.args.overlay.bits ≤ capacity_of k) (sym c.begin_segment-block.ensures.blocks.0)
     (share_fits (view_of c.args.store.now c.args.ledger.now) c.args.from c.args.page c.args.overlay c.requires.joined c.requires.there c.requires.overlaid)
 
-pub share_page-requires-clause-block : goal.share_page-requires-clause-block
-share_page-requires-clause-block c = sym (ap is_some c.requires.overlaid)
-
-pub share_page-requires-clause-room : goal.share_page-requires-clause-room
-share_page-requires-clause-room c = overlay_room (view_of c.args.store.now c.args.ledger.now) c.requires.joined
+-- the lines in scratch change nothing
+lifted : (c : After-lift) → IsJoined (view_of c.lift.new.self c.args.ledger.now) × (state_of (view_of c.lift.new.self c.args.ledger.now) ≡ state_of (view_of c.args.store.now c.args.ledger.now))
+lifted c =
+    let l = c.lift.ensures in all_kept c.args.store.now c.lift.new.self c.args.ledger.now c.requires.joined l.segments l.frames l.lifts.blocks l.lifts.segments l.store
 
 -- what the steps leave, and the memory with it
 both : (c : After-share_page) → IsJoined (view_of c.lift.new.self c.args.ledger.now) → state_of (view_of c.lift.new.self c.args.ledger.now) ≡ state_of (view_of c.args.store.now c.args.ledger.now)

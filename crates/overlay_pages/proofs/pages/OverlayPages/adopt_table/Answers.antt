@@ -1,11 +1,8 @@
 use Rattle.overlay_pages.proofs.Common.{sym, ap, subst, ◌∙◌}
-use Rattle.overlay_pages.proofs.Books.{holds_space, put_awaiting, space_in}
+use Rattle.overlay_pages.proofs.Books.{holds_space, put_awaiting}
 use Rattle.overlay_pages.proofs.Views.{IsJoined, MemoryView, state_of, view_of, state_holds, state_awaiting_put}
-use Rattle.overlay_pages.proofs.Tables.{awaiting_joined, no_pages_state}
+use Rattle.overlay_pages.proofs.Tables.{awaiting_joined}
 use Rattle.overlay_pages.proofs.pages.OverlayPages.adopt_table.Goals as goal
-
-pub adopt_table-requires-clause-empty : goal.adopt_table-requires-clause-empty
-adopt_table-requires-clause-empty c = no_pages_state (view_of c.self.inside.store c.self.inside.ledger) c.args.to (ap (λ (m : MemoryView). (space_in (state_of m) c.args.to).pages) c.self.view_is ∙ c.requires.empty)
 
 pub invariant_of-self : goal.invariant_of-self
 invariant_of-self c =

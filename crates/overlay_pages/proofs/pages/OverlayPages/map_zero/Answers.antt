@@ -6,9 +6,6 @@ use Rattle.overlay_pages.proofs.Tables.{none_back}
 use Rattle.overlay_pages.proofs.Zeros.{is_inside, zeros_joined}
 use Rattle.overlay_pages.proofs.pages.OverlayPages.map_zero.Goals as goal
 
-pub map_zero-requires-clause-free : goal.map_zero-requires-clause-free
-map_zero-requires-clause-free c page inside = none_back (view_of c.self.inside.store c.self.inside.ledger) c.args.space page (ap (λ (m : MemoryView). page_in (state_of m) c.args.space page) c.self.view_is ∙ c.requires.absent page inside)
-
 pub invariant_of-self : goal.invariant_of-self
 invariant_of-self c =
     either (IsJoined (view_of c.self.inside.store c.map_zero.new.self)) (c.map_zero.new.self ≡ with_zero_pages c.self.inside.ledger c.args.space c.args.page c.args.n (record { perms = c.args.perms; frame = c.self.inside.ledger.zero_frame })) (c.map_zero.new.self ≡ c.self.inside.ledger)

@@ -1,9 +1,6 @@
-use Rattle.overlay_pages.proofs.Common.{sym, ap, subst, ◌∙◌, arith, IsSome, is_some}
-use Rattle.overlay_pages.proofs.Books.{page_in}
-use Rattle.overlay_pages.proofs.Views.{HasOwnPlace, MemoryView, state_of, view_of, state_frames, Frame, Segment}
+use Rattle.overlay_pages.proofs.Common.{sym, ap, ◌∙◌, arith, is_some}
+use Rattle.overlay_pages.proofs.Views.{MemoryView, state_of, view_of, state_frames, Frame, Segment}
 use Rattle.overlay_pages.proofs.Found.{spot_at}
-use Rattle.overlay_pages.proofs.OwnPlaces.{has_own_place}
-use Rattle.overlay_pages.proofs.Tables.{page_some}
 use Rattle.overlay_pages.proofs.Lending.{frame_low, outside_inside, segment_has, segment_inside, segment_there}
 use Rattle.overlay_pages.proofs.pages.OverlayPages.place.Goals as goal
 
@@ -29,15 +26,3 @@ returns-in-Segment-clause-inside c = omega (arith, segment_inside (view_of c.sel
 
 pub returns-in-Frame-clause-inside : goal.returns-in-Frame-clause-inside
 returns-in-Frame-clause-inside c = omega (arith, outside_inside (view_of c.self.inside.store c.self.inside.ledger) c.args.space c.args.page c.args.line c.in-Frame.frame c.self.invariant (spot_at (view_of c.self.inside.store c.self.inside.ledger) c.args.self.now c.args.space c.args.page c.args.line c.in-Some.found (Frame c.in-Frame.frame) c.self.view_is c.in-Some.ensures.found c.in-Frame.is) c.requires.line, c.from.ensures, (sym (state_frames (view_of c.self.inside.store c.self.inside.ledger)) ∙ ap (λ (m : MemoryView). (state_of m).frames) c.self.view_is))
-
-pub returns-in-Segment-clause-own : goal.returns-in-Segment-clause-own
-returns-in-Segment-clause-own c =
-    subst (λ (m : MemoryView). HasOwnPlace m c.args.space c.args.page c.args.line) c.self.view_is
-    (has_own_place (view_of c.self.inside.store c.self.inside.ledger) c.self.invariant c.args.space c.args.page c.args.line
-    (page_some (view_of c.self.inside.store c.self.inside.ledger) c.args.space c.args.page (subst (λ (m : MemoryView). IsSome (page_in (state_of m) c.args.space c.args.page)) (sym c.self.view_is) c.requires.there)) c.requires.line)
-
-pub returns-in-Frame-clause-own : goal.returns-in-Frame-clause-own
-returns-in-Frame-clause-own c =
-    subst (λ (m : MemoryView). HasOwnPlace m c.args.space c.args.page c.args.line) c.self.view_is
-    (has_own_place (view_of c.self.inside.store c.self.inside.ledger) c.self.invariant c.args.space c.args.page c.args.line
-    (page_some (view_of c.self.inside.store c.self.inside.ledger) c.args.space c.args.page (subst (λ (m : MemoryView). IsSome (page_in (state_of m) c.args.space c.args.page)) (sym c.self.view_is) c.requires.there)) c.requires.line)

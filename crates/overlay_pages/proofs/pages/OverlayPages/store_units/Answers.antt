@@ -1,13 +1,8 @@
 use Rattle.overlay_pages.proofs.Common.{sym, subst, IsSome}
 use Rattle.overlay_pages.proofs.Books.{page_in}
-use Rattle.overlay_pages.proofs.Views.{MemoryView, state_of, view_of, RisesBy}
-use Rattle.overlay_pages.proofs.Tables.{page_some, rise_few, rises_state}
+use Rattle.overlay_pages.proofs.Views.{MemoryView, state_of, view_of}
+use Rattle.overlay_pages.proofs.Tables.{page_some, rise_few}
 use Rattle.overlay_pages.proofs.pages.OverlayPages.store_units.Goals as goal
-
-pub returns-clause-rise : goal.returns-clause-rise
-returns-clause-rise c =
-    subst (λ (m : MemoryView). RisesBy (state_of m) c.args.space c.args.page c.args.lines c.store_units.result) c.self.view_is
-    (rises_state (view_of c.self.inside.store c.self.inside.ledger) c.args.space c.args.page c.args.lines c.store_units.result c.store_units.ensures.rise c.store_units.ensures.both)
 
 pub returns-clause-few : goal.returns-clause-few
 returns-clause-few c =
