@@ -56,23 +56,6 @@ pub record HasFilled (old new : Store) (frame count : ℕ) (given : ℕ → List
   pub fills : FillsFrame old new frame
   pub lines : (i : ℕ) → i < count → frame_line new frame i ≡ given i
 
-pub filled_none : (store : Store) (frame : ℕ) (given : ℕ → List ℕ) → IsStore store → IsFrame store frame → HasFilled store store frame 0 given
-filled_none store frame given is f = record { fills = fills_none store frame is f; lines = λ i low. absurd (omega (arith, low)) }
-
-pub filled_more : (old mid new : Store) (frame line : ℕ) (bytes : List ℕ) (given : ℕ → List ℕ) → HasFilled old mid frame line given → PutsLine mid new frame line bytes → bytes ≡ given line
-    → HasFilled old new frame (line + 1) given
-filled_more old mid new frame line bytes given so puts same = record {
-  fills = fills_twice old mid new frame so.fills puts.fills;
-  lines = λ i low. at i low (cases_eq i line);
-}
-  where
-    at : (i : ℕ) → i < line + 1 → (i ≡ line) ⊎ (i ≡ line → ⊥) → frame_line new frame i ≡ given i
-    at i low (inl e) = ap (frame_line new frame) e ∙ puts.here ∙ same ∙ ap given (sym e)
-    at i low (inr d) = puts.others i d ∙ so.lines i (below d low)
-      where
-        below : (i ≡ line → ⊥) → i < line + 1 → i < line
-        below away h = grind (arith, away, h)
-
 -- So far: the first lines of a segment are in the frame.
 pub record HasCommitted (old new : Store) (block : Block) (frame : ℕ) (bits front rest : List ℕ) : Type 0 where
   pub whole : bits ≡ front ++ rest

@@ -4,7 +4,7 @@ use Rattle.overlay_pages.proofs.Books.{are, class, overlaid_pages, overlaid_few,
 use Rattle.overlay_pages.proofs.Views.{page_lines, lines_same, set_line, state_page_there, discarded, joins, laid, laid_line, IsHeld, IsJoined, MemoryView, line_seen, page_state, segment_of, state_of, view_of}
 use Rattle.overlay_pages.proofs.Sizes.{still_fits}
 use Rattle.overlay_pages.proofs.Steps.{overlay_lines, overlay_there, seen_bare, seen_inside, seen_outside}
-use Rattle.overlay_pages.proofs.Overlaying.{Overlays, segments_some}
+use Rattle.overlay_pages.proofs.Overlaying.{Overlays, overlays, segments_some}
 
 -- An overlay that ends, one that begins, and one that gets a line.
 
@@ -187,83 +187,72 @@ others_twice : (one two three : Store) (u : ℕ) → KeepsOtherSegments one u tw
 others_twice one two three u a b unit segment away there =
     let first = a unit segment away there in stays_twice one two three (block_of unit segment) first (b unit segment away (first.there ∙ there))
 
--- what the three steps of a beginning leave
-pub record BeginsWith (old began filled new : Store) (s p : ℕ) (block : Block) (order : ℕ) (bits : List ℕ) (line : ℕ) (bytes : List ℕ) : Type 0 where
-  pub begins : Begins old began (overlay_page s p) block
-  pub order_is : block.order ≡ order
-  pub segments : KeepsSegments old began
-  pub frames : KeepsFrames old began
-  pub scratch : KeepsScratch old began
-  pub loses : free_units began.blocks + 2 ^ block.order ≡ free_units old.blocks
-  pub whole : units_in began.blocks ≡ units_in old.blocks
-  pub settled : AreSettled old.blocks → AreSettled began.blocks
-  pub began_is : IsStore began
-  pub lays : Lays began filled block bits
-  pub laid_lines : HasLinesNow began filled block bits
-  pub laid_kept : KeepsOtherSegments began block.unit filled
-  pub laid_frames : KeepsFrames began filled
-  pub filled_is : IsStore filled
-  pub inserts : Inserts filled new block line bytes
-  pub lines_now : HasLinesNow filled new block (lines_with filled block line)
-  pub kept : KeepsOtherSegments filled block.unit new
-  pub new_frames : KeepsFrames filled new
-  pub new_is : IsStore new
+-- A segment began with lines from scratch.
+pub record IsLaid (old new : Store) (owner : ℕ) (block : Block) (bits : List ℕ) : Type 0 where
+  pub fresh : segment_at old block.unit ≡ None
+  pub there : segment_at new block.unit ≡ Some (record { owner = owner; order = block.order; bits = bits })
+  pub elsewhere : (unit : ℕ) → (unit ≡ block.unit → ⊥) → segment_at new unit ≡ segment_at old unit
+  pub kept : KeepsOtherSegments old block.unit new
+  pub frames : KeepsFrames old new
+  pub lines : (i : ℕ) → i < 64 → has_line bits i ≡ true → line_in new block i ≡ scratch_line old i
+  pub free : free_units new.blocks + 2 ^ block.order ≡ free_units old.blocks
+  pub whole : units_in new.blocks ≡ units_in old.blocks
+  pub settled : AreSettled old.blocks → AreSettled new.blocks
+  pub store : IsStore new
 
-module _ (old : MemoryView) (began filled store : Store) (table : LedgerView) (s p : ℕ) (x : PageView) (block : Block) (order : ℕ) (bits : List ℕ) (line : ℕ) (bytes : List ℕ)
-    (is : IsJoined old) (there : page_in old.table s p ≡ Some x) (bare : x.overlay ≡ None) (are : AreLines bits) (low : line < 64) (absent : has_line bits line ≡ false)
-    (size : 2 ^ order ≡ class (length bits + 1)) (so : BeginsWith old.store began filled store s p block order bits line bytes) where
-  abbrev entry : Entry
-  entry = record { bits = with_line bits line; block = block }
+pub laid_by : (old began new : Store) (owner named : ℕ) (block : Block) (bits : List ℕ) → owner ≡ named → Begins old began owner block → KeepsSegments old began → KeepsFrames old began → KeepsScratch old began
+    → free_units began.blocks + 2 ^ block.order ≡ free_units old.blocks → units_in began.blocks ≡ units_in old.blocks → (AreSettled old.blocks → AreSettled began.blocks) → IsStore began
+    → Lays began new block bits → HasLinesNow began new block bits → KeepsOtherSegments began block.unit new → KeepsFrames began new → IsStore new → IsLaid old new named block bits
+laid_by old began new owner named block bits owner_is begins segments frames scratch free whole settled began_is lays now kept laid_frames new_is = record {
+  fresh = begins.fresh;
+  there = ap (λ l. get_or l block.unit None) now.segments
+      ∙ refilled began.segments block.unit (record { owner = owner; order = block.order; bits = [] }) bits begins.there (unit_low began began_is block.unit _ begins.there)
+      ∙ ap (λ n. Some (record { owner = n; order = block.order; bits = bits })) owner_is;
+  elsewhere = λ unit away. segment_beside began block.unit new.segments _ now.segments unit away ∙ segment_beside old block.unit began.segments _ begins.segments unit away;
+  kept = others_twice old began new block.unit (λ unit segment _ there. segments unit segment there) kept;
+  frames = frames_twice old began new frames laid_frames;
+  lines = λ i low has. lays.lines i has ∙ scratch i low;
+  free = omega (arith, ap free_units now.blocks, free);
+  whole = ap units_in now.blocks ∙ whole;
+  settled = λ h. subst AreSettled (sym now.blocks) (settled h);
+  store = new_is;
+}
 
-  begun_there : segment_at began block.unit ≡ Some (record { owner = overlay_page s p; order = block.order; bits = [] })
-  begun_there = so.begins.there
+-- and got a line more, and it is that of a page that had none
+pub begun : (old : MemoryView) (began store : Store) (table : LedgerView) (s p : ℕ) (x : PageView) (block : Block) (bits : List ℕ) (line : ℕ) (bytes : List ℕ) → IsJoined old → page_in old.table s p ≡ Some x → x.overlay ≡ None
+    → AreLines bits → line < 64 → has_line bits line ≡ false → 2 ^ block.order ≡ class (length bits + 1) → IsLaid old.store began (overlay_page s p) block bits → Inserts began store block line bytes
+    → HasLinesNow began store block (lines_with began block line) → KeepsOtherSegments began block.unit store → KeepsFrames began store → IsStore store
+    → table ≡ with_overlay old.table s p (Some (record { bits = with_line bits line; block = block }))
+    → IsJoined (view_of store table) × (state_of (view_of store table) ≡ turned_page (laid old.store bits line bytes) (state_of old) s p)
+begun old began store table s p x block bits line bytes is there bare are low absent size so inserts now kept frames store_is table_is =
+    overlays old (view_of store table) s p x (Some (record { bits = with_line bits line; block = block })) is (record {
+      there = there;
+      table_is = table_is;
+      segments = segments_some old.store store s p x.overlay (record { bits = with_line bits line; block = block }) (λ f over. absurd (none-some f (sym bare ∙ over))) (λ _. so.fresh) now_there
+          (λ unit away. segment_beside began block.unit store.segments _ now.segments unit away ∙ so.elsewhere unit away)
+          (others_twice old.store began store block.unit so.kept kept) (omega (arith, count_now)) size_now
+          (subst AreSettled (sym now.blocks) (so.settled is.blocks)) (ap units_in now.blocks ∙ so.whole) store_is;
+      frames = frames_twice old.store began store so.frames frames;
+      free = omega (arith, ap free_units now.blocks, so.free, size_now, class_none, ap (λ (o : Option Entry). class (length (lines_of o))) bare);
+    }) (laid old.store bits line bytes)
+    (laid_page began old.store store block bits line bytes x
+    (record { here = inserts.here; others = λ i has other. inserts.lines i (ap (λ l. has_line l i) set_is ∙ has) ∙ so.lines i (are.inside i has) has })
+    (frames x.entry.frame (so.frames x.entry.frame (is.held s p x there).frame).stays) (so.frames x.entry.frame (is.held s p x there).frame).lines)
+  where
+    set_is : lines_at began block.unit ≡ bits
+    set_is = lines_there began block.unit _ so.there
 
-  laid_there : segment_at filled block.unit ≡ Some (record { owner = overlay_page s p; order = block.order; bits = bits })
-  laid_there =
-      ap (λ l. get_or l block.unit None) so.laid_lines.segments
-      ∙ refilled began.segments block.unit (record { owner = overlay_page s p; order = block.order; bits = [] }) bits begun_there (unit_low began so.began_is block.unit _ begun_there)
+    now_there : segment_at store block.unit ≡ Some (segment_of s p (record { bits = with_line bits line; block = block }))
+    now_there =
+        ap (λ l. get_or l block.unit None) now.segments
+        ∙ refilled began.segments block.unit (record { owner = overlay_page s p; order = block.order; bits = bits }) (lines_with began block line) so.there (unit_low began so.store block.unit _ so.there)
+        ∙ ap (λ l. Some (record { owner = overlay_page s p; order = block.order; bits = with_line l line })) set_is
 
-  laid_set : lines_at filled block.unit ≡ bits
-  laid_set = lines_there filled block.unit (record { owner = overlay_page s p; order = block.order; bits = bits }) laid_there
+    count_now : length (with_line bits line) ≡ length bits + 1
+    count_now = count_with bits line are low ∙ ap (λ b. length bits + cond b 0 1) absent
 
-  now_there : segment_at store block.unit ≡ Some (segment_of s p entry)
-  now_there =
-      ap (λ l. get_or l block.unit None) so.lines_now.segments
-      ∙ refilled filled.segments block.unit (record { owner = overlay_page s p; order = block.order; bits = bits }) (lines_with filled block line) laid_there (unit_low filled so.filled_is block.unit _ laid_there)
-      ∙ ap (λ l. Some (record { owner = overlay_page s p; order = block.order; bits = with_line l line })) laid_set
-
-  count_now : length (with_line bits line) ≡ length bits + 1
-  count_now = count_with bits line are low ∙ ap (λ b. length bits + cond b 0 1) absent
-
-  size_now : 2 ^ block.order ≡ class (length (with_line bits line))
-  size_now = ap (λ k. 2 ^ k) so.order_is ∙ size ∙ ap class (sym count_now)
-
-  pub begun_frames : KeepsFrames old.store store
-  begun_frames = frames_twice old.store began store so.frames (frames_twice began filled store so.laid_frames so.new_frames)
-
-  pub begun : table ≡ with_overlay old.table s p (Some entry) → Overlays AreSettled old (view_of store table) s p x (Some entry)
-  begun table_is = record {
-    there = there;
-    table_is = table_is;
-    segments = segments_some old.store store s p x.overlay entry (λ f over. absurd (none-some f (sym bare ∙ over))) (λ none. so.begins.fresh) now_there
-        (λ unit away. segment_beside filled block.unit store.segments _ so.lines_now.segments unit away ∙ segment_beside began block.unit filled.segments _ so.laid_lines.segments unit away
-        ∙ segment_beside old.store block.unit began.segments _ so.begins.segments unit away)
-        (others_twice old.store began store block.unit (λ unit segment away here. so.segments unit segment here) (others_twice began filled store block.unit so.laid_kept so.kept))
-        (omega (arith, count_now)) size_now (subst AreSettled (sym (so.lines_now.blocks ∙ so.laid_lines.blocks)) (so.settled is.blocks))
-        (ap units_in so.lines_now.blocks ∙ ap units_in so.laid_lines.blocks ∙ so.whole) so.new_is;
-    frames = begun_frames;
-    free = omega (arith, ap free_units so.lines_now.blocks, ap free_units so.laid_lines.blocks, so.loses, size_now, class_none, ap (λ (o : Option Entry). class (length (lines_of o))) bare);
-  }
-
-  pub begun_page : page_state store (record { entry = x.entry; overlay = Some entry }) ≡ laid old.store bits line bytes (page_state old.store x)
-  begun_page =
-      laid_page filled old.store store block bits line bytes x
-      (record {
-        here = so.inserts.here;
-        others = λ i has other. so.inserts.lines i (ap (λ l. has_line l i) laid_set ∙ has) ∙ so.lays.lines i has ∙ so.scratch i (are.inside i has);
-      })
-      (so.new_frames x.entry.frame (so.laid_frames x.entry.frame (so.frames x.entry.frame (is.held s p x there).frame).stays).stays)
-      (λ i below. (frames_twice old.store began filled so.frames so.laid_frames x.entry.frame (is.held s p x there).frame).lines i below)
+    size_now : 2 ^ block.order ≡ class (length (with_line bits line))
+    size_now = size ∙ ap class (sym count_now)
 
 -- There is room for another overlay: an overlaid page needs a unit, and the zero frame needs sixteen.
 pub overlay_room : (v : MemoryView) → IsJoined v → overlaid_pages (ledger_of v.table) < 16 * v.table.frames

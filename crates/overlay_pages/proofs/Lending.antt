@@ -56,9 +56,6 @@ module _ (v : MemoryView) (s p line frame : ℕ) (is : IsJoined v) (so : IsInFra
       ap (option_map (λ (x : PageState). line_in_page x.lines line)) (state_page_there v s p so.x so.there)
       ∙ ap Some (line_at (line_seen v.store so.x) line low ∙ ap (line_of v.store.lines) (place_in_frame v.store))
 
-  pub outside_frame : frame < v.table.frames
-  outside_frame = omega (arith, frame_low, is.frames)
-
   pub outside_inside : line < 64 → 64 * frame + line < 64 * v.table.frames
   outside_inside low = omega (arith, low, frame_low, is.frames)
 

@@ -1,5 +1,5 @@
-use Rattle.overlay_pages.proofs.Common.{◌≡◌, ℕ, ◌+◌, ◌^◌, ◌<◌, ◌≤◌, ◌&&◌, not, Bool, true, false, cond, nat_eq, List, [], Option, Some, None, IsSome, length, refl, sym, ap, subst, ◌∙◌, arith, none-some, same_Some, option_map, option_map_or, get, remove, PAGE_END}
-use Rattle.overlay_pages.proofs.Stores.{AreSettled, free_units, units_in, HasRoom, Block, AreLines, has_line, overlay_page, Entry, IsStore, Store, IsFrame, frame_line, segment_at, Begins, HasLinesNow, KeepsFrames, KeepsOtherSegments, KeepsScratch, KeepsSegments, Lays, Lifts, block_of, capacity_of, count_fits, refilled, stays_twice}
+use Rattle.overlay_pages.proofs.Common.{◌≡◌, ℕ, ◌^◌, ◌<◌, ◌≤◌, ◌&&◌, not, Bool, true, false, cond, nat_eq, List, Option, Some, None, IsSome, length, refl, sym, ap, subst, ◌∙◌, arith, none-some, same_Some, option_map, option_map_or, get, remove, PAGE_END}
+use Rattle.overlay_pages.proofs.Stores.{HasRoom, Block, has_line, overlay_page, Entry, Store, IsFrame, frame_line, Lifts, capacity_of, count_fits}
 use Rattle.overlay_pages.proofs.Books.{Pages, PageEntry, has_origin, is_unused, class, frame_for, map_from, books_page, page_put_here, put_shared_as, there_space, holds_space, page_in, put_awaiting, put_page, put_shared, space_in, LedgerView, PageView, frame_at, frame_awaiting, holding_of, ledger_of, lines_of, overlay_at, with_page_shared}
 use Rattle.overlay_pages.proofs.Views.{line_in_page, page_lines, line_at, lines_same, PageState, State, HasShareRoom, shared_page, state_awaiting_put, IsHeld, IsJoined, MemoryView, line_seen, page_state, state_of, view_of, state_awaiting, state_page_there}
 use Rattle.ledger.specs.AloneLaws.{origin_of}
@@ -8,7 +8,7 @@ use Rattle.overlay_pages.specs.Changes as changes
 use Rattle.overlay_pages.proofs.Steps.{seen_bare, seen_inside, seen_outside}
 use Rattle.overlay_pages.proofs.Coming.{HasPlaceFor, came}
 use Rattle.overlay_pages.proofs.Overlaying.{segments_some}
-use Rattle.overlay_pages.proofs.Joining.{Has, frames_twice, order_low, overlay_segment, overlay_set, page_with, segment_beside, sets_are, unit_low}
+use Rattle.overlay_pages.proofs.Joining.{Has, order_low, overlay_segment, overlay_set, page_with, IsLaid}
 use Rattle.overlay_pages.proofs.Growing.{free_is, has_room}
 use Rattle.overlay_pages.proofs.Tables.{awaiting_joined}
 
@@ -93,70 +93,36 @@ bare_shared store x entry bare frame_is =
 
 -- A page with an overlay: its lines come into a segment of their own, from scratch.
 
--- what the two steps of a beginning leave
-pub record SharesOverlay (old began new : Store) (to p : ℕ) (block : Block) (bits : List ℕ) : Type 0 where
-  pub begins : Begins old began (overlay_page to p) block
-  pub segments : KeepsSegments old began
-  pub frames : KeepsFrames old began
-  pub scratch : KeepsScratch old began
-  pub loses : free_units began.blocks + 2 ^ block.order ≡ free_units old.blocks
-  pub whole : units_in began.blocks ≡ units_in old.blocks
-  pub settled : AreSettled old.blocks → AreSettled began.blocks
-  pub began_is : IsStore began
-  pub lays : Lays began new block bits
-  pub laid_lines : HasLinesNow began new block bits
-  pub laid_kept : KeepsOtherSegments began block.unit new
-  pub laid_frames : KeepsFrames began new
-  pub new_is : IsStore new
+pub shares_overlay : (m : MemoryView) (new : Store) (to p : ℕ) (block : Block) (bits : List ℕ) → IsJoined m → 2 ^ block.order ≡ class (length bits) → 0 < length bits → IsLaid m.store new (overlay_page to p) block bits
+    → HasPlaceFor m new to p (Some (record { bits = bits; block = block }))
+shares_overlay m new to p block bits is size some so = record {
+  segments = segments_some m.store new to p None (record { bits = bits; block = block }) (λ e h. absurd (none-some e h)) (λ _. so.fresh) so.there so.elsewhere so.kept some size (so.settled is.blocks) so.whole so.store;
+  frames = so.frames;
+  free = omega (arith, so.free, size);
+}
 
-module _ (m : MemoryView) (began new : Store) (to p : ℕ) (block : Block) (bits : List ℕ) (is : IsJoined m) (size : 2 ^ block.order ≡ class (length bits)) (some : 0 < length bits)
-    (so : SharesOverlay m.store began new to p block bits) where
-  now_segment : segment_at new block.unit ≡ Some (record { owner = overlay_page to p; order = block.order; bits = bits })
-  now_segment =
-      ap (λ l. Rattle.std.specs.Prelude.slice_index_or l block.unit None) so.laid_lines.segments
-      ∙ refilled began.segments block.unit (record { owner = overlay_page to p; order = block.order; bits = [] }) bits so.begins.there (unit_low began so.began_is block.unit _ so.begins.there)
-
-  kept_all : KeepsOtherSegments m.store block.unit new
-  kept_all unit segment away there =
-      let first = so.segments unit segment there in stays_twice m.store began new (block_of unit segment) first (so.laid_kept unit segment away (first.there ∙ there))
-
-  pub shares_overlay : HasPlaceFor m new to p (Some (record { bits = bits; block = block }))
-  shares_overlay = record {
-    segments = segments_some m.store new to p None (record { bits = bits; block = block }) (λ e h. absurd (none-some e h)) (λ _. so.begins.fresh) now_segment
-        (λ unit away. segment_beside began block.unit new.segments _ so.laid_lines.segments unit away ∙ segment_beside m.store block.unit began.segments _ so.begins.segments unit away)
-        kept_all some size (subst AreSettled (sym so.laid_lines.blocks) (so.settled is.blocks)) (ap units_in so.laid_lines.blocks ∙ so.whole) so.new_is;
-    frames = frames_twice m.store began new so.frames so.laid_frames;
-    free = omega (arith, ap free_units so.laid_lines.blocks, so.loses, size);
-  }
-
--- The lines of the page, wherever its overlay is: those that were lifted.
-pub lifted_page : (a m : MemoryView) (lifted began new : Store) (from p to : ℕ) (xa xm : PageView) (ea : Entry) (entry : PageEntry) (block : Block) (bits : List ℕ) → xa.overlay ≡ Some ea → bits ≡ ea.bits → page_state m.store xm ≡ page_state a.store xa
-    → IsHeld m.store from p xm → AreLines bits → Lifts a.store lifted ea.block ea.bits → KeepsScratch lifted m.store → SharesOverlay m.store began new to p block bits → entry.frame ≡ xm.entry.frame
-    → page_state new (record { entry = entry; overlay = Some (record { bits = bits; block = block }) }) ≡ shared_page entry (page_state m.store xm)
+-- The lines of the page: those that were lifted.
+pub lifted_page : (a m : MemoryView) (new : Store) (owner : ℕ) (x : PageView) (e : Entry) (entry : PageEntry) (block : Block) → x.overlay ≡ Some e → page_state m.store x ≡ page_state a.store x → IsFrame m.store x.entry.frame
+    → Lifts a.store m.store e.block e.bits → IsLaid m.store new owner block e.bits → entry.frame ≡ x.entry.frame
+    → page_state new (record { entry = entry; overlay = Some (record { bits = e.bits; block = block }) }) ≡ shared_page entry (page_state m.store x)
 unfolding page_state
-lifted_page a m lifted began new from p to xa xm ea entry block bits over bits_is same held are lifts scratch so frame_is =
-    let own : bits ≡ lines_of xm.overlay = bits_is ∙ ap lines_of (sym over) ∙ ap (λ (y : PageState). y.own) (sym same) in
-    let base = lines_same (frame_line new entry.frame) (frame_line m.store xm.entry.frame) (λ i low. ap (λ f. frame_line new f i) frame_is ∙ frames i low) in
-    let lines = lines_same (line_seen new (record { entry = entry; overlay = Some (record { bits = bits; block = block }) })) (line_seen m.store xm) (λ i low. each (has_line bits i) i refl low) in
-    λ i. record { entry = entry; own = own i; lines = lines i; base = base i }
+lifted_page a m new owner x e entry block over same taken lifts so frame_is =
+    let base = lines_same (frame_line new entry.frame) (frame_line m.store x.entry.frame) (λ i low. ap (λ f. frame_line new f i) frame_is ∙ (so.frames x.entry.frame taken).lines i low) in
+    let lines = lines_same (line_seen new page) (line_seen m.store x) (λ i low. each (has_line e.bits i) i refl low) in
+    λ i. record { entry = entry; own = lines_of (sym over i); lines = lines i; base = base i }
   where
-    frames : (i : ℕ) → i < 64 → frame_line new xm.entry.frame i ≡ frame_line m.store xm.entry.frame i
-    frames = (frames_twice m.store began new so.frames so.laid_frames xm.entry.frame held.frame).lines
-
-    -- a line of the page as it was, and is
-    seen : (i : ℕ) → i < 64 → line_seen m.store xm i ≡ line_seen a.store xa i
-    seen i low = sym (line_at (line_seen m.store xm) i low) ∙ ap (λ (y : PageState). line_in_page y.lines i) same ∙ line_at (line_seen a.store xa) i low
+    -- a line of the page as it was
+    seen : (i : ℕ) → i < 64 → line_seen m.store x i ≡ line_seen a.store x i
+    seen i low = sym (line_at (line_seen m.store x) i low) ∙ ap (λ (y : PageState). line_in_page y.lines i) same ∙ line_at (line_seen a.store x) i low
 
     page : PageView
-    page = record { entry = entry; overlay = Some (record { bits = bits; block = block }) }
+    page = record { entry = entry; overlay = Some (record { bits = e.bits; block = block }) }
 
-    each : (b : Bool) (i : ℕ) → has_line bits i ≡ b → i < 64 → line_seen new page i ≡ line_seen m.store xm i
-    each true i has low =
-        let was = ap (λ l. has_line l i) (sym bits_is) ∙ has in
-        seen_inside new page (record { bits = bits; block = block }) i refl has ∙ so.lays.lines i has ∙ so.scratch i low ∙ scratch i low ∙ lifts.lifted i was ∙ sym (seen_inside a.store xa ea i over was) ∙ sym (seen i low)
+    each : (b : Bool) (i : ℕ) → has_line e.bits i ≡ b → i < 64 → line_seen new page i ≡ line_seen m.store x i
+    each true i has low = seen_inside new page (record { bits = e.bits; block = block }) i refl has ∙ so.lines i low has ∙ lifts.lifted i has ∙ sym (seen_inside a.store x e i over has) ∙ sym (seen i low)
     each false i lacks low =
-        seen_outside new page i lacks ∙ ap (λ f. frame_line new f i) frame_is ∙ frames i low
-        ∙ sym (seen_outside m.store xm i (ap (λ l. has_line l i) (ap (λ (y : PageState). y.own) same ∙ ap lines_of over ∙ sym bits_is) ∙ lacks))
+        seen_outside new page i lacks ∙ ap (λ f. frame_line new f i) frame_is ∙ (so.frames x.entry.frame taken).lines i low
+        ∙ sym (seen_outside m.store x i (ap (λ (o : Option Entry). has_line (lines_of o) i) over ∙ lacks))
 
 -- The overlay that is shared.
 module _ (a : MemoryView) (from p : ℕ) (e : Entry) (is : IsJoined a) (there : IsSome (page_in a.table from p)) (over : overlay_at a.table from p ≡ Some e) where
@@ -187,13 +153,10 @@ module _ (a : MemoryView) (from p : ℕ) (e : Entry) (is : IsJoined a) (there : 
   pub share_low : p < PAGE_END
   share_low = first_held.low
 
-  pub share_sets : AreLines e.bits
-  share_sets = sets_are a.store from p first.x e is.store first_held first.is
-
 -- The page with its overlay, once it is shared.
-module _ (a : MemoryView) (lifted began new : Store) (from to p : ℕ) (e : Entry) (block : Block) (is : IsJoined a) (m_is : IsJoined (view_of lifted a.table)) (same : state_of (view_of lifted a.table) ≡ state_of a)
+module _ (a : MemoryView) (lifted new : Store) (from to p : ℕ) (e : Entry) (block : Block) (is : IsJoined a) (m_is : IsJoined (view_of lifted a.table)) (same : state_of (view_of lifted a.table) ≡ state_of a)
     (there : IsSome (page_in a.table from p)) (over : overlay_at a.table from p ≡ Some e) (framed : frame_awaiting a.table to p ≡ frame_at a.table from p) (space : holds_space a.table to ≡ true) (absent : page_in a.table to p ≡ None)
-    (order_is : block.order ≡ e.block.order) (lifts : Lifts a.store lifted e.block e.bits) (so : SharesOverlay lifted began new to p block e.bits) where
+    (order_is : block.order ≡ e.block.order) (lifts : Lifts a.store lifted e.block e.bits) (so : IsLaid lifted new (overlay_page to p) block e.bits) where
   abbrev m : MemoryView
   m = view_of lifted a.table
 
@@ -201,7 +164,7 @@ module _ (a : MemoryView) (lifted began new : Store) (from to p : ℕ) (e : Entr
   waits = awaits a.table from to p (Some e) there over framed
 
   abbrev now_shares : HasPlaceFor m new to p (Some (record { bits = e.bits; block = block }))
-  now_shares = shares_overlay m began new to p block e.bits m_is (ap (λ k. 2 ^ k) order_is ∙ share_size a from p e is there over) (share_some a from p e is there over) so
+  now_shares = shares_overlay m new to p block e.bits m_is (ap (λ k. 2 ^ k) order_is ∙ share_size a from p e is there over) (share_some a from p e is there over) so
 
   overlaid_table : with_page_shared a.table from to p (Some block)
       ≡ put_awaiting (put_page a.table to p (record { entry = waits.entry; overlay = Some (record { bits = e.bits; block = block }) })) to (remove (space_in a.table to).awaiting p)
@@ -215,8 +178,7 @@ module _ (a : MemoryView) (lifted began new : Store) (from to p : ℕ) (e : Entr
   pub overlaid : (table : LedgerView) → table ≡ with_page_shared a.table from to p (Some block)
       → IsJoined (view_of new table) × (state_of (view_of new table) ≡ changes.with_shared (state_of a) from to p)
   overlaid table is_table =
-      let page = lifted_page a m lifted began new from p to waits.x waits.x e waits.entry block e.bits waits.is refl page_same
-      (m_is.held from p waits.x waits.there) (share_sets a from p e is there over) lifts (λ line low. refl) so waits.frame_is in
+      let page = lifted_page a m new (overlay_page to p) waits.x e waits.entry block waits.is page_same (m_is.held from p waits.x waits.there).frame lifts so waits.frame_is in
       let all = shares m new from to p (Some e) (Some (record { bits = e.bits; block = block })) m_is waits space absent now_shares page in (
         subst (λ t. IsJoined (view_of new t)) (sym (is_table ∙ overlaid_table)) all.0,
         ap (λ t. state_of (view_of new t)) (is_table ∙ overlaid_table) ∙ all.1 ∙ ap (λ (s : State). changes.with_shared s from to p) same,

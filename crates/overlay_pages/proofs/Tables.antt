@@ -1,7 +1,7 @@
 use Rattle.overlay_pages.proofs.Common.{true≢false, ◌≡◌, ℕ, ◌+◌, ◌*◌, ◌≤◌, ◌<◌, ◌&&◌, Bool, true, false, cond, not, List, [], ◌∷◌, Option, Some, None, IfSome, IsSome, is_some, length, refl, nat_cmp, sym, ap, subst, ◌∙◌, arith, none-some, option_and_then, option_map, option_map_or, FinMap, empty, get, get-empty, len, FRAME_UNITS, LAST_SPACE, PAGE_END}
 use Rattle.overlay_pages.proofs.Stores.{free_units}
-use Rattle.overlay_pages.proofs.Books.{alike, len_low, get_viewed, Pages, PageEntry, Ledger, is_alone, units, class_most, same_units, Store, ledger_after, store_joins, store_nothing, units_joined, with_lines, map_twice, by_option, by_test, books_added, books_awaiting, books_lost, books_marked, books_page, page_added, page_awaited, page_lost, page_marked, there_cut, there_put, bare_space, cut_space, holds_space, page_in, put_awaiting, put_mark, put_space, space_in, turned_page, LedgerView, PageView, frame_at, holding_of, ledger_of, lines_of, overlay_at}
-use Rattle.overlay_pages.proofs.Views.{PageState, books, brought, with_brought, writes_frame, IsNextPage, RisesBy, entries_in, IsJoined, MemoryView, page_state, state_of, view_of, state_books, state_mark, state_page, state_page_some, state_pages}
+use Rattle.overlay_pages.proofs.Books.{alike, len_low, get_viewed, Pages, Ledger, is_alone, units, class_most, same_units, Store, ledger_after, store_joins, store_nothing, units_joined, with_lines, map_twice, by_option, by_test, books_added, books_awaiting, books_lost, books_marked, books_page, page_added, page_awaited, page_lost, page_marked, there_cut, there_put, bare_space, cut_space, holds_space, page_in, put_awaiting, put_mark, put_space, space_in, turned_page, LedgerView, PageView, frame_at, holding_of, ledger_of, lines_of, overlay_at}
+use Rattle.overlay_pages.proofs.Views.{PageState, brought, with_brought, writes_frame, IsNextPage, RisesBy, entries_in, IsJoined, MemoryView, page_state, state_of, view_of, state_books, state_mark, state_page, state_page_some, state_pages}
 use Rattle.segment_store.specs.Store as store
 use Rattle.space_ledger.specs.Calls as calls
 
@@ -10,12 +10,6 @@ use Rattle.space_ledger.specs.Calls as calls
 pub entry_state : (v : MemoryView) (q r : ℕ) → option_map (λ (x : PageView). x.entry) (page_in v.table q r) ≡ option_map (λ (x : PageState). x.entry) (page_in (state_of v) q r)
 unfolding page_state
 entry_state v q r = sym (ap (option_map (λ (x : PageState). x.entry)) (state_page v q r) ∙ map_twice (λ (x : PageState). x.entry) (page_state v.store) (λ (x : PageView). x.entry) (page_in v.table q r) (λ x e. refl))
-
-pub perms_state : (v : MemoryView) (q r : ℕ) (e : PageEntry) → Some e ≡ option_map (λ (x : PageView). x.entry) (page_in v.table q r)
-    → option_map (λ (x : PageState). x.entry.perms) (page_in (state_of v) q r) ≡ Some e.perms
-perms_state v q r e is =
-    sym (map_twice (λ (k : PageEntry). k.perms) (λ (x : PageState). x.entry) (λ (x : PageState). x.entry.perms) (page_in (state_of v) q r) (λ x e. refl))
-    ∙ ap (option_map (λ (k : PageEntry). k.perms)) (sym (is ∙ entry_state v q r))
 
 pub absent_state : (v : MemoryView) (q r : ℕ) → None ≡ option_map (λ (x : PageView). x.entry) (page_in v.table q r) → page_in (state_of v) q r ≡ None
 absent_state v q r is = at (page_in (state_of v) q r) (is ∙ entry_state v q r)
@@ -50,9 +44,6 @@ overlaid_bare v q r there bare has = by_option (page_in (state_of v) q r)
 
 pub page_some : (v : MemoryView) (q r : ℕ) → IsSome (page_in (state_of v) q r) → IsSome (page_in v.table q r)
 page_some v q r there = sym (state_page_some v q r) ∙ there
-
-pub alone_state : (v : MemoryView) (q r : ℕ) → is_alone (ledger_of v.table) q r ≡ is_alone (books (state_of v)) q r
-alone_state v q r = ap (λ (l : Ledger). is_alone l q r) (sym (state_books v))
 
 none_still : (v : MemoryView) (q r : ℕ) → page_in v.table q r ≡ None → page_in (state_of v) q r ≡ None
 none_still v q r none = state_page v q r ∙ ap (option_map (page_state v.store)) none
