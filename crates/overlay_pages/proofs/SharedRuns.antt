@@ -80,13 +80,12 @@ module _ (m : MemoryView) (joined : IsJoined m) (from to : ℕ) where
       absurd (true≢false (sym yes ∙ ap (λ (o : Option Entry). nat_lt 0 (length (lines_of o))) (sym over) ∙ sym own ∙ none))))
 
 -- One page without an overlay.
-pub bare_step : (store : Store) (v : LedgerView) (from to page : ℕ) → IsJoined (view_of store v) → IsSome (page_in v from page) → overlay_at v from page ≡ None
-    → frame_awaiting v to page ≡ frame_at v from page → holds_space v to ≡ true → page_in v to page ≡ None
-    → IsJoined (view_of store (with_page_shared v from to page None))
-    × (state_of (view_of store (with_page_shared v from to page None)) ≡ with_shared (state_of (view_of store v)) from to page)
-bare_step store v from to page joined there bare frame space absent =
+pub bare_step : (store : Store) (v new : LedgerView) (from to page : ℕ) → IsJoined (view_of store v) → IsSome (page_in v from page) → overlay_at v from page ≡ None
+    → frame_awaiting v to page ≡ frame_at v from page → holds_space v to ≡ true → page_in v to page ≡ None → new ≡ with_page_shared v from to page None
+    → IsJoined (view_of store new) × (state_of (view_of store new) ≡ with_shared (state_of (view_of store v)) from to page)
+bare_step store v new from to page joined there bare frame space absent is_new =
     let w = awaits v from to page None there bare frame in
-    let table = shared_table v from to page None None w in
+    let table = is_new ∙ shared_table v from to page None None w in
     let all = shares (view_of store v) store from to page None None joined w space absent (place_for_bare (view_of store v) to page joined) (bare_shared store w.x w.entry w.is w.frame_is) in
     (subst (λ (t : LedgerView). IsJoined (view_of store t)) (sym table) all.0, ap (λ (t : LedgerView). state_of (view_of store t)) table ∙ all.1)
 
@@ -114,7 +113,7 @@ module _ (store : Store) (from to until : ℕ) (differs : from ≡ to → ⊥) w
       let was = bare page low waits in
       let here = bare_below old joined bare page low least.there in
       let there = sym (state_page_some (view_of store old) from page) ∙ from_there s from to page differs waits was.0 in
-      let step = bare_step store old from to page joined there here.1 here.0 space absent in
+      let step = bare_step store old (with_page_shared old from to page None) from to page joined there here.1 here.0 space absent refl in
       let next : LedgerView = with_page_shared old from to page None in
       let more = shared_all next new rest step.0
       (sym (state_holds (view_of store next) to) ∙ ap (λ (t : State). holds_space t to) step.1 ∙ stays_there s from to page differs waits was.0)

@@ -4,6 +4,8 @@ use Rattle.overlay_pages.proofs.Books.{by_place, class, units, map_twice, map_fr
 use Rattle.overlay_pages.proofs.Views.{lines_same, books, MovesFewBeside, FollowsAll, IsAhead, IsBehind, IsOfPage, FollowsAt, Moved, MovesFew, Tells, relocated, went_overlay, went_page, IsHeld, IsJoinedWith, IsOwned, line_seen, page_state, segment_of, state_of, view_of, state_books, state_page}
 use Rattle.overlay_pages.proofs.Overlaying.{overlay_beside}
 use Rattle.overlay_pages.proofs.Steps.{by_spot, names_apart, seen_inside, seen_outside, state_keeps}
+use Rattle.segment_store.specs.Runs.{made_low}
+use Rattle.overlay_pages.proofs.Sizes.{shifted_count}
 
 -- Segments went where a function tells, and the tables come after it.
 
@@ -358,3 +360,6 @@ few_none s p v = record { moves = []; ascend = omega arith; stay = λ q r e d ov
 -- and where the frame of the page is another one then
 pub few_framed : (old mid now : LedgerView) (s p : ℕ) → ((q r : ℕ) → (q ≡ s → r ≡ p → ⊥) → overlay_at now q r ≡ overlay_at mid q r) → MovesFewBeside s p old mid → MovesFewBeside s p old now
 few_framed old mid now s p same few = record { moves = few.moves; ascend = few.ascend; stay = λ q r e d over out. same q r d ∙ few.stay q r e d over out }
+
+-- what the search takes of these
+pub ruleset moved = (before_relocate, made_low, settled_ahead, settled_few, settled_moved, shifted_count, tells_none)

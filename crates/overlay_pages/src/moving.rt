@@ -1,5 +1,7 @@
 //! Moves of segments, which the tables follow.
 
+#![tactic(auto, using(crate::proofs::Shifts::moved))]
+
 ghost use Rattle.std.specs.Prelude.{◌≡◌, ◌+◌, ◌^◌, ◌<◌, ◌≤◌};
 ghost use Rattle.unit_map.specs.Pieces.{CanSettle};
 ghost use Rattle.segment_store.specs.Changes.{AreLow};

@@ -1,5 +1,7 @@
 //! Pages and their lines as they were found, and where lines stand.
 
+#![tactic(auto, using(crate::proofs::Found::writable_found))]
+
 ghost use Rattle.std.specs.Prelude.{◌≡◌, ◌<◌, Some};
 ghost use Rattle.sizes.specs.declared.TheConstants.{PAGE_LINES};
 ghost use Rattle.overlay_mapping_table.specs.declared.entry.Entry.{Entry};

@@ -1,14 +1,8 @@
 use Rattle.overlay_pages.proofs.Common.{◌≡◌, ◌+◌, ◌^◌, subst, arith}
 use Rattle.overlay_pages.proofs.Views.{Tells}
 use Rattle.overlay_pages.proofs.Sizes.{shifted_count}
-use Rattle.overlay_pages.proofs.Shifts.{after_relocate, before_relocate, tells_more, tells_none}
+use Rattle.overlay_pages.proofs.Shifts.{after_relocate, before_relocate, tells_more}
 use Rattle.overlay_pages.proofs.moving.follow.Goals as goal
-
-pub following-init : goal.following-init
-following-init c was old by behind = tells_none was c.args.store.now old c.args.ledger.now by c.args.m.to behind
-
-pub overflow_add-m : goal.overflow_add-m
-overflow_add-m c = record { fits = omega (arith, c.requires.inside, c.following-test.true, shifted_count c.args.m.order c.requires.low) }
 
 pub relocate_at-requires : goal.relocate_at-requires
 relocate_at-requires c =

@@ -4,12 +4,12 @@ use Rattle.overlay_pages.proofs.Views.{Fits, view_of}
 use Rattle.overlay_pages.proofs.Bringing.{brought_already, brought_is, frame_in}
 use Rattle.overlay_pages.proofs.overlays.bring_line.Goals as goal
 
-pub frame_line-requires-clause-frame : goal.frame_line-requires-clause-frame
-frame_line-requires-clause-frame c = frame_in (view_of c.args.store.now c.args.ledger.now) c.args.space c.args.page c.in-Some.entry c.requires.joined (sym c.entry.ensures ∙ c.in-Some.is)
-
 pub returns-then-has_own-clause-state : goal.returns-then-has_own-clause-state
 returns-then-has_own-clause-state c =
     brought_already (view_of c.args.store.now c.args.ledger.now) c.args.space c.args.page c.args.line c.requires.joined c.requires.there c.requires.line (sym c.has_own.ensures ∙ c.if-has_own.true)
+
+pub frame_line-requires-clause-frame : goal.frame_line-requires-clause-frame
+frame_line-requires-clause-frame c = frame_in (view_of c.args.store.now c.args.ledger.now) c.args.space c.args.page c.in-Some.entry c.requires.joined (sym c.entry.ensures ∙ c.in-Some.is)
 
 pub overlay_line-requires-clause-fits : goal.overlay_line-requires-clause-fits
 overlay_line-requires-clause-fits c =

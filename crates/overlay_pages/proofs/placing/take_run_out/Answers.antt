@@ -7,20 +7,6 @@ use Rattle.overlay_pages.proofs.RunLeaving.{HasLeft, all_left, frame_below, fram
 use Rattle.overlay_pages.proofs.placing.take_run_out.Goals as goal
 use Rattle.overlay_pages.proofs.placing.take_run_out.Goals.{then-is_unused, else-is_unused}
 
-pub returns-then-remove_run-eq0-clause-joined : goal.returns-then-remove_run-eq0-clause-joined
-returns-then-remove_run-eq0-clause-joined c =
-    subst (λ (t : LedgerView). IsJoined (view_of c.args.store.now t)) (sym c.remove_run.ensures.gone)
-    (all_left c.args.store.now c.args.ledger.now c.args.space c.args.run.now
-    c.requires.joined c.requires.there c.requires.bare c.remove_run.new.self
-    c.remove_run.ensures.given (c.remove_run.ensures.none c.if-remove_run-eq0.true)).joined
-
-pub returns-then-remove_run-eq0-clause-state : goal.returns-then-remove_run-eq0-clause-state
-returns-then-remove_run-eq0-clause-state c =
-    ap (λ (t : LedgerView). state_of (view_of c.args.store.now t)) c.remove_run.ensures.gone
-    ∙ (all_left c.args.store.now c.args.ledger.now c.args.space c.args.run.now
-    c.requires.joined c.requires.there c.requires.bare c.remove_run.new.self
-    c.remove_run.ensures.given (c.remove_run.ensures.none c.if-remove_run-eq0.true)).state
-
 pub giving-init : goal.giving-init
 giving-init c = none_left c.args.store.now c.args.ledger.now c.args.space c.args.run.now
     c.requires.joined c.requires.there c.requires.bare
@@ -36,6 +22,20 @@ give_frame-requires c =
     frame_taken c.args.store.now c.args.ledger.now c.args.space c.args.run.now
     c.requires.joined c.requires.there c.requires.bare c.giving.store c.giving.i c.giving-test.true
     c.giving.invariant c.entry_at-entry.result c.entry_at-entry.ensures
+
+pub returns-then-remove_run-eq0-clause-joined : goal.returns-then-remove_run-eq0-clause-joined
+returns-then-remove_run-eq0-clause-joined c =
+    subst (λ (t : LedgerView). IsJoined (view_of c.args.store.now t)) (sym c.remove_run.ensures.gone)
+    (all_left c.args.store.now c.args.ledger.now c.args.space c.args.run.now
+    c.requires.joined c.requires.there c.requires.bare c.remove_run.new.self
+    c.remove_run.ensures.given (c.remove_run.ensures.none c.if-remove_run-eq0.true)).joined
+
+pub returns-then-remove_run-eq0-clause-state : goal.returns-then-remove_run-eq0-clause-state
+returns-then-remove_run-eq0-clause-state c =
+    ap (λ (t : LedgerView). state_of (view_of c.args.store.now t)) c.remove_run.ensures.gone
+    ∙ (all_left c.args.store.now c.args.ledger.now c.args.space c.args.run.now
+    c.requires.joined c.requires.there c.requires.bare c.remove_run.new.self
+    c.remove_run.ensures.given (c.remove_run.ensures.none c.if-remove_run-eq0.true)).state
 
 pub giving-preserved : goal.giving-preserved
 giving-preserved c = elim c.if-is_unused.branch [

@@ -5,6 +5,11 @@ use Rattle.overlay_pages.proofs.Joining.{page_with}
 use Rattle.overlay_pages.proofs.Committing.{bare_committed, committed_page, commits, filled_up, page_frame}
 use Rattle.overlay_pages.proofs.settling.commit.Goals as goal
 
+pub returns-in_default-clause-state : goal.returns-in_default-clause-state
+returns-in_default-clause-state c =
+    bare_committed (view_of c.args.store.now c.args.ledger.now) c.args.space c.args.page
+    (page_with c.args.ledger.now c.args.space c.args.page c.requires.there None (sym c.overlay.ensures.overlay ∙ c.in_default.is))
+
 pub commit_lines-requires-clause-frame : goal.commit_lines-requires-clause-frame
 commit_lines-requires-clause-frame c =
     let found = page_with c.args.ledger.now c.args.space c.args.page c.requires.there (Some c.in-Some.overlay) (sym c.overlay.ensures.overlay ∙ c.in-Some.is) in
@@ -25,8 +30,3 @@ returns-in-Some-clause-state c =
     (filled_up (view_of c.args.store.now c.args.ledger.now) c.commit_lines.new.store c.args.space c.args.page found.x c.frame_of-frame.result c.requires.joined found.there framed c.requires.alone c.commit_lines.ensures.fills).1
     (committed_page c.args.store.now c.commit_lines.new.store found.x c.in-Some.overlay c.frame_of-frame.result found.is framed c.commit_lines.ensures.lines)
     c.drop_overlay.ensures.state
-
-pub returns-in_default-clause-state : goal.returns-in_default-clause-state
-returns-in_default-clause-state c =
-    bare_committed (view_of c.args.store.now c.args.ledger.now) c.args.space c.args.page
-    (page_with c.args.ledger.now c.args.space c.args.page c.requires.there None (sym c.overlay.ensures.overlay ∙ c.in_default.is))

@@ -2,7 +2,7 @@ use Rattle.overlay_pages.proofs.Common.{option_map, Some, sym, ap, ◌∙◌}
 use Rattle.overlay_pages.proofs.Books.{page_in}
 use Rattle.overlay_pages.proofs.Views.{line_in_page, PageState, MemoryView, state_of, view_of, Segment, Frame}
 use Rattle.overlay_pages.proofs.Found.{found_spot}
-use Rattle.overlay_pages.proofs.Lending.{frame_low, outside_value, segment_has, segment_there, segment_value}
+use Rattle.overlay_pages.proofs.Lending.{outside_value, segment_has, segment_there, segment_value}
 use Rattle.overlay_pages.proofs.pages.OverlayPages.line_at.Goals as goal
 
 pub get-requires-clause-there : goal.get-requires-clause-there
@@ -10,9 +10,6 @@ get-requires-clause-there c = segment_there (view_of c.self.inside.store c.self.
 
 pub get-requires-clause-line : goal.get-requires-clause-line
 get-requires-clause-line c = segment_has (view_of c.self.inside.store c.self.inside.ledger) c.args.found.space c.args.found.page c.args.found.line c.in-Segment.block c.self.invariant (found_spot (view_of c.self.inside.store c.self.inside.ledger) c.args.self.now c.args.found (Segment c.in-Segment.block) c.self.view_is c.requires.found c.in-Segment.is)
-
-pub frame_line-requires-clause-frame : goal.frame_line-requires-clause-frame
-frame_line-requires-clause-frame c = frame_low (view_of c.self.inside.store c.self.inside.ledger) c.args.found.space c.args.found.page c.args.found.line c.in-Frame.frame c.self.invariant (found_spot (view_of c.self.inside.store c.self.inside.ledger) c.args.self.now c.args.found (Frame c.in-Frame.frame) c.self.view_is c.requires.found c.in-Frame.is)
 
 pub returns-in-Segment-clause-value : goal.returns-in-Segment-clause-value
 returns-in-Segment-clause-value c =
