@@ -40,17 +40,6 @@ fills_twice one two three frame a b = record {
   store = b.store;
 }
 
-pub fills_none : (store : Store) (frame : ℕ) → IsStore store → IsFrame store frame → FillsFrame store store frame
-fills_none store frame is f = record {
-  blocks = refl;
-  same = refl;
-  segments = λ unit segment there. record { there = refl; places = λ line has. refl; lines = λ line has. refl };
-  frames = λ other away there. record { stays = there; lines = λ line low. refl };
-  scratch = λ line low. refl;
-  stays = f;
-  store = is;
-}
-
 -- So far: the first lines are those that were given.
 pub record HasFilled (old new : Store) (frame count : ℕ) (given : ℕ → List ℕ) : Type 0 where
   pub fills : FillsFrame old new frame

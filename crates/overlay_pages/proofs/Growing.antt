@@ -153,7 +153,7 @@ module _ (a : MemoryView) (s p : ℕ) (e : Entry) (line : ℕ) (bytes : List ℕ
   grows_low = can_grow e.block.order e.bits line (order_low a.store s p has.x e is.store held has.is) are low absent full
 
   at_capacity : capacity_of e.block.order ≡ length e.bits
-  at_capacity = omega (arith, full, count_fits a.store is.store e.block (overlay_segment a s p e is there over), ap length (overlay_set a s p e is there over))
+  at_capacity = omega (arith, full, count_fits a.store is.store e.block (overlay_segment a.store a.table s p e is there over), ap length (overlay_set a.store a.table s p e is there over))
 
   pub grows_size : 2 ^ (e.block.order + 1) ≡ class (length e.bits + 1)
   grows_size = next_size e.block.order (length e.bits) grows_low at_capacity

@@ -255,21 +255,19 @@ begun old began store table s p x block bits line bytes is there bare are low ab
     size_now = size ∙ ap class (sym count_now)
 
 -- There is room for another overlay: an overlaid page needs a unit, and the zero frame needs sixteen.
-pub overlay_room : (v : MemoryView) → IsJoined v → overlaid_pages (ledger_of v.table) < 16 * v.table.frames
-overlay_room v is = omega (arith, overlaid_few (ledger_of v.table), is.count, is.frames)
+pub overlay_room : (store : Store) (table : LedgerView) → IsJoined (view_of store table) → overlaid_pages (ledger_of table) < 16 * table.frames
+overlay_room store table is = omega (arith, overlaid_few (ledger_of table), is.count, is.frames)
 
 -- The segment of an overlay is there, with its lines.
-pub overlay_segment : (v : MemoryView) (s p : ℕ) (e : Entry) → IsJoined v → IsSome (page_in v.table s p) → overlay_at v.table s p ≡ Some e → IsSegment v.store e.block
-overlay_segment v s p e is there over =
-    let found = page_with v.table s p there (Some e) over in
-    overlay_there v.store s p found.x e (is.held s p found.x found.there) found.is
+module _ (store : Store) (table : LedgerView) (s p : ℕ) (e : Entry) (is : IsJoined (view_of store table)) (there : IsSome (page_in table s p)) (over : overlay_at table s p ≡ Some e) where
+  abbrev found : Has table s p (Some e)
+  found = page_with table s p there (Some e) over
 
-pub overlay_set : (v : MemoryView) (s p : ℕ) (e : Entry) → IsJoined v → IsSome (page_in v.table s p) → overlay_at v.table s p ≡ Some e → lines_at v.store e.block.unit ≡ e.bits
-overlay_set v s p e is there over =
-    let found = page_with v.table s p there (Some e) over in
-    overlay_lines v.store s p found.x e (is.held s p found.x found.there) found.is
+  pub overlay_segment : IsSegment store e.block
+  overlay_segment = overlay_there store s p found.x e (is.held s p found.x found.there) found.is
 
-pub overlay_order : (v : MemoryView) (s p : ℕ) (e : Entry) → IsJoined v → IsSome (page_in v.table s p) → overlay_at v.table s p ≡ Some e → e.block.order ≤ 4
-overlay_order v s p e is there over =
-    let found = page_with v.table s p there (Some e) over in
-    order_low v.store s p found.x e is.store (is.held s p found.x found.there) found.is
+  pub overlay_set : lines_at store e.block.unit ≡ e.bits
+  overlay_set = overlay_lines store s p found.x e (is.held s p found.x found.there) found.is
+
+  pub overlay_order : e.block.order ≤ 4
+  overlay_order = order_low store s p found.x e is.store (is.held s p found.x found.there) found.is

@@ -5,21 +5,12 @@ use Rattle.overlay_pages.proofs.Joining.{page_with, overlay_order, overlay_room,
 use Rattle.overlay_pages.proofs.Shifts.{few_framed}
 use Rattle.overlay_pages.proofs.NewFrames.{frame_inside_of}
 use Rattle.overlay_pages.proofs.SharedPages.{share_low, share_order}
-use Rattle.overlay_pages.proofs.Common.{◌≡◌, ℕ, Some, IsSome, ◌≤◌, ◌<◌, ◌*◌, refl, LAST_SPACE, PAGE_END}
-use Rattle.overlay_pages.proofs.Stores.{Store, Entry, IsSegment, lines_at}
-use Rattle.overlay_pages.proofs.Books.{LedgerView, page_in, overlay_at, ledger_of, overlaid_pages}
+use Rattle.overlay_pages.proofs.Common.{ℕ, IsSome, ◌≤◌, ◌<◌, refl, LAST_SPACE, PAGE_END}
+use Rattle.overlay_pages.proofs.Stores.{Store}
+use Rattle.overlay_pages.proofs.Books.{LedgerView, page_in, overlay_at}
 use Rattle.overlay_pages.proofs.Views.{IsJoined, view_of}
 
 -- Laws that the search takes, for steps of calls.
-
-pub is_there : (store : Store) (table : LedgerView) (s p : ℕ) (e : Entry) → IsJoined (view_of store table) → IsSome (page_in table s p) → overlay_at table s p ≡ Some e → IsSegment store e.block
-is_there store table s p e is there over = overlay_segment (view_of store table) s p e is there over
-
-pub set_is : (store : Store) (table : LedgerView) (s p : ℕ) (e : Entry) → IsJoined (view_of store table) → IsSome (page_in table s p) → overlay_at table s p ≡ Some e → lines_at store e.block.unit ≡ e.bits
-set_is store table s p e is there over = overlay_set (view_of store table) s p e is there over
-
-pub order_is : (store : Store) (table : LedgerView) (s p : ℕ) (e : Entry) → IsJoined (view_of store table) → IsSome (page_in table s p) → overlay_at table s p ≡ Some e → e.block.order ≤ 4
-order_is store table s p e is there over = overlay_order (view_of store table) s p e is there over
 
 pub number_is : (store : Store) (table : LedgerView) (s p : ℕ) → IsJoined (view_of store table) → IsSome (page_in table s p) → s ≤ LAST_SPACE
 number_is store table s p is there = let f = page_with table s p there (overlay_at table s p) refl in (is.held s p f.x f.there).number
@@ -27,8 +18,5 @@ number_is store table s p is there = let f = page_with table s p there (overlay_
 pub low_is : (store : Store) (table : LedgerView) (s p : ℕ) → IsJoined (view_of store table) → IsSome (page_in table s p) → p < PAGE_END
 low_is store table s p is there = let f = page_with table s p there (overlay_at table s p) refl in (is.held s p f.x f.there).low
 
-pub room_is : (store : Store) (table : LedgerView) → IsJoined (view_of store table) → overlaid_pages (ledger_of table) < 16 * table.frames
-room_is store table is = overlay_room (view_of store table) is
-
 -- What steps of calls need.
-pub ruleset needs = (few_framed, first_size, frame_inside_of, grows_enough, grows_fits, grows_low, grows_size, is_there, low_is, number_is, order_is, room_is, set_is, share_low, share_order, state_awaiting)
+pub ruleset needs = (few_framed, first_size, frame_inside_of, grows_enough, grows_fits, grows_low, grows_size, low_is, number_is, overlay_order, overlay_room, overlay_segment, overlay_set, share_low, share_order, state_awaiting)

@@ -25,7 +25,7 @@ pub one_zero_state : (st : State) (s p : ℕ) (entry : PageEntry) → with_zeros
 unfolding with_zeros put_pages
 one_zero_state st s p entry = refl
 
-origin_none : (z f : ℕ) → f ≡ z → view.origin_of z f ≡ 0
+pub origin_none : (z f : ℕ) → f ≡ z → view.origin_of z f ≡ 0
 origin_none z f same = let yes_ : nat_eq f z ≡ true = grind (arith, nat_tests, same) in ap (λ b. cond b 0 (f + 1)) yes_
 
 origin_some : (z f : ℕ) → (f ≡ z → ⊥) → view.origin_of z f ≡ f + 1
@@ -74,13 +74,9 @@ module _ (st : State) (s p : ℕ) (entry : PageEntry) (there : holds_space st s 
 
 -- A new memory.
 
-frames_units : (n u : ℕ) → units_in (free_frames u n) ≡ 16 * n
-frames_units zero u = refl
-frames_units (suc n) u = let rest = frames_units n (u + 16) in omega (arith, rest)
-
-frames_free : (n u : ℕ) → free_units (free_frames u n) ≡ 16 * n
-frames_free zero u = refl
-frames_free (suc n) u = let rest = frames_free n (u + 16) in omega (arith, rest)
+frames_units : (n u : ℕ) → (units_in (free_frames u n) ≡ 16 * n) × (free_units (free_frames u n) ≡ 16 * n)
+frames_units zero u = (refl, refl)
+frames_units (suc n) u = let rest = frames_units n (u + 16) in (omega (arith, rest.0), omega (arith, rest.1))
 
 pub frames_room : (n u : ℕ) → 0 < n → HasRoom (free_frames u n) 4
 frames_room zero u some = absurd (omega (arith, some))
@@ -98,7 +94,7 @@ module _ (empty_store taken : Store) (table : LedgerView) (frames frame : ℕ) (
     (same : taken.segments ≡ empty_store.segments) (free : free_units taken.blocks + FRAME_UNITS ≡ free_units empty_store.blocks) (whole : units_in taken.blocks ≡ units_in empty_store.blocks) (store : IsStore taken)
     (spaces : table.spaces ≡ empty) (frames_are : table.frames ≡ frames) (zero_is : table.zero_frame ≡ frame) where
   whole_is : units_in taken.blocks ≡ 16 * frames
-  whole_is = whole ∙ ap units_in is.blocks ∙ frames_units frames 0
+  whole_is = whole ∙ ap units_in is.blocks ∙ (frames_units frames 0).0
 
   no_space : (s : ℕ) → get table.spaces s ≡ None
   no_space s = ap (λ (m : FinMap nat_cmp SpaceView). get m s) spaces ∙ get-empty nat_cmp s
@@ -129,7 +125,7 @@ module _ (empty_store taken : Store) (table : LedgerView) (frames frame : ℕ) (
     store = store;
     blocks = settled;
     frames = omega (arith, whole_is, frames_are);
-    count = omega (arith, whole_is, units_are, free, ap free_units is.blocks, frames_free frames 0);
+    count = omega (arith, whole_is, units_are, free, ap free_units is.blocks, (frames_units frames 0).1);
     numbers = λ s there. let no_ = sym there ∙ ap is_some (no_space s) in absurd (true≢false no_);
     zero = subst (IsFrame taken) (sym zero_is) frame_is;
     zeros = λ i low. ap (λ f. frame_line taken f i) zero_is ∙ ap (λ l. line_of l (64 * frame + i)) (lines ∙ is.lines) ∙ zeros_at (PAGE_LINES * (frames + 1)) (64 * frame + i) (omega (arith, low, whole_is, frame_inside taken store frame frame_is)) ∙ sym line_is;
@@ -149,4 +145,4 @@ module _ (empty_store taken : Store) (table : LedgerView) (frames frame : ℕ) (
   }
 
 pub made_frame : (empty_store taken : Store) (frames frame : ℕ) → IsEmptyStore frames empty_store → IsFrame taken frame → units_in taken.blocks ≡ units_in empty_store.blocks → IsStore taken → frame < frames
-made_frame empty_store taken frames frame is f whole store = omega (arith, whole, ap units_in is.blocks, frames_units frames 0, frame_inside taken store frame f)
+made_frame empty_store taken frames frame is f whole store = omega (arith, whole, ap units_in is.blocks, (frames_units frames 0).0, frame_inside taken store frame f)

@@ -1,15 +1,14 @@
-use Rattle.overlay_pages.proofs.Common.{option_and_then, option_map, ◌≡◌, ℕ, zero, suc, ◌+◌, ◌<◌, ◌≤◌, true, cond, nat_eq, Option, Some, None, IsSome, is_some, refl, sym, ap, subst, ◌∙◌, arith, same_Some, nat_tests, PAGE_END}
-use Rattle.overlay_pages.proofs.Books.{Ledger, holding_at, books_page, AreMapped, page_in, LedgerView, PageView, frame_at, holding_of, ledger_of, lines_of, origin_of, overlay_at, PageEntry, PageRun}
-use Rattle.overlay_pages.proofs.Views.{AreZeros, zero_holding, IsJoined, MemoryView, page_state, state_of, state_books, state_page, state_page_some}
+use Rattle.overlay_pages.proofs.Common.{option_and_then, option_map, ◌≡◌, ℕ, zero, suc, ◌+◌, ◌<◌, ◌≤◌, Option, Some, None, IsSome, is_some, refl, sym, ap, subst, ◌∙◌, arith, same_Some, PAGE_END}
+use Rattle.overlay_pages.proofs.Books.{Ledger, holding_at, books_page, AreMapped, page_in, LedgerView, PageView, frame_at, holding_of, ledger_of, lines_of, overlay_at, PageRun}
+use Rattle.overlay_pages.proofs.Views.{AreZeros, zero_holding, IsJoined, MemoryView, state_of, state_books, state_page_some}
 use Rattle.space_ledger.specs.Calls as calls
+use Rattle.overlay_pages.proofs.Placed.{origin_none}
+use Rattle.space_maps.specs.Options.{map_some}
 
 -- Pages on the zero frame, without own lines: told of the tables, they are such pages of the state.
 
 abbrev IsZeroPage : LedgerView → ℕ → ℕ → Type 0
 IsZeroPage v s p = (frame_at v s p ≡ Some v.zero_frame) × (overlay_at v s p ≡ None)
-
-zero_origin : (z f : ℕ) → f ≡ z → origin_of z f ≡ 0
-zero_origin z f same = let yes : nat_eq f z ≡ true = grind (arith, nat_tests) in ap (λ b. cond b 0 (f + 1)) yes
 
 held_zero : (v : LedgerView) (s p : ℕ) → IsZeroPage v s p → holding_at (ledger_of v) s p ≡ Some zero_holding
 held_zero v s p is = books_page holding_of v s p ∙ at (page_in v s p) is.0 is.1
@@ -17,7 +16,7 @@ held_zero v s p is = books_page holding_of v s p ∙ at (page_in v s p) is.0 is.
     at : (o : Option PageView) → option_map (λ (x : PageView). x.entry.frame) o ≡ Some v.zero_frame → option_and_then (λ (x : PageView). x.overlay) o ≡ None → option_map (holding_of v.zero_frame) o ≡ Some zero_holding
     at None frame bare = let no = ap is_some frame in cc
     at (Some x) frame bare =
-        let origin = zero_origin v.zero_frame x.entry.frame (same_Some _ _ frame) in
+        let origin = origin_none v.zero_frame x.entry.frame (same_Some _ _ frame) in
         λ i. Some (record { origin = origin i; own = lines_of (bare i) })
 
 pub zeros_state : (view : MemoryView) (s from n : ℕ) → calls.AreBareOnZero view.table s from n → AreZeros (state_of view) s from n
@@ -34,22 +33,12 @@ mapped_low view s from (suc k) is there some = at (page_in view.table s (from + 
 
 pub run_low : (view : MemoryView) (s page : ℕ) (run : PageRun) → IsJoined view → calls.IsBareRun view.table s run → run.page ≡ page → 0 < run.n → page + run.n ≤ PAGE_END
 run_low view s page run is bare same =
-    subst (λ p. 0 < run.n → p + run.n ≤ PAGE_END) same (mapped_low view s run.page run.n is (λ i less. some (page_in view.table s (run.page + i)) (bare.has i less)))
-  where
-    some : {e : PageEntry} (o : Option PageView) → option_map (λ (x : PageView). x.entry) o ≡ Some e → IsSome o
-    some None h = let no = ap is_some h in cc
-    some (Some x) h = refl
+    subst (λ p. 0 < run.n → p + run.n ≤ PAGE_END) same
+    (mapped_low view s run.page run.n is (λ i less. sym (map_some (λ (x : PageView). x.entry) (page_in view.table s (run.page + i))) ∙ ap is_some (bare.has i less)))
 
 pub zeros_low : (view : MemoryView) (s from n : ℕ) → IsJoined view → calls.AreBareOnZero view.table s from n → 0 < n → from + n ≤ PAGE_END
-zeros_low view s from n is zeros = mapped_low view s from n is (λ i less. some (page_in view.table s (from + i)) (zeros i less).0)
-  where
-    some : (o : Option PageView) → option_map (λ (x : PageView). x.entry.frame) o ≡ Some view.table.zero_frame → IsSome o
-    some None h = let no = ap is_some h in cc
-    some (Some x) h = refl
+zeros_low view s from n is zeros = mapped_low view s from n is (λ i less. sym (map_some (λ (x : PageView). x.entry.frame) (page_in view.table s (from + i))) ∙ ap is_some (zeros i less).0)
 
 -- pages of the tables are pages of the state
 pub mapped_state : (view : MemoryView) (s from n : ℕ) → AreMapped view.table s from n → AreMapped (state_of view) s from n
 mapped_state view s from n there i less = state_page_some view s (from + i) ∙ there i less
-
-pub none_state : (view : MemoryView) (s p : ℕ) → page_in view.table s p ≡ None → page_in (state_of view) s p ≡ None
-none_state view s p none = state_page view s p ∙ ap (option_map (page_state view.store)) none

@@ -1,6 +1,6 @@
-use Rattle.overlay_pages.proofs.Common.{option_and_then, option_map, ◌≡◌, ℕ, zero, suc, ◌+◌, ◌≤◌, ◌<◌, Bool, true, false, Option, Some, None, is_some, refl, sym, ap, subst, ◌∙◌, arith, same_Some}
+use Rattle.overlay_pages.proofs.Common.{option_and_then, option_map, ◌≡◌, ℕ, zero, suc, ◌+◌, ◌≤◌, ◌<◌, Bool, true, false, Some, None, is_some, refl, sym, ap, subst, ◌∙◌, arith}
 use Rattle.overlay_pages.proofs.Stores.{Store, IsFrame, frame_inside}
-use Rattle.overlay_pages.proofs.Books.{entry_at, PageEntry, PageRun, is_unused, after_cut, are_cut, cut_page, cut_pages, holds_space, page_in, LedgerView, PageView, ledger_of, origin_of, GivesNothingUp, GivesUpAtLast, IsBareRun, given_up}
+use Rattle.overlay_pages.proofs.Books.{entry_at, PageEntry, PageRun, is_unused, after_cut, are_cut, cut_page, cut_pages, holds_space, page_in, LedgerView, PageView, ledger_of, origin_of, GivesNothingUp, GivesUpAtLast, IsBareRun, given_up, map_from}
 use Rattle.overlay_pages.proofs.Views.{State, IsJoined, state_of, view_of}
 use Rattle.overlay_pages.proofs.Leaving.{LeavesStore, is_given, is_left, leaves_none, left_out}
 
@@ -17,11 +17,7 @@ record IsOne (v : LedgerView) (s p : ℕ) (entry : PageEntry) : Type 0 where
   pub is : entry ≡ x.entry
 
 one_of : (v : LedgerView) (s p : ℕ) (entry : PageEntry) → option_map (λ (x : PageView). x.entry) (page_in v s p) ≡ Some entry → IsOne v s p entry
-one_of v s p entry has = at (page_in v s p) refl has
-  where
-    at : (o : Option PageView) → page_in v s p ≡ o → option_map (λ (x : PageView). x.entry) o ≡ Some entry → IsOne v s p entry
-    at None there h = let no = ap is_some h in cc
-    at (Some x) there h = record { x = x; there = there; is = same_Some _ _ (sym h) }
+one_of v s p entry has = map_from (λ (x : PageView). x.entry) (page_in v s p) entry has (λ x there same. record { x = x; there = there; is = sym same })
 
 module _ (old : Store) (v : LedgerView) (s : ℕ) (run : PageRun) (is : IsJoined (view_of old v)) (has : holds_space v s ≡ true) (bare : IsBareRun v s run) where
   pub none_left : HasLeft old old v s run 0

@@ -142,7 +142,7 @@ module _ (a : MemoryView) (from p : ℕ) (e : Entry) (is : IsJoined a) (there : 
   share_some = first_held.lined e first.is
 
   pub share_fits : length e.bits ≤ capacity_of e.block.order
-  share_fits = subst (λ l. length l ≤ capacity_of e.block.order) (overlay_set a from p e is there over) (count_fits a.store is.store e.block (overlay_segment a from p e is there over))
+  share_fits = subst (λ l. length l ≤ capacity_of e.block.order) (overlay_set a.store a.table from p e is there over) (count_fits a.store is.store e.block (overlay_segment a.store a.table from p e is there over))
 
   pub share_room : HasShareRoom (state_of a) from p → HasRoom a.store.blocks e.block.order
   unfolding page_state

@@ -21,18 +21,11 @@ page_over x o = record { entry = x.entry; overlay = o }
 -- a page whose segment stays, or that has none
 pub page_stays : (by : ℕ → ℕ) (x : PageView) → ((e : Entry) → x.overlay ≡ Some e → by e.block.unit ≡ e.block.unit) → went_page by x ≡ x
 unfolding went_page went_overlay entry_in page_over
-page_stays by x stays = at x.overlay refl
+page_stays by x stays = ap (page_over x) (over x.overlay stays)
   where
     over : (o : Option Entry) → ((e : Entry) → o ≡ Some e → by e.block.unit ≡ e.block.unit) → option_map (went_overlay by) o ≡ o
     over None h = refl
     over (Some e) h = ap (λ u. Some (entry_in e.bits (record { unit = u; order = e.block.order }))) (h e refl)
-
-    at : (o : Option Entry) → x.overlay ≡ o → went_page by x ≡ x
-    at o is = ap (page_over x) (over x.overlay stays)
-
--- the tables before anything is told
-pub behind_none : (was new : Store) (old : LedgerView) (by : ℕ → ℕ) → IsJoinedWith CanSettle (view_of was old) → AreCarried was new by → IsBehind was new old old by
-behind_none was new old by joined carried = record { joined = joined; carried = carried; keeps = keeps_still old; pages = λ q r. inl refl }
 
 -- The page of a segment that is at a unit now, and its block there.
 module _ (was new : Store) (old now : LedgerView) (by : ℕ → ℕ) (behind : IsBehind was new old now by) (unit : ℕ) (segment : Segment) (at_unit : segment_at new unit ≡ Some segment) where
@@ -321,7 +314,7 @@ module _ {P : List Piece → Type 0} (was new : Store) (old now : LedgerView) (b
 -- The store was settled, and the tables came after it.
 
 behind_all : (was new : Store) (old : LedgerView) (ms : List Move) → IsJoinedWith CanSettle (view_of was old) → MakesMoves was ms new → IsBehind was new old old (units_after ms)
-behind_all was new old ms joined made = behind_none was new old (units_after ms) joined (made_carries was new ms made)
+behind_all was new old ms joined made = record { joined = joined; carried = made_carries was new ms made; keeps = keeps_still old; pages = λ q r. inl refl }
 
 pub settled_ahead : (was new : Store) (old : LedgerView) (ms : List Move) → IsJoinedWith CanSettle (view_of was old) → MakesMoves was ms new → IsAhead new old
 settled_ahead was new old ms joined made = record { was = was; old = old; by = units_after ms; behind = behind_all was new old ms joined made }

@@ -12,11 +12,9 @@ unfolding page_state
 entry_state v q r = sym (ap (option_map (λ (x : PageState). x.entry)) (state_page v q r) ∙ map_twice (λ (x : PageState). x.entry) (page_state v.store) (λ (x : PageView). x.entry) (page_in v.table q r) (λ x e. refl))
 
 pub absent_state : (v : MemoryView) (q r : ℕ) → None ≡ option_map (λ (x : PageView). x.entry) (page_in v.table q r) → page_in (state_of v) q r ≡ None
-absent_state v q r is = at (page_in (state_of v) q r) (is ∙ entry_state v q r)
-  where
-    at : (o : Option PageState) → None ≡ option_map (λ (x : PageState). x.entry) o → o ≡ None
-    at None h = refl
-    at (Some x) h = cc
+absent_state v q r is = by_option (page_in (state_of v) q r)
+    (λ e. e)
+    (λ x e. let no = is ∙ entry_state v q r ∙ ap (option_map (λ (x : PageState). x.entry)) e in cc)
 
 pub own_state : (v : MemoryView) (q r : ℕ) → IsSome (page_in v.table q r) → option_map (λ (x : PageState). x.own) (page_in (state_of v) q r) ≡ Some (lines_of (overlay_at v.table q r))
 unfolding page_state
@@ -45,12 +43,12 @@ overlaid_bare v q r there bare has = by_option (page_in (state_of v) q r)
 pub page_some : (v : MemoryView) (q r : ℕ) → IsSome (page_in (state_of v) q r) → IsSome (page_in v.table q r)
 page_some v q r there = sym (state_page_some v q r) ∙ there
 
-none_still : (v : MemoryView) (q r : ℕ) → page_in v.table q r ≡ None → page_in (state_of v) q r ≡ None
-none_still v q r none = state_page v q r ∙ ap (option_map (page_state v.store)) none
+pub none_state : (v : MemoryView) (q r : ℕ) → page_in v.table q r ≡ None → page_in (state_of v) q r ≡ None
+none_state v q r none = state_page v q r ∙ ap (option_map (page_state v.store)) none
 
 pub next_state : (v : MemoryView) (q r : ℕ) (found : Option ℕ) → calls.IsNextOf v.table q r found → IsNextPage (state_of v) q r found
-next_state v q r None is = λ p low. none_still v q p (is p low)
-next_state v q r (Some p) is = (is.0, state_page_some v q p ∙ is.1, λ n low below. none_still v q n (is.2 n low below))
+next_state v q r None is = λ p low. none_state v q p (is p low)
+next_state v q r (Some p) is = (is.0, state_page_some v q p ∙ is.1, λ n low below. none_state v q n (is.2 n low below))
 
 pub pages_few : (v : MemoryView) (s : ℕ) → IsJoined v → len (space_in v.table s).pages ≤ PAGE_END
 unfolding page_in
@@ -148,13 +146,9 @@ entries_state v s =
     ∙ sym (get_viewed (λ _ (x : PageState). x.entry) (space_in (state_of v) s).pages q))
 
 pub no_pages_state : (v : MemoryView) (s : ℕ) → (space_in (state_of v) s).pages ≡ empty → (space_in v.table s).pages ≡ empty
-no_pages_state v s none = alike _ _ (λ q. at q (get (space_in v.table s).pages q) refl ∙ sym (get-empty nat_cmp q))
-  where
-    at : (q : ℕ) (o : Option PageView) → get (space_in v.table s).pages q ≡ o → get (space_in v.table s).pages q ≡ None
-    at q None e = e
-    at q (Some x) e =
-        let there = sym (get-empty nat_cmp q) ∙ ap (λ (m : FinMap nat_cmp PageState). get m q) (sym none ∙ state_pages v s) ∙ get_viewed (λ _ (y : PageView). page_state v.store y) (space_in v.table s).pages q ∙ ap (option_map (page_state v.store)) e in
-        absurd (none-some (page_state v.store x) there)
+no_pages_state v s none = alike _ _ (λ q. by_option (get (space_in v.table s).pages q) (λ e. e) (λ x e.
+    let there = sym (get-empty nat_cmp q) ∙ ap (λ (m : FinMap nat_cmp PageState). get m q) (sym none ∙ state_pages v s) ∙ get_viewed (λ _ (y : PageView). page_state v.store y) (space_in v.table s).pages q ∙ ap (option_map (page_state v.store)) e in
+    absurd (none-some (page_state v.store x) there)) ∙ sym (get-empty nat_cmp q))
 
 -- a page that the state hasn't isn't in the tables
 pub none_back : (v : MemoryView) (q r : ℕ) → page_in (state_of v) q r ≡ None → page_in v.table q r ≡ None
