@@ -1,11 +1,12 @@
 use Rattle.overlay_pages.proofs.Common.{◌≡◌, ℕ, ◌+◌, ◌*◌, ◌<◌, ◌≤◌, true, false, List, [], ◌∷◌, ◌++◌, Option, Some, IsSome, is_some, length, slice_set, refl, sym, ap, subst, ◌∙◌, arith, same_Some, option_map}
 use Rattle.overlay_pages.proofs.Stores.{AreLines, has_line, has_next, with_there, Entry, frame_line, frame_inside, units_in}
-use Rattle.overlay_pages.proofs.Books.{with_line, with_lines, class, class_le, longer, PageEntry, map_from, by_option, page_again, page_put_here, page_in, put_page, turned_page, put_same, PageView, lines_of, overlay_at}
+use Rattle.overlay_pages.proofs.Books.{changed_there, with_line, with_lines, class, class_le, longer, PageEntry, map_from, by_option, page_again, page_put_here, page_in, put_page, turned_page, put_same, PageView, lines_of, overlay_at}
 use Rattle.overlay_pages.proofs.Views.{page_lines, PageState, Fits, brought, limit_of, units_of, joins, IsJoined, MemoryView, line_seen, page_state, state_of, state_page_some, state_page_there}
 use Rattle.overlay_bits.specs.Lines as bits
 use Rattle.overlay_pages.proofs.Steps.{seen_outside, set_lines}
 use Rattle.overlay_pages.proofs.Joining.{Has, page_with, sets_are}
-use Rattle.overlay_pages.proofs.Growing.{turn_is, turned_limit, turned_twice, turned_units}
+use Rattle.overlay_pages.proofs.Growing.{turned_limit, turned_twice, turned_units}
+use Rattle.overlay_pages.proofs.Growing.{turned_still}
 
 -- Lines are brought from the frame.
 
@@ -33,7 +34,7 @@ pub brought_already : (v : MemoryView) (s p line : ℕ) → IsJoined v → IsSom
     → state_of v ≡ turned_page (brought (line ∷ [])) (state_of v) s p
 unfolding page_state
 brought_already v s p line is there low has =
-    sym (turn_is (brought (line ∷ [])) (state_of v) s p (page_state v.store f.x) y_there ∙ ap (put_page (state_of v) s p) same ∙ page_again (state_of v) s p (page_state v.store f.x) y_there)
+    turned_still (brought (line ∷ [])) (state_of v) s p (page_state v.store f.x) y_there same
   where
     f : Has v.table s p (overlay_at v.table s p)
     f = page_with v.table s p there (overlay_at v.table s p) refl
@@ -59,8 +60,8 @@ pub brought_is : (v : MemoryView) (s p line frame : ℕ) (bytes : List ℕ) → 
     → turned_page (joins line bytes) (state_of v) s p ≡ turned_page (brought (line ∷ [])) (state_of v) s p
 unfolding page_state
 brought_is v s p line frame bytes is there low absent framed bytes_is =
-    turn_is (joins line bytes) (state_of v) s p (page_state v.store f.x) y_there ∙ ap (put_page (state_of v) s p) same
-    ∙ sym (turn_is (brought (line ∷ [])) (state_of v) s p (page_state v.store f.x) y_there)
+    changed_there (joins line bytes) (state_of v) s p (page_state v.store f.x) y_there ∙ ap (put_page (state_of v) s p) same
+    ∙ sym (changed_there (brought (line ∷ [])) (state_of v) s p (page_state v.store f.x) y_there)
   where
     f : Has v.table s p (overlay_at v.table s p)
     f = page_with v.table s p there (overlay_at v.table s p) refl
@@ -102,7 +103,7 @@ none_brought v s p lines rest is there same =
     record {
       whole = sym same;
       joined = is;
-      state = sym (turn_is (brought []) (state_of v) s p (page_state v.store f.x) y_there ∙ ap (put_page (state_of v) s p) back ∙ page_again (state_of v) s p (page_state v.store f.x) y_there);
+      state = sym (changed_there (brought []) (state_of v) s p (page_state v.store f.x) y_there ∙ ap (put_page (state_of v) s p) back ∙ page_again (state_of v) s p (page_state v.store f.x) y_there);
     }
 
 module _ (first now : MemoryView) (s p : ℕ) (lines front rest : List ℕ) (line : ℕ) (more : List ℕ) (there : IsSome (page_in first.table s p)) (cut : rest ≡ line ∷ more)
@@ -119,7 +120,7 @@ module _ (first now : MemoryView) (s p : ℕ) (lines front rest : List ℕ) (lin
   next_state : turned_page (brought (line ∷ [])) (state_of now) s p ≡ turned_page (brought (front ++ (line ∷ []))) (state_of first) s p
   next_state =
       ap (λ st. turned_page (brought (line ∷ [])) st s p) so.state ∙ turned_twice (brought (line ∷ [])) (brought front) (state_of first) s p y.0 y.1
-      ∙ ap (put_page (state_of first) s p) (two_steps y.0) ∙ sym (turn_is (brought (front ++ (line ∷ []))) (state_of first) s p y.0 y.1)
+      ∙ ap (put_page (state_of first) s p) (two_steps y.0) ∙ sym (changed_there (brought (front ++ (line ∷ []))) (state_of first) s p y.0 y.1)
 
   pub next_low : AreLines lines → line < 64
   next_low are = are.inside line (ap (λ l. has_line l line) (so.whole ∙ ap (λ l. front ++ l) cut) ∙ has_next front line more)
@@ -156,5 +157,5 @@ pub brought_there : (first now : MemoryView) (s p : ℕ) (lines front rest : Lis
 brought_there first now s p lines front rest there so =
     let f = page_with first.table s p there (overlay_at first.table s p) refl in
     let at_first = state_page_there first s p f.x f.there in
-    sym (state_page_some now s p) ∙ ap (λ st. is_some (page_in st s p)) (so.state ∙ turn_is (brought front) (state_of first) s p (page_state first.store f.x) at_first)
+    sym (state_page_some now s p) ∙ ap (λ st. is_some (page_in st s p)) (so.state ∙ changed_there (brought front) (state_of first) s p (page_state first.store f.x) at_first)
     ∙ ap is_some (page_put_here (state_of first) s p (brought front (page_state first.store f.x)) s p refl refl)

@@ -1,11 +1,12 @@
 use Rattle.overlay_pages.proofs.Common.{option_map, ◌≡◌, ℕ, ◌+◌, ◌*◌, ◌<◌, ◌≤◌, Bool, true, false, cond, List, [], Option, Some, None, IfSome, IsSome, drop, take, get_or, refl, sym, ap, subst, ◌∙◌, arith, same_Some, empty}
 use Rattle.overlay_pages.proofs.Stores.{has_line, composed, composed_at, Entry, Store, frame_line, frame_page, line_in, scratch_line, scratch_page, KeepsFrames}
-use Rattle.overlay_pages.proofs.Books.{Ledger, has_origin, holding_at, is_alone, put_again, class_none, origin_with, books_page, books_put_page, keeps_page_put, page_again, page_over, page_put_here, there_space, page_in, put_page, space_in, turned_page, LedgerView, PageView, ledger_of, lines_of, overlay_at}
+use Rattle.overlay_pages.proofs.Books.{Ledger, has_origin, holding_at, is_alone, put_again, class_none, origin_with, books_page, books_put_page, keeps_page_put, page_over, page_put_here, there_space, page_in, put_page, space_in, turned_page, LedgerView, PageView, ledger_of, lines_of, overlay_at, changed_there}
 use Rattle.overlay_pages.proofs.Views.{line_in_page, page_lines, same_lines, lines_same, PageState, State, books, held_page, HasCopyRoom, IsNewFrame, IsPlaced, committed, copied, discarded, limit_of, moved_to, units_of, FillsFrame, IsHeld, IsJoined, MemoryView, line_seen, page_state, state_of, view_of, state_awaiting, state_books, state_holds, state_page_there}
 use Rattle.overlay_pages.proofs.Steps.{alone_other, rewritten, seen_bare, seen_inside, seen_outside}
 use Rattle.overlay_pages.proofs.Joining.{Has, page_with}
-use Rattle.overlay_pages.proofs.Growing.{turn_is, turned_units}
+use Rattle.overlay_pages.proofs.Growing.{turned_units}
 use Rattle.overlay_pages.proofs.NewFrames.{new_still}
+use Rattle.overlay_pages.proofs.Growing.{turned_still}
 
 -- A frame that is a page's alone is filled.
 
@@ -34,11 +35,8 @@ committed_page old new x e frame over frame_is lines =
 pub bare_committed : (v : MemoryView) (s p : ℕ) → Has v.table s p None → state_of v ≡ turned_page committed (state_of v) s p
 unfolding page_state
 bare_committed v s p has =
-    sym (turn_is committed (state_of v) s p (page_state v.store has.x) at ∙ ap (put_page (state_of v) s p) same ∙ page_again (state_of v) s p (page_state v.store has.x) at)
+    turned_still committed (state_of v) s p (page_state v.store has.x) (state_page_there v s p has.x has.there) same
   where
-    at : page_in (state_of v) s p ≡ Some (page_state v.store has.x)
-    at = state_page_there v s p has.x has.there
-
     same : committed (page_state v.store has.x) ≡ page_state v.store has.x
     same =
         let lines = seen_bare v.store has.x has.is in
@@ -48,9 +46,9 @@ pub commits : (a b c : MemoryView) (s p : ℕ) (x : PageView) → page_in a.tabl
     → state_of c ≡ turned_page discarded (state_of b) s p → state_of c ≡ turned_page committed (state_of a) s p
 commits a b c s p x there b_is same c_is =
     let at_b = ap (λ st. page_in st s p) b_is ∙ page_put_here (state_of a) s p (page_state b.store x) s p refl refl in
-    c_is ∙ turn_is discarded (state_of b) s p (page_state b.store x) at_b ∙ ap (λ st. put_page st s p (discarded (page_state b.store x))) b_is
+    c_is ∙ changed_there discarded (state_of b) s p (page_state b.store x) at_b ∙ ap (λ st. put_page st s p (discarded (page_state b.store x))) b_is
     ∙ page_over (state_of a) s p (page_state b.store x) (discarded (page_state b.store x)) ∙ ap (put_page (state_of a) s p) same
-    ∙ sym (turn_is committed (state_of a) s p (page_state a.store x) (state_page_there a s p x there))
+    ∙ sym (changed_there committed (state_of a) s p (page_state a.store x) (state_page_there a s p x there))
 
 pub page_frame : (v : LedgerView) (s p : ℕ) (x : PageView) (frame : ℕ) → page_in v s p ≡ Some x → option_map (λ (y : PageView). y.entry.frame) (page_in v s p) ≡ Some frame → x.entry.frame ≡ frame
 page_frame v s p x frame there framed = same_Some _ _ (sym (ap (option_map (λ (y : PageView). y.entry.frame)) there) ∙ framed)
@@ -73,7 +71,7 @@ module _ (a : MemoryView) (s p : ℕ) (e : Entry) (is : IsJoined a) (there : IsS
   was_there = state_page_there a s p own.x own.there
 
   bare_is : turned_page discarded (state_of a) s p ≡ put_page (state_of a) s p (discarded was)
-  bare_is = turn_is discarded (state_of a) s p was was_there
+  bare_is = changed_there discarded (state_of a) s p was was_there
 
   held_before : holding_at (books (state_of a)) s p ≡ Some (held_page (state_of a).zero_frame was)
   held_before = books_page held_page (state_of a) s p ∙ ap (option_map (held_page (state_of a).zero_frame)) was_there

@@ -1,6 +1,6 @@
 use Rattle.overlay_pages.proofs.Common.{◌≡◌, ℕ, ◌+◌, ◌^◌, ◌<◌, ◌≤◌, Bool, true, false, cond, nat_eq, List, [], Option, Some, None, IsSome, is_some, length, slice_set, refl, sym, ap, subst, ◌∙◌, arith, option_map, option_map_or}
 use Rattle.overlay_pages.proofs.Stores.{AreSettled, free_units, units_in, HasRoom, settled_room, AreLines, has_line, with_line, count_with, Entry, IsStore, capacity_of, Store, frame_line, line_in, scratch_line, KeepsFrames, KeepsSegments, count_fits}
-use Rattle.overlay_pages.proofs.Books.{Ledger, class, units, units_own, class_none, class_one, map_alike, by_option, books_page, books_put_page, changed_there, keeps_still, page_over, page_put_here, spaces_alike, page_in, put_page, put_space, turned_page, LedgerView, PageView, lines_of, overlay_at}
+use Rattle.overlay_pages.proofs.Books.{Ledger, class, units, units_own, class_none, class_one, map_alike, by_option, books_page, books_put_page, changed_there, keeps_still, page_over, page_put_here, spaces_alike, page_in, put_page, put_space, turned_page, LedgerView, PageView, lines_of, overlay_at, page_again}
 use Rattle.overlay_pages.proofs.Views.{lines_same, set_line, page_lines, PageState, State, books, held_page, Fits, discarded, limit_of, units_of, joins, laid, laid_line, IsHeld, IsJoined, MemoryView, line_seen, page_state, segment_of, state_of, view_of, state_books, state_frames, state_page, state_page_some, state_page_there}
 use Rattle.overlay_pages.proofs.Steps.{held_kept, page_kept, seen_bare, seen_inside, seen_outside, state_keeps}
 use Rattle.overlay_pages.proofs.Joining.{Has, order_low, overlay_segment, overlay_set, page_with, sets_are}
@@ -8,26 +8,26 @@ use Rattle.overlay_pages.proofs.Sizes.{can_grow, next_place, next_size}
 
 -- An overlay grows.
 
--- A page that is turned, as a page that is put.
-pub turn_is : (turn : PageState → PageState) (st : State) (s p : ℕ) (y : PageState) → page_in st s p ≡ Some y → turned_page turn st s p ≡ put_page st s p (turn y)
-turn_is turn st s p y there = changed_there turn st s p y there
+-- a page that is turned into itself
+pub turned_still : (turn : PageState → PageState) (st : State) (s p : ℕ) (y : PageState) → page_in st s p ≡ Some y → turn y ≡ y → st ≡ turned_page turn st s p
+turned_still turn st s p y there same = sym (changed_there turn st s p y there ∙ ap (put_page st s p) same ∙ page_again st s p y there)
 
 pub turned_twice : (f g : PageState → PageState) (st : State) (s p : ℕ) (y : PageState) → page_in st s p ≡ Some y → turned_page f (turned_page g st s p) s p ≡ put_page st s p (f (g y))
 turned_twice f g st s p y there =
-    ap (λ t. turned_page f t s p) (turn_is g st s p y there) ∙ turn_is f (put_page st s p (g y)) s p (g y) (page_put_here st s p (g y) s p refl refl) ∙ page_over st s p (g y) (f (g y))
+    ap (λ t. turned_page f t s p) (changed_there g st s p y there) ∙ changed_there f (put_page st s p (g y)) s p (g y) (page_put_here st s p (g y) s p refl refl) ∙ page_over st s p (g y) (f (g y))
 
 -- What that makes of the units.
 pub turned_units : (turn : PageState → PageState) (st : State) (s p : ℕ) (y : PageState) → page_in st s p ≡ Some y → (turn y).entry.frame ≡ y.entry.frame
     → units_of (turned_page turn st s p) + class (length y.own) ≡ units_of st + class (length (turn y).own)
 turned_units turn st s p y there same =
-    ap (λ (l : Ledger). units l + class (length y.own)) (ap books (turn_is turn st s p y there) ∙ books_put_page held_page st s p (turn y))
+    ap (λ (l : Ledger). units l + class (length y.own)) (ap books (changed_there turn st s p y there) ∙ books_put_page held_page st s p (turn y))
     ∙ units_own (books st) s p (held_page st.zero_frame y) (held_page st.zero_frame (turn y))
     (books_page held_page st s p ∙ ap (option_map (held_page st.zero_frame)) there)
     (ap (Rattle.space_ledger.specs.View.origin_of st.zero_frame) same)
 
 pub turned_limit : (turn : PageState → PageState) (st : State) (s p : ℕ) (y : PageState) → page_in st s p ≡ Some y → limit_of (turned_page turn st s p) ≡ limit_of st
 unfolding put_page put_space
-turned_limit turn st s p y there = ap limit_of (turn_is turn st s p y there)
+turned_limit turn st s p y there = ap limit_of (changed_there turn st s p y there)
 
 -- how many units are free
 pub free_is : (v : MemoryView) → IsJoined v → free_units v.store.blocks + units_of (state_of v) ≡ limit_of (state_of v)
@@ -78,9 +78,9 @@ pub begun_first : (b c : MemoryView) (s p line : ℕ) (bytes : List ℕ) → IsS
 begun_first b c s p line bytes there bare low is =
     let has = page_with b.table s p there None bare in
     let y_there = state_page_there b s p has.x has.there in
-    is ∙ turn_is (laid b.store [] line bytes) (state_of b) s p (page_state b.store has.x) y_there
+    is ∙ changed_there (laid b.store [] line bytes) (state_of b) s p (page_state b.store has.x) y_there
     ∙ ap (put_page (state_of b) s p) (laid_first b.store has.x line bytes has.is low)
-    ∙ sym (turn_is (joins line bytes) (state_of b) s p (page_state b.store has.x) y_there)
+    ∙ sym (changed_there (joins line bytes) (state_of b) s p (page_state b.store has.x) y_there)
 
 -- A store that keeps all that pages need.
 pub all_kept : (old new : Store) (table : LedgerView) → IsJoined (view_of old table) → KeepsSegments old new → KeepsFrames old new → new.blocks ≡ old.blocks → new.segments ≡ old.segments → IsStore new
@@ -118,7 +118,7 @@ module _ (a v : MemoryView) (s p : ℕ) (there : IsSome (page_in a.table s p)) (
 
   pub ended_page : page_in (state_of v) s p ≡ Some (discarded (page_state a.store was.x))
   ended_page =
-      ap (λ st. page_in st s p) (same ∙ turn_is discarded (state_of a) s p (page_state a.store was.x) (state_page_there a s p was.x was.there))
+      ap (λ st. page_in st s p) (same ∙ changed_there discarded (state_of a) s p (page_state a.store was.x) (state_page_there a s p was.x was.there))
       ∙ page_put_here (state_of a) s p (discarded (page_state a.store was.x)) s p refl refl
 
   pub ended_there : IsSome (page_in v.table s p)
@@ -174,7 +174,7 @@ module _ (a : MemoryView) (s p : ℕ) (e : Entry) (line : ℕ) (bytes : List ℕ
   unfolding page_state
   grown_state d lifted frames d_state last last_is =
       last_is ∙ ap (λ st. turned_page (laid d.store e.bits line bytes) st s p) d_state ∙ turned_twice (laid d.store e.bits line bytes) discarded (state_of a) s p y y_there
-      ∙ ap (put_page (state_of a) s p) same ∙ sym (turn_is (joins line bytes) (state_of a) s p y y_there)
+      ∙ ap (put_page (state_of a) s p) same ∙ sym (changed_there (joins line bytes) (state_of a) s p y y_there)
     where
       each : (b : Bool) (i : ℕ) → has_line e.bits i ≡ b → i < 64 → cond b (scratch_line d.store i) (frame_line d.store has.x.entry.frame i) ≡ line_seen a.store has.x i
       each true i h below = lifted i below h ∙ sym (seen_inside a.store has.x e i has.is h)

@@ -1,6 +1,6 @@
-use Rattle.overlay_pages.proofs.Common.{option_and_then, ◌≡◌, ℕ, ◌+◌, ◌*◌, ◌^◌, ◌<◌, ◌≤◌, ◌||◌, Bool, true, false, cond, nat_eq, List, [], Option, Some, None, IsSome, length, get_or, slice_index_or, slice_set, refl, true≢false, sym, ap, subst, ◌∙◌, arith, inl, inr, pow_pos, nat_tests, none-some, same_Some, get_or-set_other, get_or-set_same, cases_eq}
+use Rattle.overlay_pages.proofs.Common.{is_some, option_and_then, ◌≡◌, ℕ, ◌+◌, ◌*◌, ◌^◌, ◌<◌, ◌≤◌, ◌||◌, Bool, true, false, cond, nat_eq, List, [], Option, Some, None, IsSome, length, get_or, slice_index_or, slice_set, refl, true≢false, sym, ap, subst, ◌∙◌, arith, inl, inr, pow_pos, nat_tests, none-some, same_Some, get_or-set_other, get_or-set_same, cases_eq}
 use Rattle.overlay_pages.proofs.Stores.{AreSettled, CanSettle, free_units, units_in, Block, AreLines, has_line, with_line, count_with, has_with, overlay_page, Entry, Segment, IsStore, capacity_of, Store, IsSegment, frame_line, line_in, lines_at, lines_with, scratch_line, segment_at, Begins, Ends, HasLinesNow, Inserts, KeepsFrame, KeepsFrames, KeepsOtherSegments, KeepsScratch, KeepsSegments, Lays, block_of, inside_of, lines_there, order_of, refilled, stays_twice}
-use Rattle.overlay_pages.proofs.Books.{are, class, overlaid_pages, overlaid_few, class_none, changed_there, page_again, page_in, put_page, turned_page, LedgerView, PageView, ledger_of, lines_of, overlay_at, with_overlay}
+use Rattle.overlay_pages.proofs.Books.{by_option, are, class, overlaid_pages, overlaid_few, class_none, changed_there, page_again, page_in, put_page, turned_page, LedgerView, PageView, ledger_of, lines_of, overlay_at, with_overlay}
 use Rattle.overlay_pages.proofs.Views.{page_lines, lines_same, set_line, state_page_there, discarded, joins, laid, laid_line, IsHeld, IsJoined, MemoryView, line_seen, page_state, segment_of, state_of, view_of}
 use Rattle.overlay_pages.proofs.Sizes.{still_fits}
 use Rattle.overlay_pages.proofs.Steps.{overlay_lines, overlay_there, seen_bare, seen_inside, seen_outside}
@@ -15,11 +15,9 @@ pub record Has (v : LedgerView) (s p : ℕ) (o : Option Entry) : Type 0 where
   pub is : x.overlay ≡ o
 
 pub page_with : (v : LedgerView) (s p : ℕ) → IsSome (page_in v s p) → (o : Option Entry) → overlay_at v s p ≡ o → Has v s p o
-page_with v s p some o over = at (page_in v s p) refl some
-  where
-    at : (f : Option PageView) → page_in v s p ≡ f → IsSome f → Has v s p o
-    at None e none = cc
-    at (Some x) e found = record { x = x; there = e; is = sym (ap (λ (f : Option PageView). option_and_then (λ (y : PageView). y.overlay) f) e) ∙ over }
+page_with v s p some o over = by_option (page_in v s p)
+    (λ none. absurd (true≢false (sym some ∙ ap is_some none)))
+    (λ x e. record { x = x; there = e; is = sym (ap (λ (f : Option PageView). option_and_then (λ (y : PageView). y.overlay) f) e) ∙ over })
 
 -- The segments after one of them changed.
 

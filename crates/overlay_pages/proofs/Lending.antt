@@ -1,10 +1,9 @@
 use Rattle.overlay_pages.proofs.Common.{◌≡◌, ℕ, ◌+◌, ◌*◌, ◌^◌, ◌<◌, ◌≤◌, ◌&&◌, Bool, true, false, cond, not, List, Option, Some, slice_set, refl, sym, ap, subst, ◌∙◌, arith, same_Some, option_map, option_map_or}
 use Rattle.overlay_pages.proofs.Stores.{units_in, Block, has_line, Entry, line_of, Store, IsFrame, IsSegment, frame_line, frame_place, line_in, lines_at, place_of, with_frame_line, with_segment_line, KeepsFrames, Alters, frame_inside, frames_stay, inside_of, lies_at, line_alters, line_set_store, others_stay, set_beside, set_here}
-use Rattle.overlay_pages.proofs.Books.{is_alone, page_in, put_page, space_in, PageView, ledger_of, lines_of}
+use Rattle.overlay_pages.proofs.Books.{is_alone, page_in, put_page, space_in, PageView, ledger_of, lines_of, changed_there}
 use Rattle.overlay_pages.proofs.Views.{line_in_page, page_lines, line_at, lines_same, PageState, is_writable, with_written, writes_frame, written, with_line_at_place, IsInFrame, IsInSegment, IsHeld, IsJoined, MemoryView, line_seen, page_state, place_at, place_in_page, segment_of, state_of, view_of, state_page_there, PutsLine}
 use Rattle.overlay_pages.proofs.Steps.{Rewrites, alone_other, by_spot, overlay_lines, overlay_there, place_inside, place_outside, rewritten, seen_inside, seen_outside, set_lines}
 use Rattle.overlay_pages.proofs.Filling.{line_put}
-use Rattle.overlay_pages.proofs.Growing.{turn_is}
 use Rattle.overlay_pages.proofs.Tables.{frame_state}
 
 -- Where a line of a page stands, and what it is.
@@ -78,7 +77,7 @@ line_written v new s p line bytes x is there low so =
     (λ lacks. seen_outside new x i lacks ∙ so.frame i below away ∙ sym (seen_outside v.store x i lacks)) in
     let lines = set_lines (line_seen v.store x) (line_seen new x) line bytes low so.here elsewhere in
     let same : page_state new x ≡ written line bytes (page_state v.store x) = λ i. record { entry = x.entry; own = lines_of x.overlay; lines = lines i; base = so.base i } in
-    (all.0, all.1 ∙ ap (put_page (state_of v) s p) same ∙ sym (turn_is (written line bytes) (state_of v) s p (page_state v.store x) (state_page_there v s p x there)))
+    (all.0, all.1 ∙ ap (put_page (state_of v) s p) same ∙ sym (changed_there (written line bytes) (state_of v) s p (page_state v.store x) (state_page_there v s p x there)))
 
 -- in a segment
 pub segment_written : (v : MemoryView) (s p line : ℕ) (block : Block) (bytes : List ℕ) → IsJoined v → IsInSegment v.table s p line block → line < 64

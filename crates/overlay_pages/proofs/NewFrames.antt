@@ -1,10 +1,11 @@
-use Rattle.overlay_pages.proofs.Common.{◌≡◌, ℕ, ◌+◌, ◌<◌, Bool, true, false, cond, nat_eq, List, [], Option, Some, None, IfSome, length, refl, true≢false, sym, ap, subst, ◌∙◌, arith, same_Some, nat_tests, option_and_then, option_map, FRAME_UNITS}
+use Rattle.overlay_pages.proofs.Common.{◌≡◌, ℕ, ◌+◌, ◌<◌, Bool, true, false, cond, nat_eq, List, [], Option, Some, None, IfSome, length, refl, true≢false, sym, ap, subst, ◌∙◌, arith, same_Some, nat_tests, option_map, FRAME_UNITS}
 use Rattle.overlay_pages.proofs.Stores.{AreSettled, free_units, units_in, Entry, IsStore, Store, IsFrame, frame_line, KeepsFrame, KeepsFrames, KeepsSegments, frame_inside}
-use Rattle.overlay_pages.proofs.Books.{Holding, Ledger, has_origin, holding_at, is_alone, is_unused, with_page, without_page, class, units, class_none, frame_for, units_changed, arent, holder, not_true, unused_from, unused_parts, unused_without, map_from, books_page, books_put_page, changed_there, page_set_beside, set_some, there_space, page_in, put_page, put_space, set_page, LedgerView, PageView, holding_of, ledger_of, lines_of, overlay_at, with_frame}
+use Rattle.overlay_pages.proofs.Books.{Holding, Ledger, has_origin, holding_at, is_alone, is_unused, with_page, without_page, class, units, class_none, frame_for, units_changed, arent, holder, not_true, unused_from, unused_parts, unused_without, map_from, books_page, books_put_page, changed_there, set_some, there_space, page_in, put_page, put_space, set_page, LedgerView, PageView, holding_of, ledger_of, lines_of, overlay_at, with_frame}
 use Rattle.overlay_pages.proofs.Views.{page_lines, lines_same, PageState, State, books, IsNewFrame, IsPlaced, moved_to, FillsFrame, KeepsOtherOverlays, IsJoined, MemoryView, page_state, state_of, view_of, state_books, state_frames, state_page_there, state_zero}
 use Rattle.space_ledger.specs.View as view
 use Rattle.overlay_pages.proofs.Steps.{segments_bare, stepped}
 use Rattle.overlay_pages.proofs.Filling.{segments_twice}
+use Rattle.overlay_pages.proofs.Overlaying.{overlay_beside}
 
 -- A frame that wasn't taken is named by no page.
 
@@ -128,6 +129,4 @@ module _ (a : MemoryView) (taken filled : Store) (table : LedgerView) (s p : ℕ
 pub others_framed : (v table : LedgerView) (s p frame : ℕ) (x : PageView) → page_in v s p ≡ Some x → table ≡ with_frame v s p frame → KeepsOtherOverlays s p v table
 unfolding with_frame
 others_framed v table s p frame x there is q r d =
-    let turn : PageView → PageView = λ y. record { entry = record { perms = y.entry.perms; frame = frame }; overlay = y.overlay } in
-    let changed = is ∙ changed_there turn v s p x there ∙ sym (set_some v s p (turn x)) in
-    ap (λ (t : LedgerView). overlay_at t q r) changed ∙ ap (option_and_then (λ (y : PageView). y.overlay)) (page_set_beside v s p (Some (turn x)) q r d)
+    ap (λ (t : LedgerView). overlay_at t q r) is ∙ overlay_beside (λ y. record { entry = record { perms = y.entry.perms; frame = frame }; overlay = y.overlay }) v s p x there q r d

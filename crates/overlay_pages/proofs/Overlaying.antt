@@ -71,9 +71,6 @@ overlays {P = P} old new s p x o is so turn same = (
     all = stepped old new s p (Some x) (Some y) is step
 
 -- The overlay of another page stays.
-pub overlay_beside : (v : LedgerView) (s p : ℕ) (o : Option Entry) (x : PageView) → page_in v s p ≡ Some x → (q r : ℕ) → (q ≡ s → r ≡ p → ⊥) → overlay_at (with_overlay v s p o) q r ≡ overlay_at v q r
-unfolding with_overlay
-overlay_beside v s p o x there q r d =
-    let y : PageView = record { entry = x.entry; overlay = o } in
-    let changed = changed_there (λ (z : PageView). record { entry = z.entry; overlay = o }) v s p x there ∙ sym (set_some v s p y) in
-    ap (λ (t : LedgerView). overlay_at t q r) changed ∙ ap (option_and_then (λ (z : PageView). z.overlay)) (page_set_beside v s p (Some y) q r d)
+pub overlay_beside : (turn : PageView → PageView) (v : LedgerView) (s p : ℕ) (x : PageView) → page_in v s p ≡ Some x → (q r : ℕ) → (q ≡ s → r ≡ p → ⊥) → overlay_at (turned_page turn v s p) q r ≡ overlay_at v q r
+overlay_beside turn v s p x there q r d =
+    ap (λ (t : LedgerView). overlay_at t q r) (changed_there turn v s p x there ∙ sym (set_some v s p (turn x))) ∙ ap (option_and_then (λ (z : PageView). z.overlay)) (page_set_beside v s p (Some (turn x)) q r d)

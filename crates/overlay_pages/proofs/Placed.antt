@@ -1,10 +1,9 @@
 use Rattle.overlay_pages.proofs.Common.{◌≡◌, ℕ, zero, suc, ◌+◌, ◌*◌, ◌<◌, ◌||◌, Bool, true, false, cond, nat_eq, IsSome, List, [], Option, Some, None, is_some, replicate, slice_index_or, refl, true≢false, option_map, nat_cmp, sym, ap, subst, ◌∙◌, arith, inl, nat_tests, get_or-replicate, FinMap, empty, get, get-empty, FRAME_UNITS, PAGE_LINES}
 use Rattle.overlay_pages.proofs.Stores.{AreSettled, free_at, free_frames, free_units, units_in, HasRoom, line_of, zero_lines, Segment, IsStore, Store, IsFrame, frame_line, segment_at, IsEmptyStore, frame_inside}
-use Rattle.overlay_pages.proofs.Books.{PageEntry, Ledger, all_holdings, has_origin, holding_at, is_alone, is_unused, without_page, units, units_of, class_none, no_holdings, alone_is, frame_for, no_units, units_new, origin_with, without_absent, books_empty, books_page, books_put_page, books_spaces, cut_over, page_absent, page_over, cut_page, holds_space, page_in, put_page, put_pages, turned_page, mapped, mapped_none, LedgerView, PageView, SpaceView, holding_of, ledger_of, overlay_at, with_zero_pages}
+use Rattle.overlay_pages.proofs.Books.{PageEntry, Ledger, all_holdings, has_origin, holding_at, is_alone, is_unused, without_page, units, units_of, class_none, no_holdings, alone_is, frame_for, no_units, units_new, origin_with, without_absent, books_empty, books_page, books_put_page, books_spaces, cut_over, page_absent, page_over, cut_page, holds_space, page_in, put_page, put_pages, turned_page, mapped, mapped_none, LedgerView, PageView, SpaceView, holding_of, ledger_of, overlay_at, with_zero_pages, changed_there}
 use Rattle.overlay_pages.proofs.Views.{bytes_of_line, zero_line, zero_page, PageState, State, books, held_page, IsNewFrame, IsPlaced, whole_page, with_zeros, IsEmptyState, IsJoined, MemoryView, page_state, state_of, view_of, state_page_there}
 use Rattle.space_ledger.specs.View as view
 use Rattle.overlay_pages.proofs.NewFrames.{new_still}
-use Rattle.overlay_pages.proofs.Growing.{turn_is}
 use Rattle.overlay_pages.proofs.Joining.{page_with}
 
 -- A page that was dropped and goes.
@@ -13,7 +12,7 @@ pub cut_turned : (turn : PageState → PageState) (v : MemoryView) (s p : ℕ) �
 cut_turned turn v s p there =
     let found = page_with v.table s p there (overlay_at v.table s p) refl in
     let y = page_state v.store found.x in
-    ap (λ st. cut_page st s p) (turn_is turn (state_of v) s p y (state_page_there v s p found.x found.there)) ∙ cut_over (state_of v) s p (turn y)
+    ap (λ st. cut_page st s p) (changed_there turn (state_of v) s p y (state_page_there v s p found.x found.there)) ∙ cut_over (state_of v) s p (turn y)
 
 -- A page that was mapped and gets a frame.
 

@@ -1,4 +1,4 @@
-use Rattle.overlay_pages.proofs.Common.{◌≡◌, ℕ, ◌^◌, ◌<◌, ◌≤◌, ◌&&◌, not, Bool, true, false, cond, nat_eq, List, Option, Some, None, IsSome, length, refl, sym, ap, subst, ◌∙◌, arith, none-some, same_Some, option_map, option_map_or, get, remove, PAGE_END}
+use Rattle.overlay_pages.proofs.Common.{◌≡◌, ℕ, ◌^◌, ◌<◌, ◌≤◌, ◌&&◌, not, Bool, true, false, cond, nat_eq, List, Option, Some, None, IsSome, length, refl, sym, ap, subst, ◌∙◌, arith, none-some, same_Some, option_map, option_map_or, get, remove}
 use Rattle.overlay_pages.proofs.Stores.{HasRoom, Block, has_line, overlay_page, Entry, Store, IsFrame, frame_line, Lifts, capacity_of, count_fits}
 use Rattle.overlay_pages.proofs.Books.{Pages, PageEntry, has_origin, is_unused, class, frame_for, map_from, books_page, page_put_here, put_shared_as, there_space, holds_space, page_in, put_awaiting, put_page, put_shared, space_in, LedgerView, PageView, frame_at, frame_awaiting, holding_of, ledger_of, lines_of, overlay_at, with_page_shared}
 use Rattle.overlay_pages.proofs.Views.{line_in_page, page_lines, line_at, lines_same, PageState, State, HasShareRoom, shared_page, state_awaiting_put, IsHeld, IsJoined, MemoryView, line_seen, page_state, state_of, view_of, state_awaiting, state_page_there}
@@ -8,7 +8,7 @@ use Rattle.overlay_pages.specs.Changes as changes
 use Rattle.overlay_pages.proofs.Steps.{seen_bare, seen_inside, seen_outside}
 use Rattle.overlay_pages.proofs.Coming.{HasPlaceFor, came}
 use Rattle.overlay_pages.proofs.Overlaying.{segments_some}
-use Rattle.overlay_pages.proofs.Joining.{Has, order_low, overlay_segment, overlay_set, page_with, IsLaid}
+use Rattle.overlay_pages.proofs.Joining.{Has, overlay_order, overlay_segment, overlay_set, page_with, IsLaid}
 use Rattle.overlay_pages.proofs.Growing.{free_is, has_room}
 use Rattle.overlay_pages.proofs.Tables.{awaiting_joined}
 
@@ -132,9 +132,6 @@ module _ (a : MemoryView) (from p : ℕ) (e : Entry) (is : IsJoined a) (there : 
   first_held : IsHeld a.store from p first.x
   first_held = is.held from p first.x first.there
 
-  pub share_order : e.block.order ≤ 4
-  share_order = order_low a.store from p first.x e is.store first_held first.is
-
   pub share_size : 2 ^ e.block.order ≡ class (length e.bits)
   share_size = first_held.size e first.is
 
@@ -148,10 +145,7 @@ module _ (a : MemoryView) (from p : ℕ) (e : Entry) (is : IsJoined a) (there : 
   unfolding page_state
   share_room room =
       let enough = room (page_state a.store first.x) (state_page_there a from p first.x first.there) in
-      has_room a is e.block.order share_order (omega (arith, free_is a is, enough, share_size, ap (λ (o : Option Entry). class (length (lines_of o))) first.is))
-
-  pub share_low : p < PAGE_END
-  share_low = first_held.low
+      has_room a is e.block.order (overlay_order a.store a.table from p e is there over) (omega (arith, free_is a is, enough, share_size, ap (λ (o : Option Entry). class (length (lines_of o))) first.is))
 
 -- The page with its overlay, once it is shared.
 module _ (a : MemoryView) (lifted new : Store) (from to p : ℕ) (e : Entry) (block : Block) (is : IsJoined a) (m_is : IsJoined (view_of lifted a.table)) (same : state_of (view_of lifted a.table) ≡ state_of a)

@@ -341,10 +341,11 @@ module _ (was new : Store) (old now : LedgerView) (ms : List Move) (joined : IsJ
 
 -- The same after an overlay of one page ended, for all others; and where nothing moved.
 pub few_beside : (old mid now : LedgerView) (s p : ℕ) (x : PageView) → page_in old s p ≡ Some x → mid ≡ with_overlay old s p None → MovesFew mid now → MovesFewBeside s p old now
+unfolding with_overlay
 few_beside old mid now s p x there is few = record {
   moves = few.moves;
   ascend = few.ascend;
-  stay = λ q r e d over out. few.stay q r e (ap (λ (t : LedgerView). overlay_at t q r) is ∙ overlay_beside old s p None x there q r d ∙ over) out;
+  stay = λ q r e d over out. few.stay q r e (ap (λ (t : LedgerView). overlay_at t q r) is ∙ overlay_beside (λ (y : PageView). record { entry = y.entry; overlay = None }) old s p x there q r d ∙ over) out;
 }
 
 pub few_none : (s p : ℕ) (v : LedgerView) → MovesFewBeside s p v v

@@ -46,8 +46,6 @@ set_lines old new line bytes low here others = lines_same new (λ i. cond (nat_e
     at i below (inl e) = ap new e ∙ here ∙ sym (ap (λ b. cond b bytes (old i)) (are line i (sym e)))
     at i below (inr d) = others i below d ∙ sym (ap (λ b. cond b bytes (old i)) (arent line i (λ e. d (sym e))))
 
--- What a change of one page keeps of all others.
-
 -- What a store keeps of a page.
 
 -- the segment of an overlay of a page is a segment with its lines

@@ -1,6 +1,6 @@
 use Rattle.overlay_pages.proofs.Common.{◌≡◌, ℕ, zero, suc, ◌+◌, ◌≤◌, ◌<◌, true, cond, [], None, refl, sym, ap, subst, ◌∙◌, arith, nat_tests, PAGE_END}
 use Rattle.overlay_pages.proofs.Stores.{Store, IsFrame, frame_line}
-use Rattle.overlay_pages.proofs.Books.{is_within, PageEntry, is_unused, frame_for, are, keeps_page_put, page_put_beside, holds_space, page_in, put_page, put_pages, put_space, LedgerView, PageView, ledger_of, origin_of, with_zero_pages}
+use Rattle.overlay_pages.proofs.Books.{is_within, PageEntry, is_unused, frame_for, are, keeps_page_put, page_put_beside, holds_space, page_in, put_page, put_pages, LedgerView, PageView, ledger_of, origin_of, with_zero_pages}
 use Rattle.overlay_pages.proofs.Views.{zero_line, zero_page, lines_same, whole_page, with_zeros, IsJoined, page_state, state_of, view_of}
 use Rattle.overlay_pages.proofs.Coming.{came, place_for_bare}
 
@@ -26,13 +26,6 @@ zero_joined st v s p entry is there low absent same =
     let one = came (view_of st v) st s p x is there low absent (subst (IsFrame st) (sym same) is.zero) (zero_known v entry.frame same) (place_for_bare (view_of st v) s p is) in
     (one.0, one.1 ∙ ap (put_page (state_of (view_of st v)) s p) (zero_is st v entry is same))
 
-there_next : (v : LedgerView) (s p : ℕ) (x : PageView) → holds_space v s ≡ true → holds_space (put_page v s p x) s ≡ true
-there_next v s p x there = (keeps_page_put v s p x there).there s ∙ there
-
-zero_next : (v : LedgerView) (s p : ℕ) (x : PageView) → (put_page v s p x).zero_frame ≡ v.zero_frame
-unfolding put_page put_space
-zero_next v s p x = refl
-
 -- all of them
 pub zeros_joined : (n from : ℕ) (st : Store) (v : LedgerView) (s : ℕ) (entry : PageEntry) → IsJoined (view_of st v) → holds_space v s ≡ true → from + n ≤ PAGE_END
     → ((page : ℕ) → from ≤ page → page < from + n → page_in v s page ≡ None) → entry.frame ≡ v.zero_frame
@@ -42,9 +35,10 @@ zeros_joined zero from st v s entry is there low absent same = (is, refl)
 zeros_joined (suc n) from st v s entry is there low absent same =
     let one = zero_joined st v s from entry is there (omega (arith, low)) (absent from (omega arith) (omega arith)) same in
     let next = put_page v s from (record { entry = entry; overlay = None }) in
-    let rest = zeros_joined n (from + 1) st next s entry one.0 (there_next v s from (record { entry = entry; overlay = None }) there) (omega (arith, low))
+    let keeps = keeps_page_put v s from (record { entry = entry; overlay = None }) there in
+    let rest = zeros_joined n (from + 1) st next s entry one.0 (keeps.there s ∙ there) (omega (arith, low))
     (λ page above below. page_put_beside v s from (record { entry = entry; overlay = None }) s page (λ _ pp. absurd (omega (arith, above, pp))) ∙ absent page (omega (arith, above)) (omega (arith, below)))
-    (same ∙ sym (zero_next v s from (record { entry = entry; overlay = None }))) in
+    (same ∙ sym keeps.zero_frame) in
     (rest.0, rest.1 ∙ ap (λ t. put_pages t s (from + 1) n (whole_page entry zero_page)) one.1)
 
 pub is_inside : (from n page : ℕ) → from ≤ page → page < from + n → is_within from n page ≡ true
