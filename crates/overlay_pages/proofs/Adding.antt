@@ -1,22 +1,14 @@
-use Rattle.overlay_pages.proofs.Common.{◌≡◌, ℕ, ◌+◌, ◌<◌, ◌≤◌, true, false, IfSome, IsSome, IsTrue, List, Option, None, is_some, refl, option_and_then, sym, ap, subst, ◌∙◌, arith, nat_tests, empty, FRAME_UNITS, PAGE_END}
-use Rattle.overlay_pages.proofs.Stores.{free_units}
+use Rattle.overlay_pages.proofs.Common.{◌≡◌, ℕ, ◌+◌, ◌<◌, true, false, IfSome, IsSome, IsTrue, List, Option, None, is_some, refl, option_and_then, sym, ap, subst, ◌∙◌, arith, nat_tests, empty, FRAME_UNITS, PAGE_END}
 use Rattle.overlay_pages.proofs.Books.{is_within, PageEntry, Ledger, is_alone, keeps_page_put, page_put_here, holds_space, page_in, put_page, put_space, space_in, LedgerView, PageView, ledger_of, overlay_at, with_zero_pages}
-use Rattle.overlay_pages.proofs.Views.{zero_page, State, IsPlaced, limit_of, moved_to, units_of, whole_page, IsJoined, MemoryView, state_of, view_of, state_awaiting, state_books, state_holds, state_zero, PageState}
-use Rattle.overlay_pages.proofs.Growing.{free_is}
+use Rattle.overlay_pages.proofs.Views.{zero_page, State, IsPlaced, moved_to, units_of, whole_page, IsJoined, MemoryView, state_of, view_of, state_awaiting, state_books, state_holds, state_zero, PageState}
 use Rattle.overlay_pages.proofs.Tables.{none_back}
 use Rattle.overlay_pages.proofs.Zeros.{zeros_joined}
 use Rattle.overlay_pages.proofs.Placed.{one_zero, one_zero_state, placed_before, placed_units, zero_shared}
 
 -- A page is added: mapped first, and then placed.
 
-same_page : (page q : ℕ) → IsTrue (is_within page 1 q) → q ≡ page
-same_page page q inside = grind (arith, nat_tests, inside)
-
 pub only_one : (v : LedgerView) (s page q : ℕ) → IsTrue (is_within page 1 q) → page_in v s page ≡ None → page_in v s q ≡ None
-only_one v s page q inside absent = ap (page_in v s) (same_page page q inside) ∙ absent
-
-pub added_room : (v : MemoryView) → IsJoined v → units_of (state_of v) + 16 ≤ limit_of (state_of v) → 16 ≤ free_units v.store.blocks
-added_room v is fits = omega (arith, free_is v is, fits)
+only_one v s page q inside absent = let same : q ≡ page = grind (arith, nat_tests, inside) in ap (page_in v s) same ∙ absent
 
 -- the page was mapped, and is ready to be placed
 pub record IsReady (v : MemoryView) (table : LedgerView) (s p : ℕ) (entry : PageEntry) : Type 0 where

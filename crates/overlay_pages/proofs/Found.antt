@@ -1,6 +1,6 @@
-use Rattle.overlay_pages.proofs.Common.{◌≡◌, ℕ, ◌<◌, Bool, true, false, ◌||◌, ◌&&◌, not, List, Option, Some, None, refl, option_map, sym, ap, subst, ◌∙◌, arith, option_and_then, PAGE_LINES}
+use Rattle.overlay_pages.proofs.Common.{◌≡◌, ℕ, ◌<◌, Bool, true, false, ◌||◌, ◌&&◌, not, List, Option, Some, refl, option_map, sym, ap, subst, ◌∙◌, arith, option_and_then, PAGE_LINES}
 use Rattle.overlay_pages.proofs.Stores.{has_line, Entry, frame_inside, Block}
-use Rattle.overlay_pages.proofs.Books.{PageEntry, is_alone, map_from, page_in, space_in, PageView, frame_at, ledger_of, lines_of, overlay_at}
+use Rattle.overlay_pages.proofs.Books.{by_option, by_test, PageEntry, is_alone, map_from, page_in, space_in, PageView, frame_at, ledger_of, lines_of, overlay_at}
 use Rattle.overlay_pages.proofs.Views.{FoundLine, FoundPage, Spot, Frame, Segment, is_writable, IsFound, IsFoundAt, IsFoundPage, IsFoundPageAt, IsSpot, found_at, PageState, IsJoined, MemoryView, page_state, state_of, state_page_there}
 use Rattle.overlay_pages.proofs.Lending.{writable_outside, writable_segment}
 
@@ -23,19 +23,16 @@ spot_at v now s p line found spot same it at =
 module _ (v : MemoryView) (found : FoundPage) (is : IsFoundPage v.table found) where
   -- one of its own, and another one
   pub own_spot : (line : ℕ) → has_line found.own line ≡ true → IsSpot v.table found.space found.page line (Segment found.block)
-  own_spot line has = by_overlay is.x.overlay refl
-    where
-      by_overlay : (o : Option Entry) → is.x.overlay ≡ o → IsSpot v.table found.space found.page line (Segment found.block)
-      by_overlay None none =
-          let no : true ≡ false = sym has ∙ ap (λ l. has_line l line) (sym is.own) ∙ ap (λ (o : Option Entry). has_line (lines_of o) line) none in cc
-      by_overlay (Some overlay) some = record {
+  own_spot line has = by_option is.x.overlay
+      (λ none. let no : true ≡ false = sym has ∙ ap (λ l. has_line l line) (sym is.own) ∙ ap (λ (o : Option Entry). has_line (lines_of o) line) none in cc)
+      (λ overlay some. record {
         x = is.x;
         overlay = overlay;
         there = is.there;
         is = some;
         block_is = is.block overlay some;
         has = ap (λ (o : Option Entry). has_line (lines_of o) line) (sym some) ∙ ap (λ l. has_line l line) is.own ∙ has;
-      }
+      })
 
   pub frame_spot : (line : ℕ) → has_line found.own line ≡ false → IsSpot v.table found.space found.page line (Frame found.frame)
   frame_spot line lacks = record { x = is.x; there = is.there; frame_is = is.frame; lacks = ap (λ l. has_line l line) is.own ∙ lacks }
@@ -56,11 +53,9 @@ module _ (v : MemoryView) (found : FoundPage) (is : IsFoundPage v.table found) w
 
   -- whether it can be written where it stands
   pub writable_found : (line : ℕ) → (has_line found.own line || found.in_frame) ≡ is_writable (state_of v) found.space found.page line
-  writable_found line = by_own (has_line found.own line) refl
-    where
-      by_own : (b : Bool) → has_line found.own line ≡ b → (b || found.in_frame) ≡ is_writable (state_of v) found.space found.page line
-      by_own true has = sym (writable_segment v found.space found.page line found.block (own_spot line has))
-      by_own false lacks = is.in_frame ∙ sym (writable_outside v found.space found.page line found.frame (frame_spot line lacks))
+  writable_found line = by_test (has_line found.own line)
+      (λ has. ap (λ b. b || found.in_frame) has ∙ sym (writable_segment v found.space found.page line found.block (own_spot line has)))
+      (λ lacks. ap (λ b. b || found.in_frame) lacks ∙ is.in_frame ∙ sym (writable_outside v found.space found.page line found.frame (frame_spot line lacks)))
 
 -- A page that was looked up.
 

@@ -170,24 +170,10 @@ frame_written v s p line frame bytes is so low free = line_written v new s p lin
 
 -- The loan, as the owner sees it.
 
-pub lent_segment : (v now : MemoryView) (s p line : ℕ) (block : Block) → IsJoined v → IsInSegment v.table s p line block → v ≡ now → (bytes : List ℕ)
-    → view_of (with_segment_line v.store block line bytes) v.table ≡ with_line_at_place now (place_at now s p line) bytes
-lent_segment v now s p line block is so same bytes =
-    ap (λ at. with_line_at_place v at bytes) (sym (segment_place v s p line block is so)) ∙ ap (λ (m : MemoryView). with_line_at_place m (place_at m s p line) bytes) same
+pub lent : (v now : MemoryView) (s p line at : ℕ) → place_at v s p line ≡ at → v ≡ now → (bytes : List ℕ) → with_line_at_place v at bytes ≡ with_line_at_place now (place_at now s p line) bytes
+lent v now s p line at place same bytes =
+    ap (λ at. with_line_at_place v at bytes) (sym place) ∙ ap (λ (m : MemoryView). with_line_at_place m (place_at m s p line) bytes) same
 
-pub lent_frame : (v now : MemoryView) (s p line frame : ℕ) → IsJoined v → IsInFrame v.table s p line frame → v ≡ now → (bytes : List ℕ)
-    → view_of (with_frame_line v.store frame line bytes) v.table ≡ with_line_at_place now (place_at now s p line) bytes
-lent_frame v now s p line frame is so same bytes =
-    ap (λ at. with_line_at_place v at bytes) (sym (outside_place v s p line frame is so)) ∙ ap (λ (m : MemoryView). with_line_at_place m (place_at m s p line) bytes) same
-
-pub left_segment : (v now : MemoryView) (s p line : ℕ) (block : Block) → IsJoined v → IsInSegment v.table s p line block → v ≡ now → line < 64 → (bytes : List ℕ)
+pub left : (v now : MemoryView) (s p line at : ℕ) → place_at v s p line ≡ at → v ≡ now → (bytes : List ℕ) → state_of (with_line_at_place v at bytes) ≡ with_written (state_of v) s p line bytes
     → state_of (with_line_at_place now (place_at now s p line) bytes) ≡ with_written (state_of now) s p line bytes
-left_segment v now s p line block is so same low bytes =
-    ap state_of (sym (lent_segment v now s p line block is so same bytes)) ∙ (segment_written v s p line block bytes is so low).1 ∙ ap (λ (m : MemoryView). with_written (state_of m) s p line bytes) same
-
-pub left_frame : (v now : MemoryView) (s p line frame : ℕ) → IsJoined v → IsInFrame v.table s p line frame → v ≡ now → line < 64 → is_writable (state_of now) s p line ≡ true → (bytes : List ℕ)
-    → state_of (with_line_at_place now (place_at now s p line) bytes) ≡ with_written (state_of now) s p line bytes
-left_frame v now s p line frame is so same low free bytes =
-    ap state_of (sym (lent_frame v now s p line frame is so same bytes))
-    ∙ (frame_written v s p line frame bytes is so low (sym (writable_outside v s p line frame so) ∙ ap (λ (m : MemoryView). is_writable (state_of m) s p line) same ∙ free)).1
-    ∙ ap (λ (m : MemoryView). with_written (state_of m) s p line bytes) same
+left v now s p line at place same bytes written = ap state_of (sym (lent v now s p line at place same bytes)) ∙ written ∙ ap (λ (m : MemoryView). with_written (state_of m) s p line bytes) same

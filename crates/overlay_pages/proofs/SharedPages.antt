@@ -1,6 +1,6 @@
 use Rattle.overlay_pages.proofs.Common.{◌≡◌, ℕ, ◌^◌, ◌<◌, ◌≤◌, ◌&&◌, not, Bool, true, false, cond, nat_eq, List, Option, Some, None, IsSome, length, refl, sym, ap, subst, ◌∙◌, arith, none-some, same_Some, option_map, option_map_or, get, remove}
 use Rattle.overlay_pages.proofs.Stores.{HasRoom, Block, has_line, overlay_page, Entry, Store, IsFrame, frame_line, Lifts, capacity_of, count_fits}
-use Rattle.overlay_pages.proofs.Books.{Pages, PageEntry, has_origin, is_unused, class, frame_for, map_from, books_page, page_put_here, put_shared_as, there_space, holds_space, page_in, put_awaiting, put_page, put_shared, space_in, LedgerView, PageView, frame_at, frame_awaiting, holding_of, ledger_of, lines_of, overlay_at, with_page_shared}
+use Rattle.overlay_pages.proofs.Books.{keeps_page_put, Pages, PageEntry, has_origin, is_unused, class, frame_for, map_from, books_page, put_shared_as, holds_space, page_in, put_awaiting, put_page, put_shared, space_in, LedgerView, PageView, frame_at, frame_awaiting, holding_of, ledger_of, lines_of, overlay_at, with_page_shared}
 use Rattle.overlay_pages.proofs.Views.{line_in_page, page_lines, line_at, lines_same, PageState, State, HasShareRoom, shared_page, state_awaiting_put, IsHeld, IsJoined, MemoryView, line_seen, page_state, state_of, view_of, state_awaiting, state_page_there}
 use Rattle.ledger.specs.AloneLaws.{origin_of}
 use Rattle.space_ledger.specs.View as view
@@ -68,15 +68,12 @@ module _ (m : MemoryView) (new : Store) (from to p : ℕ) (was now : Option Entr
   taken : IsFrame m.store w.entry.frame
   taken = subst (IsFrame m.store) (sym w.frame_is) theirs.frame
 
-  there_now : holds_space (put_page m.table to p (record { entry = w.entry; overlay = now })) to ≡ true
-  there_now = there_space (put_page m.table to p (record { entry = w.entry; overlay = now })) to p (record { entry = w.entry; overlay = now }) (page_put_here m.table to p (record { entry = w.entry; overlay = now }) to p refl refl)
-
   pub shares : page_state new page ≡ shared_page w.entry (page_state m.store w.x)
       → IsJoined (view_of new (put_awaiting (put_page m.table to p page) to (remove (space_in m.table to).awaiting p)))
       × (state_of (view_of new (put_awaiting (put_page m.table to p page) to (remove (space_in m.table to).awaiting p))) ≡ changes.with_shared (state_of m) from to p)
   shares same =
       let one = came m new to p page is there theirs.low absent taken no_frame so in (
-        awaiting_joined new (put_page m.table to p page) to (remove (space_in m.table to).awaiting p) one.0 there_now,
+        awaiting_joined new (put_page m.table to p page) to (remove (space_in m.table to).awaiting p) one.0 ((keeps_page_put m.table to p page there).there to ∙ there),
         state_awaiting_put new (put_page m.table to p page) to (remove (space_in m.table to).awaiting p)
             ∙ ap (λ s. put_awaiting s to (remove (space_in m.table to).awaiting p)) (one.1 ∙ ap (put_page (state_of m) to p) same)
             ∙ ap (λ (t : Pages). put_awaiting (put_page (state_of m) to p (shared_page w.entry (page_state m.store w.x))) to (remove t p)) (sym (state_awaiting m to))

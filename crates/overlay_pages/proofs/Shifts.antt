@@ -1,6 +1,6 @@
 use Rattle.overlay_pages.proofs.Common.{◌≡◌, ℕ, ◌+◌, ◌^◌, ◌<◌, ◌≤◌, ◌⊎◌, true, List, [], Option, Some, None, IsSome, is_some, length, refl, sym, ap, subst, ◌∙◌, arith, inl, inr, cases_lt, none-some, same_Some, option_and_then, option_map}
 use Rattle.overlay_pages.proofs.Stores.{AreSettled, CanSettle, Piece, free_units, units_in, Block, Move, Ascend, has_line, overlay_page, page_of, space_of, page_back, space_back, Entry, Segment, IsStore, Store, IsFrame, frame_line, segment_at, AreCarried, IsKept, IsOutside, IsTarget, KeepsFrames, MakesMoves, units_after, lands, made_carries, outside_fixed}
-use Rattle.overlay_pages.proofs.Books.{by_place, class, units, map_twice, map_from, KeepsSpaces, changed_there, keeps_page_set, keeps_still, keeps_twice, page_set_beside, page_set_here, set_some, spaces_alike, there_space, page_in, set_page, LedgerView, PageView, ledger_of, lines_of, overlay_at, with_block, with_overlay}
+use Rattle.overlay_pages.proofs.Books.{by_option, by_place, class, units, map_twice, map_from, KeepsSpaces, changed_there, keeps_page_set, keeps_still, keeps_twice, page_set_beside, page_set_here, set_some, spaces_alike, there_space, page_in, set_page, LedgerView, PageView, ledger_of, lines_of, overlay_at, with_block, with_overlay}
 use Rattle.overlay_pages.proofs.Views.{lines_same, books, MovesFewBeside, FollowsAll, IsAhead, IsBehind, IsOfPage, FollowsAt, Moved, MovesFew, Tells, relocated, went_overlay, went_page, IsHeld, IsJoinedWith, IsOwned, line_seen, page_state, segment_of, state_of, view_of, state_books, state_page}
 use Rattle.overlay_pages.proofs.Overlaying.{overlay_beside}
 use Rattle.overlay_pages.proofs.Steps.{by_spot, names_apart, seen_inside, seen_outside, state_keeps}
@@ -153,11 +153,9 @@ module _ (was new : Store) (old now : LedgerView) (by : ℕ → ℕ) (behind : I
 
 -- One unit is told.
 pub before_relocate : (was new : Store) (old now : LedgerView) (by : ℕ → ℕ) (unit : ℕ) → IsBehind was new old now by → IsOfPage now (segment_at new unit)
-before_relocate was new old now by unit behind = at (segment_at new unit) refl
-  where
-    at : (o : Option Segment) → segment_at new unit ≡ o → IsOfPage now o
-    at None e = tt
-    at (Some segment) e = is_overlaid was new old now by behind unit segment e
+before_relocate was new old now by unit behind = by_option (segment_at new unit)
+    (λ none. subst (IsOfPage now) (sym none) tt)
+    (λ segment e. subst (IsOfPage now) (sym e) (is_overlaid was new old now by behind unit segment e))
 
 pub after_relocate : (was new : Store) (old now later : LedgerView) (by : ℕ → ℕ) (unit : ℕ) → IsBehind was new old now by → later ≡ relocated now unit (segment_at new unit) → Tells was new old now later by unit (unit + 1)
 after_relocate was new old now later by unit behind is_later = subst (λ v. Tells was new old now v by unit (unit + 1)) (sym is_later) (at (segment_at new unit) refl)

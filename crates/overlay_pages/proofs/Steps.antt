@@ -1,19 +1,13 @@
-use Rattle.overlay_pages.proofs.Common.{cases_eq, none-some, same_Some, ◌≡◌, ℕ, ◌+◌, ◌*◌, ◌^◌, ◌<◌, ◌≤◌, ◌⊎◌, Bool, true, false, cond, nat_eq, List, Option, Some, None, length, slice_index_or, slice_set, refl, true≢false, option_and_then, option_map, sym, ap, subst, ◌∙◌, arith, inl, inr, FRAME_UNITS, LAST_SPACE, PAGE_END}
+use Rattle.overlay_pages.proofs.Common.{cases_eq, none-some, same_Some, ◌≡◌, ℕ, ◌+◌, ◌*◌, ◌^◌, ◌<◌, ◌≤◌, ◌⊎◌, true, false, cond, nat_eq, List, Option, Some, None, length, slice_index_or, slice_set, refl, true≢false, option_and_then, option_map, sym, ap, subst, ◌∙◌, arith, inl, inr, FRAME_UNITS, LAST_SPACE, PAGE_END}
 use Rattle.overlay_pages.proofs.Stores.{Block, AreSettled, IsPiece, Piece, free_units, taken_at, units_in, has_line, overlay_page, same_page, same_space, Entry, line_of, Segment, IsStore, Store, IsFrame, IsSegment, frame_line, frame_place, line_in, lines_at, place_of, segment_at, KeepsFrame, KeepsSegment, KeepsSegments, block_of, lines_there}
-use Rattle.overlay_pages.proofs.Books.{alone_apart, are, arent, Holding, is_alone, books_there, by_place, class, units, map_alike, by_option, KeepsSpaces, keeps_page_set, page_again, page_set_beside, page_set_here, set_some, spaces_alike, there_space, holds_space, page_in, put_page, set_page, LedgerView, PageView, holding_of, ledger_of, lines_of, origin_of}
+use Rattle.overlay_pages.proofs.Books.{by_test, alone_apart, are, arent, Holding, is_alone, books_there, by_place, class, units, map_alike, by_option, KeepsSpaces, keeps_page_set, page_again, page_set_beside, page_set_here, set_some, spaces_alike, there_space, holds_space, page_in, put_page, set_page, LedgerView, PageView, holding_of, ledger_of, lines_of, origin_of}
 use Rattle.overlay_pages.proofs.Views.{lines_same, set_line, page_lines, PageState, IsHeld, IsJoined, IsJoinedWith, IsOwned, MemoryView, line_seen, page_state, place_in_page, segment_of, state_of, view_of, state_awaiting, state_frames, state_holds, state_mark, state_page, state_zero}
 
 -- A line of a page: it stands in the segment of the overlay that has it, or in the frame.
 pub by_spot : {P : Type 0} (x : PageView) (i : ℕ) → ((e : Entry) → x.overlay ≡ Some e → has_line e.bits i ≡ true → P) → (has_line (lines_of x.overlay) i ≡ false → P) → P
-by_spot {P = P} x i own other = at x.overlay refl
-  where
-    by : (e : Entry) → x.overlay ≡ Some e → (b : Bool) → has_line e.bits i ≡ b → P
-    by e over true has = own e over has
-    by e over false lacks = other (ap (λ (o : Option Entry). has_line (lines_of o) i) over ∙ lacks)
-
-    at : (o : Option Entry) → x.overlay ≡ o → P
-    at None none = other (ap (λ (o : Option Entry). has_line (lines_of o) i) none)
-    at (Some e) over = by e over (has_line e.bits i) refl
+by_spot x i own other = by_option x.overlay
+    (λ none. other (ap (λ (o : Option Entry). has_line (lines_of o) i) none))
+    (λ e over. by_test (has_line e.bits i) (own e over) (λ lacks. other (ap (λ (o : Option Entry). has_line (lines_of o) i) over ∙ lacks)))
 
 pub place_inside : (store : Store) (x : PageView) (e : Entry) (i : ℕ) → x.overlay ≡ Some e → has_line e.bits i ≡ true → place_in_page store x i ≡ place_of store e.block i
 place_inside store x e i over has =

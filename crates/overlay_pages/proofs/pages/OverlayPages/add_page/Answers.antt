@@ -2,8 +2,8 @@ use Rattle.overlay_pages.proofs.Common.{◌≤◌, ◌+◌, refl, sym, ap, subst
 use Rattle.overlay_pages.proofs.Books.{page_in, units}
 use Rattle.overlay_pages.proofs.Views.{lines_of_bytes, limit_of, units_of, MemoryView, state_of, view_of}
 use Rattle.overlay_pages.proofs.Tables.{none_back}
-use Rattle.overlay_pages.proofs.Growing.{has_room}
-use Rattle.overlay_pages.proofs.Adding.{IsReady, added, added_room, only_one, ready}
+use Rattle.overlay_pages.proofs.Growing.{free_is, has_room}
+use Rattle.overlay_pages.proofs.Adding.{IsReady, added, only_one, ready}
 use Rattle.overlay_pages.proofs.pages.OverlayPages.add_page.Goals as goal
 use Rattle.overlay_pages.proofs.pages.OverlayPages.add_page.Goals.{In-Ok}
 
@@ -25,7 +25,7 @@ place_bytes-requires c =
       bare = m.bare;
       shared = m.shared;
       settled = m.settled;
-      room = has_room v c.self.invariant 4 (omega arith) (added_room v c.self.invariant (subst (λ (m : MemoryView). units_of (state_of m) + 16 ≤ limit_of (state_of m)) (sym c.self.view_is) c.requires.fits));
+      room = has_room v c.self.invariant 4 (omega arith) (let fits = subst (λ (m : MemoryView). units_of (state_of m) + 16 ≤ limit_of (state_of m)) (sym c.self.view_is) c.requires.fits in omega (arith, free_is v c.self.invariant, fits));
     }
 
 pub returns-in-Ok : goal.returns-in-Ok
