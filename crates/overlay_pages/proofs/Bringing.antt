@@ -6,7 +6,7 @@ use Rattle.overlay_bits.specs.Lines as bits
 use Rattle.overlay_pages.proofs.Steps.{seen_outside, set_lines}
 use Rattle.overlay_pages.proofs.Joining.{Has, page_with, sets_are}
 use Rattle.overlay_pages.proofs.Growing.{turned_limit, turned_twice, turned_units}
-use Rattle.overlay_pages.proofs.Growing.{turned_still}
+use Rattle.overlay_pages.proofs.Joining.{turned_still}
 
 -- Lines are brought from the frame.
 

@@ -6,7 +6,7 @@ use Rattle.overlay_pages.proofs.Steps.{alone_other, rewritten, seen_bare, seen_i
 use Rattle.overlay_pages.proofs.Joining.{Has, page_with}
 use Rattle.overlay_pages.proofs.Growing.{turned_units}
 use Rattle.overlay_pages.proofs.NewFrames.{new_still}
-use Rattle.overlay_pages.proofs.Growing.{turned_still}
+use Rattle.overlay_pages.proofs.Joining.{turned_still}
 
 -- A frame that is a page's alone is filled.
 

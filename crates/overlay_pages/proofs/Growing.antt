@@ -1,16 +1,12 @@
 use Rattle.overlay_pages.proofs.Common.{◌≡◌, ℕ, ◌+◌, ◌^◌, ◌<◌, ◌≤◌, Bool, true, false, cond, nat_eq, List, [], Option, Some, None, IsSome, is_some, length, slice_set, refl, sym, ap, subst, ◌∙◌, arith, option_map, option_map_or}
 use Rattle.overlay_pages.proofs.Stores.{AreSettled, free_units, units_in, HasRoom, settled_room, AreLines, has_line, with_line, count_with, Entry, IsStore, capacity_of, Store, frame_line, line_in, scratch_line, KeepsFrames, KeepsSegments, count_fits}
-use Rattle.overlay_pages.proofs.Books.{Ledger, class, units, units_own, class_none, class_one, map_alike, by_option, books_page, books_put_page, changed_there, keeps_still, page_over, page_put_here, spaces_alike, page_in, put_page, put_space, turned_page, LedgerView, PageView, lines_of, overlay_at, page_again}
+use Rattle.overlay_pages.proofs.Books.{Ledger, class, units, units_own, class_none, class_one, map_alike, by_option, books_page, books_put_page, changed_there, keeps_still, page_over, page_put_here, spaces_alike, page_in, put_page, put_space, turned_page, LedgerView, PageView, lines_of, overlay_at}
 use Rattle.overlay_pages.proofs.Views.{lines_same, set_line, page_lines, PageState, State, books, held_page, Fits, discarded, limit_of, units_of, joins, laid, laid_line, IsHeld, IsJoined, MemoryView, line_seen, page_state, segment_of, state_of, view_of, state_books, state_frames, state_page, state_page_some, state_page_there}
 use Rattle.overlay_pages.proofs.Steps.{held_kept, page_kept, seen_bare, seen_inside, seen_outside, state_keeps}
 use Rattle.overlay_pages.proofs.Joining.{Has, order_low, overlay_segment, overlay_set, page_with, sets_are}
 use Rattle.overlay_pages.proofs.Sizes.{can_grow, next_place, next_size}
 
 -- An overlay grows.
-
--- a page that is turned into itself
-pub turned_still : (turn : PageState → PageState) (st : State) (s p : ℕ) (y : PageState) → page_in st s p ≡ Some y → turn y ≡ y → st ≡ turned_page turn st s p
-turned_still turn st s p y there same = sym (changed_there turn st s p y there ∙ ap (put_page st s p) same ∙ page_again st s p y there)
 
 pub turned_twice : (f g : PageState → PageState) (st : State) (s p : ℕ) (y : PageState) → page_in st s p ≡ Some y → turned_page f (turned_page g st s p) s p ≡ put_page st s p (f (g y))
 turned_twice f g st s p y there =

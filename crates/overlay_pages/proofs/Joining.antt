@@ -1,7 +1,7 @@
 use Rattle.overlay_pages.proofs.Common.{is_some, option_and_then, ◌≡◌, ℕ, ◌+◌, ◌*◌, ◌^◌, ◌<◌, ◌≤◌, ◌||◌, Bool, true, false, cond, nat_eq, List, [], Option, Some, None, IsSome, length, get_or, slice_index_or, slice_set, refl, true≢false, sym, ap, subst, ◌∙◌, arith, inl, inr, pow_pos, nat_tests, none-some, same_Some, get_or-set_other, get_or-set_same, cases_eq}
 use Rattle.overlay_pages.proofs.Stores.{AreSettled, CanSettle, free_units, units_in, Block, AreLines, has_line, with_line, count_with, has_with, overlay_page, Entry, Segment, IsStore, capacity_of, Store, IsSegment, frame_line, line_in, lines_at, lines_with, scratch_line, segment_at, Begins, Ends, HasLinesNow, Inserts, KeepsFrame, KeepsFrames, KeepsOtherSegments, KeepsScratch, KeepsSegments, Lays, block_of, inside_of, lines_there, order_of, refilled, stays_twice}
 use Rattle.overlay_pages.proofs.Books.{by_option, are, class, overlaid_pages, overlaid_few, class_none, changed_there, page_again, page_in, put_page, turned_page, LedgerView, PageView, ledger_of, lines_of, overlay_at, with_overlay}
-use Rattle.overlay_pages.proofs.Views.{page_lines, lines_same, set_line, state_page_there, discarded, joins, laid, laid_line, IsHeld, IsJoined, MemoryView, line_seen, page_state, segment_of, state_of, view_of}
+use Rattle.overlay_pages.proofs.Views.{page_lines, lines_same, set_line, state_page_there, discarded, joins, laid, laid_line, IsHeld, IsJoined, MemoryView, line_seen, page_state, segment_of, state_of, view_of, PageState, State}
 use Rattle.overlay_pages.proofs.Sizes.{still_fits}
 use Rattle.overlay_pages.proofs.Steps.{overlay_lines, overlay_there, seen_bare, seen_inside, seen_outside}
 use Rattle.overlay_pages.proofs.Overlaying.{Overlays, overlays, segments_some}
@@ -122,12 +122,12 @@ joined_page old new e line bytes x over low fills frame =
     pulled true i has = sym (seen_inside old x e i over has)
     pulled false i lacks = sym (seen_outside old x i (ap (λ (o : Option Entry). has_line (lines_of o) i) over ∙ lacks))
 
--- A page that is put where it is changes nothing.
+-- a page that is turned into itself
+pub turned_still : (turn : PageState → PageState) (st : State) (s p : ℕ) (y : PageState) → page_in st s p ≡ Some y → turn y ≡ y → st ≡ turned_page turn st s p
+turned_still turn st s p y there same = sym (changed_there turn st s p y there ∙ ap (put_page st s p) same ∙ page_again st s p y there)
+
 pub bare_state : (v : MemoryView) (s p : ℕ) → Has v.table s p None → state_of v ≡ turned_page discarded (state_of v) s p
-bare_state v s p has =
-    sym (changed_there discarded (state_of v) s p (page_state v.store has.x) (state_page_there v s p has.x has.there)
-    ∙ ap (put_page (state_of v) s p) (bare_discarded v.store has.x has.is)
-    ∙ page_again (state_of v) s p (page_state v.store has.x) (state_page_there v s p has.x has.there))
+bare_state v s p has = turned_still discarded (state_of v) s p (page_state v.store has.x) (state_page_there v s p has.x has.there) (bare_discarded v.store has.x has.is)
 
 -- A line comes into an overlay.
 

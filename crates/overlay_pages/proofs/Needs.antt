@@ -2,7 +2,7 @@ use Rattle.overlay_pages.specs.ViewLaws.{state_awaiting}
 use Rattle.overlay_pages.proofs.Growing.{grows_enough, grows_fits, grows_low, grows_size}
 use Rattle.overlay_pages.proofs.Sizes.{first_size}
 use Rattle.overlay_pages.proofs.Joining.{page_with, overlay_order, overlay_room, overlay_segment, overlay_set}
-use Rattle.overlay_pages.proofs.Shifts.{few_framed}
+use Rattle.overlay_pages.proofs.Shifts.{few_framed, few_none}
 use Rattle.overlay_pages.proofs.NewFrames.{frame_inside_of}
 use Rattle.overlay_pages.proofs.Common.{ℕ, IsSome, ◌≤◌, ◌<◌, refl, LAST_SPACE, PAGE_END}
 use Rattle.overlay_pages.proofs.Stores.{Store}
@@ -18,4 +18,4 @@ pub low_is : (store : Store) (table : LedgerView) (s p : ℕ) → IsJoined (view
 low_is store table s p is there = let f = page_with table s p there (overlay_at table s p) refl in (is.held s p f.x f.there).low
 
 -- What steps of calls need.
-pub ruleset needs = (few_framed, first_size, frame_inside_of, grows_enough, grows_fits, grows_low, grows_size, low_is, number_is, overlay_order, overlay_room, overlay_segment, overlay_set, state_awaiting)
+pub ruleset needs = (few_framed, few_none, first_size, frame_inside_of, grows_enough, grows_fits, grows_low, grows_size, low_is, number_is, overlay_order, overlay_room, overlay_segment, overlay_set, state_awaiting)

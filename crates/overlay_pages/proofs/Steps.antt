@@ -34,11 +34,11 @@ seen_bare store x bare = ap (λ (o : Option Entry). page_lines (line_seen store 
 -- the lines of a page of which one is another one
 pub set_lines : (old new : ℕ → List ℕ) (line : ℕ) (bytes : List ℕ) → line < 64 → new line ≡ bytes → ((i : ℕ) → i < 64 → (i ≡ line → ⊥) → new i ≡ old i)
     → page_lines new ≡ slice_set (page_lines old) line bytes
-set_lines old new line bytes low here others = lines_same new (λ i. cond (nat_eq line i) bytes (old i)) (λ i below. at i below (cases_eq i line)) ∙ sym (set_line old line bytes low)
-  where
-    at : (i : ℕ) → i < 64 → (i ≡ line) ⊎ (i ≡ line → ⊥) → new i ≡ cond (nat_eq line i) bytes (old i)
-    at i below (inl e) = ap new e ∙ here ∙ sym (ap (λ b. cond b bytes (old i)) (are line i (sym e)))
-    at i below (inr d) = others i below d ∙ sym (ap (λ b. cond b bytes (old i)) (arent line i (λ e. d (sym e))))
+set_lines old new line bytes low here others =
+    lines_same new (λ i. cond (nat_eq line i) bytes (old i)) (λ i below. elim (cases_eq i line) [
+      | inl e ↦ ap new e ∙ here ∙ sym (ap (λ b. cond b bytes (old i)) (are line i (sym e)))
+      | inr d ↦ others i below d ∙ sym (ap (λ b. cond b bytes (old i)) (arent line i (λ e. d (sym e))))
+    ]) ∙ sym (set_line old line bytes low)
 
 -- What a store keeps of a page.
 

@@ -5,7 +5,7 @@ use Rattle.overlay_pages.proofs.Views.{IsJoinedWith, state_of, view_of, discarde
 use Rattle.overlay_pages.proofs.Overlaying.{overlays}
 use Rattle.overlay_pages.proofs.Joining.{Has, bare_state, dropped, dropped_page, frames_twice, page_with}
 use Rattle.overlay_pages.proofs.Growing.{ended_bare, ended_there}
-use Rattle.overlay_pages.proofs.Shifts.{few_beside, few_none}
+use Rattle.overlay_pages.proofs.Shifts.{few_beside}
 use Rattle.overlay_pages.proofs.overlays.drop_overlay.Goals as goal
 use Rattle.overlay_pages.proofs.overlays.drop_overlay.Goals.{After-set_overlay}
 
@@ -43,9 +43,6 @@ returns-in-Some c =
       frames = frames_twice c.args.store.now c.end_segment.new.self c.settle.new.store c.end_segment.ensures.frames m.frames;
       few = few_beside c.args.ledger.now c.set_overlay.new.self c.settle.new.ledger c.args.space c.args.page is.x is.there c.set_overlay.ensures few;
     }
-
-pub returns-in_default-clause-few : goal.returns-in_default-clause-few
-returns-in_default-clause-few c = few_none c.args.space c.args.page c.args.ledger.now
 
 pub returns-in_default-clause-state : goal.returns-in_default-clause-state
 returns-in_default-clause-state c =
