@@ -10,7 +10,7 @@ pub use Rattle.ledger.specs.StoreLaws.{longer, store_joins, store_nothing, units
 pub use Rattle.ledger.specs.TallyLaws.{no_holdings, overlaid_few, same_units}
 pub use Rattle.ledger.specs.UnitLaws.{alone_is, no_units, units_at, units_changed, units_new, units_own}
 unfoldable pub use Rattle.ledger.specs.UnitLaws.{frame_for}
-pub use Rattle.ledger.specs.Units.{overlaid_pages, own_lines, units_of}
+pub use Rattle.ledger.specs.Units.{overlaid_pages, units_of}
 unfoldable pub use Rattle.ledger.specs.Units.{class, units}
 pub use Rattle.number_maps.specs.Keys.{alike, by_key, removed_other, removed_same}
 pub use Rattle.number_maps.specs.Values.{len_low}
@@ -19,7 +19,7 @@ pub use Rattle.page_table.specs.Run.{entry_at}
 pub use Rattle.page_table.specs.Table.{Pages, is_within}
 pub use Rattle.page_table.specs.declared.entry.PageEntry.{PageEntry}
 pub use Rattle.page_table.specs.declared.run.PageRun.{PageRun}
-pub use Rattle.space_ledger.specs.Calls.{AreBareBelow, AreSharedBare, GivesNothingUp, GivesUpAtLast, IsBareRun, IsNextOwn, NamesOnce, given_up}
+pub use Rattle.space_ledger.specs.Calls.{AreBareBelow, AreSharedBare, GivesNothingUp, GivesUpAtLast, IsBareRun, NamesOnce, given_up}
 pub use Rattle.space_ledger.specs.Calls.AreSharedBare.{Still, Then}
 pub use Rattle.space_ledger.specs.Joined.{put_same}
 pub use Rattle.space_ledger.specs.Space.{IsLeast}
@@ -27,7 +27,7 @@ pub use Rattle.space_ledger.specs.View.{LedgerView, PageView, SpaceView, frame_a
 unfoldable pub use Rattle.space_ledger.specs.View.{with_block, with_frame, with_overlay, with_page_shared, with_zero_pages}
 pub use Rattle.space_ledger.specs.ViewLaws.{entry_frame, given_as}
 pub use Rattle.space_maps.specs.Books.{books_added, books_awaiting, books_cut_page, books_empty, books_lost, books_marked, books_page, books_put_page, books_spaces, books_there}
-pub use Rattle.space_maps.specs.Laws.{KeepsSpaces, after_cut, are_cut, changed_there, cut_one, cut_over, keeps_page_cut, keeps_page_put, keeps_page_set, keeps_still, keeps_twice, page_absent, page_added, page_again, page_awaited, page_lost, page_marked, page_put_beside, page_put_here, page_set_beside, page_set_here, page_shared_beside, put_shared_as, put_there, set_some, space_put, spaces_alike, there_cut, there_put, there_space, page_over}
+pub use Rattle.space_maps.specs.Laws.{KeepsSpaces, after_cut, are_cut, changed_there, cut_over, keeps_page_cut, keeps_page_put, keeps_page_set, keeps_still, keeps_twice, page_absent, page_added, page_again, page_awaited, page_lost, page_marked, page_put_beside, page_put_here, page_set_beside, page_set_here, page_shared_beside, put_shared_as, put_there, set_some, space_put, spaces_alike, there_cut, there_put, there_space, page_over}
 pub use Rattle.space_maps.specs.Mapped.{mapped_none}
 unfoldable pub use Rattle.space_maps.specs.Mapped.{mapped}
 pub use Rattle.space_maps.specs.Options.{by_option, by_test, map_alike, map_from, map_twice}

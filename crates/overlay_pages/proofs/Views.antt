@@ -1,4 +1,4 @@
-pub use Rattle.overlay_pages.specs.Calls.{AreMapped, AreShared, AreZeros, AwaitBare, AwaitsLike, IsEmptyState, IsNextPage, MovesFewBeside, RisesBy, with_line_at_place, zero_holding}
+pub use Rattle.overlay_pages.specs.Calls.{AreShared, AreZeros, AwaitBare, AwaitsLike, IsEmptyState, IsNextPage, MovesFewBeside, RisesBy, with_line_at_place, zero_holding}
 unfoldable pub use Rattle.overlay_pages.specs.Calls.{entries_in}
 pub use Rattle.overlay_pages.specs.Changes.{Fits, HasCopyRoom, HasShareRoom, IsNewFrame, IsPlaced, brought, committed, copied, discarded, is_writable, limit_of, moved_to, shared_page, units_of, whole_page, writes_frame, written}
 unfoldable pub use Rattle.overlay_pages.specs.Changes.{with_brought, with_shared, with_written, with_zeros}
@@ -13,7 +13,7 @@ unfoldable pub use Rattle.overlay_pages.specs.Steps.{went_overlay, went_page}
 pub use Rattle.overlay_pages.specs.TableLaws.{state_added, state_awaiting_put, state_cut_space, state_mark_put}
 pub use Rattle.overlay_pages.specs.View.{HasOwnPlace, IsHeld, IsJoined, IsJoinedWith, IsOwned, MemoryView, ShareFrameLine, line_seen, place_at, place_in_page, segment_of, view_of}
 unfoldable pub use Rattle.overlay_pages.specs.View.{page_state, state_of}
-pub use Rattle.overlay_pages.specs.ViewLaws.{state_awaiting, state_books, state_count, state_frames, state_holds, state_mark, state_page, state_page_some, state_page_there, state_pages, state_zero}
+pub use Rattle.overlay_pages.specs.ViewLaws.{state_awaiting, state_books, state_frames, state_holds, state_mark, state_page, state_page_some, state_page_there, state_pages, state_zero}
 pub use Rattle.overlay_pages.specs.declared.spots.FoundLine.{FoundLine}
 pub use Rattle.overlay_pages.specs.declared.spots.FoundPage.{FoundPage}
 pub use Rattle.overlay_pages.specs.declared.spots.Spot.{Spot}
