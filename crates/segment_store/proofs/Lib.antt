@@ -1,6 +1,7 @@
 pub mod Numbers
 pub mod Pointing
 pub mod Making
+pub mod Behind
 pub mod Beginning
 pub mod Filling
 pub mod Copies

@@ -1,5 +1,5 @@
 use Rattle.std.specs.Prelude.{◌≡◌, ℕ, ◌+◌, ◌*◌, ◌^◌, ◌<◌, ◌≤◌, ◌⊎◌, true, List, [], ◌++◌, length}
-use Rattle.sizes.specs.declared.TheConstants.{UNIT_LINES}
+use Rattle.sizes.specs.declared.TheConstants.{PAGE_LINES, UNIT_LINES}
 use Rattle.line_store.specs.Lines.{line_of}
 use Rattle.unit_map.specs.declared.block.Block.{Block}
 use Rattle.overlay_bits.specs.Lines.{has_line, rank_of}
@@ -8,10 +8,10 @@ use Rattle.segment_store.specs.Store.{place_in}
 
 -- Lines of a region, as segments have them.
 
--- a block lies in the region
+-- a block lies before scratch, the last lines
 pub record HasBlock (lines : List (List ℕ)) (block : Block) : Type 0 where
   pub order : block.order ≤ 4
-  pub inside : UNIT_LINES * (block.unit + 2 ^ block.order) ≤ length lines
+  pub inside : UNIT_LINES * (block.unit + 2 ^ block.order) + PAGE_LINES ≤ length lines
   pub few : length lines ≤ 2 ^ 23
 
 -- a line of a segment stands inside its block, and not where the pointers are

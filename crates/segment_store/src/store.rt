@@ -16,12 +16,12 @@ ghost use Rattle.segment_store.specs.Store.{segment_at, lines_at, place_of, line
 ghost use Rattle.segment_store.specs.Kept.{IsStore};
 ghost use Rattle.segment_store.specs.Changes.{IsEmptyStore, Begins, Ends, HasLinesNow, Inserts, IsKept, Lays, Lifts, KeepsSegments, KeepsOtherSegments, KeepsFrames, KeepsOtherFrames, KeepsScratch, MakesMove, MakesMoves, SegmentsOutsideStay, WholeSegmentsStay, moved_lines};
 
+use crate::lines::StoreLines;
 use crate::places;
 use crate::segment::Segment;
 use crate::slots::{self, Slots};
 use crate::steps::Steps;
 use arrayvec::ArrayVec;
-use line_store::Region;
 use overlay_address::OverlayPage;
 use overlay_bits::{Bits, compose};
 use std::alloc::{AllocError, Global};
@@ -34,7 +34,7 @@ use unit_map::{Block, UnitMap};
 /// Behind them lies one frame more, scratch.
 #[derive(Drop)]
 pub struct SegmentStore {
-    region: Region,
+    region: StoreLines,
     map: UnitMap,
     slots: Slots,
 }
@@ -60,7 +60,7 @@ impl SegmentStore {
         ensures settled { IfOk result (λ store. AreSettled store.blocks) }
         ensures store { IfOk result IsStore }
     {
-        let region = Region::new(alloc, frames + 1)?;
+        let region = StoreLines::new(alloc, frames)?;
         let map = UnitMap::new(alloc, frames)?;
         let slots = vec![in alloc; None; 16 * frames as usize]?;
         Ok(SegmentStore { region, map, slots })
@@ -192,7 +192,7 @@ impl SegmentStore {
         ensures frames { FRAME_UNITS * result ≡ units_in self.now.blocks }
         ensures store { IsStore self.now }
     {
-        self.region.lines() / 64 - 1
+        self.region.before_scratch() / 64
     }
 
     /// Whether a frame, below 65,536, is taken, so that it can be given. Costs a few steps.
@@ -309,8 +309,7 @@ impl SegmentStore {
         ensures frames { KeepsFrames self.old self.new }
         ensures store { IsStore self.new }
     {
-        let scratch = self.region.lines() - 64;
-        places::lift(&mut self.region, block, bits, scratch);
+        places::lift(&mut self.region, block, bits);
     }
 
     /// Takes these lines from scratch into a segment, which has to be there, without a line, and with a place
@@ -327,8 +326,7 @@ impl SegmentStore {
         ensures scratch { KeepsScratch self.old self.new }
         ensures store { IsStore self.new }
     {
-        let scratch = self.region.lines() - 64;
-        places::lay(&mut self.region, block, bits, scratch);
+        places::lay(&mut self.region, block, bits);
         slots::set_lines(&mut self.slots, block.unit, bits);
     }
 
@@ -340,7 +338,7 @@ impl SegmentStore {
         ensures store { IsStore self.now }
     {
         let below = self.region.page(64 * frame);
-        let above = self.region.page(self.region.lines() - 64);
+        let above = self.region.scratch();
         compose(below, above, bits, out);
     }
 
