@@ -9,5 +9,7 @@ pub mod Lifting
 pub mod Laying
 pub mod Scratch
 pub mod Carrying
+pub mod Copying
+pub mod Composing
 pub mod Known
 pub mod Settling

@@ -1,4 +1,4 @@
-use Rattle.std.specs.Prelude.{◌≡◌, ℕ, ◌+◌, ◌*◌, ◌^◌, ◌<◌, ◌≤◌, ◌⊎◌, true, List, [], ◌++◌, length}
+use Rattle.std.specs.Prelude.{◌≡◌, ℕ, ◌+◌, ◌*◌, ◌^◌, ◌<◌, ◌≤◌, ◌⊎◌, true, cond, List, [], ◌++◌, length}
 use Rattle.sizes.specs.declared.TheConstants.{PAGE_LINES, UNIT_LINES}
 use Rattle.line_store.specs.Lines.{line_of}
 use Rattle.unit_map.specs.declared.block.Block.{Block}
@@ -69,3 +69,14 @@ pub record HasLaid (scratch : ℕ) (block : Block) (bits front rest : List ℕ) 
 pub record HasLifted (scratch : ℕ) (block : Block) (bits front rest : List ℕ) (old new : List (List ℕ)) : Type 0 where
   pub whole : bits ≡ front ++ rest
   pub lifted : LiftsLines scratch block front old new
+
+-- some of the 64 lines from one on are those of the same places behind `scratch`, and no other line changed
+pub record LaysOver (scratch first : ℕ) (bits : List ℕ) (old new : List (List ℕ)) : Type 0 where
+  pub size : length new ≡ length old
+  pub lines : (i : ℕ) → i < PAGE_LINES → line_of new (first + i) ≡ cond (has_line bits i) (line_of old (scratch + i)) (line_of old (first + i))
+  pub outside : (at : ℕ) → (at < first) ⊎ (first + PAGE_LINES ≤ at) → line_of new at ≡ line_of old at
+
+-- the first of them are
+pub record HasLaidOver (scratch first : ℕ) (bits front rest : List ℕ) (old new : List (List ℕ)) : Type 0 where
+  pub whole : bits ≡ front ++ rest
+  pub laid : LaysOver scratch first front old new

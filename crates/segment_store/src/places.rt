@@ -1,10 +1,10 @@
 //! Where the lines of segments stand in the region, and how they get their places.
-ghost use Rattle.std.specs.Prelude.{◌≡◌, ◌-◌, ◌<◌, ◌≤◌, length};
+ghost use Rattle.std.specs.Prelude.{◌≡◌, ◌+◌, ◌-◌, ◌*◌, ◌^◌, ◌<◌, ◌≤◌, length};
 ghost use Rattle.sizes.specs.declared.TheConstants.{PAGE_LINES};
 ghost use Rattle.overlay_bits.specs.Lines.{AreLines};
 ghost use Rattle.segment_store.specs.Pointers.{capacity_of};
 ghost use Rattle.segment_store.specs.Store.{place_in};
-ghost use Rattle.segment_store.specs.Places.{BeginsLines, HasBlock, HasFreeSlot, HasNoLine, LieIn, Reserves, LiftsLines, LaysLines};
+ghost use Rattle.segment_store.specs.Places.{BeginsLines, HasBlock, HasFreeSlot, HasNoLine, LieIn, Reserves, LiftsLines, LaysLines, LaysOver};
 
 use crate::lines::StoreLines;
 use crate::pointers;
@@ -78,5 +78,16 @@ pub(crate) fn lay(region: &mut StoreLines, block: Block, bits: Bits)
     'laying: for line in bits.iter() {
         let at = reserve(region, block, line);
         region.lay_line(line, at);
+    }
+}
+
+/// Copies lines of scratch over those of the same numbers in a page, which lies before scratch.
+pub(crate) fn lay_over(region: &mut StoreLines, first: u32, bits: Bits)
+    requires inside { first + 2 * PAGE_LINES ≤ length region.old }
+    requires few { length region.old ≤ 2 ^ 23 }
+    ensures { LaysOver (length region.old - PAGE_LINES) first bits region.old region.new }
+{
+    'laying: for line in bits.iter() {
+        region.lay_line(line, first + u32::from(line));
     }
 }
