@@ -1,5 +1,5 @@
-use Rattle.std.proofs.Common.{◌≡◌, ℕ, suc, ◌+◌, ◌-◌, ◌<◌, ◌≤◌, ◌⊎◌, inl, inr, List, [], ◌∷◌, ◌++◌, length, get_or, set, take, drop, append_assoc, sym, ap, ◌∙◌, arith}
-use Rattle.std.proofs.lemmas.List.{drop_more, get_or-append_right, get_or-drop, get_or-take, get_or_append_left, length-append, length-take-le, length-drop, set_split}
+use Rattle.std.proofs.Common.{◌≡◌, ℕ, ◌+◌, ◌-◌, ◌<◌, ◌≤◌, ◌⊎◌, inl, inr, List, [], ◌++◌, length, get_or, take, drop, ap, ◌∙◌, arith}
+use Rattle.std.proofs.lemmas.List.{get_or-append_right, get_or-drop, get_or-take, get_or_append_left, length-append, length-take-le, length-drop}
 use Rattle.line_store.specs.Lines.{line_of, with_copied}
 
 -- Lines that were copied to another range.
@@ -39,11 +39,3 @@ copied_out lines from to n at source target out = by_side out
         get_or-append_right (take to lines ++ take n (drop from lines)) (drop (to + n) lines) (to + n) at [] both h
         ∙ get_or-drop (to + n) lines (at - (to + n)) []
         ∙ (let e : to + n + (at - (to + n)) ≡ at = omega (arith, h) in ap (λ j. get_or lines j []) e)
-
--- one line that was copied is put
-pub copied_one : (lines : List (List ℕ)) (from to : ℕ) → from < length lines → to < length lines → with_copied lines from to 1 ≡ set lines to (line_of lines from)
-copied_one lines from to source target =
-    ap (λ l. take to lines ++ take 1 l ++ drop (to + 1) lines) (drop_more lines from [] source)
-    ∙ append_assoc (take to lines) (get_or lines from [] ∷ []) (drop (to + 1) lines)
-    ∙ (let e : to + 1 ≡ suc to = omega arith in ap (λ n. take to lines ++ (get_or lines from [] ∷ drop n lines)) e)
-    ∙ sym (set_split lines to (get_or lines from []) target)

@@ -1,10 +1,10 @@
-use Rattle.std.proofs.Common.{◌≡◌, ℕ, ◌<◌, true, length, sym, subst}
+use Rattle.std.proofs.Common.{◌≡◌, ℕ, ◌+◌, ◌<◌, true, length, sym, subst, arith}
 use Rattle.unit_map.specs.declared.block.Block.{Block}
 use Rattle.overlay_bits.specs.Lines.{has_line}
 use Rattle.segment_store.specs.Store.{Store, IsSegment, lines_at, place_of}
 use Rattle.segment_store.specs.Places.{HasBlock}
 use Rattle.segment_store.specs.Kept.{IsStore}
-use Rattle.segment_store.specs.Laws.{block_in, line_below, place_inside}
+use Rattle.segment_store.specs.Laws.{block_in, lies_at, line_below}
 
 -- What is known of a line that a segment has, where the store's fields are open.
 
@@ -13,7 +13,7 @@ pub record IsKnownLine (store : Store) (block : Block) (line : ℕ) : Type 0 whe
   pub has : has_line (lines_at store block.unit) line ≡ true
   pub low : line < 64
   pub within : HasBlock store.lines block
-  pub inside : place_of store block line < length store.lines
+  pub before : place_of store block line + 64 < length store.lines
 
 pub known : (store now : Store) → store ≡ now → IsStore store → (block : Block) → IsSegment now block → (line : ℕ) → has_line (lines_at now block.unit) line ≡ true → IsKnownLine store block line
 known store now same is block found line found_line =
@@ -24,5 +24,5 @@ known store now same is block found line found_line =
       has = has;
       low = line_below store is block there line has;
       within = block_in store is block there;
-      inside = place_inside store is block there line has;
+      before = omega (arith, (lies_at store is block there line has).to, (block_in store is block there).inside);
     }

@@ -1,6 +1,7 @@
 pub mod Numbers
 pub mod Pointing
 pub mod Making
+pub mod Behind
 pub mod Beginning
 pub mod Filling
 pub mod Copies
@@ -8,5 +9,7 @@ pub mod Lifting
 pub mod Laying
 pub mod Scratch
 pub mod Carrying
+pub mod Copying
+pub mod Composing
 pub mod Known
 pub mod Settling

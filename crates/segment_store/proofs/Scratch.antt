@@ -9,19 +9,14 @@ use Rattle.segment_store.specs.Store.{Store, IsSegment, segment_at, with_lines_a
 use Rattle.segment_store.specs.Places.{LaysLines, LiftsLines}
 use Rattle.segment_store.specs.Kept.{IsStore}
 use Rattle.segment_store.specs.Changes.{KeepsFrames, KeepsSegments, Lays, Lifts}
-use Rattle.segment_store.specs.Laws.{Alters, frame_inside, frame_stays, inside_of, next_store, segments_stay, some_none}
+use Rattle.segment_store.specs.Laws.{Alters, frame_inside, frame_stays, next_store, segments_stay, some_none}
 use Rattle.segment_store.proofs.Filling.{HasFilled, filled}
 
 -- Scratch, behind the units.
 
 -- where it begins
-pub scratch_is : (store : Store) → IsStore store → (lines : ℕ) → lines ≡ length store.lines → (lines - 64 ≡ 4 * units_in store.blocks) × (lines - 64 + 64 ≡ length store.lines)
-scratch_is store is lines e = (omega (arith, e, is.lines), omega (arith, e, is.lines))
-
--- a segment lies before it
-pub before_scratch : (store : Store) → IsStore store → (block : Block) → IsSegment store block → (lines : ℕ) → lines ≡ length store.lines → 4 * (block.unit + 2 ^ block.order) ≤ lines - 64
-before_scratch store is block there lines e =
-    omega (arith, inside_of store is block.unit there.segment there.there, ap (λ k. 2 ^ k) there.order, (scratch_is store is lines e).0)
+pub scratch_is : (store : Store) → IsStore store → length store.lines - 64 ≡ 4 * units_in store.blocks
+scratch_is store is = omega (arith, is.lines)
 
 -- a segment was lifted
 pub record HasLiftedWhole (old new : Store) (block : Block) (bits : List ℕ) : Type 0 where
@@ -30,9 +25,9 @@ pub record HasLiftedWhole (old new : Store) (block : Block) (bits : List ℕ) : 
   pub frames : KeepsFrames old new
   pub store : IsStore new
 
-pub lifted_whole : (old new : Store) (block : Block) (bits : List ℕ) (lines : ℕ) → IsStore old → AreLines bits → lines ≡ length old.lines
-    → LiftsLines (lines - 64) block bits old.lines new.lines → new.blocks ≡ old.blocks → new.segments ≡ old.segments → HasLiftedWhole old new block bits
-lifted_whole old new block bits lines is are e lift blocks segments = record {
+pub lifted_whole : (old new : Store) (block : Block) (bits : List ℕ) → IsStore old → AreLines bits
+    → LiftsLines (length old.lines - 64) block bits old.lines new.lines → new.blocks ≡ old.blocks → new.segments ≡ old.segments → HasLiftedWhole old new block bits
+lifted_whole old new block bits is are lift blocks segments = record {
   lifts = record {
     segments = segments;
     blocks = blocks;
@@ -45,13 +40,13 @@ lifted_whole old new block bits lines is are e lift blocks segments = record {
   store = next_store old new (units_in old.blocks) (4 * units_in old.blocks) 64 alters (λ segment here. absurd (some_none segment (sym here ∙ ap (λ l. get_or l (units_in old.blocks) None) segments ∙ none)));
 }
   where
-    place : lines - 64 ≡ 4 * units_in old.blocks
-    place = (scratch_is old is lines e).0
+    place : length old.lines - 64 ≡ 4 * units_in old.blocks
+    place = scratch_is old is
 
     none : segment_at old (units_in old.blocks) ≡ None
     none = get_or_past old.segments (units_in old.blocks) None (omega (arith, is.units))
 
-    off : (at : ℕ) → (at < 4 * units_in old.blocks) ⊎ (4 * units_in old.blocks + 64 ≤ at) → (line : ℕ) → line < 64 → at ≡ lines - 64 + line → ⊥
+    off : (at : ℕ) → (at < 4 * units_in old.blocks) ⊎ (4 * units_in old.blocks + 64 ≤ at) → (line : ℕ) → line < 64 → at ≡ length old.lines - 64 + line → ⊥
     off at (inl h) line low s = omega (arith, h, s, place)
     off at (inr h) line low s = omega (arith, h, s, place, low)
 
@@ -72,11 +67,11 @@ pub record HasLaidWhole (old new : Store) (block : Block) (bits : List ℕ) : Ty
   pub lays : Lays old new block bits
   pub filled : HasFilled old new block bits
 
-pub laid_whole : (old new : Store) (block : Block) (bits : List ℕ) (lines : ℕ) → IsStore old → IsSegment old block → AreLines bits → lines ≡ length old.lines
-    → LaysLines (lines - 64) block bits bits old.lines new.lines → new.blocks ≡ old.blocks → new.segments ≡ with_lines_at old.segments block.unit bits → HasLaidWhole old new block bits
-laid_whole old new block bits lines is there are e lay blocks segments = record {
+pub laid_whole : (old new : Store) (block : Block) (bits : List ℕ) → IsStore old → IsSegment old block → AreLines bits
+    → LaysLines (length old.lines - 64) block bits bits old.lines new.lines → new.blocks ≡ old.blocks → new.segments ≡ with_lines_at old.segments block.unit bits → HasLaidWhole old new block bits
+laid_whole old new block bits is there are lay blocks segments = record {
   lays = record {
-    lines = λ line has. lay.lines line has ∙ ap (λ n. line_of old.lines (n + line)) (scratch_is old is lines e).0;
+    lines = λ line has. lay.lines line has ∙ ap (λ n. line_of old.lines (n + line)) (scratch_is old is);
     slots = lay.slots;
   };
   filled = filled old new block bits is there (record { size = lay.size; outside = λ at out. lay.outside at (by_end at out) }) blocks segments are lay.pointers;

@@ -72,6 +72,15 @@ pub record Begins (old new : Store) (owner : ℕ) (block : Block) : Type 0 where
   pub there : segment_at new block.unit ≡ Some (record { owner = owner; order = block.order; bits = [] })
   pub lines : BeginsLines old.lines new.lines block
 
+-- a segment of another owner began in a block at which none started, with the lines of one as they stand in its block
+pub record Copies (old new : Store) (from : Block) (owner : ℕ) (to : Block) : Type 0 where
+  pub fresh : segment_at old to.unit ≡ None
+  pub segments : new.segments ≡ slice_set old.segments to.unit (Some (record { owner = owner; order = to.order; bits = lines_at old from.unit }))
+  pub there : segment_at new to.unit ≡ Some (record { owner = owner; order = to.order; bits = lines_at old from.unit })
+  pub outside : KeepsLines (UNIT_LINES * to.unit) (UNIT_LINES * 2 ^ to.order) old.lines new.lines
+  pub places : (line : ℕ) → has_line (lines_at old from.unit) line ≡ true → place_of new to line + UNIT_LINES * from.unit ≡ place_of old from line + UNIT_LINES * to.unit
+  pub lines : (line : ℕ) → has_line (lines_at old from.unit) line ≡ true → line_in new to line ≡ line_in old from line
+
 -- a segment ended: its block is free
 pub record Ends (old new : Store) (block : Block) : Type 0 where
   pub segments : new.segments ≡ slice_set old.segments block.unit None
@@ -104,6 +113,16 @@ pub record Lifts (old new : Store) (block : Block) (bits : List ℕ) : Type 0 wh
   pub lifted : (line : ℕ) → has_line bits line ≡ true → scratch_line new line ≡ line_in old block line
   pub size : length new.lines ≡ length old.lines
   pub others : (at : ℕ) → ((line : ℕ) → has_line bits line ≡ true → at ≡ scratch_place old + line → ⊥) → line_of new.lines at ≡ line_of old.lines at
+
+-- the lines of a frame that is taken changed, and nothing else
+pub record FillsFrame (old new : Store) (frame : ℕ) : Type 0 where
+  pub blocks : new.blocks ≡ old.blocks
+  pub same : new.segments ≡ old.segments
+  pub segments : KeepsSegments old new
+  pub frames : KeepsOtherFrames old frame new
+  pub scratch : KeepsScratch old new
+  pub stays : IsFrame new frame
+  pub store : IsStore new
 
 -- Moves.
 

@@ -1,5 +1,5 @@
-use Rattle.std.specs.Prelude.{◌≡◌, ℕ, ◌+◌, ◌*◌, ◌^◌, ◌<◌, ◌≤◌, ◌⊎◌, true, List, [], ◌++◌, length}
-use Rattle.sizes.specs.declared.TheConstants.{UNIT_LINES}
+use Rattle.std.specs.Prelude.{◌≡◌, ℕ, ◌+◌, ◌*◌, ◌^◌, ◌<◌, ◌≤◌, ◌⊎◌, true, cond, List, [], ◌++◌, length}
+use Rattle.sizes.specs.declared.TheConstants.{PAGE_LINES, UNIT_LINES}
 use Rattle.line_store.specs.Lines.{line_of}
 use Rattle.unit_map.specs.declared.block.Block.{Block}
 use Rattle.overlay_bits.specs.Lines.{has_line, rank_of}
@@ -8,10 +8,10 @@ use Rattle.segment_store.specs.Store.{place_in}
 
 -- Lines of a region, as segments have them.
 
--- a block lies in the region
+-- a block lies before scratch, the last lines
 pub record HasBlock (lines : List (List ℕ)) (block : Block) : Type 0 where
   pub order : block.order ≤ 4
-  pub inside : UNIT_LINES * (block.unit + 2 ^ block.order) ≤ length lines
+  pub inside : UNIT_LINES * (block.unit + 2 ^ block.order) + PAGE_LINES ≤ length lines
   pub few : length lines ≤ 2 ^ 23
 
 -- a line of a segment stands inside its block, and not where the pointers are
@@ -69,3 +69,14 @@ pub record HasLaid (scratch : ℕ) (block : Block) (bits front rest : List ℕ) 
 pub record HasLifted (scratch : ℕ) (block : Block) (bits front rest : List ℕ) (old new : List (List ℕ)) : Type 0 where
   pub whole : bits ≡ front ++ rest
   pub lifted : LiftsLines scratch block front old new
+
+-- some of the 64 lines from one on are those of the same places behind `scratch`, and no other line changed
+pub record LaysOver (scratch first : ℕ) (bits : List ℕ) (old new : List (List ℕ)) : Type 0 where
+  pub size : length new ≡ length old
+  pub lines : (i : ℕ) → i < PAGE_LINES → line_of new (first + i) ≡ cond (has_line bits i) (line_of old (scratch + i)) (line_of old (first + i))
+  pub outside : (at : ℕ) → (at < first) ⊎ (first + PAGE_LINES ≤ at) → line_of new at ≡ line_of old at
+
+-- the first of them are
+pub record HasLaidOver (scratch first : ℕ) (bits front rest : List ℕ) (old new : List (List ℕ)) : Type 0 where
+  pub whole : bits ≡ front ++ rest
+  pub laid : LaysOver scratch first front old new

@@ -93,3 +93,8 @@ with_lines_at segments unit lines =
 -- has one more line
 abbrev pub with_one_more : List (Option Segment) → ℕ → ℕ → List (Option Segment)
 with_one_more segments unit line = with_lines_at segments unit (with_line (set_in segments unit) line)
+
+-- the segments, of which that at one unit is at another one too, with another owner
+abbrev pub with_copy_at : List (Option Segment) → ℕ → ℕ → ℕ → List (Option Segment)
+with_copy_at segments from to owner =
+    slice_set segments to (option_map (λ (s : Segment). record { owner = owner; order = s.order; bits = s.bits }) (slice_index_or segments from None))

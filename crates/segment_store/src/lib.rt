@@ -6,6 +6,7 @@
 //! own place, in a smaller one the slot that the line of pointers at its start tells. Behind the units lies
 //! one frame more, scratch, through which segments grow.
 //!
+//! - `lines`: the lines of the units, and those of scratch
 //! - `pointers`: the line of pointers, read and written slot by slot
 //! - `segment`: what the store keeps of a segment beside its lines
 //! - `slots`: the segments by unit
@@ -14,6 +15,7 @@
 //! - `store`: all of it, with the unit map
 #![tactic(auto)]
 
+mod lines;
 mod places;
 mod pointers;
 mod segment;

@@ -1,18 +1,19 @@
 //! Where the lines of segments stand in the region, and how they get their places.
-ghost use Rattle.std.specs.Prelude.{◌≡◌, ◌+◌, ◌*◌, ◌^◌, ◌<◌, ◌≤◌, length};
+ghost use Rattle.std.specs.Prelude.{◌≡◌, ◌+◌, ◌-◌, ◌*◌, ◌^◌, ◌<◌, ◌≤◌, length};
+ghost use Rattle.sizes.specs.declared.TheConstants.{PAGE_LINES};
 ghost use Rattle.overlay_bits.specs.Lines.{AreLines};
 ghost use Rattle.segment_store.specs.Pointers.{capacity_of};
 ghost use Rattle.segment_store.specs.Store.{place_in};
-ghost use Rattle.segment_store.specs.Places.{BeginsLines, HasBlock, HasFreeSlot, HasNoLine, LieIn, Reserves, LiftsLines, LaysLines};
+ghost use Rattle.segment_store.specs.Places.{BeginsLines, HasBlock, HasFreeSlot, HasNoLine, LieIn, Reserves, LiftsLines, LaysLines, LaysOver};
 
+use crate::lines::StoreLines;
 use crate::pointers;
-use line_store::Region;
 use overlay_bits::Bits;
 use unit_map::Block;
 
 /// Where a line of the segment at a block stands.
 #[inline]
-pub(crate) fn place(region: &Region, block: Block, line: u8) -> u32
+pub(crate) fn place(region: &StoreLines, block: Block, line: u8) -> u32
     requires line { line < 64 }
     requires block { HasBlock region.now block }
     ensures { result ≡ place_in region.now block.unit block.order line }
@@ -25,7 +26,7 @@ pub(crate) fn place(region: &Region, block: Block, line: u8) -> u32
 }
 
 /// Begins an empty segment at a block: below order 4 with a line of pointers.
-pub(crate) fn begin(region: &mut Region, block: Block)
+pub(crate) fn begin(region: &mut StoreLines, block: Block)
     requires block { HasBlock region.old block }
     ensures begins { BeginsLines region.old region.new block }
 {
@@ -37,7 +38,7 @@ pub(crate) fn begin(region: &mut Region, block: Block)
 /// Gives an absent line of the segment at a block a place, and answers it. Below order 4 it is the lowest
 /// free slot.
 #[inline]
-pub(crate) fn reserve(region: &mut Region, block: Block, line: u8) -> u32
+pub(crate) fn reserve(region: &mut StoreLines, block: Block, line: u8) -> u32
     requires line { line < 64 }
     requires block { HasBlock region.old block }
     requires free { HasFreeSlot region.old block }
@@ -53,33 +54,40 @@ pub(crate) fn reserve(region: &mut Region, block: Block, line: u8) -> u32
     first + u32::from(slot)
 }
 
-/// Copies the lines of the segment at a block to their own places behind `scratch`.
-pub(crate) fn lift(region: &mut Region, block: Block, bits: Bits, scratch: u32)
+/// Copies the lines of the segment at a block to their own places in scratch.
+pub(crate) fn lift(region: &mut StoreLines, block: Block, bits: Bits)
     requires block { HasBlock region.old block }
-    requires before { 4 * (block.unit + 2 ^ block.order) ≤ scratch }
-    requires scratch { scratch + 64 ≡ length region.old }
     requires lie { LieIn region.old block bits }
     ensures are { AreLines bits }
-    ensures lifts { LiftsLines scratch block bits region.old region.new }
+    ensures lifts { LiftsLines (length region.old - PAGE_LINES) block bits region.old region.new }
 {
     'lifting: for line in bits.iter() {
         let at = place(region, block, line);
-        region.copy_lines(at, scratch + u32::from(line), 1);
+        region.lift_line(at, line);
     }
 }
 
-/// Takes lines from their own places behind `scratch` into the segment at a block, which has none.
-pub(crate) fn lay(region: &mut Region, block: Block, bits: Bits, scratch: u32)
+/// Takes lines from their own places in scratch into the segment at a block, which has none.
+pub(crate) fn lay(region: &mut StoreLines, block: Block, bits: Bits)
     requires block { HasBlock region.old block }
-    requires before { 4 * (block.unit + 2 ^ block.order) ≤ scratch }
-    requires scratch { scratch + 64 ≡ length region.old }
     requires empty { HasNoLine region.old block }
     requires room { length bits ≤ capacity_of block.order }
     ensures are { AreLines bits }
-    ensures lays { LaysLines scratch block bits bits region.old region.new }
+    ensures lays { LaysLines (length region.old - PAGE_LINES) block bits bits region.old region.new }
 {
     'laying: for line in bits.iter() {
         let at = reserve(region, block, line);
-        region.copy_lines(scratch + u32::from(line), at, 1);
+        region.lay_line(line, at);
+    }
+}
+
+/// Copies lines of scratch over those of the same numbers in a page, which lies before scratch.
+pub(crate) fn lay_over(region: &mut StoreLines, first: u32, bits: Bits)
+    requires inside { first + 2 * PAGE_LINES ≤ length region.old }
+    requires few { length region.old ≤ 2 ^ 23 }
+    ensures { LaysOver (length region.old - PAGE_LINES) first bits region.old region.new }
+{
+    'laying: for line in bits.iter() {
+        region.lay_line(line, first + u32::from(line));
     }
 }

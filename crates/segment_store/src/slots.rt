@@ -1,9 +1,10 @@
 //! The segments by unit.
 ghost use Rattle.std.specs.Prelude.{◌≡◌, ◌+◌, ◌^◌, ◌<◌, ◌≤◌, ◌⊎◌, None, length, slice_index_or, slice_set};
-ghost use Rattle.segment_store.specs.Store.{with_lines_at, with_one_more};
+ghost use Rattle.segment_store.specs.Store.{with_copy_at, with_lines_at, with_one_more};
 ghost use Rattle.segment_store.specs.Changes.{MovesSegments};
 
 use crate::segment::Segment;
+use overlay_address::OverlayPage;
 use overlay_bits::Bits;
 
 /// By unit, the segment that starts there.
@@ -59,6 +60,26 @@ pub(crate) fn set_lines(slots: &mut Slots, unit: u32, bits: Bits)
             }),
         ),
         None => {}
+    }
+}
+
+/// Puts the segment at a unit, which has to be there, at another one too, for another owner.
+#[inline]
+pub(crate) fn copy(slots: &mut Slots, from: u32, to: u32, owner: OverlayPage)
+    requires { to < length slots.old.items }
+    ensures { slots.new.items ≡ with_copy_at slots.old.items from to owner }
+{
+    match at(slots, from) {
+        Some(segment) => put(
+            slots,
+            to,
+            Some(Segment {
+                owner,
+                order: segment.order,
+                bits: segment.bits,
+            }),
+        ),
+        None => put(slots, to, None),
     }
 }
 

@@ -1,4 +1,4 @@
-ghost use Rattle.std.specs.Prelude.{◌≡◌, ◌↔◌, ◌+◌, ◌-◌, ◌*◌, ◌^◌, ◌<◌, ◌≤◌, ◌++◌, IfOk, IfSome, IsTrue, None, Some, [], false, true, length, option_map};
+ghost use Rattle.std.specs.Prelude.{◌≡◌, ◌≢◌, ◌↔◌, ◌+◌, ◌-◌, ◌*◌, ◌^◌, ◌<◌, ◌≤◌, ◌++◌, IfOk, IfSome, IsTrue, None, Some, [], ℕ, cond, false, true, length, option_map};
 ghost use Rattle.std.specs.Option.{option_to_list};
 ghost use Rattle.std.specs.Borrow.{Lends, sem, Array, u8 as byte};
 ghost use Rattle.arrayvec.specs.ArrayVec.{array_vec_len};
@@ -12,16 +12,16 @@ ghost use Rattle.overlay_bits.specs.Lines.{has_line};
 ghost use Rattle.overlay_bits.specs.Composed.{composed};
 ghost use Rattle.segment_store.specs.contracts.store.SegmentStore.{the_row};
 ghost use Rattle.segment_store.specs.Pointers.{capacity_of};
-ghost use Rattle.segment_store.specs.Store.{segment_at, lines_at, place_of, line_in, frame_place, frame_line, frame_page, scratch_page, with_frame_line, with_segment_line, lines_with, IsFrame, IsSegment};
+ghost use Rattle.segment_store.specs.Store.{segment_at, lines_at, place_of, line_in, frame_place, frame_line, frame_page, scratch_line, scratch_page, with_frame_line, with_segment_line, lines_with, IsFrame, IsSegment};
 ghost use Rattle.segment_store.specs.Kept.{IsStore};
-ghost use Rattle.segment_store.specs.Changes.{IsEmptyStore, Begins, Ends, HasLinesNow, Inserts, IsKept, Lays, Lifts, KeepsSegments, KeepsOtherSegments, KeepsFrames, KeepsOtherFrames, KeepsScratch, MakesMove, MakesMoves, SegmentsOutsideStay, WholeSegmentsStay, moved_lines};
+ghost use Rattle.segment_store.specs.Changes.{IsEmptyStore, Begins, Copies, Ends, FillsFrame, HasLinesNow, Inserts, IsKept, Lays, Lifts, KeepsSegments, KeepsOtherSegments, KeepsFrames, KeepsOtherFrames, KeepsScratch, MakesMove, MakesMoves, SegmentsOutsideStay, WholeSegmentsStay, moved_lines};
 
+use crate::lines::StoreLines;
 use crate::places;
 use crate::segment::Segment;
 use crate::slots::{self, Slots};
 use crate::steps::Steps;
 use arrayvec::ArrayVec;
-use line_store::Region;
 use overlay_address::OverlayPage;
 use overlay_bits::{Bits, compose};
 use std::alloc::{AllocError, Global};
@@ -34,7 +34,7 @@ use unit_map::{Block, UnitMap};
 /// Behind them lies one frame more, scratch.
 #[derive(Drop)]
 pub struct SegmentStore {
-    region: Region,
+    region: StoreLines,
     map: UnitMap,
     slots: Slots,
 }
@@ -60,7 +60,7 @@ impl SegmentStore {
         ensures settled { IfOk result (λ store. AreSettled store.blocks) }
         ensures store { IfOk result IsStore }
     {
-        let region = Region::new(alloc, frames + 1)?;
+        let region = StoreLines::new(alloc, frames)?;
         let map = UnitMap::new(alloc, frames)?;
         let slots = vec![in alloc; None; 16 * frames as usize]?;
         Ok(SegmentStore { region, map, slots })
@@ -192,7 +192,7 @@ impl SegmentStore {
         ensures frames { FRAME_UNITS * result ≡ units_in self.now.blocks }
         ensures store { IsStore self.now }
     {
-        self.region.lines() / 64 - 1
+        self.region.before_scratch() / 64
     }
 
     /// Whether a frame, below 65,536, is taken, so that it can be given. Costs a few steps.
@@ -263,6 +263,34 @@ impl SegmentStore {
         }
     }
 
+    /// Copies a segment, which has to be there, for another owner into a block of the same order, for which there has to be room, and
+    /// answers its block. Each line stands in it where it stands in the other. No other line changes. Costs what taking a block costs, and
+    /// one copy of the block.
+    pub fn copy_segment(&mut self, from: Block, owner: OverlayPage) -> Block
+        requires there { IsSegment self.old from }
+        requires room { HasRoom self.old.blocks from.order }
+        ensures copies { Copies self.old self.new from owner result }
+        ensures blocks { TakesAsked self.old.blocks from.order self.new.blocks result }
+        ensures only { OnlyTakes self.old.blocks result.unit result.order self.new.blocks }
+        ensures segments { KeepsSegments self.old self.new }
+        ensures frames { KeepsFrames self.old self.new }
+        ensures scratch { KeepsScratch self.old self.new }
+        ensures free { LosesUnits self.old.blocks self.new.blocks result }
+        ensures units { units_in self.new.blocks ≡ units_in self.old.blocks }
+        ensures settled { AreSettled self.old.blocks → AreSettled self.new.blocks }
+        ensures store { IsStore self.new }
+    {
+        match self.map.take(from.order) {
+            Some(to) => {
+                self.region
+                    .copy_lines(4 * from.unit, 4 * to.unit, 4u32 << from.order);
+                slots::copy(&mut self.slots, from.unit, to.unit, owner);
+                to
+            }
+            None => unreachable!(),
+        }
+    }
+
     /// Ends a segment, which has to be there: its block is free. Costs what giving a block costs.
     pub fn end_segment(&mut self, block: Block)
         requires { IsSegment self.old block }
@@ -309,8 +337,7 @@ impl SegmentStore {
         ensures frames { KeepsFrames self.old self.new }
         ensures store { IsStore self.new }
     {
-        let scratch = self.region.lines() - 64;
-        places::lift(&mut self.region, block, bits, scratch);
+        places::lift(&mut self.region, block, bits);
     }
 
     /// Takes these lines from scratch into a segment, which has to be there, without a line, and with a place
@@ -327,8 +354,7 @@ impl SegmentStore {
         ensures scratch { KeepsScratch self.old self.new }
         ensures store { IsStore self.new }
     {
-        let scratch = self.region.lines() - 64;
-        places::lay(&mut self.region, block, bits, scratch);
+        places::lay(&mut self.region, block, bits);
         slots::set_lines(&mut self.slots, block.unit, bits);
     }
 
@@ -340,8 +366,23 @@ impl SegmentStore {
         ensures store { IsStore self.now }
     {
         let below = self.region.page(64 * frame);
-        let above = self.region.page(self.region.lines() - 64);
+        let above = self.region.scratch();
         compose(below, above, bits, out);
+    }
+
+    /// Composes a page of a frame, which is one of the store's, and scratch, in another frame, which has to be taken: each line of the
+    /// set is that of scratch, any other one that of the frame. Nothing else changes. Costs one copy of 64 lines, and one for each line
+    /// of the set.
+    pub fn compose_frame(&mut self, from: u32, bits: Bits, to: u32)
+        requires from { FRAME_UNITS * from + FRAME_UNITS ≤ units_in self.old.blocks }
+        requires to { IsFrame self.old to }
+        requires differ { from ≢ to }
+        ensures fills { FillsFrame self.old self.new to }
+        ensures lines { (line : ℕ) → line < PAGE_LINES → frame_line self.new to line
+            ≡ cond (has_line bits line) (scratch_line self.old line) (frame_line self.old from line) }
+    {
+        self.region.copy_lines(64 * from, 64 * to, 64);
+        places::lay_over(&mut self.region, 64 * to, bits);
     }
 
     /// Makes a move on the way to room for a block of an order from 0 to 4, and answers it. At least 2^order

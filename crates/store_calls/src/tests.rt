@@ -1,3 +1,4 @@
+mod copies;
 mod releases;
 mod segments;
 mod stores;

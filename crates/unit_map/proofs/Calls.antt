@@ -1,10 +1,10 @@
-use Rattle.std.proofs.Common.{◌≡◌, ℕ, ◌+◌, ◌*◌, ◌/◌, ◌^◌, ◌≤◌, true, false, inl, inr, List, ◌++◌, length, get_or, sym, ap, ◌∙◌, refl, arith}
+use Rattle.std.proofs.Common.{◌≡◌, ℕ, ◌+◌, ◌*◌, ◌/◌, ◌^◌, ◌≤◌, true, false, inl, inr, List, ◌∷◌, ◌++◌, length, get_or, sym, ap, ◌∙◌, refl, arith}
 use Rattle.std.proofs.lemmas.Bool.{cases_eq}
 use Rattle.std.proofs.lemmas.Nat.{pow_pos}
 use Rattle.std.specs.Int.{bit_at}
 use Rattle.mark_levels.specs.Levels.{LackBits}
 use Rattle.unit_map.specs.Pieces.{Piece, IsPiece, IsApartFromTaken, free_at, free_units, taken_at, units_in}
-use Rattle.unit_map.specs.Changes.{Gives, KeepsOthers, KeepsTaken, OnlyGives, OnlyTakes, TakesBlock}
+use Rattle.unit_map.specs.Changes.{Gives, KeepsOthers, KeepsTaken, OnlyGives, OnlyTakes, TakesBlock, TakesFrom}
 use Rattle.unit_map.specs.Cells.{code, pieces_in, pieces_of, behind, IsCleared, IsHeld, IsSplit, IsTable}
 use Rattle.unit_map.specs.Laws.{equal_or_apart}
 use Rattle.unit_map.proofs.Codes.{code_same}
@@ -21,8 +21,9 @@ use Rattle.unit_map.proofs.Writes.{same_side, same_wider}
 pub same_units : (cells new : List ℕ) → IsTable cells → IsTable new → length new ≡ length cells → units_in (pieces_of new) ≡ units_in (pieces_of cells)
 same_units cells new is now e = (table_fills new now).1 ∙ e ∙ sym (table_fills cells is).1
 
-pub record IsTaken (cells : List ℕ) (order unit : ℕ) (new : List ℕ) : Type 0 where
+pub record IsTaken (cells : List ℕ) (order from unit : ℕ) (new : List ℕ) : Type 0 where
   pub table : IsTable new
+  pub takes : TakesFrom (pieces_of cells) order from unit (pieces_of new)
   pub block : TakesBlock (pieces_of cells) order unit (pieces_of new)
   pub taken : IsPiece (pieces_of new) (taken_at unit order)
   pub others : KeepsTaken (pieces_of cells) (pieces_of new)
@@ -33,9 +34,10 @@ pub record IsTaken (cells : List ℕ) (order unit : ℕ) (new : List ℕ) : Type
   pub apart : IsApartFromTaken (pieces_of cells) unit order
 
 pub taking : (cells new : List ℕ) (order from unit : ℕ) → IsTable cells → order ≤ from → from ≤ 4 → bit_at (get_or cells unit 0) from ≡ 1 → LackBits cells order from → IsSplit cells new unit from order from
-    → IsTaken cells order unit new
+    → IsTaken cells order from unit new
 taking cells new order from unit is le low bit lack split = record {
   table = table;
+  takes = takes;
   block = block;
   taken = piece_here new unit order false small split.taken;
   others = λ v k h.
@@ -51,7 +53,7 @@ taking cells new order from unit is le low bit lack split = record {
         | inr same ↦ inr (piece_here cells v k false byte.0 (sym same.1 ∙ byte.1))
       ];
   units = same_units cells new is table split.same.units;
-  free = free_takes (pieces_of cells) (pieces_of new) order from unit block.takes le;
+  free = free_takes (pieces_of cells) (pieces_of new) order from unit takes le;
   within = omega (arith, there_fits cells unit from is at, less, (table_fills cells is).1);
   apart = λ v k h. elim (equal_or_apart (pieces_of cells) (table_pieces cells is) (free_at unit from) (taken_at v k) (piece_here cells unit from true low free) h) [
     | inl e ↦ let b : true ≡ false = ap (λ (p : Piece). p.free) e in absurd (cc)
@@ -77,15 +79,18 @@ taking cells new order from unit is le low bit lack split = record {
         (replaced 4 cells new (16 * (unit / 16)) unit from true (omega arith) low (frame_start unit) (frame_tiled cells unit is at.there) (omega arith) (omega arith) free split.same split.tiled
         (λ e. let b : false ≡ true = (code_same false true order from small low (sym split.taken ∙ e)).0 in cc))
 
+    takes : TakesFrom (pieces_of cells) order from unit (pieces_of new)
+    takes = record {
+      front = pieces_in cells 0 unit;
+      back = behind cells unit (2 ^ from);
+      was = in_three cells unit (2 ^ from) (there_fits cells unit from is at) ∙ ap (λ ps. pieces_in cells 0 unit ++ (ps ++ behind cells unit (2 ^ from))) (one_piece cells unit from true low free at.inside);
+      now = in_three_new cells new unit (2 ^ from) (there_fits cells unit from is at) split.same ∙ ap (λ ps. pieces_in cells 0 unit ++ (ps ++ behind cells unit (2 ^ from))) split.pieces;
+    }
+
     block : TakesBlock (pieces_of cells) order unit (pieces_of new)
     block = record {
       from = from;
-      takes = record {
-        front = pieces_in cells 0 unit;
-        back = behind cells unit (2 ^ from);
-        was = in_three cells unit (2 ^ from) (there_fits cells unit from is at) ∙ ap (λ ps. pieces_in cells 0 unit ++ (ps ++ behind cells unit (2 ^ from))) (one_piece cells unit from true low free at.inside);
-        now = in_three_new cells new unit (2 ^ from) (there_fits cells unit from is at) split.same ∙ ap (λ ps. pieces_in cells 0 unit ++ (ps ++ behind cells unit (2 ^ from))) split.pieces;
-      };
+      takes = takes;
       enough = le;
       least = least_some cells order from is lack;
     }
@@ -103,6 +108,14 @@ pub record IsGiven (cells : List ℕ) (order unit : ℕ) (new : List ℕ) : Type
   pub only : OnlyGives (pieces_of cells) unit (pieces_of new)
   pub units : units_in (pieces_of new) ≡ units_in (pieces_of cells)
   pub free : free_units (pieces_of new) ≡ free_units (pieces_of cells) + 2 ^ order
+
+-- a taken block in its place
+pub taken_was : (cells : List ℕ) (order unit : ℕ) → IsTable cells → IsPiece (pieces_of cells) (taken_at unit order) → pieces_of cells ≡ pieces_in cells 0 unit ++ taken_at unit order ∷ behind cells unit (2 ^ order)
+taken_was cells order unit is there =
+    let at = piece_block cells (taken_at unit order) is there in
+    let byte = piece_there cells (taken_at unit order) is there in
+    in_three cells unit (2 ^ order) (there_fits cells unit order is at)
+    ∙ ap (λ ps. pieces_in cells 0 unit ++ (ps ++ behind cells unit (2 ^ order))) (one_piece cells unit order false byte.0 byte.1 at.inside)
 
 pub giving : (cells new : List ℕ) (order unit : ℕ) → IsTable cells → IsPiece (pieces_of cells) (taken_at unit order) → IsTable new → IsCleared cells unit order (16 * (unit / 16)) 4 new → IsGiven cells order unit new
 giving cells new order unit is there table gone = record {
@@ -140,8 +153,6 @@ giving cells new order unit is there table gone = record {
     gives = record {
       front = pieces_in cells 0 unit;
       back = behind cells unit (2 ^ order);
-      was =
-          in_three cells unit (2 ^ order) (there_fits cells unit order is at)
-          ∙ ap (λ ps. pieces_in cells 0 unit ++ (ps ++ behind cells unit (2 ^ order))) (one_piece cells unit order false byte.0 byte.1 at.inside);
+      was = taken_was cells order unit is there;
       merges = gone.merges;
     }

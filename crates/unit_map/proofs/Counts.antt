@@ -8,12 +8,11 @@ use Rattle.unit_map.specs.Changes.{split, HasRoom, IsFull, TakesFrom, Gives}
 use Rattle.unit_map.specs.Cells.{code, piece_at, pieces_in, pieces_of, behind, IsTable}
 use Rattle.mark_levels.specs.declared.levels.End.TheVariants.{Low, High}
 use Rattle.mark_levels.specs.Levels.{HasBit, IsEndBit, LackBit, LackBitIn, LackBits}
-use Rattle.unit_map.proofs.Codes.{code_some}
 use Rattle.unit_map.proofs.Numbers.{twice}
-use Rattle.unit_map.proofs.Reading.{cell_there, from_cells, here_in, in_three, in_two, one_piece, piece_here}
+use Rattle.unit_map.proofs.Reading.{from_cells, in_three, one_piece, piece_here}
 use Rattle.unit_map.proofs.Tables.{bit_there, block_there, piece_byte, piece_there, there_fits}
 use Rattle.unit_map.specs.Laws.{free_append, free_merges}
-use Rattle.unit_map.specs.Settled.{count_append, count_none, count_some}
+use Rattle.unit_map.specs.Settled.{count_append, count_none}
 
 -- How many units are free, and how many pieces there are of an order.
 
@@ -76,24 +75,6 @@ two_one cells k x y is low first last le =
     one : (b : Bool) → cond b 1 0 + 0 ≤ 1
     one true = omega arith
     one false = omega arith
-
-pub two_some : (cells : List ℕ) (k x y : ℕ) → IsTable cells → k ≤ 4 → bit_at (get_or cells x 0) k ≡ 1 → bit_at (get_or cells y 0) k ≡ 1 → x < y → 2 ≤ count k (pieces_of cells)
-two_some cells k x y is low first last lt =
-    let a = bit_there cells x k is low first in
-    let b = bit_there cells y k is low last in
-    let there = cell_there cells y (2 ^ k) b (code_some true k) in
-    let n = length cells - y in
-    let all : length cells ≡ y + n = omega (arith, there) in
-    let none : 0 + y ≡ y = omega arith in
-    let front = pieces_in cells 0 y in
-    let back = pieces_in cells y n in
-    omega (
-      arith,
-      ap (λ m. count k (pieces_in cells 0 m)) all ∙ ap (count k) (in_two cells 0 y n ∙ ap (λ u. front ++ pieces_in cells u n) none),
-      count_append k front back,
-      count_some k front x (here_in cells 0 y x k true (omega arith) (omega (arith, lt)) low a),
-      count_some k back y (here_in cells y n y k true (omega arith) (omega (arith, there)) low b),
-    )
 
 pub free_there : (cells : List ℕ) (k x : ℕ) → IsTable cells → k ≤ 4 → bit_at (get_or cells x 0) k ≡ 1 → IsPiece (pieces_of cells) (free_at x k)
 free_there cells k x is low bit = piece_here cells x k true low (bit_there cells x k is low bit)

@@ -20,77 +20,87 @@ joined_not cells u k are apart =
     let next : suc k ≡ k + 1 = omega arith in
     record { units = refl; stays = λ x. inl refl; tiled = subst (λ n. IsTiled n cells u) next (inr (are.lower, are.upper, apart)); merges = Done (pieces_of cells) }
 
-pub joined : (cells : List ℕ) (u v k c : ℕ) → AreHalves cells u k → v ≡ u + 2 ^ k → c ≡ code true (k + 1) → get_or cells u 0 ≡ code true k → get_or cells v 0 ≡ code true k → IsJoined cells u k (set (set cells v 0) u c)
-joined cells u v k c are ev ec a b = record {
-  units = length-set (set cells v 0) u c ∙ length-set cells v 0;
-  stays = λ x. stays x;
-  tiled = inl (true, here, inside);
-  merges = Step (pieces_of cells) (pieces_of new) (pieces_of new) (record {
-    front = pieces_in cells 0 u;
-    lower = free_at u k;
-    upper = free_at v k;
-    back = behind cells u (2 ^ (k + 1));
-    halves = record { lower = refl; upper = refl; order = are.low; same = refl; unit = are.aligned; beside = ev };
-    was = in_three cells u (2 ^ (k + 1)) are.fits ∙ ap (λ ps. pieces_in cells 0 u ++ (ps ++ behind cells u (2 ^ (k + 1)))) both;
-    now = in_three_new cells new u (2 ^ (k + 1)) are.fits same ∙ ap (λ ps. pieces_in cells 0 u ++ (ps ++ behind cells u (2 ^ (k + 1)))) (one_piece new u (k + 1) true (omega (arith, are.low)) here inside);
-  }) (Done (pieces_of new));
-}
-  where
-    new : List ℕ
-    new = set (set cells v 0) u c
+module _ (cells : List ℕ) (u v k c : ℕ) (are : AreHalves cells u k) (ev : v ≡ u + 2 ^ k) (ec : c ≡ code true (k + 1)) (a : get_or cells u 0 ≡ code true k) (b : get_or cells v 0 ≡ code true k) where
+  high : k ≤ 4
+  high = omega (arith, are.low)
 
-    high : k ≤ 4
-    high = omega (arith, are.low)
+  lower : u % 2 ^ k ≡ 0
+  lower = less_aligned k (k + 1) u (omega arith) are.aligned
 
-    lower : u % 2 ^ k ≡ 0
-    lower = less_aligned k (k + 1) u (omega arith) are.aligned
+  own : AreInside cells (u + 1) (u + 2 ^ k)
+  own = (tile_of k cells u u k true high high lower are.lower (omega arith) (omega (arith, pow_pos k)) a).3
 
-    own : AreInside cells (u + 1) (u + 2 ^ k)
-    own = (tile_of k cells u u k true high high lower are.lower (omega arith) (omega (arith, pow_pos k)) a).3
+  other : AreInside cells (v + 1) (v + 2 ^ k)
+  other = subst (λ x. AreInside cells (x + 1) (x + 2 ^ k)) (sym ev) (tile_of k cells (u + 2 ^ k) (u + 2 ^ k) k true high high (next_aligned k u lower) are.upper (omega arith) (omega (arith, pow_pos k)) (ap (λ x. get_or cells x 0) (sym ev) ∙ b)).3
 
-    other : AreInside cells (v + 1) (v + 2 ^ k)
-    other = subst (λ x. AreInside cells (x + 1) (x + 2 ^ k)) (sym ev) (tile_of k cells (u + 2 ^ k) (u + 2 ^ k) k true high high (next_aligned k u lower) are.upper (omega arith) (omega (arith, pow_pos k)) (ap (λ x. get_or cells x 0) (sym ev) ∙ b)).3
+  here : get_or (set (set cells v 0) u c) u 0 ≡ code true (k + 1)
+  here = get_or-set_same (set cells v 0) u c 0 (omega (arith, length-set cells v 0, are.fits, pow_pos (k + 1))) ∙ ec
 
-    here : get_or new u 0 ≡ code true (k + 1)
-    here = get_or-set_same (set cells v 0) u c 0 (omega (arith, length-set cells v 0, are.fits, pow_pos (k + 1))) ∙ ec
+  gone : get_or (set (set cells v 0) u c) v 0 ≡ 0
+  gone = get_or-set_other (set cells v 0) u v c 0 (λ e. omega (arith, e, ev, pow_pos k)) ∙ get_or-set_same cells v 0 0 (omega (arith, ev, are.fits, twice k, pow_pos k))
 
-    gone : get_or new v 0 ≡ 0
-    gone = get_or-set_other (set cells v 0) u v c 0 (λ e. omega (arith, e, ev, pow_pos k)) ∙ get_or-set_same cells v 0 0 (omega (arith, ev, are.fits, twice k, pow_pos k))
+  else_same : (x : ℕ) → (x ≡ u → ⊥) → (x ≡ v → ⊥) → get_or (set (set cells v 0) u c) x 0 ≡ get_or cells x 0
+  else_same x apart differs = get_or-set_other (set cells v 0) u x c 0 apart ∙ get_or-set_other cells v x 0 0 differs
 
-    else_same : (x : ℕ) → (x ≡ u → ⊥) → (x ≡ v → ⊥) → get_or new x 0 ≡ get_or cells x 0
-    else_same x apart differs = get_or-set_other (set cells v 0) u x c 0 apart ∙ get_or-set_other cells v x 0 0 differs
-
-    stays : (x : ℕ) → (get_or new x 0 ≡ get_or cells x 0) ⊎ ((get_or cells x 0 ≡ code true k) × (get_or new x 0 < 32) × ((x ≡ u) ⊎ (x ≡ u + 2 ^ k)))
-    stays x = elim (cases_eq x u) [
-      | inl e ↦ inr (ap (λ y. get_or cells y 0) e ∙ a, omega (arith, ap (λ y. get_or new y 0) e ∙ here, free_small (k + 1) (omega (arith, are.low))), inl e)
-      | inr apart ↦ elim (cases_eq x v) [
-        | inl e ↦ inr (ap (λ y. get_or cells y 0) e ∙ b, omega (arith, ap (λ y. get_or new y 0) e ∙ gone), inr (e ∙ ev))
-        | inr differs ↦ inl (else_same x apart differs)
-      ]
+  stays : (x : ℕ) → (get_or (set (set cells v 0) u c) x 0 ≡ get_or cells x 0) ⊎ ((get_or cells x 0 ≡ code true k) × (get_or (set (set cells v 0) u c) x 0 < 32) × ((x ≡ u) ⊎ (x ≡ u + 2 ^ k)))
+  stays x = elim (cases_eq x u) [
+    | inl e ↦ inr (ap (λ y. get_or cells y 0) e ∙ a, omega (arith, ap (λ y. get_or (set (set cells v 0) u c) y 0) e ∙ here, free_small (k + 1) (omega (arith, are.low))), inl e)
+    | inr apart ↦ elim (cases_eq x v) [
+      | inl e ↦ inr (ap (λ y. get_or cells y 0) e ∙ b, omega (arith, ap (λ y. get_or (set (set cells v 0) u c) y 0) e ∙ gone), inr (e ∙ ev))
+      | inr differs ↦ inl (else_same x apart differs)
     ]
+  ]
 
-    inside : AreInside new (u + 1) (u + 2 ^ (k + 1))
-    inside x le lt = elim (cases_eq x v) [
-      | inl e ↦ ap (λ y. get_or new y 0) e ∙ gone
-      | inr differs ↦ else_same x (λ e. omega (arith, e, le)) differs ∙ elim (cases_lt x v) [
-        | inl less ↦ own x le (omega (arith, less, ev))
-        | inr more ↦ other x (omega (arith, more, differs)) (omega (arith, lt, ev, twice k))
-      ]
+  inside : AreInside (set (set cells v 0) u c) (u + 1) (u + 2 ^ (k + 1))
+  inside x le lt = elim (cases_eq x v) [
+    | inl e ↦ ap (λ y. get_or (set (set cells v 0) u c) y 0) e ∙ gone
+    | inr differs ↦ else_same x (λ e. omega (arith, e, le)) differs ∙ elim (cases_lt x v) [
+      | inl less ↦ own x le (omega (arith, less, ev))
+      | inr more ↦ other x (omega (arith, more, differs)) (omega (arith, lt, ev, twice k))
     ]
+  ]
 
-    both : pieces_in cells u (2 ^ (k + 1)) ≡ free_at u k ∷ free_at v k ∷ []
-    both =
-        ap (pieces_in cells u) (twice k) ∙ in_two cells u (2 ^ k) (2 ^ k)
-        ∙ ap (λ ps. ps ++ pieces_in cells (u + 2 ^ k) (2 ^ k)) (one_piece cells u k true high a own)
-        ∙ ap (λ w. free_at u k ∷ pieces_in cells w (2 ^ k)) (sym ev)
-        ∙ ap (λ ps. free_at u k ∷ ps) (one_piece cells v k true high b other)
+  both : pieces_in cells u (2 ^ (k + 1)) ≡ free_at u k ∷ free_at v k ∷ []
+  both =
+      ap (pieces_in cells u) (twice k) ∙ in_two cells u (2 ^ k) (2 ^ k)
+      ∙ ap (λ ps. ps ++ pieces_in cells (u + 2 ^ k) (2 ^ k)) (one_piece cells u k true high a own)
+      ∙ ap (λ w. free_at u k ∷ pieces_in cells w (2 ^ k)) (sym ev)
+      ∙ ap (λ ps. free_at u k ∷ ps) (one_piece cells v k true high b other)
 
-    same : AreSameBut u (2 ^ (k + 1)) cells new
-    same =
-        same_set u (2 ^ (k + 1)) u c cells (set cells v 0) (omega arith) (omega (arith, pow_pos (k + 1)))
-        (same_set u (2 ^ (k + 1)) v 0 cells cells (omega (arith, ev)) (omega (arith, ev, twice k, pow_pos k)) (same_self u (2 ^ (k + 1)) cells))
+  same : AreSameBut u (2 ^ (k + 1)) cells (set (set cells v 0) u c)
+  same =
+      same_set u (2 ^ (k + 1)) u c cells (set cells v 0) (omega arith) (omega (arith, pow_pos (k + 1)))
+      (same_set u (2 ^ (k + 1)) v 0 cells cells (omega (arith, ev)) (omega (arith, ev, twice k, pow_pos k)) (same_self u (2 ^ (k + 1)) cells))
+
+  -- two free pieces before, and one of them made
+  pub joined_was : pieces_of cells ≡ pieces_in cells 0 u ++ free_at u k ∷ free_at v k ∷ behind cells u (2 ^ (k + 1))
+  joined_was = in_three cells u (2 ^ (k + 1)) are.fits ∙ ap (λ ps. pieces_in cells 0 u ++ (ps ++ behind cells u (2 ^ (k + 1)))) both
+
+  pub joined_now : pieces_of (set (set cells v 0) u c) ≡ pieces_in cells 0 u ++ free_at u (k + 1) ∷ behind cells u (2 ^ (k + 1))
+  joined_now =
+      in_three_new cells (set (set cells v 0) u c) u (2 ^ (k + 1)) are.fits same
+      ∙ ap (λ ps. pieces_in cells 0 u ++ (ps ++ behind cells u (2 ^ (k + 1)))) (one_piece (set (set cells v 0) u c) u (k + 1) true (omega (arith, are.low)) here inside)
+
+  pub joined : IsJoined cells u k (set (set cells v 0) u c)
+  joined = record {
+    units = length-set (set cells v 0) u c ∙ length-set cells v 0;
+    stays = λ x. stays x;
+    tiled = inl (true, here, inside);
+    merges = Step (pieces_of cells) (pieces_of (set (set cells v 0) u c)) (pieces_of (set (set cells v 0) u c)) (record {
+      front = pieces_in cells 0 u;
+      lower = free_at u k;
+      upper = free_at v k;
+      back = behind cells u (2 ^ (k + 1));
+      halves = record { lower = refl; upper = refl; order = are.low; same = refl; unit = are.aligned; beside = ev };
+      was = joined_was;
+      now = joined_now;
+    }) (Done (pieces_of (set (set cells v 0) u c)));
+  }
 
 -- A block of the order j at v is cleared, which lies in one of the order n at u: it is that block.
+
+pub wiped_now : (old new : List ℕ) (v j : ℕ) → v + 2 ^ j ≤ length old → j ≤ 4 → IsWiped old v j new → pieces_of new ≡ with_free old v j
+wiped_now old new v j fits low wiped = in_three_new old new v (2 ^ j) fits wiped.same ∙ ap (λ ps. pieces_in old 0 v ++ (ps ++ behind old v (2 ^ j))) (one_piece new v j true low wiped.here wiped.inside)
 
 pub cleared_whole : (old new : List ℕ) (v j u n : ℕ) → n ≡ j → CanClear old v j u n → IsWiped old v j new → IsCleared old v j u n new
 cleared_whole old new v j u n e can wiped = record {
@@ -98,7 +108,7 @@ cleared_whole old new v j u n e can wiped = record {
   kept = λ x. kept x;
   part = subst (λ i. IsTiled i old v) e (subst (IsTiled n old) (sym at) can.tiled);
   tiled = subst (IsTiled n new) at (subst (λ i. IsTiled i new v) (sym e) (inl (true, wiped.here, wiped.inside)));
-  merges = subst (Merges (with_free old v j)) (sym now) (Done (with_free old v j));
+  merges = subst (Merges (with_free old v j)) (sym (wiped_now old new v j fits can.held.low wiped)) (Done (with_free old v j));
 }
   where
     at : v ≡ u
@@ -106,9 +116,6 @@ cleared_whole old new v j u n e can wiped = record {
 
     fits : v + 2 ^ j ≤ length old
     fits = omega (arith, can.fits, at, ap (λ i. 2 ^ i) e)
-
-    now : pieces_of new ≡ with_free old v j
-    now = in_three_new old new v (2 ^ j) fits wiped.same ∙ ap (λ ps. pieces_in old 0 v ++ (ps ++ behind old v (2 ^ j))) (one_piece new v j true can.held.low wiped.here wiped.inside)
 
     kept : (x : ℕ) → IsKept old v j new x
     kept x = elim (same_side v (2 ^ j) old new x wiped.same) [

@@ -9,5 +9,6 @@ pub mod Splits
 pub mod Joining
 pub mod Moving
 pub mod Counts
+pub mod Counting
 pub mod Making
 pub mod Calls

@@ -1,7 +1,7 @@
-use Rattle.std.proofs.Common.{◌≡◌, ℕ, ◌+◌, ◌-◌, ◌*◌, ◌/◌, ◌^◌, ◌%◌, ◌<◌, ◌≤◌, true, false, inl, inr, List, ◌++◌, length, get_or, max, sym, ap, subst, ◌∙◌, arith}
+use Rattle.std.proofs.Common.{◌≡◌, ℕ, ◌+◌, ◌-◌, ◌*◌, ◌/◌, ◌^◌, ◌%◌, ◌<◌, ◌≤◌, true, false, inl, inr, List, ◌∷◌, ◌++◌, length, get_or, max, sym, ap, subst, ◌∙◌, arith}
 use Rattle.std.proofs.lemmas.Bool.{cases_lt}
 use Rattle.std.proofs.lemmas.Nat.{pow_pos}
-use Rattle.unit_map.specs.Pieces.{AreBeside, AreBlocksApart, Fills, free_at, taken_at, units_in}
+use Rattle.unit_map.specs.Pieces.{AreBeside, AreBlocksApart, Fills, free_at, moved, taken_at, units_in}
 use Rattle.unit_map.specs.Changes.{CanMove, KeepsOutside, MovesInside, OnlyMoves}
 use Rattle.unit_map.specs.Cells.{code, pieces_in, pieces_of, behind, AreSameBut, IsCleared, IsHeld, IsTable}
 use Rattle.unit_map.specs.Moves.{IsCarried}
@@ -88,6 +88,21 @@ move_there old mid from to k move table_mid gone = elim (gone.kept to) [
 pub move_fits : (old mid : List ℕ) (from to k : ℕ) → IsMove old from to k → IsTable mid → IsCleared old from k (16 * (from / 16)) 4 mid → to + 2 ^ k ≤ length mid
 move_fits old mid from to k move table_mid gone = there_fits mid to k table_mid (block_there mid to k true table_mid (omega (arith, move.low)) (move_there old mid from to k move table_mid gone))
 
+-- The pieces there, before and after.
+pub move_was : (old mid : List ℕ) (from to k : ℕ) → IsMove old from to k → IsTable mid → IsCleared old from k (16 * (from / 16)) 4 mid → pieces_of mid ≡ pieces_in mid 0 to ++ free_at to k ∷ behind mid to (2 ^ k)
+move_was old mid from to k move table_mid gone =
+    let low : k ≤ 4 = omega (arith, move.low) in
+    let there = move_there old mid from to k move table_mid gone in
+    in_three mid to (2 ^ k) (move_fits old mid from to k move table_mid gone)
+    ∙ ap (λ ps. pieces_in mid 0 to ++ (ps ++ behind mid to (2 ^ k))) (one_piece mid to k true low there (block_there mid to k true table_mid low there).inside)
+
+pub move_now : (old mid new part : List ℕ) (from to k : ℕ) → IsMove old from to k → ((i : ℕ) → i < 2 ^ k → get_or part i 0 ≡ get_or old (from + i) 0) → IsTable mid → IsCleared old from k (16 * (from / 16)) 4 mid
+    → AreSameBut to (2 ^ k) mid new → ((i : ℕ) → i < 2 ^ k → get_or new (to + i) 0 ≡ get_or part i 0)
+    → pieces_of new ≡ pieces_in mid 0 to ++ (moved from to (pieces_in old from (2 ^ k)) ++ behind mid to (2 ^ k))
+move_now old mid new part from to k move lifts table_mid gone laid lays =
+    in_three_new mid new to (2 ^ k) (move_fits old mid from to k move table_mid gone) laid
+    ∙ ap (λ ps. pieces_in mid 0 to ++ (ps ++ behind mid to (2 ^ k))) (moved_cells old new from to (2 ^ k) (λ j lt. lays j lt ∙ lifts j lt))
+
 -- Then what was lifted out is laid there.
 pub carried : (old mid new part : List ℕ) (from to k : ℕ) → IsMove old from to k → ((i : ℕ) → i < 2 ^ k → get_or part i 0 ≡ get_or old (from + i) 0) → IsTable mid → IsCleared old from k (16 * (from / 16)) 4 mid
     → AreSameBut to (2 ^ k) mid new → ((i : ℕ) → i < 2 ^ k → get_or new (to + i) 0 ≡ get_or part i 0) → IsTable old → IsCarried old from to k new
@@ -111,8 +126,8 @@ carried old mid new part from to k move lifts table_mid gone laid lays is = reco
     put = record {
       front = pieces_in mid 0 to;
       back = behind mid to (2 ^ k);
-      was = in_three mid to (2 ^ k) fits ∙ ap (λ ps. pieces_in mid 0 to ++ (ps ++ behind mid to (2 ^ k))) (one_piece mid to k true low there at.inside);
-      now = in_three_new mid new to (2 ^ k) fits laid ∙ ap (λ ps. pieces_in mid 0 to ++ (ps ++ behind mid to (2 ^ k))) (moved_cells old new from to (2 ^ k) equal);
+      was = move_was old mid from to k move table_mid gone;
+      now = move_now old mid new part from to k move lifts table_mid gone laid lays;
     };
   };
   inside = λ v i h from below. inside v i h from below;
@@ -128,9 +143,6 @@ carried old mid new part from to k move lifts table_mid gone laid lays is = reco
 
     at : IsThere mid to k
     at = block_there mid to k true table_mid low there
-
-    fits : to + 2 ^ k ≤ length mid
-    fits = there_fits mid to k table_mid at
 
     fills : Fills from (pieces_in old from (2 ^ k)) × (units_in (pieces_in old from (2 ^ k)) ≡ 2 ^ k)
     fills = tiled_fills k old from low gone.part

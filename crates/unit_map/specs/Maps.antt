@@ -1,8 +1,10 @@
 use Rattle.std.specs.Prelude.{◌≡◌, ℕ, List}
 use Rattle.unit_map.specs.Pieces.{free_units}
 use Rattle.unit_map.specs.Cells.{IsTable, pieces_of}
+use Rattle.unit_map.specs.Counted.{AreCounts}
 
--- what a map keeps: its table, and the number of units that are free
-pub record IsMap (cells : List ℕ) (free : ℕ) : Type 0 where
+-- what a map keeps: its table, how many free blocks there are of each order, and the number of units that are free
+pub record IsMap (cells counts : List ℕ) (free : ℕ) : Type 0 where
   pub table : IsTable cells
+  pub counts_are : AreCounts counts (pieces_of cells)
   pub kept : free ≡ free_units (pieces_of cells)

@@ -13,7 +13,7 @@ pub count_append : (k : ℕ) (ps qs : List Piece) → count k (ps ++ qs) ≡ cou
 count_append k [] qs = omega arith
 count_append k (p ∷ ps) qs = omega (arith, count_append k ps qs)
 
-count_moved : (k u v : ℕ) (ps : List Piece) → count k (moved u v ps) ≡ count k ps
+pub count_moved : (k u v : ℕ) (ps : List Piece) → count k (moved u v ps) ≡ count k ps
 count_moved k u v [] = refl
 count_moved k u v (p ∷ ps) = ap (λ n. cond (is_free_of k p) 1 0 + n) (count_moved k u v ps)
 
@@ -27,11 +27,11 @@ count_none k (p ∷ ps) h = at (is_free_of k p) refl (count_none k ps (λ q g. h
     at true e rest = absurd (h p (inl refl) (free_of k p e).0 (free_of k p e).1)
 
 -- a piece counts where it is free and of the order, and nowhere else
-is_one : (k : ℕ) (p : Piece) → p.free ≡ true → p.order ≡ k → count k (p ∷ []) ≡ 1
+pub is_one : (k : ℕ) (p : Piece) → p.free ≡ true → p.order ≡ k → count k (p ∷ []) ≡ 1
 unfolding one_if
 is_one k p free order = let is : is_free_of k p ≡ true = grind (arith, nat_tests) in omega (arith, ap one_if is)
 
-is_none : (k : ℕ) (p : Piece) → (p.order ≡ k → ⊥) → count k (p ∷ []) ≡ 0
+pub is_none : (k : ℕ) (p : Piece) → (p.order ≡ k → ⊥) → count k (p ∷ []) ≡ 0
 is_none k p other = count_none k (p ∷ []) (λ q h free order. at q h order)
   where
     at : (q : Piece) → IsPiece (p ∷ []) q → q.order ≡ k → ⊥
@@ -163,7 +163,7 @@ next_settled ps from is few = at (cases_eq is.aside from)
 
 -- A block that was taken.
 
-count_split : (k unit order n : ℕ) → (count k (split unit order n) ≤ 1) × ((k < order) ⊎ (order + n ≤ k) → count k (split unit order n) ≡ 0)
+pub count_split : (k unit order n : ℕ) → (count k (split unit order n) ≤ 1) × ((k < order) ⊎ (order + n ≤ k) → count k (split unit order n) ≡ 0)
 count_split k unit order zero = (omega arith, λ _. refl)
 count_split k unit order (suc n) = at (count_split k unit order n) (cases_eq (order + n) k)
   where

@@ -1,10 +1,12 @@
 //! What is done to the table: a byte a unit, which says what starts there.
 ghost use Rattle.std.specs.Prelude.{◌≡◌, ◌+◌, ◌*◌, ◌/◌, ◌^◌, ◌<◌, ◌≤◌, ◌⊎◌, ℕ, true, false, length, get_or};
 ghost use Rattle.unit_map.specs.Changes.{CanMove};
-ghost use Rattle.unit_map.specs.Cells.{code, pieces_of, CanClear, AreHalves, AreInside, AreSameBut, IsCleared, IsHeld, IsIn, IsJoined, IsRange, IsSplit, IsTable, IsWiped};
+ghost use Rattle.unit_map.specs.Cells.{code, pieces_of, with_free, CanClear, AreHalves, AreInside, AreSameBut, IsCleared, IsHeld, IsIn, IsJoined, IsRange, IsSplit, IsTable, IsWiped};
+ghost use Rattle.unit_map.specs.Counted.{AreCounts, CanCount, GoAlong};
 ghost use Rattle.unit_map.specs.Moves.{IsCarried};
 
 use crate::Block;
+use crate::orders::{self, Counts};
 use mark_levels::Level;
 use sizes::{FRAME_ORDER, FRAME_UNITS};
 
@@ -42,44 +44,53 @@ pub fn split(cells: &mut Level, unit: u32, from: u8, order: u8)
 
 /// Makes one free block of all that fills the range of a block, and merges it with its other half as long as that is
 /// free too.
-pub fn clear(cells: &mut Level, block: Block)
+pub fn clear(cells: &mut Level, counts: &mut Counts, block: Block)
     requires table { IsTable cells.old }
     requires held { IsHeld cells.old block.unit block.order }
+    requires counts { CanCount counts.old (with_free cells.old block.unit block.order) }
     ensures table { IsTable cells.new }
     ensures cleared { IsCleared cells.old block.unit block.order (16 * (block.unit / 16)) 4 cells.new }
+    ensures counts { GoAlong counts.old (with_free cells.old block.unit block.order) counts.new (pieces_of cells.new) }
 {
     let frame = Block {
         unit: FRAME_UNITS * (block.unit / FRAME_UNITS),
         order: FRAME_ORDER,
     };
-    clear_in(cells, frame, block);
+    clear_in(cells, counts, frame, block);
 }
 
 /// Lets what fills the range of a block of an order, whose other half is free, go to a free block of it. Of the range a free
 /// block becomes, which is merged as one that was given.
-pub fn carry(cells: &mut Level, from: u32, to: u32, order: u8)
+pub fn carry(cells: &mut Level, counts: &mut Counts, from: u32, to: u32, order: u8)
     requires table { IsTable cells.old }
     requires can { CanMove (pieces_of cells.old) from to order }
-    ensures { IsCarried cells.old from to order cells.new }
+    requires counts { AreCounts counts.old (pieces_of cells.old) }
+    ensures carried { IsCarried cells.old from to order cells.new }
+    ensures counts { AreCounts counts.new (pieces_of cells.new) }
 {
     let part = lift(cells, from, order);
-    clear(cells, Block { unit: from, order });
+    counts[order as usize] += 1;
+    clear(cells, counts, Block { unit: from, order });
     lay(cells, to, order, part);
+    counts[order as usize] -= 1;
 }
 
 // The same within a larger block.
-fn clear_in(cells: &mut Level, within: Block, block: Block)
-    requires { CanClear cells.old block.unit block.order within.unit within.order }
-    ensures { IsCleared cells.old block.unit block.order within.unit within.order cells.new }
+fn clear_in(cells: &mut Level, counts: &mut Counts, within: Block, block: Block)
+    requires can { CanClear cells.old block.unit block.order within.unit within.order }
+    requires counts { CanCount counts.old (with_free cells.old block.unit block.order) }
+    ensures cleared { IsCleared cells.old block.unit block.order within.unit within.order cells.new }
+    ensures counts { GoAlong counts.old (with_free cells.old block.unit block.order) counts.new (pieces_of cells.new) }
 {
     if within.order == block.order {
         wipe(cells, block);
         return;
     }
     let half = half_with(within, block);
-    clear_in(cells, half, block);
+    clear_in(cells, counts, half, block);
     join(
         cells,
+        counts,
         Block {
             unit: within.unit,
             order: half.order,
@@ -119,15 +130,18 @@ fn wipe(cells: &mut Level, block: Block)
 }
 
 // Makes one free block of two that are halves of it, the lower one of an order at a unit, if both are free.
-fn join(cells: &mut Level, lower: Block)
-    requires { AreHalves cells.old lower.unit lower.order }
-    ensures { IsJoined cells.old lower.unit lower.order cells.new }
+fn join(cells: &mut Level, counts: &mut Counts, lower: Block)
+    requires halves { AreHalves cells.old lower.unit lower.order }
+    requires counts { CanCount counts.old (pieces_of cells.old) }
+    ensures joined { IsJoined cells.old lower.unit lower.order cells.new }
+    ensures counts { GoAlong counts.old (pieces_of cells.old) counts.new (pieces_of cells.new) }
 {
     let upper = lower.unit + (1u32 << lower.order);
     let byte = free(lower.order);
     if cells.get(lower.unit) == byte && cells.get(upper) == byte {
         cells.set(upper, INSIDE);
         cells.set(lower.unit, free(lower.order + 1));
+        orders::join(counts, lower.order);
     }
 }
 

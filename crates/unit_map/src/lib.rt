@@ -7,12 +7,14 @@
 //!
 //! - `block`: a block, and its other half
 //! - `cells`: what is done to the table, a byte a unit, which tells the pieces (`mark_levels`)
-//! - `map`: a table and the number of free units
+//! - `orders`: how many free blocks there are of each order
+//! - `map`: a table, those counts and the number of free units
 #![tactic(auto)]
 
 mod block;
 mod cells;
 mod map;
+mod orders;
 
 pub use block::Block;
 pub use map::UnitMap;

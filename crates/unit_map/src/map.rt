@@ -5,6 +5,7 @@ ghost use Rattle.unit_map.specs.Changes.{HasRoom, IsFull, Gives, CanMove, Reloca
 ghost use Rattle.unit_map.specs.Cells.{IsTable, pieces_of};
 ghost use Rattle.unit_map.specs.Blocks.{AreTwoBlocks, IsTakenBlock, IsWithin, LosesUnits, OverlapsNone, TakesAsked};
 
+use crate::orders::{self, Counts};
 use crate::{Block, cells};
 use mark_levels::{End, Level};
 use sizes::{FRAME_ORDER, FRAME_UNITS};
@@ -16,6 +17,8 @@ use std::marker::Model;
 pub struct UnitMap {
     // a byte a unit, which says what starts there
     cells: Level,
+    // how many free blocks there are of each order
+    counts: Counts,
     // how many units are free
     free: u32,
 }
@@ -30,7 +33,7 @@ impl Model for UnitMap {
 
     ghost view = { λ m. pieces_of m.cells };
 
-    ghost invariant = { λ m. IsMap m.cells m.free };
+    ghost invariant = { λ m. IsMap m.cells m.counts m.free };
 }
 
 impl UnitMap {
@@ -46,6 +49,7 @@ impl UnitMap {
         free_all(&mut cells, frames);
         Ok(UnitMap {
             cells,
+            counts: [0, 0, 0, 0, frames],
             free: FRAME_UNITS * frames,
         })
     }
@@ -70,6 +74,7 @@ impl UnitMap {
         let from = self.cells.least(order, FRAME_ORDER + 1)?;
         let unit = self.cells.nearest(from, End::Low)?;
         cells::split(&mut self.cells, unit, from, order);
+        orders::split(&mut self.counts, from, order);
         self.free -= 1u32 << order;
         Some(Block { unit, order })
     }
@@ -86,7 +91,8 @@ impl UnitMap {
         ensures pieces { ArePieces self.new }
         ensures settled { AreSettled self.old → AreSettledBut self.new block.order }
     {
-        cells::clear(&mut self.cells, block);
+        self.counts[block.order as usize] += 1;
+        cells::clear(&mut self.cells, &mut self.counts, block);
         self.free += 1u32 << block.order;
     }
 
@@ -114,19 +120,18 @@ impl UnitMap {
     }
 
     /// Two free blocks of an order from 0 to 4, the lower one first. None where there are fewer than two.
-    /// Costs a few steps for each of at most five levels of bytes and marks.
+    /// Costs a few steps for each of at most five levels of bytes and marks where there are two, and else one step.
     pub fn two_free(&self, order: u8) -> Option<(Block, Block)>
         requires { order ≤ 4 }
         ensures two { AreTwoBlocks self.now order result }
         ensures pieces { ArePieces self.now }
     {
+        if self.counts[order as usize] < 2 {
+            return None;
+        }
         let lower = self.cells.nearest(order, End::Low)?;
         let upper = self.cells.nearest(order, End::High)?;
-        if lower < upper {
-            Some((Block { unit: lower, order }, Block { unit: upper, order }))
-        } else {
-            None
-        }
+        Some((Block { unit: lower, order }, Block { unit: upper, order }))
     }
 
     /// Lets the blocks inside the block of an order at `from` go to the free block of that order at `to`, and merges
@@ -146,7 +151,7 @@ impl UnitMap {
         ensures within { from + 2 ^ order ≤ units_in self.old }
         ensures apart { AreBlocksApart from order to order }
     {
-        cells::carry(&mut self.cells, from, to, order);
+        cells::carry(&mut self.cells, &mut self.counts, from, to, order);
     }
 
     /// Whether a block is one of those that are taken, so that it can be given. Costs a few steps.

@@ -30,7 +30,7 @@ fn capacity(order: u8) -> u32
 }
 
 // Puts a line of equal bytes into a segment, which lacks it and has a place for it.
-fn put(rt: &impl Abort, store: &mut SegmentStore, block: Block, line: u8, byte: u8)
+pub(super) fn put(rt: &impl Abort, store: &mut SegmentStore, block: Block, line: u8, byte: u8)
     ensures settled { AreSettled store.old.blocks → AreSettled store.new.blocks }
 {
     let segment = expect_segment(rt, store, block);

@@ -9,4 +9,4 @@ pub place-requires-clause-block : goal.place-requires-clause-block
 place-requires-clause-block c = (known _ _ c.self.view_is c.self.invariant c.args.block c.requires.there c.args.line c.requires.line).within
 
 pub line-requires : goal.line-requires
-line-requires c = record { there = omega (arith, (known _ _ c.self.view_is c.self.invariant c.args.block c.requires.there c.args.line c.requires.line).inside, c.place.ensures) }
+line-requires c = record { there = omega (arith, (known _ _ c.self.view_is c.self.invariant c.args.block c.requires.there c.args.line c.requires.line).before, c.place.ensures) }

@@ -13,7 +13,7 @@ pub place-at-requires-clause-block : goal.place-at-requires-clause-block
 place-at-requires-clause-block c = (known _ _ c.self.view_is c.self.invariant c.args.block c.requires.there c.args.line c.requires.line).within
 
 pub line_mut-requires : goal.line_mut-requires
-line_mut-requires c = record { there = omega (arith, (known _ _ c.self.view_is c.self.invariant c.args.block c.requires.there c.args.line c.requires.line).inside, c.place-at.ensures) }
+line_mut-requires c = record { there = omega (arith, (known _ _ c.self.view_is c.self.invariant c.args.block c.requires.there c.args.line c.requires.line).before, c.place-at.ensures) }
 
 pub invariant_of-self-lent : goal.invariant_of-self-lent
 invariant_of-self-lent c w =

@@ -1,11 +1,12 @@
-use Rattle.std.proofs.Common.{◌≡◌, ◌<◌, false, length, subst, sym, refl}
+use Rattle.std.proofs.Common.{◌≡◌, ◌<◌, false, length, subst, sym, refl, arith}
 use Rattle.overlay_bits.specs.Lines.{has_line, with_line}
 use Rattle.segment_store.specs.Pointers.{capacity_of}
 use Rattle.segment_store.specs.Store.{Store, IsSegment, lines_at}
 use Rattle.segment_store.specs.contracts.store.SegmentStore.{the_view}
 use Rattle.segment_store.specs.Changes.{HasLinesNow, Inserts, KeepsFrames, KeepsOtherSegments, KeepsScratch}
-use Rattle.segment_store.specs.Laws.{block_in, pointers_there}
+use Rattle.segment_store.specs.Laws.{block_in, pointers_there, set_there}
 use Rattle.segment_store.proofs.Filling.{HasInserted, has_inserted, some_slot}
+use Rattle.segment_store.proofs.Laying.{reserved}
 use Rattle.segment_store.proofs.store.SegmentStore.insert.Goals as goal
 
 pub reserve-at-requires-clause-block : goal.reserve-at-requires-clause-block
@@ -18,6 +19,21 @@ reserve-at-requires-clause-free c h =
     some_slot store.lines c.args.block (lines_at store c.args.block.unit) h (pointers_there store c.self.invariant c.args.block there h)
     (subst (λ s. length (lines_at s c.args.block.unit) < capacity_of c.args.block.order) (sym c.self.view_is) c.requires.room)
 
+pub put_line-requires : goal.put_line-requires
+put_line-requires c =
+    let store = the_view c.self.inside in
+    let there = subst (λ s. IsSegment s c.args.block) (sym c.self.view_is) c.requires.there in
+    let within = block_in store c.self.invariant c.args.block there in
+    let r = reserved c.args.block (lines_at store c.args.block.unit) c.args.line store.lines c.reserve-at.new.region (pointers_there store c.self.invariant c.args.block there) (record {
+      low = c.requires.line;
+      within = within;
+      set = set_there store c.self.invariant c.args.block there;
+      absent = subst (λ s. has_line (lines_at s c.args.block.unit) c.args.line ≡ false) (sym c.self.view_is) c.requires.absent;
+      free = λ h. some_slot store.lines c.args.block (lines_at store c.args.block.unit) h (pointers_there store c.self.invariant c.args.block there h)
+          (subst (λ s. length (lines_at s c.args.block.unit) < capacity_of c.args.block.order) (sym c.self.view_is) c.requires.room);
+    }) c.reserve-at.ensures.reserves in
+    record { there = omega (arith, r.to, within.inside, c.reserve-at.ensures.place, c.reserve-at.ensures.reserves.size) }
+
 abbrev after : goal.After-add_line → Store
 after c = the_view record { region = c.put_line.new.self; map = c.self.inside.map; slots = c.add_line.new.slots }
 
@@ -26,7 +42,7 @@ has c =
     let there = subst (λ s. IsSegment s c.args.block) (sym c.self.view_is) c.requires.there in
     has_inserted (the_view c.self.inside) _ c.reserve-at.new.region c.args.block c.args.line c.reserve-at.result c.args.bytes.now c.self.invariant there c.requires.line
     (subst (λ s. has_line (lines_at s c.args.block.unit) c.args.line ≡ false) (sym c.self.view_is) c.requires.absent)
-    c.reserve-at.ensures.reserves c.reserve-at.ensures.place c.put_line.ensures.put refl c.add_line.ensures.added
+    c.reserve-at.ensures.reserves c.reserve-at.ensures.place c.put_line.ensures refl c.add_line.ensures.added
 
 pub invariant_of-self : goal.invariant_of-self
 invariant_of-self c = (has c).filled.store

@@ -5,14 +5,11 @@ use Rattle.segment_store.specs.Store.{Store, IsSegment, lines_at}
 use Rattle.segment_store.specs.contracts.store.SegmentStore.{the_view}
 use Rattle.segment_store.specs.Changes.{KeepsFrames, KeepsOtherSegments, KeepsScratch}
 use Rattle.segment_store.specs.Laws.{block_in, pointers_there}
-use Rattle.segment_store.proofs.Scratch.{HasLaidWhole, before_scratch, laid_whole}
+use Rattle.segment_store.proofs.Scratch.{HasLaidWhole, laid_whole}
 use Rattle.segment_store.proofs.store.SegmentStore.lay.Goals as goal
 
 pub lay-requires-clause-block : goal.lay-requires-clause-block
 lay-requires-clause-block c = block_in _ c.self.invariant c.args.block (subst (λ s. IsSegment s c.args.block) (sym c.self.view_is) c.requires.there)
-
-pub lay-requires-clause-before : goal.lay-requires-clause-before
-lay-requires-clause-before c = before_scratch _ c.self.invariant c.args.block (subst (λ s. IsSegment s c.args.block) (sym c.self.view_is) c.requires.there) _ c.lines-scratch.ensures.count
 
 pub lay-requires-clause-empty : goal.lay-requires-clause-empty
 lay-requires-clause-empty c less =
@@ -26,8 +23,8 @@ after c = the_view record { region = c.lay.new.region; map = c.self.inside.map; 
 
 whole : (c : goal.After-set_lines) → HasLaidWhole (the_view c.self.inside) (after c) c.args.block c.args.bits
 whole c =
-    laid_whole (the_view c.self.inside) (after c) c.args.block c.args.bits c.lines-scratch.result c.self.invariant (subst (λ s. IsSegment s c.args.block) (sym c.self.view_is) c.requires.there)
-    c.lay.ensures.are c.lines-scratch.ensures.count c.lay.ensures.lays refl c.set_lines.ensures.set
+    laid_whole (the_view c.self.inside) (after c) c.args.block c.args.bits c.self.invariant (subst (λ s. IsSegment s c.args.block) (sym c.self.view_is) c.requires.there)
+    c.lay.ensures.are c.lay.ensures.lays refl c.set_lines.ensures.set
 
 pub invariant_of-self : goal.invariant_of-self
 invariant_of-self c = (whole c).filled.store

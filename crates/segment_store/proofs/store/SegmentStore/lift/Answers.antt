@@ -4,14 +4,11 @@ use Rattle.segment_store.specs.Store.{Store, IsSegment, lines_at}
 use Rattle.segment_store.specs.contracts.store.SegmentStore.{the_view}
 use Rattle.segment_store.specs.Changes.{KeepsFrames, KeepsSegments}
 use Rattle.segment_store.specs.Laws.{block_in, lies_at}
-use Rattle.segment_store.proofs.Scratch.{HasLiftedWhole, before_scratch, lifted_whole}
+use Rattle.segment_store.proofs.Scratch.{HasLiftedWhole, lifted_whole}
 use Rattle.segment_store.proofs.store.SegmentStore.lift.Goals as goal
 
 pub lift-requires-clause-block : goal.lift-requires-clause-block
 lift-requires-clause-block c = block_in _ c.self.invariant c.args.block (subst (λ s. IsSegment s c.args.block) (sym c.self.view_is) c.requires.there)
-
-pub lift-requires-clause-before : goal.lift-requires-clause-before
-lift-requires-clause-before c = before_scratch _ c.self.invariant c.args.block (subst (λ s. IsSegment s c.args.block) (sym c.self.view_is) c.requires.there) _ c.lines-scratch.ensures.count
 
 pub lift-requires-clause-lie : goal.lift-requires-clause-lie
 lift-requires-clause-lie c line has =
@@ -23,7 +20,7 @@ abbrev after : goal.After-lift → Store
 after c = the_view record { region = c.lift.new.region; map = c.self.inside.map; slots = c.self.inside.slots }
 
 whole : (c : goal.After-lift) → HasLiftedWhole (the_view c.self.inside) (after c) c.args.block c.args.bits
-whole c = lifted_whole (the_view c.self.inside) (after c) c.args.block c.args.bits c.lines-scratch.result c.self.invariant c.lift.ensures.are c.lines-scratch.ensures.count c.lift.ensures.lifts refl refl
+whole c = lifted_whole (the_view c.self.inside) (after c) c.args.block c.args.bits c.self.invariant c.lift.ensures.are c.lift.ensures.lifts refl refl
 
 pub invariant_of-self : goal.invariant_of-self
 invariant_of-self c = (whole c).store
