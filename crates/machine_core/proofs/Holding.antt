@@ -7,7 +7,7 @@ use Rattle.sizes.specs.declared.TheConstants.{LINE_BYTES, PAGE_BYTES}
 use Rattle.byteorder.specs.Endian.{little_number}
 use Rattle.decoded_lines.specs.Decoded.{IsOfWord, word_of}
 use Rattle.decoded_lines.specs.declared.TheConstants.{KEPT_LINES, LINE_WORDS}
-use Rattle.ovl_io.specs.Memory.{Memory, Page, bytes_at, denied_at, with_byte, with_bytes, with_page_byte}
+use Rattle.ovl_io.specs.Memory.{Memory, Page, bytes_at, with_byte, with_bytes, with_page_byte}
 use Rattle.ovl_io.specs.MemoryLaws.{all_allowed}
 use Rattle.ovl_io.specs.PageBytes.{page_allows}
 use Rattle.ovl_io.specs.Permissions.{executable, permits}
@@ -18,11 +18,9 @@ use Rattle.overlay_memory.specs.Code.{IsCodeLine}
 use Rattle.overlay_memory.specs.View.{TranslatedView, state_of, translations_of}
 use Rattle.overlay_memory.specs.Translated.{after_access}
 use Rattle.overlay_pages.specs.State.{State, memory_of}
-use Rattle.overlay_pages.specs.View as seen
-use Rattle.overlay_pages.specs.View.{MemoryView}
 use Rattle.translation_cache.specs.Bare.{BareTranslations}
 use Rattle.translation_cache.specs.Counted.{counted}
-use Rattle.translation_cache.specs.CountedLaws.{IsFront, access_in_page, counted_one, front_beside, front_hits, translated_front}
+use Rattle.translation_cache.specs.CountedLaws.{IsFront, access_in_page, counted_one, front_beside, translated_front}
 use Rattle.translation_cache.specs.Translations.{with_hits}
 use Rattle.translation_cache.specs.declared.TheConstants.{SETS}
 use Rattle.machine_core.specs.Held.{IsHeld, IsTaken, IsWordAt, distance}

@@ -1,4 +1,4 @@
-use Rattle.std.proofs.Common.{ℕ, ◌≤◌, ap, refl, subst, sym, ◌∙◌}
+use Rattle.std.proofs.Common.{◌≤◌, ap, refl, subst, sym, ◌∙◌}
 use Rattle.sizes.specs.declared.TheConstants.{LINE_BYTES}
 use Rattle.machine_core.specs.Ahead.{guest_ahead}
 use Rattle.machine_core.specs.Executions.{Comes}

@@ -1,5 +1,4 @@
-use Rattle.std.proofs.Common.{◌≡◌, ◌+◌, ◌-◌, true, ap, subst, sym, refl, ◌∙◌, arith}
-use Rattle.rv_execute.specs.declared.outcome.Outcome.TheVariants.{Stepped}
+use Rattle.std.proofs.Common.{◌≡◌, ◌+◌, ◌-◌, ap, subst, sym, ◌∙◌, arith}
 use Rattle.machine_core.specs.Access.{spaces_lent}
 use Rattle.machine_core.specs.Ahead.{guest_ahead}
 use Rattle.machine_core.specs.Executions.{Comes, behind, executions, resumed, steps_in, stops_in}

@@ -1,13 +1,12 @@
-use Rattle.std.proofs.Common.{◌+◌, ◌-◌, ◌≡◌, sym, ap, subst, refl, ◌∙◌, arith}
+use Rattle.std.proofs.Common.{◌+◌, ◌-◌, sym, ap, subst, refl, ◌∙◌, arith}
 use Rattle.std.specs.FinSet.{contains}
-use Rattle.rv_execute.specs.declared.outcome.Outcome.TheVariants.{Stepped}
 use Rattle.machine_core.specs.Access.{spaces_lent}
 use Rattle.machine_core.specs.Ahead.{guest_ahead}
-use Rattle.machine_core.specs.Executions.{Comes, behind, executions, resumed, stops_in}
+use Rattle.machine_core.specs.Executions.{Comes, behind, executions, stops_in}
 use Rattle.machine_core.specs.Kept.{IsBeside, guest_lent}
 use Rattle.machine_core.proofs.Ahead.{begun}
-use Rattle.machine_core.proofs.Runs.{both_beside, last_of}
-use Rattle.machine_core.proofs.Stepping.{came_last, came_on, goes_on, stopped}
+use Rattle.machine_core.proofs.Runs.{both_beside}
+use Rattle.machine_core.proofs.Stepping.{came_on, goes_on}
 use Rattle.machine_core.proofs.stretches.step_owing.Goals as goal
 
 pub stepping-init : goal.stepping-init

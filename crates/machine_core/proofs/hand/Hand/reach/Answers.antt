@@ -1,4 +1,4 @@
-use Rattle.std.proofs.Common.{◌%◌, ◌≡◌, ◌<◌, arith}
+use Rattle.std.proofs.Common.{◌<◌, arith}
 use Rattle.sizes.specs.declared.TheConstants.{LINE_BYTES}
 use Rattle.machine_core.specs.Held.{distance}
 use Rattle.machine_core.proofs.hand.Hand.reach.Goals as goal
