@@ -14,8 +14,9 @@ use Rattle.rv_execute.specs.declared.outcome.Outcome.{Outcome}
 use Rattle.rv_execute.specs.declared.outcome.Outcome.TheVariants as outcome
 use Rattle.overlay_pages.specs.State.{memory_of}
 use Rattle.machine_core.specs.Access.{PerformsLent, spaces_lent}
-use Rattle.machine_core.specs.Held.{IsWordAt, Keeps, Makes, course_of}
+use Rattle.machine_core.specs.Held.{IsWordAt, Keeps, Makes, course_behind, course_of}
 use Rattle.machine_core.specs.declared.hand.Course.{Course}
+use Rattle.machine_core.specs.declared.hand.Course.TheVariants.{On}
 use Rattle.machine_core.specs.declared.view.View.{View}
 use Rattle.machine_core.proofs.Leaving.{keeps}
 
@@ -85,8 +86,16 @@ module _ (regs : Registers) (view : View) (o : Option Instr) (word : IsWordAt vi
     pub made_known : (n : ℕ) → Makes n (n + 1) regs.pc (execution regs memory).calls view (full_in result) new
     made_known n = makes n (effect a i.rd regs memory) (full_in result) new known made
 
-    pub line_known : (course : Course) → course ≡ course_of a regs.pc → result ≡ outcome.Stepped → Keeps course view new regs.pc left.pc
-    line_known course course_is stepped =
+    pub line_known : (course : Course) → course ≡ course_of a regs.pc → (behind : Course) → behind ≡ course_behind result course → result ≡ outcome.Stepped
+        → Keeps behind view new regs.pc left.pc
+    line_known course course_is behind behind_is stepped =
         let steps = subst (Executes (effect a i.rd regs memory) regs memory left (memory_of (spaces_lent new) new.space)) stepped done in
-        subst (λ (c : Course). Keeps c view new regs.pc left.pc) (sym course_is)
+        subst (λ (c : Course). Keeps c view new regs.pc left.pc) (sym (behind_is ∙ ap (λ o. course_behind o course) stepped ∙ course_is))
         (keeps view new (full_in result) regs i.rd left.pc a steps.0 (ap (λ (r : Registers). r.pc) steps.1) made)
+
+-- the next word follows a step alone
+pub on_step : (o : Outcome) (course : Course) → course_behind o course ≡ On → o ≡ outcome.Stepped
+on_step outcome.Stepped course is = refl
+on_step outcome.Asked course is = cc
+on_step (outcome.Fault kind address) course is = cc
+on_step (outcome.Full units limit) course is = cc

@@ -1,4 +1,4 @@
-use Rattle.std.proofs.Common.{◌≡◌, ℕ, ◌+◌, ◌-◌, ◌*◌, ◌/◌, ◌%◌, ◌^◌, ◌<◌, ◌≤◌, ◌⊎◌, inl, inr, false, List, [], ◌∷◌, length, get_or, Option, Some, None, sym, ap, subst, ◌∙◌, refl, arith}
+use Rattle.std.proofs.Common.{◌≡◌, ℕ, ◌+◌, ◌-◌, ◌*◌, ◌/◌, ◌%◌, ◌<◌, ◌≤◌, ◌⊎◌, inl, inr, false, List, [], ◌∷◌, length, get_or, Option, Some, None, sym, ap, subst, ◌∙◌, refl, arith}
 use Rattle.std.specs.Option.{option_map_or}
 use Rattle.std.specs.FinMap.{get, insert}
 use Rattle.std.proofs.lemmas.Bool.{cases_order}
@@ -6,7 +6,7 @@ use Rattle.number_maps.specs.Keys.{by_key, get_other, get_same}
 use Rattle.sizes.specs.declared.TheConstants.{LINE_BYTES, PAGE_BYTES}
 use Rattle.byteorder.specs.Endian.{little_number}
 use Rattle.decoded_lines.specs.Decoded.{IsOfWord, word_of}
-use Rattle.decoded_lines.specs.declared.TheConstants.{KEPT_LINES, LINE_WORDS}
+use Rattle.decoded_lines.specs.declared.TheConstants.{LINE_WORDS}
 use Rattle.ovl_io.specs.Memory.{Memory, Page, bytes_at, with_byte, with_bytes, with_page_byte}
 use Rattle.ovl_io.specs.MemoryLaws.{all_allowed}
 use Rattle.ovl_io.specs.PageBytes.{page_allows}
@@ -23,7 +23,7 @@ use Rattle.translation_cache.specs.Counted.{counted}
 use Rattle.translation_cache.specs.CountedLaws.{IsFront, access_in_page, counted_one, front_beside, translated_front}
 use Rattle.translation_cache.specs.Translations.{with_hits}
 use Rattle.translation_cache.specs.declared.TheConstants.{SETS}
-use Rattle.machine_core.specs.Held.{IsHeld, IsTaken, IsWordAt, distance}
+use Rattle.machine_core.specs.Held.{IsHeld, IsWordAt}
 use Rattle.machine_core.specs.Access.{lists_lent, spaces_lent}
 use Rattle.machine_core.specs.declared.hand.Hand.{Hand}
 use Rattle.machine_core.specs.declared.view.View.{View}
@@ -73,13 +73,6 @@ module _ (lines : List (List ℕ)) (view : View) (hand : Hand) (pc at : ℕ) (he
             ∙ ap (λ n. bytes_at (memory_of (spaces_lent view) view.space) n 4) line));
         encodable = is.encodable;
       }
-
--- and one that lies in it
-pub taken_at : (lines : List (List ℕ)) (view : View) (hand : Hand) (pc : ℕ) → IsTaken lines view.memory.now view.space hand pc → pc < 2 ^ 64
-    → pc ≡ hand.start + 4 * (distance hand.start pc / 4)
-taken_at lines view hand pc taken low =
-    let within = taken.within in let aligned = taken.aligned in let start = taken.held.start in let start_low = taken.held.low in
-    omega (arith, within, aligned, start, start_low, low)
 
 -- What a store does beside a page.
 
@@ -144,21 +137,3 @@ module _ (old new : TranslatedView) (space start address need count : ℕ) (line
       out (inl same) = absurd (apart.sets (ap (λ n. n % SETS) same))
       out (inr (inl less)) = let fits = apart.one_page in inr (omega (arith, less, fits, few, length_is))
       out (inr (inr more)) = inl (omega (arith, more))
-
--- A line that was taken is in hand.
-pub line_taken : (lines : List (List ℕ)) (memory : TranslatedView) (space pc : ℕ) (hand : Hand) → pc < 2 ^ 64 → pc % 4 ≡ 0
-    → hand.start ≡ pc - pc % LINE_BYTES → hand.first % LINE_WORDS ≡ 0 → hand.first / LINE_WORDS < KEPT_LINES
-    → IsCodeLine memory space pc (get_or lines (hand.first / LINE_WORDS) []) → IsTaken lines memory space hand pc
-line_taken lines memory space pc hand low aligned start whole inside code =
-    let line : hand.start / LINE_BYTES ≡ pc / LINE_BYTES = omega (arith, start) in
-    record {
-      held = record {
-        start = omega (arith, start);
-        low = omega (arith, start, low);
-        first = whole;
-        inside = inside;
-        code = code_moved memory space pc hand.start _ line code;
-      };
-      aligned = aligned;
-      within = omega (arith, start, low);
-    }

@@ -1,4 +1,5 @@
-use Rattle.std.proofs.Common.{◌≡◌, ℕ, ◌+◌, ◌-◌, ◌*◌, ◌/◌, ◌%◌, ◌^◌, ◌<◌, ◌≤◌, Bool, true, false, List, [], get_or, Option, None, sym, ap, subst, ◌∙◌, refl, arith}
+use Rattle.std.proofs.Common.{◌≡◌, ℕ, ◌+◌, ◌-◌, ◌*◌, ◌/◌, ◌%◌, ◌^◌, ◌<◌, ◌≤◌, Bool, true, false, List, [], drop, get_or, take, Option, None, sym, ap, subst, ◌∙◌, refl, arith}
+use Rattle.std.proofs.lemmas.List.{get_or-drop, get_or-take}
 use Rattle.std.specs.FinSet.{contains}
 use Rattle.sizes.specs.declared.TheConstants.{LINE_BYTES, PAGE_BYTES}
 use Rattle.breakpoints.specs.Breakpoints.{Addresses}
@@ -42,12 +43,20 @@ module _ (lines : List (List ℕ)) (view : View) (hand : Hand) (from k pc : ℕ)
   pub held_here : IsInHand lines view hand pc → IsHeld lines view.memory.now view.space hand
   held_here in_hand = in_hand (near hand.start pc (from + k) whole low inside here)
 
-  pub word_here : IsInHand lines view hand pc → (words : List (Option Instr)) → AreOfLine words 0 (get_or lines (hand.first / LINE_WORDS) [])
+  word_here : IsInHand lines view hand pc → (words : List (Option Instr)) → AreOfLine words 0 (get_or lines (hand.first / LINE_WORDS) [])
       → IsWordAt view pc (get_or words (from + k) None)
   word_here in_hand words are =
       let zero : LINE_WORDS * 0 + (from + k) ≡ from + k = omega arith in
       word_is lines view hand pc (from + k) (held_here in_hand) (at_here hand.start pc (from + k) whole low inside here) inside (get_or words (from + k) None)
       (subst (λ n. IsOfWord (get_or words n None) (word_of (get_or lines (hand.first / LINE_WORDS) []) (from + k))) zero (are (from + k) inside))
+
+  -- among those from the first one on
+  pub word_in : IsInHand lines view hand pc → (words : List (Option Instr)) (count : ℕ) → k < count → AreOfLine words 0 (get_or lines (hand.first / LINE_WORDS) [])
+      → IsWordAt view pc (get_or (take (from + count - from) (drop from words)) k None)
+  word_in in_hand words count below are =
+      subst (IsWordAt view pc)
+      (sym (get_or-take (from + count - from) (drop from words) k None (omega (arith, below)) ∙ get_or-drop from words k None))
+      (word_here in_hand words are)
 
   -- executions don't stop at a word behind the first one
   pub goes_past : (stops : Addresses) (count : ℕ) → IsGuarded stops hand → (hand.watched ≡ true → count ≡ 1) → k < count → 0 < k → contains stops pc ≡ false
@@ -145,13 +154,6 @@ module _ (stops : Addresses) (p : ℕ) (guest : Guest) (most k owed : ℕ) (old 
 
   pub comes : Comes stops p most guest (k + steps_in o) o next
   comes = came_by o refl (came (owed + k) ∙ ap (λ n. outcome_of n now) same)
-
-pub last_of : (stops : Addresses) (p most : ℕ) (guest : Guest) (n : ℕ) (o : Outcome) (then : Guest) → (o ≡ outcome.Stepped → ⊥) → Comes stops p most guest n o then
-    → (n ≤ most) × IsLast (executions stops p most guest) n o then
-last_of stops p most guest n outcome.Stepped then other came = absurd (other refl)
-last_of stops p most guest n outcome.Asked then other came = came
-last_of stops p most guest n (outcome.Fault kind address) then other came = came
-last_of stops p most guest n (outcome.Full units limit) then other came = came
 
 -- what each of two stretches leaves beside, both do
 pub both_beside : (p : ℕ) (old mid new : State) → IsBeside p old mid → IsBeside p mid new → IsBeside p old new

@@ -145,25 +145,6 @@ module _ (stops : Addresses) (p : ℕ) where
         let left : most - k - n ≡ most - (k + n) = omega arith in
         is ∙ ap (behind k) came ∙ together k n (resumed stops p (most - k - n) next) ∙ ap (λ m. behind (k + n) (resumed stops p m next)) left
 
-    pub came_last : (o : Outcome) → IsLast (executions stops p (most - k) now) n o next → IsLast all (k + n) o next
-    came_last o last = record {
-      steps = ap (λ m. k + m) last.steps ∙ sym (ap (λ (e : Executions). e.steps) is);
-      outcome_is = last.outcome_is ∙ sym (ap (λ (e : Executions). e.outcome) is);
-      after_is = last.after_is ∙ sym (ap (λ (e : Executions). e.after) is);
-    }
-
-  -- the last step left the pc at a stop
-  pub stopped : (all : Executions) (k most : ℕ) (next : Guest) → all ≡ behind k (resumed stops p most next) → is_at_stop stops next ≡ true
-      → IsLast all k outcome.Stepped next
-  stopped all k most next is stop =
-      let last : all ≡ behind k (no_execution next) = is ∙ ap (λ b. behind k (cond b (no_execution next) (executions stops p most next))) stop in
-      let count : k ≡ k + 0 = omega arith in
-      record {
-        steps = count ∙ sym (ap (λ (e : Executions). e.steps) last);
-        outcome_is = sym (ap (λ (e : Executions). e.outcome) last);
-        after_is = sym (ap (λ (e : Executions). e.after) last);
-      }
-
 -- Whether it runs then.
 
 abbrev pub runs_on : Outcome → Bool

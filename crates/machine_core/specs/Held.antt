@@ -10,6 +10,8 @@ use Rattle.rv_decode.specs.declared.instruction.Instr.{Instr}
 use Rattle.rv_execute.specs.Calls.{Call, Fetch, fetch_at, word_at}
 use Rattle.rv_execute.specs.declared.action.Action.{Action}
 use Rattle.rv_execute.specs.declared.action.Action.TheVariants as action
+use Rattle.rv_execute.specs.declared.outcome.Outcome.{Outcome}
+use Rattle.rv_execute.specs.declared.outcome.Outcome.TheVariants.{Stepped, Asked, Fault, Full}
 use Rattle.overlay_memory.specs.Code.{IsCodeLine}
 use Rattle.overlay_memory.specs.View.{TranslatedView}
 use Rattle.overlay_pages.specs.State.{memory_of}
@@ -81,6 +83,13 @@ course_of (action.Goto target) pc = Elsewhere
 course_of action.Next pc = On
 course_of action.Ask pc = Elsewhere
 course_of action.Stop pc = Elsewhere
+
+-- the next word follows only a step
+abbrev pub course_behind : Outcome → Course → Course
+course_behind Stepped course = course
+course_behind Asked course = Elsewhere
+course_behind (Fault kind address) course = Elsewhere
+course_behind (Full units limit) course = Elsewhere
 
 -- a line with that address is in hand of what follows, where it was
 abbrev pub KeepsLine : View → View → ℕ → ℕ → Type 0

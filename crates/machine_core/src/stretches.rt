@@ -13,7 +13,7 @@ ghost use Rattle.breakpoints.specs.Breakpoints.{Addresses};
 ghost use Rattle.machine_core.specs.Access.{IsReadyView, spaces_lent};
 ghost use Rattle.machine_core.specs.Ahead.{guest_ahead};
 ghost use Rattle.machine_core.specs.Executions.{Comes, all_executed, executions, steps_in, stops_in};
-ghost use Rattle.machine_core.specs.Held.{GoesOn, IsGuarded, IsInHand, IsLeft, IsTaken, IsWordAt, Keeps, Makes, distance};
+ghost use Rattle.machine_core.specs.Held.{course_behind, GoesOn, IsGuarded, IsInHand, IsLeft, IsTaken, IsWordAt, Keeps, Makes, distance};
 ghost use Rattle.machine_core.specs.Kept.{IsBeside, guest_in, guest_lent};
 ghost use Rattle.machine_core.specs.Turns.{executed, outcome_of, state_left};
 
@@ -26,6 +26,19 @@ use overlay_memory::OverlayMemory;
 use ovl_io::{FaultKind, ProcessState};
 use rv_decode::Instr;
 use rv_execute::{Outcome, Regs, action_on, execute, perform};
+
+/// What follows an instruction of which that came: the next word of the line only where it was a step.
+#[inline(always)]
+fn course_behind(outcome: Outcome, course: Course) -> Course
+    ensures { result ≡ course_behind outcome course }
+{
+    match outcome {
+        Outcome::Stepped => course,
+        Outcome::Asked => Course::Elsewhere,
+        Outcome::Fault(_, _) => Course::Elsewhere,
+        Outcome::Full(_, _) => Course::Elsewhere,
+    }
+}
 
 /// As `execute`, of a word that stands decoded. Its fetch is still to be counted.
 #[inline]
@@ -41,6 +54,7 @@ fn execute_decoded(regs: &mut Regs, view: &mut View, word: &Option<Instr>) -> (O
         view.old (full_in result.0) view.new }
     ensures line { result.0 ≡ Outcome.Stepped
         → Keeps result.1 view.old view.new regs.old.pc regs.new.pc }
+    ensures on { result.1 ≡ Course.On → result.0 ≡ Outcome.Stepped }
 {
     let pc = regs.pc();
     match word {
@@ -48,7 +62,7 @@ fn execute_decoded(regs: &mut Regs, view: &mut View, word: &Option<Instr>) -> (O
             let action = action_on(i, regs);
             let course = course_of(&action, pc);
             let outcome = perform(action, i.rd, regs, view);
-            (outcome, course)
+            (outcome, course_behind(outcome, course))
         }
         None => (Outcome::Fault(FaultKind::Illegal, pc), Course::Elsewhere),
     }
@@ -57,8 +71,11 @@ fn execute_decoded(regs: &mut Regs, view: &mut View, word: &Option<Instr>) -> (O
 /// Faults a process, where that came of its instruction.
 #[inline]
 fn note(process: &mut Process, outcome: Outcome)
-    ensures { process.new ≡ record { regs = process.old.regs;
-        state = state_left outcome process.old.state; saved = process.old.saved } }
+    ensures { process.new ≡ record {
+      regs = process.old.regs;
+      state = state_left outcome process.old.state;
+      saved = process.old.saved;
+    } }
 {
     if let Outcome::Fault(kind, address) = outcome {
         process.state = ProcessState::Faulted(kind, address);
@@ -74,6 +91,7 @@ fn execute_word(process: &mut Process, view: &mut View, word: &Option<Instr>) ->
     ensures ready { IsReadyView view.new }
     ensures line { result.0 ≡ Outcome.Stepped
         → Keeps result.1 view.old view.new process.old.regs.pc process.new.regs.pc }
+    ensures on { result.1 ≡ Course.On → result.0 ≡ Outcome.Stepped }
     ensures loan { view.new.memory.ghost_name ≡ view.old.memory.ghost_name }
     ensures space { view.new.space ≡ view.old.space }
     ensures outcome { (n : ℕ) → result.0
@@ -127,18 +145,15 @@ fn steps_in(outcome: Outcome) -> u32
     }
 }
 
-/// Whether an instruction was a step to the next word of the line in hand.
-#[inline]
-fn is_on(outcome: Outcome, course: Course) -> bool
-    ensures { result ≡ true → (outcome ≡ Outcome.Stepped) × (course ≡ Course.On) }
+/// Whether the next word of the line in hand follows.
+#[inline(always)]
+fn is_on(course: Course) -> bool
+    ensures { result ≡ true → course ≡ Course.On }
 {
-    match outcome {
-        Outcome::Stepped => match course {
-            Course::On => true,
-            Course::Elsewhere => false,
-            Course::Lost => false,
-        },
-        _ => false,
+    match course {
+        Course::On => true,
+        Course::Elsewhere => false,
+        Course::Lost => false,
     }
 }
 
@@ -206,13 +221,13 @@ fn run(
     ensures saved { process.new.saved ≡ process.old.saved }
     ensures beside { IsBeside view.old.space (spaces_lent view.old) (spaces_lent view.new) }
 {
-    let words = lines.words(hand.first);
     let from = hand.place(process.regs.pc());
     let count = count_from(from, hand.watched, most);
+    let words = &lines.words(hand.first)[from..from + count as usize];
     let mut k = 0u32;
     'running: while k < count {
-        let (outcome, course) = execute_word(process, view, &words[from + k as usize]);
-        if !is_on(outcome, course) {
+        let (outcome, course) = execute_word(process, view, &words[k as usize]);
+        if !is_on(course) {
             let steps = leave(hand, process.regs.pc(), k, outcome, course);
             return (steps, outcome);
         }

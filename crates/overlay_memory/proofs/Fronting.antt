@@ -1,4 +1,4 @@
-use Rattle.std.proofs.Common.{◌≡◌, ℕ, zero, suc, ◌*◌, ◌/◌, ◌%◌, true, false, List, take, drop, length, get_or, replicate, Option, Some, None, is_some, sym, ap, subst, ◌∙◌, refl, arith}
+use Rattle.std.proofs.Common.{◌≡◌, ℕ, zero, suc, ◌*◌, ◌/◌, ◌%◌, true, List, take, drop, length, get_or, replicate, Option, Some, None, is_some, sym, ap, subst, ◌∙◌, refl, arith}
 use Rattle.std.proofs.lemmas.Option.{none-some}
 use Rattle.sizes.specs.declared.TheConstants.{LINE_BYTES, PAGE_BYTES, PAGE_LINES}
 use Rattle.std.specs.Option.{option_map}

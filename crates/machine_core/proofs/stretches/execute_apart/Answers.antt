@@ -19,7 +19,7 @@ returns c =
     let all = owing k k old.regs.pc view came.new.mem old came.new.regs came.result came.ensures.done c.requires.runs (Makes.AllAsked refl came.ensures.made) in
     let pc_is = c.pc.ensures ∙ sym (ap (λ (q : Process). q.regs.pc) c.note.ensures) in
     let moved = ap (λ n. guest_ahead n (guest_lent came.new.mem c.note.new.process)) c.lose.ensures.owed
-        ∙ ap (λ (q : Process). guest_ahead k (guest_lent came.new.mem q)) c.note.ensures ∙ all.after_is in
+    ∙ ap (λ (q : Process). guest_ahead k (guest_lent came.new.mem q)) c.note.ensures ∙ all.after_is in
     record {
       loan = all.loan;
       space = all.space;

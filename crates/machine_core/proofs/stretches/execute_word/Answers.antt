@@ -17,6 +17,7 @@ returns c =
       ready = came.ensures.ready;
       line = λ stepped.
           subst (λ (q : Process). Keeps came.result.1 view came.new.view old.regs.pc q.regs.pc) (sym c.note.ensures) (came.ensures.line stepped);
+      on = came.ensures.on;
       loan = one.loan;
       space = one.space;
       outcome = λ n. (all n).outcome_is;
