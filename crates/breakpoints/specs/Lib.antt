@@ -1,2 +1,3 @@
--- In reading order: which addresses a process has, and what adding one and taking one away leave.
+-- In reading order: which addresses a process has, and what adding one and taking one away leave; marks of the words with addresses.
 pub mod Breakpoints
+pub mod Marks

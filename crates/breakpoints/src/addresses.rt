@@ -1,9 +1,14 @@
 //! A set of addresses.
 
-ghost use Rattle.std.specs.Prelude.{◌≡◌, true, IsOk, OnOk, OnErr};
+ghost use Rattle.std.specs.Prelude.{◌≡◌, ℕ, ◌/◌, ◌%◌, ◌<◌, [], true, false, replicate, slice_set, slice_index_or, IsOk, OnOk, OnErr};
 ghost use Rattle.std.specs.FinSet as set;
+ghost use Rattle.overlay_bits.specs.Lines.{AreLines, with_line};
+ghost use Rattle.breakpoints.specs.Marks.{mark_of, piece_of, word_of};
+ghost use Rattle.breakpoints.specs.declared.TheConstants.{MARKED_PIECES, PIECE_BYTES};
 
+use crate::{MARKED_PIECES, PIECE_BYTES};
 use indexmap::IndexSet;
+use overlay_bits::Bits;
 use std::alloc::{AllocError, Global};
 use std::marker::Model;
 
@@ -11,6 +16,8 @@ use std::marker::Model;
 #[derive(Drop)]
 pub struct Addresses {
     found: IndexSet<u64>,
+    // of each piece of memory the words in which an address lies, and maybe others
+    marks: [Bits; MARKED_PIECES],
 }
 
 impl Model for Addresses {
@@ -22,7 +29,46 @@ impl Model for Addresses {
 
     ghost coded = { code coded_ℕ };
 
+    ghost use Rattle.breakpoints.specs.Marks.{AreMarked};
+
     ghost view = { λ a. from_list a.found.keys };
+
+    ghost invariant = { λ a. AreMarked a.found.keys a.marks };
+}
+
+/// The mark of a piece.
+#[inline]
+fn mark_of(marks: &[Bits; MARKED_PIECES], address: u64) -> Bits
+    ensures mark { result ≡ mark_of marks.now address }
+{
+    marks[(address / PIECE_BYTES % MARKED_PIECES as u64) as usize]
+}
+
+/// The number of a word in its piece.
+#[inline]
+fn word_of(address: u64) -> u8
+    ensures word { result ≡ word_of address }
+    ensures low { result < 64 }
+{
+    (address / 4 % 64) as u8
+}
+
+/// Marks the word of an address.
+fn mark(marks: &mut [Bits; MARKED_PIECES], address: u64)
+    ensures { marks.new ≡ slice_set marks.old (piece_of address)
+        (with_line (mark_of marks.old address) (word_of address)) }
+{
+    marks[(address / PIECE_BYTES % MARKED_PIECES as u64) as usize] = mark_of(marks, address).with(
+        word_of(address),
+    );
+}
+
+/// Takes away all marks.
+fn unmark(marks: &mut [Bits; MARKED_PIECES])
+    ensures { marks.new ≡ replicate MARKED_PIECES [] }
+{
+    let none = [Bits::empty(); MARKED_PIECES];
+    *marks = none;
 }
 
 impl Addresses {
@@ -32,15 +78,26 @@ impl Addresses {
     {
         Addresses {
             found: IndexSet::new(alloc),
+            marks: [Bits::empty(); MARKED_PIECES],
         }
     }
 
-    /// Whether an address is there.
+    /// Whether an address is there. Costs a few steps where no other one lies in its word of four bytes.
     #[inline]
     pub fn has(&self, address: u64) -> bool
         ensures { result ≡ set.contains self.now address }
     {
-        self.found.contains(&address)
+        mark_of(&self.marks, address).has(word_of(address)) && self.found.contains(&address)
+    }
+
+    /// Whether one that is there may lie in the same 256 bytes as an address. Costs a few steps.
+    #[inline]
+    pub fn may_have_near(&self, address: u64) -> bool
+        ensures { result ≡ false → (a : ℕ) → a / PIECE_BYTES ≡ address / PIECE_BYTES
+            → set.contains self.now a ≡ false }
+    {
+        let _found = &self.found;
+        mark_of(&self.marks, address).len() > 0
     }
 
     /// Adds an address. One that is there stays, and takes no memory. After want of memory everything is as before.
@@ -50,7 +107,10 @@ impl Addresses {
         ensures there { set.contains self.old address ≡ true → IsOk result }
     {
         match self.found.insert(address) {
-            Ok(_) => Ok(()),
+            Ok(_) => {
+                mark(&mut self.marks, address);
+                Ok(())
+            }
             Err(_) => Err(AllocError),
         }
     }
@@ -60,5 +120,8 @@ impl Addresses {
         ensures { self.new ≡ set.remove self.old address }
     {
         self.found.swap_remove(&address);
+        if self.found.is_empty() {
+            unmark(&mut self.marks);
+        }
     }
 }

@@ -11,3 +11,9 @@ mod by_process;
 
 pub use addresses::Addresses;
 pub use by_process::Breakpoints;
+
+/// How many bytes a piece has of which the words with breakpoints are marked: those of 64 words.
+pub const PIECE_BYTES: u64 = 256;
+
+/// How many such pieces are told apart.
+pub const MARKED_PIECES: usize = 128;

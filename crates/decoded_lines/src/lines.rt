@@ -1,9 +1,7 @@
 //! The lines and their instructions.
 
-ghost use Rattle.std.specs.Prelude.{◌≡◌, ◌+◌, ◌*◌, ◌/◌, ◌%◌, ◌<◌, ◌≤◌, ◌⊎◌, ℕ, [], IfOk, IfSome, length, replicate, slice_index_or, slice_set, None};
-ghost use Rattle.rv_decode.specs.Encodable.{IsEncodable};
-ghost use Rattle.rv_decode.specs.Meaning.{meaning};
-ghost use Rattle.decoded_lines.specs.Decoded.{AreOfLine, word_of};
+ghost use Rattle.std.specs.Prelude.{◌≡◌, ◌+◌, ◌*◌, ◌/◌, ◌%◌, ◌<◌, ◌≤◌, ◌⊎◌, ℕ, [], IfOk, length, replicate, slice_index_or, slice_set, None};
+ghost use Rattle.decoded_lines.specs.Decoded.{AreOfLine};
 ghost use Rattle.decoded_lines.specs.declared.TheConstants.{KEPT_LINES, LINE_WORDS};
 
 use crate::{KEPT_LINES, LINE_WORDS};
@@ -95,14 +93,15 @@ impl DecodedLines {
         decode_line(&mut self.instructions, slot, line);
     }
 
-    /// What the word at a place means: none exactly where it is no instruction. Costs a step.
+    /// What the words of a line mean, whose first one's meaning stands at a place: none exactly where a word is no instruction.
+    /// Costs a step.
     #[inline]
-    pub fn get(&self, at: usize) -> Option<Instr>
-        requires { at / LINE_WORDS < KEPT_LINES }
-        ensures means { result
-            ≡ meaning (word_of (slice_index_or self.now (at / LINE_WORDS) []) (at % LINE_WORDS)) }
-        ensures encodable { IfSome result IsEncodable }
+    pub fn words(&self, first: usize) -> &[Option<Instr>]
+        requires first { first % LINE_WORDS ≡ 0 }
+        requires inside { first / LINE_WORDS < KEPT_LINES }
+        ensures count { length result.now ≡ LINE_WORDS }
+        ensures words { AreOfLine result.now 0 (slice_index_or self.now (first / LINE_WORDS) []) }
     {
-        self.instructions[at]
+        &self.instructions[first..first + LINE_WORDS]
     }
 }

@@ -27,7 +27,7 @@ use Rattle.machine_core.specs.Machine.{kept_in, kept_whole, none_saved}
 use Rattle.translation_cache.specs.Bare.{BareTranslations}
 use Rattle.machine_core.specs.Tried.{each_counted}
 use Rattle.machine_core.specs.Access.{IsSameLoan, IsStoredBy, IsUnchanged, Leaves, lists_after, lists_lent, spaces_lent}
-use Rattle.machine_core.specs.Turns.{Guest, executed, execution_of, exceeds, guest_executed, guest_refused, is_full, ledger_executed, ledger_stored, outcome_of, state_executed, store_made, store_of, translations_executed, units_needed}
+use Rattle.machine_core.specs.Turns.{Guest, exceeds, executed, execution_of, guest_executed, guest_refused, is_full, ledger_executed, ledger_stored, outcome_of, state_executed, state_left, store_made, store_of, translations_executed, units_needed}
 use Rattle.machine_core.specs.Kept.{IsBeside, guest_seen}
 
 -- What the calls of one instruction make of the memory of all spaces.
@@ -129,12 +129,6 @@ pub record IsExecuted (p : ℕ) (old new : State) (t u : BareTranslations) (befo
   pub outcome_is : o ≡ outcome_of p (guest_seen p old t before)
   pub after_is : guest_seen p new u after ≡ executed p (guest_seen p old t before)
   pub beside : IsBeside p old new
-
-abbrev pub state_left : Outcome → ProcessState → ProcessState
-state_left outcome.Stepped before = before
-state_left outcome.Asked before = before
-state_left (outcome.Fault kind address) before = state.Faulted kind address
-state_left (outcome.Full units limit) before = before
 
 -- what an outcome that isn't for want of units says
 record IsDone (e : Execution) (regs : Registers) (memory : Memory) (o : Outcome) : Type 0 where

@@ -10,9 +10,8 @@ use Rattle.translation_cache.specs.Finding.{found_hits}
 use Rattle.translation_cache.specs.Translations.{entered, found, looked, looked_by, with_hits, with_misses}
 use Rattle.breakpoints.specs.Breakpoints.{Addresses}
 use Rattle.machine_core.specs.Ahead.{ahead, guest_ahead}
-use Rattle.machine_core.specs.Executions.{executions}
+use Rattle.machine_core.specs.Executions.{behind, executions}
 use Rattle.machine_core.specs.Turns.{Guest}
-use Rattle.machine_core.proofs.Stepping.{behind}
 use Rattle.machine_core.specs.Tried.{each_counted}
 
 -- A hit more before accesses is one behind them.

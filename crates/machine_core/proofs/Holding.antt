@@ -1,29 +1,30 @@
-use Rattle.std.proofs.Common.{◌≡◌, ℕ, ◌+◌, ◌-◌, ◌*◌, ◌/◌, ◌%◌, ◌^◌, ◌<◌, ◌≤◌, ◌⊎◌, inl, inr, false, List, [], ◌∷◌, length, get_or, Option, Some, None, sym, ap, subst, ◌∙◌, refl, arith}
+use Rattle.std.proofs.Common.{◌≡◌, ℕ, ◌+◌, ◌-◌, ◌*◌, ◌/◌, ◌%◌, ◌<◌, ◌≤◌, ◌⊎◌, inl, inr, false, List, [], ◌∷◌, length, get_or, Option, Some, None, sym, ap, subst, ◌∙◌, refl, arith}
 use Rattle.std.specs.Option.{option_map_or}
 use Rattle.std.specs.FinMap.{get, insert}
 use Rattle.std.proofs.lemmas.Bool.{cases_order}
 use Rattle.number_maps.specs.Keys.{by_key, get_other, get_same}
 use Rattle.sizes.specs.declared.TheConstants.{LINE_BYTES, PAGE_BYTES}
 use Rattle.byteorder.specs.Endian.{little_number}
-use Rattle.decoded_lines.specs.Decoded.{word_of}
+use Rattle.decoded_lines.specs.Decoded.{IsOfWord, word_of}
 use Rattle.decoded_lines.specs.declared.TheConstants.{LINE_WORDS}
-use Rattle.ovl_io.specs.Memory.{Memory, Page, bytes_at, denied_at, with_byte, with_bytes, with_page_byte}
+use Rattle.ovl_io.specs.Memory.{Memory, Page, bytes_at, with_byte, with_bytes, with_page_byte}
 use Rattle.ovl_io.specs.MemoryLaws.{all_allowed}
 use Rattle.ovl_io.specs.PageBytes.{page_allows}
 use Rattle.ovl_io.specs.Permissions.{executable, permits}
-use Rattle.rv_execute.specs.Calls.{fetch_at, word_at}
+use Rattle.rv_decode.specs.Meaning.{meaning}
+use Rattle.rv_decode.specs.declared.instruction.Instr.{Instr}
+use Rattle.rv_execute.specs.Calls.{fetch_at}
 use Rattle.overlay_memory.specs.Code.{IsCodeLine}
 use Rattle.overlay_memory.specs.View.{TranslatedView, state_of, translations_of}
 use Rattle.overlay_memory.specs.Translated.{after_access}
 use Rattle.overlay_pages.specs.State.{State, memory_of}
-use Rattle.overlay_pages.specs.View as seen
-use Rattle.overlay_pages.specs.View.{MemoryView}
 use Rattle.translation_cache.specs.Bare.{BareTranslations}
 use Rattle.translation_cache.specs.Counted.{counted}
-use Rattle.translation_cache.specs.CountedLaws.{IsFront, access_in_page, counted_one, front_beside, front_hits, translated_front}
+use Rattle.translation_cache.specs.CountedLaws.{IsFront, access_in_page, counted_one, front_beside, translated_front}
 use Rattle.translation_cache.specs.Translations.{with_hits}
 use Rattle.translation_cache.specs.declared.TheConstants.{SETS}
-use Rattle.machine_core.specs.Held.{IsAt, distance, IsReached}
+use Rattle.machine_core.specs.Held.{IsHeld, IsWordAt}
+use Rattle.machine_core.specs.Access.{lists_lent, spaces_lent}
 use Rattle.machine_core.specs.declared.hand.Hand.{Hand}
 use Rattle.machine_core.specs.declared.view.View.{View}
 use Rattle.machine_core.proofs.Bytes.{bytes_beside, some_bytes}
@@ -37,15 +38,7 @@ fetched_front space pc m t aligned front =
     counted_one space m (fetch_at pc) t ∙ access_in_page space m (fetch_at pc) t (omega arith) (omega (arith, aligned))
     ∙ translated_front space (pc / PAGE_BYTES) m t front
 
--- hits leave the line, and so does another address of it
-pub code_counted : (old new : TranslatedView) (space address n : ℕ) (line : List ℕ) → new.pages ≡ old.pages → translations_of new ≡ with_hits n (translations_of old)
-    → IsCodeLine old space address line → IsCodeLine new space address line
-code_counted old new space address n line same is code = record {
-  may = ap (λ (v : MemoryView). page_allows (memory_of (seen.state_of v) space) executable (address / PAGE_BYTES)) same ∙ code.may;
-  front = subst (IsFront space (address / PAGE_BYTES)) (sym is) (front_hits space (address / PAGE_BYTES) n (translations_of old) code.front);
-  bytes = code.bytes ∙ sym (ap (λ (v : MemoryView). bytes_at (memory_of (seen.state_of v) space) (LINE_BYTES * (address / LINE_BYTES)) LINE_BYTES) same);
-}
-
+-- another address of a line leaves it
 pub code_moved : (view : TranslatedView) (space a b : ℕ) (line : List ℕ) → b / LINE_BYTES ≡ a / LINE_BYTES → IsCodeLine view space a line → IsCodeLine view space b line
 code_moved view space a b line same code =
     let page : b / PAGE_BYTES ≡ a / PAGE_BYTES = omega (arith, same) in
@@ -56,39 +49,30 @@ code_moved view space a b line same code =
     }
 
 -- An address of it may be fetched, and its word stands decoded there.
-module _ (lines : List (List ℕ)) (view : TranslatedView) (space : ℕ) (hand : Hand) (pc at : ℕ) (is : IsAt lines view space hand pc at)
-    (low : pc < 2 ^ 64) where
-  near : pc ≡ hand.start + distance hand.start pc
-  near = let within = is.within in let start = is.held.start in let start_low = is.held.low in omega (arith, within, start, low, start_low)
-
+module _ (lines : List (List ℕ)) (view : View) (hand : Hand) (pc at : ℕ) (held : IsHeld lines view.memory.now view.space hand)
+    (here : pc ≡ hand.start + 4 * at) (inside : at < LINE_WORDS) where
   pub page_is : pc / PAGE_BYTES ≡ hand.start / PAGE_BYTES
-  page_is = let here = near in let within = is.within in let start = is.held.start in omega (arith, here, within, start)
+  page_is = let start = held.start in omega (arith, here, inside, start)
 
-  pub at_allowed : denied_at (memory_of (state_of view) space) (fetch_at pc) ≡ None
-  at_allowed =
-      let aligned = is.aligned in
-      all_allowed (memory_of (state_of view) space) executable (pc / PAGE_BYTES) pc 4
-      (ap (page_allows (memory_of (state_of view) space) executable) page_is ∙ is.held.code.may) (omega arith) (omega (arith, aligned))
-
-  pub at_front : IsFront space (pc / PAGE_BYTES) (translations_of view)
-  at_front = subst (λ n. IsFront space n (translations_of view)) (sym page_is) is.held.code.front
-
-  pub at_word : word_of (get_or lines (at / LINE_WORDS) []) (at % LINE_WORDS) ≡ word_at (memory_of (state_of view) space) pc
-  at_word =
-      let within = is.within in
-      let aligned = is.aligned in
-      let start = is.held.start in
-      let first = is.held.first in
-      let at_is = is.at_is in
-      let here = near in
-      let slot : at / LINE_WORDS ≡ hand.first / LINE_WORDS = omega (arith, within, first, at_is) in
-      let place : 4 * (at % LINE_WORDS) ≡ distance hand.start pc = omega (arith, within, first, at_is, aligned, start, here) in
-      let line : LINE_BYTES * (hand.start / LINE_BYTES) + 4 * (at % LINE_WORDS) ≡ pc = omega (arith, start, place, here) in
-      ap (λ n. word_of (get_or lines n []) (at % LINE_WORDS)) slot
-      ∙ ap (λ l. word_of l (at % LINE_WORDS)) is.held.code.bytes
-      ∙ ap (little_number 4)
-      (some_bytes (memory_of (state_of view) space) (LINE_BYTES * (hand.start / LINE_BYTES)) (4 * (at % LINE_WORDS)) 4 LINE_BYTES (omega (arith, within, place))
-      ∙ ap (λ n. bytes_at (memory_of (state_of view) space) n 4) line)
+  pub word_is : (word : Option Instr) → IsOfWord word (word_of (get_or lines (hand.first / LINE_WORDS) []) at) → IsWordAt view pc word
+  word_is word is =
+      let start = held.start in
+      let low = held.low in
+      let line : LINE_BYTES * (hand.start / LINE_BYTES) + 4 * at ≡ pc = omega (arith, start, here) in
+      record {
+        low = omega (arith, start, low, here, inside);
+        aligned = omega (arith, start, here);
+        may = all_allowed (memory_of (spaces_lent view) view.space) executable (pc / PAGE_BYTES) pc 4
+            (ap (page_allows (memory_of (spaces_lent view) view.space) executable) page_is ∙ held.code.may) (omega arith) (omega (arith, start, here));
+        front = subst (λ n. IsFront view.space n (lists_lent view)) (sym page_is) held.code.front;
+        means = is.means
+            ∙ ap meaning
+            (ap (λ l. word_of l at) held.code.bytes
+            ∙ ap (little_number 4)
+            (some_bytes (memory_of (spaces_lent view) view.space) (LINE_BYTES * (hand.start / LINE_BYTES)) (4 * at) 4 LINE_BYTES (omega (arith, inside))
+            ∙ ap (λ n. bytes_at (memory_of (spaces_lent view) view.space) n 4) line));
+        encodable = is.encodable;
+      }
 
 -- What a store does beside a page.
 
@@ -153,27 +137,3 @@ module _ (old new : TranslatedView) (space start address need count : ℕ) (line
       out (inl same) = absurd (apart.sets (ap (λ n. n % SETS) same))
       out (inr (inl less)) = let fits = apart.one_page in inr (omega (arith, less, fits, few, length_is))
       out (inr (inr more)) = inl (omega (arith, more))
-
--- a memory that didn't change leaves the view
-pub unmoved : (view : View) (memory : TranslatedView) → memory ≡ view.memory.now
-    → record { memory = record { ref_ptr = view.memory.ref_ptr; ghost_name = view.memory.ghost_name; now = memory }; space = view.space } ≡ view
-unmoved view memory same = λ i. record { memory = record { ref_ptr = view.memory.ref_ptr; ghost_name = view.memory.ghost_name; now = same i }; space = view.space }
-
--- A line that was reached is in hand, and its word stands there.
-pub reached_at : (lines : List (List ℕ)) (memory : TranslatedView) (space pc first owed : ℕ) → pc < 2 ^ 64 → IsReached memory space lines pc first
-    → IsAt lines memory space (record { start = pc - pc % LINE_BYTES; first = first; owed = owed }) pc (first + pc % LINE_BYTES / 4)
-reached_at lines memory space pc first owed low reached =
-    let near : distance (pc - pc % 64) pc ≡ pc % 64 = omega (arith, low) in
-    let line : (pc - pc % 64) / LINE_BYTES ≡ pc / LINE_BYTES = omega arith in
-    record {
-      held = record {
-        start = omega arith;
-        low = omega (arith, low);
-        first = reached.first_is;
-        inside = reached.inside;
-        code = code_moved memory space pc (pc - pc % 64) _ line reached.code;
-      };
-      aligned = reached.aligned;
-      within = omega (arith, near);
-      at_is = ap (λ n. first + n / 4) (sym near);
-    }

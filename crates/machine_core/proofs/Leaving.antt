@@ -1,7 +1,7 @@
-use Rattle.std.proofs.Common.{◌≡◌, ℕ, ◌+◌, ◌-◌, ◌/◌, ◌%◌, ◌^◌, ◌<◌, ◌≤◌, ◌==◌, ◌&&◌, Bool, true, false, cond, not, nat_le, List, [], ◌∷◌, length, get_or, Option, Some, None, sym, ap, subst, ◌∙◌, refl, arith}
+use Rattle.std.proofs.Common.{◌≡◌, ℕ, ◌-◌, ◌/◌, ◌%◌, ◌<◌, ◌≤◌, ◌==◌, ◌&&◌, Bool, true, false, cond, not, nat_le, List, [], ◌∷◌, length, get_or, Option, Some, None, sym, ap, subst, ◌∙◌, refl, arith}
 use Rattle.std.specs.Prelude.{Result, Ok, Err}
 use Rattle.std.proofs.lemmas.Bool.Decides.{nat_tests}
-use Rattle.sizes.specs.declared.TheConstants.{LINE_BYTES, PAGE_BYTES}
+use Rattle.sizes.specs.declared.TheConstants.{PAGE_BYTES}
 use Rattle.byteorder.specs.Endian.{little_bytes}
 use Rattle.decoded_lines.specs.declared.TheConstants.{LINE_WORDS}
 use Rattle.ovl_io.specs.Memory.{Memory, denied_at}
@@ -21,7 +21,9 @@ use Rattle.overlay_memory.specs.View.{TranslatedView}
 use Rattle.overlay_pages.specs.State.{memory_of}
 use Rattle.translation_cache.specs.declared.TheConstants.{SETS}
 use Rattle.machine_core.specs.Access.{IsStoredBy, PerformsLent, spaces_lent}
-use Rattle.machine_core.specs.Held.{IsHeld, IsInHand, distance, is_apart, left_at, left_by, lost}
+use Rattle.machine_core.specs.Held.{IsHeld, IsInHand, Keeps, KeepsLine, course_by, course_of, is_apart}
+use Rattle.machine_core.specs.declared.hand.Course.{Course}
+use Rattle.machine_core.specs.declared.hand.Course.TheVariants.{On, Elsewhere, Lost}
 use Rattle.machine_core.specs.declared.hand.Hand.{Hand}
 use Rattle.machine_core.specs.declared.view.View.{View}
 use Rattle.machine_core.proofs.Holding.{IsApart, code_beside, code_kept}
@@ -47,10 +49,6 @@ held_over : (lines : List (List ℕ)) (old new : TranslatedView) (p q : ℕ) (ha
     → (IsCodeLine old p hand.start (get_or lines (hand.first / LINE_WORDS) []) → IsCodeLine new q hand.start (get_or lines (hand.first / LINE_WORDS) []))
     → IsHeld lines new q hand
 held_over lines old new p q hand held goes = record { start = held.start; low = held.low; first = held.first; inside = held.inside; code = goes held.code }
-
--- or none is, 4 behind the address
-none_lost : (pc next : ℕ) (hand : Hand) → pc < 2 ^ 64 → next ≡ (pc + 4) % 2 ^ 64 → distance (lost pc hand).start next < LINE_BYTES → ⊥
-none_lost pc next hand low is within = omega (arith, low, is, within)
 
 few_of : (size : Size) → count_of size ≤ 8
 few_of Byte = omega arith
@@ -92,8 +90,14 @@ store_next : (o : Option ℕ) (address : ℕ) (bytes : List ℕ) (regs : Registe
 store_next None address bytes regs memory calls is = refl
 store_next (Some at) address bytes regs memory calls is = cc
 
+apart : On ≡ Lost → ⊥
+apart same = cc
+
+elsewhere : Elsewhere ≡ Lost → ⊥
+elsewhere same = cc
+
 module _ (lines : List (List ℕ)) (old new : View) (full : Option (ℕ × ℕ)) (hand : Hand) (regs : Registers) (rd : ℕ) (next : ℕ)
-    (held : IsHeld lines old.memory.now old.space hand) (low : regs.pc < 2 ^ 64) (page : regs.pc / PAGE_BYTES ≡ hand.start / PAGE_BYTES) where
+    (held : IsHeld lines old.memory.now old.space hand) (page : regs.pc / PAGE_BYTES ≡ hand.start / PAGE_BYTES) where
   abbrev memory : Memory
   memory = memory_of (spaces_lent old) old.space
 
@@ -104,12 +108,12 @@ module _ (lines : List (List ℕ)) (old new : View) (full : Option (ℕ × ℕ))
       (subst (λ (v : View). IsCodeLine v.memory.now v.space hand.start (get_or lines (hand.first / LINE_WORDS) [])) (sym made.1))
 
   -- a load
-  loads : (address count : ℕ) → 0 < count → count ≤ 8 → next ≡ next_pc regs → PerformsLent (Load address count ∷ []) old full new
-      → IsInHand lines new (left_at address regs.pc hand) next
-  loads address count some few goes (mid, (loan, same, lists), (none, is)) = by_test (is_apart address regs.pc) refl
+  loads : (address count : ℕ) → 0 < count → count ≤ 8 → (course_by address regs.pc ≡ Lost → ⊥) → PerformsLent (Load address count ∷ []) old full new
+      → IsInHand lines new hand next
+  loads address count some few on (mid, (loan, same, lists), (none, is)) = by_test (is_apart address regs.pc) refl
     where
-      by_test : (b : Bool) → is_apart address regs.pc ≡ b → IsInHand lines new (cond b hand (lost regs.pc hand)) next
-      by_test false test within = absurd (none_lost regs.pc next hand low goes within)
+      by_test : (b : Bool) → is_apart address regs.pc ≡ b → IsInHand lines new hand next
+      by_test false test within = absurd (on (ap (λ b. cond b On Lost) test))
       by_test true test within =
           subst (λ (v : View). IsHeld lines v.memory.now v.space hand) (sym is)
           (subst (λ p. IsHeld lines mid.memory.now p hand) (sym loan.space)
@@ -117,9 +121,9 @@ module _ (lines : List (List ℕ)) (old new : View) (full : Option (ℕ × ℕ))
           code_kept old.memory.now mid.memory.now old.space hand.start address (load_at address count).need count _ (apart_of address regs.pc hand.start test page) some few lists code same)))
 
   -- a store
-  stores : (address : ℕ) (bytes : List ℕ) → 0 < length bytes → length bytes ≤ 8 → next ≡ next_pc regs → PerformsLent (Store address bytes ∷ []) old full new
-      → IsInHand lines new (left_at address regs.pc hand) next
-  stores address bytes some few goes (answer, (loan, leaves, lists), full_is, last) = by_test (is_apart address regs.pc) refl
+  stores : (address : ℕ) (bytes : List ℕ) → 0 < length bytes → length bytes ≤ 8 → (course_by address regs.pc ≡ Lost → ⊥)
+      → PerformsLent (Store address bytes ∷ []) old full new → IsInHand lines new hand next
+  stores address bytes some few on (answer, (loan, leaves, lists), full_is, last) = by_test (is_apart address regs.pc) refl
     where
       by_answer : (a : Result (Unit {0}) Refused) → IsStoredBy old address bytes a new → is_apart address regs.pc ≡ true
           → IsCodeLine old.memory.now old.space hand.start (get_or lines (hand.first / LINE_WORDS) [])
@@ -134,34 +138,30 @@ module _ (lines : List (List ℕ)) (old new : View) (full : Option (ℕ × ℕ))
           code_kept old.memory.now new.memory.now old.space hand.start address (store_at address (length bytes)).need (length bytes) _
           (apart_of address regs.pc hand.start test page) some few counts code same
 
-      by_test : (b : Bool) → is_apart address regs.pc ≡ b → IsInHand lines new (cond b hand (lost regs.pc hand)) next
-      by_test false test within = absurd (none_lost regs.pc next hand low goes within)
+      by_test : (b : Bool) → is_apart address regs.pc ≡ b → IsInHand lines new hand next
+      by_test false test within = absurd (on (ap (λ b. cond b On Lost) test))
       by_test true test within =
           subst (λ p. IsHeld lines new.memory.now p hand) (sym loan.space)
           (held_over lines old.memory.now new.memory.now old.space old.space hand held (by_answer answer (loan, leaves, lists) test))
 
-  abbrev Left : Action → Type 0
-  Left a = (effect a rd regs memory).upshot ≡ Steps → next ≡ (effect a rd regs memory).registers.pc → PerformsLent (effect a rd regs memory).calls old full new
-      → IsInHand lines new (left_by a regs.pc hand) next
-
-  pub left_in_hand : (a : Action) → Left a
-  left_in_hand (action.Write value) steps goes made = nothing made
-  left_in_hand (action.Link target) steps goes made =
+  held_behind : (a : Action) → (course_of a regs.pc ≡ Lost → ⊥) → PerformsLent (effect a rd regs memory).calls old full new → IsInHand lines new hand next
+  held_behind (action.Write value) on made = nothing made
+  held_behind (action.Link target) on made =
       nothing (subst (λ calls. PerformsLent calls old full new)
       (no_calls (target % 4 == 0) (completed (with_pc (with_register regs rd (next_pc regs)) target) memory []) (fault regs memory kind.Align target []) refl refl) made)
-  left_in_hand (action.Goto target) steps goes made =
+  held_behind (action.Goto target) on made =
       nothing (subst (λ calls. PerformsLent calls old full new)
       (no_calls (target % 4 == 0) (completed (with_pc regs target) memory []) (fault regs memory kind.Align target []) refl refl) made)
-  left_in_hand (action.Load address size extension) steps goes made =
+  held_behind (action.Load address size extension) on made =
       let calls = Load address (count_of size) ∷ [] in
       let denied = denied_at memory (load_at address (count_of size)) in
-      loads address (count_of size) (some_of size) (few_of size) (goes ∙ load_next denied address size extension rd regs memory calls steps)
+      loads address (count_of size) (some_of size) (few_of size) on
       (subst (λ c. PerformsLent c old full new) (load_calls denied address size extension rd regs memory calls) made)
-  left_in_hand (action.Store address size value) steps goes made =
+  held_behind (action.Store address size value) on made =
       let bytes = little_bytes (count_of size) value in
       let calls = Store address bytes ∷ [] in
       let denied = denied_at memory (store_at address (count_of size)) in
-      stores address bytes (few_bytes size value).0 (few_bytes size value).1 (goes ∙ store_next denied address bytes regs memory calls steps)
+      stores address bytes (few_bytes size value).0 (few_bytes size value).1 on
       (subst (λ c. PerformsLent c old full new) (store_calls denied address bytes regs memory calls) made)
     where
       few_bytes : (size : Size) (value : ℕ) → (0 < length (little_bytes (count_of size) value)) × (length (little_bytes (count_of size) value) ≤ 8)
@@ -169,6 +169,43 @@ module _ (lines : List (List ℕ)) (old new : View) (full : Option (ℕ × ℕ))
       few_bytes Half value = (omega arith, omega arith)
       few_bytes Word value = (omega arith, omega arith)
       few_bytes Double value = (omega arith, omega arith)
-  left_in_hand action.Next steps goes made = nothing made
-  left_in_hand action.Ask steps goes made = nothing made
-  left_in_hand action.Stop steps goes made = nothing made
+  held_behind action.Next on made = nothing made
+  held_behind action.Ask on made = nothing made
+  held_behind action.Stop on made = nothing made
+
+-- What follows an action that is a step.
+module _ (old new : View) (full : Option (ℕ × ℕ)) (regs : Registers) (rd next : ℕ) where
+  abbrev lent : Memory
+  lent = memory_of (spaces_lent old) old.space
+
+  abbrev Kept : Action → Type 0
+  Kept a = (effect a rd regs lent).upshot ≡ Steps → next ≡ (effect a rd regs lent).registers.pc → PerformsLent (effect a rd regs lent).calls old full new
+      → Keeps (course_of a regs.pc) old new regs.pc next
+
+  line : (a : Action) → (course_of a regs.pc ≡ Lost → ⊥) → PerformsLent (effect a rd regs lent).calls old full new → KeepsLine old new regs.pc next
+  line a on made lines hand held page = held_behind lines old new full hand regs rd next held page a on made
+
+  by_access : (a : Action) (address : ℕ) → course_of a regs.pc ≡ course_by address regs.pc → next ≡ next_pc regs → PerformsLent (effect a rd regs lent).calls old full new
+      → Keeps (course_of a regs.pc) old new regs.pc next
+  by_access a address course goes made = by_test (is_apart address regs.pc) refl
+    where
+      by_test : (b : Bool) → is_apart address regs.pc ≡ b → Keeps (course_of a regs.pc) old new regs.pc next
+      by_test true test =
+          let on : course_of a regs.pc ≡ On = course ∙ ap (λ b. cond b On Lost) test in
+          subst (λ (c : Course). Keeps c old new regs.pc next) (sym on) (goes, line a (λ lost. apart (sym on ∙ lost)) made)
+      by_test false test = subst (λ (c : Course). Keeps c old new regs.pc next) (sym (course ∙ ap (λ b. cond b On Lost) test)) tt
+
+  pub keeps : (a : Action) → Kept a
+  keeps (action.Write value) steps goes made = (goes, line (action.Write value) apart made)
+  keeps (action.Link target) steps goes made = line (action.Link target) elsewhere made
+  keeps (action.Goto target) steps goes made = line (action.Goto target) elsewhere made
+  keeps (action.Load address size extension) steps goes made =
+      by_access (action.Load address size extension) address refl
+      (goes ∙ load_next (denied_at lent (load_at address (count_of size))) address size extension rd regs lent (Load address (count_of size) ∷ []) steps) made
+  keeps (action.Store address size value) steps goes made =
+      by_access (action.Store address size value) address refl
+      (goes ∙ store_next (denied_at lent (store_at address (count_of size))) address (little_bytes (count_of size) value) regs lent
+      (Store address (little_bytes (count_of size) value) ∷ []) steps) made
+  keeps action.Next steps goes made = (goes, line action.Next apart made)
+  keeps action.Ask steps goes made = line action.Ask elsewhere made
+  keeps action.Stop steps goes made = line action.Stop elsewhere made

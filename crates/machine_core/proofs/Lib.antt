@@ -9,6 +9,7 @@ pub mod Rising
 pub mod Listed
 pub mod Accessing
 pub mod Stepping
+pub mod Runs
 pub mod Machines
 pub mod Plays
 pub mod Adding

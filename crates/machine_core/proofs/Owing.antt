@@ -13,10 +13,10 @@ use Rattle.machine_core.specs.Ahead.{ahead, guest_ahead}
 use Rattle.machine_core.specs.Held.{Makes}
 use Rattle.machine_core.specs.Kept.{IsBeside, guest_lent, guest_seen}
 use Rattle.machine_core.specs.Tried.{each_counted, tried_counted}
-use Rattle.machine_core.specs.Turns.{executed, outcome_of, store_made, translations_executed}
+use Rattle.machine_core.specs.Turns.{executed, outcome_of, state_left, store_made, translations_executed}
 use Rattle.machine_core.specs.declared.process.Process as declared
 use Rattle.machine_core.specs.declared.view.View.{View}
-use Rattle.machine_core.proofs.Accessing.{Came, executes, performed, state_left}
+use Rattle.machine_core.proofs.Accessing.{Came, executes, performed}
 use Rattle.machine_core.proofs.Ahead.{ahead_each, ahead_more, front_ahead}
 use Rattle.machine_core.proofs.Holding.{fetched_front}
 

@@ -1,4 +1,4 @@
-use Rattle.std.proofs.Common.{◌≡◌, ℕ, suc, ◌+◌, ◌-◌, ◌<◌, Bool, true, false, cond, sym, ap, ◌∙◌, refl, arith, Option, Some, None}
+use Rattle.std.proofs.Common.{◌≡◌, ℕ, zero, suc, ◌+◌, ◌-◌, ◌<◌, Bool, true, false, cond, sym, ap, ◌∙◌, refl, arith, Option, Some, None}
 use Rattle.std.specs.Option.{option_map_or}
 use Rattle.ovl_io.specs.declared.process_state.ProcessState.{ProcessState}
 use Rattle.ovl_io.specs.declared.process_state.ProcessState.TheVariants as state
@@ -9,18 +9,9 @@ use Rattle.machine_core.specs.Process.{runs}
 use Rattle.machine_core.specs.Machine.{Wholes, limit_of}
 use Rattle.machine_core.specs.Turns.{Guest, after_execution, executed, execution_of, guest_at, guest_executed, guest_refused, is_full, outcome_found, outcome_of, state_executed, units_needed, with_guest}
 use Rattle.breakpoints.specs.Breakpoints.{Addresses}
-use Rattle.machine_core.specs.Executions.{Executions, after_executions, all_executed, executions, first_execution, is_at_stop, last_outcome, more_executions, no_execution, stopped_execution}
+use Rattle.machine_core.specs.Executions.{Executions, after_executions, all_executed, Comes, IsLast, behind, executions, first_execution, is_at_stop, last_outcome, more_executions, no_execution, resumed, steps_in, stopped_execution}
 
 -- Executions so far, and those that are left.
-
-abbrev pub behind : ℕ → Executions → Executions
-behind k others = record { steps = k + others.steps; before = others.before; outcome = others.outcome; after = others.after }
-
--- the last one, which is no step
-pub record IsLast (all : Executions) (k : ℕ) (o : Outcome) (after : Guest) : Type 0 where
-  pub steps : k ≡ all.steps
-  pub outcome_is : o ≡ all.outcome
-  pub after_is : after ≡ all.after
 
 -- one step is the same whether it leaves the pc at a stop or not
 step_alone : (t : Bool) (next : Guest) → cond t (stopped_execution next) (more_executions (no_execution next)) ≡ stopped_execution next
@@ -50,36 +41,27 @@ module _ (stops : Addresses) (p : ℕ) where
       is ∙ ap (λ n. behind k (executions stops p n now)) (left_more most k below)
       ∙ ap (λ v. behind k (first_execution stops v now (executed p now) (executions stops p (most - (k + 1)) (executed p now)))) came
 
-  -- a step, by whether it leaves the pc at a stop
-  stepped_by : (t : Bool) (all : Executions) (most k : ℕ) (now next : Guest) → k < most → all ≡ behind k (executions stops p (most - k) now)
-      → outcome.Stepped ≡ outcome_of p now → next ≡ executed p now → t ≡ is_at_stop stops next
-      → all ≡ behind k (cond t (stopped_execution (executed p now)) (more_executions (executions stops p (most - (k + 1)) (executed p now))))
-  stepped_by t all most k now next below is stepped moved test =
-      unrolled all most k now outcome.Stepped below is (sym stepped)
-      ∙ ap (λ b. behind k (cond b (stopped_execution (executed p now)) (more_executions (executions stops p (most - (k + 1)) (executed p now)))))
-      (ap (is_at_stop stops) (sym moved) ∙ sym test)
+  from_first : (most : ℕ) (now : Guest) → executions stops p most now ≡ behind 0 (executions stops p (most - 0) now)
+  from_first most now =
+      let all : most ≡ most - 0 = omega arith in
+      let e = executions stops p (most - 0) now in
+      let count : e.steps ≡ 0 + e.steps = omega arith in
+      ap (λ n. executions stops p n now) all ∙ (λ i. record { steps = count i; before = e.before; outcome = e.outcome; after = e.after })
 
-  -- one more step
-  pub one_step : (all : Executions) (most k : ℕ) (now next : Guest) → k < most → all ≡ behind k (executions stops p (most - k) now)
-      → outcome.Stepped ≡ outcome_of p now → next ≡ executed p now → false ≡ is_at_stop stops next
-      → all ≡ behind (k + 1) (executions stops p (most - (k + 1)) next)
-  one_step all most k now next below is stepped moved goes =
-      let others = executions stops p (most - (k + 1)) (executed p now) in
+  -- a step: it isn't known yet whether it leaves the pc at a stop
+  step_by : (t : Bool) (k : ℕ) (others : Executions) (next : Guest)
+      → behind k (cond t (stopped_execution next) (more_executions others)) ≡ behind (k + 1) (cond t (no_execution next) others)
+  step_by true k others next = let one : k + 1 ≡ k + 1 + 0 = omega arith in λ i. record { steps = one i; before = next; outcome = outcome.Stepped; after = next }
+  step_by false k others next =
       let more : k + (others.steps + 1) ≡ k + 1 + others.steps = omega arith in
-      stepped_by false all most k now next below is stepped moved goes
-      ∙ ap (λ n. record { steps = n; before = others.before; outcome = others.outcome; after = others.after }) more
-      ∙ ap (λ g. behind (k + 1) (executions stops p (most - (k + 1)) g)) (sym moved)
+      λ i. record { steps = more i; before = others.before; outcome = others.outcome; after = others.after }
 
-  -- one that leaves the pc at a stop is the last one
-  pub stop_step : (all : Executions) (most k : ℕ) (now next : Guest) → k < most → all ≡ behind k (executions stops p (most - k) now)
-      → outcome.Stepped ≡ outcome_of p now → next ≡ executed p now → true ≡ is_at_stop stops next → IsLast all (k + 1) outcome.Stepped next
-  stop_step all most k now next below is stepped moved stop =
-      let last = stepped_by true all most k now next below is stepped moved stop in
-      record {
-        steps = sym (ap (λ (e : Executions). e.steps) last);
-        outcome_is = sym (ap (λ (e : Executions). e.outcome) last);
-        after_is = moved ∙ sym (ap (λ (e : Executions). e.after) last);
-      }
+  pub one_step : (all : Executions) (most k : ℕ) (now next : Guest) → k < most → all ≡ behind k (executions stops p (most - k) now)
+      → outcome.Stepped ≡ outcome_of p now → next ≡ executed p now → all ≡ behind (k + 1) (resumed stops p (most - (k + 1)) next)
+  one_step all most k now next below is stepped moved =
+      unrolled all most k now outcome.Stepped below is (sym stepped)
+      ∙ step_by (is_at_stop stops (executed p now)) k (executions stops p (most - (k + 1)) (executed p now)) (executed p now)
+      ∙ ap (λ g. behind (k + 1) (resumed stops p (most - (k + 1)) g)) (sym moved)
 
   pub no_step : (o : Outcome) (all : Executions) (most k : ℕ) (now next : Guest) → k < most → all ≡ behind k (executions stops p (most - k) now)
       → o ≡ outcome_of p now → (o ≡ outcome.Stepped → ⊥) → next ≡ executed p now → IsLast all k o next
@@ -106,6 +88,17 @@ module _ (stops : Addresses) (p : ℕ) where
         after_is = moved ∙ sym (ap (λ (e : Executions). e.after) last);
       }
 
+  -- the first of some
+  pub first_comes : (o : Outcome) (most : ℕ) (now next : Guest) → 0 < most → o ≡ outcome_of p now → next ≡ executed p now → Comes stops p most now (steps_in o) o next
+  first_comes outcome.Stepped most now next some came moved =
+      (omega (arith, some), one_step (executions stops p most now) most 0 now next some (from_first most now) came moved)
+  first_comes outcome.Asked most now next some came moved =
+      (omega arith, no_step outcome.Asked (executions stops p most now) most 0 now next some (from_first most now) came (λ same. cc) moved)
+  first_comes (outcome.Fault kind address) most now next some came moved =
+      (omega arith, no_step (outcome.Fault kind address) (executions stops p most now) most 0 now next some (from_first most now) came (λ same. cc) moved)
+  first_comes (outcome.Full units limit) most now next some came moved =
+      (omega arith, no_step (outcome.Full units limit) (executions stops p most now) most 0 now next some (from_first most now) came (λ same. cc) moved)
+
   -- a single one
   pub single_outcome : (found : Option Guest) → last_outcome stops p 1 found ≡ outcome_found p found
   single_outcome None = refl
@@ -123,21 +116,34 @@ module _ (stops : Addresses) (p : ℕ) where
   pub single_after_all : (state : Wholes) → after_executions stops 1 state p ≡ after_execution state p
   single_after_all state = of_found (guest_at state p) state
 
--- one more step, one that leaves the pc at a stop, and one that is no step, in a space that has the number p
-pub step_in : (stops : Addresses) (p q : ℕ) → q ≡ p → (all : Executions) (most k : ℕ) (now next : Guest) → k < most → all ≡ behind k (executions stops p (most - k) now)
-    → outcome.Stepped ≡ outcome_of q now → next ≡ executed q now → false ≡ is_at_stop stops next → all ≡ behind (k + 1) (executions stops p (most - (k + 1)) next)
-step_in stops p q same all most k now next below is stepped moved goes =
-    one_step stops p all most k now next below is (stepped ∙ ap (λ n. outcome_of n now) same) (moved ∙ ap (λ n. executed n now) same) goes
+-- The first step of some may start at a stop; behind the others it isn't known yet whether they left the pc at one.
+abbrev pub so_far : ℕ → Addresses → ℕ → ℕ → Guest → Executions
+so_far zero stops p most guest = executions stops p most guest
+so_far (suc k) stops p most guest = resumed stops p most guest
 
-pub stop_in : (stops : Addresses) (p q : ℕ) → q ≡ p → (all : Executions) (most k : ℕ) (now next : Guest) → k < most → all ≡ behind k (executions stops p (most - k) now)
-    → outcome.Stepped ≡ outcome_of q now → next ≡ executed q now → true ≡ is_at_stop stops next → IsLast all (k + 1) outcome.Stepped next
-stop_in stops p q same all most k now next below is stepped moved stop =
-    stop_step stops p all most k now next below is (stepped ∙ ap (λ n. outcome_of n now) same) (moved ∙ ap (λ n. executed n now) same) stop
+module _ (stops : Addresses) (p : ℕ) where
+  pub goes_on : (most : ℕ) (guest : Guest) → is_at_stop stops guest ≡ false → resumed stops p most guest ≡ executions stops p most guest
+  goes_on most guest apart = ap (λ b. cond b (no_execution guest) (executions stops p most guest)) apart
 
-pub last_in : (stops : Addresses) (p q : ℕ) → q ≡ p → (o : Outcome) (all : Executions) (most k : ℕ) (now next : Guest) → k < most → all ≡ behind k (executions stops p (most - k) now)
-    → o ≡ outcome_of q now → (o ≡ outcome.Stepped → ⊥) → next ≡ executed q now → IsLast all k o next
-last_in stops p q same o all most k now next below is came other moved =
-    no_step stops p o all most k now next below is (came ∙ ap (λ n. outcome_of n now) same) other (moved ∙ ap (λ n. executed n now) same)
+  pub on_so_far : (k most : ℕ) (guest : Guest) → (0 < k → is_at_stop stops guest ≡ false) → so_far k stops p most guest ≡ executions stops p most guest
+  on_so_far zero most guest apart = refl
+  on_so_far (suc k) most guest apart = goes_on most guest (apart (omega arith))
+
+  pub is_so_far : (k most : ℕ) (guest : Guest) → 0 < k → resumed stops p most guest ≡ so_far k stops p most guest
+  is_so_far zero most guest some = absurd (omega (arith, some))
+  is_so_far (suc k) most guest some = refl
+
+  -- some behind others
+  together : (k n : ℕ) (others : Executions) → behind k (behind n others) ≡ behind (k + n) others
+  together k n others =
+      let both : k + (n + others.steps) ≡ k + n + others.steps = omega arith in
+      λ i. record { steps = both i; before = others.before; outcome = others.outcome; after = others.after }
+
+  module _ (all : Executions) (most k n : ℕ) (now next : Guest) (is : all ≡ behind k (executions stops p (most - k) now)) where
+    pub came_on : executions stops p (most - k) now ≡ behind n (resumed stops p (most - k - n) next) → all ≡ behind (k + n) (resumed stops p (most - (k + n)) next)
+    came_on came =
+        let left : most - k - n ≡ most - (k + n) = omega arith in
+        is ∙ ap (behind k) came ∙ together k n (resumed stops p (most - k - n) next) ∙ ap (λ m. behind (k + n) (resumed stops p m next)) left
 
 -- Whether it runs then.
 

@@ -1,4 +1,4 @@
-use Rattle.std.specs.Prelude.{ℕ, zero, suc, ◌+◌, Bool, if◌then◌else◌, Option}
+use Rattle.std.specs.Prelude.{◌≡◌, ℕ, zero, suc, ◌+◌, ◌-◌, ◌≤◌, Bool, if◌then◌else◌, Option}
 use Rattle.std.specs.Borrow.{Bor}
 use Rattle.std.specs.Option.{option_copied, option_map_or, unwrap_or}
 use Rattle.std.specs.FinSet.{contains, empty}
@@ -49,6 +49,34 @@ abbrev pub executions : Addresses → ℕ → ℕ → Guest → Executions
 executions stops p zero guest = no_execution guest
 executions stops p (suc most) guest =
     first_execution stops (outcome_of p guest) guest (executed p guest) (executions stops p most (executed p guest))
+
+-- so many steps before others
+abbrev pub behind : ℕ → Executions → Executions
+behind k others = record { steps = k + others.steps; before = others.before; outcome = others.outcome; after = others.after }
+
+-- the last one of all, which is no step or leaves the pc at a stop
+pub record IsLast (all : Executions) (k : ℕ) (o : Outcome) (after : Guest) : Type 0 where
+  pub steps : k ≡ all.steps
+  pub outcome_is : o ≡ all.outcome
+  pub after_is : after ≡ all.after
+
+-- those behind a step, which may have left the pc at a stop
+abbrev pub resumed : Addresses → ℕ → ℕ → Guest → Executions
+resumed stops p most guest = if is_at_stop stops guest then no_execution guest else executions stops p most guest
+
+-- how many steps it was of which that came
+abbrev pub steps_in : Outcome → ℕ
+steps_in Stepped = 1
+steps_in Asked = 0
+steps_in (Fault kind address) = 0
+steps_in (Full units limit) = 0
+
+-- What the first of them come to, up to one behind which it isn't known yet whether pc is at a stop, or to one that is no step.
+abbrev pub Comes : Addresses → ℕ → ℕ → Guest → ℕ → Outcome → Guest → Type 0
+Comes stops p most guest n Stepped next = (n ≤ most) × (executions stops p most guest ≡ behind n (resumed stops p (most - n) next))
+Comes stops p most guest n Asked next = (n ≤ most) × IsLast (executions stops p most guest) n Asked next
+Comes stops p most guest n (Fault kind address) next = (n ≤ most) × IsLast (executions stops p most guest) n (Fault kind address) next
+Comes stops p most guest n (Full units limit) next = (n ≤ most) × IsLast (executions stops p most guest) n (Full units limit) next
 
 -- of a process that may be there: how many were steps, and what came of the last one
 abbrev pub steps_of : Addresses → ℕ → ℕ → Option Guest → ℕ

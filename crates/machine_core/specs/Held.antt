@@ -1,22 +1,26 @@
-use Rattle.std.specs.Prelude.{◌≡◌, ◌⊎◌, ℕ, ◌+◌, ◌-◌, ◌/◌, ◌%◌, ◌^◌, ◌<◌, ◌&&◌, ◌==◌, nat_le, Bool, not, List, [], ◌∷◌, slice_index_or, Option, Some, Result, Ok, Err, if◌then◌else◌}
+use Rattle.std.specs.Prelude.{◌≡◌, ℕ, ◌+◌, ◌-◌, ◌/◌, ◌%◌, ◌^◌, ◌<◌, ◌≤◌, ◌&&◌, ◌==◌, nat_le, Bool, not, true, false, List, [], ◌∷◌, slice_index_or, Option, None, IfSome, if◌then◌else◌}
+use Rattle.std.specs.FinSet.{contains}
 use Rattle.sizes.specs.declared.TheConstants.{LINE_BYTES, PAGE_BYTES}
+use Rattle.breakpoints.specs.Breakpoints.{Addresses}
 use Rattle.decoded_lines.specs.declared.TheConstants.{KEPT_LINES, LINE_WORDS}
 use Rattle.ovl_io.specs.Memory.{denied_at}
-use Rattle.rv_execute.specs.Calls.{Call, Fetch, fetch_at}
+use Rattle.rv_decode.specs.Encodable.{IsEncodable}
+use Rattle.rv_decode.specs.Meaning.{meaning}
+use Rattle.rv_decode.specs.declared.instruction.Instr.{Instr}
+use Rattle.rv_execute.specs.Calls.{Call, Fetch, fetch_at, word_at}
 use Rattle.rv_execute.specs.declared.action.Action.{Action}
 use Rattle.rv_execute.specs.declared.action.Action.TheVariants as action
+use Rattle.rv_execute.specs.declared.outcome.Outcome.{Outcome}
+use Rattle.rv_execute.specs.declared.outcome.Outcome.TheVariants.{Stepped, Asked, Fault, Full}
 use Rattle.overlay_memory.specs.Code.{IsCodeLine}
-use Rattle.overlay_memory.specs.View.{TranslatedView, state_of, translations_of}
-use Rattle.overlay_memory.specs.Translated.{after_access}
+use Rattle.overlay_memory.specs.View.{TranslatedView}
 use Rattle.overlay_pages.specs.State.{memory_of}
 use Rattle.translation_cache.specs.declared.TheConstants.{SETS}
 use Rattle.translation_cache.specs.CountedLaws.{IsFront}
-use Rattle.machine_core.specs.Access.{IsUnchanged, PerformsLent, lists_lent, spaces_lent}
+use Rattle.machine_core.specs.Access.{IsReadyView, PerformsLent, lists_lent, spaces_lent}
+use Rattle.machine_core.specs.declared.hand.Course.{Course}
+use Rattle.machine_core.specs.declared.hand.Course.TheVariants.{On, Elsewhere, Lost}
 use Rattle.machine_core.specs.declared.hand.Hand.{Hand}
-use Rattle.machine_core.specs.declared.hand.Reached.{Reached}
-use Rattle.machine_core.specs.declared.hand.Reached.TheVariants.{Owed, Counted, Not}
-use Rattle.machine_core.specs.declared.hand.Refusal.{Refusal}
-use Rattle.machine_core.specs.declared.hand.Refusal.TheVariants.{Askew, Denied}
 use Rattle.machine_core.specs.declared.view.View.{View}
 
 -- The line that instructions are taken from, decoded.
@@ -37,54 +41,24 @@ pub record IsHeld (lines : List (List ℕ)) (memory : TranslatedView) (space : �
 abbrev pub IsInHand : List (List ℕ) → View → Hand → ℕ → Type 0
 IsInHand lines view hand address = distance hand.start address < LINE_BYTES → IsHeld lines view.memory.now view.space hand
 
--- an address lies in the line in hand, and its word stands decoded at a place
-pub record IsAt (lines : List (List ℕ)) (memory : TranslatedView) (space : ℕ) (hand : Hand) (address at : ℕ) : Type 0 where
+-- its line was taken
+pub record IsTaken (lines : List (List ℕ)) (memory : TranslatedView) (space : ℕ) (hand : Hand) (address : ℕ) : Type 0 where
   pub held : IsHeld lines memory space hand
   pub aligned : address % 4 ≡ 0
   pub within : distance hand.start address < LINE_BYTES
-  pub at_is : at ≡ hand.first + distance hand.start address / 4
 
--- A line was reached, and the fetch of a word counted, or it is still to be counted; or why none may be fetched.
-pub record IsReached (memory : TranslatedView) (space : ℕ) (lines : List (List ℕ)) (address first : ℕ) : Type 0 where
-  pub aligned : address % 4 ≡ 0
-  pub first_is : first % LINE_WORDS ≡ 0
-  pub inside : first / LINE_WORDS < KEPT_LINES
-  pub code : IsCodeLine memory space address (slice_index_or lines (first / LINE_WORDS) [])
+-- executions stop at none of its words, where it isn't watched
+abbrev pub IsGuarded : Addresses → Hand → Type 0
+IsGuarded stops hand = hand.watched ≡ false → (a : ℕ) → a / LINE_BYTES ≡ hand.start / LINE_BYTES → contains stops a ≡ false
 
-pub record IsCounted (old new : TranslatedView) (space address : ℕ) : Type 0 where
-  pub same : state_of new ≡ state_of old
-  pub lists : translations_of new ≡ after_access old space (fetch_at address)
-
-pub record IsRefused (old new : TranslatedView) (space address at : ℕ) : Type 0 where
-  pub aligned : address % 4 ≡ 0
-  pub denied : denied_at (memory_of (state_of old) space) (fetch_at address) ≡ Some at
-  pub counted : IsCounted old new space address
-
--- why not
-abbrev pub IsNotReached : TranslatedView → TranslatedView → ℕ → ℕ → Refusal → Type 0
-IsNotReached old new space address Askew = (address % 4 ≡ 0 → ⊥) × (new ≡ old)
-IsNotReached old new space address (Denied at) = IsRefused old new space address at
-
-abbrev pub Reaches : TranslatedView → TranslatedView → ℕ → List (List ℕ) → ℕ → Reached → Type 0
-Reaches old new space lines address (Owed first) = IsReached new space lines address first × (new ≡ old)
-Reaches old new space lines address (Counted first) = IsReached new space lines address first × IsCounted old new space address
-Reaches old new space lines address (Not refusal) = IsNotReached old new space address refusal
-
--- What fetching a word comes to: where its meaning stands, or why it may not be fetched.
-abbrev pub IsOwed : View → View → ℕ → ℕ → ℕ → Type 0
-IsOwed old new address k n = ((n ≡ k + 1) × (new ≡ old)) ⊎ ((n ≡ k) × IsUnchanged (fetch_at address) old new)
-
-pub record IsFetched (old new : View) (lines : List (List ℕ)) (before after : Hand) (address at : ℕ) : Type 0 where
+-- A word may be fetched from a page at the front of its list, and stands decoded.
+pub record IsWordAt (view : View) (address : ℕ) (word : Option Instr) : Type 0 where
   pub low : address < 2 ^ 64
-  pub there : IsAt lines new.memory.now new.space after address at
-  pub counted : IsOwed old new address before.owed after.owed
-
-abbrev pub TakesWord : View → View → List (List ℕ) → Hand → Hand → ℕ → Result ℕ Refusal → Type 0
-TakesWord old new lines before after address (Ok at) = IsFetched old new lines before after address at
-TakesWord old new lines before after address (Err Askew) = (address % 4 ≡ 0 → ⊥) × (new ≡ old) × (after.owed ≡ before.owed)
-TakesWord old new lines before after address (Err (Denied at)) =
-    (address % 4 ≡ 0) × (denied_at (memory_of (spaces_lent old) old.space) (fetch_at address) ≡ Some at) × IsUnchanged (fetch_at address) old new
-    × (after.owed ≡ before.owed)
+  pub aligned : address % 4 ≡ 0
+  pub may : denied_at (memory_of (spaces_lent view) view.space) (fetch_at address) ≡ None
+  pub front : IsFront view.space (address / PAGE_BYTES) (lists_lent view)
+  pub means : word ≡ meaning (word_at (memory_of (spaces_lent view) view.space) address)
+  pub encodable : IfSome word IsEncodable
 
 -- What calls made of it where the fetch may be still to be counted.
 pub data Makes (k n pc : ℕ) (calls : List Call) (old : View) (full : Option (ℕ × ℕ)) (new : View) : Type 0 where
@@ -96,19 +70,47 @@ pub data Makes (k n pc : ℕ) (calls : List Call) (old : View) (full : Option (�
 abbrev pub is_apart : ℕ → ℕ → Bool
 is_apart address pc = not (address / PAGE_BYTES % SETS == pc / PAGE_BYTES % SETS) && nat_le (address % PAGE_BYTES) (PAGE_BYTES - 8)
 
--- no line, where what follows is 4 behind an address
-abbrev pub lost : ℕ → Hand → Hand
-lost pc hand = record { start = (pc + (LINE_BYTES + 4)) % 2 ^ 64; first = hand.first; owed = hand.owed }
+-- What follows an instruction at an address, by what it does.
+abbrev pub course_by : ℕ → ℕ → Course
+course_by address pc = if is_apart address pc then On else Lost
 
-abbrev pub left_at : ℕ → ℕ → Hand → Hand
-left_at address pc hand = if is_apart address pc then hand else lost pc hand
+abbrev pub course_of : Action → ℕ → Course
+course_of (action.Load address size extension) pc = course_by address pc
+course_of (action.Store address size value) pc = course_by address pc
+course_of (action.Write value) pc = On
+course_of (action.Link target) pc = Elsewhere
+course_of (action.Goto target) pc = Elsewhere
+course_of action.Next pc = On
+course_of action.Ask pc = Elsewhere
+course_of action.Stop pc = Elsewhere
 
-abbrev pub left_by : Action → ℕ → Hand → Hand
-left_by (action.Load address size extension) pc hand = left_at address pc hand
-left_by (action.Store address size value) pc hand = left_at address pc hand
-left_by (action.Write value) pc hand = hand
-left_by (action.Link target) pc hand = hand
-left_by (action.Goto target) pc hand = hand
-left_by action.Next pc hand = hand
-left_by action.Ask pc hand = hand
-left_by action.Stop pc hand = hand
+-- the next word follows only a step
+abbrev pub course_behind : Outcome → Course → Course
+course_behind Stepped course = course
+course_behind Asked course = Elsewhere
+course_behind (Fault kind address) course = Elsewhere
+course_behind (Full units limit) course = Elsewhere
+
+-- a line with that address is in hand of what follows, where it was
+abbrev pub KeepsLine : View → View → ℕ → ℕ → Type 0
+KeepsLine old new pc next =
+    (lines : List (List ℕ)) (hand : Hand) → IsHeld lines old.memory.now old.space hand → pc / PAGE_BYTES ≡ hand.start / PAGE_BYTES → IsInHand lines new hand next
+
+abbrev pub Keeps : Course → View → View → ℕ → ℕ → Type 0
+Keeps On old new pc next = (next ≡ (pc + 4) % 2 ^ 64) × KeepsLine old new pc next
+Keeps Elsewhere old new pc next = KeepsLine old new pc next
+Keeps Lost old new pc next = Unit {0}
+
+-- what is left in hand
+abbrev pub IsLeft : Course → ℕ → Hand → Hand → Type 0
+IsLeft On pc old new = new ≡ record { start = old.start; first = old.first; owed = new.owed; watched = old.watched }
+IsLeft Elsewhere pc old new = new ≡ record { start = old.start; first = old.first; owed = new.owed; watched = old.watched }
+IsLeft Lost pc old new = (LINE_BYTES ≤ distance new.start pc) × (new.watched ≡ true)
+
+-- What is true behind some steps.
+pub record GoesOn (stops : Addresses) (lines : List (List ℕ)) (view : View) (owed n : ℕ) (hand : Hand) (pc : ℕ) : Type 0 where
+  pub ready : IsReadyView view
+  pub hand_is : IsInHand lines view hand pc
+  pub guarded : IsGuarded stops hand
+  pub owes : hand.owed ≤ owed + n
+  pub some : 0 < n

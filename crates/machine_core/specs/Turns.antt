@@ -136,6 +136,13 @@ came_to state p = outcome_found p (guest_at state p)
 abbrev pub after_execution : Wholes → ℕ → Wholes
 after_execution state p = option_map_or (λ guest. with_guest state p (executed p guest)) (guest_at state p) state
 
+-- the state that a process is left in by an instruction of which that came
+abbrev pub state_left : Outcome → ProcessState → ProcessState
+state_left outcome.Stepped before = before
+state_left outcome.Asked before = before
+state_left (outcome.Fault kind address) before = state.Faulted kind address
+state_left (outcome.Full units limit) before = before
+
 -- the state of a running process after a turn
 abbrev pub state_after : Turn → ProcessState
 state_after Stepped = state.Running

@@ -1,13 +1,15 @@
 //! The line that instructions are taken from, decoded.
 
-ghost use Rattle.std.specs.Prelude.{◌≡◌, ◌+◌, ◌^◌, ◌<◌, ◌≤◌};
+ghost use Rattle.std.specs.Prelude.{◌≡◌, ℕ, ◌/◌, ◌<◌, ◌≤◌, true, false};
+ghost use Rattle.std.specs.FinSet.{contains};
 ghost use Rattle.sizes.specs.declared.TheConstants.{LINE_BYTES};
-ghost use Rattle.machine_core.specs.Access.{IsReadyView, IsSameLoan, lists_lent, spaces_lent};
+ghost use Rattle.machine_core.specs.Access.{IsSameLoan, lists_lent, spaces_lent};
 ghost use Rattle.machine_core.specs.Ahead.{ahead};
-ghost use Rattle.machine_core.specs.Held.{IsInHand, Reaches, TakesWord, distance, is_apart, left_at, left_by};
+ghost use Rattle.machine_core.specs.Executions.{stops_in};
+ghost use Rattle.machine_core.specs.Held.{IsGuarded, IsHeld, IsTaken, course_by, course_of, distance, is_apart};
 
-use crate::view::{View, denied};
-use bitflags::Flags;
+use crate::view::View;
+use breakpoints::Addresses;
 use decoded_lines::DecodedLines;
 use overlay_memory::OverlayMemory;
 use rv_execute::Action;
@@ -18,27 +20,22 @@ use translation_cache::SETS;
 /// are still to be counted is kept here.
 #[derive(Clone, Copy, Debug)]
 pub(crate) struct Hand {
-    start: u64,
-    first: usize,
-    owed: u32,
+    pub(crate) start: u64,
+    pub(crate) first: usize,
+    pub(crate) owed: u32,
+    /// whether executions may stop at one of its words
+    pub(crate) watched: bool,
 }
 
-/// Why a word isn't fetched.
-pub(crate) enum Refusal {
-    /// Its address isn't a multiple of 4.
-    Askew,
-    /// The byte at this address, its first, may not be fetched.
-    Denied(u64),
-}
-
-/// What reaching for the line of an instruction comes to.
-pub(crate) enum Reached {
-    /// The meaning of its first word stands here, and the fetch from it is still to be counted.
-    Owed(usize),
-    /// It stands here, and the fetch was counted.
-    Counted(usize),
-    /// Nothing may be fetched.
-    Not(Refusal),
+/// What follows an instruction of the line in hand that is a step.
+#[derive(Clone, Copy, Debug, PartialEq, Eq)]
+pub(crate) enum Course {
+    /// The word behind it, and the line is still in hand.
+    On,
+    /// Any word, and the line is still in hand.
+    Elsewhere,
+    /// The word behind it, and the line may have changed, or may not be at the front of its list any more.
+    Lost,
 }
 
 /// Whether an access of at most 8 bytes lies in one page, of another list of translations than that of pc.
@@ -50,17 +47,71 @@ fn is_apart(address: u64, pc: u64) -> bool
         && address % PAGE_BYTES as u64 <= PAGE_BYTES as u64 - 8
 }
 
+/// What follows an access of the instruction at pc.
+#[inline]
+fn course_by(address: u64, pc: u64) -> Course
+    ensures { result ≡ course_by address pc }
+{
+    if is_apart(address, pc) {
+        Course::On
+    } else {
+        Course::Lost
+    }
+}
+
+/// What follows an action of the instruction at pc.
+#[inline]
+pub(crate) fn course_of(action: &Action, pc: u64) -> Course
+    ensures { result ≡ course_of action.now pc }
+{
+    match *action {
+        Action::Load(address, _, _) => course_by(address, pc),
+        Action::Store(address, _, _) => course_by(address, pc),
+        Action::Write(_) => Course::On,
+        Action::Next => Course::On,
+        Action::Link(_) => Course::Elsewhere,
+        Action::Goto(_) => Course::Elsewhere,
+        Action::Ask => Course::Elsewhere,
+        Action::Stop => Course::Elsewhere,
+    }
+}
+
+/// Whether executions may stop at a word of the line of an address.
+#[inline]
+fn is_watched(stops: Option<&Addresses>, address: u64) -> bool
+    ensures { result ≡ false → (a : ℕ) → a / LINE_BYTES ≡ address / LINE_BYTES
+        → contains (stops_in stops.entry) a ≡ false }
+{
+    match stops {
+        Some(addresses) => addresses.may_have_near(address),
+        None => false,
+    }
+}
+
 impl Hand {
     /// No line, where the next instruction is that at pc.
     pub(crate) fn none(pc: u64) -> Hand
         ensures none { LINE_BYTES ≤ distance result.start pc }
         ensures owed { result.owed ≡ 0 }
+        ensures watched { result.watched ≡ true }
     {
         Hand {
             start: pc.wrapping_add(LINE_BYTES as u64),
             first: 0,
             owed: 0,
+            watched: true,
         }
+    }
+
+    /// Is no line any more, where the next instruction is that at pc.
+    #[inline]
+    pub(crate) fn lose(&mut self, pc: u64)
+        ensures none { LINE_BYTES ≤ distance self.new.start pc }
+        ensures owed { self.new.owed ≡ self.old.owed }
+        ensures watched { self.new.watched ≡ true }
+    {
+        self.start = pc.wrapping_add(LINE_BYTES as u64);
+        self.watched = true;
     }
 
     /// Counts the fetches that are still to be counted.
@@ -74,79 +125,64 @@ impl Hand {
         }
     }
 
-    /// Is no line any more, where an action at pc may change the bytes of the line, or that its page is at the front of its list.
+    /// Which word of the line stands at an address in it.
     #[inline]
-    pub(crate) fn leave(&mut self, action: &Action, pc: u64)
-        ensures { self.new ≡ left_by action.now pc self.old }
+    pub(crate) fn place(&self, pc: u64) -> usize
+        ensures { result ≡ distance self.now.start pc / 4 }
     {
-        match *action {
-            Action::Load(address, _, _) => self.leave_by(address, pc),
-            Action::Store(address, _, _) => self.leave_by(address, pc),
-            _ => {}
+        (pc.wrapping_sub(self.start) / 4) as usize
+    }
+
+    /// Takes the line of the instruction at pc, where its page may be executed and is known to be at the front of its list. Answers
+    /// whether it did.
+    #[inline(never)]
+    fn take(
+        &mut self,
+        memory: &OverlayMemory,
+        space: u16,
+        lines: &mut DecodedLines,
+        stops: Option<&Addresses>,
+        pc: u64,
+    ) -> bool
+        ensures taken { result ≡ true → IsTaken lines.new memory.now space self.new pc }
+        ensures guarded { result ≡ true → IsGuarded (stops_in stops.entry) self.new }
+        ensures owed { self.new.owed ≡ self.old.owed }
+    {
+        if pc % 4 != 0 {
+            return false;
+        }
+        match memory.code_line(space, pc) {
+            Some(line) => {
+                self.first = lines.enter(pc / LINE_BYTES as u64, line);
+                self.start = pc - pc % LINE_BYTES as u64;
+                self.watched = is_watched(stops, pc);
+                true
+            }
+            None => false,
         }
     }
 
-    /// The same of an access at an address.
+    /// Has the line of the instruction at pc in hand, where it is there or can be taken. Answers whether it has.
     #[inline]
-    fn leave_by(&mut self, address: u64, pc: u64)
-        ensures { self.new ≡ left_at address pc self.old }
+    pub(crate) fn reach(
+        &mut self,
+        memory: &OverlayMemory,
+        space: u16,
+        lines: &mut DecodedLines,
+        stops: Option<&Addresses>,
+        pc: u64,
+    ) -> bool
+        requires held { distance self.old.start pc < LINE_BYTES
+            → IsHeld lines.old memory.now space self.old }
+        requires guarded { IsGuarded (stops_in stops) self.old }
+        ensures taken { result ≡ true → IsTaken lines.new memory.now space self.new pc }
+        ensures guarded { result ≡ true → IsGuarded (stops_in stops.entry) self.new }
+        ensures owed { self.new.owed ≡ self.old.owed }
     {
-        if !is_apart(address, pc) {
-            self.start = pc.wrapping_add(LINE_BYTES as u64 + 4);
+        let place = pc.wrapping_sub(self.start);
+        if place < LINE_BYTES as u64 && place % 4 == 0 {
+            return true;
         }
-    }
-}
-
-/// Has the line of the instruction at pc decoded.
-#[inline(never)]
-fn reach(memory: &mut OverlayMemory, space: u16, lines: &mut DecodedLines, pc: u64) -> Reached
-    ensures { Reaches memory.old memory.new space lines.new pc result }
-{
-    if pc % 4 != 0 {
-        return Reached::Not(Refusal::Askew);
-    }
-    if let Some(line) = memory.code_line(space, pc) {
-        return Reached::Owed(lines.enter(pc / LINE_BYTES as u64, line));
-    }
-    let mut line = [0; LINE_BYTES];
-    match memory.fetch(space, pc, &mut line) {
-        Ok(()) => Reached::Counted(lines.enter(pc / LINE_BYTES as u64, &line)),
-        Err(error) => Reached::Not(Refusal::Denied(denied(error).address)),
-    }
-}
-
-/// Fetches the word at pc, out of the line in hand where that is its line. Answers where its meaning stands, or why it may not be fetched.
-#[inline]
-pub(crate) fn fetch(
-    view: &mut View,
-    lines: &mut DecodedLines,
-    hand: &mut Hand,
-    pc: u64,
-) -> Result<usize, Refusal>
-    requires ready { IsReadyView view.old }
-    requires hand { IsInHand lines.old view.old hand.old pc }
-    requires few { hand.old.owed + 1 < 2 ^ 32 }
-    ensures ready { IsReadyView view.new }
-    ensures fetched { TakesWord view.old view.new lines.new hand.old hand.new pc result }
-{
-    let place = pc.wrapping_sub(hand.start);
-    if place < LINE_BYTES as u64 && place % 4 == 0 {
-        hand.owed += 1;
-        return Ok(hand.first + (place / 4) as usize);
-    }
-    let place = pc % LINE_BYTES as u64;
-    match reach(&mut *view.memory, view.space, lines, pc) {
-        Reached::Owed(first) => {
-            hand.start = pc - place;
-            hand.first = first;
-            hand.owed += 1;
-            Ok(first + (place / 4) as usize)
-        }
-        Reached::Counted(first) => {
-            hand.start = pc - place;
-            hand.first = first;
-            Ok(first + (place / 4) as usize)
-        }
-        Reached::Not(refusal) => Err(refusal),
+        self.take(memory, space, lines, stops, pc)
     }
 }

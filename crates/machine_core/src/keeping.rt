@@ -8,9 +8,10 @@ ghost use Rattle.machine_core.specs.Turns.{after_asked, turn_asked};
 ghost use Rattle.machine_core.specs.Executions.{after_executions, came_to_last, steps_to, stops_in};
 ghost use Rattle.machine_core.specs.Kept.{IsChanged, IsListBut, IsRunningList, machine_of, runs_at};
 
-use crate::guest::{answer_request, execute_up_to};
+use crate::guest::answer_request;
 use crate::process::{Process, is_running};
 use crate::running::{list, reserve};
+use crate::stretches::execute_up_to;
 use breakpoints::Addresses;
 use by_number::ByNumber;
 use decoded_lines::DecodedLines;

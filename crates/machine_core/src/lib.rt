@@ -7,7 +7,8 @@
 //! - `process`: what is shown of a process
 //! - `view`: the memory of one space, as an instruction sees it
 //! - `hand`: the line that instructions are taken from, decoded
-//! - `guest`: one process, its turn, and what it asks for
+//! - `stretches`: instructions of one process, one after the other
+//! - `guest`: what a process asks for
 //! - `load`: what a load makes of an image
 //! - `running`: the numbers that run, ascending
 //! - `keeping`: processes by number and that list, kept together
@@ -21,6 +22,7 @@ mod load;
 mod machine;
 mod process;
 mod running;
+mod stretches;
 mod view;
 
 pub use machine::Machine;

@@ -1,4 +1,4 @@
-use Rattle.std.proofs.Common.{◌≡◌, ℕ, zero, suc, ◌*◌, ◌/◌, ◌%◌, true, false, List, take, drop, length, get_or, replicate, Option, Some, None, is_some, sym, ap, subst, ◌∙◌, refl, arith}
+use Rattle.std.proofs.Common.{◌≡◌, ℕ, zero, suc, ◌*◌, ◌/◌, ◌%◌, true, List, take, drop, length, get_or, replicate, Option, Some, None, is_some, sym, ap, subst, ◌∙◌, refl, arith}
 use Rattle.std.proofs.lemmas.Option.{none-some}
 use Rattle.sizes.specs.declared.TheConstants.{LINE_BYTES, PAGE_BYTES, PAGE_LINES}
 use Rattle.std.specs.Option.{option_map}
@@ -11,7 +11,7 @@ use Rattle.ovl_io.specs.Memory.{bytes_at}
 use Rattle.overlay_memory.specs.Access.{IsFoundIn}
 use Rattle.overlay_memory.specs.Code.{IsCodeLine}
 use Rattle.overlay_memory.specs.Fronts.{AreFronts, IsClear, IsHead, head_of, held_of, with_head}
-use Rattle.overlay_memory.specs.Pieces.{IsLacking, IsPermitted}
+use Rattle.overlay_memory.specs.Pieces.{IsPermitted}
 use Rattle.overlay_memory.proofs.Counting.{allows_is}
 use Rattle.overlay_memory.proofs.Pieced.{found_piece}
 use Rattle.overlay_pages.specs.Lines.{line_in_page}
@@ -194,14 +194,6 @@ module _ (view : MemoryView) (s address line : ℕ) (page : FoundPage) (found : 
     there = page_there view s (address / PAGE_BYTES) page at;
     may = ap (λ (k : Perms). permits k.0 need) at.is.perms ∙ may;
     joined = joined;
-  }
-
-  pub may_not_be_used : (need : ℕ) → permits page.perms.0 need ≡ false → IsLacking view s need address
-  unfolding page_state
-  may_not_be_used need lacks = record {
-    page = page_state view.store at.is.x;
-    there = page_there view s (address / PAGE_BYTES) page at;
-    lacks = ap (λ (k : Perms). permits k.0 need) at.is.perms ∙ lacks;
   }
 
   -- and may be fetched from

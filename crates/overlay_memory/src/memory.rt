@@ -1,12 +1,12 @@
 //! The memories of all spaces.
 
-ghost use Rattle.std.specs.Prelude.{◌≡◌, ◌≢◌, ℕ, ◌+◌, ◌*◌, ◌%◌, ◌<◌, ◌≤◌, List, IfOk, IfSome, IsSome, OnOk, OnErr, None, true, false, length};
+ghost use Rattle.std.specs.Prelude.{◌≡◌, ◌≢◌, ℕ, ◌+◌, ◌*◌, ◌<◌, ◌≤◌, List, IfOk, IfSome, IsSome, OnOk, OnErr, None, true, false, length};
 ghost use Rattle.std.specs.Borrow.{Lends, sem, Array, u8 as byte};
 ghost use Rattle.std.specs.FinMap as map;
 ghost use Rattle.std.specs.Option.{option_map};
 ghost use Rattle.sizes.specs.declared.TheConstants.{LAST_SPACE, LINE_BYTES, MOST_FRAMES, MOST_SPACE_PAGES, MOST_UNITS, PAGE_BYTES, PAGE_END, PAGE_LINES};
 ghost use Rattle.ovl_io.specs.Memory.{bytes_at};
-ghost use Rattle.ovl_io.specs.Permissions.{executable, writable};
+ghost use Rattle.ovl_io.specs.Permissions.{writable};
 ghost use Rattle.ledger.specs.Ledger.{is_alone};
 ghost use Rattle.ledger.specs.Units.{own_lines};
 ghost use Rattle.space_maps.specs.Spaces.{bare_space, cut_pages, cut_space, holds_space, page_in, put_awaiting, put_mark, put_space, space_in, turned_page};
@@ -30,7 +30,7 @@ ghost use Rattle.overlay_memory.specs.contracts.memory.OverlayMemory.{the_row};
 
 use crate::error::{MemoryError, Shortage, SpaceError};
 use crate::fronts::Fronts;
-use crate::reading::{fetch_line, is_in_line, line_of, load_line, read_bytes};
+use crate::reading::{is_in_line, line_of, load_line, read_bytes};
 use crate::removing::{remove_pages, unmap_pages};
 use crate::room::{shortage_by, shortage_of};
 use crate::storing::{store_line, write_pages};
@@ -288,32 +288,6 @@ impl OverlayMemory {
             need,
         );
         read_bytes(&self.pages, space, address, into, need)
-    }
-
-    /// As `load` with the need X, of the four bytes at an address that is a multiple of 4, but that it fills `line` with the line in which
-    /// they lie.
-    #[inline(never)]
-    pub fn fetch(
-        &mut self,
-        space: u16,
-        address: u64,
-        line: &mut [u8; 64],
-    ) -> Result<(), MemoryError>
-        requires aligned { address % 4 ≡ 0 }
-        ensures access { Reads (state_of self.old) space executable address 4 result }
-        ensures line { OnOk result (IsCodeLine self.new space address line.new) }
-        ensures same { self.new.pages ≡ self.old.pages }
-        ensures translations { translations_of self.new
-            ≡ after_access self.old space (access_at executable address 4) }
-    {
-        fetch_line(
-            &self.pages,
-            &mut self.cache,
-            &mut self.fronts,
-            space,
-            address,
-            line,
-        )
     }
 
     /// The line with the byte at an address, where its page may be executed and is known to be at the front of its list. None says

@@ -3,14 +3,12 @@
 ghost use Rattle.std.specs.Prelude.{◌≡◌, ◌+◌, ◌/◌, ◌%◌, ◌<◌, ◌≤◌, length, OnOk, true};
 ghost use Rattle.sizes.specs.declared.TheConstants.{ADDRESS_END, LINE_BYTES, PAGE_BYTES, PAGE_LINES};
 ghost use Rattle.ovl_io.specs.Memory.{bytes_at};
-ghost use Rattle.ovl_io.specs.Permissions.{executable};
 ghost use Rattle.overlay_pages.specs.State.{memory_of};
 ghost use Rattle.overlay_pages.specs.View.{IsJoined, state_of};
 ghost use Rattle.overlay_memory.specs.Access.{FindsIn, IsFoundIn, Reads};
-ghost use Rattle.overlay_memory.specs.Code.{IsCodeLine};
 ghost use Rattle.overlay_memory.specs.Fronts.{AreFronts};
 ghost use Rattle.overlay_memory.specs.Pieces.{Finds, Permits};
-ghost use Rattle.overlay_memory.specs.View.{AreTrue, view_of};
+ghost use Rattle.overlay_memory.specs.View.{AreTrue};
 ghost use Rattle.translation_cache.specs.Bare.{bare};
 ghost use Rattle.translation_cache.specs.Counted.{translated};
 
@@ -206,39 +204,6 @@ pub(crate) fn load_line(
 {
     match translate(pages, cache, fronts, space, address / PAGE_BYTES as u64) {
         Some(page) => read_found(pages, page.line(line_of(address)), address, into, need),
-        None => Err(MemoryError::Unmapped(address)),
-    }
-}
-
-/// As `fetch` of `OverlayMemory`.
-pub(crate) fn fetch_line(
-    pages: &OverlayPages,
-    cache: &mut Cache,
-    fronts: &mut Fronts,
-    space: u16,
-    address: u64,
-    line: &mut [u8; 64],
-) -> Result<(), MemoryError>
-    requires aligned { address % 4 ≡ 0 }
-    requires held { AreTrue (state_of pages.now) cache.old }
-    requires fronts { AreFronts pages.now (bare cache.old) fronts.old }
-    ensures access { Reads (state_of pages.now) space executable address 4 result }
-    ensures line { OnOk result (IsCodeLine (view_of pages.now cache.new) space address line.new) }
-    ensures translated { bare cache.new
-        ≡ translated space (memory_of (state_of pages.now) space) (address / PAGE_BYTES) (bare cache.old) }
-    ensures held { AreTrue (state_of pages.now) cache.new }
-    ensures fronts { AreFronts pages.now (bare cache.new) fronts.new }
-{
-    match translate(pages, cache, fronts, space, address / PAGE_BYTES as u64) {
-        Some(page) => {
-            let bytes = pages.line_at(page.line(line_of(address)));
-            if page.perms.contains(Perms::X) {
-                *line = *bytes;
-                Ok(())
-            } else {
-                Err(MemoryError::Forbidden(address))
-            }
-        }
         None => Err(MemoryError::Unmapped(address)),
     }
 }

@@ -4,7 +4,7 @@ ghost use Rattle.std.specs.Prelude.{◌≡◌, ◌≤◌};
 ghost use Rattle.rv_execute.specs.Arithmetic.{is_less_signed, flag, extended_word, shifted_left, shifted_right, shifted_right_signed};
 
 /// Whether the first is less, as signed numbers.
-#[inline]
+#[inline(always)]
 pub(crate) fn is_less_signed(a: u64, b: u64) -> bool
     ensures { result ≡ is_less_signed a b }
 {
@@ -12,7 +12,7 @@ pub(crate) fn is_less_signed(a: u64, b: u64) -> bool
 }
 
 /// The low 32 bits with their sign extended.
-#[inline]
+#[inline(always)]
 pub(crate) fn extended_word(a: u64) -> u64
     ensures { result ≡ extended_word a }
 {
@@ -21,7 +21,7 @@ pub(crate) fn extended_word(a: u64) -> u64
 }
 
 /// The value shifted to the left by less than 64 bits.
-#[inline]
+#[inline(always)]
 pub(crate) fn shifted_left(a: u64, by: u64) -> u64
     requires { by ≤ 63 }
     ensures { result ≡ shifted_left a by }
@@ -30,7 +30,7 @@ pub(crate) fn shifted_left(a: u64, by: u64) -> u64
 }
 
 /// The value shifted to the right by less than 64 bits, without its sign.
-#[inline]
+#[inline(always)]
 pub(crate) fn shifted_right(a: u64, by: u64) -> u64
     requires { by ≤ 63 }
     ensures { result ≡ shifted_right a by }
@@ -39,7 +39,7 @@ pub(crate) fn shifted_right(a: u64, by: u64) -> u64
 }
 
 /// The value shifted to the right by less than 64 bits, with its sign.
-#[inline]
+#[inline(always)]
 pub(crate) fn shifted_right_signed(a: u64, by: u64) -> u64
     requires { by ≤ 63 }
     ensures { result ≡ shifted_right_signed a by }
@@ -48,7 +48,7 @@ pub(crate) fn shifted_right_signed(a: u64, by: u64) -> u64
 }
 
 /// The result of a comparison: 1 or 0.
-#[inline]
+#[inline(always)]
 pub(crate) fn flag(holds: bool) -> u64
     ensures { result ≡ flag holds }
 {

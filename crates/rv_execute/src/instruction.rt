@@ -20,7 +20,7 @@ use rv_decode::{Instr, decode};
 const HALF_END: u64 = 1 << 16;
 
 /// A loaded number of so many bytes as 64 bits.
-#[inline]
+#[inline(always)]
 fn extended(extension: Extension, size: Size, n: u64) -> u64
     ensures { result ≡ extended extension size n }
 {
@@ -36,7 +36,7 @@ fn extended(extension: Extension, size: Size, n: u64) -> u64
 }
 
 /// Goes on behind the instruction.
-#[inline]
+#[inline(always)]
 fn next(regs: &mut Regs)
     ensures { regs.new ≡ next regs.old }
 {
@@ -44,7 +44,7 @@ fn next(regs: &mut Regs)
 }
 
 /// Writes a result and goes on behind the instruction.
-#[inline]
+#[inline(always)]
 fn write(regs: &mut Regs, rd: u8, value: u64) -> Outcome
     requires { rd < 32 }
     ensures value { regs.new ≡ next (with_register regs.old rd value) }
@@ -57,7 +57,7 @@ fn write(regs: &mut Regs, rd: u8, value: u64) -> Outcome
 
 /// The number of a load, with its extension. Each size has an arm of its own, since what the memory does with bytes whose number is
 /// known when it is compiled is short.
-#[inline]
+#[inline(always)]
 fn read<M: GuestMemory>(
     mem: &mut M,
     address: u64,
@@ -96,7 +96,7 @@ fn read<M: GuestMemory>(
 }
 
 /// Loads a number into a register.
-#[inline]
+#[inline(always)]
 fn load<M: GuestMemory>(
     regs: &mut Regs,
     mem: &mut M,
@@ -121,7 +121,7 @@ fn load<M: GuestMemory>(
 }
 
 /// Stores the low bytes of a value.
-#[inline]
+#[inline(always)]
 fn store<M: GuestMemory>(
     regs: &mut Regs,
     mem: &mut M,
@@ -156,7 +156,7 @@ fn store<M: GuestMemory>(
 
 /// Jumps to a target, and writes the address behind the instruction to a register; nothing of this where the target
 /// isn't a multiple of 4.
-#[inline]
+#[inline(always)]
 fn link(regs: &mut Regs, rd: u8, target: u64) -> Outcome
     requires { rd < 32 }
     ensures done { (memory : Memory) →
@@ -173,7 +173,7 @@ fn link(regs: &mut Regs, rd: u8, target: u64) -> Outcome
 }
 
 /// Jumps to a target, where that is a multiple of 4.
-#[inline]
+#[inline(always)]
 fn go_to(regs: &mut Regs, target: u64) -> Outcome
     ensures done { (memory : Memory) (rd : ℕ) →
         Executed (effect (Action.Goto target) rd) regs.old memory regs.new memory result }
@@ -187,7 +187,7 @@ fn go_to(regs: &mut Regs, target: u64) -> Outcome
 }
 
 /// What an instruction does on these registers. `rs1` and `rs2` are below 32.
-#[inline]
+#[inline(always)]
 pub fn action_on(i: &Instr, regs: &Regs) -> Action
     requires rs1 { i.now.rs1 < 32 }
     requires rs2 { i.now.rs2 < 32 }
@@ -200,7 +200,7 @@ pub fn action_on(i: &Instr, regs: &Regs) -> Action
 
 /// Does an action, as what the instruction at pc does, where `rd`, below 32, is the register that gets its result. This is `execute` where
 /// the word at pc means that instruction, but that the memory is asked for no fetch. Takes no memory.
-#[inline]
+#[inline(always)]
 pub fn perform<M: GuestMemory>(action: Action, rd: u8, regs: &mut Regs, mem: &mut M) -> Outcome
     requires rd { rd < 32 }
     requires ready { M.ready mem.old }

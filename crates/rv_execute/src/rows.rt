@@ -10,7 +10,7 @@ use crate::arithmetic::{
 use rv_decode::Name;
 
 /// A branch to a target.
-#[inline]
+#[inline(always)]
 fn branch(holds: bool, target: u64) -> Action
     ensures { result ≡ branch holds target }
 {
@@ -23,7 +23,7 @@ fn branch(holds: bool, target: u64) -> Action
 
 /// What the row of a name does: `a` is the value of rs1, `b` that of rs2, `i` the immediate as 64 bits, and `pc` the
 /// address of the instruction.
-#[inline]
+#[inline(always)]
 pub(crate) fn action_of(name: Name, a: u64, b: u64, i: u64, pc: u64) -> Action
     ensures { result ≡ action_of name a b i pc }
 {

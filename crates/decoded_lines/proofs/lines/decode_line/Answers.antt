@@ -1,4 +1,4 @@
-use Rattle.std.proofs.Common.{◌≡◌, ◌+◌, ◌-◌, ◌*◌, ◌<◌, ap, ◌∙◌, arith}
+use Rattle.std.proofs.Common.{ap, ◌∙◌, arith}
 use Rattle.decoded_lines.proofs.Decoding.{decoding_next, word_at}
 use Rattle.decoded_lines.proofs.lines.decode_line.Goals as goal
 use Rattle.rv_decode.specs.Meaning.{meaning}

@@ -1,4 +1,4 @@
-use Rattle.std.proofs.Common.{◌-◌, ℕ}
+use Rattle.std.proofs.Common.{◌-◌}
 use Rattle.decoded_lines.proofs.Decoding.{IsDecoding}
 use Rattle.decoded_lines.proofs.lines.decode_line.Given as goal
 use Rattle.decoded_lines.specs.declared.TheConstants.{LINE_WORDS}

@@ -1,4 +1,4 @@
-use Rattle.std.proofs.Common.{◌-◌, ◌≤◌, ℕ, length}
+use Rattle.std.proofs.Common.{◌-◌, length}
 use Rattle.decoded_lines.proofs.Decoding.{AreZero}
 use Rattle.decoded_lines.proofs.lines.zero_lines.Given as goal
 use Rattle.decoded_lines.specs.declared.TheConstants.{KEPT_LINES}

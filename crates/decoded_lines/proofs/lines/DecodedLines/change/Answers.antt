@@ -1,4 +1,3 @@
-use Rattle.std.proofs.Common.{◌<◌, ◌%◌, arith}
 use Rattle.decoded_lines.proofs.Decoding.{entered}
 use Rattle.decoded_lines.proofs.lines.DecodedLines.change.Goals as goal
 

@@ -1,26 +1,25 @@
-use Rattle.std.proofs.Common.{◌≡◌, ◌-◌, ◌≤◌, true}
+use Rattle.std.proofs.Common.{◌≡◌, ◌-◌, ◌≤◌}
 use Rattle.ovl_io.specs.declared.process_state.ProcessState.TheVariants.{Running}
-use Rattle.space_maps.specs.Spaces.{holds_space}
-use Rattle.machine_core.specs.Access.{spaces_lent}
+use Rattle.machine_core.specs.Access.{IsReadyView, spaces_lent}
 use Rattle.machine_core.specs.Ahead.{guest_ahead}
-use Rattle.machine_core.specs.Executions.{executions, stops_in}
-use Rattle.machine_core.specs.Held.{IsInHand}
+use Rattle.machine_core.specs.Executions.{behind, executions, stops_in}
+use Rattle.machine_core.specs.Held.{IsGuarded, IsInHand}
 use Rattle.machine_core.specs.Kept.{IsBeside, guest_lent}
-use Rattle.machine_core.proofs.Stepping.{behind}
-use Rattle.machine_core.proofs.guest.step_owing.Given as goal
+use Rattle.machine_core.proofs.stretches.step_owing.Given as goal
 
 -- those so far were steps, in the space that was lent
 abbrev pub invariant-stepping : goal.invariant-stepping
 invariant-stepping l = record {
   loan : l.view.memory.ghost_name ≡ l.fn.view.memory.ghost_name;
   space : l.view.space ≡ l.fn.view.space;
-  there : holds_space (spaces_lent l.view) l.fn.view.space ≡ true;
+  ready : IsReadyView l.view;
   all : executions (stops_in l.stops) l.fn.view.space l.most (guest_lent l.fn.view l.fn.process)
       ≡ behind l.steps (executions (stops_in l.stops) l.fn.view.space (l.most - l.steps) (guest_ahead l.hand.owed (guest_lent l.view l.process)));
   running : l.process.state ≡ Running;
   saved : l.process.saved ≡ l.fn.process.saved;
   few : l.hand.owed ≤ l.steps;
   hand : IsInHand l.lines l.view l.hand l.process.regs.pc;
+  guarded : IsGuarded (stops_in l.stops) l.hand;
   beside : IsBeside l.fn.view.space (spaces_lent l.fn.view) (spaces_lent l.view);
   within : l.steps ≤ l.most;
 }

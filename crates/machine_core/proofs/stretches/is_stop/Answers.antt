@@ -4,7 +4,7 @@ use Rattle.std.specs.Ordering.{nat_cmp}
 use Rattle.std.specs.FinSet.{contains, contains-empty}
 use Rattle.breakpoints.specs.Breakpoints.{Addresses}
 use Rattle.machine_core.specs.Executions.{stops_in}
-use Rattle.machine_core.proofs.guest.is_stop.Goals as goal
+use Rattle.machine_core.proofs.stretches.is_stop.Goals as goal
 
 pub returns-in-None : goal.returns-in-None
 returns-in-None c =

@@ -1,0 +1,27 @@
+use Rattle.std.proofs.Common.{ℕ, ◌+◌, ap, subst, sym, ◌∙◌}
+use Rattle.machine_core.specs.Ahead.{guest_ahead}
+use Rattle.machine_core.specs.Held.{Keeps}
+use Rattle.machine_core.specs.Kept.{guest_lent}
+use Rattle.machine_core.specs.declared.process.Process.{Process}
+use Rattle.machine_core.proofs.Owing.{owing}
+use Rattle.machine_core.proofs.stretches.execute_word.Goals as goal
+
+pub returns : goal.returns
+returns c =
+    let view = c.args.view.now in
+    let old = c.args.process.now in
+    let came = c.execute_decoded-outcome in
+    let all = λ (n : ℕ). owing n (n + 1) old.regs.pc view came.new.view old came.new.regs came.result.0 came.ensures.done c.requires.runs (came.ensures.made n) in
+    let one = all 0 in
+    record {
+      ready = came.ensures.ready;
+      line = λ stepped.
+          subst (λ (q : Process). Keeps came.result.1 view came.new.view old.regs.pc q.regs.pc) (sym c.note.ensures) (came.ensures.line stepped);
+      on = came.ensures.on;
+      loan = one.loan;
+      space = one.space;
+      outcome = λ n. (all n).outcome_is;
+      after = λ n. ap (λ (q : Process). guest_ahead (n + 1) (guest_lent came.new.view q)) c.note.ensures ∙ (all n).after_is;
+      saved = ap (λ (q : Process). q.saved) c.note.ensures;
+      beside = one.beside;
+    }

@@ -1,0 +1,57 @@
+use Rattle.std.proofs.Common.{◌+◌, ◌-◌, sym, ap, subst, refl, ◌∙◌, arith}
+use Rattle.std.specs.FinSet.{contains}
+use Rattle.machine_core.specs.Access.{spaces_lent}
+use Rattle.machine_core.specs.Ahead.{guest_ahead}
+use Rattle.machine_core.specs.Executions.{Comes, behind, executions, stops_in}
+use Rattle.machine_core.specs.Kept.{IsBeside, guest_lent}
+use Rattle.machine_core.proofs.Ahead.{begun}
+use Rattle.machine_core.proofs.Runs.{both_beside}
+use Rattle.machine_core.proofs.Stepping.{came_on, goes_on}
+use Rattle.machine_core.proofs.stretches.step_owing.Goals as goal
+
+pub stepping-init : goal.stepping-init
+stepping-init c = record {
+  loan = refl;
+  space = refl;
+  ready = c.requires.ready;
+  all = begun (stops_in c.args.stops) c.args.view.now.space c.args.most c.args.hand.now.owed (guest_lent c.args.view.now c.args.process.now) c.requires.none;
+  running = c.requires.runs;
+  saved = refl;
+  few = let none = c.requires.none in omega (arith, none);
+  hand = c.requires.hand;
+  guarded = c.requires.guarded;
+  beside = record { spaces = λ q other. refl; there = λ q. refl; awaiting = refl; mark = refl };
+  within = omega arith;
+}
+
+pub stepping-preserved : goal.stepping-preserved
+stepping-preserved c =
+    let S = stops_in c.args.stops in
+    let p = c.args.view.now.space in
+    let so = c.stepping.invariant in
+    let came = c.advance-n in
+    let k = c.stepping.steps in
+    let n = came.result.0 in
+    let now = guest_ahead c.stepping.hand.owed (guest_lent c.stepping.view c.stepping.process) in
+    let next = guest_ahead came.new.hand.owed (guest_lent came.new.view came.new.process) in
+    let goes = came.ensures.goes c.in-Stepped.is in
+    let steps = subst (λ o. Comes S p (c.args.most - k) now n o next) c.in-Stepped.is (subst (λ q. Comes S q (c.args.most - k) now n came.result.1 next) so.space came.ensures.came) in
+    let turn = c.stepping-test.true in
+    let few = steps.0 in
+    let owes = goes.owes in
+    let owed = so.few in
+    record {
+      loan = came.ensures.loan ∙ so.loan;
+      space = came.ensures.space ∙ so.space;
+      ready = goes.ready;
+      all = came_on S p (executions S p c.args.most (guest_lent c.args.view.now c.args.process.now)) c.args.most k n now next so.all steps.1
+          ∙ ap (behind (k + n)) (goes_on S p (c.args.most - (k + n)) next (ap (contains S) (sym c.pc.ensures) ∙ sym c.is_stop.ensures ∙ c.if-is_stop.false));
+      running = came.ensures.running c.in-Stepped.is;
+      saved = came.ensures.saved ∙ so.saved;
+      few = omega (arith, owes, owed);
+      hand = goes.hand_is;
+      guarded = goes.guarded;
+      beside = both_beside p (spaces_lent c.args.view.now) (spaces_lent c.stepping.view) (spaces_lent came.new.view) so.beside
+          (subst (λ q. IsBeside q (spaces_lent c.stepping.view) (spaces_lent came.new.view)) so.space came.ensures.beside);
+      within = omega (arith, few, turn);
+    }
