@@ -1,4 +1,4 @@
-use Rattle.std.proofs.Common.{◌≡◌, ℕ, zero, suc, ◌+◌, ◌-◌, ◌*◌, ◌/◌, ◌%◌, ◌<◌, ◌≤◌, ◌⊎◌, inl, inr, List, [], length, get_or, take, drop, replicate, slice_set, Option, None, sym, ap, subst, ◌∙◌, refl, arith}
+use Rattle.std.proofs.Common.{◌≡◌, ℕ, zero, suc, ◌+◌, ◌-◌, ◌*◌, ◌<◌, ◌≤◌, ◌⊎◌, inl, inr, List, [], length, get_or, take, drop, replicate, slice_set, Option, None, sym, ap, subst, ◌∙◌, refl, arith}
 use Rattle.std.specs.Prelude.{IfSome}
 use Rattle.std.proofs.lemmas.Bool.{cases_eq, cases_order}
 use Rattle.std.proofs.lemmas.List.{get_or-set_other, get_or-set_same, get_or-drop, get_or-replicate, get_or-take, length-replicate, length-set}
@@ -112,13 +112,12 @@ pub record AreZero (lines : List (List ℕ)) : Type 0 where
   pub zero : lines ≡ replicate (length lines) (replicate {A = ℕ} 64 0)
 
 -- the words of a line stand one after the other
-pub words_from : (lines : List (List ℕ)) (instructions : List (Option Instr)) (first : ℕ) → AreDecoded lines instructions → first % LINE_WORDS ≡ 0
-    → first / LINE_WORDS < KEPT_LINES → AreOfLine (take (first + LINE_WORDS - first) (drop first instructions)) 0 (get_or lines (first / LINE_WORDS) [])
-words_from lines instructions first are whole inside place low =
-    let at : LINE_WORDS * (first / LINE_WORDS) + place ≡ first + place = omega (arith, whole) in
+pub words_of : (lines : List (List ℕ)) (instructions : List (Option Instr)) (slot : ℕ) → AreDecoded lines instructions → slot < KEPT_LINES
+    → AreOfLine (take (LINE_WORDS * slot + LINE_WORDS - LINE_WORDS * slot) (drop (LINE_WORDS * slot) instructions)) 0 (get_or lines slot [])
+words_of lines instructions slot are inside place low =
+    let first : ℕ = LINE_WORDS * slot in
     let from : 0 + place ≡ place = omega arith in
-    subst (λ o. IsOfWord o (word_of (get_or lines (first / LINE_WORDS) []) place))
-    (ap (λ n. get_or instructions n None) at ∙ sym (get_or-drop first instructions place None)
-    ∙ sym (get_or-take (first + LINE_WORDS - first) (drop first instructions) place None (omega (arith, low)))
+    subst (λ o. IsOfWord o (word_of (get_or lines slot []) place))
+    (sym (get_or-drop first instructions place None) ∙ sym (get_or-take (first + LINE_WORDS - first) (drop first instructions) place None (omega (arith, low)))
     ∙ ap (λ n. get_or (take (first + LINE_WORDS - first) (drop first instructions)) n None) (sym from))
-    (are.each (first / LINE_WORDS) inside place low)
+    (are.each slot inside place low)

@@ -1,4 +1,6 @@
-use Rattle.std.proofs.Common.{◌≡◌, ◌+◌, ◌-◌, ap, subst, sym, ◌∙◌, arith}
+use Rattle.std.proofs.Common.{◌≡◌, ◌+◌, ◌-◌, ◌*◌, ◌/◌, ◌%◌, ap, subst, sym, ◌∙◌, arith}
+use Rattle.sizes.specs.declared.TheConstants.{LINE_BYTES, PAGE_BYTES}
+use Rattle.decoded_lines.specs.declared.TheConstants.{LINE_WORDS}
 use Rattle.machine_core.specs.Access.{spaces_lent}
 use Rattle.machine_core.specs.Ahead.{guest_ahead}
 use Rattle.machine_core.specs.Executions.{Comes, behind, executions, resumed, steps_in, stops_in}
@@ -6,15 +8,15 @@ use Rattle.machine_core.specs.Held.{IsLeft, Keeps}
 use Rattle.machine_core.specs.Kept.{IsBeside, guest_lent}
 use Rattle.machine_core.specs.declared.hand.Course.{Course}
 use Rattle.machine_core.specs.declared.hand.Hand.{Hand}
-use Rattle.machine_core.proofs.Runs.{both_beside, comes, goes_by, goes_held, goes_past, held_here, on_here, one_so_far, page_here, runs_on, word_in}
+use Rattle.machine_core.proofs.Runs.{both_beside, comes, goes_by, goes_past, in_hand_over, on_here, one_so_far, page_here, runs_on, same_lines, start_page, word_in}
 use Rattle.machine_core.proofs.Stepping.{is_so_far, so_far}
 use Rattle.machine_core.proofs.stretches.run.Goals as goal
 
 pub execute_word-outcome-requires-clause-word : goal.execute_word-outcome-requires-clause-word
 execute_word-outcome-requires-clause-word c =
-    word_in c.args.lines.now c.running.view c.args.hand.now c.place-from.result c.running.k c.running.process.regs.pc c.requires.taken.held.start c.requires.taken.held.low
-    (let turn = c.running-test.true in let fits = c.count_from-count.ensures.inside in omega (arith, turn, fits)) c.running.invariant.here
-    c.running.invariant.hand c.words.result.now c.count_from-count.result c.running-test.true c.words.ensures.words
+    word_in c.args.lines.now c.running.view c.pc-pc.result c.running.k c.running.process.regs.pc c.running.invariant.line
+    (let turn = c.running-test.true in let fits = c.count_from-count.ensures.inside.1 in omega (arith, turn, fits)) c.running.invariant.here
+    c.words.result.now c.count_from-count.result c.running-test.true c.words.ensures.words
 
 -- a turn that ends the run
 pub returns-then-not-is_on-clause-came : goal.returns-then-not-is_on-clause-came
@@ -28,9 +30,9 @@ returns-then-not-is_on-clause-came c =
     (comes (stops_in c.args.stops) c.args.view.now.space (guest_ahead c.args.hand.now.owed (guest_lent c.args.view.now c.args.process.now)) c.args.most c.running.k
     c.args.hand.now.owed c.running.view c.execute_word-outcome.new.view c.running.process c.execute_word-outcome.new.process c.execute_word-outcome.result.0 c.running.invariant.space
     (let turn = c.running-test.true in let few = c.count_from-count.ensures.few in omega (arith, turn, few)) c.running.invariant.all
-    (goes_past c.args.lines.now c.running.view c.args.hand.now c.place-from.result c.running.k c.running.process.regs.pc c.requires.taken.held.start c.requires.taken.held.low
-    (let turn = c.running-test.true in let fits = c.count_from-count.ensures.inside in omega (arith, turn, fits)) c.running.invariant.here (stops_in c.args.stops)
-    c.count_from-count.result c.requires.guarded c.count_from-count.ensures.alone c.running-test.true)
+    (goes_past c.args.lines.now c.running.view c.pc-pc.result c.running.k c.running.process.regs.pc c.running.invariant.line
+    (let turn = c.running-test.true in let fits = c.count_from-count.ensures.inside.1 in omega (arith, turn, fits)) c.running.invariant.here (stops_in c.args.stops)
+    c.count_from-count.result c.count_from-count.ensures.inside.0 c.count_from-count.ensures.past c.running-test.true)
     c.execute_word-outcome.ensures.outcome c.execute_word-outcome.ensures.after))
 
 pub returns-then-not-is_on-clause-goes : goal.returns-then-not-is_on-clause-goes
@@ -39,25 +41,22 @@ returns-then-not-is_on-clause-goes c stepped =
     let kept = c.running.invariant.kept in
     let owed = c.leave-steps.ensures.owed ∙ ap (λ (h : Hand). h.owed + (c.running.k + 1)) kept in
     let steps = c.leave-steps.ensures.steps ∙ ap (λ o. c.running.k + steps_in o) stepped in
-    goes_by (stops_in c.args.stops) c.args.lines.now c.running.view came.new.view c.args.hand.now c.leave-steps.new.hand c.leave-steps.result c.running.process.regs.pc
-    came.new.process.regs.pc came.ensures.ready c.requires.guarded (owed ∙ sym (ap (λ n. c.args.hand.now.owed + n) steps)) (omega (arith, steps)) came.result.1
-    (subst (λ (h : Hand). IsLeft came.result.1 came.new.process.regs.pc h c.leave-steps.new.hand) kept
-    (subst (λ n. IsLeft came.result.1 n c.running.hand c.leave-steps.new.hand) c.pc-then-not-is_on.ensures c.leave-steps.ensures.left))
-    (came.ensures.line stepped)
-    (held_here c.args.lines.now c.running.view c.args.hand.now c.place-from.result c.running.k c.running.process.regs.pc c.requires.taken.held.start c.requires.taken.held.low
-    (let turn = c.running-test.true in let fits = c.count_from-count.ensures.inside in omega (arith, turn, fits)) c.running.invariant.here
-    c.running.invariant.hand)
-    (page_here c.args.lines.now c.running.view c.args.hand.now c.place-from.result c.running.k c.running.process.regs.pc c.requires.taken.held.start c.requires.taken.held.low
-    (let turn = c.running-test.true in let fits = c.count_from-count.ensures.inside in omega (arith, turn, fits)) c.running.invariant.here)
+    goes_by c.args.lines.now c.running.view came.new.view c.args.hand.now c.leave-steps.new.hand c.leave-steps.result c.running.process.regs.pc
+    came.new.process.regs.pc came.ensures.ready (owed ∙ sym (ap (λ n. c.args.hand.now.owed + n) steps)) (omega (arith, steps)) came.result.1
+    (subst (λ (h : Hand). IsLeft came.result.1 h c.leave-steps.new.hand) kept c.leave-steps.ensures.left)
+    (came.ensures.line stepped) c.running.invariant.hand
+    (c.requires.taken.page ∙ sym (ap (λ n. n / PAGE_BYTES) c.pc-pc.ensures)
+    ∙ page_here c.args.lines.now c.running.view c.pc-pc.result c.running.k c.running.process.regs.pc c.running.invariant.line
+    (let turn = c.running-test.true in let fits = c.count_from-count.ensures.inside.1 in omega (arith, turn, fits)) c.running.invariant.here)
 
 pub returns-then-not-is_on-clause-running : goal.returns-then-not-is_on-clause-running
 returns-then-not-is_on-clause-running c stepped =
     runs_on (stops_in c.args.stops) c.args.view.now.space (guest_ahead c.args.hand.now.owed (guest_lent c.args.view.now c.args.process.now)) c.args.most c.running.k
     c.args.hand.now.owed c.running.view c.execute_word-outcome.new.view c.running.process c.execute_word-outcome.new.process c.execute_word-outcome.result.0 c.running.invariant.space
     (let turn = c.running-test.true in let few = c.count_from-count.ensures.few in omega (arith, turn, few)) c.running.invariant.all
-    (goes_past c.args.lines.now c.running.view c.args.hand.now c.place-from.result c.running.k c.running.process.regs.pc c.requires.taken.held.start c.requires.taken.held.low
-    (let turn = c.running-test.true in let fits = c.count_from-count.ensures.inside in omega (arith, turn, fits)) c.running.invariant.here (stops_in c.args.stops)
-    c.count_from-count.result c.requires.guarded c.count_from-count.ensures.alone c.running-test.true)
+    (goes_past c.args.lines.now c.running.view c.pc-pc.result c.running.k c.running.process.regs.pc c.running.invariant.line
+    (let turn = c.running-test.true in let fits = c.count_from-count.ensures.inside.1 in omega (arith, turn, fits)) c.running.invariant.here (stops_in c.args.stops)
+    c.count_from-count.result c.count_from-count.ensures.inside.0 c.count_from-count.ensures.past c.running-test.true)
     c.execute_word-outcome.ensures.outcome c.execute_word-outcome.ensures.after stepped c.running.invariant.running
 
 pub returns-then-not-is_on-clause-beside : goal.returns-then-not-is_on-clause-beside
@@ -73,6 +72,8 @@ running-preserved c =
     let turn = c.running-test.true in
     let course = c.is_on.ensures c.if-not-is_on.false in
     let step = came.ensures.on course in
+    let page = page_here c.args.lines.now c.running.view c.pc-pc.result c.running.k c.running.process.regs.pc c.running.invariant.line
+    (let turn = c.running-test.true in let fits = c.count_from-count.ensures.inside.1 in omega (arith, turn, fits)) so.here in
     let on = subst (λ (v : Course). Keeps v c.running.view came.new.view c.running.process.regs.pc came.new.process.regs.pc) course (came.ensures.line step) in
     record {
       loan = came.ensures.loan ∙ so.loan;
@@ -81,29 +82,26 @@ running-preserved c =
       all = one_so_far (stops_in c.args.stops) c.args.view.now.space (guest_ahead c.args.hand.now.owed (guest_lent c.args.view.now c.args.process.now)) c.args.most c.running.k
           c.args.hand.now.owed c.running.view c.execute_word-outcome.new.view c.running.process c.execute_word-outcome.new.process c.execute_word-outcome.result.0 c.running.invariant.space
           (let turn = c.running-test.true in let few = c.count_from-count.ensures.few in omega (arith, turn, few)) c.running.invariant.all
-          (goes_past c.args.lines.now c.running.view c.args.hand.now c.place-from.result c.running.k c.running.process.regs.pc c.requires.taken.held.start c.requires.taken.held.low
-          (let turn = c.running-test.true in let fits = c.count_from-count.ensures.inside in omega (arith, turn, fits)) c.running.invariant.here (stops_in c.args.stops)
-          c.count_from-count.result c.requires.guarded c.count_from-count.ensures.alone c.running-test.true)
+          (goes_past c.args.lines.now c.running.view c.pc-pc.result c.running.k c.running.process.regs.pc c.running.invariant.line
+          (let turn = c.running-test.true in let fits = c.count_from-count.ensures.inside.1 in omega (arith, turn, fits)) c.running.invariant.here (stops_in c.args.stops)
+          c.count_from-count.result c.count_from-count.ensures.inside.0 c.count_from-count.ensures.past c.running-test.true)
           c.execute_word-outcome.ensures.outcome c.execute_word-outcome.ensures.after step;
       running = runs_on (stops_in c.args.stops) c.args.view.now.space (guest_ahead c.args.hand.now.owed (guest_lent c.args.view.now c.args.process.now)) c.args.most c.running.k
           c.args.hand.now.owed c.running.view c.execute_word-outcome.new.view c.running.process c.execute_word-outcome.new.process c.execute_word-outcome.result.0 c.running.invariant.space
           (let turn = c.running-test.true in let few = c.count_from-count.ensures.few in omega (arith, turn, few)) c.running.invariant.all
-          (goes_past c.args.lines.now c.running.view c.args.hand.now c.place-from.result c.running.k c.running.process.regs.pc c.requires.taken.held.start c.requires.taken.held.low
-          (let turn = c.running-test.true in let fits = c.count_from-count.ensures.inside in omega (arith, turn, fits)) c.running.invariant.here (stops_in c.args.stops)
-          c.count_from-count.result c.requires.guarded c.count_from-count.ensures.alone c.running-test.true)
+          (goes_past c.args.lines.now c.running.view c.pc-pc.result c.running.k c.running.process.regs.pc c.running.invariant.line
+          (let turn = c.running-test.true in let fits = c.count_from-count.ensures.inside.1 in omega (arith, turn, fits)) c.running.invariant.here (stops_in c.args.stops)
+          c.count_from-count.result c.count_from-count.ensures.inside.0 c.count_from-count.ensures.past c.running-test.true)
           c.execute_word-outcome.ensures.outcome c.execute_word-outcome.ensures.after step so.running;
       saved = came.ensures.saved ∙ so.saved;
       beside = both_beside c.args.view.now.space (spaces_lent c.args.view.now) (spaces_lent c.running.view) (spaces_lent c.execute_word-outcome.new.view) c.running.invariant.beside
           (subst (λ p. IsBeside p (spaces_lent c.running.view) (spaces_lent c.execute_word-outcome.new.view)) c.running.invariant.space c.execute_word-outcome.ensures.beside);
       kept = so.kept;
-      here = on_here c.args.hand.now.start c.place-from.result c.running.k c.running.process.regs.pc came.new.process.regs.pc c.requires.taken.held.start c.requires.taken.held.low
-          (let fits = c.count_from-count.ensures.inside in omega (arith, turn, fits)) so.here on.0;
-      hand = on.1 c.args.lines.now c.args.hand.now
-          (held_here c.args.lines.now c.running.view c.args.hand.now c.place-from.result c.running.k c.running.process.regs.pc c.requires.taken.held.start c.requires.taken.held.low
-          (let turn = c.running-test.true in let fits = c.count_from-count.ensures.inside in omega (arith, turn, fits)) c.running.invariant.here
-          c.running.invariant.hand)
-          (page_here c.args.lines.now c.running.view c.args.hand.now c.place-from.result c.running.k c.running.process.regs.pc c.requires.taken.held.start c.requires.taken.held.low
-          (let turn = c.running-test.true in let fits = c.count_from-count.ensures.inside in omega (arith, turn, fits)) c.running.invariant.here);
+      here = on_here (LINE_BYTES * (c.pc-pc.result / LINE_BYTES)) (c.pc-pc.result / 4 % LINE_WORDS) c.running.k c.running.process.regs.pc came.new.process.regs.pc
+          so.line.whole so.line.low (let fits = c.count_from-count.ensures.inside.1 in omega (arith, turn, fits)) so.here on.0;
+      line = on.1 c.args.lines.now (LINE_BYTES * (c.pc-pc.result / LINE_BYTES)) so.line (sym page ∙ start_page c.pc-pc.result);
+      hand = in_hand_over c.args.lines.now c.running.view came.new.view c.args.hand.now c.running.process.regs.pc on.1
+          (c.requires.taken.page ∙ sym (ap (λ n. n / PAGE_BYTES) c.pc-pc.ensures) ∙ page) so.hand;
       within = omega (arith, turn);
     }
 
@@ -127,7 +125,8 @@ returns-clause-came c =
 pub returns-clause-goes : goal.returns-clause-goes
 returns-clause-goes c done =
     let n = c.count_from-count.result in
-    goes_held (stops_in c.args.stops) c.args.lines.now c.running.view c.running.view c.args.hand.now
-    (record { start = c.running.hand.start; first = c.running.hand.first; owed = c.running.hand.owed + n; watched = c.running.hand.watched }) n c.running.process.regs.pc
-    c.running.process.regs.pc c.running.invariant.ready c.requires.guarded (ap (λ (h : Hand). h.owed + n) c.running.invariant.kept) c.count_from-count.ensures.some
-    c.running.invariant.hand (ap (λ (h : Hand). record { start = h.start; first = h.first; owed = h.owed + n; watched = h.watched }) c.running.invariant.kept)
+    let kept = c.running.invariant.kept in
+    same_lines c.args.lines.now c.running.view c.running.view c.args.hand.now
+    (record { page = c.running.hand.page; known = c.running.hand.known; owed = c.running.hand.owed + n }) n c.running.process.regs.pc
+    c.running.process.regs.pc c.running.invariant.ready (ap (λ (h : Hand). h.owed + n) kept) c.count_from-count.ensures.some
+    c.running.invariant.hand (ap (λ (h : Hand). record { page = h.page; known = h.known; owed = c.running.hand.owed + n }) kept)
