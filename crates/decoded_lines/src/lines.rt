@@ -1,7 +1,7 @@
 //! The lines and their instructions.
 
 ghost use Rattle.std.specs.Prelude.{◌≡◌, ◌+◌, ◌*◌, ◌/◌, ◌%◌, ◌<◌, ◌≤◌, ◌⊎◌, ◌≢◌, ℕ, [], IfOk, length, replicate, slice_index_or, slice_set, None};
-ghost use Rattle.decoded_lines.specs.Decoded.{AreOfLine};
+ghost use Rattle.decoded_lines.specs.Decoded.{AreFrom, AreOfLine};
 ghost use Rattle.decoded_lines.specs.declared.TheConstants.{KEPT_LINES, LINE_WORDS};
 
 use crate::{KEPT_LINES, LINE_WORDS};
@@ -92,13 +92,16 @@ impl DecodedLines {
         decode_line(&mut self.instructions, slot, line);
     }
 
-    /// What the words of the line mean that is kept for a number: none exactly where a word is no instruction. Costs a step.
+    /// What words mean from one on, of which the number is told, to the end of its line: of the line that is kept for the number of
+    /// that line. None exactly where a word is no instruction. Costs a step.
     #[inline]
-    pub fn words(&self, number: u64) -> &[Option<Instr>]
-        ensures count { length result.now ≡ LINE_WORDS }
-        ensures words { AreOfLine result.now 0 (slice_index_or self.now (number % KEPT_LINES) []) }
+    pub fn words_from(&self, word: u64) -> &[Option<Instr>]
+        ensures count { word % LINE_WORDS + length result.now ≡ LINE_WORDS }
+        ensures words { AreFrom result.now (word % LINE_WORDS)
+            (slice_index_or self.now (word / LINE_WORDS % KEPT_LINES) []) }
     {
-        let first = LINE_WORDS * (number % KEPT_LINES as u64) as usize;
-        &self.instructions[first..first + LINE_WORDS]
+        let place = (word % LINE_WORDS as u64) as usize;
+        let first = (word % (LINE_WORDS * KEPT_LINES) as u64) as usize;
+        &self.instructions[first..first + (LINE_WORDS - place)]
     }
 }

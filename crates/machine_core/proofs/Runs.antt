@@ -1,5 +1,5 @@
-use Rattle.std.proofs.Common.{◌≡◌, ℕ, ◌+◌, ◌-◌, ◌*◌, ◌/◌, ◌%◌, ◌^◌, ◌<◌, ◌≤◌, ◌⊎◌, inl, inr, false, List, [], drop, get_or, take, Option, None, sym, ap, subst, ◌∙◌, refl, arith}
-use Rattle.std.proofs.lemmas.List.{get_or-drop, get_or-take}
+use Rattle.std.proofs.Common.{◌≡◌, ℕ, ◌+◌, ◌-◌, ◌*◌, ◌/◌, ◌%◌, ◌^◌, ◌<◌, ◌≤◌, ◌⊎◌, inl, inr, false, List, [], drop, get_or, length, take, Option, None, sym, ap, subst, ◌∙◌, refl, arith}
+use Rattle.std.proofs.lemmas.List.{drop-drop, get_or-drop, get_or-take, length-drop, take_all}
 use Rattle.std.specs.Borrow.{Bor}
 use Rattle.std.specs.Ordering.{nat_cmp}
 use Rattle.std.specs.FinSet.{contains, contains-empty}
@@ -8,13 +8,13 @@ use Rattle.sizes.specs.declared.TheConstants.{LINE_BYTES, PAGE_BYTES, PAGE_LINES
 use Rattle.breakpoints.specs.Breakpoints.{Addresses}
 use Rattle.overlay_bits.specs.Lines.{has_line}
 use Rattle.overlay_memory.specs.View.{TranslatedView}
-use Rattle.decoded_lines.specs.Decoded.{AreOfLine, IsOfWord, word_of}
+use Rattle.decoded_lines.specs.Decoded.{AreFrom, IsOfWord, word_of}
 use Rattle.decoded_lines.specs.declared.TheConstants.{KEPT_LINES, LINE_WORDS}
 use Rattle.ovl_io.specs.declared.process_state.ProcessState.TheVariants as state
 use Rattle.rv_decode.specs.declared.instruction.Instr.{Instr}
 use Rattle.rv_execute.specs.declared.outcome.Outcome.{Outcome}
 use Rattle.rv_execute.specs.declared.outcome.Outcome.TheVariants as outcome
-use Rattle.machine_core.specs.Access.{IsReadyView}
+use Rattle.machine_core.specs.Access.{IsReadyView, spaces_lent}
 use Rattle.machine_core.specs.Ahead.{guest_ahead}
 use Rattle.machine_core.specs.Executions.{Comes, Executions, IsLast, behind, executions, resumed, steps_in, stops_in}
 use Rattle.machine_core.specs.Held.{GoesOn, GoesPast, IsHeld, IsInHand, IsLeft, IsTaken, IsWordAt, Keeps, KeepsLines}
@@ -77,22 +77,16 @@ module _ (lines : List (List ℕ)) (view : View) (first k pc : ℕ) (held : IsHe
   pc_is : pc ≡ start + 4 * (from + k)
   pc_is = at_here start pc (from + k) held.whole held.low inside here
 
-  word_here : (words : List (Option Instr)) → AreOfLine words 0 (get_or lines (first / LINE_BYTES % KEPT_LINES) [])
-      → IsWordAt view pc (get_or words (from + k) None)
-  word_here words are =
-      let zero : LINE_WORDS * 0 + (from + k) ≡ from + k = omega arith in
-      let number : first / LINE_BYTES ≡ start / LINE_BYTES = omega arith in
-      word_is lines view start pc (from + k) held pc_is inside (get_or words (from + k) None)
-      (subst (λ n. IsOfWord (get_or words (from + k) None) (word_of (get_or lines (n % KEPT_LINES) []) (from + k))) number
-      (subst (λ n. IsOfWord (get_or words n None) (word_of (get_or lines (first / LINE_BYTES % KEPT_LINES) []) (from + k))) zero (are (from + k) inside)))
-
-  -- among those from the first one on
-  pub word_in : (words : List (Option Instr)) (count : ℕ) → k < count → AreOfLine words 0 (get_or lines (first / LINE_BYTES % KEPT_LINES) [])
-      → IsWordAt view pc (get_or (take (from + count - from) (drop from words)) k None)
+  -- the first of those that are left
+  pub word_in : (words : List (Option Instr)) (count : ℕ) → k < count → AreFrom words from (get_or lines (first / 4 / LINE_WORDS % KEPT_LINES) [])
+      → IsWordAt view pc (get_or (drop k (take count words)) 0 None)
   word_in words count below are =
-      subst (IsWordAt view pc)
-      (sym (get_or-take (from + count - from) (drop from words) k None (omega (arith, below)) ∙ get_or-drop from words k None))
-      (word_here words are)
+      let number : first / 4 / LINE_WORDS ≡ start / LINE_BYTES = omega arith in
+      let one : k + 0 ≡ k = omega arith in
+      word_is lines view start pc (from + k) held pc_is inside (get_or (drop k (take count words)) 0 None)
+      (subst (λ n. IsOfWord (get_or (drop k (take count words)) 0 None) (word_of (get_or lines (n % KEPT_LINES) []) (from + k))) number
+      (subst (λ o. IsOfWord o (word_of (get_or lines (first / 4 / LINE_WORDS % KEPT_LINES) []) (from + k)))
+      (sym (get_or-drop k (take count words) 0 None ∙ ap (λ n. get_or (take count words) n None) one ∙ get_or-take count words k None below)) (are k inside)))
 
   -- executions don't stop at a word behind the first one
   pub goes_past : (stops : Addresses) (count : ℕ) → first % 4 ≡ 0 → GoesPast stops first count → k < count → 0 < k → contains stops pc ≡ false
@@ -189,3 +183,84 @@ both_beside p old mid new one two = record {
   awaiting = two.awaiting ∙ one.awaiting;
   mark = two.mark ∙ one.mark;
 }
+
+-- Steps of a run so far, one behind the other: the lines are still in hand, and the words that are left follow.
+pub record AreRun (stops : Addresses) (lines : List (List ℕ)) (old now : View) (before process : Process) (hand left : Hand) (most pc : ℕ) (words rest : List (Option Instr)) (k : ℕ)
+    : Type 0 where
+  pub loan : now.memory.ghost_name ≡ old.memory.ghost_name
+  pub space : now.space ≡ old.space
+  pub ready : IsReadyView now
+  pub all : executions stops old.space most (guest_ahead hand.owed (guest_lent old before))
+      ≡ behind k (so_far k stops old.space (most - k) (guest_ahead (hand.owed + k) (guest_lent now process)))
+  pub running : process.state ≡ state.Running
+  pub saved : process.saved ≡ before.saved
+  pub beside : IsBeside old.space (spaces_lent old) (spaces_lent now)
+  pub kept : left ≡ hand
+  pub here : process.regs.pc ≡ (LINE_BYTES * (pc / LINE_BYTES) + 4 * (pc / 4 % LINE_WORDS + k)) % 2 ^ 64
+  pub line : IsHeld lines now.memory.now now.space (LINE_BYTES * (pc / LINE_BYTES))
+  pub hand_is : IsInHand lines now.memory.now now.space hand
+  pub rest_is : rest ≡ drop k words
+
+-- The first words of a line, of which so many are left.
+pub rest_of : (rest : List (Option Instr)) → take (length rest - 1) (drop 1 rest) ≡ drop 1 rest
+rest_of rest = take_all (length rest - 1) (drop 1 rest) (let n = length-drop 1 rest in omega (arith, n))
+
+module _ (stops : Addresses) (lines : List (List ℕ)) (old mid : View) (before process : Process) (hand left : Hand) (most pc count : ℕ) (words rest : List (Option Instr))
+    (so : AreRun stops lines old mid before process hand left most pc words rest (count - length rest)) (few : count ≤ most) (within : length rest ≤ count) (some : 0 < length rest)
+    (inside : pc / 4 % LINE_WORDS + count ≤ LINE_WORDS) (aligned : pc % 4 ≡ 0) (past : GoesPast stops pc count) where
+  abbrev done : ℕ
+  done = count - length rest
+
+  is_inside : pc / 4 % LINE_WORDS + done < LINE_WORDS
+  is_inside = omega (arith, within, some, inside)
+
+  is_past : 0 < done → contains stops process.regs.pc ≡ false
+  is_past = goes_past lines mid pc done process.regs.pc so.line is_inside so.here stops count aligned past (omega (arith, within, some))
+
+  below : done < most
+  below = omega (arith, within, some, few)
+
+  -- the word of the next one
+  pub next_word : (all : List (Option Instr)) → words ≡ take count all → AreFrom all (pc / 4 % LINE_WORDS) (get_or lines (pc / 4 / LINE_WORDS % KEPT_LINES) [])
+      → IsWordAt mid process.regs.pc (get_or rest 0 None)
+  next_word all words_are are =
+      subst (λ r. IsWordAt mid process.regs.pc (get_or r 0 None)) (sym (so.rest_is ∙ ap (drop done) words_are))
+      (word_in lines mid pc done process.regs.pc so.line is_inside so.here all count (omega (arith, within, some)) are)
+
+  pub page_now : pc / PAGE_BYTES ≡ process.regs.pc / PAGE_BYTES
+  page_now = page_here lines mid pc done process.regs.pc so.line is_inside so.here
+
+  -- It was executed, and that came of it.
+  module _ (new : View) (after : Process) (o : Outcome) (came : (n : ℕ) → o ≡ outcome_of mid.space (guest_ahead n (guest_lent mid process)))
+      (moved : (n : ℕ) → guest_ahead (n + 1) (guest_lent new after) ≡ executed mid.space (guest_ahead n (guest_lent mid process))) where
+    -- what came ends the run
+    pub ends : Comes stops old.space most (guest_ahead hand.owed (guest_lent old before)) (done + steps_in o) o (guest_ahead (hand.owed + (done + 1)) (guest_lent new after))
+    ends =
+        comes stops old.space (guest_ahead hand.owed (guest_lent old before)) most done hand.owed mid new process after o so.space below so.all is_past came moved
+
+    pub ends_running : o ≡ outcome.Stepped → after.state ≡ state.Running
+    ends_running stepped =
+        runs_on stops old.space (guest_ahead hand.owed (guest_lent old before)) most done hand.owed mid new process after o so.space below so.all is_past came moved stepped so.running
+
+    -- or the run goes on
+    pub goes_on : o ≡ outcome.Stepped → new.memory.ghost_name ≡ mid.memory.ghost_name → new.space ≡ mid.space → IsReadyView new → after.saved ≡ process.saved
+        → IsBeside mid.space (spaces_lent mid) (spaces_lent new) → Keeps On mid new process.regs.pc after.regs.pc → hand.page ≡ pc / PAGE_BYTES
+        → AreRun stops lines old new before after hand left most pc words (drop 1 rest) (count - length (drop 1 rest))
+    goes_on stepped loan space ready saved beside keeps page =
+        let n = length-drop 1 rest in
+        let one : done + 1 ≡ count - length (drop 1 rest) = omega (arith, n, within, some) in
+        subst (AreRun stops lines old new before after hand left most pc words (drop 1 rest)) one
+        (record {
+          loan = loan ∙ so.loan;
+          space = space ∙ so.space;
+          ready = ready;
+          all = one_so_far stops old.space (guest_ahead hand.owed (guest_lent old before)) most done hand.owed mid new process after o so.space below so.all is_past came moved stepped;
+          running = ends_running stepped;
+          saved = saved ∙ so.saved;
+          beside = both_beside old.space (spaces_lent old) (spaces_lent mid) (spaces_lent new) so.beside (subst (λ p. IsBeside p (spaces_lent mid) (spaces_lent new)) so.space beside);
+          kept = so.kept;
+          here = on_here (LINE_BYTES * (pc / LINE_BYTES)) (pc / 4 % LINE_WORDS) done process.regs.pc after.regs.pc so.line.whole so.line.low is_inside so.here keeps.0;
+          line = keeps.1 lines (LINE_BYTES * (pc / LINE_BYTES)) so.line (sym page_now ∙ start_page pc);
+          hand_is = in_hand_over lines mid new hand process.regs.pc keeps.1 (page ∙ page_now) so.hand_is;
+          rest_is = ap (drop 1) so.rest_is ∙ drop-drop 1 done words;
+        })

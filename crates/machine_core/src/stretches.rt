@@ -19,12 +19,11 @@ use crate::hand::{Course, Hand, course_of};
 use crate::process::Process;
 use crate::view::View;
 use breakpoints::Addresses;
-use decoded_lines::{DecodedLines, LINE_WORDS};
+use decoded_lines::DecodedLines;
 use overlay_memory::OverlayMemory;
 use ovl_io::{FaultKind, ProcessState};
 use rv_decode::Instr;
 use rv_execute::{Outcome, Regs, action_on, execute, perform};
-use sizes::LINE_BYTES;
 
 /// What follows an instruction of which that came: the next word of the line only where it was a step.
 #[inline(always)]
@@ -191,26 +190,24 @@ fn count_past(addresses: &Addresses, pc: u64, most: u32) -> u32
     most
 }
 
-/// How many words of its line there are from an address on, at most so many, of which all but the first are at no stop.
+/// How many words of a line there are from an address on, at most so many, of which all but the first are at no stop.
 #[inline]
 fn count_from(stops: Option<&Addresses>, pc: u64, most: u32) -> u32
-    requires aligned { pc % 4 ≡ 0 }
+    requires inside { AreInLine pc most }
     requires some { 0 < most }
     ensures some { 0 < result }
     ensures few { result ≤ most }
-    ensures inside { AreInLine pc result }
     ensures past { GoesPast (stops_in stops.entry) pc result }
 {
-    let left = most.min(LINE_WORDS as u32 - (pc / 4 % LINE_WORDS as u64) as u32);
     match stops {
         Some(addresses) => {
             if addresses.may_have_near(pc) {
-                count_past(addresses, pc, left)
+                count_past(addresses, pc, most)
             } else {
-                left
+                most
             }
         }
-        None => left,
+        None => most,
     }
 }
 
@@ -244,17 +241,16 @@ fn run(
     ensures beside { IsBeside view.old.space (spaces_lent view.old) (spaces_lent view.new) }
 {
     let pc = process.regs.pc();
-    let count = count_from(stops, pc, most);
-    let from = (pc / 4 % LINE_WORDS as u64) as usize;
-    let words = &lines.words(pc / LINE_BYTES as u64)[from..from + count as usize];
-    let mut k = 0u32;
-    'running: while k < count {
-        let (outcome, course) = execute_word(process, view, &words[k as usize]);
+    let words = lines.words_from(pc / 4);
+    let count = count_from(stops, pc, most.min(words.len() as u32));
+    let mut rest = &words[..count as usize];
+    'running: while !rest.is_empty() {
+        let (outcome, course) = execute_word(process, view, &rest[0]);
         if !is_on(course) {
-            let steps = leave(hand, k, outcome, course);
+            let steps = leave(hand, count - rest.len() as u32, outcome, course);
             return (steps, outcome);
         }
-        k += 1;
+        rest = &rest[1..];
     }
     hand.owed += count;
     (count, Outcome::Stepped)
