@@ -82,12 +82,21 @@ impl Addresses {
         }
     }
 
+    /// Whether an address may be there: false only where it isn't. Costs a few steps.
+    #[inline]
+    pub fn may_have(&self, address: u64) -> bool
+        ensures { result ≡ false → set.contains self.now address ≡ false }
+    {
+        let _found = &self.found;
+        mark_of(&self.marks, address).has(word_of(address))
+    }
+
     /// Whether an address is there. Costs a few steps where no other one lies in its word of four bytes.
     #[inline]
     pub fn has(&self, address: u64) -> bool
         ensures { result ≡ set.contains self.now address }
     {
-        mark_of(&self.marks, address).has(word_of(address)) && self.found.contains(&address)
+        self.may_have(address) && self.found.contains(&address)
     }
 
     /// Whether one that is there may lie in the same 256 bytes as an address. Costs a few steps.

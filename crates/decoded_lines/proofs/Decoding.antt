@@ -6,7 +6,7 @@ use Rattle.byteorder.specs.Endian.{little_number}
 use Rattle.rv_decode.specs.Encodable.{IsEncodable}
 use Rattle.rv_decode.specs.Meaning.{meaning}
 use Rattle.rv_decode.specs.declared.instruction.Instr.{Instr}
-use Rattle.decoded_lines.specs.Decoded.{AreDecoded, AreOfLine, IsOfWord, word_of}
+use Rattle.decoded_lines.specs.Decoded.{AreDecoded, AreFrom, AreOfLine, IsOfWord, word_of}
 use Rattle.decoded_lines.specs.declared.TheConstants.{KEPT_LINES, LINE_WORDS}
 
 -- A line is decoded word by word.
@@ -112,13 +112,14 @@ pub record AreZero (lines : List (List ℕ)) : Type 0 where
   pub zero : lines ≡ replicate (length lines) (replicate {A = ℕ} 64 0)
 
 -- the words of a line stand one after the other
-pub words_from : (lines : List (List ℕ)) (instructions : List (Option Instr)) (first : ℕ) → AreDecoded lines instructions → first % LINE_WORDS ≡ 0
-    → first / LINE_WORDS < KEPT_LINES → AreOfLine (take (first + LINE_WORDS - first) (drop first instructions)) 0 (get_or lines (first / LINE_WORDS) [])
-words_from lines instructions first are whole inside place low =
-    let at : LINE_WORDS * (first / LINE_WORDS) + place ≡ first + place = omega (arith, whole) in
-    let from : 0 + place ≡ place = omega arith in
-    subst (λ o. IsOfWord o (word_of (get_or lines (first / LINE_WORDS) []) place))
-    (ap (λ n. get_or instructions n None) at ∙ sym (get_or-drop first instructions place None)
-    ∙ sym (get_or-take (first + LINE_WORDS - first) (drop first instructions) place None (omega (arith, low)))
-    ∙ ap (λ n. get_or (take (first + LINE_WORDS - first) (drop first instructions)) n None) (sym from))
-    (are.each (first / LINE_WORDS) inside place low)
+pub words_behind : (lines : List (List ℕ)) (instructions : List (Option Instr)) (word : ℕ) → AreDecoded lines instructions
+    → AreFrom (take (word % (LINE_WORDS * KEPT_LINES) + (LINE_WORDS - word % LINE_WORDS) - word % (LINE_WORDS * KEPT_LINES))
+    (drop (word % (LINE_WORDS * KEPT_LINES)) instructions)) (word % LINE_WORDS) (get_or lines (word / LINE_WORDS % KEPT_LINES) [])
+words_behind lines instructions word are k inside =
+    let first : ℕ = word % (LINE_WORDS * KEPT_LINES) in
+    let slot : ℕ = word / LINE_WORDS % KEPT_LINES in
+    let at : LINE_WORDS * slot + (word % LINE_WORDS + k) ≡ first + k = omega arith in
+    subst (λ o. IsOfWord o (word_of (get_or lines slot []) (word % LINE_WORDS + k)))
+    (ap (λ n. get_or instructions n None) at ∙ sym (get_or-drop first instructions k None)
+    ∙ sym (get_or-take (first + (LINE_WORDS - word % LINE_WORDS) - first) (drop first instructions) k None (omega (arith, inside))))
+    (are.each slot (omega arith) (word % LINE_WORDS + k) inside)

@@ -21,6 +21,10 @@ abbrev pub AreOfLine : List (Option Instr) → ℕ → List ℕ → Type 0
 AreOfLine instructions slot line =
     (place : ℕ) → place < LINE_WORDS → IsOfWord (slice_index_or instructions (LINE_WORDS * slot + place) None) (word_of line place)
 
+-- those of a line from a word on
+abbrev pub AreFrom : List (Option Instr) → ℕ → List ℕ → Type 0
+AreFrom instructions from line = (k : ℕ) → from + k < LINE_WORDS → IsOfWord (slice_index_or instructions k None) (word_of line (from + k))
+
 -- each line has its instructions
 pub record AreDecoded (lines : List (List ℕ)) (instructions : List (Option Instr)) : Type 0 where
   pub count : length lines ≡ KEPT_LINES

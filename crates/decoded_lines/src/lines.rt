@@ -1,7 +1,7 @@
 //! The lines and their instructions.
 
-ghost use Rattle.std.specs.Prelude.{◌≡◌, ◌+◌, ◌*◌, ◌/◌, ◌%◌, ◌<◌, ◌≤◌, ◌⊎◌, ℕ, [], IfOk, length, replicate, slice_index_or, slice_set, None};
-ghost use Rattle.decoded_lines.specs.Decoded.{AreOfLine};
+ghost use Rattle.std.specs.Prelude.{◌≡◌, ◌+◌, ◌*◌, ◌/◌, ◌%◌, ◌<◌, ◌≤◌, ◌⊎◌, ◌≢◌, ℕ, [], IfOk, length, replicate, slice_index_or, slice_set, None};
+ghost use Rattle.decoded_lines.specs.Decoded.{AreFrom, AreOfLine};
 ghost use Rattle.decoded_lines.specs.declared.TheConstants.{KEPT_LINES, LINE_WORDS};
 
 use crate::{KEPT_LINES, LINE_WORDS};
@@ -68,19 +68,18 @@ impl DecodedLines {
         })
     }
 
-    /// Has a line, of some number, among those that are kept, and answers where the meaning of its first word stands. Costs a comparison
-    /// where the line is there, and else what decoding it costs.
+    /// Has a line, of some number, among those that are kept, in the place of one of another number. Costs a comparison where the line is
+    /// there, and else what decoding it costs.
     #[inline]
-    pub fn enter(&mut self, number: u64, line: &[u8; 64]) -> usize
-        ensures first { result % LINE_WORDS ≡ 0 }
-        ensures inside { result / LINE_WORDS < KEPT_LINES }
-        ensures line { slice_index_or self.new (result / LINE_WORDS) [] ≡ line.now }
+    pub fn enter(&mut self, number: u64, line: &[u8; 64])
+        ensures line { slice_index_or self.new (number % KEPT_LINES) [] ≡ line.now }
+        ensures others { (slot : ℕ) → slot ≢ number % KEPT_LINES
+            → slice_index_or self.new slot [] ≡ slice_index_or self.old slot [] }
     {
         let slot = (number % KEPT_LINES as u64) as usize;
         if self.lines[slot] != *line {
             self.change(slot, line);
         }
-        LINE_WORDS * slot
     }
 
     /// Has another line in a slot.
@@ -93,15 +92,16 @@ impl DecodedLines {
         decode_line(&mut self.instructions, slot, line);
     }
 
-    /// What the words of a line mean, whose first one's meaning stands at a place: none exactly where a word is no instruction.
-    /// Costs a step.
+    /// What words mean from one on, of which the number is told, to the end of its line: of the line that is kept for the number of
+    /// that line. None exactly where a word is no instruction. Costs a step.
     #[inline]
-    pub fn words(&self, first: usize) -> &[Option<Instr>]
-        requires first { first % LINE_WORDS ≡ 0 }
-        requires inside { first / LINE_WORDS < KEPT_LINES }
-        ensures count { length result.now ≡ LINE_WORDS }
-        ensures words { AreOfLine result.now 0 (slice_index_or self.now (first / LINE_WORDS) []) }
+    pub fn words_from(&self, word: u64) -> &[Option<Instr>]
+        ensures count { word % LINE_WORDS + length result.now ≡ LINE_WORDS }
+        ensures words { AreFrom result.now (word % LINE_WORDS)
+            (slice_index_or self.now (word / LINE_WORDS % KEPT_LINES) []) }
     {
-        &self.instructions[first..first + LINE_WORDS]
+        let place = (word % LINE_WORDS as u64) as usize;
+        let first = (word % (LINE_WORDS * KEPT_LINES) as u64) as usize;
+        &self.instructions[first..first + (LINE_WORDS - place)]
     }
 }

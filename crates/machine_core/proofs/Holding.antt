@@ -1,12 +1,16 @@
-use Rattle.std.proofs.Common.{◌≡◌, ℕ, ◌+◌, ◌-◌, ◌*◌, ◌/◌, ◌%◌, ◌<◌, ◌≤◌, ◌⊎◌, inl, inr, false, List, [], ◌∷◌, length, get_or, Option, Some, None, sym, ap, subst, ◌∙◌, refl, arith}
+use Rattle.std.proofs.Common.{◌≡◌, ℕ, ◌+◌, ◌-◌, ◌*◌, ◌/◌, ◌%◌, ◌^◌, ◌<◌, ◌≤◌, ◌⊎◌, inl, inr, Bool, true, false, ◌||◌, nat_eq, List, [], ◌∷◌, length, get_or, Option, Some, None, sym, ap, subst, ◌∙◌, refl, arith}
 use Rattle.std.specs.Option.{option_map_or}
 use Rattle.std.specs.FinMap.{get, insert}
-use Rattle.std.proofs.lemmas.Bool.{cases_order}
+use Rattle.std.proofs.lemmas.Bool.{cases_eq, cases_order}
+use Rattle.std.proofs.lemmas.Bool.Decides.{nat_tests}
 use Rattle.number_maps.specs.Keys.{by_key, get_other, get_same}
-use Rattle.sizes.specs.declared.TheConstants.{LINE_BYTES, PAGE_BYTES}
+use Rattle.sizes.specs.declared.TheConstants.{LINE_BYTES, PAGE_BYTES, PAGE_LINES}
+use Rattle.overlay_bits.specs.Lines.{has_line, with_line}
+use Rattle.overlay_bits.specs.Laws.{has_with}
+use Rattle.ledger.specs.AloneLaws.{are}
 use Rattle.byteorder.specs.Endian.{little_number}
 use Rattle.decoded_lines.specs.Decoded.{IsOfWord, word_of}
-use Rattle.decoded_lines.specs.declared.TheConstants.{LINE_WORDS}
+use Rattle.decoded_lines.specs.declared.TheConstants.{KEPT_LINES, LINE_WORDS}
 use Rattle.ovl_io.specs.Memory.{Memory, Page, bytes_at, with_byte, with_bytes, with_page_byte}
 use Rattle.ovl_io.specs.MemoryLaws.{all_allowed}
 use Rattle.ovl_io.specs.PageBytes.{page_allows}
@@ -23,13 +27,13 @@ use Rattle.translation_cache.specs.Counted.{counted}
 use Rattle.translation_cache.specs.CountedLaws.{IsFront, access_in_page, counted_one, front_beside, translated_front}
 use Rattle.translation_cache.specs.Translations.{with_hits}
 use Rattle.translation_cache.specs.declared.TheConstants.{SETS}
-use Rattle.machine_core.specs.Held.{IsHeld, IsWordAt}
+use Rattle.machine_core.specs.Held.{IsHeld, IsInHand, IsTaken, IsTurned, IsWordAt}
 use Rattle.machine_core.specs.Access.{lists_lent, spaces_lent}
 use Rattle.machine_core.specs.declared.hand.Hand.{Hand}
 use Rattle.machine_core.specs.declared.view.View.{View}
 use Rattle.machine_core.proofs.Bytes.{bytes_beside, some_bytes}
 
--- The line in hand: what a fetch from it is, and what leaves it.
+-- The lines in hand: what a fetch from one is, and what leaves them.
 
 -- A fetch from a page at the front of its list is a hit.
 pub fetched_front : (space pc : ℕ) (m : Memory) (t : BareTranslations) → pc % 4 ≡ 0 → IsFront space (pc / PAGE_BYTES) t
@@ -49,30 +53,88 @@ code_moved view space a b line same code =
     }
 
 -- An address of it may be fetched, and its word stands decoded there.
-module _ (lines : List (List ℕ)) (view : View) (hand : Hand) (pc at : ℕ) (held : IsHeld lines view.memory.now view.space hand)
-    (here : pc ≡ hand.start + 4 * at) (inside : at < LINE_WORDS) where
-  pub page_is : pc / PAGE_BYTES ≡ hand.start / PAGE_BYTES
-  page_is = let start = held.start in omega (arith, here, inside, start)
+module _ (lines : List (List ℕ)) (view : View) (start pc at : ℕ) (held : IsHeld lines view.memory.now view.space start)
+    (here : pc ≡ start + 4 * at) (inside : at < LINE_WORDS) where
+  pub page_is : pc / PAGE_BYTES ≡ start / PAGE_BYTES
+  page_is = let whole = held.whole in omega (arith, here, inside, whole)
 
-  pub word_is : (word : Option Instr) → IsOfWord word (word_of (get_or lines (hand.first / LINE_WORDS) []) at) → IsWordAt view pc word
+  pub word_is : (word : Option Instr) → IsOfWord word (word_of (get_or lines (start / LINE_BYTES % KEPT_LINES) []) at) → IsWordAt view pc word
   word_is word is =
-      let start = held.start in
+      let whole = held.whole in
       let low = held.low in
-      let line : LINE_BYTES * (hand.start / LINE_BYTES) + 4 * at ≡ pc = omega (arith, start, here) in
+      let line : LINE_BYTES * (start / LINE_BYTES) + 4 * at ≡ pc = omega (arith, whole, here) in
       record {
-        low = omega (arith, start, low, here, inside);
-        aligned = omega (arith, start, here);
+        low = omega (arith, whole, low, here, inside);
+        aligned = omega (arith, whole, here);
         may = all_allowed (memory_of (spaces_lent view) view.space) executable (pc / PAGE_BYTES) pc 4
-            (ap (page_allows (memory_of (spaces_lent view) view.space) executable) page_is ∙ held.code.may) (omega arith) (omega (arith, start, here));
+            (ap (page_allows (memory_of (spaces_lent view) view.space) executable) page_is ∙ held.code.may) (omega arith) (omega (arith, whole, here));
         front = subst (λ n. IsFront view.space n (lists_lent view)) (sym page_is) held.code.front;
         means = is.means
             ∙ ap meaning
             (ap (λ l. word_of l at) held.code.bytes
             ∙ ap (little_number 4)
-            (some_bytes (memory_of (spaces_lent view) view.space) (LINE_BYTES * (hand.start / LINE_BYTES)) (4 * at) 4 LINE_BYTES (omega (arith, inside))
+            (some_bytes (memory_of (spaces_lent view) view.space) (LINE_BYTES * (start / LINE_BYTES)) (4 * at) 4 LINE_BYTES (omega (arith, inside))
             ∙ ap (λ n. bytes_at (memory_of (spaces_lent view) view.space) n 4) line));
         encodable = is.encodable;
       }
+
+-- A line that is taken comes to those in hand.
+module _ (old new : List (List ℕ)) (memory : TranslatedView) (space : ℕ) (hand turned : Hand) (pc : ℕ) (line : List ℕ) (low : pc < 2 ^ 64) (aligned : pc % 4 ≡ 0)
+    (code : IsCodeLine memory space pc line) (there : get_or new (pc / LINE_BYTES % KEPT_LINES) [] ≡ line)
+    (others : (slot : ℕ) → (slot ≡ pc / LINE_BYTES % KEPT_LINES → ⊥) → get_or new slot [] ≡ get_or old slot [])
+    (was : IsInHand old memory space hand) (turn : IsTurned (pc / PAGE_BYTES) hand turned) where
+  abbrev own : ℕ
+  own = pc / LINE_BYTES % PAGE_LINES
+
+  abbrev start_of : ℕ → ℕ
+  start_of k = PAGE_BYTES * (pc / PAGE_BYTES) + LINE_BYTES * k
+
+  held_own : IsHeld new memory space (start_of own)
+  held_own =
+      let number : pc / LINE_BYTES ≡ start_of own / LINE_BYTES = omega arith in
+      record {
+        whole = omega arith;
+        low = omega (arith, low);
+        code = code_moved memory space pc (start_of own) _ (sym number)
+            (subst (IsCodeLine memory space pc) (sym there ∙ ap (λ n. get_or new (n % KEPT_LINES) []) number) code);
+      }
+
+  -- another one, that was there
+  held_still : (k : ℕ) → k < PAGE_LINES → (k ≡ own → ⊥) → IsHeld old memory space (start_of k) → IsHeld new memory space (start_of k)
+  held_still k below other held = record {
+    whole = held.whole;
+    low = held.low;
+    code = subst (IsCodeLine memory space (start_of k))
+        (sym (others (start_of k / LINE_BYTES % KEPT_LINES) (λ same. other (omega (arith, below, same))))) held.code;
+  }
+
+  was_held : (k : ℕ) → k < PAGE_LINES → has_line turned.known k ≡ true → IsHeld old memory space (start_of k)
+  was_held k below has = by_turn turn.1
+    where
+      by_turn : (turned ≡ hand) ⊎ (turned ≡ record { page = pc / PAGE_BYTES; known = []; owed = hand.owed }) → IsHeld old memory space (start_of k)
+      by_turn (inl same) =
+          subst (λ n. IsHeld old memory space (PAGE_BYTES * n + LINE_BYTES * k)) (sym (ap (λ (h : Hand). h.page) same) ∙ turn.0)
+          (was k below (sym (ap (λ (h : Hand). has_line h.known k) same) ∙ has))
+      by_turn (inr none) = absurd (let lacks = ap (λ (h : Hand). has_line h.known k) none in let both = sym lacks ∙ has in cc)
+
+  pub taken : (known : List ℕ) → known ≡ with_line turned.known own → IsTaken new memory space (record { page = turned.page; known = known; owed = turned.owed }) pc
+  taken known known_is = record {
+    hand_is = λ k below has.
+        subst (λ n. IsHeld new memory space (PAGE_BYTES * n + LINE_BYTES * k)) (sym turn.0)
+        (by_own k below (sym (has_with turned.known own k) ∙ sym (ap (λ l. has_line l k) known_is) ∙ has) (cases_eq k own));
+    page = turn.0;
+    aligned = aligned;
+    known = ap (λ l. has_line l own) known_is ∙ has_with turned.known own own ∙ ap (λ b. b || has_line turned.known own) (are own own refl);
+  }
+    where
+      or_right : (a b : Bool) → (a ≡ true → ⊥) → (a || b) ≡ true → b ≡ true
+      or_right true b out h = absurd (out refl)
+      or_right false b out h = h
+
+      by_own : (k : ℕ) → k < PAGE_LINES → (nat_eq own k || has_line turned.known k) ≡ true → (k ≡ own) ⊎ (k ≡ own → ⊥) → IsHeld new memory space (start_of k)
+      by_own k below has (inl same) = subst (λ n. IsHeld new memory space (start_of n)) (sym same) held_own
+      by_own k below has (inr other) =
+          held_still k below other (was_held k below (or_right (nat_eq own k) (has_line turned.known k) (λ is. other (let same : own ≡ k = grind (arith, nat_tests) in sym same)) has))
 
 -- What a store does beside a page.
 
@@ -98,18 +160,18 @@ bytes_allow : (m : Memory) (a : ℕ) (bytes : List ℕ) (need q : ℕ) → page_
 bytes_allow m a [] need q = refl
 bytes_allow m a (b ∷ bytes) need q = bytes_allow (with_byte m a b) (a + 1) bytes need q ∙ byte_allows m a b need q
 
--- An access in one page of another list leaves the line.
+-- An access in one line of another list leaves the line.
 
-pub record IsApart (address start : ℕ) : Type 0 where
+pub record IsApart (address count start : ℕ) : Type 0 where
   pub sets : address / PAGE_BYTES % SETS ≡ start / PAGE_BYTES % SETS → ⊥
-  pub one_page : address % PAGE_BYTES ≤ PAGE_BYTES - 8
+  pub one_line : address % LINE_BYTES ≤ LINE_BYTES - count
 
-module _ (old new : TranslatedView) (space start address need count : ℕ) (line : List ℕ) (apart : IsApart address start) (some : 0 < count) (few : count ≤ 8)
+module _ (old new : TranslatedView) (space start address need count : ℕ) (line : List ℕ) (apart : IsApart address count start) (some : 0 < count) (few : count ≤ 8)
     (lists : translations_of new ≡ after_access old space (record { need = need; address = address; length = count }))
     (code : IsCodeLine old space start line) where
   front_left : IsFront space (start / PAGE_BYTES) (translations_of new)
   front_left =
-      let fits = apart.one_page in
+      let fits = apart.one_line in
       subst (IsFront space (start / PAGE_BYTES))
       (sym (lists ∙ counted_one space (memory_of (state_of old) space) (record { need = need; address = address; length = count }) (translations_of old)
       ∙ access_in_page space (memory_of (state_of old) space) (record { need = need; address = address; length = count }) (translations_of old) some (omega (arith, fits, few))))
@@ -135,5 +197,5 @@ module _ (old new : TranslatedView) (space start address need count : ℕ) (line
       out : (address / PAGE_BYTES ≡ start / PAGE_BYTES) ⊎ ((address / PAGE_BYTES < start / PAGE_BYTES) ⊎ (start / PAGE_BYTES < address / PAGE_BYTES))
           → (LINE_BYTES * (start / LINE_BYTES) + LINE_BYTES ≤ address) ⊎ (address + length bytes ≤ LINE_BYTES * (start / LINE_BYTES))
       out (inl same) = absurd (apart.sets (ap (λ n. n % SETS) same))
-      out (inr (inl less)) = let fits = apart.one_page in inr (omega (arith, less, fits, few, length_is))
+      out (inr (inl less)) = let fits = apart.one_line in inr (omega (arith, less, fits, few, length_is))
       out (inr (inr more)) = inl (omega (arith, more))

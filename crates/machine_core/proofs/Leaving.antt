@@ -1,9 +1,9 @@
 use Rattle.std.proofs.Common.{◌≡◌, ℕ, ◌-◌, ◌/◌, ◌%◌, ◌<◌, ◌≤◌, ◌==◌, ◌&&◌, Bool, true, false, cond, not, nat_le, List, [], ◌∷◌, length, get_or, Option, Some, None, sym, ap, subst, ◌∙◌, refl, arith}
 use Rattle.std.specs.Prelude.{Result, Ok, Err}
 use Rattle.std.proofs.lemmas.Bool.Decides.{nat_tests}
-use Rattle.sizes.specs.declared.TheConstants.{PAGE_BYTES}
+use Rattle.sizes.specs.declared.TheConstants.{LINE_BYTES, PAGE_BYTES}
 use Rattle.byteorder.specs.Endian.{little_bytes}
-use Rattle.decoded_lines.specs.declared.TheConstants.{LINE_WORDS}
+use Rattle.decoded_lines.specs.declared.TheConstants.{KEPT_LINES}
 use Rattle.ovl_io.specs.Memory.{Memory, denied_at}
 use Rattle.ovl_io.specs.declared.process_state.FaultKind.TheVariants as kind
 use Rattle.rv_execute.specs.Calls.{Call, Load, Store, load_at, store_at}
@@ -21,34 +21,33 @@ use Rattle.overlay_memory.specs.View.{TranslatedView}
 use Rattle.overlay_pages.specs.State.{memory_of}
 use Rattle.translation_cache.specs.declared.TheConstants.{SETS}
 use Rattle.machine_core.specs.Access.{IsStoredBy, PerformsLent, spaces_lent}
-use Rattle.machine_core.specs.Held.{IsHeld, IsInHand, Keeps, KeepsLine, course_by, course_of, is_apart}
+use Rattle.machine_core.specs.Held.{IsHeld, Keeps, KeepsLines, course_by, course_of, is_apart}
 use Rattle.machine_core.specs.declared.hand.Course.{Course}
 use Rattle.machine_core.specs.declared.hand.Course.TheVariants.{On, Elsewhere, Lost}
-use Rattle.machine_core.specs.declared.hand.Hand.{Hand}
 use Rattle.machine_core.specs.declared.view.View.{View}
 use Rattle.machine_core.proofs.Holding.{IsApart, code_beside, code_kept}
 
 -- What an action leaves in hand.
 
-apart_of : (address pc start : ℕ) → is_apart address pc ≡ true → pc / PAGE_BYTES ≡ start / PAGE_BYTES → IsApart address start
-apart_of address pc start test page = by_tests (address / PAGE_BYTES % SETS == pc / PAGE_BYTES % SETS) (nat_le (address % PAGE_BYTES) (PAGE_BYTES - 8)) refl refl test
+apart_of : (address count pc start : ℕ) → is_apart address count pc ≡ true → pc / PAGE_BYTES ≡ start / PAGE_BYTES → IsApart address count start
+apart_of address count pc start test page = by_tests (nat_le (address % LINE_BYTES) (LINE_BYTES - count)) (address / PAGE_BYTES % SETS == pc / PAGE_BYTES % SETS) refl refl test
   where
-    by_tests : (b c : Bool) → (address / PAGE_BYTES % SETS == pc / PAGE_BYTES % SETS) ≡ b → nat_le (address % PAGE_BYTES) (PAGE_BYTES - 8) ≡ c
-        → (not b && c) ≡ true → IsApart address start
-    by_tests true c e f h = cc
-    by_tests false false e f h = cc
-    by_tests false true e f h = record {
+    by_tests : (b c : Bool) → nat_le (address % LINE_BYTES) (LINE_BYTES - count) ≡ b → (address / PAGE_BYTES % SETS == pc / PAGE_BYTES % SETS) ≡ c
+        → (b && not c) ≡ true → IsApart address count start
+    by_tests false c e f h = cc
+    by_tests true true e f h = cc
+    by_tests true false e f h = record {
       sets = λ same.
           let both : address / PAGE_BYTES % SETS ≡ pc / PAGE_BYTES % SETS = same ∙ sym (ap (λ n. n % SETS) page) in
           grind (arith, nat_tests);
-      one_page = grind (arith, nat_tests);
+      one_line = grind (arith, nat_tests);
     }
 
--- the line is held of what follows
-held_over : (lines : List (List ℕ)) (old new : TranslatedView) (p q : ℕ) (hand : Hand) → IsHeld lines old p hand
-    → (IsCodeLine old p hand.start (get_or lines (hand.first / LINE_WORDS) []) → IsCodeLine new q hand.start (get_or lines (hand.first / LINE_WORDS) []))
-    → IsHeld lines new q hand
-held_over lines old new p q hand held goes = record { start = held.start; low = held.low; first = held.first; inside = held.inside; code = goes held.code }
+-- a line is held of what follows
+held_over : (lines : List (List ℕ)) (old new : TranslatedView) (p q start : ℕ) → IsHeld lines old p start
+    → (IsCodeLine old p start (get_or lines (start / LINE_BYTES % KEPT_LINES) []) → IsCodeLine new q start (get_or lines (start / LINE_BYTES % KEPT_LINES) []))
+    → IsHeld lines new q start
+held_over lines old new p q start held goes = record { whole = held.whole; low = held.low; code = goes held.code }
 
 few_of : (size : Size) → count_of size ≤ 8
 few_of Byte = omega arith
@@ -96,55 +95,55 @@ apart same = cc
 elsewhere : Elsewhere ≡ Lost → ⊥
 elsewhere same = cc
 
-module _ (lines : List (List ℕ)) (old new : View) (full : Option (ℕ × ℕ)) (hand : Hand) (regs : Registers) (rd : ℕ) (next : ℕ)
-    (held : IsHeld lines old.memory.now old.space hand) (page : regs.pc / PAGE_BYTES ≡ hand.start / PAGE_BYTES) where
+module _ (lines : List (List ℕ)) (old new : View) (full : Option (ℕ × ℕ)) (start : ℕ) (regs : Registers) (rd : ℕ)
+    (held : IsHeld lines old.memory.now old.space start) (page : regs.pc / PAGE_BYTES ≡ start / PAGE_BYTES) where
   abbrev memory : Memory
   memory = memory_of (spaces_lent old) old.space
 
   -- nothing was asked
-  nothing : PerformsLent [] old full new → IsInHand lines new hand next
-  nothing made within =
-      held_over lines old.memory.now new.memory.now old.space new.space hand held
-      (subst (λ (v : View). IsCodeLine v.memory.now v.space hand.start (get_or lines (hand.first / LINE_WORDS) [])) (sym made.1))
+  nothing : PerformsLent [] old full new → IsHeld lines new.memory.now new.space start
+  nothing made =
+      held_over lines old.memory.now new.memory.now old.space new.space start held
+      (subst (λ (v : View). IsCodeLine v.memory.now v.space start (get_or lines (start / LINE_BYTES % KEPT_LINES) [])) (sym made.1))
 
   -- a load
-  loads : (address count : ℕ) → 0 < count → count ≤ 8 → (course_by address regs.pc ≡ Lost → ⊥) → PerformsLent (Load address count ∷ []) old full new
-      → IsInHand lines new hand next
-  loads address count some few on (mid, (loan, same, lists), (none, is)) = by_test (is_apart address regs.pc) refl
+  loads : (address count : ℕ) → 0 < count → count ≤ 8 → (course_by address count regs.pc ≡ Lost → ⊥) → PerformsLent (Load address count ∷ []) old full new
+      → IsHeld lines new.memory.now new.space start
+  loads address count some few on (mid, (loan, same, lists), (none, is)) = by_test (is_apart address count regs.pc) refl
     where
-      by_test : (b : Bool) → is_apart address regs.pc ≡ b → IsInHand lines new hand next
-      by_test false test within = absurd (on (ap (λ b. cond b On Lost) test))
-      by_test true test within =
-          subst (λ (v : View). IsHeld lines v.memory.now v.space hand) (sym is)
-          (subst (λ p. IsHeld lines mid.memory.now p hand) (sym loan.space)
-          (held_over lines old.memory.now mid.memory.now old.space old.space hand held (λ code.
-          code_kept old.memory.now mid.memory.now old.space hand.start address (load_at address count).need count _ (apart_of address regs.pc hand.start test page) some few lists code same)))
+      by_test : (b : Bool) → is_apart address count regs.pc ≡ b → IsHeld lines new.memory.now new.space start
+      by_test false test = absurd (on (ap (λ b. cond b On Lost) test))
+      by_test true test =
+          subst (λ (v : View). IsHeld lines v.memory.now v.space start) (sym is)
+          (subst (λ p. IsHeld lines mid.memory.now p start) (sym loan.space)
+          (held_over lines old.memory.now mid.memory.now old.space old.space start held (λ code.
+          code_kept old.memory.now mid.memory.now old.space start address (load_at address count).need count _ (apart_of address count regs.pc start test page) some few lists code same)))
 
   -- a store
-  stores : (address : ℕ) (bytes : List ℕ) → 0 < length bytes → length bytes ≤ 8 → (course_by address regs.pc ≡ Lost → ⊥)
-      → PerformsLent (Store address bytes ∷ []) old full new → IsInHand lines new hand next
-  stores address bytes some few on (answer, (loan, leaves, lists), full_is, last) = by_test (is_apart address regs.pc) refl
+  stores : (address : ℕ) (bytes : List ℕ) → 0 < length bytes → length bytes ≤ 8 → (course_by address (length bytes) regs.pc ≡ Lost → ⊥)
+      → PerformsLent (Store address bytes ∷ []) old full new → IsHeld lines new.memory.now new.space start
+  stores address bytes some few on (answer, (loan, leaves, lists), full_is, last) = by_test (is_apart address (length bytes) regs.pc) refl
     where
-      by_answer : (a : Result (Unit {0}) Refused) → IsStoredBy old address bytes a new → is_apart address regs.pc ≡ true
-          → IsCodeLine old.memory.now old.space hand.start (get_or lines (hand.first / LINE_WORDS) [])
-          → IsCodeLine new.memory.now old.space hand.start (get_or lines (hand.first / LINE_WORDS) [])
+      by_answer : (a : Result (Unit {0}) Refused) → IsStoredBy old address bytes a new → is_apart address (length bytes) regs.pc ≡ true
+          → IsCodeLine old.memory.now old.space start (get_or lines (start / LINE_BYTES % KEPT_LINES) [])
+          → IsCodeLine new.memory.now old.space start (get_or lines (start / LINE_BYTES % KEPT_LINES) [])
       by_answer (Ok done) (_, (allowed, stored, fits), counts) test code =
-          code_beside old.memory.now new.memory.now old.space hand.start address (store_at address (length bytes)).need (length bytes) _
-          (apart_of address regs.pc hand.start test page) some few counts code bytes refl stored.memory
+          code_beside old.memory.now new.memory.now old.space start address (store_at address (length bytes)).need (length bytes) _
+          (apart_of address (length bytes) regs.pc start test page) some few counts code bytes refl stored.memory
       by_answer (Err (refused.At at)) (_, (denied, same), counts) test code =
-          code_kept old.memory.now new.memory.now old.space hand.start address (store_at address (length bytes)).need (length bytes) _
-          (apart_of address regs.pc hand.start test page) some few counts code same
+          code_kept old.memory.now new.memory.now old.space start address (store_at address (length bytes)).need (length bytes) _
+          (apart_of address (length bytes) regs.pc start test page) some few counts code same
       by_answer (Err (refused.Full needed limit)) (_, (allowed, needed_is, limit_is, over, same), counts) test code =
-          code_kept old.memory.now new.memory.now old.space hand.start address (store_at address (length bytes)).need (length bytes) _
-          (apart_of address regs.pc hand.start test page) some few counts code same
+          code_kept old.memory.now new.memory.now old.space start address (store_at address (length bytes)).need (length bytes) _
+          (apart_of address (length bytes) regs.pc start test page) some few counts code same
 
-      by_test : (b : Bool) → is_apart address regs.pc ≡ b → IsInHand lines new hand next
-      by_test false test within = absurd (on (ap (λ b. cond b On Lost) test))
-      by_test true test within =
-          subst (λ p. IsHeld lines new.memory.now p hand) (sym loan.space)
-          (held_over lines old.memory.now new.memory.now old.space old.space hand held (by_answer answer (loan, leaves, lists) test))
+      by_test : (b : Bool) → is_apart address (length bytes) regs.pc ≡ b → IsHeld lines new.memory.now new.space start
+      by_test false test = absurd (on (ap (λ b. cond b On Lost) test))
+      by_test true test =
+          subst (λ p. IsHeld lines new.memory.now p start) (sym loan.space)
+          (held_over lines old.memory.now new.memory.now old.space old.space start held (by_answer answer (loan, leaves, lists) test))
 
-  held_behind : (a : Action) → (course_of a regs.pc ≡ Lost → ⊥) → PerformsLent (effect a rd regs memory).calls old full new → IsInHand lines new hand next
+  held_behind : (a : Action) → (course_of a regs.pc ≡ Lost → ⊥) → PerformsLent (effect a rd regs memory).calls old full new → IsHeld lines new.memory.now new.space start
   held_behind (action.Write value) on made = nothing made
   held_behind (action.Link target) on made =
       nothing (subst (λ calls. PerformsLent calls old full new)
@@ -161,9 +160,15 @@ module _ (lines : List (List ℕ)) (old new : View) (full : Option (ℕ × ℕ))
       let bytes = little_bytes (count_of size) value in
       let calls = Store address bytes ∷ [] in
       let denied = denied_at memory (store_at address (count_of size)) in
-      stores address bytes (few_bytes size value).0 (few_bytes size value).1 on
+      stores address bytes (few_bytes size value).0 (few_bytes size value).1 (λ lost. on (ap (λ n. course_by address n regs.pc) (sym (as_many size value)) ∙ lost))
       (subst (λ c. PerformsLent c old full new) (store_calls denied address bytes regs memory calls) made)
     where
+      as_many : (size : Size) (value : ℕ) → length (little_bytes (count_of size) value) ≡ count_of size
+      as_many Byte value = refl
+      as_many Half value = refl
+      as_many Word value = refl
+      as_many Double value = refl
+
       few_bytes : (size : Size) (value : ℕ) → (0 < length (little_bytes (count_of size) value)) × (length (little_bytes (count_of size) value) ≤ 8)
       few_bytes Byte value = (omega arith, omega arith)
       few_bytes Half value = (omega arith, omega arith)
@@ -182,14 +187,14 @@ module _ (old new : View) (full : Option (ℕ × ℕ)) (regs : Registers) (rd ne
   Kept a = (effect a rd regs lent).upshot ≡ Steps → next ≡ (effect a rd regs lent).registers.pc → PerformsLent (effect a rd regs lent).calls old full new
       → Keeps (course_of a regs.pc) old new regs.pc next
 
-  line : (a : Action) → (course_of a regs.pc ≡ Lost → ⊥) → PerformsLent (effect a rd regs lent).calls old full new → KeepsLine old new regs.pc next
-  line a on made lines hand held page = held_behind lines old new full hand regs rd next held page a on made
+  line : (a : Action) → (course_of a regs.pc ≡ Lost → ⊥) → PerformsLent (effect a rd regs lent).calls old full new → KeepsLines old new regs.pc
+  line a on made lines start held page = held_behind lines old new full start regs rd held page a on made
 
-  by_access : (a : Action) (address : ℕ) → course_of a regs.pc ≡ course_by address regs.pc → next ≡ next_pc regs → PerformsLent (effect a rd regs lent).calls old full new
+  by_access : (a : Action) (address count : ℕ) → course_of a regs.pc ≡ course_by address count regs.pc → next ≡ next_pc regs → PerformsLent (effect a rd regs lent).calls old full new
       → Keeps (course_of a regs.pc) old new regs.pc next
-  by_access a address course goes made = by_test (is_apart address regs.pc) refl
+  by_access a address count course goes made = by_test (is_apart address count regs.pc) refl
     where
-      by_test : (b : Bool) → is_apart address regs.pc ≡ b → Keeps (course_of a regs.pc) old new regs.pc next
+      by_test : (b : Bool) → is_apart address count regs.pc ≡ b → Keeps (course_of a regs.pc) old new regs.pc next
       by_test true test =
           let on : course_of a regs.pc ≡ On = course ∙ ap (λ b. cond b On Lost) test in
           subst (λ (c : Course). Keeps c old new regs.pc next) (sym on) (goes, line a (λ lost. apart (sym on ∙ lost)) made)
@@ -200,10 +205,10 @@ module _ (old new : View) (full : Option (ℕ × ℕ)) (regs : Registers) (rd ne
   keeps (action.Link target) steps goes made = line (action.Link target) elsewhere made
   keeps (action.Goto target) steps goes made = line (action.Goto target) elsewhere made
   keeps (action.Load address size extension) steps goes made =
-      by_access (action.Load address size extension) address refl
+      by_access (action.Load address size extension) address (count_of size) refl
       (goes ∙ load_next (denied_at lent (load_at address (count_of size))) address size extension rd regs lent (Load address (count_of size) ∷ []) steps) made
   keeps (action.Store address size value) steps goes made =
-      by_access (action.Store address size value) address refl
+      by_access (action.Store address size value) address (count_of size) refl
       (goes ∙ store_next (denied_at lent (store_at address (count_of size))) address (little_bytes (count_of size) value) regs lent
       (Store address (little_bytes (count_of size) value) ∷ []) steps) made
   keeps action.Next steps goes made = (goes, line action.Next apart made)

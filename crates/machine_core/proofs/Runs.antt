@@ -1,18 +1,23 @@
-use Rattle.std.proofs.Common.{◌≡◌, ℕ, ◌+◌, ◌-◌, ◌*◌, ◌/◌, ◌%◌, ◌^◌, ◌<◌, ◌≤◌, Bool, true, false, List, [], drop, get_or, take, Option, None, sym, ap, subst, ◌∙◌, refl, arith}
-use Rattle.std.proofs.lemmas.List.{get_or-drop, get_or-take}
-use Rattle.std.specs.FinSet.{contains}
-use Rattle.sizes.specs.declared.TheConstants.{LINE_BYTES, PAGE_BYTES}
+use Rattle.std.proofs.Common.{◌≡◌, ℕ, ◌+◌, ◌-◌, ◌*◌, ◌/◌, ◌%◌, ◌^◌, ◌<◌, ◌≤◌, ◌⊎◌, inl, inr, false, List, [], drop, get_or, length, take, Option, None, sym, ap, subst, ◌∙◌, refl, arith}
+use Rattle.std.proofs.lemmas.List.{drop-drop, get_or-drop, get_or-take, length-drop, take_all}
+use Rattle.std.specs.Borrow.{Bor}
+use Rattle.std.specs.Ordering.{nat_cmp}
+use Rattle.std.specs.FinSet.{contains, contains-empty}
+use Rattle.std.proofs.lemmas.Bool.{cases_eq}
+use Rattle.sizes.specs.declared.TheConstants.{LINE_BYTES, PAGE_BYTES, PAGE_LINES}
 use Rattle.breakpoints.specs.Breakpoints.{Addresses}
-use Rattle.decoded_lines.specs.Decoded.{AreOfLine, IsOfWord, word_of}
-use Rattle.decoded_lines.specs.declared.TheConstants.{LINE_WORDS}
+use Rattle.overlay_bits.specs.Lines.{has_line}
+use Rattle.overlay_memory.specs.View.{TranslatedView}
+use Rattle.decoded_lines.specs.Decoded.{AreFrom, IsOfWord, word_of}
+use Rattle.decoded_lines.specs.declared.TheConstants.{KEPT_LINES, LINE_WORDS}
 use Rattle.ovl_io.specs.declared.process_state.ProcessState.TheVariants as state
 use Rattle.rv_decode.specs.declared.instruction.Instr.{Instr}
 use Rattle.rv_execute.specs.declared.outcome.Outcome.{Outcome}
 use Rattle.rv_execute.specs.declared.outcome.Outcome.TheVariants as outcome
-use Rattle.machine_core.specs.Access.{IsReadyView}
+use Rattle.machine_core.specs.Access.{IsReadyView, spaces_lent}
 use Rattle.machine_core.specs.Ahead.{guest_ahead}
-use Rattle.machine_core.specs.Executions.{Comes, Executions, IsLast, behind, executions, resumed, steps_in}
-use Rattle.machine_core.specs.Held.{GoesOn, IsGuarded, IsHeld, IsInHand, IsLeft, IsWordAt, Keeps, distance}
+use Rattle.machine_core.specs.Executions.{Comes, Executions, IsLast, behind, executions, resumed, steps_in, stops_in}
+use Rattle.machine_core.specs.Held.{GoesOn, GoesPast, IsHeld, IsInHand, IsLeft, IsTaken, IsWordAt, Keeps, KeepsLines}
 use Rattle.machine_core.specs.Turns.{Guest, executed, outcome_of}
 use Rattle.overlay_pages.specs.State.{State}
 use Rattle.machine_core.specs.Kept.{IsBeside, guest_lent}
@@ -24,78 +29,93 @@ use Rattle.machine_core.specs.declared.view.View.{View}
 use Rattle.machine_core.proofs.Holding.{word_is}
 use Rattle.machine_core.proofs.Stepping.{is_so_far, no_step, on_so_far, one_step, so_far, still_runs}
 
--- A run of the line in hand.
+-- A run of a line in hand.
 
 -- where its words stand
 at_here : (start pc n : ℕ) → start % LINE_BYTES ≡ 0 → start < 2 ^ 64 → n < LINE_WORDS → pc ≡ (start + 4 * n) % 2 ^ 64 → pc ≡ start + 4 * n
 at_here start pc n whole low inside is = omega (arith, whole, low, inside, is)
-
-near : (start pc n : ℕ) → start % LINE_BYTES ≡ 0 → start < 2 ^ 64 → n < LINE_WORDS → pc ≡ (start + 4 * n) % 2 ^ 64 → distance start pc < LINE_BYTES
-near start pc n whole low inside is = omega (arith, whole, low, inside, is)
 
 -- the next one is another word of it, or the line's end
 pub on_here : (start from k pc next : ℕ) → start % LINE_BYTES ≡ 0 → start < 2 ^ 64 → from + k < LINE_WORDS → pc ≡ (start + 4 * (from + k)) % 2 ^ 64
     → next ≡ (pc + 4) % 2 ^ 64 → next ≡ (start + 4 * (from + (k + 1))) % 2 ^ 64
 on_here start from k pc next whole low inside is goes = omega (arith, whole, low, inside, is, goes)
 
-module _ (lines : List (List ℕ)) (view : View) (hand : Hand) (from k pc : ℕ) (whole : hand.start % LINE_BYTES ≡ 0) (low : hand.start < 2 ^ 64) (inside : from + k < LINE_WORDS)
-    (here : pc ≡ (hand.start + 4 * (from + k)) % 2 ^ 64) where
-  pub held_here : IsInHand lines view hand pc → IsHeld lines view.memory.now view.space hand
-  held_here in_hand = in_hand (near hand.start pc (from + k) whole low inside here)
+-- no address is a stop where none are handed over, and one word more is at none
+pub no_stop : (stops : Option (Bor Addresses)) (address : ℕ) → stops ≡ None → contains (stops_in stops) address ≡ false
+no_stop stops address none = ap (λ (o : Option (Bor Addresses)). contains (stops_in o) address) none ∙ contains-empty nat_cmp address
 
-  word_here : IsInHand lines view hand pc → (words : List (Option Instr)) → AreOfLine words 0 (get_or lines (hand.first / LINE_WORDS) [])
-      → IsWordAt view pc (get_or words (from + k) None)
-  word_here in_hand words are =
-      let zero : LINE_WORDS * 0 + (from + k) ≡ from + k = omega arith in
-      word_is lines view hand pc (from + k) (held_here in_hand) (at_here hand.start pc (from + k) whole low inside here) inside (get_or words (from + k) None)
-      (subst (λ n. IsOfWord (get_or words n None) (word_of (get_or lines (hand.first / LINE_WORDS) []) (from + k))) zero (are (from + k) inside))
+pub past_more : (stops : Addresses) (address count : ℕ) → GoesPast stops address count → contains stops (address + 4 * count) ≡ false → GoesPast stops address (count + 1)
+past_more stops address count past last k some below = by_order (cases_eq k count)
+  where
+    by_order : (k ≡ count) ⊎ (k ≡ count → ⊥) → contains stops (address + 4 * k) ≡ false
+    by_order (inl same) = ap (λ n. contains stops (address + 4 * n)) same ∙ last
+    by_order (inr other) = past k some (omega (arith, below, other))
 
-  -- among those from the first one on
-  pub word_in : IsInHand lines view hand pc → (words : List (Option Instr)) (count : ℕ) → k < count → AreOfLine words 0 (get_or lines (hand.first / LINE_WORDS) [])
-      → IsWordAt view pc (get_or (take (from + count - from) (drop from words)) k None)
-  word_in in_hand words count below are =
-      subst (IsWordAt view pc)
-      (sym (get_or-take (from + count - from) (drop from words) k None (omega (arith, below)) ∙ get_or-drop from words k None))
-      (word_here in_hand words are)
+-- the line of an address in hand
+pub held_at : (lines : List (List ℕ)) (memory : TranslatedView) (space : ℕ) (hand : Hand) (address : ℕ) → IsTaken lines memory space hand address
+    → IsHeld lines memory space (LINE_BYTES * (address / LINE_BYTES))
+held_at lines memory space hand address taken =
+    let page = taken.page in
+    let at : PAGE_BYTES * hand.page + LINE_BYTES * (address / LINE_BYTES % PAGE_LINES) ≡ LINE_BYTES * (address / LINE_BYTES) = omega (arith, page) in
+    subst (IsHeld lines memory space) at (taken.hand_is (address / LINE_BYTES % PAGE_LINES) (omega arith) taken.known)
+
+-- lines in hand stay there
+pub in_hand_over : (lines : List (List ℕ)) (old new : View) (hand : Hand) (pc : ℕ) → KeepsLines old new pc → hand.page ≡ pc / PAGE_BYTES
+    → IsInHand lines old.memory.now old.space hand → IsInHand lines new.memory.now new.space hand
+in_hand_over lines old new hand pc keeps page held line low has =
+    keeps lines (PAGE_BYTES * hand.page + LINE_BYTES * line) (held line low has) (omega (arith, page, low))
+
+-- the line of the first address, and the place of the first word in it
+module _ (lines : List (List ℕ)) (view : View) (first k pc : ℕ) (held : IsHeld lines view.memory.now view.space (LINE_BYTES * (first / LINE_BYTES)))
+    (inside : first / 4 % LINE_WORDS + k < LINE_WORDS) (here : pc ≡ (LINE_BYTES * (first / LINE_BYTES) + 4 * (first / 4 % LINE_WORDS + k)) % 2 ^ 64) where
+  abbrev start : ℕ
+  start = LINE_BYTES * (first / LINE_BYTES)
+
+  abbrev from : ℕ
+  from = first / 4 % LINE_WORDS
+
+  pc_is : pc ≡ start + 4 * (from + k)
+  pc_is = at_here start pc (from + k) held.whole held.low inside here
+
+  -- the first of those that are left
+  pub word_in : (words : List (Option Instr)) (count : ℕ) → k < count → AreFrom words from (get_or lines (first / 4 / LINE_WORDS % KEPT_LINES) [])
+      → IsWordAt view pc (get_or (drop k (take count words)) 0 None)
+  word_in words count below are =
+      let number : first / 4 / LINE_WORDS ≡ start / LINE_BYTES = omega arith in
+      let one : k + 0 ≡ k = omega arith in
+      word_is lines view start pc (from + k) held pc_is inside (get_or (drop k (take count words)) 0 None)
+      (subst (λ n. IsOfWord (get_or (drop k (take count words)) 0 None) (word_of (get_or lines (n % KEPT_LINES) []) (from + k))) number
+      (subst (λ o. IsOfWord o (word_of (get_or lines (first / 4 / LINE_WORDS % KEPT_LINES) []) (from + k)))
+      (sym (get_or-drop k (take count words) 0 None ∙ ap (λ n. get_or (take count words) n None) one ∙ get_or-take count words k None below)) (are k inside)))
 
   -- executions don't stop at a word behind the first one
-  pub goes_past : (stops : Addresses) (count : ℕ) → IsGuarded stops hand → (hand.watched ≡ true → count ≡ 1) → k < count → 0 < k → contains stops pc ≡ false
-  goes_past stops count guarded alone below some = by_watch hand.watched refl
-    where
-      by_watch : (b : Bool) → hand.watched ≡ b → contains stops pc ≡ false
-      by_watch true is = let one = alone is in absurd (omega (arith, one, below, some))
-      by_watch false is = let at = at_here hand.start pc (from + k) whole low inside here in guarded is pc (omega (arith, at, whole, inside))
+  pub goes_past : (stops : Addresses) (count : ℕ) → first % 4 ≡ 0 → GoesPast stops first count → k < count → 0 < k → contains stops pc ≡ false
+  goes_past stops count aligned past below some =
+      let at = pc_is in
+      let same : first + 4 * k ≡ pc = omega (arith, at, aligned) in
+      subst (λ a. contains stops a ≡ false) same (past k some below)
 
-  pub page_here : pc / PAGE_BYTES ≡ hand.start / PAGE_BYTES
-  page_here = let at = at_here hand.start pc (from + k) whole low inside here in omega (arith, at, whole, inside)
+  pub page_here : first / PAGE_BYTES ≡ pc / PAGE_BYTES
+  page_here = let at = pc_is in omega (arith, at, inside)
 
--- What is in hand behind a run: the same line with more fetches owed, or none.
-module _ (stops : Addresses) (lines : List (List ℕ)) (old view : View) (hand left : Hand) (n pc next : ℕ) (ready : IsReadyView view) (guarded : IsGuarded stops hand)
-    (owes : left.owed ≡ hand.owed + n) (some : 0 < n) where
-  same_line : IsInHand lines view hand next → left ≡ record { start = hand.start; first = hand.first; owed = left.owed; watched = hand.watched }
-      → GoesOn stops lines view hand.owed n left next
-  same_line in_hand same =
-      subst (λ (h : Hand). GoesOn stops lines view hand.owed n h next) (sym same)
-      (record {
-        ready = ready;
-        hand_is = λ within. let held = in_hand within in record { start = held.start; low = held.low; first = held.first; inside = held.inside; code = held.code };
-        guarded = guarded;
-        owes = omega (arith, owes);
-        some = some;
-      })
+pub start_page : (address : ℕ) → address / PAGE_BYTES ≡ LINE_BYTES * (address / LINE_BYTES) / PAGE_BYTES
+start_page address = omega arith
 
-  pub goes_held : IsInHand lines view hand next → left ≡ record { start = hand.start; first = hand.first; owed = hand.owed + n; watched = hand.watched }
-      → GoesOn stops lines view hand.owed n left next
-  goes_held in_hand same = same_line in_hand (same ∙ (λ i. record { start = hand.start; first = hand.first; owed = sym owes i; watched = hand.watched }))
+-- What is in hand behind a run: the same lines with more fetches owed, or none.
+module _ (lines : List (List ℕ)) (old view : View) (hand left : Hand) (n pc next : ℕ) (ready : IsReadyView view) (owes : left.owed ≡ hand.owed + n) (some : 0 < n) where
+  pub same_lines : IsInHand lines view.memory.now view.space hand → left ≡ record { page = hand.page; known = hand.known; owed = left.owed }
+      → GoesOn lines view hand.owed n left
+  same_lines in_hand same =
+      subst (λ (h : Hand). GoesOn lines view hand.owed n h) (sym same)
+      (record { ready = ready; hand_is = in_hand; owes = omega (arith, owes); some = some })
 
-  pub goes_by : (course : Course) → IsLeft course next hand left → Keeps course old view pc next → IsHeld lines old.memory.now old.space hand → pc / PAGE_BYTES ≡ hand.start / PAGE_BYTES
-      → GoesOn stops lines view hand.owed n left next
-  goes_by On same keeps held page = same_line (keeps.1 lines hand held page) same
-  goes_by Elsewhere same keeps held page = same_line (keeps lines hand held page) same
-  goes_by Lost (none, watched) keeps held page = record {
+  pub goes_by : (course : Course) → IsLeft course hand left → Keeps course old view pc next → IsInHand lines old.memory.now old.space hand → hand.page ≡ pc / PAGE_BYTES
+      → GoesOn lines view hand.owed n left
+  goes_by On same keeps held page = same_lines (in_hand_over lines old view hand pc keeps.1 page held) same
+  goes_by Elsewhere same keeps held page = same_lines (in_hand_over lines old view hand pc keeps page held) same
+  goes_by Lost none keeps held page = record {
     ready = ready;
-    hand_is = λ within. absurd (omega (arith, none, within));
-    guarded = λ apart. absurd (let both = sym watched ∙ apart in cc);
+    hand_is = λ line low has. absurd (let lacks = ap (λ known. has_line known line) none in let both = sym lacks ∙ has in cc);
     owes = omega (arith, owes);
     some = some;
   }
@@ -163,3 +183,84 @@ both_beside p old mid new one two = record {
   awaiting = two.awaiting ∙ one.awaiting;
   mark = two.mark ∙ one.mark;
 }
+
+-- Steps of a run so far, one behind the other: the lines are still in hand, and the words that are left follow.
+pub record AreRun (stops : Addresses) (lines : List (List ℕ)) (old now : View) (before process : Process) (hand left : Hand) (most pc : ℕ) (words rest : List (Option Instr)) (k : ℕ)
+    : Type 0 where
+  pub loan : now.memory.ghost_name ≡ old.memory.ghost_name
+  pub space : now.space ≡ old.space
+  pub ready : IsReadyView now
+  pub all : executions stops old.space most (guest_ahead hand.owed (guest_lent old before))
+      ≡ behind k (so_far k stops old.space (most - k) (guest_ahead (hand.owed + k) (guest_lent now process)))
+  pub running : process.state ≡ state.Running
+  pub saved : process.saved ≡ before.saved
+  pub beside : IsBeside old.space (spaces_lent old) (spaces_lent now)
+  pub kept : left ≡ hand
+  pub here : process.regs.pc ≡ (LINE_BYTES * (pc / LINE_BYTES) + 4 * (pc / 4 % LINE_WORDS + k)) % 2 ^ 64
+  pub line : IsHeld lines now.memory.now now.space (LINE_BYTES * (pc / LINE_BYTES))
+  pub hand_is : IsInHand lines now.memory.now now.space hand
+  pub rest_is : rest ≡ drop k words
+
+-- The first words of a line, of which so many are left.
+pub rest_of : (rest : List (Option Instr)) → take (length rest - 1) (drop 1 rest) ≡ drop 1 rest
+rest_of rest = take_all (length rest - 1) (drop 1 rest) (let n = length-drop 1 rest in omega (arith, n))
+
+module _ (stops : Addresses) (lines : List (List ℕ)) (old mid : View) (before process : Process) (hand left : Hand) (most pc count : ℕ) (words rest : List (Option Instr))
+    (so : AreRun stops lines old mid before process hand left most pc words rest (count - length rest)) (few : count ≤ most) (within : length rest ≤ count) (some : 0 < length rest)
+    (inside : pc / 4 % LINE_WORDS + count ≤ LINE_WORDS) (aligned : pc % 4 ≡ 0) (past : GoesPast stops pc count) where
+  abbrev done : ℕ
+  done = count - length rest
+
+  is_inside : pc / 4 % LINE_WORDS + done < LINE_WORDS
+  is_inside = omega (arith, within, some, inside)
+
+  is_past : 0 < done → contains stops process.regs.pc ≡ false
+  is_past = goes_past lines mid pc done process.regs.pc so.line is_inside so.here stops count aligned past (omega (arith, within, some))
+
+  below : done < most
+  below = omega (arith, within, some, few)
+
+  -- the word of the next one
+  pub next_word : (all : List (Option Instr)) → words ≡ take count all → AreFrom all (pc / 4 % LINE_WORDS) (get_or lines (pc / 4 / LINE_WORDS % KEPT_LINES) [])
+      → IsWordAt mid process.regs.pc (get_or rest 0 None)
+  next_word all words_are are =
+      subst (λ r. IsWordAt mid process.regs.pc (get_or r 0 None)) (sym (so.rest_is ∙ ap (drop done) words_are))
+      (word_in lines mid pc done process.regs.pc so.line is_inside so.here all count (omega (arith, within, some)) are)
+
+  pub page_now : pc / PAGE_BYTES ≡ process.regs.pc / PAGE_BYTES
+  page_now = page_here lines mid pc done process.regs.pc so.line is_inside so.here
+
+  -- It was executed, and that came of it.
+  module _ (new : View) (after : Process) (o : Outcome) (came : (n : ℕ) → o ≡ outcome_of mid.space (guest_ahead n (guest_lent mid process)))
+      (moved : (n : ℕ) → guest_ahead (n + 1) (guest_lent new after) ≡ executed mid.space (guest_ahead n (guest_lent mid process))) where
+    -- what came ends the run
+    pub ends : Comes stops old.space most (guest_ahead hand.owed (guest_lent old before)) (done + steps_in o) o (guest_ahead (hand.owed + (done + 1)) (guest_lent new after))
+    ends =
+        comes stops old.space (guest_ahead hand.owed (guest_lent old before)) most done hand.owed mid new process after o so.space below so.all is_past came moved
+
+    pub ends_running : o ≡ outcome.Stepped → after.state ≡ state.Running
+    ends_running stepped =
+        runs_on stops old.space (guest_ahead hand.owed (guest_lent old before)) most done hand.owed mid new process after o so.space below so.all is_past came moved stepped so.running
+
+    -- or the run goes on
+    pub goes_on : o ≡ outcome.Stepped → new.memory.ghost_name ≡ mid.memory.ghost_name → new.space ≡ mid.space → IsReadyView new → after.saved ≡ process.saved
+        → IsBeside mid.space (spaces_lent mid) (spaces_lent new) → Keeps On mid new process.regs.pc after.regs.pc → hand.page ≡ pc / PAGE_BYTES
+        → AreRun stops lines old new before after hand left most pc words (drop 1 rest) (count - length (drop 1 rest))
+    goes_on stepped loan space ready saved beside keeps page =
+        let n = length-drop 1 rest in
+        let one : done + 1 ≡ count - length (drop 1 rest) = omega (arith, n, within, some) in
+        subst (AreRun stops lines old new before after hand left most pc words (drop 1 rest)) one
+        (record {
+          loan = loan ∙ so.loan;
+          space = space ∙ so.space;
+          ready = ready;
+          all = one_so_far stops old.space (guest_ahead hand.owed (guest_lent old before)) most done hand.owed mid new process after o so.space below so.all is_past came moved stepped;
+          running = ends_running stepped;
+          saved = saved ∙ so.saved;
+          beside = both_beside old.space (spaces_lent old) (spaces_lent mid) (spaces_lent new) so.beside (subst (λ p. IsBeside p (spaces_lent mid) (spaces_lent new)) so.space beside);
+          kept = so.kept;
+          here = on_here (LINE_BYTES * (pc / LINE_BYTES)) (pc / 4 % LINE_WORDS) done process.regs.pc after.regs.pc so.line.whole so.line.low is_inside so.here keeps.0;
+          line = keeps.1 lines (LINE_BYTES * (pc / LINE_BYTES)) so.line (sym page_now ∙ start_page pc);
+          hand_is = in_hand_over lines mid new hand process.regs.pc keeps.1 (page ∙ page_now) so.hand_is;
+          rest_is = ap (drop 1) so.rest_is ∙ drop-drop 1 done words;
+        })

@@ -1,13 +1,15 @@
-use Rattle.std.specs.Prelude.{◌≡◌, ℕ, ◌+◌, ◌-◌, ◌/◌, ◌%◌, ◌^◌, ◌<◌, ◌≤◌, ◌&&◌, ◌==◌, nat_le, Bool, not, true, false, List, [], ◌∷◌, slice_index_or, Option, None, IfSome, if◌then◌else◌}
+use Rattle.std.specs.Prelude.{◌≡◌, ℕ, ◌+◌, ◌-◌, ◌*◌, ◌/◌, ◌%◌, ◌^◌, ◌<◌, ◌≤◌, ◌⊎◌, ◌&&◌, ◌==◌, nat_le, Bool, not, true, false, List, [], ◌∷◌, slice_index_or, Option, None, IfSome, if◌then◌else◌}
 use Rattle.std.specs.FinSet.{contains}
-use Rattle.sizes.specs.declared.TheConstants.{LINE_BYTES, PAGE_BYTES}
+use Rattle.sizes.specs.declared.TheConstants.{LINE_BYTES, PAGE_BYTES, PAGE_LINES}
 use Rattle.breakpoints.specs.Breakpoints.{Addresses}
+use Rattle.overlay_bits.specs.Lines.{has_line}
 use Rattle.decoded_lines.specs.declared.TheConstants.{KEPT_LINES, LINE_WORDS}
 use Rattle.ovl_io.specs.Memory.{denied_at}
 use Rattle.rv_decode.specs.Encodable.{IsEncodable}
 use Rattle.rv_decode.specs.Meaning.{meaning}
 use Rattle.rv_decode.specs.declared.instruction.Instr.{Instr}
 use Rattle.rv_execute.specs.Calls.{Call, Fetch, fetch_at, word_at}
+use Rattle.rv_execute.specs.Execution.{count_of}
 use Rattle.rv_execute.specs.declared.action.Action.{Action}
 use Rattle.rv_execute.specs.declared.action.Action.TheVariants as action
 use Rattle.rv_execute.specs.declared.outcome.Outcome.{Outcome}
@@ -23,33 +25,36 @@ use Rattle.machine_core.specs.declared.hand.Course.TheVariants.{On, Elsewhere, L
 use Rattle.machine_core.specs.declared.hand.Hand.{Hand}
 use Rattle.machine_core.specs.declared.view.View.{View}
 
--- The line that instructions are taken from, decoded.
+-- The lines that instructions are taken from, decoded.
 
--- how far an address lies behind another one, around the end of all addresses
-abbrev pub distance : ℕ → ℕ → ℕ
-distance start address = (address + (2 ^ 64 - start)) % 2 ^ 64
+-- A line of a space stands among those that are decoded, with the bytes that the memory has.
+pub record IsHeld (lines : List (List ℕ)) (memory : TranslatedView) (space start : ℕ) : Type 0 where
+  pub whole : start % LINE_BYTES ≡ 0
+  pub low : start < 2 ^ 64
+  pub code : IsCodeLine memory space start (slice_index_or lines (start / LINE_BYTES % KEPT_LINES) [])
 
--- A line of a space stands among those that are decoded, from a place on, with the bytes that the memory has.
-pub record IsHeld (lines : List (List ℕ)) (memory : TranslatedView) (space : ℕ) (hand : Hand) : Type 0 where
-  pub start : hand.start % LINE_BYTES ≡ 0
-  pub low : hand.start < 2 ^ 64
-  pub first : hand.first % LINE_WORDS ≡ 0
-  pub inside : hand.first / LINE_WORDS < KEPT_LINES
-  pub code : IsCodeLine memory space hand.start (slice_index_or lines (hand.first / LINE_WORDS) [])
+-- so do those in hand
+abbrev pub IsInHand : List (List ℕ) → TranslatedView → ℕ → Hand → Type 0
+IsInHand lines memory space hand =
+    (line : ℕ) → line < PAGE_LINES → has_line hand.known line ≡ true → IsHeld lines memory space (PAGE_BYTES * hand.page + LINE_BYTES * line)
 
--- where an address lies in the line in hand, that is held
-abbrev pub IsInHand : List (List ℕ) → View → Hand → ℕ → Type 0
-IsInHand lines view hand address = distance hand.start address < LINE_BYTES → IsHeld lines view.memory.now view.space hand
-
--- its line was taken
+-- the line of an address is one of them
 pub record IsTaken (lines : List (List ℕ)) (memory : TranslatedView) (space : ℕ) (hand : Hand) (address : ℕ) : Type 0 where
-  pub held : IsHeld lines memory space hand
+  pub hand_is : IsInHand lines memory space hand
+  pub page : hand.page ≡ address / PAGE_BYTES
   pub aligned : address % 4 ≡ 0
-  pub within : distance hand.start address < LINE_BYTES
+  pub known : has_line hand.known (address / LINE_BYTES % PAGE_LINES) ≡ true
 
--- executions stop at none of its words, where it isn't watched
-abbrev pub IsGuarded : Addresses → Hand → Type 0
-IsGuarded stops hand = hand.watched ≡ false → (a : ℕ) → a / LINE_BYTES ≡ hand.start / LINE_BYTES → contains stops a ≡ false
+-- the lines of a page, none where it was another page
+abbrev pub IsTurned : ℕ → Hand → Hand → Type 0
+IsTurned page old new = (new.page ≡ page) × ((new ≡ old) ⊎ (new ≡ record { page = page; known = []; owed = old.owed }))
+
+-- so many words from an address on lie in one line, and those behind the first are at no stop
+abbrev pub AreInLine : ℕ → ℕ → Type 0
+AreInLine address count = (address % 4 ≡ 0) × (address / 4 % LINE_WORDS + count ≤ LINE_WORDS)
+
+abbrev pub GoesPast : Addresses → ℕ → ℕ → Type 0
+GoesPast stops address count = (k : ℕ) → 0 < k → k < count → contains stops (address + 4 * k) ≡ false
 
 -- A word may be fetched from a page at the front of its list, and stands decoded.
 pub record IsWordAt (view : View) (address : ℕ) (word : Option Instr) : Type 0 where
@@ -66,17 +71,17 @@ pub data Makes (k n pc : ℕ) (calls : List Call) (old : View) (full : Option (�
   FetchOwed : (rest : List Call) → n ≡ k + 1 → calls ≡ Fetch pc ∷ rest → pc % 4 ≡ 0 → IsFront old.space (pc / PAGE_BYTES) (lists_lent old)
       → PerformsLent rest old full new → Makes k n pc calls old full new
 
--- An access whose page isn't in the list of the line's page, and that lies in one page, leaves the line in hand.
-abbrev pub is_apart : ℕ → ℕ → Bool
-is_apart address pc = not (address / PAGE_BYTES % SETS == pc / PAGE_BYTES % SETS) && nat_le (address % PAGE_BYTES) (PAGE_BYTES - 8)
+-- An access whose page isn't in the list of the line's page, and that lies in one line, leaves the lines in hand.
+abbrev pub is_apart : ℕ → ℕ → ℕ → Bool
+is_apart address count pc = nat_le (address % LINE_BYTES) (LINE_BYTES - count) && not (address / PAGE_BYTES % SETS == pc / PAGE_BYTES % SETS)
 
 -- What follows an instruction at an address, by what it does.
-abbrev pub course_by : ℕ → ℕ → Course
-course_by address pc = if is_apart address pc then On else Lost
+abbrev pub course_by : ℕ → ℕ → ℕ → Course
+course_by address count pc = if is_apart address count pc then On else Lost
 
 abbrev pub course_of : Action → ℕ → Course
-course_of (action.Load address size extension) pc = course_by address pc
-course_of (action.Store address size value) pc = course_by address pc
+course_of (action.Load address size extension) pc = course_by address (count_of size) pc
+course_of (action.Store address size value) pc = course_by address (count_of size) pc
 course_of (action.Write value) pc = On
 course_of (action.Link target) pc = Elsewhere
 course_of (action.Goto target) pc = Elsewhere
@@ -91,26 +96,26 @@ course_behind Asked course = Elsewhere
 course_behind (Fault kind address) course = Elsewhere
 course_behind (Full units limit) course = Elsewhere
 
--- a line with that address is in hand of what follows, where it was
-abbrev pub KeepsLine : View → View → ℕ → ℕ → Type 0
-KeepsLine old new pc next =
-    (lines : List (List ℕ)) (hand : Hand) → IsHeld lines old.memory.now old.space hand → pc / PAGE_BYTES ≡ hand.start / PAGE_BYTES → IsInHand lines new hand next
+-- a line of the page of an instruction is held of what follows, where it was
+abbrev pub KeepsLines : View → View → ℕ → Type 0
+KeepsLines old new pc =
+    (lines : List (List ℕ)) (start : ℕ) → IsHeld lines old.memory.now old.space start → pc / PAGE_BYTES ≡ start / PAGE_BYTES
+    → IsHeld lines new.memory.now new.space start
 
 abbrev pub Keeps : Course → View → View → ℕ → ℕ → Type 0
-Keeps On old new pc next = (next ≡ (pc + 4) % 2 ^ 64) × KeepsLine old new pc next
-Keeps Elsewhere old new pc next = KeepsLine old new pc next
+Keeps On old new pc next = (next ≡ (pc + 4) % 2 ^ 64) × KeepsLines old new pc
+Keeps Elsewhere old new pc next = KeepsLines old new pc
 Keeps Lost old new pc next = Unit {0}
 
 -- what is left in hand
-abbrev pub IsLeft : Course → ℕ → Hand → Hand → Type 0
-IsLeft On pc old new = new ≡ record { start = old.start; first = old.first; owed = new.owed; watched = old.watched }
-IsLeft Elsewhere pc old new = new ≡ record { start = old.start; first = old.first; owed = new.owed; watched = old.watched }
-IsLeft Lost pc old new = (LINE_BYTES ≤ distance new.start pc) × (new.watched ≡ true)
+abbrev pub IsLeft : Course → Hand → Hand → Type 0
+IsLeft On old new = new ≡ record { page = old.page; known = old.known; owed = new.owed }
+IsLeft Elsewhere old new = new ≡ record { page = old.page; known = old.known; owed = new.owed }
+IsLeft Lost old new = new.known ≡ []
 
 -- What is true behind some steps.
-pub record GoesOn (stops : Addresses) (lines : List (List ℕ)) (view : View) (owed n : ℕ) (hand : Hand) (pc : ℕ) : Type 0 where
+pub record GoesOn (lines : List (List ℕ)) (view : View) (owed n : ℕ) (hand : Hand) : Type 0 where
   pub ready : IsReadyView view
-  pub hand_is : IsInHand lines view hand pc
-  pub guarded : IsGuarded stops hand
+  pub hand_is : IsInHand lines view.memory.now view.space hand
   pub owes : hand.owed ≤ owed + n
   pub some : 0 < n

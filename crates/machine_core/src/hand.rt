@@ -1,72 +1,85 @@
-//! The line that instructions are taken from, decoded.
+//! The lines that instructions are taken from, decoded.
 
-ghost use Rattle.std.specs.Prelude.{◌≡◌, ℕ, ◌/◌, ◌<◌, ◌≤◌, true, false};
-ghost use Rattle.std.specs.FinSet.{contains};
-ghost use Rattle.sizes.specs.declared.TheConstants.{LINE_BYTES};
+ghost use Rattle.std.specs.Prelude.{◌≡◌, ℕ, ◌/◌, ◌%◌, ◌<◌, ◌≤◌, [], true};
+ghost use Rattle.sizes.specs.declared.TheConstants.{LINE_BYTES, PAGE_BYTES, PAGE_LINES};
+ghost use Rattle.rv_execute.specs.Execution.{count_of};
 ghost use Rattle.machine_core.specs.Access.{IsSameLoan, lists_lent, spaces_lent};
 ghost use Rattle.machine_core.specs.Ahead.{ahead};
-ghost use Rattle.machine_core.specs.Executions.{stops_in};
-ghost use Rattle.machine_core.specs.Held.{IsGuarded, IsHeld, IsTaken, course_by, course_of, distance, is_apart};
+ghost use Rattle.machine_core.specs.Held.{IsInHand, IsTaken, IsTurned, course_by, course_of, is_apart};
 
 use crate::view::View;
-use breakpoints::Addresses;
 use decoded_lines::DecodedLines;
+use overlay_bits::Bits;
 use overlay_memory::OverlayMemory;
-use rv_execute::Action;
-use sizes::{LINE_BYTES, PAGE_BYTES};
+use rv_execute::{Action, Size};
+use sizes::{LINE_BYTES, PAGE_BYTES, PAGE_LINES};
 use translation_cache::SETS;
 
-/// A line: its address, and where the meaning of its first word stands. A fetch from it is a hit that moves nothing; how many of these
-/// are still to be counted is kept here.
+/// Lines of a page: its number, and those of its lines that stand decoded. A fetch from one of them is a hit that moves nothing; how many
+/// of these are still to be counted is kept here.
 #[derive(Clone, Copy, Debug)]
 pub(crate) struct Hand {
-    pub(crate) start: u64,
-    pub(crate) first: usize,
+    pub(crate) page: u64,
+    pub(crate) known: Bits,
     pub(crate) owed: u32,
-    /// whether executions may stop at one of its words
-    pub(crate) watched: bool,
 }
 
-/// What follows an instruction of the line in hand that is a step.
+/// What follows an instruction of a line in hand that is a step.
 #[derive(Clone, Copy, Debug, PartialEq, Eq)]
 pub(crate) enum Course {
-    /// The word behind it, and the line is still in hand.
+    /// The word behind it, and the lines are still in hand.
     On,
-    /// Any word, and the line is still in hand.
+    /// Any word, and the lines are still in hand.
     Elsewhere,
-    /// The word behind it, and the line may have changed, or may not be at the front of its list any more.
+    /// The word behind it, and a line may have changed, or their page may not be at the front of its list any more.
     Lost,
 }
 
-/// Whether an access of at most 8 bytes lies in one page, of another list of translations than that of pc.
-#[inline]
-fn is_apart(address: u64, pc: u64) -> bool
-    ensures { result ≡ is_apart address pc }
+/// Whether an access of so many bytes lies in one line, in a page of another list of translations than that of pc.
+#[inline(always)]
+fn is_apart(address: u64, count: u64, pc: u64) -> bool
+    requires { count ≤ 8 }
+    ensures { result ≡ is_apart address count pc }
 {
-    address / PAGE_BYTES as u64 % SETS as u64 != pc / PAGE_BYTES as u64 % SETS as u64
-        && address % PAGE_BYTES as u64 <= PAGE_BYTES as u64 - 8
+    address % LINE_BYTES as u64 <= LINE_BYTES as u64 - count
+        && address / PAGE_BYTES as u64 % SETS as u64 != pc / PAGE_BYTES as u64 % SETS as u64
 }
 
 /// What follows an access of the instruction at pc.
-#[inline]
-fn course_by(address: u64, pc: u64) -> Course
-    ensures { result ≡ course_by address pc }
+#[inline(always)]
+fn course_by(address: u64, count: u64, pc: u64) -> Course
+    requires { count ≤ 8 }
+    ensures { result ≡ course_by address count pc }
 {
-    if is_apart(address, pc) {
+    if is_apart(address, count, pc) {
         Course::On
     } else {
         Course::Lost
     }
 }
 
+/// How many bytes a size has.
+#[inline(always)]
+fn count_of(size: Size) -> u64
+    ensures count { result ≡ count_of size }
+    ensures few { result ≤ 8 }
+{
+    match size {
+        Size::Byte => 1,
+        Size::Half => 2,
+        Size::Word => 4,
+        Size::Double => 8,
+    }
+}
+
 /// What follows an action of the instruction at pc.
-#[inline]
+#[inline(always)]
 pub(crate) fn course_of(action: &Action, pc: u64) -> Course
     ensures { result ≡ course_of action.now pc }
 {
     match *action {
-        Action::Load(address, _, _) => course_by(address, pc),
-        Action::Store(address, _, _) => course_by(address, pc),
+        Action::Load(address, size, _) => course_by(address, count_of(size), pc),
+        Action::Store(address, size, _) => course_by(address, count_of(size), pc),
         Action::Write(_) => Course::On,
         Action::Next => Course::On,
         Action::Link(_) => Course::Elsewhere,
@@ -76,42 +89,41 @@ pub(crate) fn course_of(action: &Action, pc: u64) -> Course
     }
 }
 
-/// Whether executions may stop at a word of the line of an address.
-#[inline]
-fn is_watched(stops: Option<&Addresses>, address: u64) -> bool
-    ensures { result ≡ false → (a : ℕ) → a / LINE_BYTES ≡ address / LINE_BYTES
-        → contains (stops_in stops.entry) a ≡ false }
+/// The page of an address.
+#[inline(always)]
+fn page_of(address: u64) -> u64
+    ensures { result ≡ address / PAGE_BYTES }
 {
-    match stops {
-        Some(addresses) => addresses.may_have_near(address),
-        None => false,
-    }
+    address / PAGE_BYTES as u64
+}
+
+/// The number of the line of its page that an address lies in.
+#[inline(always)]
+fn line_of(address: u64) -> u8
+    ensures line { result ≡ address / LINE_BYTES % PAGE_LINES }
+    ensures low { result < PAGE_LINES }
+{
+    (address / LINE_BYTES as u64 % PAGE_LINES as u64) as u8
 }
 
 impl Hand {
-    /// No line, where the next instruction is that at pc.
-    pub(crate) fn none(pc: u64) -> Hand
-        ensures none { LINE_BYTES ≤ distance result.start pc }
-        ensures owed { result.owed ≡ 0 }
-        ensures watched { result.watched ≡ true }
+    /// No line.
+    pub(crate) fn none() -> Hand
+        ensures { result ≡ record { page = 0; known = []; owed = 0 } }
     {
         Hand {
-            start: pc.wrapping_add(LINE_BYTES as u64),
-            first: 0,
+            page: 0,
+            known: Bits::empty(),
             owed: 0,
-            watched: true,
         }
     }
 
-    /// Is no line any more, where the next instruction is that at pc.
+    /// Has no line any more.
     #[inline]
-    pub(crate) fn lose(&mut self, pc: u64)
-        ensures none { LINE_BYTES ≤ distance self.new.start pc }
-        ensures owed { self.new.owed ≡ self.old.owed }
-        ensures watched { self.new.watched ≡ true }
+    pub(crate) fn lose(&mut self)
+        ensures { self.new ≡ record { page = self.old.page; known = []; owed = self.old.owed } }
     {
-        self.start = pc.wrapping_add(LINE_BYTES as u64);
-        self.watched = true;
+        self.known = Bits::empty();
     }
 
     /// Counts the fetches that are still to be counted.
@@ -125,12 +137,15 @@ impl Hand {
         }
     }
 
-    /// Which word of the line stands at an address in it.
+    /// The lines of another page, none so far, where it isn't that page.
     #[inline]
-    pub(crate) fn place(&self, pc: u64) -> usize
-        ensures { result ≡ distance self.now.start pc / 4 }
+    fn turn_to(&mut self, page: u64)
+        ensures { IsTurned page self.old self.new }
     {
-        (pc.wrapping_sub(self.start) / 4) as usize
+        if self.page != page {
+            self.page = page;
+            self.known = Bits::empty();
+        }
     }
 
     /// Takes the line of the instruction at pc, where its page may be executed and is known to be at the front of its list. Answers
@@ -141,11 +156,10 @@ impl Hand {
         memory: &OverlayMemory,
         space: u16,
         lines: &mut DecodedLines,
-        stops: Option<&Addresses>,
         pc: u64,
     ) -> bool
+        requires hand { IsInHand lines.old memory.now space self.old }
         ensures taken { result ≡ true → IsTaken lines.new memory.now space self.new pc }
-        ensures guarded { result ≡ true → IsGuarded (stops_in stops.entry) self.new }
         ensures owed { self.new.owed ≡ self.old.owed }
     {
         if pc % 4 != 0 {
@@ -153,9 +167,9 @@ impl Hand {
         }
         match memory.code_line(space, pc) {
             Some(line) => {
-                self.first = lines.enter(pc / LINE_BYTES as u64, line);
-                self.start = pc - pc % LINE_BYTES as u64;
-                self.watched = is_watched(stops, pc);
+                lines.enter(pc / LINE_BYTES as u64, line);
+                self.turn_to(page_of(pc));
+                self.known = self.known.with(line_of(pc));
                 true
             }
             None => false,
@@ -169,20 +183,15 @@ impl Hand {
         memory: &OverlayMemory,
         space: u16,
         lines: &mut DecodedLines,
-        stops: Option<&Addresses>,
         pc: u64,
     ) -> bool
-        requires held { distance self.old.start pc < LINE_BYTES
-            → IsHeld lines.old memory.now space self.old }
-        requires guarded { IsGuarded (stops_in stops) self.old }
+        requires hand { IsInHand lines.old memory.now space self.old }
         ensures taken { result ≡ true → IsTaken lines.new memory.now space self.new pc }
-        ensures guarded { result ≡ true → IsGuarded (stops_in stops.entry) self.new }
         ensures owed { self.new.owed ≡ self.old.owed }
     {
-        let place = pc.wrapping_sub(self.start);
-        if place < LINE_BYTES as u64 && place % 4 == 0 {
+        if page_of(pc) == self.page && pc % 4 == 0 && self.known.has(line_of(pc)) {
             return true;
         }
-        self.take(memory, space, lines, stops, pc)
+        self.take(memory, space, lines, pc)
     }
 }

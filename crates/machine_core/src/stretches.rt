@@ -1,9 +1,7 @@
 //! Stretches of instructions of one process.
 
-ghost use Rattle.std.specs.Prelude.{◌≡◌, ◌≢◌, ℕ, ◌+◌, ◌^◌, ◌<◌, ◌≤◌, true};
+ghost use Rattle.std.specs.Prelude.{◌≡◌, ◌≢◌, ℕ, ◌+◌, ◌%◌, ◌^◌, ◌<◌, ◌≤◌, [], true};
 ghost use Rattle.std.specs.FinSet.{contains};
-ghost use Rattle.sizes.specs.declared.TheConstants.{LINE_BYTES};
-ghost use Rattle.decoded_lines.specs.declared.TheConstants.{LINE_WORDS};
 ghost use Rattle.rv_decode.specs.declared.instruction.Instr.{Instr};
 ghost use Rattle.rv_execute.specs.Execution.{Executed, execution, full_in};
 ghost use Rattle.overlay_pages.specs.State.{memory_of};
@@ -13,7 +11,7 @@ ghost use Rattle.breakpoints.specs.Breakpoints.{Addresses};
 ghost use Rattle.machine_core.specs.Access.{IsReadyView, spaces_lent};
 ghost use Rattle.machine_core.specs.Ahead.{guest_ahead};
 ghost use Rattle.machine_core.specs.Executions.{Comes, all_executed, executions, steps_in, stops_in};
-ghost use Rattle.machine_core.specs.Held.{course_behind, GoesOn, IsGuarded, IsInHand, IsLeft, IsTaken, IsWordAt, Keeps, Makes, distance};
+ghost use Rattle.machine_core.specs.Held.{course_behind, AreInLine, GoesOn, GoesPast, IsInHand, IsLeft, IsTaken, IsWordAt, Keeps, Makes};
 ghost use Rattle.machine_core.specs.Kept.{IsBeside, guest_in, guest_lent};
 ghost use Rattle.machine_core.specs.Turns.{executed, outcome_of, state_left};
 
@@ -21,7 +19,7 @@ use crate::hand::{Course, Hand, course_of};
 use crate::process::Process;
 use crate::view::View;
 use breakpoints::Addresses;
-use decoded_lines::{DecodedLines, LINE_WORDS};
+use decoded_lines::DecodedLines;
 use overlay_memory::OverlayMemory;
 use ovl_io::{FaultKind, ProcessState};
 use rv_decode::Instr;
@@ -117,8 +115,7 @@ fn execute_apart(process: &mut Process, view: &mut View, hand: &mut Hand) -> (u3
     ensures came { (stops : Addresses) (most : ℕ) → 0 < most → Comes stops view.old.space most
         (guest_ahead hand.old.owed (guest_lent view.old process.old)) result.0 result.1
         (guest_ahead hand.new.owed (guest_lent view.new process.new)) }
-    ensures none { LINE_BYTES ≤ distance hand.new.start process.new.regs.pc }
-    ensures watched { hand.new.watched ≡ true }
+    ensures none { hand.new.known ≡ [] }
     ensures owed { hand.new.owed ≡ hand.old.owed }
     ensures steps { result.0 ≡ steps_in result.1 }
     ensures running { result.1 ≡ Outcome.Stepped → process.new.state ≡ ProcessState.Running }
@@ -127,7 +124,7 @@ fn execute_apart(process: &mut Process, view: &mut View, hand: &mut Hand) -> (u3
     ensures beside { IsBeside view.old.space (spaces_lent view.old) (spaces_lent view.new) }
 {
     let outcome = execute(&mut process.regs, view);
-    hand.lose(process.regs.pc());
+    hand.lose();
     note(process, outcome);
     (steps_in(outcome), outcome)
 }
@@ -157,41 +154,64 @@ fn is_on(course: Course) -> bool
     }
 }
 
-/// Ends a run behind so many steps and an instruction of which that came, where the pc is that now. Answers how many steps they are.
+/// Ends a run behind so many steps and an instruction of which that came. Answers how many steps they are.
 #[inline]
-fn leave(hand: &mut Hand, pc: u64, k: u32, outcome: Outcome, course: Course) -> u32
+fn leave(hand: &mut Hand, k: u32, outcome: Outcome, course: Course) -> u32
     requires few { hand.old.owed + k + 1 < 2 ^ 32 }
     ensures steps { result ≡ k + steps_in outcome }
     ensures owed { hand.new.owed ≡ hand.old.owed + (k + 1) }
-    ensures left { IsLeft course pc hand.old hand.new }
+    ensures left { IsLeft course hand.old hand.new }
 {
     hand.owed += k + 1;
     match course {
         Course::On => {}
         Course::Elsewhere => {}
-        Course::Lost => hand.lose(pc),
+        Course::Lost => hand.lose(),
     }
     k + steps_in(outcome)
 }
 
-/// How many instructions of a line may be executed from one of its words on, one behind the other and at most so many: one, where
-/// executions may stop at one of its words.
-#[inline]
-fn count_from(from: usize, watched: bool, most: u32) -> u32
-    requires from { from < LINE_WORDS }
+/// How many words of a line there are from an address on, at most so many, of which all but the first are at no stop.
+#[inline(never)]
+fn count_past(addresses: &Addresses, pc: u64, most: u32) -> u32
+    requires inside { AreInLine pc most }
     requires some { 0 < most }
     ensures some { 0 < result }
     ensures few { result ≤ most }
-    ensures inside { from + result ≤ LINE_WORDS }
-    ensures alone { watched ≡ true → result ≡ 1 }
+    ensures past { GoesPast addresses.now pc result }
 {
-    if watched {
-        return 1;
+    let mut count = 1u32;
+    'passing: while count < most {
+        if addresses.may_have(pc + 4 * u64::from(count)) {
+            return count;
+        }
+        count += 1;
     }
-    most.min((LINE_WORDS - from) as u32)
+    most
 }
 
-/// Executes up to so many instructions from the line in hand, of which the first is that at pc, one behind the other as long as each is
+/// How many words of a line there are from an address on, at most so many, of which all but the first are at no stop.
+#[inline]
+fn count_from(stops: Option<&Addresses>, pc: u64, most: u32) -> u32
+    requires inside { AreInLine pc most }
+    requires some { 0 < most }
+    ensures some { 0 < result }
+    ensures few { result ≤ most }
+    ensures past { GoesPast (stops_in stops.entry) pc result }
+{
+    match stops {
+        Some(addresses) => {
+            if addresses.may_have_near(pc) {
+                count_past(addresses, pc, most)
+            } else {
+                most
+            }
+        }
+        None => most,
+    }
+}
+
+/// Executes up to so many instructions from a line in hand, of which the first is that at pc, one behind the other as long as each is
 /// a step and leaves the line in hand. Answers how many were steps, and what came of the last one. The last step may leave the pc
 /// at a stop, and no other one does. Fetches are still to be counted, one for each.
 #[inline]
@@ -207,7 +227,6 @@ fn run(
     requires ready { IsReadyView view.old }
     requires taken { IsTaken lines.now view.old.memory.now view.old.space hand.old
         process.old.regs.pc }
-    requires guarded { IsGuarded (stops_in stops) hand.old }
     requires some { 0 < most }
     requires few { hand.old.owed + most < 2 ^ 32 }
     ensures loan { view.new.memory.ghost_name ≡ view.old.memory.ghost_name }
@@ -216,22 +235,22 @@ fn run(
         (guest_ahead hand.old.owed (guest_lent view.old process.old)) result.0 result.1
         (guest_ahead hand.new.owed (guest_lent view.new process.new)) }
     ensures running { result.1 ≡ Outcome.Stepped → process.new.state ≡ ProcessState.Running }
-    ensures goes { result.1 ≡ Outcome.Stepped → GoesOn (stops_in stops.entry) lines.now view.new
-        hand.old.owed result.0 hand.new process.new.regs.pc }
+    ensures goes { result.1 ≡ Outcome.Stepped
+        → GoesOn lines.now view.new hand.old.owed result.0 hand.new }
     ensures saved { process.new.saved ≡ process.old.saved }
     ensures beside { IsBeside view.old.space (spaces_lent view.old) (spaces_lent view.new) }
 {
-    let from = hand.place(process.regs.pc());
-    let count = count_from(from, hand.watched, most);
-    let words = &lines.words(hand.first)[from..from + count as usize];
-    let mut k = 0u32;
-    'running: while k < count {
-        let (outcome, course) = execute_word(process, view, &words[k as usize]);
+    let pc = process.regs.pc();
+    let words = lines.words_from(pc / 4);
+    let count = count_from(stops, pc, most.min(words.len() as u32));
+    let mut rest = &words[..count as usize];
+    'running: while !rest.is_empty() {
+        let (outcome, course) = execute_word(process, view, &rest[0]);
         if !is_on(course) {
-            let steps = leave(hand, process.regs.pc(), k, outcome, course);
+            let steps = leave(hand, count - rest.len() as u32, outcome, course);
             return (steps, outcome);
         }
-        k += 1;
+        rest = &rest[1..];
     }
     hand.owed += count;
     (count, Outcome::Stepped)
@@ -249,8 +268,7 @@ fn advance(
 ) -> (u32, Outcome)
     requires runs { process.old.state ≡ ProcessState.Running }
     requires ready { IsReadyView view.old }
-    requires hand { IsInHand lines.old view.old hand.old process.old.regs.pc }
-    requires guarded { IsGuarded (stops_in stops) hand.old }
+    requires hand { IsInHand lines.old view.old.memory.now view.old.space hand.old }
     requires some { 0 < most }
     requires few { hand.old.owed + most < 2 ^ 32 }
     ensures loan { view.new.memory.ghost_name ≡ view.old.memory.ghost_name }
@@ -259,12 +277,12 @@ fn advance(
         (guest_ahead hand.old.owed (guest_lent view.old process.old)) result.0 result.1
         (guest_ahead hand.new.owed (guest_lent view.new process.new)) }
     ensures running { result.1 ≡ Outcome.Stepped → process.new.state ≡ ProcessState.Running }
-    ensures goes { result.1 ≡ Outcome.Stepped → GoesOn (stops_in stops.entry) lines.new view.new
-        hand.old.owed result.0 hand.new process.new.regs.pc }
+    ensures goes { result.1 ≡ Outcome.Stepped
+        → GoesOn lines.new view.new hand.old.owed result.0 hand.new }
     ensures saved { process.new.saved ≡ process.old.saved }
     ensures beside { IsBeside view.old.space (spaces_lent view.old) (spaces_lent view.new) }
 {
-    if !hand.reach(&*view.memory, view.space, lines, stops, process.regs.pc()) {
+    if !hand.reach(&*view.memory, view.space, lines, process.regs.pc()) {
         return execute_apart(process, view, hand);
     }
     run(process, view, lines, hand, most, stops)
@@ -294,8 +312,7 @@ fn step_owing(
 ) -> (u32, Outcome)
     requires runs { process.old.state ≡ ProcessState.Running }
     requires ready { IsReadyView view.old }
-    requires hand { IsInHand lines.old view.old hand.old process.old.regs.pc }
-    requires guarded { IsGuarded (stops_in stops) hand.old }
+    requires hand { IsInHand lines.old view.old.memory.now view.old.space hand.old }
     requires none { hand.old.owed ≡ 0 }
     ensures loan { view.new.memory.ghost_name ≡ view.old.memory.ghost_name }
     ensures space { view.new.space ≡ view.old.space }
@@ -347,7 +364,7 @@ pub(crate) fn execute_up_to(
     ensures beside { IsBeside p (state_of memory.old) (state_of memory.new) }
 {
     let mut view = View { memory, space: p };
-    let mut hand = Hand::none(process.regs.pc());
+    let mut hand = Hand::none();
     let came = step_owing(process, &mut view, lines, &mut hand, most, stops);
     hand.pay(&mut view);
     came

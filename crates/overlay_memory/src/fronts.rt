@@ -42,11 +42,11 @@ impl Fronts {
 
     /// A page, where it is known to be at the front of its list.
     #[inline(always)]
-    pub(crate) fn page(&self, space: u16, page: u64) -> Option<FoundPage>
-        ensures { IfSome result (λ found. (found.space ≡ space) × (found.page ≡ page)
-            × (head_of self.now page ≡ Some found)) }
+    pub(crate) fn page(&self, space: u16, page: u64) -> Option<&FoundPage>
+        ensures { IfSome result (λ found. (found.now.space ≡ space) × (found.now.page ≡ page)
+            × (head_of self.now page ≡ Some found.now)) }
     {
-        match self.heads[set_of(page)] {
+        match &self.heads[set_of(page)] {
             Some(found) => {
                 if found.page == page && found.space == space {
                     Some(found)

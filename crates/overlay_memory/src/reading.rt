@@ -14,7 +14,7 @@ ghost use Rattle.translation_cache.specs.Counted.{translated};
 
 use crate::error::MemoryError;
 use crate::fronts::Fronts;
-use crate::translating::translate;
+use crate::translating::translate_anew;
 use bitflags::Flags;
 use overlay_pages::{FoundLine, OverlayPages};
 use ovl_io::Perms;
@@ -178,6 +178,36 @@ pub(crate) fn read_bytes(
     read_lines(pages, space, address, into, need)
 }
 
+/// As `load_line`, of a page that isn't known to be at the front of its list.
+#[inline(never)]
+fn load_anew(
+    pages: &OverlayPages,
+    cache: &mut Cache,
+    fronts: &mut Fronts,
+    space: u16,
+    address: u64,
+    into: &mut [u8],
+    need: Perms,
+) -> Result<(), MemoryError>
+    requires some { 0 < length into.old }
+    requires one_line { address % LINE_BYTES + length into.old ≤ LINE_BYTES }
+    requires held { AreTrue (state_of pages.now) cache.old }
+    requires fronts { AreFronts pages.now (bare cache.old) fronts.old }
+    ensures access { Reads (state_of pages.now) space need.0 address (length into.old) result }
+    ensures bytes { OnOk result (into.new
+        ≡ bytes_at (memory_of (state_of pages.now) space) address (length into.old)) }
+    ensures kept { length into.new ≡ length into.old }
+    ensures translated { bare cache.new
+        ≡ translated space (memory_of (state_of pages.now) space) (address / PAGE_BYTES) (bare cache.old) }
+    ensures held { AreTrue (state_of pages.now) cache.new }
+    ensures fronts { AreFronts pages.now (bare cache.new) fronts.new }
+{
+    match translate_anew(pages, cache, fronts, space, address / PAGE_BYTES as u64) {
+        Some(page) => read_found(pages, page.line(line_of(address)), address, into, need),
+        None => Err(MemoryError::Unmapped(address)),
+    }
+}
+
 /// As `load` of `OverlayMemory`, of some bytes all in one line.
 #[inline(always)]
 pub(crate) fn load_line(
@@ -202,8 +232,11 @@ pub(crate) fn load_line(
     ensures held { AreTrue (state_of pages.now) cache.new }
     ensures fronts { AreFronts pages.now (bare cache.new) fronts.new }
 {
-    match translate(pages, cache, fronts, space, address / PAGE_BYTES as u64) {
-        Some(page) => read_found(pages, page.line(line_of(address)), address, into, need),
-        None => Err(MemoryError::Unmapped(address)),
+    match fronts.page(space, address / PAGE_BYTES as u64) {
+        Some(page) => {
+            cache.count_hits(1);
+            read_found(pages, page.line(line_of(address)), address, into, need)
+        }
+        None => load_anew(pages, cache, fronts, space, address, into, need),
     }
 }

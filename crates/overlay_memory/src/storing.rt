@@ -6,7 +6,7 @@ ghost use Rattle.ovl_io.specs.Permissions.{writable};
 ghost use Rattle.overlay_pages.specs.Changes.{is_writable};
 ghost use Rattle.overlay_pages.specs.State.{memory_of};
 ghost use Rattle.overlay_pages.specs.View.{IsJoined, state_of};
-ghost use Rattle.overlay_pages.specs.Spots.{IsFound};
+ghost use Rattle.overlay_pages.specs.Spots.{IsFound, IsFoundPageAt};
 ghost use Rattle.overlay_memory.specs.Access.{Stores};
 ghost use Rattle.overlay_memory.specs.Fronts.{AreFronts};
 ghost use Rattle.overlay_memory.specs.Pieces.{AreWritable, IsFilled, Permits, lines_under};
@@ -19,10 +19,10 @@ use crate::error::MemoryError;
 use crate::fronts::Fronts;
 use crate::reading::{line_of, permit};
 use crate::room::shortage_by;
-use crate::translating::{bring_lines, translate};
+use crate::translating::{bring_lines, translate_anew};
 use bitflags::Flags;
 use overlay_bits::Bits;
-use overlay_pages::{FoundLine, OverlayPages};
+use overlay_pages::{FoundLine, FoundPage, OverlayPages};
 use ovl_io::Perms;
 use sizes::{LINE_BYTES, PAGE_BYTES, PAGE_LINES};
 use translation_cache::Cache;
@@ -197,7 +197,71 @@ pub(crate) fn write_pages(
     }
 }
 
-/// As `store` of `OverlayMemory`, of some bytes all in one line. Where that can be written it takes no units.
+/// Stores bytes, some and all in one line of a page that was found. Where that can be written it takes no units.
+#[inline(always)]
+fn store_found(
+    pages: &mut OverlayPages,
+    cache: &mut Cache,
+    fronts: &mut Fronts,
+    space: u16,
+    page: FoundPage,
+    address: u64,
+    bytes: &[u8],
+) -> Result<(), MemoryError>
+    requires found { IsFoundPageAt pages.old space (address / PAGE_BYTES) page }
+    requires some { 0 < length bytes.now }
+    requires one_line { address % LINE_BYTES + length bytes.now ≤ LINE_BYTES }
+    requires held { AreTrue (state_of pages.old) cache.old }
+    requires fronts { AreFronts pages.old (bare cache.old) fronts.old }
+    ensures stores { Stores pages.old pages.new space address bytes.now result }
+    ensures held { AreTrue (state_of pages.new) cache.new }
+    ensures lists { bare cache.new ≡ bare cache.old }
+    ensures fronts { AreFronts pages.new (bare cache.new) fronts.new }
+{
+    let line = line_of(address);
+    if page.perms.contains(Perms::W) && page.is_writable(line) {
+        put(
+            pages,
+            page.line(line),
+            (address % LINE_BYTES as u64) as usize,
+            bytes,
+        );
+        return Ok(());
+    }
+    fronts.clear();
+    write_pages(pages, cache, space, address, bytes)
+}
+
+/// As `store_line`, of a page that isn't known to be at the front of its list.
+#[inline(never)]
+fn store_anew(
+    pages: &mut OverlayPages,
+    cache: &mut Cache,
+    fronts: &mut Fronts,
+    space: u16,
+    address: u64,
+    bytes: &[u8],
+) -> Result<(), MemoryError>
+    requires some { 0 < length bytes.now }
+    requires one_line { address % LINE_BYTES + length bytes.now ≤ LINE_BYTES }
+    requires held { AreTrue (state_of pages.old) cache.old }
+    requires fronts { AreFronts pages.old (bare cache.old) fronts.old }
+    ensures stores { Stores pages.old pages.new space address bytes.now result }
+    ensures held { AreTrue (state_of pages.new) cache.new }
+    ensures translated { bare cache.new
+        ≡ translated space (memory_of (state_of pages.old) space) (address / PAGE_BYTES) (bare cache.old) }
+    ensures fronts { AreFronts pages.new (bare cache.new) fronts.new }
+{
+    match translate_anew(pages, cache, fronts, space, address / PAGE_BYTES as u64) {
+        Some(page) => store_found(pages, cache, fronts, space, page, address, bytes),
+        None => {
+            fronts.clear();
+            write_pages(pages, cache, space, address, bytes)
+        }
+    }
+}
+
+/// As `store` of `OverlayMemory`, of some bytes all in one line.
 #[inline(always)]
 pub(crate) fn store_line(
     pages: &mut OverlayPages,
@@ -217,18 +281,12 @@ pub(crate) fn store_line(
         ≡ translated space (memory_of (state_of pages.old) space) (address / PAGE_BYTES) (bare cache.old) }
     ensures fronts { AreFronts pages.new (bare cache.new) fronts.new }
 {
-    if let Some(page) = translate(pages, cache, fronts, space, address / PAGE_BYTES as u64) {
-        let line = line_of(address);
-        if page.perms.contains(Perms::W) && page.is_writable(line) {
-            put(
-                pages,
-                page.line(line),
-                (address % LINE_BYTES as u64) as usize,
-                bytes,
-            );
-            return Ok(());
+    match fronts.page(space, address / PAGE_BYTES as u64) {
+        Some(page) => {
+            let page = *page;
+            cache.count_hits(1);
+            store_found(pages, cache, fronts, space, page, address, bytes)
         }
+        None => store_anew(pages, cache, fronts, space, address, bytes),
     }
-    fronts.clear();
-    write_pages(pages, cache, space, address, bytes)
 }

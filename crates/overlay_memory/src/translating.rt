@@ -40,7 +40,7 @@ fn cached_of(found: &FoundPage) -> Cached
 
 /// As `translate`, of a page that isn't known to be at the front of its list.
 #[inline(never)]
-fn translate_anew(
+pub(crate) fn translate_anew(
     pages: &OverlayPages,
     cache: &mut Cache,
     fronts: &mut Fronts,
@@ -99,8 +99,7 @@ fn look_in_vain(pages: &OverlayPages, cache: &mut Cache, space: u16, page: u64)
 
 /// Translates a page: counts the look-up, and enters the page where its entry isn't there and it is. Answers what was found of it: of
 /// a page that is known to be at the front of its list, without a look at a table.
-#[inline(always)]
-pub(crate) fn translate(
+fn translate(
     pages: &OverlayPages,
     cache: &mut Cache,
     fronts: &mut Fronts,
@@ -119,7 +118,7 @@ pub(crate) fn translate(
     match fronts.page(space, page) {
         Some(found) => {
             cache.count_hits(1);
-            Some(found)
+            Some(*found)
         }
         None => translate_anew(pages, cache, fronts, space, page),
     }

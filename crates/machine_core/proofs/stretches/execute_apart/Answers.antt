@@ -1,10 +1,10 @@
-use Rattle.std.proofs.Common.{◌≤◌, ap, refl, subst, sym, ◌∙◌}
-use Rattle.sizes.specs.declared.TheConstants.{LINE_BYTES}
+use Rattle.std.proofs.Common.{ap, refl, subst, sym, ◌∙◌}
 use Rattle.machine_core.specs.Ahead.{guest_ahead}
 use Rattle.machine_core.specs.Executions.{Comes}
-use Rattle.machine_core.specs.Held.{Makes, distance}
+use Rattle.machine_core.specs.Held.{Makes}
 use Rattle.machine_core.specs.Kept.{guest_lent}
 use Rattle.machine_core.specs.Turns.{state_left}
+use Rattle.machine_core.specs.declared.hand.Hand.{Hand}
 use Rattle.machine_core.specs.declared.process.Process.{Process}
 use Rattle.machine_core.proofs.Owing.{owing}
 use Rattle.machine_core.proofs.Stepping.{first_comes}
@@ -17,8 +17,8 @@ returns c =
     let came = c.execute-outcome in
     let k = c.args.hand.now.owed in
     let all = owing k k old.regs.pc view came.new.mem old came.new.regs came.result came.ensures.done c.requires.runs (Makes.AllAsked refl came.ensures.made) in
-    let pc_is = c.pc.ensures ∙ sym (ap (λ (q : Process). q.regs.pc) c.note.ensures) in
-    let moved = ap (λ n. guest_ahead n (guest_lent came.new.mem c.note.new.process)) c.lose.ensures.owed
+    let lost = c.lose.ensures in
+    let moved = ap (λ (h : Hand). guest_ahead h.owed (guest_lent came.new.mem c.note.new.process)) lost
     ∙ ap (λ (q : Process). guest_ahead k (guest_lent came.new.mem q)) c.note.ensures ∙ all.after_is in
     record {
       loan = all.loan;
@@ -28,9 +28,8 @@ returns c =
           (sym c.steps_in.ensures)
           (first_comes stops view.space came.result most (guest_ahead k (guest_lent view old)) (guest_ahead c.lose.new.self.owed (guest_lent came.new.mem c.note.new.process)) some
           all.outcome_is moved);
-      none = subst (λ n. LINE_BYTES ≤ distance c.lose.new.self.start n) pc_is c.lose.ensures.none;
-      watched = c.lose.ensures.watched;
-      owed = c.lose.ensures.owed;
+      none = ap (λ (h : Hand). h.known) lost;
+      owed = ap (λ (h : Hand). h.owed) lost;
       steps = c.steps_in.ensures;
       running = λ stepped. ap (λ (q : Process). q.state) c.note.ensures ∙ ap (λ o. state_left o old.state) stepped ∙ c.requires.runs;
       ready = came.ensures.ready;

@@ -1,4 +1,8 @@
-use Rattle.std.proofs.Common.{◌≡◌, ◌+◌, ◌-◌, ap, subst, sym, ◌∙◌, arith}
+use Rattle.std.proofs.Common.{◌≡◌, ◌+◌, ◌-◌, ◌/◌, ◌%◌, ◌<◌, ◌≤◌, length, take, ap, refl, subst, sym, ◌∙◌, arith}
+use Rattle.std.proofs.lemmas.Bool.Decides.{nat_tests}
+use Rattle.std.proofs.lemmas.List.{length-drop}
+use Rattle.sizes.specs.declared.TheConstants.{PAGE_BYTES}
+use Rattle.decoded_lines.specs.declared.TheConstants.{LINE_WORDS}
 use Rattle.machine_core.specs.Access.{spaces_lent}
 use Rattle.machine_core.specs.Ahead.{guest_ahead}
 use Rattle.machine_core.specs.Executions.{Comes, behind, executions, resumed, steps_in, stops_in}
@@ -6,128 +10,123 @@ use Rattle.machine_core.specs.Held.{IsLeft, Keeps}
 use Rattle.machine_core.specs.Kept.{IsBeside, guest_lent}
 use Rattle.machine_core.specs.declared.hand.Course.{Course}
 use Rattle.machine_core.specs.declared.hand.Hand.{Hand}
-use Rattle.machine_core.proofs.Runs.{both_beside, comes, goes_by, goes_held, goes_past, held_here, on_here, one_so_far, page_here, runs_on, word_in}
+use Rattle.machine_core.proofs.Runs.{AreRun, both_beside, ends, ends_running, goes_by, goes_on, next_word, page_now, rest_of, same_lines}
 use Rattle.machine_core.proofs.Stepping.{is_so_far, so_far}
 use Rattle.machine_core.proofs.stretches.run.Goals as goal
 
+pub running-preserved : goal.running-preserved
+running-preserved c =
+    let came = c.execute_word-outcome in
+    let few_is : c.count_from-count.result ≤ c.args.most = (let f = c.count_from-count.ensures.few in let m = c.min.ensures in omega (arith, f, m)) in
+    let inside_is : c.pc-pc.result / 4 % LINE_WORDS + c.count_from-count.result ≤ LINE_WORDS =
+    (let f = c.count_from-count.ensures.few in let m = c.min.ensures in let w = c.words_from-words.ensures.count in omega (arith, f, m, w)) in
+    let aligned_is = ap (λ n. n % 4) c.pc-pc.ensures ∙ c.requires.taken.aligned in
+    let some_is : 0 < length c.running.rest.now = (let test = c.running-test.true in let has = c.is_empty.ensures in grind (arith, nat_tests)) in
+    let course = c.is_on.ensures c.if-not-is_on.false in
+    let stepped = came.ensures.on course in
+    let keeps = subst (λ (v : Course). Keeps v c.running.view came.new.view c.running.process.regs.pc came.new.process.regs.pc) course (came.ensures.line stepped) in
+    let goes = goes_on (stops_in c.args.stops) c.args.lines.now c.args.view.now c.running.view c.args.process.now c.running.process c.args.hand.now
+    c.running.hand c.args.most c.pc-pc.result c.count_from-count.result (take c.count_from-count.result c.words_from-words.result.now) c.running.rest.now c.running.invariant.so few_is c.running.invariant.within some_is inside_is aligned_is c.count_from-count.ensures.past came.new.view came.new.process came.result.0
+    came.ensures.outcome came.ensures.after stepped came.ensures.loan came.ensures.space
+    came.ensures.ready came.ensures.saved came.ensures.beside keeps (c.requires.taken.page ∙ sym (ap (λ n. n / PAGE_BYTES) c.pc-pc.ensures)) in
+    let n = length-drop 1 c.running.rest.now in
+    let within = c.running.invariant.within in
+    subst (λ r. record {
+      so : AreRun (stops_in c.args.stops) c.args.lines.now c.args.view.now came.new.view c.args.process.now came.new.process c.args.hand.now c.running.hand c.args.most c.pc-pc.result
+          (take c.count_from-count.result c.words_from-words.result.now) r (c.count_from-count.result - length r);
+      within : length r ≤ c.count_from-count.result;
+    }) (sym (rest_of c.running.rest.now)) (record { so = goes; within = omega (arith, n, within) })
+
 pub execute_word-outcome-requires-clause-word : goal.execute_word-outcome-requires-clause-word
 execute_word-outcome-requires-clause-word c =
-    word_in c.args.lines.now c.running.view c.args.hand.now c.place-from.result c.running.k c.running.process.regs.pc c.requires.taken.held.start c.requires.taken.held.low
-    (let turn = c.running-test.true in let fits = c.count_from-count.ensures.inside in omega (arith, turn, fits)) c.running.invariant.here
-    c.running.invariant.hand c.words.result.now c.count_from-count.result c.running-test.true c.words.ensures.words
+    let few_is : c.count_from-count.result ≤ c.args.most = (let f = c.count_from-count.ensures.few in let m = c.min.ensures in omega (arith, f, m)) in
+    let inside_is : c.pc-pc.result / 4 % LINE_WORDS + c.count_from-count.result ≤ LINE_WORDS =
+    (let f = c.count_from-count.ensures.few in let m = c.min.ensures in let w = c.words_from-words.ensures.count in omega (arith, f, m, w)) in
+    let aligned_is = ap (λ n. n % 4) c.pc-pc.ensures ∙ c.requires.taken.aligned in
+    let some_is : 0 < length c.running.rest.now = (let test = c.running-test.true in let has = c.is_empty.ensures in grind (arith, nat_tests)) in
+    next_word (stops_in c.args.stops) c.args.lines.now c.args.view.now c.running.view c.args.process.now c.running.process c.args.hand.now
+    c.running.hand c.args.most c.pc-pc.result c.count_from-count.result (take c.count_from-count.result c.words_from-words.result.now) c.running.rest.now c.running.invariant.so
+    few_is c.running.invariant.within some_is inside_is aligned_is c.count_from-count.ensures.past c.words_from-words.result.now refl c.words_from-words.ensures.words
 
 -- a turn that ends the run
 pub returns-then-not-is_on-clause-came : goal.returns-then-not-is_on-clause-came
 returns-then-not-is_on-clause-came c =
     let came = c.execute_word-outcome in
-    let owed = c.leave-steps.ensures.owed ∙ ap (λ (h : Hand). h.owed + (c.running.k + 1)) c.running.invariant.kept in
-    subst (λ n. Comes (stops_in c.args.stops) c.args.view.now.space c.args.most (guest_ahead c.args.hand.now.owed (guest_lent c.args.view.now c.args.process.now)) n came.result.0
-    (guest_ahead c.leave-steps.new.hand.owed (guest_lent came.new.view came.new.process))) (sym c.leave-steps.ensures.steps)
-    (subst (λ n. Comes (stops_in c.args.stops) c.args.view.now.space c.args.most (guest_ahead c.args.hand.now.owed (guest_lent c.args.view.now c.args.process.now))
-    (c.running.k + steps_in came.result.0) came.result.0 (guest_ahead n (guest_lent came.new.view came.new.process))) (sym owed)
-    (comes (stops_in c.args.stops) c.args.view.now.space (guest_ahead c.args.hand.now.owed (guest_lent c.args.view.now c.args.process.now)) c.args.most c.running.k
-    c.args.hand.now.owed c.running.view c.execute_word-outcome.new.view c.running.process c.execute_word-outcome.new.process c.execute_word-outcome.result.0 c.running.invariant.space
-    (let turn = c.running-test.true in let few = c.count_from-count.ensures.few in omega (arith, turn, few)) c.running.invariant.all
-    (goes_past c.args.lines.now c.running.view c.args.hand.now c.place-from.result c.running.k c.running.process.regs.pc c.requires.taken.held.start c.requires.taken.held.low
-    (let turn = c.running-test.true in let fits = c.count_from-count.ensures.inside in omega (arith, turn, fits)) c.running.invariant.here (stops_in c.args.stops)
-    c.count_from-count.result c.requires.guarded c.count_from-count.ensures.alone c.running-test.true)
-    c.execute_word-outcome.ensures.outcome c.execute_word-outcome.ensures.after))
+    let few_is : c.count_from-count.result ≤ c.args.most = (let f = c.count_from-count.ensures.few in let m = c.min.ensures in omega (arith, f, m)) in
+    let inside_is : c.pc-pc.result / 4 % LINE_WORDS + c.count_from-count.result ≤ LINE_WORDS =
+    (let f = c.count_from-count.ensures.few in let m = c.min.ensures in let w = c.words_from-words.ensures.count in omega (arith, f, m, w)) in
+    let aligned_is = ap (λ n. n % 4) c.pc-pc.ensures ∙ c.requires.taken.aligned in
+    let some_is : 0 < length c.running.rest.now = (let test = c.running-test.true in let has = c.is_empty.ensures in grind (arith, nat_tests)) in
+    let k = c.count_from-count.result - length c.running.rest.now in
+    let owed = c.leave-steps.ensures.owed ∙ ap (λ (h : Hand). h.owed + (k + 1)) c.running.invariant.so.kept in
+    let stops = stops_in c.args.stops in
+    let first = guest_ahead c.args.hand.now.owed (guest_lent c.args.view.now c.args.process.now) in
+    subst (λ n. Comes stops c.args.view.now.space c.args.most first n came.result.0 (guest_ahead c.leave-steps.new.hand.owed (guest_lent came.new.view came.new.process)))
+    (sym c.leave-steps.ensures.steps)
+    (subst (λ n. Comes stops c.args.view.now.space c.args.most first (k + steps_in came.result.0) came.result.0 (guest_ahead n (guest_lent came.new.view came.new.process))) (sym owed)
+    (ends (stops_in c.args.stops) c.args.lines.now c.args.view.now c.running.view c.args.process.now c.running.process c.args.hand.now
+    c.running.hand c.args.most c.pc-pc.result c.count_from-count.result (take c.count_from-count.result c.words_from-words.result.now) c.running.rest.now c.running.invariant.so few_is c.running.invariant.within some_is inside_is aligned_is c.count_from-count.ensures.past came.new.view came.new.process came.result.0
+    came.ensures.outcome came.ensures.after))
 
 pub returns-then-not-is_on-clause-goes : goal.returns-then-not-is_on-clause-goes
 returns-then-not-is_on-clause-goes c stepped =
     let came = c.execute_word-outcome in
-    let kept = c.running.invariant.kept in
-    let owed = c.leave-steps.ensures.owed ∙ ap (λ (h : Hand). h.owed + (c.running.k + 1)) kept in
-    let steps = c.leave-steps.ensures.steps ∙ ap (λ o. c.running.k + steps_in o) stepped in
-    goes_by (stops_in c.args.stops) c.args.lines.now c.running.view came.new.view c.args.hand.now c.leave-steps.new.hand c.leave-steps.result c.running.process.regs.pc
-    came.new.process.regs.pc came.ensures.ready c.requires.guarded (owed ∙ sym (ap (λ n. c.args.hand.now.owed + n) steps)) (omega (arith, steps)) came.result.1
-    (subst (λ (h : Hand). IsLeft came.result.1 came.new.process.regs.pc h c.leave-steps.new.hand) kept
-    (subst (λ n. IsLeft came.result.1 n c.running.hand c.leave-steps.new.hand) c.pc-then-not-is_on.ensures c.leave-steps.ensures.left))
-    (came.ensures.line stepped)
-    (held_here c.args.lines.now c.running.view c.args.hand.now c.place-from.result c.running.k c.running.process.regs.pc c.requires.taken.held.start c.requires.taken.held.low
-    (let turn = c.running-test.true in let fits = c.count_from-count.ensures.inside in omega (arith, turn, fits)) c.running.invariant.here
-    c.running.invariant.hand)
-    (page_here c.args.lines.now c.running.view c.args.hand.now c.place-from.result c.running.k c.running.process.regs.pc c.requires.taken.held.start c.requires.taken.held.low
-    (let turn = c.running-test.true in let fits = c.count_from-count.ensures.inside in omega (arith, turn, fits)) c.running.invariant.here)
+    let few_is : c.count_from-count.result ≤ c.args.most = (let f = c.count_from-count.ensures.few in let m = c.min.ensures in omega (arith, f, m)) in
+    let inside_is : c.pc-pc.result / 4 % LINE_WORDS + c.count_from-count.result ≤ LINE_WORDS =
+    (let f = c.count_from-count.ensures.few in let m = c.min.ensures in let w = c.words_from-words.ensures.count in omega (arith, f, m, w)) in
+    let aligned_is = ap (λ n. n % 4) c.pc-pc.ensures ∙ c.requires.taken.aligned in
+    let some_is : 0 < length c.running.rest.now = (let test = c.running-test.true in let has = c.is_empty.ensures in grind (arith, nat_tests)) in
+    let k = c.count_from-count.result - length c.running.rest.now in
+    let kept = c.running.invariant.so.kept in
+    let owed = c.leave-steps.ensures.owed ∙ ap (λ (h : Hand). h.owed + (k + 1)) kept in
+    let steps = c.leave-steps.ensures.steps ∙ ap (λ o. k + steps_in o) stepped in
+    goes_by c.args.lines.now c.running.view came.new.view c.args.hand.now c.leave-steps.new.hand c.leave-steps.result c.running.process.regs.pc
+    came.new.process.regs.pc came.ensures.ready (owed ∙ sym (ap (λ n. c.args.hand.now.owed + n) steps)) (omega (arith, steps)) came.result.1
+    (subst (λ (h : Hand). IsLeft came.result.1 h c.leave-steps.new.hand) kept c.leave-steps.ensures.left)
+    (came.ensures.line stepped) c.running.invariant.so.hand_is
+    (c.requires.taken.page ∙ sym (ap (λ n. n / PAGE_BYTES) c.pc-pc.ensures) ∙ page_now (stops_in c.args.stops) c.args.lines.now c.args.view.now c.running.view c.args.process.now c.running.process c.args.hand.now
+    c.running.hand c.args.most c.pc-pc.result c.count_from-count.result (take c.count_from-count.result c.words_from-words.result.now) c.running.rest.now c.running.invariant.so few_is c.running.invariant.within some_is inside_is aligned_is c.count_from-count.ensures.past)
 
 pub returns-then-not-is_on-clause-running : goal.returns-then-not-is_on-clause-running
 returns-then-not-is_on-clause-running c stepped =
-    runs_on (stops_in c.args.stops) c.args.view.now.space (guest_ahead c.args.hand.now.owed (guest_lent c.args.view.now c.args.process.now)) c.args.most c.running.k
-    c.args.hand.now.owed c.running.view c.execute_word-outcome.new.view c.running.process c.execute_word-outcome.new.process c.execute_word-outcome.result.0 c.running.invariant.space
-    (let turn = c.running-test.true in let few = c.count_from-count.ensures.few in omega (arith, turn, few)) c.running.invariant.all
-    (goes_past c.args.lines.now c.running.view c.args.hand.now c.place-from.result c.running.k c.running.process.regs.pc c.requires.taken.held.start c.requires.taken.held.low
-    (let turn = c.running-test.true in let fits = c.count_from-count.ensures.inside in omega (arith, turn, fits)) c.running.invariant.here (stops_in c.args.stops)
-    c.count_from-count.result c.requires.guarded c.count_from-count.ensures.alone c.running-test.true)
-    c.execute_word-outcome.ensures.outcome c.execute_word-outcome.ensures.after stepped c.running.invariant.running
+    let came = c.execute_word-outcome in
+    let few_is : c.count_from-count.result ≤ c.args.most = (let f = c.count_from-count.ensures.few in let m = c.min.ensures in omega (arith, f, m)) in
+    let inside_is : c.pc-pc.result / 4 % LINE_WORDS + c.count_from-count.result ≤ LINE_WORDS =
+    (let f = c.count_from-count.ensures.few in let m = c.min.ensures in let w = c.words_from-words.ensures.count in omega (arith, f, m, w)) in
+    let aligned_is = ap (λ n. n % 4) c.pc-pc.ensures ∙ c.requires.taken.aligned in
+    let some_is : 0 < length c.running.rest.now = (let test = c.running-test.true in let has = c.is_empty.ensures in grind (arith, nat_tests)) in
+    ends_running (stops_in c.args.stops) c.args.lines.now c.args.view.now c.running.view c.args.process.now c.running.process c.args.hand.now
+    c.running.hand c.args.most c.pc-pc.result c.count_from-count.result (take c.count_from-count.result c.words_from-words.result.now) c.running.rest.now c.running.invariant.so few_is c.running.invariant.within some_is inside_is aligned_is c.count_from-count.ensures.past came.new.view came.new.process came.result.0
+    came.ensures.outcome came.ensures.after stepped
 
 pub returns-then-not-is_on-clause-beside : goal.returns-then-not-is_on-clause-beside
 returns-then-not-is_on-clause-beside c =
-    both_beside c.args.view.now.space (spaces_lent c.args.view.now) (spaces_lent c.running.view) (spaces_lent c.execute_word-outcome.new.view) c.running.invariant.beside
-    (subst (λ p. IsBeside p (spaces_lent c.running.view) (spaces_lent c.execute_word-outcome.new.view)) c.running.invariant.space c.execute_word-outcome.ensures.beside)
-
--- another one
-pub running-preserved : goal.running-preserved
-running-preserved c =
-    let came = c.execute_word-outcome in
-    let so = c.running.invariant in
-    let turn = c.running-test.true in
-    let course = c.is_on.ensures c.if-not-is_on.false in
-    let step = came.ensures.on course in
-    let on = subst (λ (v : Course). Keeps v c.running.view came.new.view c.running.process.regs.pc came.new.process.regs.pc) course (came.ensures.line step) in
-    record {
-      loan = came.ensures.loan ∙ so.loan;
-      space = came.ensures.space ∙ so.space;
-      ready = came.ensures.ready;
-      all = one_so_far (stops_in c.args.stops) c.args.view.now.space (guest_ahead c.args.hand.now.owed (guest_lent c.args.view.now c.args.process.now)) c.args.most c.running.k
-          c.args.hand.now.owed c.running.view c.execute_word-outcome.new.view c.running.process c.execute_word-outcome.new.process c.execute_word-outcome.result.0 c.running.invariant.space
-          (let turn = c.running-test.true in let few = c.count_from-count.ensures.few in omega (arith, turn, few)) c.running.invariant.all
-          (goes_past c.args.lines.now c.running.view c.args.hand.now c.place-from.result c.running.k c.running.process.regs.pc c.requires.taken.held.start c.requires.taken.held.low
-          (let turn = c.running-test.true in let fits = c.count_from-count.ensures.inside in omega (arith, turn, fits)) c.running.invariant.here (stops_in c.args.stops)
-          c.count_from-count.result c.requires.guarded c.count_from-count.ensures.alone c.running-test.true)
-          c.execute_word-outcome.ensures.outcome c.execute_word-outcome.ensures.after step;
-      running = runs_on (stops_in c.args.stops) c.args.view.now.space (guest_ahead c.args.hand.now.owed (guest_lent c.args.view.now c.args.process.now)) c.args.most c.running.k
-          c.args.hand.now.owed c.running.view c.execute_word-outcome.new.view c.running.process c.execute_word-outcome.new.process c.execute_word-outcome.result.0 c.running.invariant.space
-          (let turn = c.running-test.true in let few = c.count_from-count.ensures.few in omega (arith, turn, few)) c.running.invariant.all
-          (goes_past c.args.lines.now c.running.view c.args.hand.now c.place-from.result c.running.k c.running.process.regs.pc c.requires.taken.held.start c.requires.taken.held.low
-          (let turn = c.running-test.true in let fits = c.count_from-count.ensures.inside in omega (arith, turn, fits)) c.running.invariant.here (stops_in c.args.stops)
-          c.count_from-count.result c.requires.guarded c.count_from-count.ensures.alone c.running-test.true)
-          c.execute_word-outcome.ensures.outcome c.execute_word-outcome.ensures.after step so.running;
-      saved = came.ensures.saved ∙ so.saved;
-      beside = both_beside c.args.view.now.space (spaces_lent c.args.view.now) (spaces_lent c.running.view) (spaces_lent c.execute_word-outcome.new.view) c.running.invariant.beside
-          (subst (λ p. IsBeside p (spaces_lent c.running.view) (spaces_lent c.execute_word-outcome.new.view)) c.running.invariant.space c.execute_word-outcome.ensures.beside);
-      kept = so.kept;
-      here = on_here c.args.hand.now.start c.place-from.result c.running.k c.running.process.regs.pc came.new.process.regs.pc c.requires.taken.held.start c.requires.taken.held.low
-          (let fits = c.count_from-count.ensures.inside in omega (arith, turn, fits)) so.here on.0;
-      hand = on.1 c.args.lines.now c.args.hand.now
-          (held_here c.args.lines.now c.running.view c.args.hand.now c.place-from.result c.running.k c.running.process.regs.pc c.requires.taken.held.start c.requires.taken.held.low
-          (let turn = c.running-test.true in let fits = c.count_from-count.ensures.inside in omega (arith, turn, fits)) c.running.invariant.here
-          c.running.invariant.hand)
-          (page_here c.args.lines.now c.running.view c.args.hand.now c.place-from.result c.running.k c.running.process.regs.pc c.requires.taken.held.start c.requires.taken.held.low
-          (let turn = c.running-test.true in let fits = c.count_from-count.ensures.inside in omega (arith, turn, fits)) c.running.invariant.here);
-      within = omega (arith, turn);
-    }
+    both_beside c.args.view.now.space (spaces_lent c.args.view.now) (spaces_lent c.running.view) (spaces_lent c.execute_word-outcome.new.view) c.running.invariant.so.beside
+    (subst (λ p. IsBeside p (spaces_lent c.running.view) (spaces_lent c.execute_word-outcome.new.view)) c.running.invariant.so.space c.execute_word-outcome.ensures.beside)
 
 -- all of them
 pub returns-clause-came : goal.returns-clause-came
 returns-clause-came c =
-    let within = c.running.invariant.within in
-    let end = c.running-test.false in
     let n = c.count_from-count.result in
-    let all : c.running.k ≡ n = omega (arith, within, end) in (
-      c.count_from-count.ensures.few,
-      subst (λ k. executions (stops_in c.args.stops) c.args.view.now.space c.args.most (guest_ahead c.args.hand.now.owed (guest_lent c.args.view.now c.args.process.now))
-          ≡ behind k (so_far k (stops_in c.args.stops) c.args.view.now.space (c.args.most - k) (guest_ahead (c.args.hand.now.owed + k) (guest_lent c.running.view c.running.process))))
-          all c.running.invariant.all
-          ∙ sym (ap (behind n) (is_so_far (stops_in c.args.stops) c.args.view.now.space n (c.args.most - n)
+    let so = c.running.invariant.so in
+    let stops = stops_in c.args.stops in
+    let few = c.count_from-count.ensures.few in
+    let m = c.min.ensures in
+    let all : n - length c.running.rest.now ≡ n = (let test = c.running-test.false in let has = c.is_empty.ensures in grind (arith, nat_tests)) in (
+      omega (arith, few, m),
+      subst (λ k. executions stops c.args.view.now.space c.args.most (guest_ahead c.args.hand.now.owed (guest_lent c.args.view.now c.args.process.now))
+          ≡ behind k (so_far k stops c.args.view.now.space (c.args.most - k) (guest_ahead (c.args.hand.now.owed + k) (guest_lent c.running.view c.running.process)))) all so.all
+          ∙ sym (ap (behind n) (is_so_far stops c.args.view.now.space n (c.args.most - n)
           (guest_ahead (c.args.hand.now.owed + n) (guest_lent c.running.view c.running.process)) c.count_from-count.ensures.some))
-          ∙ ap (λ (h : Hand). behind n (resumed (stops_in c.args.stops) c.args.view.now.space (c.args.most - n) (guest_ahead (h.owed + n) (guest_lent c.running.view c.running.process))))
-          (sym c.running.invariant.kept),
+          ∙ ap (λ (h : Hand). behind n (resumed stops c.args.view.now.space (c.args.most - n) (guest_ahead (h.owed + n) (guest_lent c.running.view c.running.process))))
+          (sym so.kept),
     )
 
 pub returns-clause-goes : goal.returns-clause-goes
 returns-clause-goes c done =
     let n = c.count_from-count.result in
-    goes_held (stops_in c.args.stops) c.args.lines.now c.running.view c.running.view c.args.hand.now
-    (record { start = c.running.hand.start; first = c.running.hand.first; owed = c.running.hand.owed + n; watched = c.running.hand.watched }) n c.running.process.regs.pc
-    c.running.process.regs.pc c.running.invariant.ready c.requires.guarded (ap (λ (h : Hand). h.owed + n) c.running.invariant.kept) c.count_from-count.ensures.some
-    c.running.invariant.hand (ap (λ (h : Hand). record { start = h.start; first = h.first; owed = h.owed + n; watched = h.watched }) c.running.invariant.kept)
+    let so = c.running.invariant.so in
+    same_lines c.args.lines.now c.running.view c.running.view c.args.hand.now
+    (record { page = c.running.hand.page; known = c.running.hand.known; owed = c.running.hand.owed + n }) n c.running.process.regs.pc
+    c.running.process.regs.pc so.ready (ap (λ (h : Hand). h.owed + n) so.kept) c.count_from-count.ensures.some
+    so.hand_is (ap (λ (h : Hand). record { page = h.page; known = h.known; owed = c.running.hand.owed + n }) so.kept)

@@ -1,29 +1,13 @@
-use Rattle.std.proofs.Common.{◌≡◌, ◌+◌, ◌-◌, ◌*◌, ◌%◌, ◌^◌, ◌≤◌}
-use Rattle.ovl_io.specs.declared.process_state.ProcessState.TheVariants.{Running}
-use Rattle.machine_core.specs.Access.{IsReadyView, spaces_lent}
-use Rattle.machine_core.specs.Ahead.{guest_ahead}
-use Rattle.machine_core.specs.Executions.{behind, executions, stops_in}
-use Rattle.machine_core.specs.Held.{IsInHand}
-use Rattle.machine_core.specs.Kept.{IsBeside, guest_lent}
-use Rattle.machine_core.proofs.Stepping.{so_far}
+use Rattle.std.proofs.Common.{◌-◌, ◌≤◌, length}
+use Rattle.machine_core.specs.Executions.{stops_in}
+use Rattle.machine_core.proofs.Runs.{AreRun}
 use Rattle.machine_core.proofs.stretches.run.Given as goal
 
--- those so far were steps, one behind the other, and the line is still in hand
 abbrev pub invariant-running : goal.invariant-running
 invariant-running l = record {
-  loan : l.view.memory.ghost_name ≡ l.fn.view.memory.ghost_name;
-  space : l.view.space ≡ l.fn.view.space;
-  ready : IsReadyView l.view;
-  all : executions (stops_in l.stops) l.fn.view.space l.most (guest_ahead l.fn.hand.owed (guest_lent l.fn.view l.fn.process))
-      ≡ behind l.k (so_far l.k (stops_in l.stops) l.fn.view.space (l.most - l.k) (guest_ahead (l.fn.hand.owed + l.k) (guest_lent l.view l.process)));
-  running : l.process.state ≡ Running;
-  saved : l.process.saved ≡ l.fn.process.saved;
-  beside : IsBeside l.fn.view.space (spaces_lent l.fn.view) (spaces_lent l.view);
-  kept : l.hand ≡ l.fn.hand;
-  here : l.process.regs.pc ≡ (l.fn.hand.start + 4 * (l.from + l.k)) % 2 ^ 64;
-  hand : IsInHand l.lines l.view l.fn.hand l.process.regs.pc;
-  within : l.k ≤ l.count;
+  so : AreRun (stops_in l.stops) l.lines l.fn.view l.view l.fn.process l.process l.fn.hand l.hand l.most l.pc l.initial.rest l.rest (l.count - length l.rest);
+  within : length l.rest ≤ l.count;
 }
 
 abbrev pub decreases-running : goal.decreases-running
-decreases-running l = l.count - l.k
+decreases-running l = length l.rest

@@ -19,7 +19,6 @@ stepping-init c = record {
   saved = refl;
   few = let none = c.requires.none in omega (arith, none);
   hand = c.requires.hand;
-  guarded = c.requires.guarded;
   beside = record { spaces = λ q other. refl; there = λ q. refl; awaiting = refl; mark = refl };
   within = omega arith;
 }
@@ -50,7 +49,6 @@ stepping-preserved c =
       saved = came.ensures.saved ∙ so.saved;
       few = omega (arith, owes, owed);
       hand = goes.hand_is;
-      guarded = goes.guarded;
       beside = both_beside p (spaces_lent c.args.view.now) (spaces_lent c.stepping.view) (spaces_lent came.new.view) so.beside
           (subst (λ q. IsBeside q (spaces_lent c.stepping.view) (spaces_lent came.new.view)) so.space came.ensures.beside);
       within = omega (arith, few, turn);

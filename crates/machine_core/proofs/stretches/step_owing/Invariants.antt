@@ -3,7 +3,7 @@ use Rattle.ovl_io.specs.declared.process_state.ProcessState.TheVariants.{Running
 use Rattle.machine_core.specs.Access.{IsReadyView, spaces_lent}
 use Rattle.machine_core.specs.Ahead.{guest_ahead}
 use Rattle.machine_core.specs.Executions.{behind, executions, stops_in}
-use Rattle.machine_core.specs.Held.{IsGuarded, IsInHand}
+use Rattle.machine_core.specs.Held.{IsInHand}
 use Rattle.machine_core.specs.Kept.{IsBeside, guest_lent}
 use Rattle.machine_core.proofs.stretches.step_owing.Given as goal
 
@@ -18,8 +18,7 @@ invariant-stepping l = record {
   running : l.process.state ≡ Running;
   saved : l.process.saved ≡ l.fn.process.saved;
   few : l.hand.owed ≤ l.steps;
-  hand : IsInHand l.lines l.view l.hand l.process.regs.pc;
-  guarded : IsGuarded (stops_in l.stops) l.hand;
+  hand : IsInHand l.lines l.view.memory.now l.view.space l.hand;
   beside : IsBeside l.fn.view.space (spaces_lent l.fn.view) (spaces_lent l.view);
   within : l.steps ≤ l.most;
 }

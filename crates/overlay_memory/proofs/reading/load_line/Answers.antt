@@ -1,34 +1,44 @@
-use Rattle.std.proofs.Common.{◌≡◌, length, refl, subst, arith}
-use Rattle.std.specs.Prelude.{Err, OnOk}
+use Rattle.std.proofs.Common.{◌≡◌, ◌/◌, length, subst, ap, ◌∙◌}
+use Rattle.std.specs.Prelude.{OnOk}
 use Rattle.ovl_io.specs.Memory.{bytes_at}
 use Rattle.overlay_memory.specs.Access.{Reads}
-use Rattle.overlay_memory.specs.declared.error.MemoryError.TheVariants.{Unmapped}
-use Rattle.overlay_memory.proofs.Fronting.{line_found, line_space}
-use Rattle.overlay_memory.proofs.Pieced.{reads_of}
+use Rattle.overlay_memory.proofs.Fronting.{hits_fronts, hits_true, known_found, known_translated, line_found, line_space}
 use Rattle.overlay_memory.proofs.reading.load_line.Goals as goal
 use Rattle.overlay_pages.specs.State.{memory_of}
 use Rattle.overlay_pages.specs.View.{state_of}
+use Rattle.translation_cache.specs.Bare.{bare, bare_hits}
 
 pub read_found-requires-clause-found : goal.read_found-requires-clause-found
 read_found-requires-clause-found c =
-    line_found c.args.pages.now c.args.space c.args.address c.line_of.result c.in-Some.page c.line.result c.in-Some.ensures.found c.line_of.ensures.line
-    (c.line.ensures c.args.pages.now c.in-Some.ensures.found.is)
+    let at = known_found c.args.pages.now c.args.space (c.args.address / 4096) c.in-Some.page.now (bare c.args.cache.now) c.args.fronts.now c.requires.fronts c.in-Some.ensures in
+    line_found c.args.pages.now c.args.space c.args.address c.line_of.result c.in-Some.page.now c.line.result at c.line_of.ensures.line (c.line.ensures c.args.pages.now at.is)
 
 pub returns-in-Some-clause-access : goal.returns-in-Some-clause-access
 returns-in-Some-clause-access c =
+    let at = known_found c.args.pages.now c.args.space (c.args.address / 4096) c.in-Some.page.now (bare c.args.cache.now) c.args.fronts.now c.requires.fronts c.in-Some.ensures in
     subst (λ s. Reads (state_of c.args.pages.now) s c.args.need.0 c.args.address (length c.args.into.now) c.read_found.result)
-    (line_space c.args.pages.now c.args.space c.args.address c.line_of.result c.in-Some.page c.line.result c.in-Some.ensures.found c.line_of.ensures.line
-    (c.line.ensures c.args.pages.now c.in-Some.ensures.found.is))
+    (line_space c.args.pages.now c.args.space c.args.address c.line_of.result c.in-Some.page.now c.line.result at c.line_of.ensures.line
+    (c.line.ensures c.args.pages.now at.is))
     c.read_found.ensures.access
 
 pub returns-in-Some-clause-bytes : goal.returns-in-Some-clause-bytes
 returns-in-Some-clause-bytes c =
+    let at = known_found c.args.pages.now c.args.space (c.args.address / 4096) c.in-Some.page.now (bare c.args.cache.now) c.args.fronts.now c.requires.fronts c.in-Some.ensures in
     subst (λ s. OnOk c.read_found.result (c.read_found.new.into ≡ bytes_at (memory_of (state_of c.args.pages.now) s) c.args.address (length c.args.into.now)))
-    (line_space c.args.pages.now c.args.space c.args.address c.line_of.result c.in-Some.page c.line.result c.in-Some.ensures.found c.line_of.ensures.line
-    (c.line.ensures c.args.pages.now c.in-Some.ensures.found.is))
+    (line_space c.args.pages.now c.args.space c.args.address c.line_of.result c.in-Some.page.now c.line.result at c.line_of.ensures.line
+    (c.line.ensures c.args.pages.now at.is))
     c.read_found.ensures.bytes
 
-pub returns-in-None-clause-access : goal.returns-in-None-clause-access
-returns-in-None-clause-access c =
-    reads_of c.args.pages.now c.args.space c.args.need.0 c.args.address (length c.args.into.now) (Err (Unmapped c.args.address)) c.requires.some
-    (omega (arith, c.requires.one_line)) (refl, c.in-None.ensures.found)
+pub returns-in-Some-clause-translated : goal.returns-in-Some-clause-translated
+returns-in-Some-clause-translated c =
+    known_translated c.args.pages.now c.args.space (c.args.address / 4096) c.in-Some.page.now (bare c.args.cache.now) c.args.fronts.now c.requires.fronts c.in-Some.ensures
+    (bare c.count_hits.new.self) (ap bare c.count_hits.ensures ∙ bare_hits 1 c.args.cache.now)
+
+pub returns-in-Some-clause-held : goal.returns-in-Some-clause-held
+returns-in-Some-clause-held c =
+    hits_true (state_of c.args.pages.now) c.args.cache.now c.count_hits.new.self 1 c.count_hits.ensures c.requires.held
+
+pub returns-in-Some-clause-fronts : goal.returns-in-Some-clause-fronts
+returns-in-Some-clause-fronts c =
+    hits_fronts c.args.pages.now (bare c.args.cache.now) (bare c.count_hits.new.self) 1 c.args.fronts.now
+    (ap bare c.count_hits.ensures ∙ bare_hits 1 c.args.cache.now) c.requires.fronts

@@ -1,41 +1,24 @@
-use Rattle.std.proofs.Common.{◌≡◌, ◌+◌, ◌*◌, ◌/◌, ◌%◌, true, sym, ◌∙◌}
-use Rattle.ovl_io.specs.Permissions.{writable}
-use Rattle.overlay_pages.specs.View.{state_of}
-use Rattle.overlay_pages.specs.Changes.{is_writable}
-use Rattle.overlay_pages.specs.SpotLaws.{found_at}
-use Rattle.overlay_memory.specs.Pieces.{IsFilled}
-use Rattle.overlay_memory.proofs.Fronting.{at_address, filled_fronts, line_there, may_be_used, none_known}
-use Rattle.overlay_memory.proofs.InOne.{stored_in_line}
-use Rattle.overlay_memory.proofs.Truths.{filled_true}
+use Rattle.std.proofs.Common.{◌/◌, ap, ◌∙◌}
+use Rattle.overlay_memory.proofs.Fronting.{hits_fronts, hits_true, known_found, known_translated}
 use Rattle.overlay_memory.proofs.storing.store_line.Goals as goal
-use Rattle.translation_cache.specs.Bare.{bare}
+use Rattle.overlay_pages.specs.View.{state_of}
+use Rattle.translation_cache.specs.Bare.{bare, bare_hits}
 
-pub returns-then-is_writable-clause-stores : goal.returns-then-is_writable-clause-stores
-returns-then-is_writable-clause-stores c =
-    let view = c.args.pages.now in
-    let at = c.in-Some.ensures.found in
-    let line_is = c.line_of-line.ensures.line in
-    let it = c.line.ensures view at.is in
-    let new = state_of c.put.new.pages in
-    let bytes = c.args.bytes.now in
-    stored_in_line view new c.args.space c.args.address bytes
-    (may_be_used view c.args.space c.args.address c.line_of-line.result c.in-Some.page c.line.result at line_is it writable c.put.ensures.joined
-    (sym (c.contains.ensures tt) ∙ c.if-contains.true))
-    c.requires.some c.requires.one_line
-    (at_address view c.args.space c.args.address c.line_of-line.result c.in-Some.page c.line.result at line_is it
-    (λ s p l. is_writable (state_of view) s p l ≡ true) (sym (c.is_writable.ensures view at.is) ∙ c.if-is_writable.true))
-    (found_at view c.args.space (c.args.address / 4096) (c.args.address / 64 % 64) c.line.result
-    (line_there view c.args.space c.args.address c.line_of-line.result c.in-Some.page c.line.result at line_is it)
-    (λ s p l. IsFilled (state_of view) new s (4096 * p + (64 * l + c.args.address % 64)) bytes) c.put.ensures.filled)
+pub store_found-requires-clause-found : goal.store_found-requires-clause-found
+store_found-requires-clause-found c =
+    known_found c.args.pages.now c.args.space (c.args.address / 4096) c.in-Some.page.now (bare c.args.cache.now) c.args.fronts.now c.requires.fronts c.in-Some.ensures
 
-pub returns-then-is_writable-clause-held : goal.returns-then-is_writable-clause-held
-returns-then-is_writable-clause-held c =
-    filled_true (state_of c.args.pages.now) (state_of c.put.new.pages) c.line.result.space _ c.args.bytes.now c.translate.new.cache c.put.ensures.filled
-    c.translate.ensures.held
+pub store_found-requires-clause-held : goal.store_found-requires-clause-held
+store_found-requires-clause-held c =
+    hits_true (state_of c.args.pages.now) c.args.cache.now c.count_hits.new.self 1 c.count_hits.ensures c.requires.held
 
-pub returns-then-is_writable-clause-fronts : goal.returns-then-is_writable-clause-fronts
-returns-then-is_writable-clause-fronts c =
-    filled_fronts c.args.pages.now c.put.new.pages (bare c.translate.new.cache) c.translate.new.fronts c.put.ensures.table c.in-Some.ensures.fronts
+pub store_found-requires-clause-fronts : goal.store_found-requires-clause-fronts
+store_found-requires-clause-fronts c =
+    hits_fronts c.args.pages.now (bare c.args.cache.now) (bare c.count_hits.new.self) 1 c.args.fronts.now
+    (ap bare c.count_hits.ensures ∙ bare_hits 1 c.args.cache.now) c.requires.fronts
 
-pub returns-clause-fronts : goal.returns-clause-fronts
-returns-clause-fronts c = none_known _ _ _ c.clear.ensures
+pub returns-in-Some-clause-translated : goal.returns-in-Some-clause-translated
+returns-in-Some-clause-translated c =
+    c.store_found.ensures.lists
+    ∙ known_translated c.args.pages.now c.args.space (c.args.address / 4096) c.in-Some.page.now (bare c.args.cache.now) c.args.fronts.now c.requires.fronts c.in-Some.ensures
+    (bare c.count_hits.new.self) (ap bare c.count_hits.ensures ∙ bare_hits 1 c.args.cache.now)

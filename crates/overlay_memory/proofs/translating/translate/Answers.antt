@@ -6,16 +6,16 @@ use Rattle.translation_cache.specs.Bare.{bare, bare_hits}
 
 pub returns-in-Some-clause-found : goal.returns-in-Some-clause-found
 returns-in-Some-clause-found c =
-    known_found c.args.pages.now c.args.space c.args.page c.in-Some.found (bare c.args.cache.now) c.args.fronts.now c.requires.fronts c.in-Some.ensures
+    known_found c.args.pages.now c.args.space c.args.page c.in-Some.found.now (bare c.args.cache.now) c.args.fronts.now c.requires.fronts c.in-Some.ensures
 
 pub returns-in-Some-clause-front : goal.returns-in-Some-clause-front
 returns-in-Some-clause-front c =
-    known_front c.args.pages.now c.args.space c.args.page c.in-Some.found (bare c.args.cache.now) c.args.fronts.now c.requires.fronts c.in-Some.ensures
+    known_front c.args.pages.now c.args.space c.args.page c.in-Some.found.now (bare c.args.cache.now) c.args.fronts.now c.requires.fronts c.in-Some.ensures
     (bare c.count_hits.new.self) (ap bare c.count_hits.ensures ∙ bare_hits 1 c.args.cache.now)
 
 pub returns-in-Some-clause-translated : goal.returns-in-Some-clause-translated
 returns-in-Some-clause-translated c =
-    known_translated c.args.pages.now c.args.space c.args.page c.in-Some.found (bare c.args.cache.now) c.args.fronts.now c.requires.fronts c.in-Some.ensures
+    known_translated c.args.pages.now c.args.space c.args.page c.in-Some.found.now (bare c.args.cache.now) c.args.fronts.now c.requires.fronts c.in-Some.ensures
     (bare c.count_hits.new.self) (ap bare c.count_hits.ensures ∙ bare_hits 1 c.args.cache.now)
 
 pub returns-in-Some-clause-held : goal.returns-in-Some-clause-held

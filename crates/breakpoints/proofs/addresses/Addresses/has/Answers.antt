@@ -1,17 +1,6 @@
-use Rattle.std.proofs.Common.{sym, ap, ◌∙◌}
-use Rattle.std.specs.FinSet as set
-use Rattle.overlay_bits.specs.Lines.{has_line}
-use Rattle.breakpoints.specs.Marks.{word_of}
-use Rattle.breakpoints.proofs.Marking.{none_marked}
+use Rattle.std.proofs.Common.{sym, ◌∙◌}
 use Rattle.breakpoints.proofs.Sets.{has_is}
 use Rattle.breakpoints.proofs.addresses.Addresses.has.Goals as goal
 
-pub returns-then-has : goal.returns-then-has
-returns-then-has c = rw (← c.self.view_is) (c.contains.ensures ∙ sym (has_is c.self.inside.found.keys c.args.address))
-
-pub returns-else-has : goal.returns-else-has
-returns-else-has c =
-    c.if-has.false
-    ∙ sym (ap (λ s. set.contains s c.args.address) (sym c.self.view_is)
-    ∙ none_marked c.self.inside.found.keys c.self.inside.marks c.args.address c.self.invariant
-    (ap (λ m. has_line m (word_of c.args.address)) (sym c.mark_of.ensures.mark) ∙ ap (has_line c.mark_of.result) (sym c.word_of.ensures.word) ∙ sym c.has.ensures.has ∙ c.if-has.false))
+pub returns-then-may_have : goal.returns-then-may_have
+returns-then-may_have c = rw (← c.self.view_is) (c.contains.ensures ∙ sym (has_is c.self.inside.found.keys c.args.address))

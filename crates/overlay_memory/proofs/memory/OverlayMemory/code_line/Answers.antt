@@ -10,9 +10,9 @@ returns-then-contains c =
     let pages = c.self.inside.pages in
     let t = bare c.self.inside.cache in
     let so = c.in-Some.ensures in
-    let at = known_found pages c.args.space (c.args.address / 4096) c.in-Some.page t c.self.inside.fronts c.self.invariant.1 so in
+    let at = known_found pages c.args.space (c.args.address / 4096) c.in-Some.page.now t c.self.inside.fronts c.self.invariant.1 so in
     subst (λ (m : TranslatedView). IsCodeLine m c.args.space c.args.address c.line_at.result.now) c.self.view_is
-    (code_there pages c.args.space c.args.address c.line_of.result c.in-Some.page c.line.result at c.line_of.ensures.line (c.line.ensures pages at.is)
+    (code_there pages c.args.space c.args.address c.line_of.result c.in-Some.page.now c.line.result at c.line_of.ensures.line (c.line.ensures pages at.is)
     c.self.inside.cache c.line_at.result.now (sym (c.contains.ensures tt) ∙ c.if-contains.true)
-    (known_head pages c.args.space (c.args.address / 4096) c.in-Some.page t c.self.inside.fronts c.self.invariant.1 so).front
+    (known_head pages c.args.space (c.args.address / 4096) c.in-Some.page.now t c.self.inside.fronts c.self.invariant.1 so).front
     c.line_at.ensures.value c.line_at.ensures.bytes)
