@@ -532,7 +532,7 @@ impl OverlayPages {
     }
 
     /// Shares a page with a space in which it awaits as the least, with the frame that it has: it gets its lines, and an overlay
-    /// of its own. The units after it are there. Takes no memory. Costs a copy of each own line.
+    /// of its own. The units after it are there. Takes no memory. Costs one copy of the overlay's block.
     pub fn share_page(&mut self, from: u16, to: u16, page: u64)
         requires there { IsSome (page_in (state_of self.old) from page) }
         requires space { holds_space (state_of self.old) to ≡ true }
