@@ -1,7 +1,7 @@
-use Rattle.overlay_pages.proofs.Common.{option_map, ◌≡◌, ℕ, ◌+◌, ◌*◌, ◌<◌, ◌≤◌, Bool, true, false, cond, List, [], Option, Some, None, IfSome, IsSome, drop, take, get_or, refl, sym, ap, subst, ◌∙◌, arith, same_Some, empty}
-use Rattle.overlay_pages.proofs.Stores.{has_line, composed, composed_at, Entry, Store, frame_line, frame_page, line_in, scratch_line, scratch_page, KeepsFrames}
+use Rattle.overlay_pages.proofs.Common.{option_map, ◌≡◌, ℕ, ◌+◌, ◌<◌, ◌≤◌, Bool, true, false, cond, List, [], Option, Some, None, IfSome, IsSome, refl, sym, ap, subst, ◌∙◌, arith, same_Some, empty}
+use Rattle.overlay_pages.proofs.Stores.{has_line, Entry, FillsFrame, Store, composed_line, frame_line, line_in, scratch_line, KeepsFrames}
 use Rattle.overlay_pages.proofs.Books.{Ledger, has_origin, holding_at, is_alone, put_again, class_none, origin_with, books_page, books_put_page, keeps_page_put, page_over, page_put_here, there_space, page_in, put_page, space_in, turned_page, LedgerView, PageView, ledger_of, lines_of, overlay_at, changed_there}
-use Rattle.overlay_pages.proofs.Views.{line_in_page, page_lines, same_lines, lines_same, PageState, State, books, held_page, HasCopyRoom, IsNewFrame, IsPlaced, committed, copied, discarded, limit_of, moved_to, units_of, FillsFrame, IsHeld, IsJoined, MemoryView, line_seen, page_state, state_of, view_of, state_awaiting, state_books, state_holds, state_page_there}
+use Rattle.overlay_pages.proofs.Views.{page_lines, lines_same, PageState, State, books, held_page, HasCopyRoom, IsNewFrame, IsPlaced, committed, copied, discarded, limit_of, moved_to, units_of, IsHeld, IsJoined, MemoryView, line_seen, page_state, state_of, view_of, state_awaiting, state_books, state_holds, state_page_there}
 use Rattle.overlay_pages.proofs.Steps.{alone_other, rewritten, seen_bare, seen_inside, seen_outside}
 use Rattle.overlay_pages.proofs.Joining.{Has, page_with}
 use Rattle.overlay_pages.proofs.Growing.{turned_units}
@@ -55,10 +55,6 @@ page_frame v s p x frame there framed = same_Some _ _ (sym (ap (option_map (λ (
 
 -- A page that is copied: its overlay ends, and it gets a frame with its lines.
 
--- the lines of a frame and of scratch, as a page
-page_line : (n at i : ℕ) (lines : List (List ℕ)) → i < n → get_or (take n (drop at lines)) i [] ≡ get_or lines (at + i) []
-page_line n at i lines low = Rattle.std.proofs.lemmas.List.get_or-take n (drop at lines) i [] low ∙ Rattle.std.proofs.lemmas.List.get_or-drop at lines i []
-
 -- A page that has an overlay, as the state has it once that ended.
 module _ (a : MemoryView) (s p : ℕ) (e : Entry) (is : IsJoined a) (there : IsSome (page_in a.table s p)) (over : overlay_at a.table s p ≡ Some e) where
   abbrev own : Has a.table s p (Some e)
@@ -107,34 +103,30 @@ module _ (a : MemoryView) (s p : ℕ) (e : Entry) (is : IsJoined a) (there : IsS
           ∙ ap (λ (l : Ledger). has_origin l (frame + 1)) (put_again (books (state_of a)) s p (held_page (state_of a).zero_frame was) held_before)
 
   -- the lines that were composed are those that the page has
-  pub composed_lines_are : (d : MemoryView) (frame : ℕ) (out : List (List ℕ)) → ((i : ℕ) → i < 64 → has_line e.bits i ≡ true → scratch_line d.store i ≡ line_in a.store e.block i)
-      → KeepsFrames a.store d.store → own.x.entry.frame ≡ frame → out ≡ composed (frame_page d.store frame) (scratch_page d.store) e.bits → same_lines out ≡ was.lines
-  unfolding same_lines page_state
-  composed_lines_are d frame out lifted frames frame_is out_is = lines_same (line_in_page out) (line_seen a.store own.x) each
+  pub composed_lines_are : (d : MemoryView) (frame : ℕ) → ((i : ℕ) → i < 64 → has_line e.bits i ≡ true → scratch_line d.store i ≡ line_in a.store e.block i)
+      → KeepsFrames a.store d.store → own.x.entry.frame ≡ frame → page_lines (composed_line d.store frame e.bits) ≡ was.lines
+  unfolding page_state
+  composed_lines_are d frame lifted frames frame_is = lines_same (composed_line d.store frame e.bits) (line_seen a.store own.x) (λ i low. pulled (has_line e.bits i) i refl low)
     where
       held : IsHeld a.store s p own.x
       held = is.held s p own.x own.there
 
-      pulled : (t : Bool) (i : ℕ) → has_line e.bits i ≡ t → i < 64 → cond t (get_or (scratch_page d.store) i []) (get_or (frame_page d.store frame) i []) ≡ line_seen a.store own.x i
-      pulled true i has low =
-          page_line 64 (Rattle.segment_store.specs.Store.scratch_place d.store) i d.store.lines low ∙ lifted i low has ∙ sym (seen_inside a.store own.x e i own.is has)
+      pulled : (t : Bool) (i : ℕ) → has_line e.bits i ≡ t → i < 64 → cond t (scratch_line d.store i) (frame_line d.store frame i) ≡ line_seen a.store own.x i
+      pulled true i has low = lifted i low has ∙ sym (seen_inside a.store own.x e i own.is has)
       pulled false i has low =
-          page_line 64 (64 * frame) i d.store.lines low ∙ ap (λ f. frame_line d.store f i) (sym frame_is) ∙ (frames own.x.entry.frame held.frame).lines i low
+          ap (λ f. frame_line d.store f i) (sym frame_is) ∙ (frames own.x.entry.frame held.frame).lines i low
           ∙ sym (seen_outside a.store own.x i (ap (λ (o : Option Entry). has_line (lines_of o) i) own.is ∙ has))
 
-      each : (i : ℕ) → i < 64 → line_in_page out i ≡ line_seen a.store own.x i
-      each i low = ap (λ l. get_or l i []) out_is ∙ composed_at (frame_page d.store frame) (scratch_page d.store) e.bits 64 i [] low ∙ pulled (has_line e.bits i) i refl low
-
-  pub copied_at : (d new : MemoryView) (out : List (List ℕ)) → state_of d ≡ turned_page discarded (state_of a) s p → same_lines out ≡ was.lines
-      → IfSome (page_in (state_of d) s p) (λ x. IsPlaced (state_of d) (state_of new) s p (moved_to x (same_lines out)))
+  pub copied_at : (d new : MemoryView) (lines : List (List ℕ)) → state_of d ≡ turned_page discarded (state_of a) s p → lines ≡ was.lines
+      → IfSome (page_in (state_of d) s p) (λ x. IsPlaced (state_of d) (state_of new) s p (moved_to x lines))
       → IfSome (page_in (state_of a) s p) (λ x. IsPlaced (state_of a) (state_of new) s p (λ frame. copied frame x))
-  copied_at d new out d_state lines placed =
+  copied_at d new lines d_state lines_are placed =
       subst (λ o. IfSome o (λ x. IsPlaced (state_of a) (state_of new) s p (λ frame. copied frame x))) (sym was_there)
-      (let at : IsPlaced (put_page (state_of a) s p (discarded was)) (state_of new) s p (moved_to (discarded was) (same_lines out)) =
-      subst (λ st. IsPlaced st (state_of new) s p (moved_to (discarded was) (same_lines out))) (d_state ∙ bare_is)
-      (subst (λ o. IfSome o (λ x. IsPlaced (state_of d) (state_of new) s p (moved_to x (same_lines out)))) (dropped_page d d_state) placed) in
+      (let at : IsPlaced (put_page (state_of a) s p (discarded was)) (state_of new) s p (moved_to (discarded was) lines) =
+      subst (λ st. IsPlaced st (state_of new) s p (moved_to (discarded was) lines)) (d_state ∙ bare_is)
+      (subst (λ o. IfSome o (λ x. IsPlaced (state_of d) (state_of new) s p (moved_to x lines))) (dropped_page d d_state) placed) in
       record {
         frame = at.frame;
         fresh = new_then at.frame at.fresh;
-        placed = at.placed ∙ page_over (state_of a) s p (discarded was) (moved_to (discarded was) (same_lines out) at.frame) ∙ ap (λ l. put_page (state_of a) s p (moved_to was l at.frame)) lines;
+        placed = at.placed ∙ page_over (state_of a) s p (discarded was) (moved_to (discarded was) lines at.frame) ∙ ap (λ l. put_page (state_of a) s p (moved_to was l at.frame)) lines_are;
       })

@@ -1,6 +1,6 @@
 use Rattle.overlay_pages.proofs.Common.{◌≡◌, ℕ, ◌+◌, ◌*◌, ◌<◌, ◌⊎◌, ◌||◌, Bool, true, false, cond, List, [], ◌∷◌, ◌++◌, None, refl, sym, ap, ◌∙◌, arith, inl, inr, cases_eq, nat_tests, get_or-set_other}
-use Rattle.overlay_pages.proofs.Stores.{Block, AreLines, has_line, has_next, has_append, IsStore, Store, IsFrame, IsSegment, frame_line, line_in, lines_at, with_frame_line, KeepsSegments, block_of, frame_alters, frame_inside, frame_set_here, frame_set_store, frame_stays, scratch_stays, segments_stay, stays_twice}
-use Rattle.overlay_pages.proofs.Views.{FillsFrame, PutsLine}
+use Rattle.overlay_pages.proofs.Stores.{FillsFrame, Block, AreLines, has_line, has_next, has_append, IsStore, Store, IsFrame, IsSegment, frame_line, line_in, lines_at, with_frame_line, KeepsSegments, block_of, frame_alters, frame_inside, frame_set_here, frame_set_store, frame_stays, scratch_stays, segments_stay, stays_twice}
+use Rattle.overlay_pages.proofs.Views.{PutsLine}
 
 -- A frame is filled.
 

@@ -1,11 +1,12 @@
 //! Frames that are filled, and lines that go from overlays into them.
 
-ghost use Rattle.std.specs.Prelude.{◌≡◌, ℕ, ◌*◌, ◌<◌, [], cond, drop, take, slice_index_or};
+ghost use Rattle.std.specs.Prelude.{◌≡◌, ℕ, ◌*◌, ◌<◌, cond, drop, take};
 ghost use Rattle.sizes.specs.declared.TheConstants.{LINE_BYTES, PAGE_LINES};
 ghost use Rattle.overlay_bits.specs.Lines.{has_line};
 ghost use Rattle.segment_store.specs.Kept.{IsStore};
 ghost use Rattle.segment_store.specs.Store.{IsFrame, IsSegment, frame_line, line_in, lines_at};
-ghost use Rattle.overlay_pages.specs.Steps.{FillsFrame, PutsLine};
+ghost use Rattle.segment_store.specs.Changes.{FillsFrame};
+ghost use Rattle.overlay_pages.specs.Steps.{PutsLine};
 
 use overlay_bits::Bits;
 use segment_store::SegmentStore;
@@ -20,19 +21,6 @@ fn put_line(store: &mut SegmentStore, frame: u32, line: u8, bytes: &[u8; 64])
     ensures { PutsLine store.old store.new frame line bytes.now }
 {
     *store.frame_line_mut(frame, line) = *bytes;
-}
-
-/// The lines of a frame, which is taken, become these.
-pub(crate) fn fill_lines(store: &mut SegmentStore, frame: u32, lines: &[[u8; 64]; 64])
-    requires store { IsStore store.old }
-    requires frame { IsFrame store.old frame }
-    ensures fills { FillsFrame store.old store.new frame }
-    ensures lines { (i : ℕ) → i < PAGE_LINES
-        → frame_line store.new frame i ≡ slice_index_or lines.now i [] }
-{
-    'filling: for i in 0..64u8 {
-        put_line(store, frame, i, &lines[usize::from(i)]);
-    }
 }
 
 /// The bytes of a frame, which is taken, become these.
