@@ -1,10 +1,10 @@
 use Rattle.overlay_pages.proofs.Common.{option_map, ◌≡◌, ℕ, ◌+◌, ◌<◌, ◌≤◌, Bool, true, false, cond, List, [], Option, Some, None, IfSome, IsSome, refl, sym, ap, subst, ◌∙◌, arith, same_Some, empty}
-use Rattle.overlay_pages.proofs.Stores.{has_line, Entry, FillsFrame, Store, composed_line, frame_line, line_in, scratch_line, KeepsFrames}
+use Rattle.overlay_pages.proofs.Stores.{has_line, Entry, FillsFrame, IsStore, Lifts, Store, composed_line, frame_line, line_in, scratch_line, KeepsFrames, KeepsSegments}
 use Rattle.overlay_pages.proofs.Books.{Ledger, has_origin, holding_at, is_alone, put_again, class_none, origin_with, books_page, books_put_page, keeps_page_put, page_over, page_put_here, there_space, page_in, put_page, space_in, turned_page, LedgerView, PageView, ledger_of, lines_of, overlay_at, changed_there}
 use Rattle.overlay_pages.proofs.Views.{page_lines, lines_same, PageState, State, books, held_page, HasCopyRoom, IsNewFrame, IsPlaced, committed, copied, discarded, limit_of, moved_to, units_of, IsHeld, IsJoined, MemoryView, line_seen, page_state, state_of, view_of, state_awaiting, state_books, state_holds, state_page_there}
 use Rattle.overlay_pages.proofs.Steps.{alone_other, rewritten, seen_bare, seen_inside, seen_outside}
 use Rattle.overlay_pages.proofs.Joining.{Has, page_with}
-use Rattle.overlay_pages.proofs.Growing.{turned_units}
+use Rattle.overlay_pages.proofs.Growing.{all_kept, turned_units}
 use Rattle.overlay_pages.proofs.NewFrames.{new_still}
 use Rattle.overlay_pages.proofs.Joining.{turned_still}
 
@@ -19,18 +19,6 @@ filled_up v new s p x frame is there frame_is alone fills = rewritten v new s p 
   segments = λ unit segment _ at_unit. fills.segments unit segment at_unit;
   frames = λ f taken other. fills.frames f (λ same. alone_other v.table s p x there alone f other (same ∙ sym frame_is)) taken;
 })
-
--- The lines of the overlay are in the frame; once the overlay ended, the page is committed.
-pub committed_page : (old new : Store) (x : PageView) (e : Entry) (frame : ℕ) → x.overlay ≡ Some e → x.entry.frame ≡ frame
-    → ((i : ℕ) → i < 64 → frame_line new frame i ≡ cond (has_line e.bits i) (line_in old e.block i) (frame_line old frame i)) → discarded (page_state new x) ≡ committed (page_state old x)
-unfolding page_state
-committed_page old new x e frame over frame_is lines =
-    let same = lines_same (frame_line new x.entry.frame) (line_seen old x) (λ i low. ap (λ f. frame_line new f i) frame_is ∙ lines i low ∙ seen i (has_line e.bits i) refl) in
-    λ i. record { entry = x.entry; own = []; lines = same i; base = same i }
-  where
-    seen : (i : ℕ) (b : Bool) → has_line e.bits i ≡ b → cond b (line_in old e.block i) (frame_line old frame i) ≡ line_seen old x i
-    seen i true has = sym (seen_inside old x e i over has)
-    seen i false lacks = ap (λ f. frame_line old f i) (sym frame_is) ∙ sym (seen_outside old x i (ap (λ (o : Option Entry). has_line (lines_of o) i) over ∙ lacks))
 
 pub bare_committed : (v : MemoryView) (s p : ℕ) → Has v.table s p None → state_of v ≡ turned_page committed (state_of v) s p
 unfolding page_state
@@ -116,6 +104,21 @@ module _ (a : MemoryView) (s p : ℕ) (e : Entry) (is : IsJoined a) (there : IsS
       pulled false i has low =
           ap (λ f. frame_line d.store f i) (sym frame_is) ∙ (frames own.x.entry.frame held.frame).lines i low
           ∙ sym (seen_outside a.store own.x i (ap (λ (o : Option Entry). has_line (lines_of o) i) own.is ∙ has))
+
+  -- A page that is alone: they come into its frame, and once the overlay ended it is committed.
+  pub committing : (mid new : Store) (frame : ℕ) → own.x.entry.frame ≡ frame → is_alone (ledger_of a.table) s p ≡ true → Lifts a.store mid e.block e.bits → KeepsSegments a.store mid → KeepsFrames a.store mid → IsStore mid
+      → FillsFrame mid new frame → ((i : ℕ) → i < 64 → frame_line new frame i ≡ composed_line mid frame e.bits i)
+      → IsJoined (view_of new a.table) × ((c : MemoryView) → state_of c ≡ turned_page discarded (state_of (view_of new a.table)) s p → state_of c ≡ turned_page committed (state_of a) s p)
+  unfolding page_state
+  committing mid new frame frame_is alone lifts segments frames mid_is fills lines =
+      let still = all_kept a.store mid a.table is segments frames lifts.blocks lifts.segments mid_is in
+      let filled = filled_up (view_of mid a.table) new s p own.x frame still.0 own.there frame_is alone fills in
+      let same = lines_same (frame_line new own.x.entry.frame) (composed_line mid frame e.bits) (λ i low. ap (λ f. frame_line new f i) frame_is ∙ lines i low)
+      ∙ composed_lines_are (view_of mid a.table) frame (λ i low has. lifts.lifted i has) frames frame_is in (
+        filled.0,
+        λ c. commits a (view_of new a.table) c s p own.x own.there (filled.1 ∙ ap (λ st. put_page st s p (page_state new own.x)) still.1)
+            (λ i. record { entry = own.x.entry; own = []; lines = same i; base = same i }),
+      )
 
   pub copied_at : (d new : MemoryView) (lines : List (List ℕ)) → state_of d ≡ turned_page discarded (state_of a) s p → lines ≡ was.lines
       → IfSome (page_in (state_of d) s p) (λ x. IsPlaced (state_of d) (state_of new) s p (moved_to x lines))

@@ -75,7 +75,7 @@ module _ (old new : Store) (owner order : ℕ) (bits : List ℕ) (block : Block)
     fresh = fresh;
     segments = segments;
     there = there;
-    blocks = asked;
+    asked = asked;
     only = only;
     others = segments_stay old new block.unit (4 * block.unit) (4 * 2 ^ block.order) (alters lines) fresh;
     frames = λ frame f. frame_stays old new block.unit (4 * block.unit) (4 * 2 ^ block.order) (alters lines) frame f (fresh_frame old block.unit block.order apart frame f);

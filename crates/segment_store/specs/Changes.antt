@@ -70,7 +70,7 @@ pub record BeginsSegment (old new : Store) (owner order : ℕ) (bits : List ℕ)
   pub fresh : segment_at old block.unit ≡ None
   pub segments : new.segments ≡ slice_set old.segments block.unit (Some (record { owner = owner; order = block.order; bits = bits }))
   pub there : segment_at new block.unit ≡ Some (record { owner = owner; order = block.order; bits = bits })
-  pub blocks : TakesAsked old.blocks order new.blocks block
+  pub asked : TakesAsked old.blocks order new.blocks block
   pub only : OnlyTakes old.blocks block.unit block.order new.blocks
   pub others : KeepsSegments old new
   pub frames : KeepsFrames old new

@@ -341,18 +341,17 @@ impl SegmentStore {
         slots::set_lines(&mut self.slots, block.unit, bits);
     }
 
-    /// Composes a page of a frame, which is one of the store's, and scratch, in another frame, which has to be taken: each line of the
-    /// set is that of scratch, any other one that of the frame. Nothing else changes. Costs one copy of 64 lines, and one for each line
-    /// of the set.
+    /// Composes a page of a frame, which is one of the store's, and scratch, in a frame that is taken, maybe the same: each line of the
+    /// set is that of scratch, any other one that of the frame. Nothing else changes. Costs a copy for each line of the set, and where
+    /// the frames differ one copy of 64 lines.
     pub fn compose_frame(&mut self, from: u32, bits: Bits, to: u32)
         requires from { FRAME_UNITS * from + FRAME_UNITS ≤ units_in self.old.blocks }
         requires to { IsFrame self.old to }
-        requires differ { from ≢ to }
         ensures fills { FillsFrame self.old self.new to }
         ensures lines { (line : ℕ) → line < PAGE_LINES
             → frame_line self.new to line ≡ composed_line self.old from bits line }
     {
-        self.region.copy_lines(64 * from, 64 * to, 64);
+        places::copy_page(&mut self.region, from, to);
         places::lay_over(&mut self.region, 64 * to, bits);
     }
 

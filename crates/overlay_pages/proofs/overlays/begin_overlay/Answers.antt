@@ -18,7 +18,7 @@ returns c =
     let l = c.lay.ensures in
     let i = c.insert.ensures in
     let all = begun (view_of c.args.store.now c.args.ledger.now) c.lay.new.self c.insert.new.self c.set_overlay.new.self c.args.space c.args.page f.x c.begin_segment-block.result c.args.bits c.args.line c.args.bytes.now
-    c.requires.joined f.there f.is c.with-bits.ensures.before c.requires.line c.requires.absent (ap (λ k. 2 ^ k) b.begins.blocks.0 ∙ c.requires.size)
+    c.requires.joined f.there f.is c.with-bits.ensures.before c.requires.line c.requires.absent (ap (λ k. 2 ^ k) b.begins.asked.0 ∙ c.requires.size)
     (laid_by c.args.store.now c.begin_segment-block.new.self c.lay.new.self c.of.result c.args.order (overlay_page c.args.space c.args.page) c.begin_segment-block.result c.args.bits c.of.ensures.name
     b.begins l.lays l.lines l.segments l.frames l.store)
     i.inserts i.lines i.segments i.frames i.store
