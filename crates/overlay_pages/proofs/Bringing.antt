@@ -1,8 +1,9 @@
 use Rattle.overlay_pages.proofs.Common.{◌≡◌, ℕ, ◌+◌, ◌*◌, ◌<◌, ◌≤◌, true, false, List, [], ◌∷◌, ◌++◌, Option, Some, IsSome, is_some, length, slice_set, refl, sym, ap, subst, ◌∙◌, arith, same_Some, option_map}
 use Rattle.overlay_pages.proofs.Stores.{AreLines, has_line, has_next, with_there, Entry, frame_line, frame_inside, units_in}
-use Rattle.overlay_pages.proofs.Books.{changed_there, with_line, with_lines, class, class_le, longer, PageEntry, map_from, by_option, page_again, page_put_here, page_in, put_page, turned_page, put_same, PageView, lines_of, overlay_at}
+use Rattle.overlay_pages.proofs.Books.{changed_there, with_line, with_lines, class, class_le, longer, map_from, by_option, page_again, page_put_here, page_in, put_page, turned_page, put_same, PageView, frame_at, lines_of, overlay_at}
 use Rattle.overlay_pages.proofs.Views.{page_lines, PageState, Fits, brought, limit_of, units_of, joins, IsJoined, MemoryView, line_seen, page_state, state_of, state_page_some, state_page_there}
 use Rattle.overlay_bits.specs.Lines as bits
+use Rattle.overlay_pages.proofs.Tables.{frame_of_page}
 use Rattle.overlay_pages.proofs.Steps.{seen_outside, set_lines}
 use Rattle.overlay_pages.proofs.Joining.{Has, page_with, sets_are}
 use Rattle.overlay_pages.proofs.Growing.{turned_limit, turned_twice, turned_units}
@@ -56,7 +57,7 @@ brought_already v s p line is there low has =
 
 -- One that isn't there comes as the frame has it, so what is seen stays.
 pub brought_is : (v : MemoryView) (s p line frame : ℕ) (bytes : List ℕ) → IsJoined v → IsSome (page_in v.table s p) → line < 64 → has_line (lines_of (overlay_at v.table s p)) line ≡ false
-    → option_map (λ (x : PageView). x.entry.frame) (page_in v.table s p) ≡ Some frame → bytes ≡ frame_line v.store frame line
+    → frame_at v.table s p ≡ Some frame → bytes ≡ frame_line v.store frame line
     → turned_page (joins line bytes) (state_of v) s p ≡ turned_page (brought (line ∷ [])) (state_of v) s p
 unfolding page_state
 brought_is v s p line frame bytes is there low absent framed bytes_is =
@@ -114,6 +115,18 @@ module _ (first now : MemoryView) (s p : ℕ) (lines front rest : List ℕ) (lin
   next_is : lines ≡ (front ++ (line ∷ [])) ++ more
   next_is = so.whole ∙ ap (λ l. front ++ l) cut ∙ sym (Rattle.std.proofs.Common.append_assoc front (line ∷ []) more)
 
+  -- the page is there still, on its frame
+  page_now : page_in (state_of now) s p ≡ Some (brought front y.0)
+  page_now = ap (λ st. page_in st s p) (so.state ∙ changed_there (brought front) (state_of first) s p y.0 y.1) ∙ page_put_here (state_of first) s p (brought front y.0) s p refl refl
+
+  pub brought_there : IsSome (page_in now.table s p)
+  brought_there = sym (state_page_some now s p) ∙ ap is_some page_now
+
+  pub brought_framed : (frame : ℕ) → frame_at first.table s p ≡ Some frame → frame_at now.table s p ≡ Some frame
+  brought_framed frame framed =
+      let frame_of = option_map (λ (x : PageState). x.entry.frame) in
+      sym (frame_of_page now s p) ∙ ap frame_of page_now ∙ sym (ap frame_of y.1) ∙ frame_of_page first s p ∙ framed
+
   two_steps : (x : PageState) → brought (line ∷ []) (brought front x) ≡ brought (front ++ (line ∷ [])) x
   two_steps x = let own = sym (lines_append front (line ∷ []) x.own) in λ i. record { entry = x.entry; own = own i; lines = x.lines; base = x.base }
 
@@ -147,15 +160,7 @@ module _ (first now : MemoryView) (s p : ℕ) (lines front rest : List ℕ) (lin
   pub one_brought : (after : MemoryView) → IsJoined after → state_of after ≡ turned_page (brought (line ∷ [])) (state_of now) s p → HasBrought first after s p lines (front ++ (line ∷ [])) more
   one_brought after joined state = record { whole = next_is; joined = joined; state = state ∙ next_state }
 
--- The frame of a page's entry is one of the store's.
-pub frame_in : (v : MemoryView) (s p : ℕ) (entry : PageEntry) → IsJoined v → option_map (λ (x : PageView). x.entry) (page_in v.table s p) ≡ Some entry → 16 * entry.frame + 16 ≤ units_in v.store.blocks
-frame_in v s p entry is at_entry = map_from (λ (x : PageView). x.entry) (page_in v.table s p) entry at_entry
-    (λ x e same. omega (arith, frame_inside v.store is.store x.entry.frame (is.held s p x e).frame, ap (λ (f : PageEntry). f.frame) same))
-
--- the page is there still
-pub brought_there : (first now : MemoryView) (s p : ℕ) (lines front rest : List ℕ) → IsSome (page_in first.table s p) → HasBrought first now s p lines front rest → IsSome (page_in now.table s p)
-brought_there first now s p lines front rest there so =
-    let f = page_with first.table s p there (overlay_at first.table s p) refl in
-    let at_first = state_page_there first s p f.x f.there in
-    sym (state_page_some now s p) ∙ ap (λ st. is_some (page_in st s p)) (so.state ∙ changed_there (brought front) (state_of first) s p (page_state first.store f.x) at_first)
-    ∙ ap is_some (page_put_here (state_of first) s p (brought front (page_state first.store f.x)) s p refl refl)
+-- The frame of a page is one of the store's.
+pub frame_in : (v : MemoryView) (s p frame : ℕ) → IsJoined v → frame_at v.table s p ≡ Some frame → 16 * frame + 16 ≤ units_in v.store.blocks
+frame_in v s p frame is framed = map_from (λ (x : PageView). x.entry.frame) (page_in v.table s p) frame framed
+    (λ x e same. omega (arith, frame_inside v.store is.store x.entry.frame (is.held s p x e).frame, same))

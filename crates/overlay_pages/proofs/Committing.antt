@@ -1,10 +1,10 @@
-use Rattle.overlay_pages.proofs.Common.{option_map, ◌≡◌, ℕ, ◌+◌, ◌*◌, ◌<◌, ◌≤◌, Bool, true, false, cond, List, [], Option, Some, None, IfSome, IsSome, drop, take, get_or, refl, sym, ap, subst, ◌∙◌, arith, same_Some, empty}
-use Rattle.overlay_pages.proofs.Stores.{has_line, composed, composed_at, Entry, Store, frame_line, frame_page, line_in, scratch_line, scratch_page, KeepsFrames}
+use Rattle.overlay_pages.proofs.Common.{option_map, ◌≡◌, ℕ, ◌+◌, ◌<◌, ◌≤◌, Bool, true, false, cond, List, [], Option, Some, None, IfSome, IsSome, refl, sym, ap, subst, ◌∙◌, arith, same_Some, empty}
+use Rattle.overlay_pages.proofs.Stores.{has_line, Entry, FillsFrame, IsStore, Lifts, Store, composed_line, frame_line, line_in, scratch_line, KeepsFrames, KeepsSegments}
 use Rattle.overlay_pages.proofs.Books.{Ledger, has_origin, holding_at, is_alone, put_again, class_none, origin_with, books_page, books_put_page, keeps_page_put, page_over, page_put_here, there_space, page_in, put_page, space_in, turned_page, LedgerView, PageView, ledger_of, lines_of, overlay_at, changed_there}
-use Rattle.overlay_pages.proofs.Views.{line_in_page, page_lines, same_lines, lines_same, PageState, State, books, held_page, HasCopyRoom, IsNewFrame, IsPlaced, committed, copied, discarded, limit_of, moved_to, units_of, FillsFrame, IsHeld, IsJoined, MemoryView, line_seen, page_state, state_of, view_of, state_awaiting, state_books, state_holds, state_page_there}
+use Rattle.overlay_pages.proofs.Views.{page_lines, lines_same, PageState, State, books, held_page, HasCopyRoom, IsNewFrame, IsPlaced, committed, copied, discarded, limit_of, moved_to, units_of, IsHeld, IsJoined, MemoryView, line_seen, page_state, state_of, view_of, state_awaiting, state_books, state_holds, state_page_there}
 use Rattle.overlay_pages.proofs.Steps.{alone_other, rewritten, seen_bare, seen_inside, seen_outside}
 use Rattle.overlay_pages.proofs.Joining.{Has, page_with}
-use Rattle.overlay_pages.proofs.Growing.{turned_units}
+use Rattle.overlay_pages.proofs.Growing.{all_kept, turned_units}
 use Rattle.overlay_pages.proofs.NewFrames.{new_still}
 use Rattle.overlay_pages.proofs.Joining.{turned_still}
 
@@ -19,18 +19,6 @@ filled_up v new s p x frame is there frame_is alone fills = rewritten v new s p 
   segments = λ unit segment _ at_unit. fills.segments unit segment at_unit;
   frames = λ f taken other. fills.frames f (λ same. alone_other v.table s p x there alone f other (same ∙ sym frame_is)) taken;
 })
-
--- The lines of the overlay are in the frame; once the overlay ended, the page is committed.
-pub committed_page : (old new : Store) (x : PageView) (e : Entry) (frame : ℕ) → x.overlay ≡ Some e → x.entry.frame ≡ frame
-    → ((i : ℕ) → i < 64 → frame_line new frame i ≡ cond (has_line e.bits i) (line_in old e.block i) (frame_line old frame i)) → discarded (page_state new x) ≡ committed (page_state old x)
-unfolding page_state
-committed_page old new x e frame over frame_is lines =
-    let same = lines_same (frame_line new x.entry.frame) (line_seen old x) (λ i low. ap (λ f. frame_line new f i) frame_is ∙ lines i low ∙ seen i (has_line e.bits i) refl) in
-    λ i. record { entry = x.entry; own = []; lines = same i; base = same i }
-  where
-    seen : (i : ℕ) (b : Bool) → has_line e.bits i ≡ b → cond b (line_in old e.block i) (frame_line old frame i) ≡ line_seen old x i
-    seen i true has = sym (seen_inside old x e i over has)
-    seen i false lacks = ap (λ f. frame_line old f i) (sym frame_is) ∙ sym (seen_outside old x i (ap (λ (o : Option Entry). has_line (lines_of o) i) over ∙ lacks))
 
 pub bare_committed : (v : MemoryView) (s p : ℕ) → Has v.table s p None → state_of v ≡ turned_page committed (state_of v) s p
 unfolding page_state
@@ -54,10 +42,6 @@ pub page_frame : (v : LedgerView) (s p : ℕ) (x : PageView) (frame : ℕ) → p
 page_frame v s p x frame there framed = same_Some _ _ (sym (ap (option_map (λ (y : PageView). y.entry.frame)) there) ∙ framed)
 
 -- A page that is copied: its overlay ends, and it gets a frame with its lines.
-
--- the lines of a frame and of scratch, as a page
-page_line : (n at i : ℕ) (lines : List (List ℕ)) → i < n → get_or (take n (drop at lines)) i [] ≡ get_or lines (at + i) []
-page_line n at i lines low = Rattle.std.proofs.lemmas.List.get_or-take n (drop at lines) i [] low ∙ Rattle.std.proofs.lemmas.List.get_or-drop at lines i []
 
 -- A page that has an overlay, as the state has it once that ended.
 module _ (a : MemoryView) (s p : ℕ) (e : Entry) (is : IsJoined a) (there : IsSome (page_in a.table s p)) (over : overlay_at a.table s p ≡ Some e) where
@@ -107,34 +91,45 @@ module _ (a : MemoryView) (s p : ℕ) (e : Entry) (is : IsJoined a) (there : IsS
           ∙ ap (λ (l : Ledger). has_origin l (frame + 1)) (put_again (books (state_of a)) s p (held_page (state_of a).zero_frame was) held_before)
 
   -- the lines that were composed are those that the page has
-  pub composed_lines_are : (d : MemoryView) (frame : ℕ) (out : List (List ℕ)) → ((i : ℕ) → i < 64 → has_line e.bits i ≡ true → scratch_line d.store i ≡ line_in a.store e.block i)
-      → KeepsFrames a.store d.store → own.x.entry.frame ≡ frame → out ≡ composed (frame_page d.store frame) (scratch_page d.store) e.bits → same_lines out ≡ was.lines
-  unfolding same_lines page_state
-  composed_lines_are d frame out lifted frames frame_is out_is = lines_same (line_in_page out) (line_seen a.store own.x) each
+  pub composed_lines_are : (d : MemoryView) (frame : ℕ) → ((i : ℕ) → i < 64 → has_line e.bits i ≡ true → scratch_line d.store i ≡ line_in a.store e.block i)
+      → KeepsFrames a.store d.store → own.x.entry.frame ≡ frame → page_lines (composed_line d.store frame e.bits) ≡ was.lines
+  unfolding page_state
+  composed_lines_are d frame lifted frames frame_is = lines_same (composed_line d.store frame e.bits) (line_seen a.store own.x) (λ i low. pulled (has_line e.bits i) i refl low)
     where
       held : IsHeld a.store s p own.x
       held = is.held s p own.x own.there
 
-      pulled : (t : Bool) (i : ℕ) → has_line e.bits i ≡ t → i < 64 → cond t (get_or (scratch_page d.store) i []) (get_or (frame_page d.store frame) i []) ≡ line_seen a.store own.x i
-      pulled true i has low =
-          page_line 64 (Rattle.segment_store.specs.Store.scratch_place d.store) i d.store.lines low ∙ lifted i low has ∙ sym (seen_inside a.store own.x e i own.is has)
+      pulled : (t : Bool) (i : ℕ) → has_line e.bits i ≡ t → i < 64 → cond t (scratch_line d.store i) (frame_line d.store frame i) ≡ line_seen a.store own.x i
+      pulled true i has low = lifted i low has ∙ sym (seen_inside a.store own.x e i own.is has)
       pulled false i has low =
-          page_line 64 (64 * frame) i d.store.lines low ∙ ap (λ f. frame_line d.store f i) (sym frame_is) ∙ (frames own.x.entry.frame held.frame).lines i low
+          ap (λ f. frame_line d.store f i) (sym frame_is) ∙ (frames own.x.entry.frame held.frame).lines i low
           ∙ sym (seen_outside a.store own.x i (ap (λ (o : Option Entry). has_line (lines_of o) i) own.is ∙ has))
 
-      each : (i : ℕ) → i < 64 → line_in_page out i ≡ line_seen a.store own.x i
-      each i low = ap (λ l. get_or l i []) out_is ∙ composed_at (frame_page d.store frame) (scratch_page d.store) e.bits 64 i [] low ∙ pulled (has_line e.bits i) i refl low
+  -- A page that is alone: they come into its frame, and once the overlay ended it is committed.
+  pub committing : (mid new : Store) (frame : ℕ) → own.x.entry.frame ≡ frame → is_alone (ledger_of a.table) s p ≡ true → Lifts a.store mid e.block e.bits → KeepsSegments a.store mid → KeepsFrames a.store mid → IsStore mid
+      → FillsFrame mid new frame → ((i : ℕ) → i < 64 → frame_line new frame i ≡ composed_line mid frame e.bits i)
+      → IsJoined (view_of new a.table) × ((c : MemoryView) → state_of c ≡ turned_page discarded (state_of (view_of new a.table)) s p → state_of c ≡ turned_page committed (state_of a) s p)
+  unfolding page_state
+  committing mid new frame frame_is alone lifts segments frames mid_is fills lines =
+      let still = all_kept a.store mid a.table is segments frames lifts.blocks lifts.segments mid_is in
+      let filled = filled_up (view_of mid a.table) new s p own.x frame still.0 own.there frame_is alone fills in
+      let same = lines_same (frame_line new own.x.entry.frame) (composed_line mid frame e.bits) (λ i low. ap (λ f. frame_line new f i) frame_is ∙ lines i low)
+      ∙ composed_lines_are (view_of mid a.table) frame (λ i low has. lifts.lifted i has) frames frame_is in (
+        filled.0,
+        λ c. commits a (view_of new a.table) c s p own.x own.there (filled.1 ∙ ap (λ st. put_page st s p (page_state new own.x)) still.1)
+            (λ i. record { entry = own.x.entry; own = []; lines = same i; base = same i }),
+      )
 
-  pub copied_at : (d new : MemoryView) (out : List (List ℕ)) → state_of d ≡ turned_page discarded (state_of a) s p → same_lines out ≡ was.lines
-      → IfSome (page_in (state_of d) s p) (λ x. IsPlaced (state_of d) (state_of new) s p (moved_to x (same_lines out)))
+  pub copied_at : (d new : MemoryView) (lines : List (List ℕ)) → state_of d ≡ turned_page discarded (state_of a) s p → lines ≡ was.lines
+      → IfSome (page_in (state_of d) s p) (λ x. IsPlaced (state_of d) (state_of new) s p (moved_to x lines))
       → IfSome (page_in (state_of a) s p) (λ x. IsPlaced (state_of a) (state_of new) s p (λ frame. copied frame x))
-  copied_at d new out d_state lines placed =
+  copied_at d new lines d_state lines_are placed =
       subst (λ o. IfSome o (λ x. IsPlaced (state_of a) (state_of new) s p (λ frame. copied frame x))) (sym was_there)
-      (let at : IsPlaced (put_page (state_of a) s p (discarded was)) (state_of new) s p (moved_to (discarded was) (same_lines out)) =
-      subst (λ st. IsPlaced st (state_of new) s p (moved_to (discarded was) (same_lines out))) (d_state ∙ bare_is)
-      (subst (λ o. IfSome o (λ x. IsPlaced (state_of d) (state_of new) s p (moved_to x (same_lines out)))) (dropped_page d d_state) placed) in
+      (let at : IsPlaced (put_page (state_of a) s p (discarded was)) (state_of new) s p (moved_to (discarded was) lines) =
+      subst (λ st. IsPlaced st (state_of new) s p (moved_to (discarded was) lines)) (d_state ∙ bare_is)
+      (subst (λ o. IfSome o (λ x. IsPlaced (state_of d) (state_of new) s p (moved_to x lines))) (dropped_page d d_state) placed) in
       record {
         frame = at.frame;
         fresh = new_then at.frame at.fresh;
-        placed = at.placed ∙ page_over (state_of a) s p (discarded was) (moved_to (discarded was) (same_lines out) at.frame) ∙ ap (λ l. put_page (state_of a) s p (moved_to was l at.frame)) lines;
+        placed = at.placed ∙ page_over (state_of a) s p (discarded was) (moved_to (discarded was) lines at.frame) ∙ ap (λ l. put_page (state_of a) s p (moved_to was l at.frame)) lines_are;
       })

@@ -1,5 +1,5 @@
-use Rattle.overlay_pages.proofs.Common.{is_some, option_and_then, ◌≡◌, ℕ, ◌+◌, ◌*◌, ◌^◌, ◌<◌, ◌≤◌, ◌||◌, Bool, true, false, cond, nat_eq, List, [], Option, Some, None, IsSome, length, get_or, slice_index_or, slice_set, refl, true≢false, sym, ap, subst, ◌∙◌, arith, inl, inr, pow_pos, nat_tests, none-some, same_Some, get_or-set_other, get_or-set_same, cases_eq}
-use Rattle.overlay_pages.proofs.Stores.{AreSettled, CanSettle, free_units, units_in, Block, AreLines, has_line, with_line, count_with, has_with, overlay_page, Entry, Segment, IsStore, capacity_of, Store, IsSegment, frame_line, line_in, lines_at, lines_with, scratch_line, segment_at, Begins, Ends, HasLinesNow, Inserts, KeepsFrame, KeepsFrames, KeepsOtherSegments, KeepsScratch, KeepsSegments, Lays, block_of, inside_of, lines_there, order_of, refilled, stays_twice}
+use Rattle.overlay_pages.proofs.Common.{is_some, option_and_then, ◌≡◌, ℕ, ◌+◌, ◌*◌, ◌^◌, ◌<◌, ◌≤◌, ◌||◌, Bool, true, false, cond, nat_eq, List, [], Option, Some, None, IsSome, length, get_or, slice_index_or, slice_set, refl, true≢false, sym, ap, ap₂, subst, ◌∙◌, arith, inl, inr, pow_pos, nat_tests, none-some, same_Some, get_or-set_other, get_or-set_same, cases_eq}
+use Rattle.overlay_pages.proofs.Stores.{AreSettled, CanSettle, free_units, units_in, Block, AreLines, has_line, with_line, count_with, has_with, overlay_page, Entry, Segment, IsStore, capacity_of, Store, IsSegment, frame_line, line_in, lines_at, lines_with, scratch_line, segment_at, BeginsSegment, Copies, Ends, HasLinesNow, Inserts, KeepsFrame, KeepsFrames, KeepsOtherSegments, Lays, block_of, inside_of, lines_there, order_of, refilled, stays_twice}
 use Rattle.overlay_pages.proofs.Books.{by_option, are, class, overlaid_pages, overlaid_few, class_none, changed_there, page_again, page_in, put_page, turned_page, LedgerView, PageView, ledger_of, lines_of, overlay_at, with_overlay}
 use Rattle.overlay_pages.proofs.Views.{page_lines, lines_same, set_line, state_page_there, discarded, joins, laid, laid_line, IsHeld, IsJoined, MemoryView, line_seen, page_state, segment_of, state_of, view_of, PageState, State}
 use Rattle.overlay_pages.proofs.Sizes.{still_fits}
@@ -185,40 +185,55 @@ others_twice : (one two three : Store) (u : ℕ) → KeepsOtherSegments one u tw
 others_twice one two three u a b unit segment away there =
     let first = a unit segment away there in stays_twice one two three (block_of unit segment) first (b unit segment away (first.there ∙ there))
 
--- A segment began with lines from scratch.
-pub record IsLaid (old new : Store) (owner : ℕ) (block : Block) (bits : List ℕ) : Type 0 where
+-- A segment began with lines that were given.
+pub record IsLaid (old new : Store) (owner : ℕ) (block : Block) (bits : List ℕ) (given : ℕ → List ℕ) : Type 0 where
   pub fresh : segment_at old block.unit ≡ None
   pub there : segment_at new block.unit ≡ Some (record { owner = owner; order = block.order; bits = bits })
   pub elsewhere : (unit : ℕ) → (unit ≡ block.unit → ⊥) → segment_at new unit ≡ segment_at old unit
   pub kept : KeepsOtherSegments old block.unit new
   pub frames : KeepsFrames old new
-  pub lines : (i : ℕ) → i < 64 → has_line bits i ≡ true → line_in new block i ≡ scratch_line old i
+  pub lines : (i : ℕ) → i < 64 → has_line bits i ≡ true → line_in new block i ≡ given i
   pub free : free_units new.blocks + 2 ^ block.order ≡ free_units old.blocks
   pub whole : units_in new.blocks ≡ units_in old.blocks
   pub settled : AreSettled old.blocks → AreSettled new.blocks
   pub store : IsStore new
 
-pub laid_by : (old began new : Store) (owner named : ℕ) (block : Block) (bits : List ℕ) → owner ≡ named → Begins old began owner block → KeepsSegments old began → KeepsFrames old began → KeepsScratch old began
-    → free_units began.blocks + 2 ^ block.order ≡ free_units old.blocks → units_in began.blocks ≡ units_in old.blocks → (AreSettled old.blocks → AreSettled began.blocks) → IsStore began
-    → Lays began new block bits → HasLinesNow began new block bits → KeepsOtherSegments began block.unit new → KeepsFrames began new → IsStore new → IsLaid old new named block bits
-laid_by old began new owner named block bits owner_is begins segments frames scratch free whole settled began_is lays now kept laid_frames new_is = record {
-  fresh = begins.fresh;
+pub laid_by : (old began new : Store) (owner order named : ℕ) (block : Block) (bits : List ℕ) → owner ≡ named → BeginsSegment old began owner order [] block
+    → Lays began new block bits → HasLinesNow began new block bits → KeepsOtherSegments began block.unit new → KeepsFrames began new → IsStore new → IsLaid old new named block bits (scratch_line old)
+laid_by old began new owner order named block bits owner_is b lays now kept laid_frames new_is = record {
+  fresh = b.fresh;
   there = ap (λ l. get_or l block.unit None) now.segments
-      ∙ refilled began.segments block.unit (record { owner = owner; order = block.order; bits = [] }) bits begins.there (unit_low began began_is block.unit _ begins.there)
+      ∙ refilled began.segments block.unit (record { owner = owner; order = block.order; bits = [] }) bits b.there (unit_low began b.store block.unit _ b.there)
       ∙ ap (λ n. Some (record { owner = n; order = block.order; bits = bits })) owner_is;
-  elsewhere = λ unit away. segment_beside began block.unit new.segments _ now.segments unit away ∙ segment_beside old block.unit began.segments _ begins.segments unit away;
-  kept = others_twice old began new block.unit (λ unit segment _ there. segments unit segment there) kept;
-  frames = frames_twice old began new frames laid_frames;
-  lines = λ i low has. lays.lines i has ∙ scratch i low;
-  free = omega (arith, ap free_units now.blocks, free);
-  whole = ap units_in now.blocks ∙ whole;
-  settled = λ h. subst AreSettled (sym now.blocks) (settled h);
+  elsewhere = λ unit away. segment_beside began block.unit new.segments _ now.segments unit away ∙ segment_beside old block.unit began.segments _ b.segments unit away;
+  kept = others_twice old began new block.unit (λ unit segment _ there. b.others unit segment there) kept;
+  frames = frames_twice old began new b.frames laid_frames;
+  lines = λ i low has. lays.lines i has ∙ b.scratch i low;
+  free = omega (arith, ap free_units now.blocks, b.free);
+  whole = ap units_in now.blocks ∙ b.units;
+  settled = λ h. subst AreSettled (sym now.blocks) (b.settled h);
   store = new_is;
+}
+
+-- or with those of another one, as they stand there
+pub copied_by : (old new : Store) (owner order named : ℕ) (from to : Block) (bits : List ℕ) → owner ≡ named → lines_at old from.unit ≡ bits → BeginsSegment old new owner order (lines_at old from.unit) to
+    → Copies old new from to → IsLaid old new named to bits (line_in old from)
+copied_by old new owner order named from to bits owner_is set b copies = record {
+  fresh = b.fresh;
+  there = b.there ∙ ap₂ (λ n l. Some (record { owner = n; order = to.order; bits = l })) owner_is set;
+  elsewhere = segment_beside old to.unit new.segments _ b.segments;
+  kept = λ unit segment _ there. b.others unit segment there;
+  frames = b.frames;
+  lines = λ i low has. copies.lines i (ap (λ l. has_line l i) set ∙ has);
+  free = b.free;
+  whole = b.units;
+  settled = b.settled;
+  store = b.store;
 }
 
 -- and got a line more, and it is that of a page that had none
 pub begun : (old : MemoryView) (began store : Store) (table : LedgerView) (s p : ℕ) (x : PageView) (block : Block) (bits : List ℕ) (line : ℕ) (bytes : List ℕ) → IsJoined old → page_in old.table s p ≡ Some x → x.overlay ≡ None
-    → AreLines bits → line < 64 → has_line bits line ≡ false → 2 ^ block.order ≡ class (length bits + 1) → IsLaid old.store began (overlay_page s p) block bits → Inserts began store block line bytes
+    → AreLines bits → line < 64 → has_line bits line ≡ false → 2 ^ block.order ≡ class (length bits + 1) → IsLaid old.store began (overlay_page s p) block bits (scratch_line old.store) → Inserts began store block line bytes
     → HasLinesNow began store block (lines_with began block line) → KeepsOtherSegments began block.unit store → KeepsFrames began store → IsStore store
     → table ≡ with_overlay old.table s p (Some (record { bits = with_line bits line; block = block }))
     → IsJoined (view_of store table) × (state_of (view_of store table) ≡ turned_page (laid old.store bits line bytes) (state_of old) s p)

@@ -1,7 +1,7 @@
 use Rattle.overlay_pages.proofs.Common.{◌≡◌, ℕ, ◌+◌, ◌<◌, Bool, true, false, cond, nat_eq, List, [], Option, Some, None, IfSome, length, refl, true≢false, sym, ap, subst, ◌∙◌, arith, same_Some, nat_tests, option_map, FRAME_UNITS}
-use Rattle.overlay_pages.proofs.Stores.{AreSettled, free_units, units_in, Entry, IsStore, Store, IsFrame, frame_line, KeepsFrame, KeepsFrames, KeepsSegments, frame_inside}
+use Rattle.overlay_pages.proofs.Stores.{FillsFrame, AreSettled, free_units, units_in, Entry, IsStore, Store, IsFrame, frame_line, KeepsFrame, KeepsFrames, KeepsSegments, frame_inside}
 use Rattle.overlay_pages.proofs.Books.{Holding, Ledger, has_origin, holding_at, is_alone, is_unused, with_page, without_page, class, units, class_none, frame_for, units_changed, arent, holder, not_true, unused_from, unused_parts, unused_without, map_from, books_page, books_put_page, changed_there, set_some, there_space, page_in, put_page, put_space, set_page, LedgerView, PageView, holding_of, ledger_of, lines_of, overlay_at, with_frame}
-use Rattle.overlay_pages.proofs.Views.{page_lines, lines_same, PageState, State, books, IsNewFrame, IsPlaced, moved_to, FillsFrame, KeepsOtherOverlays, IsJoined, MemoryView, page_state, state_of, view_of, state_books, state_frames, state_page_there, state_zero}
+use Rattle.overlay_pages.proofs.Views.{page_lines, lines_same, PageState, State, books, IsNewFrame, IsPlaced, moved_to, KeepsOtherOverlays, IsJoined, MemoryView, page_state, state_of, view_of, state_books, state_frames, state_page_there, state_zero}
 use Rattle.space_ledger.specs.View as view
 use Rattle.overlay_pages.proofs.Steps.{segments_bare, stepped}
 use Rattle.overlay_pages.proofs.Filling.{segments_twice}

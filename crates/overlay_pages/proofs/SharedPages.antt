@@ -1,14 +1,14 @@
-use Rattle.overlay_pages.proofs.Common.{◌≡◌, ℕ, ◌^◌, ◌<◌, ◌≤◌, ◌&&◌, not, Bool, true, false, cond, nat_eq, List, Option, Some, None, IsSome, length, refl, sym, ap, subst, ◌∙◌, arith, none-some, same_Some, option_map, option_map_or, get, remove}
-use Rattle.overlay_pages.proofs.Stores.{HasRoom, Block, has_line, overlay_page, Entry, Store, IsFrame, frame_line, Lifts, capacity_of, count_fits}
+use Rattle.overlay_pages.proofs.Common.{◌≡◌, ℕ, ◌^◌, ◌<◌, ◌&&◌, not, Bool, true, false, cond, nat_eq, List, Option, Some, None, IsSome, length, refl, sym, ap, subst, ◌∙◌, arith, none-some, option_map, option_map_or, get, remove}
+use Rattle.overlay_pages.proofs.Stores.{HasRoom, Block, has_line, overlay_page, Entry, Store, IsFrame, frame_line, line_in}
 use Rattle.overlay_pages.proofs.Books.{keeps_page_put, Pages, PageEntry, has_origin, is_unused, class, frame_for, map_from, books_page, put_shared_as, holds_space, page_in, put_awaiting, put_page, put_shared, space_in, LedgerView, PageView, frame_at, frame_awaiting, holding_of, ledger_of, lines_of, overlay_at, with_page_shared}
-use Rattle.overlay_pages.proofs.Views.{line_in_page, page_lines, line_at, lines_same, PageState, State, HasShareRoom, shared_page, state_awaiting_put, IsHeld, IsJoined, MemoryView, line_seen, page_state, state_of, view_of, state_awaiting, state_page_there}
+use Rattle.overlay_pages.proofs.Views.{page_lines, lines_same, PageState, HasShareRoom, shared_page, state_awaiting_put, IsHeld, IsJoined, MemoryView, line_seen, page_state, state_of, view_of, state_awaiting, state_page_there}
 use Rattle.ledger.specs.AloneLaws.{origin_of}
 use Rattle.space_ledger.specs.View as view
 use Rattle.overlay_pages.specs.Changes as changes
 use Rattle.overlay_pages.proofs.Steps.{seen_bare, seen_inside, seen_outside}
 use Rattle.overlay_pages.proofs.Coming.{HasPlaceFor, came}
 use Rattle.overlay_pages.proofs.Overlaying.{segments_some}
-use Rattle.overlay_pages.proofs.Joining.{Has, overlay_order, overlay_segment, overlay_set, page_with, IsLaid}
+use Rattle.overlay_pages.proofs.Joining.{Has, overlay_order, page_with, IsLaid}
 use Rattle.overlay_pages.proofs.Growing.{free_is, has_room}
 use Rattle.overlay_pages.proofs.Tables.{awaiting_joined}
 
@@ -88,38 +88,35 @@ bare_shared store x entry bare frame_is =
     let lines = base ∙ sym (seen_bare store x bare) in
     λ i. record { entry = entry; own = lines_of (sym bare i); lines = lines i; base = base i }
 
--- A page with an overlay: its lines come into a segment of their own, from scratch.
+-- A page with an overlay: a copy of its segment.
 
-pub shares_overlay : (m : MemoryView) (new : Store) (to p : ℕ) (block : Block) (bits : List ℕ) → IsJoined m → 2 ^ block.order ≡ class (length bits) → 0 < length bits → IsLaid m.store new (overlay_page to p) block bits
-    → HasPlaceFor m new to p (Some (record { bits = bits; block = block }))
-shares_overlay m new to p block bits is size some so = record {
+pub shares_overlay : (m : MemoryView) (new : Store) (to p : ℕ) (block : Block) (bits : List ℕ) (given : ℕ → List ℕ) → IsJoined m → 2 ^ block.order ≡ class (length bits) → 0 < length bits
+    → IsLaid m.store new (overlay_page to p) block bits given → HasPlaceFor m new to p (Some (record { bits = bits; block = block }))
+shares_overlay m new to p block bits given is size some so = record {
   segments = segments_some m.store new to p None (record { bits = bits; block = block }) (λ e h. absurd (none-some e h)) (λ _. so.fresh) so.there so.elsewhere so.kept some size (so.settled is.blocks) so.whole so.store;
   frames = so.frames;
   free = omega (arith, so.free, size);
 }
 
--- The lines of the page: those that were lifted.
-pub lifted_page : (a m : MemoryView) (new : Store) (owner : ℕ) (x : PageView) (e : Entry) (entry : PageEntry) (block : Block) → x.overlay ≡ Some e → page_state m.store x ≡ page_state a.store x → IsFrame m.store x.entry.frame
-    → Lifts a.store m.store e.block e.bits → IsLaid m.store new owner block e.bits → entry.frame ≡ x.entry.frame
-    → page_state new (record { entry = entry; overlay = Some (record { bits = e.bits; block = block }) }) ≡ shared_page entry (page_state m.store x)
+-- The lines of the page: those of the segment that was copied.
+pub copied_page : (store new : Store) (owner : ℕ) (x : PageView) (e : Entry) (entry : PageEntry) (block : Block) → x.overlay ≡ Some e → IsFrame store x.entry.frame
+    → IsLaid store new owner block e.bits (line_in store e.block) → entry.frame ≡ x.entry.frame
+    → page_state new (record { entry = entry; overlay = Some (record { bits = e.bits; block = block }) }) ≡ shared_page entry (page_state store x)
 unfolding page_state
-lifted_page a m new owner x e entry block over same taken lifts so frame_is =
-    let base = lines_same (frame_line new entry.frame) (frame_line m.store x.entry.frame) (λ i low. ap (λ f. frame_line new f i) frame_is ∙ (so.frames x.entry.frame taken).lines i low) in
-    let lines = lines_same (line_seen new page) (line_seen m.store x) (λ i low. each (has_line e.bits i) i refl low) in
+copied_page store new owner x e entry block over taken so frame_is =
+    let base = lines_same (frame_line new entry.frame) (frame_line store x.entry.frame) framed in
+    let lines = lines_same (line_seen new page) (line_seen store x) (λ i low. each (has_line e.bits i) i refl low) in
     λ i. record { entry = entry; own = lines_of (sym over i); lines = lines i; base = base i }
   where
-    -- a line of the page as it was
-    seen : (i : ℕ) → i < 64 → line_seen m.store x i ≡ line_seen a.store x i
-    seen i low = sym (line_at (line_seen m.store x) i low) ∙ ap (λ (y : PageState). line_in_page y.lines i) same ∙ line_at (line_seen a.store x) i low
-
     page : PageView
     page = record { entry = entry; overlay = Some (record { bits = e.bits; block = block }) }
 
-    each : (b : Bool) (i : ℕ) → has_line e.bits i ≡ b → i < 64 → line_seen new page i ≡ line_seen m.store x i
-    each true i has low = seen_inside new page (record { bits = e.bits; block = block }) i refl has ∙ so.lines i low has ∙ lifts.lifted i has ∙ sym (seen_inside a.store x e i over has) ∙ sym (seen i low)
-    each false i lacks low =
-        seen_outside new page i lacks ∙ ap (λ f. frame_line new f i) frame_is ∙ (so.frames x.entry.frame taken).lines i low
-        ∙ sym (seen_outside m.store x i (ap (λ (o : Option Entry). has_line (lines_of o) i) over ∙ lacks))
+    framed : (i : ℕ) → i < 64 → frame_line new entry.frame i ≡ frame_line store x.entry.frame i
+    framed i low = ap (λ f. frame_line new f i) frame_is ∙ (so.frames x.entry.frame taken).lines i low
+
+    each : (b : Bool) (i : ℕ) → has_line e.bits i ≡ b → i < 64 → line_seen new page i ≡ line_seen store x i
+    each true i has low = seen_inside new page (record { bits = e.bits; block = block }) i refl has ∙ so.lines i low has ∙ sym (seen_inside store x e i over has)
+    each false i lacks low = seen_outside new page i lacks ∙ framed i low ∙ sym (seen_outside store x i (ap (λ (o : Option Entry). has_line (lines_of o) i) over ∙ lacks))
 
 -- The overlay that is shared.
 module _ (a : MemoryView) (from p : ℕ) (e : Entry) (is : IsJoined a) (there : IsSome (page_in a.table from p)) (over : overlay_at a.table from p ≡ Some e) where
@@ -135,9 +132,6 @@ module _ (a : MemoryView) (from p : ℕ) (e : Entry) (is : IsJoined a) (there : 
   pub share_some : 0 < length e.bits
   share_some = first_held.lined e first.is
 
-  pub share_fits : length e.bits ≤ capacity_of e.block.order
-  share_fits = subst (λ l. length l ≤ capacity_of e.block.order) (overlay_set a.store a.table from p e is there over) (count_fits a.store is.store e.block (overlay_segment a.store a.table from p e is there over))
-
   pub share_room : HasShareRoom (state_of a) from p → HasRoom a.store.blocks e.block.order
   unfolding page_state
   share_room room =
@@ -145,17 +139,14 @@ module _ (a : MemoryView) (from p : ℕ) (e : Entry) (is : IsJoined a) (there : 
       has_room a is e.block.order (overlay_order a.store a.table from p e is there over) (omega (arith, free_is a is, enough, share_size, ap (λ (o : Option Entry). class (length (lines_of o))) first.is))
 
 -- The page with its overlay, once it is shared.
-module _ (a : MemoryView) (lifted new : Store) (from to p : ℕ) (e : Entry) (block : Block) (is : IsJoined a) (m_is : IsJoined (view_of lifted a.table)) (same : state_of (view_of lifted a.table) ≡ state_of a)
-    (there : IsSome (page_in a.table from p)) (over : overlay_at a.table from p ≡ Some e) (framed : frame_awaiting a.table to p ≡ frame_at a.table from p) (space : holds_space a.table to ≡ true) (absent : page_in a.table to p ≡ None)
-    (order_is : block.order ≡ e.block.order) (lifts : Lifts a.store lifted e.block e.bits) (so : IsLaid lifted new (overlay_page to p) block e.bits) where
-  abbrev m : MemoryView
-  m = view_of lifted a.table
-
+module _ (a : MemoryView) (new : Store) (from to p : ℕ) (e : Entry) (block : Block) (is : IsJoined a) (there : IsSome (page_in a.table from p)) (over : overlay_at a.table from p ≡ Some e)
+    (framed : frame_awaiting a.table to p ≡ frame_at a.table from p) (space : holds_space a.table to ≡ true) (absent : page_in a.table to p ≡ None) (order_is : block.order ≡ e.block.order)
+    (so : IsLaid a.store new (overlay_page to p) block e.bits (line_in a.store e.block)) where
   abbrev waits : Awaits a.table from to p (Some e)
   waits = awaits a.table from to p (Some e) there over framed
 
-  abbrev now_shares : HasPlaceFor m new to p (Some (record { bits = e.bits; block = block }))
-  now_shares = shares_overlay m new to p block e.bits m_is (ap (λ k. 2 ^ k) order_is ∙ share_size a from p e is there over) (share_some a from p e is there over) so
+  abbrev now_shares : HasPlaceFor a new to p (Some (record { bits = e.bits; block = block }))
+  now_shares = shares_overlay a new to p block e.bits (line_in a.store e.block) is (ap (λ k. 2 ^ k) order_is ∙ share_size a from p e is there over) (share_some a from p e is there over) so
 
   overlaid_table : with_page_shared a.table from to p (Some block)
       ≡ put_awaiting (put_page a.table to p (record { entry = waits.entry; overlay = Some (record { bits = e.bits; block = block }) })) to (remove (space_in a.table to).awaiting p)
@@ -163,14 +154,11 @@ module _ (a : MemoryView) (lifted new : Store) (from to p : ℕ) (e : Entry) (bl
       shared_table a.table from to p (Some e) (Some block) waits
       ∙ ap (λ bits. put_awaiting (put_page a.table to p (record { entry = waits.entry; overlay = Some (record { bits = bits; block = block }) })) to (remove (space_in a.table to).awaiting p)) (ap lines_of over)
 
-  page_same : page_state lifted waits.x ≡ page_state a.store waits.x
-  page_same = same_Some _ _ (sym (state_page_there m from p waits.x waits.there) ∙ ap (λ s. page_in s from p) same ∙ state_page_there a from p waits.x waits.there)
-
   pub overlaid : (table : LedgerView) → table ≡ with_page_shared a.table from to p (Some block)
       → IsJoined (view_of new table) × (state_of (view_of new table) ≡ changes.with_shared (state_of a) from to p)
   overlaid table is_table =
-      let page = lifted_page a m new (overlay_page to p) waits.x e waits.entry block waits.is page_same (m_is.held from p waits.x waits.there).frame lifts so waits.frame_is in
-      let all = shares m new from to p (Some e) (Some (record { bits = e.bits; block = block })) m_is waits space absent now_shares page in (
+      let page = copied_page a.store new (overlay_page to p) waits.x e waits.entry block waits.is (is.held from p waits.x waits.there).frame so waits.frame_is in
+      let all = shares a new from to p (Some e) (Some (record { bits = e.bits; block = block })) is waits space absent now_shares page in (
         subst (λ t. IsJoined (view_of new t)) (sym (is_table ∙ overlaid_table)) all.0,
-        ap (λ t. state_of (view_of new t)) (is_table ∙ overlaid_table) ∙ all.1 ∙ ap (λ (s : State). changes.with_shared s from to p) same,
+        ap (λ t. state_of (view_of new t)) (is_table ∙ overlaid_table) ∙ all.1,
       )

@@ -4,11 +4,11 @@ pub use Rattle.overlay_pages.specs.Changes.{Fits, HasCopyRoom, HasShareRoom, IsN
 unfoldable pub use Rattle.overlay_pages.specs.Changes.{with_brought, with_shared, with_written, with_zeros}
 pub use Rattle.overlay_pages.specs.LineLaws.{line_at, lines_same, set_line}
 pub use Rattle.overlay_pages.specs.Lines.{line_in_page, page_lines}
-unfoldable pub use Rattle.overlay_pages.specs.Lines.{bytes_of_line, lines_of_bytes, same_lines, zero_line, zero_page}
+unfoldable pub use Rattle.overlay_pages.specs.Lines.{bytes_of_line, lines_of_bytes, zero_line, zero_page}
 pub use Rattle.overlay_pages.specs.SpotLaws.{found_at}
 pub use Rattle.overlay_pages.specs.Spots.{IsFound, IsFoundAt, IsFoundPage, IsFoundPageAt, IsInFrame, IsInSegment, IsSpot}
 pub use Rattle.overlay_pages.specs.State.{PageState, SpaceState, State, books, held_page}
-pub use Rattle.overlay_pages.specs.Steps.{FillsFrame, FollowsAll, FollowsAt, IsAhead, IsBehind, IsOfPage, KeepsOtherOverlays, Moved, MovesFew, PutsLine, Tells, joins, laid, laid_line, relocated}
+pub use Rattle.overlay_pages.specs.Steps.{FollowsAll, FollowsAt, IsAhead, IsBehind, IsOfPage, KeepsOtherOverlays, Moved, MovesFew, PutsLine, Tells, joins, laid, laid_line, relocated}
 unfoldable pub use Rattle.overlay_pages.specs.Steps.{went_overlay, went_page}
 pub use Rattle.overlay_pages.specs.TableLaws.{state_added, state_awaiting_put, state_cut_space, state_mark_put}
 pub use Rattle.overlay_pages.specs.View.{HasOwnPlace, IsHeld, IsJoined, IsJoinedWith, IsOwned, MemoryView, ShareFrameLine, line_seen, place_at, place_in_page, segment_of, view_of}

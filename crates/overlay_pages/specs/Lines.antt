@@ -36,7 +36,3 @@ zero_line = replicate bytes_of_line 0
 
 unfoldable pub zero_page : List (List ℕ)
 zero_page = page_lines (λ _. zero_line)
-
--- the lines of a list, as those of a page
-unfoldable pub same_lines : List (List ℕ) → List (List ℕ)
-same_lines lines = page_lines (line_in_page lines)

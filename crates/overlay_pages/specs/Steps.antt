@@ -4,12 +4,11 @@ use Rattle.unit_map.specs.declared.block.Block.{Block}
 use Rattle.store_compaction.specs.declared.moves.Move.{Move}
 use Rattle.store_compaction.specs.Next.{Ascend}
 use Rattle.overlay_address.specs.Names.{page_of, space_of}
-use Rattle.overlay_bits.specs.Lines.{has_line, with_line}
+use Rattle.overlay_bits.specs.Lines.{with_line}
 use Rattle.overlay_mapping_table.specs.declared.entry.Entry.{Entry}
 use Rattle.segment_store.specs.declared.segment.Segment.{Segment}
-use Rattle.segment_store.specs.Kept.{IsStore}
-use Rattle.segment_store.specs.Store.{Store, IsFrame, frame_line, scratch_line}
-use Rattle.segment_store.specs.Changes.{AreCarried, IsOutside, IsTarget, KeepsFrames, KeepsOtherFrames, KeepsScratch, KeepsSegments, WholeSegmentsStay}
+use Rattle.segment_store.specs.Store.{Store, composed_line, frame_line}
+use Rattle.segment_store.specs.Changes.{AreCarried, FillsFrame, IsOutside, IsTarget, KeepsFrames, KeepsScratch, WholeSegmentsStay}
 use Rattle.space_maps.specs.Laws.{KeepsSpaces}
 use Rattle.space_maps.specs.Spaces.{page_in}
 use Rattle.space_ledger.specs.View.{LedgerView, PageView, overlay_at, with_block}
@@ -99,7 +98,7 @@ joins line bytes x = record { entry = x.entry; own = with_line x.own line; lines
 
 -- a page whose overlay has lines of scratch, and one line more
 abbrev pub laid_line : Store → List ℕ → ℕ → List ℕ → ℕ → ℕ → List ℕ
-laid_line store bits line bytes frame i = cond (nat_eq line i) bytes (cond (has_line bits i) (scratch_line store i) (frame_line store frame i))
+laid_line store bits line bytes frame i = cond (nat_eq line i) bytes (composed_line store frame bits i)
 
 abbrev pub laid : Store → List ℕ → ℕ → List ℕ → PageState → PageState
 laid store bits line bytes x = record {
@@ -109,17 +108,7 @@ laid store bits line bytes x = record {
   base = x.base;
 }
 
--- only lines of one frame changed
-pub record FillsFrame (old new : Store) (frame : ℕ) : Type 0 where
-  pub blocks : new.blocks ≡ old.blocks
-  pub same : new.segments ≡ old.segments
-  pub segments : KeepsSegments old new
-  pub frames : KeepsOtherFrames old frame new
-  pub scratch : KeepsScratch old new
-  pub stays : IsFrame new frame
-  pub store : IsStore new
-
--- one line of it
+-- one line of a frame that is taken changed, and nothing else
 pub record PutsLine (old new : Store) (frame line : ℕ) (bytes : List ℕ) : Type 0 where
   pub fills : FillsFrame old new frame
   pub here : frame_line new frame line ≡ bytes

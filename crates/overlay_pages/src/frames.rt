@@ -1,38 +1,25 @@
-//! Frames that are filled, and lines that go from overlays into them.
+//! Frames that are filled.
 
-ghost use Rattle.std.specs.Prelude.{◌≡◌, ℕ, ◌*◌, ◌<◌, [], cond, drop, take, slice_index_or};
+ghost use Rattle.std.specs.Prelude.{◌≡◌, ℕ, ◌*◌, ◌<◌, drop, length, take};
 ghost use Rattle.sizes.specs.declared.TheConstants.{LINE_BYTES, PAGE_LINES};
-ghost use Rattle.overlay_bits.specs.Lines.{has_line};
 ghost use Rattle.segment_store.specs.Kept.{IsStore};
-ghost use Rattle.segment_store.specs.Store.{IsFrame, IsSegment, frame_line, line_in, lines_at};
-ghost use Rattle.overlay_pages.specs.Steps.{FillsFrame, PutsLine};
+ghost use Rattle.segment_store.specs.Store.{IsFrame, frame_line};
+ghost use Rattle.segment_store.specs.Changes.{FillsFrame};
+ghost use Rattle.overlay_pages.specs.Steps.{PutsLine};
 
-use overlay_bits::Bits;
 use segment_store::SegmentStore;
 use sizes::PAGE_BYTES;
-use unit_map::Block;
 
-/// A line of a frame, which is taken, becomes this one.
-fn put_line(store: &mut SegmentStore, frame: u32, line: u8, bytes: &[u8; 64])
+/// A line of a frame, which is taken, becomes these 64 bytes.
+#[inline]
+fn put_line(store: &mut SegmentStore, frame: u32, line: u8, bytes: &[u8])
     requires store { IsStore store.old }
     requires frame { IsFrame store.old frame }
     requires line { line < PAGE_LINES }
+    requires bytes { length bytes.now ≡ LINE_BYTES }
     ensures { PutsLine store.old store.new frame line bytes.now }
 {
-    *store.frame_line_mut(frame, line) = *bytes;
-}
-
-/// The lines of a frame, which is taken, become these.
-pub(crate) fn fill_lines(store: &mut SegmentStore, frame: u32, lines: &[[u8; 64]; 64])
-    requires store { IsStore store.old }
-    requires frame { IsFrame store.old frame }
-    ensures fills { FillsFrame store.old store.new frame }
-    ensures lines { (i : ℕ) → i < PAGE_LINES
-        → frame_line store.new frame i ≡ slice_index_or lines.now i [] }
-{
-    'filling: for i in 0..64u8 {
-        put_line(store, frame, i, &lines[usize::from(i)]);
-    }
+    store.frame_line_mut(frame, line).copy_from_slice(bytes);
 }
 
 /// The bytes of a frame, which is taken, become these.
@@ -45,24 +32,6 @@ pub(crate) fn fill_bytes(store: &mut SegmentStore, frame: u32, bytes: &[u8; PAGE
 {
     'filling: for i in 0..64u8 {
         let at = 64 * usize::from(i);
-        let mut line = [0; 64];
-        line.copy_from_slice(&bytes[at..at + 64]);
-        put_line(store, frame, i, &line);
-    }
-}
-
-/// The lines of a segment go into a frame, which is taken.
-pub(crate) fn commit_lines(store: &mut SegmentStore, block: Block, bits: Bits, frame: u32)
-    requires store { IsStore store.old }
-    requires frame { IsFrame store.old frame }
-    requires there { IsSegment store.old block }
-    requires lines { lines_at store.old block.unit ≡ bits }
-    ensures fills { FillsFrame store.old store.new frame }
-    ensures lines { (i : ℕ) → i < PAGE_LINES → frame_line store.new frame i
-        ≡ cond (has_line bits i) (line_in store.old block i) (frame_line store.old frame i) }
-{
-    'committing: for line in bits.iter() {
-        let bytes = *store.get(block, line);
-        put_line(store, frame, line, &bytes);
+        put_line(store, frame, i, &bytes[at..at + 64]);
     }
 }

@@ -11,7 +11,7 @@ ghost use Rattle.segment_store.specs.Pointers.{capacity_of};
 ghost use Rattle.segment_store.specs.Store.{line_in, scratch_line};
 ghost use Rattle.segment_store.specs.Changes.{KeepsFrames, KeepsScratch};
 ghost use Rattle.space_maps.specs.Spaces.{page_in, turned_page};
-ghost use Rattle.space_ledger.specs.View.{lines_of, overlay_at};
+ghost use Rattle.space_ledger.specs.View.{frame_at, lines_of, overlay_at};
 ghost use Rattle.overlay_pages.specs.Changes.{Fits, brought, discarded, limit_of, units_of};
 ghost use Rattle.overlay_pages.specs.Calls.{MovesFewBeside};
 ghost use Rattle.overlay_pages.specs.View.{IsJoined, state_of, view_of};
@@ -230,47 +230,29 @@ fn join(
     }
 }
 
-/// A line that isn't in the overlay of a page comes there.
-fn overlay_line(
-    store: &mut SegmentStore,
-    ledger: &mut SpaceLedger,
-    space: u16,
-    page: u64,
-    line: u8,
-    bytes: &[u8; 64],
-)
-    requires joined { IsJoined (view_of store.old ledger.old) }
-    requires there { IsSome (page_in ledger.old space page) }
-    requires line { line < PAGE_LINES }
-    requires absent { has_line (lines_of (overlay_at ledger.old space page)) line ≡ false }
-    requires fits { Fits (turned_page (joins line bytes.now)
-        (state_of (view_of store.old ledger.old)) space page) }
-    ensures joined { IsJoined (view_of store.new ledger.new) }
-    ensures state { state_of (view_of store.new ledger.new)
-        ≡ turned_page (joins line bytes.now) (state_of (view_of store.old ledger.old)) space page }
+/// Whether an overlay, if there is one, has a line.
+fn has_own(overlay: &Option<Entry>, line: u8) -> bool
+    requires { line < PAGE_LINES }
+    ensures { result ≡ has_line (lines_of overlay.now) line }
 {
-    match ledger.overlay(space, page) {
-        Some(entry) => join(store, ledger, space, page, entry, line, bytes),
-        None => begin_with(store, ledger, space, page, line, bytes),
-    }
-}
-
-/// Whether a line of a page that is there is in its overlay.
-fn has_own(ledger: &SpaceLedger, space: u16, page: u64, line: u8) -> bool
-    requires there { IsSome (page_in ledger.now space page) }
-    requires line { line < PAGE_LINES }
-    ensures { result ≡ has_line (lines_of (overlay_at ledger.now space page)) line }
-{
-    match ledger.overlay(space, page) {
+    match overlay {
         Some(entry) => entry.bits.has(line),
         None => false,
     }
 }
 
-/// A line of a page that is to be written in its overlay is there: as the frame has it, where it wasn't there.
-fn bring_line(store: &mut SegmentStore, ledger: &mut SpaceLedger, space: u16, page: u64, line: u8)
+/// A line of a page that is to be written in its overlay is there: as the page's frame has it, where it wasn't there.
+fn bring_line(
+    store: &mut SegmentStore,
+    ledger: &mut SpaceLedger,
+    space: u16,
+    page: u64,
+    frame: u32,
+    line: u8,
+)
     requires joined { IsJoined (view_of store.old ledger.old) }
     requires there { IsSome (page_in ledger.old space page) }
+    requires frame { frame_at ledger.old space page ≡ Some frame }
     requires line { line < PAGE_LINES }
     requires fits { Fits (turned_page (brought (line ∷ []))
         (state_of (view_of store.old ledger.old)) space page) }
@@ -278,28 +260,29 @@ fn bring_line(store: &mut SegmentStore, ledger: &mut SpaceLedger, space: u16, pa
     ensures state { state_of (view_of store.new ledger.new)
         ≡ turned_page (brought (line ∷ [])) (state_of (view_of store.old ledger.old)) space page }
 {
-    if has_own(ledger, space, page, line) {
+    let overlay = ledger.overlay(space, page);
+    if has_own(&overlay, line) {
         return;
     }
-    match ledger.entry(space, page) {
-        Some(entry) => {
-            let bytes = *store.frame_line(entry.frame, line);
-            overlay_line(store, ledger, space, page, line, &bytes);
-        }
-        None => unreachable!(),
+    let bytes = *store.frame_line(frame, line);
+    match overlay {
+        Some(entry) => join(store, ledger, space, page, entry, line, &bytes),
+        None => begin_with(store, ledger, space, page, line, &bytes),
     }
 }
 
-/// Lines of a page that are to be written in its overlay are there: as the frame has them, where they weren't there.
+/// Lines of a page that are to be written in its overlay are there: as the page's frame has them, where they weren't there.
 pub(crate) fn bring_lines(
     store: &mut SegmentStore,
     ledger: &mut SpaceLedger,
     space: u16,
     page: u64,
+    frame: u32,
     lines: Bits,
 )
     requires joined { IsJoined (view_of store.old ledger.old) }
     requires there { IsSome (page_in ledger.old space page) }
+    requires frame { frame_at ledger.old space page ≡ Some frame }
     requires fits { Fits (turned_page (brought lines)
         (state_of (view_of store.old ledger.old)) space page) }
     ensures joined { IsJoined (view_of store.new ledger.new) }
@@ -307,6 +290,6 @@ pub(crate) fn bring_lines(
         ≡ turned_page (brought lines) (state_of (view_of store.old ledger.old)) space page }
 {
     'bringing: for line in lines.iter() {
-        bring_line(store, ledger, space, page, line);
+        bring_line(store, ledger, space, page, frame, line);
     }
 }

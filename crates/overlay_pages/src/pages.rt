@@ -325,6 +325,7 @@ impl OverlayPages {
 
     /// Whether stores to pages of a space that name a frame go into it: the space isn't speculating, and one page names the frame, which
     /// isn't the zero frame. Where none does, the answer tells nothing. Costs a step.
+    #[inline(always)]
     fn writes_frame(&self, space: u16, frame: u32) -> bool
         requires { frame < self.now.table.frames }
         ensures { (page : ℕ) → frame_at self.now.table space page ≡ Some frame
@@ -450,10 +451,16 @@ impl OverlayPages {
         requires fits { Fits (with_brought (state_of self.old) space page lines) }
         ensures { state_of self.new ≡ with_brought (state_of self.old) space page lines }
     {
-        if writes_frame(&self.ledger, space, page) {
-            return;
+        match self.ledger.entry(space, page) {
+            Some(entry) => {
+                if self.writes_frame(space, entry.frame) {
+                    return;
+                }
+                let (store, ledger) = (&mut self.store, &mut self.ledger);
+                bring_lines(store, ledger, space, page, entry.frame, lines);
+            }
+            None => unreachable!(),
         }
-        bring_lines(&mut self.store, &mut self.ledger, space, page, lines);
     }
 
     /// The own lines of a page that is there and alone go into its frame. Takes no memory. Costs a copy of each own line, and
@@ -532,7 +539,7 @@ impl OverlayPages {
     }
 
     /// Shares a page with a space in which it awaits as the least, with the frame that it has: it gets its lines, and an overlay
-    /// of its own. The units after it are there. Takes no memory. Costs a copy of each own line.
+    /// of its own. The units after it are there. Takes no memory. Costs one copy of the overlay's block.
     pub fn share_page(&mut self, from: u16, to: u16, page: u64)
         requires there { IsSome (page_in (state_of self.old) from page) }
         requires space { holds_space (state_of self.old) to ≡ true }
@@ -555,13 +562,4 @@ impl OverlayPages {
     {
         share_below(&self.store, &mut self.ledger, from, to, until);
     }
-}
-
-/// Whether stores to a page that is there go into its frame.
-fn writes_frame(ledger: &SpaceLedger, space: u16, page: u64) -> bool
-    requires { IsSome (page_in ledger.now space page) }
-    ensures { result ≡ (not (space_in ledger.now space).speculating
-        && book.is_alone (ledger_of ledger.now) space page) }
-{
-    !ledger.is_speculating(space) && ledger.is_alone(space, page)
 }

@@ -7,15 +7,17 @@ ghost use Rattle.std.specs.FinMap as map;
 ghost use Rattle.sizes.specs.declared.TheConstants.{FRAME_UNITS, PAGE_BYTES};
 ghost use Rattle.unit_map.specs.Changes.{HasRoom};
 ghost use Rattle.ledger.specs.Ledger.{is_alone};
+ghost use Rattle.segment_store.specs.Store.{IsFrame, composed_line};
 ghost use Rattle.space_maps.specs.Spaces.{cut_page, cut_pages, holds_space, page_in, space_in};
 ghost use Rattle.space_ledger.specs.Calls.{IsBareRun};
 ghost use Rattle.space_ledger.specs.View.{ledger_of, overlay_at};
-ghost use Rattle.overlay_pages.specs.Lines.{lines_of_bytes, same_lines};
+ghost use Rattle.overlay_pages.specs.Lines.{lines_of_bytes, page_lines};
 ghost use Rattle.overlay_pages.specs.Changes.{IsPlaced, moved_to};
 ghost use Rattle.overlay_pages.specs.Steps.{KeepsOtherOverlays};
 ghost use Rattle.overlay_pages.specs.View.{IsJoined, state_of, view_of};
 
-use crate::frames::{fill_bytes, fill_lines};
+use crate::frames::fill_bytes;
+use overlay_bits::Bits;
 use page_table::PageRun;
 use segment_store::SegmentStore;
 use sizes::PAGE_BYTES;
@@ -86,13 +88,15 @@ pub(crate) fn place_bytes(
     ledger.set_frame(space, page, frame);
 }
 
-/// A page that has no overlay, and isn't alone, gets a new frame, for which there is room, with these lines.
-pub(crate) fn place_lines(
+/// A page that has no overlay, and isn't alone, gets a new frame, for which there is room: with the lines of scratch that a set has,
+/// and else with those of another frame, which is taken.
+pub(crate) fn place_composed(
     store: &mut SegmentStore,
     ledger: &mut SpaceLedger,
     space: u16,
     page: u64,
-    lines: &[[u8; 64]; 64],
+    from: u32,
+    bits: Bits,
 )
     requires joined { IsJoined (view_of store.old ledger.old) }
     requires there { IsSome (page_in ledger.old space page) }
@@ -100,13 +104,14 @@ pub(crate) fn place_lines(
     requires shared { is_alone (ledger_of ledger.old) space page ≡ false }
     requires settled { (space_in ledger.old space).awaiting ≡ map.empty }
     requires room { HasRoom store.old.blocks 4 }
+    requires from { IsFrame store.old from }
     ensures joined { IsJoined (view_of store.new ledger.new) }
     ensures placed { IfSome (page_in (state_of (view_of store.old ledger.old)) space page)
         (λ x. IsPlaced (state_of (view_of store.old ledger.old)) (state_of (view_of store.new ledger.new))
-        space page (moved_to x (same_lines lines.now))) }
+        space page (moved_to x (page_lines (composed_line store.old from bits)))) }
     ensures others { KeepsOtherOverlays space page ledger.old ledger.new }
 {
     let frame = store.take_frame();
-    fill_lines(store, frame, lines);
+    store.compose_frame(from, bits, frame);
     ledger.set_frame(space, page, frame);
 }

@@ -12,9 +12,8 @@ ghost use Rattle.overlay_pages.specs.Changes.{HasCopyRoom, IsPlaced, committed, 
 ghost use Rattle.overlay_pages.specs.Calls.{MovesFewBeside};
 ghost use Rattle.overlay_pages.specs.View.{IsJoined, state_of, view_of};
 
-use crate::frames::commit_lines;
 use crate::overlays::{drop_overlay, take_up};
-use crate::placing::place_lines;
+use crate::placing::place_composed;
 use overlay_mapping_table::Entry;
 use segment_store::SegmentStore;
 use space_ledger::SpaceLedger;
@@ -42,7 +41,8 @@ pub(crate) fn commit(store: &mut SegmentStore, ledger: &mut SpaceLedger, space: 
 {
     if let Some(overlay) = ledger.overlay(space, page) {
         let frame = frame_of(ledger, space, page);
-        commit_lines(store, overlay.block, overlay.bits, frame);
+        store.lift(overlay.block, overlay.bits);
+        store.compose_frame(frame, overlay.bits, frame);
         drop_overlay(store, ledger, space, page);
     }
 }
@@ -69,7 +69,5 @@ pub(crate) fn copy_commit(
 {
     let frame = frame_of(ledger, space, page);
     take_up(store, ledger, space, page, &overlay, 4);
-    let mut lines = [[0; 64]; 64];
-    store.compose_scratch(frame, overlay.bits, &mut lines);
-    place_lines(store, ledger, space, page, &lines);
+    place_composed(store, ledger, space, page, frame, overlay.bits);
 }

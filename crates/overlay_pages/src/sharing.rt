@@ -51,9 +51,7 @@ fn share_overlaid(
     ensures state { state_of (view_of store.new ledger.new)
         ≡ with_shared (state_of (view_of store.old ledger.old)) from to page }
 {
-    store.lift(overlay.block, overlay.bits);
-    let block = store.begin_segment(OverlayPage::of(to, page), overlay.block.order);
-    store.lay(block, overlay.bits);
+    let block = store.copy_segment(overlay.block, OverlayPage::of(to, page));
     ledger.share_page(from, to, page, Some(block));
 }
 

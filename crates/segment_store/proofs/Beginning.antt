@@ -1,16 +1,18 @@
-use Rattle.std.proofs.Common.{◌≡◌, ℕ, ◌+◌, ◌*◌, ◌/◌, ◌%◌, ◌^◌, ◌<◌, ◌≤◌, ◌⊎◌, inl, inr, List, [], length, get_or, set, Some, None, sym, ap, subst, ◌∙◌, arith, pow_pos}
-use Rattle.std.specs.Option.{option_map_or}
+use Rattle.std.proofs.Common.{◌≡◌, ℕ, ◌+◌, ◌*◌, ◌/◌, ◌%◌, ◌^◌, ◌<◌, ◌≤◌, ◌⊎◌, inl, inr, List, length, get_or, set, Some, None, sym, ap, subst, ◌∙◌, arith, pow_pos}
 use Rattle.std.proofs.lemmas.List.{get_or-set_same, get_or-set_other, length-set}
+use Rattle.std.proofs.lemmas.Option.{same_Some}
 use Rattle.line_store.specs.Lines.{line_of}
-use Rattle.unit_map.specs.Pieces.{Piece, ArePieces, IsApartFromTaken, IsPiece, taken_at, units_in}
-use Rattle.unit_map.specs.Changes.{KeepsTaken, KeepsOthers}
+use Rattle.unit_map.specs.Blocks.{LosesUnits, TakesAsked}
+use Rattle.unit_map.specs.Pieces.{AreSettled, Piece, ArePieces, IsApartFromTaken, IsPiece, taken_at, units_in}
+use Rattle.unit_map.specs.Changes.{KeepsTaken, KeepsOthers, OnlyTakes}
 use Rattle.unit_map.specs.Laws.{within}
 use Rattle.unit_map.specs.declared.block.Block.{Block}
-use Rattle.overlay_bits.specs.Laws.{are_none}
+use Rattle.overlay_bits.specs.Lines.{AreLines}
+use Rattle.segment_store.specs.Pointers.{ArePointers, capacity_of}
 use Rattle.segment_store.specs.Store.{Store, IsFrame, IsSegment, segment_at}
 use Rattle.segment_store.specs.Places.{BeginsLines, HasBlock}
 use Rattle.segment_store.specs.Kept.{IsStore}
-use Rattle.segment_store.specs.Changes.{Begins, KeepsFrames, KeepsOtherSegments, KeepsScratch, KeepsSegments}
+use Rattle.segment_store.specs.Changes.{BeginsSegment, KeepsFrames, KeepsLines, KeepsOtherSegments, KeepsScratch}
 use Rattle.segment_store.specs.Laws.{Alters, IsGood, free_range, frame_stays, fresh_frame, fresh_unit, next_store, others_stay, scratch_stays, segments_stay, frames_stay, segment_range, some_none}
 use Rattle.segment_store.specs.declared.segment.Segment.{Segment}
 
@@ -39,59 +41,61 @@ block_taken store is blocks are units block taken =
     record { order = (are.aligned _ taken).order; inside = omega (arith, inside, units, is.lines); few = omega (arith, is.lines, is.pieces.few) }
 
 -- a segment began
-pub record HasBegun (old new : Store) (owner : ℕ) (block : Block) : Type 0 where
-  pub begins : Begins old new owner block
-  pub segments : KeepsSegments old new
-  pub frames : KeepsFrames old new
-  pub scratch : KeepsScratch old new
-  pub store : IsStore new
+module _ (old new : Store) (owner order : ℕ) (bits : List ℕ) (block : Block) (is : IsStore old) (are : ArePieces new.blocks) (asked : TakesAsked old.blocks order new.blocks block)
+    (taken : IsPiece new.blocks (taken_at block.unit block.order)) (kept : KeepsTaken old.blocks new.blocks) (only : OnlyTakes old.blocks block.unit block.order new.blocks) (units : units_in new.blocks ≡ units_in old.blocks)
+    (free : LosesUnits old.blocks new.blocks block) (apart : IsApartFromTaken old.blocks block.unit block.order) (settled : AreSettled old.blocks → AreSettled new.blocks)
+    (segments : new.segments ≡ set old.segments block.unit (Some (record { owner = owner; order = block.order; bits = bits }))) where
+  abbrev begun_now : Segment
+  begun_now = record { owner = owner; order = block.order; bits = bits }
 
-pub begun : (old new : Store) (owner : ℕ) (block : Block) → IsStore old → ArePieces new.blocks → units_in new.blocks ≡ units_in old.blocks → KeepsTaken old.blocks new.blocks
-    → IsApartFromTaken old.blocks block.unit block.order → IsPiece new.blocks (taken_at block.unit block.order)
-    → BeginsLines old.lines new.lines block
-    → new.segments ≡ set old.segments block.unit (Some (record { owner = owner; order = block.order; bits = [] }))
-    → HasBegun old new owner block
-begun old new owner block is are units kept apart taken lines segments = record {
-  begins = record { fresh = fresh; segments = segments; there = there; lines = lines };
-  segments = segments_stay old new block.unit (4 * block.unit) (4 * 2 ^ block.order) alters fresh;
-  frames = λ frame f. frame_stays old new block.unit (4 * block.unit) (4 * 2 ^ block.order) alters frame f (fresh_frame old block.unit block.order apart frame f);
-  scratch = scratch_stays old new block.unit (4 * block.unit) (4 * 2 ^ block.order) alters (omega (arith, inside, units));
-  store = next_store old new block.unit (4 * block.unit) (4 * 2 ^ block.order) alters (λ segment here. good segment (some_is (sym here ∙ there)));
-}
+  inside : block.unit + 2 ^ block.order ≤ units_in new.blocks
+  inside = within new.blocks are _ taken
+
+  fresh : segment_at old block.unit ≡ None
+  fresh = fresh_unit old is block.unit block.order apart
+
+  there : segment_at new block.unit ≡ Some begun_now
+  there = ap (λ l. get_or l block.unit None) segments ∙ get_or-set_same old.segments block.unit (Some begun_now) None (omega (arith, inside, units, is.units, pow_pos block.order))
+
+  alters : KeepsLines (4 * block.unit) (4 * 2 ^ block.order) old.lines new.lines → Alters old new block.unit (4 * block.unit) (4 * 2 ^ block.order)
+  alters lines = record {
+    is = is;
+    range = free_range old block.unit block.order apart;
+    lines = lines;
+    same = λ v n. ap (λ l. get_or l v None) segments ∙ get_or-set_other old.segments block.unit v (Some begun_now) None n;
+    taken = λ v j h n. kept v j h;
+    pieces = are;
+    units = units;
+    size = ap length segments ∙ length-set old.segments block.unit (Some begun_now);
+  }
+
+  pub began : KeepsLines (4 * block.unit) (4 * 2 ^ block.order) old.lines new.lines → AreLines bits → (block.order < 4 → ArePointers (capacity_of block.order) bits (line_of new.lines (4 * block.unit)))
+      → BeginsSegment old new owner order bits block
+  began lines set pointers = record {
+    fresh = fresh;
+    segments = segments;
+    there = there;
+    asked = asked;
+    only = only;
+    others = segments_stay old new block.unit (4 * block.unit) (4 * 2 ^ block.order) (alters lines) fresh;
+    frames = λ frame f. frame_stays old new block.unit (4 * block.unit) (4 * 2 ^ block.order) (alters lines) frame f (fresh_frame old block.unit block.order apart frame f);
+    scratch = scratch_stays old new block.unit (4 * block.unit) (4 * 2 ^ block.order) (alters lines) (omega (arith, inside, units));
+    free = free;
+    units = units;
+    settled = settled;
+    store = next_store old new block.unit (4 * block.unit) (4 * 2 ^ block.order) (alters lines) (λ segment here. good segment (same_Some _ _ (sym here ∙ there)));
+  }
+    where
+      good : (segment : Segment) → segment ≡ begun_now → IsGood new block.unit segment
+      good segment e = subst (IsGood new block.unit) (sym e) (record { taken = taken; set = set; pointers = pointers })
+
+-- without a line
+pub begun_lines : (old new : List (List ℕ)) (block : Block) → BeginsLines old new block → KeepsLines (4 * block.unit) (4 * 2 ^ block.order) old new
+begun_lines old new block lines = record { size = lines.size; outside = λ at out. lines.others at (λ h. off at out) }
   where
-    empty : Segment
-    empty = record { owner = owner; order = block.order; bits = [] }
-
-    inside : block.unit + 2 ^ block.order ≤ units_in new.blocks
-    inside = within new.blocks are _ taken
-
-    fresh : segment_at old block.unit ≡ None
-    fresh = fresh_unit old is block.unit block.order apart
-
-    there : segment_at new block.unit ≡ Some empty
-    there = ap (λ l. get_or l block.unit None) segments ∙ get_or-set_same old.segments block.unit (Some empty) None (omega (arith, inside, units, is.units, pow_pos block.order))
-
     off : (at : ℕ) → (at < 4 * block.unit) ⊎ (4 * block.unit + 4 * 2 ^ block.order ≤ at) → at ≡ 4 * block.unit → ⊥
     off at (inl h) e = omega (arith, h, e)
     off at (inr h) e = omega (arith, h, e, pow_pos block.order)
-
-    alters : Alters old new block.unit (4 * block.unit) (4 * 2 ^ block.order)
-    alters = record {
-      is = is;
-      range = free_range old block.unit block.order apart;
-      lines = record { size = lines.size; outside = λ at out. lines.others at (λ h. off at out) };
-      same = λ v n. ap (λ l. get_or l v None) segments ∙ get_or-set_other old.segments block.unit v (Some empty) None n;
-      taken = λ v j h n. kept v j h;
-      pieces = are;
-      units = units;
-      size = ap length segments ∙ length-set old.segments block.unit (Some empty);
-    }
-
-    some_is : {one two : Segment} → Some one ≡ Some two → one ≡ two
-    some_is {one = one} e = ap (λ o. option_map_or (λ (s : Segment). s) o one) e
-
-    good : (segment : Segment) → segment ≡ empty → IsGood new block.unit segment
-    good segment e = subst (IsGood new block.unit) (sym e) (record { taken = taken; set = are_none; pointers = lines.pointers })
 
 -- a segment ended, or a frame was given back: its block is free
 pub record HasEnded (old new : Store) (unit : ℕ) : Type 0 where

@@ -2,16 +2,15 @@ use Rattle.std.proofs.Common.{◌≡◌, ℕ, ◌+◌, ◌-◌, ◌*◌, ◌<◌
 use Rattle.std.proofs.lemmas.Bool.{cases_eq}
 use Rattle.std.proofs.lemmas.Bool.Decides.{nat_tests}
 use Rattle.std.proofs.lemmas.List.{get_or-set_same, get_or-set_other, length-set}
-use Rattle.line_store.specs.Lines.{line_of, with_copied}
+use Rattle.line_store.specs.Lines.{line_of}
 use Rattle.unit_map.specs.Pieces.{ArePieces, IsPiece, taken_at, units_in}
 use Rattle.overlay_bits.specs.Lines.{AreLines, has_line}
 use Rattle.overlay_bits.specs.Laws.{has_next, has_with, next_inside, with_next}
-use Rattle.segment_store.specs.Store.{Store, IsFrame, frame_line, scratch_line, segment_at}
-use Rattle.segment_store.specs.Places.{HasLaidOver, LaysOver}
+use Rattle.segment_store.specs.Store.{Store, IsFrame, composed_line, frame_line, segment_at}
+use Rattle.segment_store.specs.Places.{CopiesPage, HasLaidOver, LaysOver}
 use Rattle.segment_store.specs.Kept.{IsStore}
 use Rattle.segment_store.specs.Changes.{FillsFrame, KeepsLines}
 use Rattle.segment_store.specs.Laws.{Alters, frame_inside, frame_range, frame_stays, next_store, scratch_stays, segments_stay, some_none}
-use Rattle.segment_store.proofs.Copies.{copied_in, copied_out}
 
 -- Lines of scratch are laid over a page.
 
@@ -104,32 +103,16 @@ frame_filled old new frame is f lines blocks segments = record {
 
 pub record HasComposed (old new : Store) (from : ℕ) (bits : List ℕ) (to : ℕ) : Type 0 where
   pub fills : FillsFrame old new to
-  pub lines : (line : ℕ) → line < 64 → frame_line new to line ≡ cond (has_line bits line) (scratch_line old line) (frame_line old from line)
+  pub lines : (line : ℕ) → line < 64 → frame_line new to line ≡ composed_line old from bits line
 
-pub composed_frame : (old new : Store) (mid : List (List ℕ)) (from : ℕ) (bits : List ℕ) (to : ℕ) → IsStore old → 16 * from + 16 ≤ units_in old.blocks → IsFrame old to
-    → mid ≡ with_copied old.lines (64 * from) (64 * to) 64 → length mid ≡ length old.lines → LaysOver (length mid - 64) (64 * to) bits mid new.lines → new.blocks ≡ old.blocks → new.segments ≡ old.segments
-    → HasComposed old new from bits to
-composed_frame old new mid from bits to is source f copied size lay blocks segments = record {
-  fills = frame_filled old new to is f (record { size = lay.size ∙ size; outside = λ at out. lay.outside at out ∙ outside at out }) blocks segments;
-  lines = λ line low. lay.lines line low ∙ ap₂ (cond (has_line bits line)) (scratch_same line low) (inside line low);
+pub composed_frame : (old new : Store) (mid : List (List ℕ)) (from : ℕ) (bits : List ℕ) (to : ℕ) → IsStore old → IsFrame old to → CopiesPage (64 * from) (64 * to) old.lines mid
+    → LaysOver (length mid - 64) (64 * to) bits mid new.lines → new.blocks ≡ old.blocks → new.segments ≡ old.segments → HasComposed old new from bits to
+composed_frame old new mid from bits to is f page lay blocks segments = record {
+  fills = frame_filled old new to is f (record { size = lay.size ∙ page.size; outside = λ at out. lay.outside at out ∙ page.outside at out }) blocks segments;
+  lines = λ line low. lay.lines line low ∙ ap₂ (cond (has_line bits line)) (scratch_same line) (page.lines line low);
 }
   where
-    source_lines : 64 * from + 64 ≤ length old.lines
-    source_lines = omega (arith, source, is.lines)
-
-    target : 16 * to + 16 ≤ units_in old.blocks
-    target = frame_inside old is to f
-
-    target_lines : 64 * to + 64 ≤ length old.lines
-    target_lines = omega (arith, target, is.lines)
-
-    outside : (at : ℕ) → (at < 64 * to) ⊎ (64 * to + 64 ≤ at) → line_of mid at ≡ line_of old.lines at
-    outside at out = ap (λ l. line_of l at) copied ∙ copied_out old.lines (64 * from) (64 * to) 64 at source_lines target_lines out
-
-    inside : (line : ℕ) → line < 64 → line_of mid (64 * to + line) ≡ line_of old.lines (64 * from + line)
-    inside line low = ap (λ l. line_of l (64 * to + line)) copied ∙ copied_in old.lines (64 * from) (64 * to) 64 line source_lines target_lines low
-
-    scratch_same : (line : ℕ) → line < 64 → line_of mid (length mid - 64 + line) ≡ line_of old.lines (4 * units_in old.blocks + line)
-    scratch_same line low =
-        let place : length mid - 64 + line ≡ 4 * units_in old.blocks + line = omega (arith, size, is.lines) in
-        ap (line_of mid) place ∙ outside (4 * units_in old.blocks + line) (inr (omega (arith, target)))
+    scratch_same : (line : ℕ) → line_of mid (length mid - 64 + line) ≡ line_of old.lines (4 * units_in old.blocks + line)
+    scratch_same line =
+        let place : length mid - 64 + line ≡ 4 * units_in old.blocks + line = omega (arith, page.size, is.lines) in
+        ap (line_of mid) place ∙ page.outside (4 * units_in old.blocks + line) (inr (omega (arith, frame_inside old is to f)))

@@ -1,14 +1,14 @@
 use Rattle.std.specs.Prelude.{◌≡◌, ℕ, ◌+◌, ◌-◌, ◌*◌, ◌^◌, ◌<◌, ◌≤◌, ◌⊎◌, ◌&&◌, true, cond, nat_le, nat_lt, List, [], ◌∷◌, Option, Some, None, length, replicate, slice_index_or, slice_set}
 use Rattle.sizes.specs.declared.TheConstants.{FRAME_UNITS, PAGE_LINES, UNIT_LINES}
 use Rattle.line_store.specs.Lines.{line_of, with_copied, zero_lines}
-use Rattle.unit_map.specs.Pieces.{free_blocks, free_frames, free_units, units_in}
-use Rattle.unit_map.specs.Changes.{CanMove, Gives, Relocates}
+use Rattle.unit_map.specs.Pieces.{AreSettled, free_blocks, free_frames, free_units, units_in}
+use Rattle.unit_map.specs.Changes.{CanMove, Gives, OnlyTakes, Relocates}
+use Rattle.unit_map.specs.Blocks.{LosesUnits, TakesAsked}
 use Rattle.unit_map.specs.declared.block.Block.{Block}
 use Rattle.store_compaction.specs.declared.moves.Move.{Move}
 use Rattle.overlay_bits.specs.Lines.{has_line, rank_of}
 use Rattle.segment_store.specs.Pointers.{slot_of, IsLowestFree}
 use Rattle.segment_store.specs.Kept.{IsStore}
-use Rattle.segment_store.specs.Places.{BeginsLines}
 use Rattle.segment_store.specs.Store.{Store, segment_at, lines_at, place_of, line_in, frame_line, scratch_place, scratch_line, with_lines_at, IsFrame}
 use Rattle.segment_store.specs.declared.segment.Segment.{Segment}
 
@@ -65,18 +65,23 @@ pub record IsEmptyStore (frames : ℕ) (store : Store) : Type 0 where
   pub blocks : store.blocks ≡ free_frames 0 frames
   pub segments : store.segments ≡ replicate (FRAME_UNITS * frames) None
 
--- an empty segment began in a block at which none started
-pub record Begins (old new : Store) (owner : ℕ) (block : Block) : Type 0 where
+-- a segment with these lines began in a block of an order that was free; every other segment, frames and scratch stay
+pub record BeginsSegment (old new : Store) (owner order : ℕ) (bits : List ℕ) (block : Block) : Type 0 where
   pub fresh : segment_at old block.unit ≡ None
-  pub segments : new.segments ≡ slice_set old.segments block.unit (Some (record { owner = owner; order = block.order; bits = [] }))
-  pub there : segment_at new block.unit ≡ Some (record { owner = owner; order = block.order; bits = [] })
-  pub lines : BeginsLines old.lines new.lines block
+  pub segments : new.segments ≡ slice_set old.segments block.unit (Some (record { owner = owner; order = block.order; bits = bits }))
+  pub there : segment_at new block.unit ≡ Some (record { owner = owner; order = block.order; bits = bits })
+  pub asked : TakesAsked old.blocks order new.blocks block
+  pub only : OnlyTakes old.blocks block.unit block.order new.blocks
+  pub others : KeepsSegments old new
+  pub frames : KeepsFrames old new
+  pub scratch : KeepsScratch old new
+  pub free : LosesUnits old.blocks new.blocks block
+  pub units : units_in new.blocks ≡ units_in old.blocks
+  pub settled : AreSettled old.blocks → AreSettled new.blocks
+  pub store : IsStore new
 
--- a segment of another owner began in a block at which none started, with the lines of one as they stand in its block
-pub record Copies (old new : Store) (from : Block) (owner : ℕ) (to : Block) : Type 0 where
-  pub fresh : segment_at old to.unit ≡ None
-  pub segments : new.segments ≡ slice_set old.segments to.unit (Some (record { owner = owner; order = to.order; bits = lines_at old from.unit }))
-  pub there : segment_at new to.unit ≡ Some (record { owner = owner; order = to.order; bits = lines_at old from.unit })
+-- the lines of a segment stand in another block as they stand in its own, and no line outside that changed
+pub record Copies (old new : Store) (from to : Block) : Type 0 where
   pub outside : KeepsLines (UNIT_LINES * to.unit) (UNIT_LINES * 2 ^ to.order) old.lines new.lines
   pub places : (line : ℕ) → has_line (lines_at old from.unit) line ≡ true → place_of new to line + UNIT_LINES * from.unit ≡ place_of old from line + UNIT_LINES * to.unit
   pub lines : (line : ℕ) → has_line (lines_at old from.unit) line ≡ true → line_in new to line ≡ line_in old from line

@@ -70,6 +70,12 @@ pub record HasLifted (scratch : ℕ) (block : Block) (bits front rest : List ℕ
   pub whole : bits ≡ front ++ rest
   pub lifted : LiftsLines scratch block front old new
 
+-- the 64 lines from one on are those from another one on, and no other line changed
+pub record CopiesPage (from to : ℕ) (old new : List (List ℕ)) : Type 0 where
+  pub size : length new ≡ length old
+  pub lines : (i : ℕ) → i < PAGE_LINES → line_of new (to + i) ≡ line_of old (from + i)
+  pub outside : (at : ℕ) → (at < to) ⊎ (to + PAGE_LINES ≤ at) → line_of new at ≡ line_of old at
+
 -- some of the 64 lines from one on are those of the same places behind `scratch`, and no other line changed
 pub record LaysOver (scratch first : ℕ) (bits : List ℕ) (old new : List (List ℕ)) : Type 0 where
   pub size : length new ≡ length old

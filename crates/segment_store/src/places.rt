@@ -4,7 +4,7 @@ ghost use Rattle.sizes.specs.declared.TheConstants.{PAGE_LINES};
 ghost use Rattle.overlay_bits.specs.Lines.{AreLines};
 ghost use Rattle.segment_store.specs.Pointers.{capacity_of};
 ghost use Rattle.segment_store.specs.Store.{place_in};
-ghost use Rattle.segment_store.specs.Places.{BeginsLines, HasBlock, HasFreeSlot, HasNoLine, LieIn, Reserves, LiftsLines, LaysLines, LaysOver};
+ghost use Rattle.segment_store.specs.Places.{BeginsLines, HasBlock, HasFreeSlot, HasNoLine, LieIn, Reserves, LiftsLines, LaysLines, LaysOver, CopiesPage};
 
 use crate::lines::StoreLines;
 use crate::pointers;
@@ -89,5 +89,17 @@ pub(crate) fn lay_over(region: &mut StoreLines, first: u32, bits: Bits)
 {
     'laying: for line in bits.iter() {
         region.lay_line(line, first + u32::from(line));
+    }
+}
+
+/// Makes the lines of a frame those of a frame, maybe of the same. Both lie before scratch.
+pub(crate) fn copy_page(region: &mut StoreLines, from: u32, to: u32)
+    requires source { PAGE_LINES * from + 2 * PAGE_LINES ≤ length region.old }
+    requires target { PAGE_LINES * to + 2 * PAGE_LINES ≤ length region.old }
+    requires few { length region.old ≤ 2 ^ 23 }
+    ensures { CopiesPage (PAGE_LINES * from) (PAGE_LINES * to) region.old region.new }
+{
+    if from != to {
+        region.copy_lines(64 * from, 64 * to, 64);
     }
 }

@@ -5,16 +5,15 @@ ghost use Rattle.arrayvec.specs.ArrayVec.{array_vec_len};
 ghost use Rattle.sizes.specs.declared.TheConstants.{FRAME_UNITS, LINE_BYTES, MOST_FRAMES, PAGE_LINES};
 ghost use Rattle.unit_map.specs.Pieces.{AreSettled, AreSettledBut, CanSettle, free_units, units_in};
 ghost use Rattle.unit_map.specs.Changes.{CanMove, HasRoom, IsFull, Gives, OnlyGives, OnlyTakes, TakesBlock};
-ghost use Rattle.unit_map.specs.Blocks.{LosesUnits, TakesAsked};
 ghost use Rattle.store_compaction.specs.Runs.{HasPair};
 ghost use Rattle.store_compaction.specs.Next.{Ascend, IsPairMove, IsRoomMove, RunsShort};
 ghost use Rattle.overlay_bits.specs.Lines.{has_line};
-ghost use Rattle.overlay_bits.specs.Composed.{composed};
 ghost use Rattle.segment_store.specs.contracts.store.SegmentStore.{the_row};
 ghost use Rattle.segment_store.specs.Pointers.{capacity_of};
-ghost use Rattle.segment_store.specs.Store.{segment_at, lines_at, place_of, line_in, frame_place, frame_line, frame_page, scratch_line, scratch_page, with_frame_line, with_segment_line, lines_with, IsFrame, IsSegment};
+ghost use Rattle.segment_store.specs.Store.{segment_at, lines_at, place_of, line_in, frame_place, frame_line, composed_line, with_frame_line, with_segment_line, lines_with, IsFrame, IsSegment};
 ghost use Rattle.segment_store.specs.Kept.{IsStore};
-ghost use Rattle.segment_store.specs.Changes.{IsEmptyStore, Begins, Copies, Ends, FillsFrame, HasLinesNow, Inserts, IsKept, Lays, Lifts, KeepsSegments, KeepsOtherSegments, KeepsFrames, KeepsOtherFrames, KeepsScratch, MakesMove, MakesMoves, SegmentsOutsideStay, WholeSegmentsStay, moved_lines};
+ghost use Rattle.segment_store.specs.Places.{BeginsLines};
+ghost use Rattle.segment_store.specs.Changes.{IsEmptyStore, BeginsSegment, Copies, Ends, FillsFrame, HasLinesNow, Inserts, IsKept, Lays, Lifts, KeepsSegments, KeepsOtherSegments, KeepsFrames, KeepsOtherFrames, KeepsScratch, MakesMove, MakesMoves, SegmentsOutsideStay, WholeSegmentsStay, moved_lines};
 
 use crate::lines::StoreLines;
 use crate::places;
@@ -23,7 +22,7 @@ use crate::slots::{self, Slots};
 use crate::steps::Steps;
 use arrayvec::ArrayVec;
 use overlay_address::OverlayPage;
-use overlay_bits::{Bits, compose};
+use overlay_bits::Bits;
 use std::alloc::{AllocError, Global};
 use std::marker::Model;
 use std::sync::ledger::Ledger;
@@ -237,16 +236,8 @@ impl SegmentStore {
     pub fn begin_segment(&mut self, owner: OverlayPage, order: u8) -> Block
         requires order { order ≤ 4 }
         requires room { HasRoom self.old.blocks order }
-        ensures begins { Begins self.old self.new owner result }
-        ensures blocks { TakesAsked self.old.blocks order self.new.blocks result }
-        ensures only { OnlyTakes self.old.blocks result.unit result.order self.new.blocks }
-        ensures segments { KeepsSegments self.old self.new }
-        ensures frames { KeepsFrames self.old self.new }
-        ensures scratch { KeepsScratch self.old self.new }
-        ensures free { LosesUnits self.old.blocks self.new.blocks result }
-        ensures units { units_in self.new.blocks ≡ units_in self.old.blocks }
-        ensures settled { AreSettled self.old.blocks → AreSettled self.new.blocks }
-        ensures store { IsStore self.new }
+        ensures begins { BeginsSegment self.old self.new owner order [] result }
+        ensures lines { BeginsLines self.old.lines self.new.lines result }
     {
         match self.map.take(order) {
             Some(block) => {
@@ -269,16 +260,8 @@ impl SegmentStore {
     pub fn copy_segment(&mut self, from: Block, owner: OverlayPage) -> Block
         requires there { IsSegment self.old from }
         requires room { HasRoom self.old.blocks from.order }
-        ensures copies { Copies self.old self.new from owner result }
-        ensures blocks { TakesAsked self.old.blocks from.order self.new.blocks result }
-        ensures only { OnlyTakes self.old.blocks result.unit result.order self.new.blocks }
-        ensures segments { KeepsSegments self.old self.new }
-        ensures frames { KeepsFrames self.old self.new }
-        ensures scratch { KeepsScratch self.old self.new }
-        ensures free { LosesUnits self.old.blocks self.new.blocks result }
-        ensures units { units_in self.new.blocks ≡ units_in self.old.blocks }
-        ensures settled { AreSettled self.old.blocks → AreSettled self.new.blocks }
-        ensures store { IsStore self.new }
+        ensures begins { BeginsSegment self.old self.new owner from.order (lines_at self.old from.unit) result }
+        ensures copies { Copies self.old self.new from result }
     {
         match self.map.take(from.order) {
             Some(to) => {
@@ -358,30 +341,17 @@ impl SegmentStore {
         slots::set_lines(&mut self.slots, block.unit, bits);
     }
 
-    /// Composes a page of a frame, which is one of the store's, and scratch: each line of the set is that of
-    /// scratch, any other one that of the frame. Costs a copy for each line.
-    pub fn compose_scratch(&self, frame: u32, bits: Bits, out: &mut [[u8; 64]; 64])
-        requires { FRAME_UNITS * frame + FRAME_UNITS ≤ units_in self.now.blocks }
-        ensures lines { out.new ≡ composed (frame_page self.now frame) (scratch_page self.now) bits }
-        ensures store { IsStore self.now }
-    {
-        let below = self.region.page(64 * frame);
-        let above = self.region.scratch();
-        compose(below, above, bits, out);
-    }
-
-    /// Composes a page of a frame, which is one of the store's, and scratch, in another frame, which has to be taken: each line of the
-    /// set is that of scratch, any other one that of the frame. Nothing else changes. Costs one copy of 64 lines, and one for each line
-    /// of the set.
+    /// Composes a page of a frame, which is one of the store's, and scratch, in a frame that is taken, maybe the same: each line of the
+    /// set is that of scratch, any other one that of the frame. Nothing else changes. Costs a copy for each line of the set, and where
+    /// the frames differ one copy of 64 lines.
     pub fn compose_frame(&mut self, from: u32, bits: Bits, to: u32)
         requires from { FRAME_UNITS * from + FRAME_UNITS ≤ units_in self.old.blocks }
         requires to { IsFrame self.old to }
-        requires differ { from ≢ to }
         ensures fills { FillsFrame self.old self.new to }
-        ensures lines { (line : ℕ) → line < PAGE_LINES → frame_line self.new to line
-            ≡ cond (has_line bits line) (scratch_line self.old line) (frame_line self.old from line) }
+        ensures lines { (line : ℕ) → line < PAGE_LINES
+            → frame_line self.new to line ≡ composed_line self.old from bits line }
     {
-        self.region.copy_lines(64 * from, 64 * to, 64);
+        places::copy_page(&mut self.region, from, to);
         places::lay_over(&mut self.region, 64 * to, bits);
     }
 

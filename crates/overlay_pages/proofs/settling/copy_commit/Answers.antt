@@ -1,5 +1,5 @@
-use Rattle.overlay_pages.proofs.Common.{◌≡◌, Some, arith}
-use Rattle.overlay_pages.proofs.Stores.{frame_inside}
+use Rattle.overlay_pages.proofs.Common.{◌≡◌, Some, subst}
+use Rattle.overlay_pages.proofs.Stores.{IsFrame}
 use Rattle.overlay_pages.proofs.Views.{view_of}
 use Rattle.overlay_pages.proofs.Joining.{Has, page_with}
 use Rattle.overlay_pages.proofs.Committing.{composed_lines_are, copied_at, copy_enough, copy_settled, copy_shared, page_frame}
@@ -9,11 +9,11 @@ use Rattle.overlay_pages.proofs.settling.copy_commit.Goals.{After-frame_of-frame
 pub take_up-requires-clause-enough : goal.take_up-requires-clause-enough
 take_up-requires-clause-enough c = copy_enough (view_of c.args.store.now c.args.ledger.now) c.args.space c.args.page c.args.overlay c.requires.joined c.requires.there c.requires.overlaid c.requires.room
 
-pub place_lines-requires-clause-shared : goal.place_lines-requires-clause-shared
-place_lines-requires-clause-shared c = copy_shared (view_of c.args.store.now c.args.ledger.now) c.args.space c.args.page c.args.overlay c.requires.joined c.requires.there c.requires.overlaid (view_of c.take_up.new.store c.take_up.new.ledger) c.take_up.ensures.state c.requires.shared
+pub place_composed-requires-clause-shared : goal.place_composed-requires-clause-shared
+place_composed-requires-clause-shared c = copy_shared (view_of c.args.store.now c.args.ledger.now) c.args.space c.args.page c.args.overlay c.requires.joined c.requires.there c.requires.overlaid (view_of c.take_up.new.store c.take_up.new.ledger) c.take_up.ensures.state c.requires.shared
 
-pub place_lines-requires-clause-settled : goal.place_lines-requires-clause-settled
-place_lines-requires-clause-settled c = copy_settled (view_of c.args.store.now c.args.ledger.now) c.args.space c.args.page c.args.overlay c.requires.joined c.requires.there c.requires.overlaid (view_of c.take_up.new.store c.take_up.new.ledger) c.take_up.ensures.state c.requires.settled
+pub place_composed-requires-clause-settled : goal.place_composed-requires-clause-settled
+place_composed-requires-clause-settled c = copy_settled (view_of c.args.store.now c.args.ledger.now) c.args.space c.args.page c.args.overlay c.requires.joined c.requires.there c.requires.overlaid (view_of c.take_up.new.store c.take_up.new.ledger) c.take_up.ensures.state c.requires.settled
 
 -- the page and its frame
 abbrev page : (c : After-frame_of-frame) → Has c.args.ledger.now c.args.space c.args.page (Some c.args.overlay)
@@ -22,17 +22,15 @@ page c = page_with c.args.ledger.now c.args.space c.args.page c.requires.there (
 framed : (c : After-frame_of-frame) → (page c).x.entry.frame ≡ c.frame_of-frame.result
 framed c = page_frame c.args.ledger.now c.args.space c.args.page (page c).x c.frame_of-frame.result (page c).there c.frame_of-frame.ensures
 
-pub compose_scratch-requires : goal.compose_scratch-requires
-compose_scratch-requires c =
-    let found = page (goal.at.compose_scratch-requires c).After-frame_of-frame in
-    let taken = (c.take_up.ensures.frames found.x.entry.frame (c.requires.joined.held c.args.space c.args.page found.x found.there).frame).stays in
-    omega (arith, frame_inside c.take_up.new.store c.take_up.ensures.joined.store found.x.entry.frame taken, framed (goal.at.compose_scratch-requires c).After-frame_of-frame)
+pub place_composed-requires-clause-from : goal.place_composed-requires-clause-from
+place_composed-requires-clause-from c =
+    let at = (goal.at.place_composed-requires-clause-from c).After-frame_of-frame in
+    subst (IsFrame c.take_up.new.store) (framed at) (c.take_up.ensures.frames (page at).x.entry.frame (c.requires.joined.held c.args.space c.args.page (page at).x (page at).there).frame).stays
 
 pub returns-clause-placed : goal.returns-clause-placed
 returns-clause-placed c =
     copied_at (view_of c.args.store.now c.args.ledger.now) c.args.space c.args.page c.args.overlay c.requires.joined c.requires.there c.requires.overlaid
-    (view_of c.take_up.new.store c.take_up.new.ledger) (view_of c.place_lines.new.store c.place_lines.new.ledger) c.compose_scratch.new.out c.take_up.ensures.state
+    (view_of c.take_up.new.store c.take_up.new.ledger) (view_of c.place_composed.new.store c.place_composed.new.ledger) _ c.take_up.ensures.state
     (composed_lines_are (view_of c.args.store.now c.args.ledger.now) c.args.space c.args.page c.args.overlay c.requires.joined c.requires.there c.requires.overlaid
-    (view_of c.take_up.new.store c.take_up.new.ledger) c.frame_of-frame.result c.compose_scratch.new.out c.take_up.ensures.lines c.take_up.ensures.frames
-    (framed (goal.at.returns-clause-placed c).After-frame_of-frame) c.compose_scratch.ensures.lines)
-    c.place_lines.ensures.placed
+    (view_of c.take_up.new.store c.take_up.new.ledger) c.frame_of-frame.result c.take_up.ensures.lines c.take_up.ensures.frames (framed (goal.at.returns-clause-placed c).After-frame_of-frame))
+    c.place_composed.ensures.placed

@@ -1,5 +1,5 @@
 use Rattle.overlay_pages.proofs.Common.{◌≤◌, ◌+◌, refl, sym, ap, subst, ◌∙◌, arith}
-use Rattle.overlay_pages.proofs.Books.{page_in, units}
+use Rattle.overlay_pages.proofs.Books.{page_in}
 use Rattle.overlay_pages.proofs.Views.{lines_of_bytes, limit_of, units_of, MemoryView, state_of, view_of}
 use Rattle.overlay_pages.proofs.Tables.{none_back}
 use Rattle.overlay_pages.proofs.Growing.{free_is, has_room}

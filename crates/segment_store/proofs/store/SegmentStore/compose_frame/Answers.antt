@@ -5,31 +5,31 @@ use Rattle.segment_store.specs.contracts.store.SegmentStore.{the_view}
 use Rattle.segment_store.specs.Laws.{frame_inside}
 use Rattle.segment_store.proofs.Composing.{HasComposed, composed_frame}
 use Rattle.segment_store.proofs.store.SegmentStore.compose_frame.Goals as goal
+use Rattle.segment_store.proofs.store.SegmentStore.compose_frame.Goals.{After-self}
+
+taken : (c : After-self) → IsFrame (the_view c.self.inside) c.args.to
+taken c = subst (λ s. IsFrame s c.args.to) (sym c.self.view_is) c.requires.to
+
+-- the frame that is composed lies in the region
+inside : (c : After-self) → 16 * c.args.to + 16 ≤ units_in c.self.inside.map
+inside c = frame_inside (the_view c.self.inside) c.self.invariant c.args.to (taken c)
+
+pub copy_page-requires-clause-target : goal.copy_page-requires-clause-target
+copy_page-requires-clause-target c = omega (arith, inside (goal.at.copy_page-requires-clause-target c).After-self, c.self.invariant.lines)
 
 pub overflow_mul-to : goal.overflow_mul-to
-overflow_mul-to c =
-    let inside = frame_inside (the_view c.self.inside) c.self.invariant c.args.to (subst (λ s. IsFrame s c.args.to) (sym c.self.view_is) c.requires.to) in
-    record { fits = omega (arith, inside, c.self.invariant.pieces.few) }
-
-pub copy_lines-requires-clause-target : goal.copy_lines-requires-clause-target
-copy_lines-requires-clause-target c =
-    let inside = frame_inside (the_view c.self.inside) c.self.invariant c.args.to (subst (λ s. IsFrame s c.args.to) (sym c.self.view_is) c.requires.to) in
-    omega (arith, inside, c.self.invariant.lines)
+overflow_mul-to c = record { fits = omega (arith, inside (goal.at.overflow_mul-to c).After-self, c.self.invariant.pieces.few) }
 
 pub lay_over-requires-clause-inside : goal.lay_over-requires-clause-inside
-lay_over-requires-clause-inside c =
-    let inside = frame_inside (the_view c.self.inside) c.self.invariant c.args.to (subst (λ s. IsFrame s c.args.to) (sym c.self.view_is) c.requires.to) in
-    omega (arith, inside, c.self.invariant.lines, c.copy_lines.ensures.count)
+lay_over-requires-clause-inside c = omega (arith, inside (goal.at.lay_over-requires-clause-inside c).After-self, c.self.invariant.lines, c.copy_page.ensures.size)
 
 abbrev after : goal.After-lay_over → Store
 after c = the_view record { region = c.lay_over.new.region; map = c.self.inside.map; slots = c.self.inside.slots }
 
 has : (c : goal.After-lay_over) → HasComposed (the_view c.self.inside) (after c) c.args.from c.args.bits c.args.to
 has c =
-    let store = the_view c.self.inside in
-    let source : 16 * c.args.from + 16 ≤ units_in store.blocks = subst (λ s. 16 * c.args.from + 16 ≤ units_in s.blocks) (sym c.self.view_is) c.requires.from in
-    composed_frame store (after c) c.copy_lines.new.self c.args.from c.args.bits c.args.to c.self.invariant source
-    (subst (λ s. IsFrame s c.args.to) (sym c.self.view_is) c.requires.to) c.copy_lines.ensures.copied c.copy_lines.ensures.count c.lay_over.ensures refl refl
+    composed_frame (the_view c.self.inside) (after c) c.copy_page.new.region c.args.from c.args.bits c.args.to c.self.invariant
+    (subst (λ s. IsFrame s c.args.to) (sym c.self.view_is) c.requires.to) c.copy_page.ensures c.lay_over.ensures refl refl
 
 pub invariant_of-self : goal.invariant_of-self
 invariant_of-self c = (has c).fills.store
