@@ -1,11 +1,9 @@
 use Rattle.std.proofs.Common.{◌≡◌, ℕ, ◌+◌, ◌-◌, ◌≤◌, Bool, true, false, cond, List, Option, Some, None, subst, sym, ap, ◌∙◌, refl, arith}
-use Rattle.std.specs.Prelude.{nat_eq}
-use Rattle.std.specs.Option.{is_some, IsSome, IfSome}
-use Rattle.std.proofs.lemmas.Bool.{eqb-true}
+use Rattle.std.specs.Option.{is_some, IsSome}
 use Rattle.std.specs.FinMap.{empty, get, insert}
 use Rattle.number_maps.specs.Keys.{by_key, get_other, get_same}
 use Rattle.number_maps.specs.Rows.{map_of}
-use Rattle.page_set.specs.Sets.{AreChunks, AreCut, Chunks, IsNextMember, IsPut, Members, holds}
+use Rattle.page_set.specs.Sets.{AreChunks, AreCut, Chunks, Members, holds}
 use Rattle.page_set.specs.Laws.{are_none, holds_none}
 use Rattle.page_table.specs.declared.entry.PageEntry.{PageEntry}
 use Rattle.page_table.specs.declared.run.PageRun.{PageRun}
@@ -50,30 +48,6 @@ module _ (old new : Pages) (set later : Members) (count : ℕ) (own : AreOverlai
       some page true held = cc
       some page false held = own.there page held
 
-module _ (pages : Pages) (set later : Members) (count : ℕ) (own : AreOverlaid pages set count) (are : AreChunks later.chunks) where
-  pub overlaid_put : (page : ℕ) (on : Bool) → IsSome (get pages page) → IsPut set.chunks page on later.chunks → set.room ≤ later.room
-      → AreOverlaid pages later count
-  overlaid_put page on there put room = record {
-    are = are;
-    there = λ q held. some q (nat_eq page q) refl (sym (put q) ∙ held);
-    roomy = omega (arith, own.roomy, room);
-  }
-    where
-      some : (q : ℕ) (b : Bool) → nat_eq page q ≡ b → cond b on (holds set.chunks q) ≡ true → IsSome (get pages q)
-      some q true same held = ap (λ n. is_some (get pages n)) (sym (eqb-true page q same)) ∙ there
-      some q false other held = own.there q held
-
-  pub overlaid_cut : (from n : ℕ) → AreCut set.chunks from n later.chunks → later.room ≡ set.room → AreOverlaid pages later count
-  overlaid_cut from n cut room = record {
-    are = are;
-    there = λ page held. own.there page (some page (is_within from n page) (sym (cut page) ∙ held));
-    roomy = omega (arith, own.roomy, room);
-  }
-    where
-      some : (page : ℕ) (b : Bool) → cond b false (holds set.chunks page) ≡ true → holds set.chunks page ≡ true
-      some page true held = cc
-      some page false held = held
-
 -- a page with another entry
 pub overlaid_set : (old new : Pages) (set : Members) (count page : ℕ) (e : PageEntry) → AreOverlaid old set count → new ≡ insert old page e
     → AreOverlaid new set count
@@ -95,9 +69,3 @@ overlaid_copy links old runs was set later count same also chunks roomy own =
       there = λ page held. own.there page (ap (λ (m : Chunks). holds m page) (sym chunks) ∙ held);
       roomy = roomy;
     }))
-
--- the next overlaid page is there
-pub next_there : {pages : Pages} {set : Members} {count : ℕ} → AreOverlaid pages set count → (page : ℕ) (found : Option ℕ) → IsNextMember set.chunks page found
-    → IfSome found (λ q. IsSome (get pages q))
-next_there own page None next = tt
-next_there own page (Some q) next = own.there q next.1

@@ -55,25 +55,28 @@ free_bare table there from n free page within = by (holds table.overlaid page) r
 
 -- The tables of the spaces, where one of them is put in or taken away.
 
+abbrev view : ℕ → OverlaidSpace → SpaceTable
+view s x = x.table
+
 pub at_held : (spaces : FinMap nat_cmp OverlaidSpace) (s : ℕ) {x : OverlaidSpace} → Some x ≡ get spaces s → Some x.table ≡ get (tables_of spaces) s
 unfolding tables_of
-at_held spaces s at = ap (option_map (λ (x : OverlaidSpace). x.table)) at ∙ sym (get_viewed (λ _ (x : OverlaidSpace). x.table) spaces s)
+at_held spaces s at = ap (option_map (λ (x : OverlaidSpace). x.table)) at ∙ sym (get_viewed view spaces s)
 
 pub none_held : (spaces : FinMap nat_cmp OverlaidSpace) (s : ℕ) → None ≡ get spaces s → None ≡ get (tables_of spaces) s
 unfolding tables_of
-none_held spaces s at = ap (option_map (λ (x : OverlaidSpace). x.table)) at ∙ sym (get_viewed (λ _ (x : OverlaidSpace). x.table) spaces s)
+none_held spaces s at = ap (option_map (λ (x : OverlaidSpace). x.table)) at ∙ sym (get_viewed view spaces s)
 
 pub has_held : (spaces : FinMap nat_cmp OverlaidSpace) (s : ℕ) → is_some (get spaces s) ≡ is_some (get (tables_of spaces) s)
 unfolding tables_of
-has_held spaces s = sym (map_some (λ (x : OverlaidSpace). x.table) (get spaces s)) ∙ ap is_some (sym (get_viewed (λ _ (x : OverlaidSpace). x.table) spaces s))
+has_held spaces s = sym (map_some (λ (x : OverlaidSpace). x.table) (get spaces s)) ∙ ap is_some (sym (get_viewed view spaces s))
 
 pub tables_insert : (spaces : FinMap nat_cmp OverlaidSpace) (s : ℕ) (y : OverlaidSpace) → tables_of (insert spaces s y) ≡ insert (tables_of spaces) s y.table
 unfolding tables_of
-tables_insert spaces s y = viewed_put (λ _ (x : OverlaidSpace). x.table) spaces s y
+tables_insert spaces s y = viewed_put view spaces s y
 
 pub tables_remove : (spaces : FinMap nat_cmp OverlaidSpace) (s : ℕ) → tables_of (remove spaces s) ≡ remove (tables_of spaces) s
 unfolding tables_of
-tables_remove spaces s = viewed_gone (λ _ (x : OverlaidSpace). x.table) spaces s
+tables_remove spaces s = viewed_gone view spaces s
 
 pub tables_still : (spaces : FinMap nat_cmp OverlaidSpace) (s : ℕ) (x y : OverlaidSpace) → Some x ≡ get spaces s → y.table ≡ x.table → tables_of (insert spaces s y) ≡ tables_of spaces
 tables_still spaces s x y at same =
@@ -81,7 +84,7 @@ tables_still spaces s x y at same =
 
 pub tables_none : (spaces : FinMap nat_cmp OverlaidSpace) → spaces ≡ empty → tables_of spaces ≡ empty
 unfolding tables_of
-tables_none spaces none = ap tables_of none ∙ viewed_empty (λ _ (x : OverlaidSpace). x.table)
+tables_none spaces none = ap tables_of none ∙ viewed_empty view
 
 -- the tables with other spaces and overlays
 abbrev pub with_both : Inside → FinMap nat_cmp OverlaidSpace → Table → Inside
@@ -97,6 +100,14 @@ module _ {v : LedgerView} (t : Inside) (spaces : FinMap nat_cmp OverlaidSpace) (
 
   pub tables_kept : AllShowOverlays spaces new.entries → AreTables (with_both t spaces new)
   tables_kept all = record { kept = subst (λ (h : Held). IsKept (seen h) h.overlays) (sym held_is) (kept_of show); shown = all }
+
+-- where one of them is put in
+module _ {v : LedgerView} (t : Inside) (s : ℕ) (y : OverlaidSpace) (show : Shows (with_spaces (held_of t) (insert (tables_of t.spaces) s y.table)) v) where
+  pub put_seen : seen (held_of (with_both t (insert t.spaces s y) t.overlays)) ≡ v
+  put_seen = tables_seen t (insert t.spaces s y) (insert (tables_of t.spaces) s y.table) t.overlays (tables_insert t.spaces s y) show
+
+  pub put_kept : AllShowOverlays (insert t.spaces s y) t.overlays.entries → AreTables (with_both t (insert t.spaces s y) t.overlays)
+  put_kept all = tables_kept t (insert t.spaces s y) (insert (tables_of t.spaces) s y.table) t.overlays (tables_insert t.spaces s y) show all
 
 -- Pages that were taken away, and a run that awaits no more.
 
@@ -127,14 +138,6 @@ run_beside k run (suc n) q out =
 
     fewer : (q : ℕ) → is_within run.page (suc n) q ≡ false → is_within run.page n q ≡ false
     fewer q out = grind (arith, nat_tests)
-
--- where one of them is put in
-module _ {v : LedgerView} (t : Inside) (s : ℕ) (y : OverlaidSpace) (show : Shows (with_spaces (held_of t) (insert (tables_of t.spaces) s y.table)) v) where
-  pub put_seen : seen (held_of (with_both t (insert t.spaces s y) t.overlays)) ≡ v
-  put_seen = tables_seen t (insert t.spaces s y) (insert (tables_of t.spaces) s y.table) t.overlays (tables_insert t.spaces s y) show
-
-  pub put_kept : AllShowOverlays (insert t.spaces s y) t.overlays.entries → AreTables (with_both t (insert t.spaces s y) t.overlays)
-  put_kept all = tables_kept t (insert t.spaces s y) (insert (tables_of t.spaces) s y.table) t.overlays (tables_insert t.spaces s y) show all
 
 -- Each space shows its overlays, after a change of one.
 
