@@ -6,7 +6,7 @@
 //! - `levels`, `blocks`, `names`: calls of `mark_levels`, `unit_map` and `overlay_mapping_table`
 //! - `lines`, `addresses`, `frames`: calls of `overlay_bits`, `overlay_address` and `frame_pool`
 //! - `numbers`: calls of `by_number`
-//! - `pages`: calls of `page_table`
+//! - `sets`, `pages`: calls of `page_set` and `page_table`
 #![tactic(auto)]
 
 #[cfg(test)]

@@ -6,4 +6,5 @@ mod lines;
 mod names;
 mod numbers;
 mod pages;
+mod sets;
 mod turns;

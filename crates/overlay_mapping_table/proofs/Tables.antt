@@ -1,16 +1,16 @@
-use Rattle.std.proofs.Common.{◌≡◌, ℕ, ◌<◌, ◌≤◌, inl, inr, List, length, get_or, Option, Some, None, slice_set, subst, sym, ap, ◌∙◌, arith}
+use Rattle.std.proofs.Common.{◌≡◌, ℕ, ◌<◌, ◌≤◌, inl, inr, List, length, get_or, Some, None, slice_set, subst, sym, ap, ◌∙◌, arith}
 use Rattle.std.specs.Option.{is_some}
 use Rattle.std.specs.List as list
 use Rattle.std.specs.FinMap.{from_entries, get, insert, remove, len}
 use Rattle.std.proofs.lemmas.Bool.{false≢true}
 use Rattle.std.proofs.lemmas.List.{length-set}
 use Rattle.std.proofs.lemmas.List.Edits.{length-insert, length-remove}
-use Rattle.number_maps.specs.Rows.{map_of, Rise, IsAt, IsGap, IsNextOne}
+use Rattle.number_maps.specs.Rows.{map_of, Rise, IsAt, IsGap}
 use Rattle.number_maps.specs.RowLaws as laws
-use Rattle.number_maps.specs.RowLaws.{map_insert, map_remove, map_set, next_at, next_behind, next_none, rise_insert, rise_remove, rise_set}
+use Rattle.number_maps.specs.RowLaws.{map_insert, map_remove, map_set, rise_insert, rise_remove, rise_set}
 use Rattle.number_maps.specs.Values.{remove_absent}
 use Rattle.overlay_mapping_table.specs.Table.{Table, HasRoomFor}
-use Rattle.overlay_mapping_table.specs.Kept.{AreKept, IsRowAt}
+use Rattle.overlay_mapping_table.specs.Kept.{AreKept}
 use Rattle.overlay_mapping_table.specs.declared.entry.Entry.{Entry}
 
 -- Tables, by the rows that they keep.
@@ -98,18 +98,3 @@ stands_remove table rows new room name at same rise there is =
 pub stands_lacking : (table : Table) (rows : List (ℕ × Entry)) (room name at : ℕ) → table_of rows room ≡ table → IsGap rows name at
     → table.entries ≡ remove table.entries name
 stands_lacking table rows room name at same gap = sym (remove_absent table.entries name (sym (got_none table rows room name at same gap)))
-
--- What stands next.
-
-pub next_found : (table : Table) (rows : List (ℕ × Entry)) (room name at : ℕ) (row : ℕ × Entry) → table_of rows room ≡ table → Rise 0 rows
-    → IsAt rows name at
-    → row ≡ get_or rows at row → IsNextOne table.entries name (Some row)
-next_found table rows room name at row same rise there is = next_at table.entries rows name at row (ap (λ (t : Table). t.entries) same) rise there is
-
-pub next_missed : (table : Table) (rows : List (ℕ × Entry)) (room name at : ℕ) (row : Option (ℕ × Entry)) → table_of rows room ≡ table
-    → Rise 0 rows → IsGap rows name at
-    → IsRowAt rows at row → IsNextOne table.entries name row
-next_missed table rows room name at (Some row) same rise gap is =
-    next_behind table.entries rows name at row (ap (λ (t : Table). t.entries) same) rise gap is.0 is.1
-next_missed table rows room name at None same rise gap end =
-    next_none table.entries rows name at (ap (λ (t : Table). t.entries) same) rise gap (λ there. omega (arith, there, end))

@@ -1,4 +1,4 @@
-use Rattle.std.specs.Prelude.{◌≡◌, ℕ, ◌*◌, ◌<◌, ◌≤◌, List, length, get_or, Option, Some, None}
+use Rattle.std.specs.Prelude.{ℕ, ◌*◌, ◌≤◌, List, length}
 use Rattle.sizes.specs.declared.TheConstants.{FRAME_UNITS, MOST_FRAMES}
 use Rattle.number_maps.specs.Rows.{Rise}
 
@@ -8,8 +8,3 @@ pub record AreKept {X : Type 0} (rows : List (ℕ × X)) (capacity room : ℕ) :
   pub few : length rows ≤ room
   pub fits : room ≤ capacity
   pub most : room ≤ FRAME_UNITS * MOST_FRAMES
-
--- the row at a place, or that the rows end before it
-abbrev pub IsRowAt : {X : Type 0} → List (ℕ × X) → ℕ → Option (ℕ × X) → Type 0
-IsRowAt rows i None = length rows ≤ i
-IsRowAt rows i (Some row) = (i < length rows) × (row ≡ get_or rows i row)

@@ -1,9 +1,8 @@
 ghost use Rattle.std.specs.Prelude.{◌≡◌, ◌+◌, ◌*◌, ◌<◌, ◌≤◌, IfOk, IfErr};
 ghost use Rattle.std.specs.FinMap as map;
 ghost use Rattle.sizes.specs.declared.TheConstants.{FRAME_UNITS, MOST_FRAMES};
-ghost use Rattle.number_maps.specs.Rows.{IsAt, IsGap, IsNextOne, Rise};
+ghost use Rattle.number_maps.specs.Rows.{IsAt, IsGap, Rise};
 ghost use Rattle.overlay_mapping_table.specs.Table.{HasRoomFor};
-ghost use Rattle.overlay_mapping_table.specs.Kept.{IsRowAt};
 
 use crate::entry::Entry;
 use overlay_address::OverlayPage;
@@ -60,16 +59,6 @@ impl MappingTable {
         }
     }
 
-    /// The least name not below one that has an entry, with that entry. None exactly where none has. Costs a look-up.
-    pub fn next_from(&self, p: OverlayPage) -> Option<(OverlayPage, Entry)>
-        ensures { IsNextOne self.now.entries p result }
-    {
-        match place_of(&self.rows, p) {
-            Ok(at) => Some(self.rows[at]),
-            Err(at) => row_at(&self.rows, at),
-        }
-    }
-
     /// Gives an overlay an entry, in place of the one that it has. It has one, or there are fewer entries than there
     /// is room for. Every other overlay keeps its entry. Takes no memory.
     pub fn insert(&mut self, p: OverlayPage, e: Entry)
@@ -105,17 +94,6 @@ impl MappingTable {
         ensures few { result ≤ self.now.room }
     {
         self.rows.len() as u32
-    }
-}
-
-// The row at a place, if there is one.
-fn row_at(rows: &[(OverlayPage, Entry)], at: usize) -> Option<(OverlayPage, Entry)>
-    ensures { IsRowAt rows.now at result }
-{
-    if at < rows.len() {
-        Some(rows[at])
-    } else {
-        None
     }
 }
 

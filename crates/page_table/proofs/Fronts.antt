@@ -3,6 +3,7 @@ use Rattle.std.proofs.lemmas.Bool.Decides.{nat_tests}
 use Rattle.std.specs.Option.{is_some, IsSome}
 use Rattle.std.specs.FinMap.{get, insert}
 use Rattle.number_maps.specs.Keys.{get_other}
+use Rattle.page_set.specs.Sets.{Chunks}
 use Rattle.page_table.specs.declared.entry.PageEntry.{PageEntry}
 use Rattle.page_table.specs.declared.run.PageRun.{PageRun}
 use Rattle.page_table.specs.Table.{Pages, IsMapped, IsUnmapped, is_within}
@@ -61,7 +62,7 @@ pub none_least : (pages : Pages) (front : ℕ) (run : PageRun) → NoneFrom page
 none_least pages front run none next = none_more pages 0 front run.page none next.none
 
 -- what is kept says it of the table that is seen
-pub front_seen : (table : Table) (links : List (ℕ × ℕ)) (runs : List PageRun) (front : ℕ) → seen links runs ≡ table
+pub front_seen : {overlaid : Chunks} (table : Table) (links : List (ℕ × ℕ)) (runs : List PageRun) (front : ℕ) → seen links runs overlaid ≡ table
     → NoneFrom (pages_by (map_of links) (pages_of runs)) 0 front → NoneFrom table.pages 0 front
 front_seen table links runs front is none = subst (λ (t : Table). NoneFrom t.pages 0 front) is none
 

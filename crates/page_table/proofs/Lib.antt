@@ -9,3 +9,4 @@ pub mod Steps
 pub mod Nexts
 pub mod Fronts
 pub mod Held
+pub mod Overlaid

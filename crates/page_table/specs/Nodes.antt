@@ -1,7 +1,8 @@
-use Rattle.std.specs.Prelude.{◌≡◌, ℕ, zero, suc, ◌+◌, ◌*◌, ◌/◌, ◌%◌, ◌^◌, ◌<◌, nat_lt, if◌then◌else◌, Option, Some, None}
+use Rattle.std.specs.Prelude.{◌≡◌, ℕ, zero, suc, ◌+◌, ◌*◌, ◌/◌, ◌%◌, ◌^◌, ◌<◌, nat_lt, true, if◌then◌else◌, Option, Some, None, IsSome}
 use Rattle.std.specs.Ordering.{nat_cmp}
 use Rattle.std.specs.FinMap.{FinMap, empty, get, insert, len}
 use Rattle.sizes.specs.declared.TheConstants.{TABLE_SLOTS}
+use Rattle.page_set.specs.Sets.{Chunks, holds}
 use Rattle.page_table.specs.declared.entry.PageEntry.{PageEntry}
 use Rattle.page_table.specs.Table.{Pages}
 
@@ -19,11 +20,20 @@ abbrev pub digit : ℕ → ℕ → ℕ
 digit zero page = page % TABLE_SLOTS
 digit (suc i) page = digit i (page / TABLE_SLOTS)
 
--- a table: its pages; the child that a slot has; the entry that a slot has
+-- a table: its pages; the child that a slot has; the entry that a slot has; which pages are overlaid
 pub record Table : Type 0 where
   pub pages : Pages
   pub links : Links
   pub leaves : Pages
+  pub overlaid : Chunks
+
+-- each overlaid page is there
+abbrev pub OverlaidAreThere : Table → Type 0
+OverlaidAreThere table = (page : ℕ) → holds table.overlaid page ≡ true → IsSome (get table.pages page)
+
+-- a table with other overlaid pages
+abbrev pub with_overlaid : Table → Chunks → Table
+with_overlaid table overlaid = record { pages = table.pages; links = table.links; leaves = table.leaves; overlaid = overlaid }
 
 -- each node has a link to it, but the first one; without a link there is none
 abbrev pub nodes_with : ℕ → ℕ

@@ -2,8 +2,9 @@
 //!
 //! A table has four levels of nodes with 512 slots each, which are gone through by the nine-bit digits of a page's number, the highest
 //! first. A slot of an inner node may have a child, and one of a leaf an entry. The model of a `PageTable` is a finite map from page
-//! numbers to entries, and two maps from slots, to children and to entries. Pages are below 2^36, and fewer than 2^32. Entries are mapped
-//! and unmapped by runs of pages; a mapping that runs out of memory leaves the table as it was.
+//! numbers to entries, two maps from slots, to children and to entries, and the set of the pages that are overlaid. Pages are below
+//! 2^36, and fewer than 2^32. Entries are mapped and unmapped by runs of pages; a mapping that runs out of memory leaves the table as
+//! it was.
 //!
 //! - `entry`: what a page has
 //! - `run`: pages that lie one after the other, with frames that are one or rise

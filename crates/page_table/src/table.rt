@@ -1,7 +1,8 @@
 ghost use Rattle.std.specs.Prelude.{◌≡◌, ◌+◌, ◌^◌, ◌<◌, ◌≤◌, ◌⊎◌, IfOk, IfSome, IsSome, OnOk, OnErr};
 ghost use Rattle.std.specs.FinMap as map;
 ghost use Rattle.sizes.specs.declared.TheConstants.{TABLE_SLOTS};
-ghost use Rattle.page_table.specs.Nodes.{HasPaths, nodes_of, slot};
+ghost use Rattle.page_set.specs.Sets.{AreCut, IsNextMember, IsPut};
+ghost use Rattle.page_table.specs.Nodes.{HasPaths, OverlaidAreThere, nodes_of, slot, with_overlaid};
 ghost use Rattle.page_table.specs.Run.{IsNextRun};
 ghost use Rattle.page_table.specs.Table.{IsFree, AreThere, IsMapped, IsUnmapped, IsNext};
 
@@ -13,6 +14,7 @@ use crate::paths::{clear_paths, fill_paths};
 use crate::run::PageRun;
 use crate::runs::{entry_in, guess_of, set_page};
 use ovl_io::Perms;
+use page_set::PageSet;
 use sizes::TABLE_SLOTS;
 use std::alloc::{AllocError, Global};
 use std::collections::VecDeque;
@@ -30,6 +32,8 @@ pub struct PageTable {
     count: u32,
     // no page is below this one
     front: u64,
+    // of the pages those that are overlaid, with room for as many chunks as there are pages
+    overlaid: PageSet,
 }
 
 // The sooner of two pages.
@@ -63,15 +67,16 @@ impl Model for PageTable {
     ghost use Rattle.std.specs.VecDeque.{deque_capacity};
     ghost use Rattle.page_table.specs.Kept.{IsTable, seen};
 
-    ghost view = { λ t. seen t.links.items t.runs.items };
+    ghost view = { λ t. seen t.links.items t.runs.items t.overlaid.chunks };
 
-    ghost invariant = { λ t. IsTable t.links.items t.runs.items t.count (deque_capacity t.runs) t.front };
+    ghost invariant = { λ t. IsTable t.links.items t.runs.items t.count (deque_capacity t.runs) t.front t.overlaid };
 }
 
 impl PageTable {
     /// A table without a page. Takes no memory.
     pub fn new(alloc: Global) -> PageTable
-        ensures { result.pages ≡ map.empty }
+        ensures pages { result.pages ≡ map.empty }
+        ensures overlaid { result.overlaid ≡ map.empty }
     {
         PageTable {
             links: Vec::new(alloc),
@@ -79,6 +84,7 @@ impl PageTable {
             nodes: Nodes::new(alloc),
             count: 0,
             front: 0,
+            overlaid: PageSet::new(alloc),
         }
     }
 
@@ -102,15 +108,19 @@ impl PageTable {
             ≡ map.insert self.old.pages from (record { perms = perms; frame = frame })) }
         ensures count { OnOk result (map.len self.new.pages ≡ map.len self.old.pages + n) }
         ensures kept { OnErr result (self.new ≡ self.old) }
+        ensures overlaid { self.new.overlaid ≡ self.old.overlaid }
+        ensures there { OverlaidAreThere self.old }
     {
+        let count = self.count;
         if n == 0 {
             return Ok(());
         }
         let first = from / TABLE_SLOTS;
         let end = (from + u64::from(n) - 1) / TABLE_SLOTS + 1;
         reserve_leaves(&mut self.links, first, end)?;
-        let spare = self.count as usize - self.runs.len();
+        let spare = count as usize - self.runs.len();
         self.runs.reserve(spare + n as usize)?;
+        self.overlaid.reserve(count + n)?;
         self.nodes.make_room(3 * (end - first) as usize)?;
         make_leaves(
             &mut self.links,
@@ -136,7 +146,8 @@ impl PageTable {
     /// it, or before it where those are fewer.
     pub fn set(&mut self, page: u64, e: PageEntry)
         requires { IsSome (map.get self.old.pages page) }
-        ensures { self.new.pages ≡ map.insert self.old.pages page e }
+        ensures entry { self.new.pages ≡ map.insert self.old.pages page e }
+        ensures overlaid { self.new.overlaid ≡ self.old.overlaid }
     {
         match slot_in(&self.links, &self.nodes, page) {
             Some(slot) => {
@@ -156,9 +167,11 @@ impl PageTable {
         ensures unmapped { IsUnmapped self.old.pages from n self.new.pages }
         ensures one { n ≡ 1 → self.new.pages ≡ map.remove self.old.pages from }
         ensures count { map.len self.new.pages + n ≡ map.len self.old.pages }
+        ensures overlaid { AreCut self.old.overlaid from n self.new.overlaid }
     {
         let least = least_in(&self.links, &self.nodes, &self.runs, self.front);
         clear_paths(&self.links, &mut self.nodes, &mut self.runs, from, n);
+        self.overlaid.remove_run(from, n);
         self.count -= n;
         self.front = passed(least, from, n);
     }
@@ -205,14 +218,15 @@ impl PageTable {
         self.count
     }
 
-    /// A table with the same entries and nodes, or want of memory. Costs a copy of 24 bytes for each run of pages, and of 32 for each
-    /// node.
+    /// A table with the same entries, nodes and overlaid pages, or want of memory. Costs a copy of 24 bytes for each run of pages, of 32
+    /// for each node, and of 16 for each chunk of 64 pages with an overlaid one.
     pub fn copy(&self) -> Result<PageTable, AllocError>
         ensures { IfOk result (λ copy. copy ≡ self.now) }
     {
         let links = self.links.clone()?;
         let mut runs = self.runs.clone()?;
         runs.reserve(self.count as usize - runs.len())?;
+        let overlaid = self.overlaid.copy(self.count)?;
         let nodes = self.nodes.copy()?;
         Ok(PageTable {
             links,
@@ -220,7 +234,40 @@ impl PageTable {
             nodes,
             count: self.count,
             front: self.front,
+            overlaid,
         })
+    }
+
+    /// Says of a page that is there whether it is overlaid. Takes no memory. Costs a look-up among the chunks of 64 pages that have an
+    /// overlaid one, and for the first or the last of a chunk a step for each chunk behind it.
+    pub fn set_overlaid(&mut self, page: u64, on: bool)
+        requires { IsSome (map.get self.old.pages page) }
+        ensures put { IsPut self.old.overlaid page on self.new.overlaid }
+        ensures rest { self.new ≡ with_overlaid self.old self.new.overlaid }
+    {
+        if on {
+            self.overlaid.insert(page);
+        } else {
+            self.overlaid.remove(page);
+        }
+    }
+
+    /// Says of the `n` pages from `from` on that they aren't overlaid. Takes no memory. Costs at most two look-ups where none of them
+    /// is, and else as many again for each that is.
+    pub fn clear_overlaid(&mut self, from: u64, n: u32)
+        requires { from + n < 2 ^ 64 }
+        ensures cut { AreCut self.old.overlaid from n self.new.overlaid }
+        ensures rest { self.new ≡ with_overlaid self.old self.new.overlaid }
+    {
+        self.overlaid.remove_run(from, n)
+    }
+
+    /// The least page not below `page` that is overlaid, if there is one. Costs at most two look-ups.
+    pub fn next_overlaid(&self, page: u64) -> Option<u64>
+        ensures next { IsNextMember self.now.overlaid page result }
+        ensures there { IfSome result (λ found. IsSome (map.get self.now.pages found)) }
+    {
+        self.overlaid.next_from(page)
     }
 
     /// How many nodes there are: none before a page was mapped, and else the root with the number 0 and those below it.

@@ -12,11 +12,10 @@ use Rattle.space_maps.specs.Options.{none_by, map_some}
 use Rattle.space_maps.specs.Spaces.{holds_space, page_in, put_page, put_pages, put_space}
 use Rattle.space_maps.specs.Laws.{ArePut, are_put, beside_space, in_space, keeps_page_put, keeps_put, page_put_beside, spaces_alike}
 use Rattle.space_maps.specs.Mapped.{mapped_space}
-use Rattle.space_ledger.specs.declared.tables.Tables.TheInside.{Inside}
 use Rattle.space_ledger.specs.Space.{SpaceTable, HasMapped}
 use Rattle.space_ledger.specs.View.{LedgerView, PageView, SpaceView, with_zero_pages}
 use Rattle.space_ledger.specs.Calls.{AreFree}
-use Rattle.space_ledger.specs.Kept.{IsKept, seen, seen_page}
+use Rattle.space_ledger.specs.Kept.{Held, IsKept, seen, seen_page}
 use Rattle.space_ledger.proofs.Seen.{Shows, awaiting_is, mark_is, page_at, seen_space, there_is, with_spaces}
 use Rattle.space_ledger.proofs.Keeping.{kept_new}
 
@@ -41,7 +40,7 @@ kept_all (suc n) from v overlays s y kept there free low bare =
     wider : (q : ℕ) → is_within (from + 1) n q ≡ true → is_within from (suc n) q ≡ true
     wider q within = grind (arith, nat_tests)
 
-module _ {t : Inside} {v : LedgerView} (show : Shows t v) (s : ℕ) (x : SpaceTable) (at : get t.spaces s ≡ Some x) where
+module _ {t : Held} {v : LedgerView} (show : Shows t v) (s : ℕ) (x : SpaceTable) (at : get t.spaces s ≡ Some x) where
   -- what is asked of the space
   pub free_in : (from n : ℕ) → AreFree v s from n → IsFree x.pages from n
   free_in from n free q within = none_by (get x.pages q) (sym (map_some (seen_page t.overlays.entries s q) (get x.pages q)) ∙ ap is_some (sym (page_at show s x at q) ∙ free q within))

@@ -9,10 +9,9 @@ use Rattle.overlay_mapping_table.specs.declared.entry.Entry.{Entry}
 use Rattle.overlay_mapping_table.specs.Table.{Table, HasRoomFor}
 use Rattle.space_maps.specs.Spaces.{page_in, put_page, put_shared}
 use Rattle.space_maps.specs.Laws.{changed_there, page_shared_here, shared_over}
-use Rattle.space_ledger.specs.declared.tables.Tables.TheInside.{Inside}
 use Rattle.space_ledger.specs.Space.{SpaceTable, awaited}
 use Rattle.space_ledger.specs.View.{LedgerView, PageView, with_overlay}
-use Rattle.space_ledger.specs.Kept.{IsKept, Overlays}
+use Rattle.space_ledger.specs.Kept.{Held, IsKept, Overlays}
 use Rattle.space_ledger.specs.Calls.{HasOverlayRoom, HasSpare, IsLined}
 use Rattle.space_ledger.proofs.Seen.{AreOthers, Shows, overlay_is, seen_over, seen_shared, some_is, there_is, with_overlays, with_spaces}
 use Rattle.space_ledger.proofs.Keeping.{kept_overlay, kept_shared, one_if}
@@ -69,11 +68,11 @@ removed_most old new n most is le = at (is_some (get old n)) (ap len is ∙ len-
     at false h = omega (arith, h, le)
 
 -- there is room for an overlay, as the mapping table asks
-pub room_for : {t : Inside} {v : LedgerView} → Shows t v → (s p n : ℕ) → n ≡ overlay_page s p → IsSome (page_in v s p) → (e : Entry) → HasOverlayRoom v s p (Some e) → HasRoomFor t.overlays n
+pub room_for : {t : Held} {v : LedgerView} → Shows t v → (s p n : ℕ) → n ≡ overlay_page s p → IsSome (page_in v s p) → (e : Entry) → HasOverlayRoom v s p (Some e) → HasRoomFor t.overlays n
 room_for {t = t} show s p n name there e (inl some) = inl (ap (λ k. is_some (get t.overlays.entries k)) name ∙ ap is_some (overlay_is show s p there) ∙ some)
 room_for show s p n name there e (inr less) = let count = show.kept.count in let roomy = show.kept.roomy in inr (omega (arith, less, count, roomy))
 
-module _ {t : Inside} {v : LedgerView} (show : Shows t v) (new : Table) (s p n : ℕ) (name : n ≡ overlay_page s p) (there : IsSome (page_in v s p)) (room : new.room ≡ t.overlays.room) where
+module _ {t : Held} {v : LedgerView} (show : Shows t v) (new : Table) (s p n : ℕ) (name : n ≡ overlay_page s p) (there : IsSome (page_in v s p)) (room : new.room ≡ t.overlays.room) where
   found : (x : PageView) × (page_in v s p ≡ Some x)
   found = some_is (page_in v s p) there
 
@@ -111,7 +110,7 @@ module _ {t : Inside} {v : LedgerView} (show : Shows t v) (new : Table) (s p n :
       (removed_count t.overlays.entries new.entries (overlay_page s p) is) (removed_most t.overlays.entries new.entries (overlay_page s p) (FRAME_UNITS * v.frames) is show.kept.most)
 
 -- fewer overlays than there is room for
-pub room_left : {t : Inside} {v : LedgerView} → Shows t v → HasSpare v → len t.overlays.entries < t.overlays.room
+pub room_left : {t : Held} {v : LedgerView} → Shows t v → HasSpare v → len t.overlays.entries < t.overlays.room
 room_left show less = let count = show.kept.count in let roomy = show.kept.roomy in omega (arith, count, roomy, less)
 
 -- A page shared: without an overlay, and with one put to it.
@@ -124,7 +123,7 @@ shared_overlaid v s p entry o =
     (page_shared_here v s p (record { entry = entry; overlay = None }) s p refl refl)
     ∙ shared_over v s p (record { entry = entry; overlay = None }) (record { entry = entry; overlay = o })
 
-module _ {t : Inside} {v : LedgerView} (show : Shows t v) (s p : ℕ) (x : SpaceTable) (at : get t.spaces s ≡ Some x) (entry : PageEntry) (absent : page_in v s p ≡ None) (low : p < PAGE_END) where
+module _ {t : Held} {v : LedgerView} (show : Shows t v) (s p : ℕ) (x : SpaceTable) (at : get t.spaces s ≡ Some x) (entry : PageEntry) (absent : page_in v s p ≡ None) (low : p < PAGE_END) where
   bare : PageView
   bare = record { entry = entry; overlay = None }
 

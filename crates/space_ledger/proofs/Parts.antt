@@ -5,7 +5,11 @@ use Rattle.std.specs.FinMap.{empty, empty_of_len, get, get-empty, get-retain_key
 use Rattle.number_maps.specs.Keys.{alike, by_key, get_other, get_same, removed_other, removed_same}
 use Rattle.page_table.specs.Table.{Pages, AreThere, IsFree, IsMapped, IsNext, is_within}
 use Rattle.page_table.specs.declared.entry.PageEntry.{PageEntry}
-use Rattle.space_ledger.specs.Space.{SpaceTable, HasMapped, IsCounted, IsLeast, IsLeastFrom, adopted, awaited, pages_below, pages_from, with_entry, without_page}
+use Rattle.space_ledger.specs.Space.{SpaceTable, HasMapped, IsCounted, IsLeast, IsLeastFrom, OverlaidSpace, adopted, awaited, pages_below, pages_from, with_entry, without_page}
+
+-- the pages that a space is seen to have
+pub table_is : {a b : OverlaidSpace} → a ≡ b → a.table ≡ b.table
+table_is same = ap (λ (s : OverlaidSpace). s.table) same
 
 -- A table in two parts: the pages below one, and those from it on.
 
@@ -116,8 +120,10 @@ pub next_none : (t : Pages) (end page : ℕ) → IsNext t page None → IsLeastF
 next_none t end page next q from = by_end q end (λ low. inside t end q low ∙ next q from) (λ out. outside t end q out)
 
 -- a run mapped over a table of which no page awaits
-pub free_too : (t : Pages) (end from n : ℕ) → pages_from t end ≡ empty → IsFree (pages_below t end) from n → IsFree t from n
-free_too t end from n settled free = subst (λ (m : Pages). IsFree m from n) (all_inside t end settled) free
+pub free_too : (t : Pages) (end from n : ℕ) (mark : Bool) (s : SpaceTable)
+    → ◌≡◌ {A = SpaceTable} (record { pages = pages_below t end; awaiting = pages_from t end; speculating = mark }) s → s.awaiting ≡ empty → IsFree s.pages from n → IsFree t from n
+free_too t end from n mark s is settled free =
+    subst (λ (m : Pages). IsFree m from n) (all_inside t end (ap (λ (k : SpaceTable). k.awaiting) is ∙ settled)) (subst (λ (k : SpaceTable). IsFree k.pages from n) (sym is) free)
 
 beyond : (old new : Pages) (end from n : ℕ) (entry : PageEntry) → pages_from old end ≡ empty → IsMapped old from n entry new → from + n ≤ 2 ^ 36 → end < 2 ^ 64
     → (q : ℕ) → 2 ^ 64 - 1 ≤ q → get new q ≡ None

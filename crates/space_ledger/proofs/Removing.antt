@@ -10,11 +10,11 @@ use Rattle.page_table.specs.declared.run.PageRun.{PageRun}
 use Rattle.space_maps.specs.Options.{map_from, none_by, map_some}
 use Rattle.space_maps.specs.Spaces.{AreMapped, cut_page, cut_pages, page_in, space_in}
 use Rattle.space_maps.specs.Laws.{after_cut, page_of}
-use Rattle.space_ledger.specs.declared.tables.Tables.TheInside.{Inside}
 use Rattle.space_ledger.specs.Space.{SpaceTable, IsCounted, pages_below, pages_from, without_page, without_pages}
 use Rattle.space_ledger.specs.View.{LedgerView, PageView, overlay_at}
 use Rattle.space_ledger.specs.Calls.{AreBare, AreBareOnZero, entries_of}
 use Rattle.space_ledger.proofs.Parts.{all_inside, from_at, in_table, same_space}
+use Rattle.space_ledger.specs.Kept.{Held}
 use Rattle.space_ledger.proofs.Seen.{Shows, entry_there, there_is, with_spaces}
 use Rattle.space_ledger.proofs.TableOps.{shown_gone, shown_still}
 
@@ -76,7 +76,7 @@ pub all_in_table : (t : Pages) (end from n : ℕ) → AreThere (pages_below t en
 all_in_table t end from n there page within = in_table t end page (there page within)
 
 -- Pages without overlays taken from a space: what is seen then.
-pub shown_pages_gone : (k from : ℕ) {t : Inside} {v : LedgerView} → Shows t v → (s : ℕ) (x : SpaceTable) → Some x ≡ get t.spaces s → AreBare v s from k
+pub shown_pages_gone : (k from : ℕ) {t : Held} {v : LedgerView} → Shows t v → (s : ℕ) (x : SpaceTable) → Some x ≡ get t.spaces s → AreBare v s from k
     → Shows (with_spaces t (insert t.spaces s (without_pages x from k))) (cut_pages v s from k)
 unfolding without_pages cut_pages
 shown_pages_gone zero from show s x at bare = shown_still show s x x at refl
@@ -92,13 +92,13 @@ shown_pages_gone (suc k) from {t = t} {v = v} show s x at bare =
     (shown_gone before s mid next (sym (get_same t.spaces s s mid refl)) (from + k) refl (ap is_some same ∙ last.0)
     (ap (option_and_then (λ (p : PageView). p.overlay)) same ∙ last.1))
 
-pub shown_removed : {t : Inside} {v : LedgerView} → Shows t v → (s : ℕ) (x y : SpaceTable) → Some x ≡ get t.spaces s → (from n : ℕ) → y ≡ without_pages x from n → AreBare v s from n
+pub shown_removed : {t : Held} {v : LedgerView} → Shows t v → (s : ℕ) (x y : SpaceTable) → Some x ≡ get t.spaces s → (from n : ℕ) → y ≡ without_pages x from n → AreBare v s from n
     → Shows (with_spaces t (insert t.spaces s y)) (cut_pages v s from n)
 shown_removed {t = t} {v = v} show s x y at from n is bare =
     subst (λ (k : SpaceTable). Shows (with_spaces t (insert t.spaces s k)) (cut_pages v s from n)) (sym is) (shown_pages_gone n from show s x at bare)
 
 -- what is asked of the table then
-pub bare_in_table : {t : Inside} {v : LedgerView} → Shows t v → (s : ℕ) (x : SpaceTable) → Some x ≡ get t.spaces s → (from n : ℕ) → AreBare v s from n → AreThere x.pages from n
+pub bare_in_table : {t : Held} {v : LedgerView} → Shows t v → (s : ℕ) (x : SpaceTable) → Some x ≡ get t.spaces s → (from n : ℕ) → AreBare v s from n → AreThere x.pages from n
 bare_in_table {v = v} show s x at from n bare page within =
     let low : from ≤ page = grind (arith, nat_tests) in
     let high : page < from + n = grind (arith, nat_tests) in

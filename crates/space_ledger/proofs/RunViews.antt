@@ -7,10 +7,10 @@ use Rattle.page_table.specs.Run.{IsRunFrom, entry_at}
 use Rattle.page_table.specs.declared.run.PageRun.{PageRun}
 use Rattle.space_maps.specs.Spaces.{holds_space, page_in, put_shared, put_space, space_in}
 use Rattle.space_maps.specs.Laws.{page_shared_beside, space_put}
-use Rattle.space_ledger.specs.declared.tables.Tables.TheInside.{Inside}
 use Rattle.space_ledger.specs.Space.{SpaceTable, awaited, run_awaited}
 use Rattle.space_ledger.specs.View.{LedgerView, PageView, SpaceView, with_run_shared}
 use Rattle.space_ledger.proofs.Parts.{nat_apart}
+use Rattle.space_ledger.specs.Kept.{Held}
 use Rattle.space_ledger.proofs.Seen.{Shows, there_is, with_spaces}
 use Rattle.space_ledger.proofs.Overlaying.{shown_shared}
 
@@ -75,13 +75,13 @@ reached v s run there none (suc k) =
 
 -- What the spaces and the overlays show of it.
 
-module _ {t : Inside} {v : LedgerView} (show : Shows t v) (s : ℕ) (x : SpaceTable) (at : get t.spaces s ≡ Some x) (run : PageRun) (first : IsRunFrom (space_in v s).awaiting 0 run)
+module _ {t : Held} {v : LedgerView} (show : Shows t v) (s : ℕ) (x : SpaceTable) (at : get t.spaces s ≡ Some x) (run : PageRun) (first : IsRunFrom (space_in v s).awaiting 0 run)
     (absent : (i : ℕ) → i < run.n → page_in v s (run.page + i) ≡ None) (low : run.page + run.n ≤ PAGE_END) where
   has : holds_space v s ≡ true
   has = there_is show s x at
 
   -- the tables after so many pages
-  after : ℕ → Inside
+  after : ℕ → Held
   after k = with_spaces t (insert t.spaces s (run_awaited x run k))
 
   one_more : (k : ℕ) → with_spaces (after k) (insert (after k).spaces s (awaited (run_awaited x run k) (run.page + k) (entry_at run k))) ≡ after (suc k)
@@ -93,7 +93,7 @@ module _ {t : Inside} {v : LedgerView} (show : Shows t v) (s : ℕ) (x : SpaceTa
   shown_after zero few = subst (λ (m : FinMap nat_cmp SpaceTable). Shows (with_spaces t m) v) (sym (insert_kept t.spaces s x at)) show
   shown_after (suc k) few =
       let before = reached v s run has (λ q under. first.none q (omega arith) under) k in
-      subst (λ (u : Inside). Shows u (with_run_shared v s run (suc k))) (one_more k)
+      subst (λ (u : Held). Shows u (with_run_shared v s run (suc k))) (one_more k)
       (shown_shared (shown_after k (omega (arith, few))) s (run.page + k) (run_awaited x run k) (get_same t.spaces s s (run_awaited x run k) refl) (entry_at run k)
       (before.still (run.page + k) (omega arith) ∙ absent k (omega (arith, few))) (omega (arith, few, low)))
 

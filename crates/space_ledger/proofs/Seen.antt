@@ -15,33 +15,33 @@ use Rattle.space_maps.specs.Mapped.{mapped, mapped_awaiting, mapped_bare, mapped
 use Rattle.space_ledger.specs.declared.tables.Tables.TheInside.{Inside}
 use Rattle.space_ledger.specs.Space.{SpaceTable, adopted, awaited, marked, with_entry, without_page}
 use Rattle.space_ledger.specs.View.{LedgerView, PageView}
-use Rattle.space_ledger.specs.Kept.{IsKept, Overlays, plain, seen, seen_page}
+use Rattle.space_ledger.specs.Kept.{AreTables, Held, IsKept, Overlays, held_of, plain, seen, seen_page}
 
 -- What the spaces and the overlays show, and what is shown where one of them changed.
 
 -- what is seen of the tables, and what is true of it
-pub record Shows (t : Inside) (v : LedgerView) : Type 0 where
+pub record Shows (t : Held) (v : LedgerView) : Type 0 where
   pub is : seen t ≡ v
   pub kept : IsKept v t.overlays
 
-pub shows : {t : Inside} {v : LedgerView} → seen t ≡ v → IsKept (seen t) t.overlays → Shows t v
-shows {t = t} is kept = record { is = is; kept = subst (λ w. IsKept w t.overlays) is kept }
+pub shows : {t : Inside} {v : LedgerView} → seen (held_of t) ≡ v → AreTables t → Shows (held_of t) v
+shows {t = t} is own = record { is = is; kept = subst (λ w. IsKept w t.overlays) is own.kept }
 
-pub kept_of : {t : Inside} {v : LedgerView} → Shows t v → IsKept (seen t) t.overlays
+pub kept_of : {t : Held} {v : LedgerView} → Shows t v → IsKept (seen t) t.overlays
 kept_of {t = t} s = subst (λ w. IsKept w t.overlays) (sym s.is) s.kept
 
 -- the tables with other spaces, and with other overlays
-abbrev pub with_spaces : Inside → FinMap nat_cmp SpaceTable → Inside
+abbrev pub with_spaces : Held → FinMap nat_cmp SpaceTable → Held
 with_spaces t spaces = record t { spaces = spaces }
 
-abbrev pub with_overlays : Inside → Table → Inside
+abbrev pub with_overlays : Held → Table → Held
 with_overlays t overlays = record t { overlays = overlays }
 
 pub some_is : {X : Type 0} (o : Option X) → IsSome o → (x : X) × (o ≡ Some x)
 some_is None h = cc
 some_is (Some x) h = (x, refl)
 
-module _ {t : Inside} {v : LedgerView} (show : Shows t v) where
+module _ {t : Held} {v : LedgerView} (show : Shows t v) where
   -- what is asked of spaces and pages
   pub has_is : (q : ℕ) → is_some (get t.spaces q) ≡ holds_space v q
   unfolding seen
@@ -82,7 +82,7 @@ module _ {t : Inside} {v : LedgerView} (show : Shows t v) where
   no_page_is q p none = page_is q p ∙ ap (option_map (seen_page t.overlays.entries q p)) (page_absent (plain t) q p none)
 
 -- One space of the tables.
-module _ {t : Inside} {v : LedgerView} (show : Shows t v) (s : ℕ) (x : SpaceTable) (at : get t.spaces s ≡ Some x) where
+module _ {t : Held} {v : LedgerView} (show : Shows t v) (s : ℕ) (x : SpaceTable) (at : get t.spaces s ≡ Some x) where
   here : space_in (plain t) s ≡ x
   here = space_there (plain t) s x at
 
@@ -149,7 +149,7 @@ module _ {t : Inside} {v : LedgerView} (show : Shows t v) (s : ℕ) (x : SpaceTa
       ∙ mapped_put_awaiting (seen_page t.overlays.entries) (plain t) s given ∙ ap (λ (w : LedgerView). put_awaiting w s given) show.is
 
 -- A space put in, and one taken away.
-module _ {t : Inside} {v : LedgerView} (show : Shows t v) (s : ℕ) where
+module _ {t : Held} {v : LedgerView} (show : Shows t v) (s : ℕ) where
   pub seen_space : (y : SpaceTable) → seen (with_spaces t (insert t.spaces s y)) ≡ put_space v s (mapped_space (seen_page t.overlays.entries s) y)
   unfolding seen put_space
   seen_space y = mapped_put (seen_page t.overlays.entries) (plain t) s y ∙ ap (λ (w : LedgerView). put_space w s (mapped_space (seen_page t.overlays.entries s) y)) show.is
@@ -171,7 +171,7 @@ apart s p q r ls lp lq lr differs same =
     differs (same_space q r s p (omega (arith, lq)) (omega (arith, lr)) (omega (arith, ls)) (omega (arith, lp)) same)
     (same_page q r s p (omega (arith, lq)) (omega (arith, lr)) (omega (arith, ls)) (omega (arith, lp)) same)
 
-module _ {t : Inside} {v : LedgerView} (show : Shows t v) (new : Table) (s p : ℕ) (x : PageView) (there : page_in v s p ≡ Some x)
+module _ {t : Held} {v : LedgerView} (show : Shows t v) (new : Table) (s p : ℕ) (x : PageView) (there : page_in v s p ≡ Some x)
     (others : AreOthers t.overlays.entries new.entries (overlay_page s p)) where
   beside : (q r : ℕ) → (q ≡ s → r ≡ p → ⊥) → page_in (seen (with_overlays t new)) q r ≡ page_in v q r
   unfolding seen

@@ -18,11 +18,10 @@ use Rattle.space_maps.specs.Spaces.{bare_space, cut_page, cut_space, holds_space
 use Rattle.space_maps.specs.Laws.{changed_there, page_absent, page_of}
 use Rattle.space_maps.specs.Mapped.{mapped, mapped_none}
 use Rattle.space_maps.specs.Books.{books_empty}
-use Rattle.space_ledger.specs.declared.tables.Tables.TheInside.{Inside}
 use Rattle.space_ledger.specs.Space.{SpaceTable, HasMapped, IsLeastFrom, adopted, awaited, marked, run_awaited, with_entry, without_page}
 use Rattle.space_ledger.specs.View.{LedgerView, PageView, SpaceView, holding_of, ledger_of, with_entry_at, with_run_shared, with_zero_pages}
 use Rattle.space_ledger.specs.Calls.{AreFree, HasSpare, IsLined, IsNextOf, IsSound, entries_of}
-use Rattle.space_ledger.specs.Kept.{IsKept, plain, seen, seen_page}
+use Rattle.space_ledger.specs.Kept.{Held, IsKept, plain, seen, seen_page}
 use Rattle.space_ledger.proofs.Seen.{Shows, awaiting_is, entry_at, overlay_is, page_at, seen_added, seen_adopted, seen_entry, seen_gone, seen_lost, seen_marked, some_is, there_is, with_overlays, with_spaces}
 use Rattle.space_ledger.proofs.Keeping.{kept_added, kept_awaiting, kept_entry, kept_gone, kept_lost, kept_mark}
 use Rattle.space_ledger.proofs.Overlaying.{shown_shared, shown_shared_over}
@@ -31,7 +30,7 @@ use Rattle.space_ledger.proofs.Mapping.{shown_mapped}
 
 -- What each call on one space makes of the view, and that what is true of it is kept.
 
-module _ {t : Inside} {v : LedgerView} (show : Shows t v) (s : ℕ) (x y : SpaceTable) (at : Some x ≡ get t.spaces s) where
+module _ {t : Held} {v : LedgerView} (show : Shows t v) (s : ℕ) (x y : SpaceTable) (at : Some x ≡ get t.spaces s) where
   made : (change : SpaceTable) (w : LedgerView) → y ≡ change → Shows (with_spaces t (insert t.spaces s change)) w → Shows (with_spaces t (insert t.spaces s y)) w
   made change w is shown = subst (λ k. Shows (with_spaces t (insert t.spaces s k)) w) (sym is) shown
 
@@ -143,7 +142,7 @@ module _ {t : Inside} {v : LedgerView} (show : Shows t v) (s : ℕ) (x y : Space
 
 -- A space made, and one taken away.
 
-module _ {t : Inside} {v : LedgerView} (show : Shows t v) (s : ℕ) where
+module _ {t : Held} {v : LedgerView} (show : Shows t v) (s : ℕ) where
   pub shown_added : holds_space v s ≡ false → s ≤ LAST_SPACE → Shows (with_spaces t (insert t.spaces s bare_space)) (put_space v s bare_space)
   shown_added absent low = record { is = seen_added show s; kept = kept_added show.kept s absent low }
 
@@ -165,7 +164,7 @@ on_err (Ok u) err f = err
 on_err (Err e) err f = f err
 
 -- What is true of every view.
-pub is_sound : {t : Inside} {v : LedgerView} → Shows t v → IsSound v
+pub is_sound : {t : Held} {v : LedgerView} → Shows t v → IsSound v
 is_sound {t = t} {v = v} show = record {
   few = let few = len_low (LAST_SPACE + 1) v.spaces (λ q there. let low = show.kept.numbers q there in omega (arith, low)) in few;
   most = subst (λ n. n ≤ FRAME_UNITS * v.frames) show.kept.count show.kept.most;
@@ -174,7 +173,7 @@ is_sound {t = t} {v = v} show = record {
 }
 
 -- No space at all.
-pub seen_none : (t : Inside) → t.spaces ≡ empty → (seen t).spaces ≡ empty
+pub seen_none : (t : Held) → t.spaces ≡ empty → (seen t).spaces ≡ empty
 unfolding seen
 seen_none t none = mapped_none (seen_page t.overlays.entries) (plain t) none
 
@@ -182,7 +181,7 @@ none_overlaid : (l : Ledger) → all_holdings l ≡ [] → overlaid_pages l ≡ 
 unfolding overlaid_pages
 none_overlaid l nothing = tally_none (λ (x : Holding). cond (nat_lt 0 (length x.own)) 1 0) l nothing
 
-pub shown_none : (t : Inside) → t.spaces ≡ empty → t.overlays.entries ≡ empty → t.overlays.room ≡ FRAME_UNITS * t.frames → IsKept (seen t) t.overlays
+pub shown_none : (t : Held) → t.spaces ≡ empty → t.overlays.entries ≡ empty → t.overlays.room ≡ FRAME_UNITS * t.frames → IsKept (seen t) t.overlays
 unfolding seen mapped
 shown_none t none entries roomy =
     let spaces : (seen t).spaces ≡ empty = seen_none t none in

@@ -1,6 +1,7 @@
-use Rattle.std.specs.Prelude.{◌≡◌, ℕ, zero, suc, ◌+◌, ◌≤◌, ◌<◌, ◌^◌, Bool, nat_le, nat_lt, Option, Some, None, IsSome}
+use Rattle.std.specs.Prelude.{◌≡◌, ℕ, zero, suc, ◌+◌, ◌≤◌, ◌<◌, ◌^◌, Bool, true, false, IsTrue, nat_le, nat_lt, Option, Some, None, IsSome}
 use Rattle.std.specs.FinMap.{empty, get, insert, len, remove, retain_keys}
-use Rattle.page_table.specs.Table.{Pages, IsMapped}
+use Rattle.page_set.specs.Sets.{Chunks, holds}
+use Rattle.page_table.specs.Table.{Pages, IsMapped, is_within}
 use Rattle.page_table.specs.Run.{IsRunFrom, entry_at}
 use Rattle.page_table.specs.declared.entry.PageEntry.{PageEntry}
 use Rattle.page_table.specs.declared.run.PageRun.{PageRun}
@@ -11,6 +12,11 @@ use Rattle.space_maps.specs.Spaces.{SpaceOf}
 -- its pages with their entries
 abbrev pub SpaceTable : Type 0
 SpaceTable = SpaceOf PageEntry
+
+-- with its overlaid pages; of those that await it says nothing
+pub record OverlaidSpace : Type 0 where
+  pub table : SpaceTable
+  pub overlaid : Chunks
 
 -- the pages of a table below one, and those from it on
 unfoldable pub pages_below : Pages → ℕ → Pages
@@ -28,6 +34,17 @@ pub record IsCounted (table : Pages) (end count : ℕ) : Type 0 where
 abbrev pub IsLeastFrom : Pages → ℕ → Option ℕ → Type 0
 IsLeastFrom pages page None = (q : ℕ) → page ≤ q → get pages q ≡ None
 IsLeastFrom pages page (Some found) = (page ≤ found) × IsSome (get pages found) × ((q : ℕ) → page ≤ q → q < found → get pages q ≡ None)
+
+-- the least overlaid page not below one, or that there is none
+abbrev pub IsLeastOverlaid : OverlaidSpace → ℕ → Option ℕ → Type 0
+IsLeastOverlaid space page None = (q : ℕ) → page ≤ q → IsSome (get space.table.pages q) → holds space.overlaid q ≡ false
+IsLeastOverlaid space page (Some found) =
+    (page ≤ found) × IsSome (get space.table.pages found) × (holds space.overlaid found ≡ true)
+    × ((q : ℕ) → page ≤ q → q < found → IsSome (get space.table.pages q) → holds space.overlaid q ≡ false)
+
+-- none of the n pages from `from` on is overlaid
+abbrev pub AreNotOverlaid : Chunks → ℕ → ℕ → Type 0
+AreNotOverlaid overlaid from n = (page : ℕ) → IsTrue (is_within from n page) → holds overlaid page ≡ false
 
 -- a page with another entry, and without one
 abbrev pub with_entry : SpaceTable → ℕ → PageEntry → SpaceTable

@@ -10,7 +10,6 @@ ghost use Rattle.page_table.specs.Run.{IsNextRun, IsRunFrom};
 ghost use Rattle.space_maps.specs.Spaces.{bare_space, cut_page, cut_pages, cut_space, holds_space, page_in, put_awaiting, put_mark, put_shared, put_space, space_in, turned_page};
 ghost use Rattle.space_ledger.specs.Space.{AwaitsFirst, AwaitsRun, IsLeast};
 ghost use Rattle.space_ledger.specs.View.{ledger_of, with_entry_at, with_overlay, with_run_shared, with_zero_pages};
-ghost use Rattle.overlay_address.specs.Names.{IsName, page_of, space_of};
 ghost use Rattle.space_ledger.specs.Calls.{AreBare, AreFree, HasOverlayRoom, HasSpare, IsLined, IsNextOf, IsNextOverlaid, IsSound, entries_of};
 
 use crate::space::Space;
@@ -19,7 +18,6 @@ use overlay_address::OverlayPage;
 use overlay_mapping_table::{Entry, MappingTable};
 use ovl_io::Perms;
 use page_table::{PageEntry, PageRun, PageTable};
-use sizes::PAGE_END;
 use std::alloc::{AllocError, Global};
 use std::marker::Model;
 
@@ -41,11 +39,11 @@ impl Model for Tables {
 
     ghost coded = { view_code };
 
-    ghost use Rattle.space_ledger.specs.Kept.{IsKept, seen};
+    ghost use Rattle.space_ledger.specs.Kept.{AreTables, held_of, seen};
 
-    ghost view = { seen };
+    ghost view = { λ t. seen (held_of t) };
 
-    ghost invariant = { λ t. IsKept (seen t) t.overlays };
+    ghost invariant = { AreTables };
 }
 
 impl Tables {
@@ -155,12 +153,8 @@ impl Tables {
         ensures next { IsNextOverlaid self.now space page result }
         ensures sound { IsSound self.now }
     {
-        let overlays = &self.overlays;
-        if page >= PAGE_END {
-            return None;
-        }
-        match overlays.next_from(OverlayPage::of(space, page)) {
-            Some(found) => page_of_space(found.0, space),
+        match self.spaces.get(space) {
+            Some(space) => space.next_overlaid(page),
             None => None,
         }
     }
@@ -240,6 +234,10 @@ impl Tables {
         requires room { HasOverlayRoom self.old space page overlay }
         ensures { self.new ≡ with_overlay self.old space page overlay }
     {
+        match self.spaces.get_mut(space) {
+            Some(space) => space.set_overlaid(page, overlay.is_some()),
+            None => unreachable!(),
+        }
         match overlay {
             Some(entry) => self.overlays.insert(OverlayPage::of(space, page), entry),
             None => {
@@ -336,7 +334,7 @@ impl Tables {
             (record { entry = result; overlay = overlay }) }
     {
         let entry = match self.spaces.get_mut(space) {
-            Some(space) => space.share(page),
+            Some(space) => space.share(page, overlay.is_some()),
             None => unreachable!(),
         };
         match overlay {
@@ -358,19 +356,5 @@ impl Tables {
             Some(space) => space.share_run(run),
             None => unreachable!(),
         }
-    }
-}
-
-/// The page of a name, where it is one of that space.
-fn page_of_space(owner: OverlayPage, space: u16) -> Option<u64>
-    ensures page { result
-        ≡ cond (space_of owner == space && nat_lt (page_of owner) PAGE_END) (Some (page_of owner)) None }
-    ensures name { IsName owner }
-{
-    let page = owner.page();
-    if owner.space() == space && page < PAGE_END {
-        Some(page)
-    } else {
-        None
     }
 }

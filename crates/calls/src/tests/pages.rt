@@ -72,6 +72,18 @@ fn set(rt: &impl Abort, table: &mut PageTable, page: u64, entry: PageEntry) {
     table.set(page, entry);
 }
 
+// Says of a page, which has to be there, whether it is overlaid.
+fn set_overlaid(rt: &impl Abort, table: &mut PageTable, page: u64, on: bool) {
+    assert!(rt; table.get(page).is_some());
+    table.set_overlaid(page, on);
+}
+
+// Says of a page that it isn't overlaid, whether it is there or not.
+fn clear_overlaid(rt: &impl Abort, table: &mut PageTable, page: u64) {
+    assert!(rt; page <= LAST);
+    table.clear_overlaid(page, 1);
+}
+
 // Asserts how many pages there are, and what each of these has.
 fn assert_pages(rt: &impl Abort, table: &PageTable, len: u32, rows: &[(u64, Option<PageEntry>)]) {
     assert_eq!(rt; table.len(), len);
@@ -132,6 +144,16 @@ fn next_listed(frames: &[Option<u32>; PAGES], at: usize) -> Option<(u64, PageEnt
     None
 }
 
+// The first overlaid page of the list from `at` on, as `next_overlaid` answers it.
+fn overlaid_from(overlaid: &[bool; PAGES], at: usize) -> Option<u64> {
+    for next in at..PAGES {
+        if overlaid[next] {
+            return Some(page_at(next));
+        }
+    }
+    None
+}
+
 // How many pages of the list from `at` on, in its piece, are there, or aren't.
 fn run_listed(frames: &[Option<u32>; PAGES], at: usize, there: bool) -> u32
     requires { at < PAGES }
@@ -156,6 +178,47 @@ fn list(frames: &mut [Option<u32>; PAGES], at: usize, n: u32, frame: Option<u32>
             frames[next] = frame;
         }
     }
+}
+
+// Pages at all digits, of which some are overlaid, beside a list of which are: pages come and go one by one.
+#[test]
+fn a_table_keeps_which_pages_are_overlaid(rt: HostRuntime) -> Result<(), Fail> {
+    let mut table = PageTable::new(rt.alloc());
+    let mut there = [false; PAGES];
+    let mut overlaid = [false; PAGES];
+    let mut seed = 1u32;
+    for call in 0..3000u32 {
+        seed = seed.wrapping_mul(1_664_525).wrapping_add(1_013_904_223);
+        let at = (seed >> 16) as usize % PAGES;
+        let page = page_at(at);
+        if !there[at] {
+            map_pages(&rt, &mut table, page, 1, CODE)?;
+            there[at] = true;
+        } else if (seed >> 8) % 8 < 5 {
+            let on = (seed >> 12) % 2 == 0;
+            set_overlaid(&rt, &mut table, page, on);
+            overlaid[at] = on;
+        } else if (seed >> 8) % 8 < 7 {
+            unmap(&rt, &mut table, page, 1);
+            there[at] = false;
+            overlaid[at] = false;
+        } else {
+            clear_overlaid(&rt, &mut table, page);
+            overlaid[at] = false;
+        }
+        let copy = table.copy()?;
+        assert_eq!(rt;
+            table.next_overlaid(0),
+            overlaid_from(&overlaid, 0),
+            "call {call}"
+        );
+        assert_eq!(rt;
+            copy.next_overlaid(page),
+            overlaid_from(&overlaid, at),
+            "call {call}"
+        );
+    }
+    Ok(())
 }
 
 // What the path of a page leads to, from the first node on.

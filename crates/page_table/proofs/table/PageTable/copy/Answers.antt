@@ -4,6 +4,7 @@ use Rattle.page_table.specs.Kept.{seen}
 use Rattle.page_table.proofs.Pages.{length_total}
 use Rattle.page_table.proofs.Tables.{cloned}
 use Rattle.page_table.proofs.Held.{held_copy, links_cloned}
+use Rattle.page_table.proofs.Overlaid.{overlaid_copy}
 use Rattle.page_table.proofs.Fronts.{front_same}
 use Rattle.page_table.proofs.table.PageTable.copy.Goals as goal
 use Rattle.page_table.proofs.table.PageTable.copy.Goals.{In_ok-nodes}
@@ -27,9 +28,13 @@ invariant_of-result c = record {
       (omega (arith, c.in_ok-reserve.ensures.ok, c.in_ok-reserve.ensures.len, c.len.ensures));
   none = front_same c.in_ok-links.links.items c.self.inside.links.items c.reserve.new.self.items c.self.inside.runs.items c.self.inside.front
       (same_links c) (same_runs c) c.self.invariant.none;
+  overlaid = overlaid_copy c.in_ok-links.links.items c.self.inside.links.items c.reserve.new.self.items c.self.inside.runs.items c.self.inside.overlaid
+      c.in_ok-overlaid.overlaid c.self.inside.count (same_links c) (same_runs c) c.in_ok-overlaid.ensures.chunks c.in_ok-overlaid.ensures.room
+      c.self.invariant.overlaid;
 }
 
 pub returns : goal.returns
 returns c =
-    ap (λ l. seen l c.reserve.new.self.items) (same_links c)
-    ∙ ap (λ (r : List PageRun). seen c.self.inside.links.items r) (same_runs c) ∙ c.self.view_is
+    ap (λ l. seen l c.reserve.new.self.items c.in_ok-overlaid.overlaid.chunks) (same_links c)
+    ∙ ap (λ (r : List PageRun). seen c.self.inside.links.items r c.in_ok-overlaid.overlaid.chunks) (same_runs c)
+    ∙ ap (seen c.self.inside.links.items c.self.inside.runs.items) c.in_ok-overlaid.ensures.chunks ∙ c.self.view_is

@@ -3,6 +3,7 @@ use Rattle.std.specs.Option.{is_some}
 use Rattle.number_maps.specs.Rows.{map_of}
 use Rattle.page_table.specs.Nodes.{pages_by, slot_of}
 use Rattle.page_table.specs.Kept.{pages_of}
+use Rattle.page_table.proofs.Overlaid.{overlaid_seen, overlaid_set}
 use Rattle.page_table.proofs.Fronts.{front_seen, front_set}
 use Rattle.page_table.proofs.Pages.{get_in}
 use Rattle.page_table.proofs.Held.{got_none, got_page, held_set, set_table}
@@ -30,6 +31,12 @@ invariant_of-self c =
           c.requires
           (set_table c.args.self.now c.self.inside.links.items c.self.inside.runs.items c.set_page.new.runs.items c.args.page c.in-Some.slot c.args.e
           c.self.view_is c.self.invariant.held.tree (at here) c.set_page.ensures.set);
+      overlaid = overlaid_set c.args.self.now.pages (pages_by (map_of c.self.inside.links.items) (pages_of c.set_page.new.runs.items)) c.self.inside.overlaid
+          c.self.inside.count c.args.page c.args.e
+          (overlaid_seen c.args.self.now c.self.inside.links.items c.self.inside.runs.items c.self.inside.overlaid c.self.inside.count c.self.view_is
+          c.self.invariant.overlaid)
+          (set_table c.args.self.now c.self.inside.links.items c.self.inside.runs.items c.set_page.new.runs.items c.args.page c.in-Some.slot c.args.e
+          c.self.view_is c.self.invariant.held.tree (at here) c.set_page.ensures.set);
     }
 
 pub unreachable-requires : goal.unreachable-requires
@@ -38,8 +45,8 @@ unreachable-requires c =
     (ap (λ l. slot_of (map_of l) c.args.page) (sym c.deref.ensures.value) ∙ sym c.slot_in.ensures ∙ c.in-None.is) in
     let absent = ap is_some none ∙ c.requires in cc
 
-pub returns : goal.returns
-returns c =
-    let here = (goal.at.returns c).In-Some in
+pub returns-clause-entry : goal.returns-clause-entry
+returns-clause-entry c =
+    let here = (goal.at.returns-clause-entry c).In-Some in
     set_table c.args.self.now c.self.inside.links.items c.self.inside.runs.items c.set_page.new.runs.items c.args.page c.in-Some.slot c.args.e
     c.self.view_is c.self.invariant.held.tree (at here) c.set_page.ensures.set

@@ -5,6 +5,7 @@ use Rattle.page_table.specs.Nodes.{pages_by}
 use Rattle.number_maps.specs.Rows.{map_of}
 use Rattle.page_table.proofs.Held.{held_unmapped, there_low, unmapped_len, unmapped_table}
 use Rattle.page_table.specs.Next.{NoneFrom}
+use Rattle.page_table.proofs.Overlaid.{overlaid_seen, overlaid_unmapped}
 use Rattle.page_table.proofs.Fronts.{front_seen, front_unmapped}
 use Rattle.page_table.proofs.table.PageTable.unmap.Goals as goal
 use Rattle.page_table.proofs.table.PageTable.unmap.Goals.{After-clear_paths}
@@ -39,7 +40,19 @@ invariant_of-self c =
           (unmapped_table c.args.self.now c.self.inside.links.items c.self.inside.runs.items c.clear_paths.new.runs.items c.args.from c.args.n
           c.self.view_is (cleared here))
           c.passed-self-inside.ensures;
+      overlaid = overlaid_unmapped c.args.self.now.pages (pages_by (map_of c.self.inside.links.items) (pages_of c.clear_paths.new.runs.items))
+          c.self.inside.overlaid c.remove_run.new.self c.self.inside.count
+          (overlaid_seen c.args.self.now c.self.inside.links.items c.self.inside.runs.items c.self.inside.overlaid c.self.inside.count c.self.view_is
+          c.self.invariant.overlaid)
+          c.args.from c.args.n
+          (unmapped_table c.args.self.now c.self.inside.links.items c.self.inside.runs.items c.clear_paths.new.runs.items c.args.from c.args.n
+          c.self.view_is (cleared here))
+          c.remove_run.ensures.cut c.remove_run.ensures.are c.remove_run.ensures.room;
     }
+
+pub remove_run-requires : goal.remove_run-requires
+remove_run-requires c =
+    there_low c.args.self.now c.self.inside.links.items c.self.inside.runs.items c.args.from c.args.n c.self.view_is c.requires c.ranges.from.fits
 
 pub returns-clause-unmapped : goal.returns-clause-unmapped
 returns-clause-unmapped c =

@@ -2,7 +2,7 @@ use Rattle.std.proofs.Common.{◌≡◌, Result, Ok, Err, IfOk, ap, ◌∙◌, s
 use Rattle.space_ledger.specs.Space.{SpaceTable}
 use Rattle.page_table.specs.Table.{Pages}
 use Rattle.page_table.specs.Nodes.{Table}
-use Rattle.space_ledger.proofs.Parts.{all_inside}
+use Rattle.space_ledger.proofs.Parts.{all_inside, table_is}
 use Rattle.space_ledger.proofs.space.Space.copy.Goals as goal
 
 copied : {E : Type 0} (r : Result Table E) (a b : Pages) → a ≡ b → IfOk r (λ t. t.pages ≡ a) → IfOk r (λ t. t.pages ≡ b)
@@ -16,6 +16,6 @@ copies (Err e) table is = is
 
 pub returns : goal.returns
 returns c =
-    copied c.copy.result c.self.inside.table.pages c.args.self.now.pages
-    (sym (all_inside c.self.inside.table.pages c.self.inside.end (ap (λ (s : SpaceTable). s.awaiting) c.self.view_is ∙ c.requires)) ∙ ap (λ (s : SpaceTable). s.pages) c.self.view_is)
+    copied c.copy.result c.self.inside.table.pages c.args.self.now.table.pages
+    (sym (all_inside c.self.inside.table.pages c.self.inside.end (ap (λ (s : SpaceTable). s.awaiting) (table_is c.self.view_is) ∙ c.requires)) ∙ ap (λ (s : SpaceTable). s.pages) (table_is c.self.view_is))
     (copies c.copy.result c.self.inside.table c.copy.ensures)
