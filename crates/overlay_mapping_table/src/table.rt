@@ -1,11 +1,13 @@
-ghost use Rattle.std.specs.Prelude.{◌≡◌, ◌+◌, ◌*◌, ◌<◌, ◌≤◌, IfOk, IfErr};
+ghost use Rattle.std.specs.Prelude.{◌≡◌, ◌*◌, ◌<◌, ◌≤◌, length, get_or, None, IfOk};
+ghost use Rattle.std.specs.Int.{IsNextPowerOfTwo};
 ghost use Rattle.std.specs.FinMap as map;
 ghost use Rattle.sizes.specs.declared.TheConstants.{FRAME_UNITS, MOST_FRAMES};
-ghost use Rattle.number_maps.specs.Rows.{IsAt, IsGap, IsNextOne, Rise};
-ghost use Rattle.overlay_mapping_table.specs.Table.{HasRoomFor};
-ghost use Rattle.overlay_mapping_table.specs.Kept.{IsRowAt};
+ghost use Rattle.overlay_mapping_table.specs.Table.{HasRoomFor, AreThoseOf, NoneIsEmptyBefore};
 
 use crate::entry::Entry;
+use crate::probes::place_of;
+use crate::shifts::{put_in, take_out};
+use crate::slots::Slots;
 use overlay_address::OverlayPage;
 use sizes::FRAME_UNITS;
 use std::alloc::{AllocError, Global};
@@ -14,8 +16,9 @@ use std::marker::Model;
 /// The overlays by name: of each its lines and its block. There is room for 16 for each frame.
 #[derive(Debug, Drop)]
 pub struct MappingTable {
-    // by rising names
-    rows: Vec<(OverlayPage, Entry)>,
+    // a row stands at its name's home, or behind rows whose homes lie no further on
+    slots: Slots,
+    count: u32,
     room: u32,
 }
 
@@ -27,13 +30,12 @@ impl Model for MappingTable {
 
     ghost coded = { table_code };
 
-    ghost use Rattle.std.specs.FinMap.{from_entries};
-    ghost use Rattle.std.specs.Vec.{vec_capacity};
-    ghost use Rattle.overlay_mapping_table.specs.Kept.{AreKept};
+    ghost use Rattle.overlay_mapping_table.specs.Rows.{map_of};
+    ghost use Rattle.overlay_mapping_table.specs.Kept.{AreKept, names_of};
 
-    ghost view = { λ t. record { entries = from_entries t.rows.items; room = t.room } };
+    ghost view = { λ t. record { entries = map_of t.slots; room = t.room; slots = names_of t.slots } };
 
-    ghost invariant = { λ t. AreKept t.rows.items (vec_capacity t.rows) t.room };
+    ghost invariant = { λ t. AreKept t.slots t.count t.room };
 }
 
 impl MappingTable {
@@ -46,27 +48,21 @@ impl MappingTable {
         ensures room { IfOk result (λ table. table.room ≡ FRAME_UNITS * frames) }
     {
         let room = FRAME_UNITS * frames;
-        let rows = Vec::with_capacity(alloc, room as usize)?;
-        Ok(MappingTable { rows, room })
+        let slots = Slots::new(alloc, (2 * room as usize).next_power_of_two())?;
+        Ok(MappingTable {
+            slots,
+            count: 0,
+            room,
+        })
     }
 
     /// The entry of an overlay. None exactly where it has none.
     pub fn get(&self, p: OverlayPage) -> Option<Entry>
         ensures { result ≡ map.get self.now.entries p }
     {
-        match place_of(&self.rows, p) {
-            Ok(at) => Some(self.rows[at].1),
+        match place_of(&self.slots, p) {
+            Ok(at) => self.slots.entry_at(at),
             Err(_) => None,
-        }
-    }
-
-    /// The least name not below one that has an entry, with that entry. None exactly where none has. Costs a look-up.
-    pub fn next_from(&self, p: OverlayPage) -> Option<(OverlayPage, Entry)>
-        ensures { IsNextOne self.now.entries p result }
-    {
-        match place_of(&self.rows, p) {
-            Ok(at) => Some(self.rows[at]),
-            Err(at) => row_at(&self.rows, at),
         }
     }
 
@@ -77,12 +73,12 @@ impl MappingTable {
         ensures entries { self.new.entries ≡ map.insert self.old.entries p e }
         ensures room { self.new.room ≡ self.old.room }
     {
-        match place_of(&self.rows, p) {
-            Ok(at) => self.rows[at] = (p, e),
-            Err(at) => match self.rows.insert(at, (p, e)) {
-                Ok(()) => {}
-                Err(_) => unreachable!(),
-            },
+        match place_of(&self.slots, p) {
+            Ok(at) => self.slots.put(at, p, e),
+            Err(place) => {
+                put_in(&mut self.slots, place, p, e);
+                self.count += 1;
+            }
         }
     }
 
@@ -93,8 +89,13 @@ impl MappingTable {
         ensures room { self.new.room ≡ self.old.room }
         ensures result { result ≡ map.get self.old.entries p }
     {
-        match place_of(&self.rows, p) {
-            Ok(at) => Some(self.rows.remove(at).1),
+        match place_of(&self.slots, p) {
+            Ok(at) => {
+                let entry = self.slots.entry_at(at);
+                take_out(&mut self.slots, at);
+                self.count -= 1;
+                entry
+            }
             Err(_) => None,
         }
     }
@@ -104,26 +105,25 @@ impl MappingTable {
         ensures count { result ≡ map.len self.now.entries }
         ensures few { result ≤ self.now.room }
     {
-        self.rows.len() as u32
+        self.count
     }
-}
 
-// The row at a place, if there is one.
-fn row_at(rows: &[(OverlayPage, Entry)], at: usize) -> Option<(OverlayPage, Entry)>
-    ensures { IsRowAt rows.now at result }
-{
-    if at < rows.len() {
-        Some(rows[at])
-    } else {
-        None
+    /// How many slots there are: the least power of two that is at least twice the room. From the home of an overlay
+    /// upwards to its slot, with slot 0 after the last one, no slot is empty. Costs a step.
+    pub fn slots(&self) -> u32
+        ensures count { result ≡ length self.now.slots }
+        ensures size { IsNextPowerOfTwo (2 * self.now.room) result }
+        ensures names { AreThoseOf self.now.slots self.now.entries }
+        ensures ways { NoneIsEmptyBefore self.now.slots }
+    {
+        self.slots.len() as u32
     }
-}
 
-// Where the row of a name stands, or would stand.
-fn place_of(rows: &[(OverlayPage, Entry)], p: OverlayPage) -> Result<usize, usize>
-    requires { Rise 0 rows.now }
-    ensures there { IfOk result (IsAt rows.now p) }
-    ensures gap { IfErr result (IsGap rows.now p) }
-{
-    rows.binary_search_by_key(&p, |row| row.0)
+    /// The overlay in a slot. None exactly where the slot is empty. Costs a step.
+    pub fn slot(&self, at: u32) -> Option<OverlayPage>
+        requires { at < length self.now.slots }
+        ensures { result ≡ get_or self.now.slots at None }
+    {
+        self.slots.name_at(at as usize)
+    }
 }
