@@ -7,7 +7,7 @@ use Rattle.std.specs.FinMap.{FinMap, find, from_entries, empty, get, insert, rem
 use Rattle.std.proofs.lemmas.Bool.{cases_eq}
 use Rattle.std.proofs.lemmas.List.{get_or-set_same, get_or-set_other}
 use Rattle.number_maps.specs.Keys.{alike, by_key, differs, ties, get_same, get_other, removed_same, removed_other}
-use Rattle.overlay_mapping_table.specs.Rows.{rows_of, map_of, AreApart}
+use Rattle.overlay_mapping_table.specs.Rows.{rows_of, map_of, StandOnce}
 
 -- Slots with rows, and the map that they stand for.
 
@@ -24,10 +24,10 @@ module _ {X : Type 0} where
 
   -- what is found under the key of a row, and under one that no slot has
 
-  apart_rest : (slot : Option (ℕ × X)) (slots : List (Option (ℕ × X))) → AreApart (slot ∷ slots) → AreApart slots
+  apart_rest : (slot : Option (ℕ × X)) (slots : List (Option (ℕ × X))) → StandOnce (slot ∷ slots) → StandOnce slots
   apart_rest slot slots apart k x y i j one two = let same = apart k x y (suc i) (suc j) one two in omega (arith, same)
 
-  find_has : (slots : List (Option (ℕ × X))) (k i : ℕ) (x : X) → AreApart slots → get_or slots i None ≡ Some (k, x)
+  find_has : (slots : List (Option (ℕ × X))) (k i : ℕ) (x : X) → StandOnce slots → get_or slots i None ≡ Some (k, x)
       → find nat_cmp k (rows_of slots) ≡ Some x
   find_has [] k i x apart is = cc
   find_has (None ∷ slots) k zero x apart is = cc
@@ -59,7 +59,7 @@ module _ {X : Type 0} where
       ∙ find_lacks slots k (λ i x is. lacks (suc i) x is)
 
   -- what the map has under them
-  pub got : (slots : List (Option (ℕ × X))) (k i : ℕ) (x : X) → AreApart slots → get_or slots i None ≡ Some (k, x) → get (map_of slots) k ≡ Some x
+  pub got : (slots : List (Option (ℕ × X))) (k i : ℕ) (x : X) → StandOnce slots → get_or slots i None ≡ Some (k, x) → get (map_of slots) k ≡ Some x
   unfolding map_of
   got slots k i x apart is = get-from_entries nat_cmp_total (rows_of slots) k ∙ find_has slots k i x apart is
 
@@ -87,7 +87,7 @@ module _ {X : Type 0} where
       more other none (suc i) x is = none i x is
 
   -- slots with the same rows stand for the same map
-  pub same_rows : (old new : List (Option (ℕ × X))) → AreApart old → AreApart new
+  pub same_rows : (old new : List (Option (ℕ × X))) → StandOnce old → StandOnce new
       → ((k : ℕ) (x : X) (i : ℕ) → get_or old i None ≡ Some (k, x) → (j : ℕ) × (get_or new j None ≡ Some (k, x)))
       → ((k : ℕ) (x : X) (j : ℕ) → get_or new j None ≡ Some (k, x) → (i : ℕ) × (get_or old i None ≡ Some (k, x)))
       → map_of new ≡ map_of old
@@ -111,7 +111,7 @@ module _ {X : Type 0} where
       by (inl same) = here same (ap (λ j. get_or (slice_set slots at o) j None) same ∙ get_or-set_same slots at o None inside)
       by (inr differ) = other differ (get_or-set_other slots at i o None differ)
 
-  pub apart_put : (slots : List (Option (ℕ × X))) (k at : ℕ) (x : X) → IsOwn slots k at → AreApart slots → AreApart (slice_set slots at (Some (k, x)))
+  pub apart_put : (slots : List (Option (ℕ × X))) (k at : ℕ) (x : X) → IsOwn slots k at → StandOnce slots → StandOnce (slice_set slots at (Some (k, x)))
   apart_put slots k at x own apart q y z i j one two = by_at slots at (Some (k, x)) i own.inside
       (λ here is. by_at slots at (Some (k, x)) j own.inside
       (λ there also. here ∙ sym there)
@@ -124,14 +124,14 @@ module _ {X : Type 0} where
       absurd (away (own.only i y (sym stays ∙ one ∙ ap (λ (p : ℕ). Some (p, y)) (sym key)))))
       (λ far kept. apart q y z i j (sym stays ∙ one) (sym kept ∙ two)))
 
-  pub apart_take : (slots : List (Option (ℕ × X))) (at : ℕ) → at < length slots → AreApart slots → AreApart (slice_set slots at None)
+  pub apart_take : (slots : List (Option (ℕ × X))) (at : ℕ) → at < length slots → StandOnce slots → StandOnce (slice_set slots at None)
   apart_take slots at inside apart q y z i j one two = by_at slots at None i inside
       (λ here is. absurd (cc (is, one)))
       (λ away stays. by_at slots at None j inside
       (λ there also. absurd (cc (also, two)))
       (λ far kept. apart q y z i j (sym stays ∙ one) (sym kept ∙ two)))
 
-  pub map_put : (slots : List (Option (ℕ × X))) (k at : ℕ) (x : X) → IsOwn slots k at → AreApart slots
+  pub map_put : (slots : List (Option (ℕ × X))) (k at : ℕ) (x : X) → IsOwn slots k at → StandOnce slots
       → map_of (slice_set slots at (Some (k, x))) ≡ insert (map_of slots) k x
   map_put slots k at x own apart = alike _ _ (λ q. by_key q k (λ same. put q same) (λ other. left q other))
     where
@@ -155,7 +155,7 @@ module _ {X : Type 0} where
           ∙ sym (got_none slots q lacks))
           ∙ sym (get_other (map_of slots) k q x other)
 
-  pub map_take : (slots : List (Option (ℕ × X))) (k at : ℕ) → IsOwn slots k at → AreApart slots
+  pub map_take : (slots : List (Option (ℕ × X))) (k at : ℕ) → IsOwn slots k at → StandOnce slots
       → map_of (slice_set slots at None) ≡ remove (map_of slots) k
   map_take slots k at own apart = alike _ _ (λ q. by_key q k (λ same. gone q same) (λ other. left q other))
     where
@@ -182,7 +182,7 @@ module _ {X : Type 0} where
 
   -- How many there are.
 
-  pub counted : (slots : List (Option (ℕ × X))) → AreApart slots → len (map_of slots) ≡ length (rows_of slots)
+  pub counted : (slots : List (Option (ℕ × X))) → StandOnce slots → len (map_of slots) ≡ length (rows_of slots)
   unfolding map_of
   counted [] apart = len-empty nat_cmp X
   counted (None ∷ slots) apart = counted slots (apart_rest None slots apart)

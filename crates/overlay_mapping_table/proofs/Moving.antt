@@ -4,7 +4,7 @@ use Rattle.std.proofs.Math.Nat.{add-mod_right, mod-eq_of_lt, mod-lt}
 use Rattle.std.proofs.lemmas.Bool.{cases_lt, cases_eq}
 use Rattle.std.proofs.lemmas.List.{get_or-set_same, get_or-set_other, length-set}
 use Rattle.overlay_mapping_table.specs.declared.entry.Entry.{Entry}
-use Rattle.overlay_mapping_table.specs.Rows.{ring, AreApart}
+use Rattle.overlay_mapping_table.specs.Rows.{ring, StandOnce}
 use Rattle.overlay_mapping_table.specs.Shifts.{AreLowered, AreRaised, AreSame}
 use Rattle.overlay_mapping_table.proofs.Ways.{same_near}
 use Rattle.overlay_mapping_table.proofs.Searching.{within}
@@ -83,7 +83,7 @@ module _ (n : ℕ) (slots new : List (Option (ℕ × Entry))) (to from : ℕ) (m
       (λ one two. (i, moved.other i one two ∙ is))
 
   -- a name stands at one place still
-  once : AreApart slots → (name : ℕ) (x y : Entry) (i j : ℕ) → ring n new i ≡ Some (name, x) → ring n new j ≡ Some (name, y) → i % n ≡ j % n
+  once : StandOnce slots → (name : ℕ) (x y : Entry) (i j : ℕ) → ring n new i ≡ Some (name, x) → ring n new j ≡ Some (name, y) → i % n ≡ j % n
   once apart name x y i j one two = by_place n to from i
       (λ here. by_place n to from j
       (λ there. here ∙ sym there)
@@ -124,12 +124,12 @@ module _ (n : ℕ) (slots new : List (Option (ℕ × Entry))) (to from : ℕ) (m
           same.back name x (before.0 % n) before.1
 
 -- the same slots
-pub same_start : (slots : List (Option (ℕ × Entry))) → AreApart slots → AreSame slots slots
+pub same_start : (slots : List (Option (ℕ × Entry))) → StandOnce slots → AreSame slots slots
 same_start slots apart = record { size = refl; apart = apart; kept = λ name x i is. (i, is); back = λ name x j is. (j, is) }
 
 -- Rows go up, from the last one on.
 
-pub raise_start : (n : ℕ) (slots : List (Option (ℕ × Entry))) (end : ℕ) → AreApart slots → ring n slots end ≡ None → AreRaised n slots slots end end
+pub raise_start : (n : ℕ) (slots : List (Option (ℕ × Entry))) (end : ℕ) → StandOnce slots → ring n slots end ≡ None → AreRaised n slots slots end end
 raise_start n slots end apart bare =
     record {
       same = same_start slots apart;
@@ -180,7 +180,7 @@ raise_more n old slots hole end whole raised less near =
 
 -- Rows go down, from the first one on.
 
-pub lower_start : (n : ℕ) (slots : List (Option (ℕ × Entry))) (hole : ℕ) → AreApart slots → ring n slots hole ≡ None → AreLowered n slots slots hole hole
+pub lower_start : (n : ℕ) (slots : List (Option (ℕ × Entry))) (hole : ℕ) → StandOnce slots → ring n slots hole ≡ None → AreLowered n slots slots hole hole
 lower_start n slots hole apart bare =
     record {
       same = same_start slots apart;
@@ -232,13 +232,12 @@ pub raises : (n : ℕ) (old slots new : List (Option (ℕ × Entry))) (place hol
     → place < hole → hole ≤ end → end < place + n → from ≡ (hole - 1) % n → to ≡ hole % n
     → new ≡ slice_set (slice_set slots to (get_or slots from None)) from None
     → (place ≤ hole - 1) × (hole - 1 ≤ end) × AreRaised n old new (hole - 1) end
-raises n old slots new place hole end from to whole raised less le near at_from at_to is =
-    (
-      omega (arith, less),
-      omega (arith, le),
-      subst (λ ss. AreRaised n old ss (hole - 1) end) (sym same)
-          (raise_more n old slots (hole - 1) end whole (subst (λ h. AreRaised n old slots h end) (sym back) raised) (omega (arith, less, le)) (omega (arith, near, less))),
-    )
+raises n old slots new place hole end from to whole raised less le near at_from at_to is = (
+  omega (arith, less),
+  omega (arith, le),
+  subst (λ ss. AreRaised n old ss (hole - 1) end) (sym same)
+      (raise_more n old slots (hole - 1) end whole (subst (λ h. AreRaised n old slots h end) (sym back) raised) (omega (arith, less, le)) (omega (arith, near, less))),
+)
   where
     back : hole - 1 + 1 ≡ hole
     back = omega (arith, less)
@@ -253,12 +252,11 @@ pub lowers : (n : ℕ) (old slots new : List (Option (ℕ × Entry))) (hole gap 
     → hole ≤ gap → gap < last → last + 1 < hole + n → from ≡ (gap + 1) % n → to ≡ gap % n
     → new ≡ slice_set (slice_set slots to (get_or slots from None)) from None
     → (hole ≤ gap + 1) × (gap + 1 ≤ last) × AreLowered n old new hole (gap + 1)
-lowers n old slots new hole gap last from to whole lowered le less near at_from at_to is =
-    (
-      omega (arith, le),
-      omega (arith, less),
-      subst (λ ss. AreLowered n old ss hole (gap + 1)) (sym same) (lower_more n old slots hole gap whole lowered le (omega (arith, less, near))),
-    )
+lowers n old slots new hole gap last from to whole lowered le less near at_from at_to is = (
+  omega (arith, le),
+  omega (arith, less),
+  subst (λ ss. AreLowered n old ss hole (gap + 1)) (sym same) (lower_more n old slots hole gap whole lowered le (omega (arith, less, near))),
+)
   where
     same : new ≡ slice_set (slice_set slots (gap % n) (ring n slots (gap + 1))) ((gap + 1) % n) None
     same =

@@ -99,8 +99,7 @@ module _ (old new : List (Option (ℕ × Entry))) (name place end : ℕ) (x : En
   came : (i w : ℕ) → place ≤ i → i < end → HasWay (length old) new (i + 1) w → (v : ℕ) × HasWay (length old) old i v × (w ≡ v + 1)
   came i w low less has =
       let is = has_row (length old) old i (has.name, has.value) (some old sound) (sym (up i low less) ∙ has.is) in
-      let v = (i + length old - home_number has.name % length old) % length old in
-      (
+      let v = (i + length old - home_number has.name % length old) % length old in (
         v,
         is,
         has_once (length old) new w (v + 1) (i + 1) (i + 1) has (went i v low less is) refl,
@@ -223,8 +222,7 @@ module _ (old new : List (Option (ℕ × Entry))) (hole last : ℕ) (sound : Are
   led_down : (q w i : ℕ) → hole ≤ q → q < last → HasWay (length old) old (q + 1) (w + 1) → i < q → q ≤ i + w → (i < hole) ⊎ (hole ≤ i)
       → IsLed (length old) new q w i
   led_down q w i low less has below le (inl front) =
-      let led = sound.order (q + 1) (w + 1) i has (omega (arith, below)) (omega (arith, le)) in
-      (
+      let led = sound.order (q + 1) (w + 1) i has (omega (arith, below)) (omega (arith, le)) in (
         led.0,
         ahead i q led.0 front low led.1
             (λ k above under. let by = sound.order (q + 1) (w + 1) k has (omega (arith, under)) (omega (arith, le, above)) in (by.0, by.1)),

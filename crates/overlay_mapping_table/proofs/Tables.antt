@@ -10,7 +10,7 @@ use Rattle.sizes.specs.declared.TheConstants.{FRAME_UNITS, MOST_FRAMES}
 use Rattle.number_maps.specs.Values.{remove_absent}
 use Rattle.overlay_mapping_table.specs.declared.entry.Entry.{Entry}
 use Rattle.overlay_mapping_table.specs.Homes.{home_number, IsWay}
-use Rattle.overlay_mapping_table.specs.Rows.{rows_of, map_of, no_rows, AreApart, AreInOrder, HasWay}
+use Rattle.overlay_mapping_table.specs.Rows.{rows_of, map_of, no_rows, StandOnce, AreInOrder, HasWay}
 use Rattle.overlay_mapping_table.specs.Probes.{AreNow, AreSound, IsGap, IsThere}
 use Rattle.overlay_mapping_table.specs.Table.{Table, HasRoomFor, AreThoseOf, NoneIsEmptyBefore}
 use Rattle.overlay_mapping_table.specs.Kept.{AreKept, names_of}
@@ -52,7 +52,7 @@ module _ (slots : List (Option (ℕ × Entry))) (count room : ℕ) (kept : AreKe
 
 -- What a table has.
 
-has_there : (slots : List (Option (ℕ × Entry))) (entries : FinMap nat_cmp Entry) (name at : ℕ) → map_of slots ≡ entries → AreApart slots
+has_there : (slots : List (Option (ℕ × Entry))) (entries : FinMap nat_cmp Entry) (name at : ℕ) → map_of slots ≡ entries → StandOnce slots
     → (there : IsThere slots name at) → get entries name ≡ Some there.value
 has_there slots entries name at same apart there =
     ap (λ (m : FinMap nat_cmp Entry). get m name) (sym same) ∙ got slots name at there.value apart there.is
@@ -63,7 +63,7 @@ lacks slots entries name place same gap =
     sym (ap (λ (m : FinMap nat_cmp Entry). get m name) (sym same) ∙ got_none slots name gap.absent)
 
 pub got_there : (slots : List (Option (ℕ × Entry))) (entries : FinMap nat_cmp Entry) (name at : ℕ) (value : Option Entry)
-    → map_of slots ≡ entries → AreApart slots → IsThere slots name at
+    → map_of slots ≡ entries → StandOnce slots → IsThere slots name at
     → value ≡ option_map (λ (row : ℕ × Entry). row.1) (get_or slots at None) → value ≡ get entries name
 got_there slots entries name at value same apart there read =
     read ∙ ap (option_map (λ (row : ℕ × Entry). row.1)) there.is ∙ sym (has_there slots entries name at same apart there)

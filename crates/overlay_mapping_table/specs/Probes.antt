@@ -1,10 +1,10 @@
 use Rattle.std.specs.Prelude.{◌≡◌, ℕ, ◌+◌, ◌*◌, ◌^◌, ◌<◌, ◌≤◌, List, length, get_or, Option, Some, None}
 use Rattle.std.specs.Int.{IsPowerOfTwo}
 use Rattle.std.specs.Ordering.{nat_cmp}
-use Rattle.std.specs.FinMap.{FinMap}
+use Rattle.std.specs.FinMap.{FinMap, remove}
 use Rattle.overlay_mapping_table.specs.declared.entry.Entry.{Entry}
 use Rattle.overlay_mapping_table.specs.Homes.{home_number, IsWay}
-use Rattle.overlay_mapping_table.specs.Rows.{map_of, ring, AreApart, AreInOrder, HasWay}
+use Rattle.overlay_mapping_table.specs.Rows.{map_of, ring, StandOnce, AreInOrder, HasWay}
 
 -- What a probe asks of slots and says of them.
 
@@ -17,7 +17,7 @@ pub record IsEmpty (slots : List (Option (ℕ × Entry))) (at : ℕ) : Type 0 wh
 pub record AreSound (slots : List (Option (ℕ × Entry))) : Type 0 where
   pub power : IsPowerOfTwo (length slots)
   pub most : length slots ≤ 2 ^ 24
-  pub apart : AreApart slots
+  pub apart : StandOnce slots
   pub order : AreInOrder (length slots) slots
   pub spare : (at : ℕ) × IsEmpty slots at
 
@@ -63,6 +63,10 @@ pub record IsGap (slots : List (Option (ℕ × Entry))) (name place : ℕ) : Typ
 -- as many slots, which stand for a map now
 pub record AreNow (old new : List (Option (ℕ × Entry))) (entries : FinMap nat_cmp Entry) : Type 0 where
   pub size : length new ≡ length old
-  pub apart : AreApart new
+  pub apart : StandOnce new
   pub order : AreInOrder (length new) new
   pub map : map_of new ≡ entries
+
+-- the row of a slot was taken out
+abbrev pub IsTakenOut : List (Option (ℕ × Entry)) → List (Option (ℕ × Entry)) → ℕ → Type 0
+IsTakenOut old new at = (name : ℕ) → IsThere old name at → AreNow old new (remove (map_of old) name)

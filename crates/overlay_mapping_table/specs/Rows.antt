@@ -17,8 +17,8 @@ module _ {X : Type 0} where
   map_of slots = from_entries (rows_of slots)
 
   -- a name stands in one slot at most
-  abbrev pub AreApart : List (Option (ℕ × X)) → Type 0
-  AreApart slots =
+  abbrev pub StandOnce : List (Option (ℕ × X)) → Type 0
+  StandOnce slots =
       (name : ℕ) (x y : X) (i j : ℕ) → get_or slots i None ≡ Some (name, x) → get_or slots j None ≡ Some (name, y) → i ≡ j
 
   -- what stands at a place, where there are n slots

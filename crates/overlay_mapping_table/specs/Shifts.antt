@@ -1,6 +1,6 @@
 use Rattle.std.specs.Prelude.{◌≡◌, ℕ, ◌+◌, ◌<◌, ◌≤◌, List, length, get_or, Option, Some, None}
 use Rattle.overlay_mapping_table.specs.declared.entry.Entry.{Entry}
-use Rattle.overlay_mapping_table.specs.Rows.{ring, AreApart, HasWay}
+use Rattle.overlay_mapping_table.specs.Rows.{ring, StandOnce, HasWay}
 
 -- Rows that move by one place.
 
@@ -21,7 +21,7 @@ pub record IsLast (n : ℕ) (slots : List (Option (ℕ × Entry))) (hole last : 
 -- the same rows, each in one slot
 pub record AreSame (old new : List (Option (ℕ × Entry))) : Type 0 where
   pub size : length new ≡ length old
-  pub apart : AreApart new
+  pub apart : StandOnce new
   pub kept : (name : ℕ) (x : Entry) (i : ℕ) → get_or old i None ≡ Some (name, x) → (j : ℕ) × (get_or new j None ≡ Some (name, x))
   pub back : (name : ℕ) (x : Entry) (j : ℕ) → get_or new j None ≡ Some (name, x) → (i : ℕ) × (get_or old i None ≡ Some (name, x))
 

@@ -1,8 +1,8 @@
 ghost use Rattle.std.specs.Prelude.{◌≡◌, ◌≤◌, ◌<◌, ◌+◌, ◌*◌, ◌^◌, ℕ, None, length};
 ghost use Rattle.std.specs.Int.{IsPowerOfTwo};
-ghost use Rattle.std.specs.FinMap.{insert, remove};
-ghost use Rattle.overlay_mapping_table.specs.Rows.{map_of, ring, AreApart};
-ghost use Rattle.overlay_mapping_table.specs.Probes.{AreNow, AreSound, IsGap, IsThere};
+ghost use Rattle.std.specs.FinMap.{insert};
+ghost use Rattle.overlay_mapping_table.specs.Rows.{map_of, ring, StandOnce};
+ghost use Rattle.overlay_mapping_table.specs.Probes.{AreNow, AreSound, IsGap, IsTakenOut, IsThere};
 ghost use Rattle.overlay_mapping_table.specs.Shifts.{AreLowered, AreRaised, IsEnd, IsLast};
 
 use crate::entry::Entry;
@@ -27,7 +27,7 @@ pub(crate) fn put_in(slots: &mut Slots, place: usize, p: OverlayPage, e: Entry)
 pub(crate) fn take_out(slots: &mut Slots, at: usize)
     requires sound { AreSound slots.old }
     requires there { (name : ℕ) × IsThere slots.old name at }
-    ensures { (name : ℕ) → IsThere slots.old name at → AreNow slots.old slots.new (remove (map_of slots.old) name) }
+    ensures { IsTakenOut slots.old slots.new at }
 {
     let hole = slots.len() + at;
     let last = last_from(slots, hole);
@@ -68,7 +68,7 @@ fn last_from(slots: &Slots, hole: usize) -> usize
 // Moves the rows from a place up to an empty one up by one.
 fn raise(slots: &mut Slots, place: usize, end: usize)
     requires power { IsPowerOfTwo (length slots.old) }
-    requires apart { AreApart slots.old }
+    requires apart { StandOnce slots.old }
     requires few { end < 2 ^ 30 }
     requires end { IsEnd (length slots.old) slots.old place end }
     ensures { AreRaised (length slots.old) slots.old slots.new place end }
@@ -84,7 +84,7 @@ fn raise(slots: &mut Slots, place: usize, end: usize)
 // Moves the rows behind an empty place down by one, up to the last one.
 fn lower(slots: &mut Slots, hole: usize, last: usize)
     requires power { IsPowerOfTwo (length slots.old) }
-    requires apart { AreApart slots.old }
+    requires apart { StandOnce slots.old }
     requires bare { ring (length slots.old) slots.old hole ≡ None }
     requires order { hole ≤ last }
     requires near { last + 1 < hole + length slots.old }
