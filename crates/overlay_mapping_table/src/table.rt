@@ -56,7 +56,8 @@ impl MappingTable {
         })
     }
 
-    /// The entry of an overlay. None exactly where it has none.
+    /// The entry of an overlay. None exactly where it has none. Costs a few steps, and in a run of slots without an empty
+    /// one the logarithm of its length and a step for each overlay with the same home.
     pub fn get(&self, p: OverlayPage) -> Option<Entry>
         ensures { result ≡ map.get self.now.entries p }
     {
@@ -67,7 +68,8 @@ impl MappingTable {
     }
 
     /// Gives an overlay an entry, in place of the one that it has. It has one, or there are fewer entries than there
-    /// is room for. Every other overlay keeps its entry. Takes no memory.
+    /// is room for. Every other overlay keeps its entry. Takes no memory. Costs a look-up, and where it has none a step
+    /// for each slot from there up to the next empty one.
     pub fn insert(&mut self, p: OverlayPage, e: Entry)
         requires room { HasRoomFor self.old p }
         ensures entries { self.new.entries ≡ map.insert self.old.entries p e }
@@ -83,7 +85,8 @@ impl MappingTable {
     }
 
     /// Takes away the entry of an overlay, and answers it. None exactly where it has none, and then nothing changes.
-    /// Every other overlay keeps its entry. Takes no memory.
+    /// Every other overlay keeps its entry. Takes no memory. Costs a look-up and a step for each slot behind, up to an
+    /// empty one or one whose overlay is at its home.
     pub fn remove(&mut self, p: OverlayPage) -> Option<Entry>
         ensures entries { self.new.entries ≡ map.remove self.old.entries p }
         ensures room { self.new.room ≡ self.old.room }
