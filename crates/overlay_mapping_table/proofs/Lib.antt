@@ -6,3 +6,4 @@ pub mod Moving
 pub mod Ordering
 pub mod Ends
 pub mod Tables
+pub mod Fills

@@ -4,6 +4,7 @@
 //! name in each of its slots.
 //!
 //! - `entry`: what a name has
+//! - `filled`: lists whose elements are alike until they are written
 //! - `slots`: names and entries by slot
 //! - `places`: slots counted on beyond the last one, and the home of a name
 //! - `probes`: where a name stands or would stand
@@ -12,6 +13,7 @@
 #![tactic(auto)]
 
 mod entry;
+mod filled;
 mod places;
 mod probes;
 mod shifts;

@@ -3,6 +3,7 @@ ghost use Rattle.std.specs.Option.{option_map};
 ghost use Rattle.overlay_mapping_table.specs.Rows.{name_in, no_rows};
 
 use crate::entry::Entry;
+use crate::filled::Filled;
 use overlay_address::OverlayPage;
 use overlay_bits::Bits;
 use std::alloc::{AllocError, Global};
@@ -13,9 +14,9 @@ use unit_map::Block;
 #[derive(Debug, Drop)]
 pub(crate) struct Slots {
     // 0 in an empty slot, which is no name
-    names: Vec<u64>,
+    names: Filled<u64>,
     // beside each name its entry, and beside 0 any
-    entries: Vec<Entry>,
+    entries: Filled<Entry>,
 }
 
 impl Model for Slots {
@@ -25,9 +26,9 @@ impl Model for Slots {
 
     ghost Value = { List (Option (ℕ × Entry)) };
 
-    ghost view = { λ s. slots_of s.names.items s.entries.items };
+    ghost view = { λ s. slots_of s.names s.entries };
 
-    ghost invariant = { λ s. AreSlots s.names.items s.entries.items };
+    ghost invariant = { λ s. AreSlots s.names s.entries };
 }
 
 impl Slots {
@@ -39,8 +40,8 @@ impl Slots {
             bits: Bits::empty(),
             block: Block { unit: 0, order: 0 },
         };
-        let names = vec![in alloc; 0; n]?;
-        let entries = vec![in alloc; nothing; n]?;
+        let names = Filled::new(alloc, 0, n)?;
+        let entries = Filled::new(alloc, nothing, n)?;
         Ok(Slots { names, entries })
     }
 
@@ -56,7 +57,7 @@ impl Slots {
         requires { at < length self.now }
         ensures { result ≡ name_in (get_or self.now at None) }
     {
-        self.names[at]
+        self.names.at(at)
     }
 
     // The name in a slot. None exactly where it is empty.
@@ -64,7 +65,7 @@ impl Slots {
         requires { at < length self.now }
         ensures { result ≡ option_map (λ row. row.0) (get_or self.now at None) }
     {
-        match OverlayPage::from_address(self.names[at]) {
+        match OverlayPage::from_address(self.names.at(at)) {
             Some((name, _)) => Some(name),
             None => None,
         }
@@ -75,10 +76,10 @@ impl Slots {
         requires { at < length self.now }
         ensures { result ≡ option_map (λ row. row.1) (get_or self.now at None) }
     {
-        if self.names[at] == 0 {
+        if self.names.at(at) == 0 {
             None
         } else {
-            Some(self.entries[at])
+            Some(self.entries.at(at))
         }
     }
 
@@ -87,8 +88,8 @@ impl Slots {
         requires { at < length self.old }
         ensures { self.new ≡ slice_set self.old at (Some (p, e)) }
     {
-        self.names[at] = p.address(0);
-        self.entries[at] = e;
+        self.names.set(at, p.address(0));
+        self.entries.set(at, e);
     }
 
     // Empties a slot.
@@ -96,7 +97,7 @@ impl Slots {
         requires { at < length self.old }
         ensures { self.new ≡ slice_set self.old at None }
     {
-        self.names[at] = 0;
+        self.names.set(at, 0);
     }
 
     // Moves what one slot has into another one.
@@ -105,8 +106,10 @@ impl Slots {
         requires to { to < length self.old }
         ensures { self.new ≡ slice_set (slice_set self.old to (get_or self.old from None)) from None }
     {
-        self.names[to] = self.names[from];
-        self.entries[to] = self.entries[from];
-        self.names[from] = 0;
+        let name = self.names.at(from);
+        let entry = self.entries.at(from);
+        self.names.set(to, name);
+        self.entries.set(to, entry);
+        self.names.set(from, 0);
     }
 }

@@ -40,7 +40,8 @@ impl Model for MappingTable {
 
 impl MappingTable {
     /// A table without an entry, of a machine of 1 to 65,536 frames: room for 16 entries for each. Takes all the
-    /// memory that the table ever needs, or answers the want of it.
+    /// memory that the table ever needs, or answers the want of it. Writes none of it: what an `insert` first writes
+    /// behind all slots that were written before has the slots up to there cleared.
     pub fn new(alloc: Global, frames: u32) -> Result<MappingTable, AllocError>
         requires some { 0 < frames }
         requires few { frames ≤ MOST_FRAMES }
