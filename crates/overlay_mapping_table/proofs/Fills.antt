@@ -85,3 +85,11 @@ module _ {X : Type 0} where
       let inside : at < n = omega (arith, within, ap length same, sized items rest n le) in
       let long_is = reached items long rest n at le inside is in
       omega (arith, length-set long at x, long_is.0)
+
+  -- one that was kept before
+  pub set_kept : (f items : List X) (rest x : X) (n at : ℕ) → whole items rest n ≡ f → at < length items
+      → whole (slice_set items at x) rest n ≡ slice_set f at x
+  set_kept f items rest x n at same inside =
+      ap (λ k. slice_set items at x ++ replicate (n - k) rest) (length-set items at x)
+      ∙ sym (set-append_left items (replicate (n - length items) rest) at x inside)
+      ∙ ap (λ (xs : List X). slice_set xs at x) same

@@ -41,6 +41,7 @@ impl<T: Copy> Filled<T> {
     }
 
     // An element.
+    #[inline(always)]
     pub fn at(&self, at: usize) -> T
         requires { at < length self.now }
         ensures { result ≡ get_or self.now at result }
@@ -53,16 +54,22 @@ impl<T: Copy> Filled<T> {
     }
 
     // Writes an element, and all before it that were alike so far.
+    #[inline(always)]
     pub fn set(&mut self, at: usize, x: T)
         requires { at < length self.old }
         ensures { self.new ≡ slice_set self.old at x }
     {
-        reach(&mut self.items, self.rest, at);
-        self.items[at] = x;
+        if at < self.items.len() {
+            self.items[at] = x;
+        } else {
+            reach(&mut self.items, self.rest, at);
+            self.items[at] = x;
+        }
     }
 }
 
 // Makes a list as long as needed for a place.
+#[inline(never)]
 fn reach<T: Copy>(items: &mut Vec<T>, rest: T, at: usize)
     requires { at < vec_capacity items.old }
     ensures items { items.new.items ≡ items.old.items ++ replicate (at + 1 - length items.old.items) rest }

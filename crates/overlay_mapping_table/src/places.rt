@@ -5,6 +5,7 @@ ghost use Rattle.overlay_mapping_table.specs.Homes.{home_number, IsWay};
 use overlay_address::OverlayPage;
 
 // The slot of a place that may be counted on beyond the last one.
+#[inline(always)]
 pub(crate) fn wrap(place: usize, n: usize) -> usize
     requires { IsPowerOfTwo n }
     ensures same { result ≡ place % n }
@@ -14,6 +15,7 @@ pub(crate) fn wrap(place: usize, n: usize) -> usize
 }
 
 // The slot where a name belongs.
+#[inline(always)]
 pub(crate) fn home(p: OverlayPage, n: usize) -> usize
     requires { IsPowerOfTwo n }
     ensures same { result ≡ home_number p % n }
@@ -23,6 +25,7 @@ pub(crate) fn home(p: OverlayPage, n: usize) -> usize
 }
 
 // How many steps a place lies behind a name's home.
+#[inline(always)]
 pub(crate) fn way(p: OverlayPage, place: usize, n: usize) -> usize
     requires power { IsPowerOfTwo n }
     requires behind { n ≤ place }

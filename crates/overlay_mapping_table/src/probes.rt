@@ -68,6 +68,7 @@ fn between(slots: &Slots, from: usize, low: usize, high: usize) -> usize
 }
 
 // Whether a place has a row whose home lies before a bound.
+#[inline(always)]
 pub(crate) fn is_before(slots: &Slots, place: usize, bound: usize) -> bool
     requires sound { AreSound slots.now }
     requires behind { length slots.now ≤ place }

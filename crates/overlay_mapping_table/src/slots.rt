@@ -53,6 +53,7 @@ impl Slots {
     }
 
     // The name in a slot, as a number: 0 where it is empty.
+    #[inline(always)]
     pub fn number_at(&self, at: usize) -> u64
         requires { at < length self.now }
         ensures { result ≡ name_in (get_or self.now at None) }
@@ -61,6 +62,7 @@ impl Slots {
     }
 
     // The name in a slot. None exactly where it is empty.
+    #[inline(always)]
     pub fn name_at(&self, at: usize) -> Option<OverlayPage>
         requires { at < length self.now }
         ensures { result ≡ option_map (λ row. row.0) (get_or self.now at None) }
@@ -101,6 +103,7 @@ impl Slots {
     }
 
     // Moves what one slot has into another one.
+    #[inline(always)]
     pub fn carry(&mut self, from: usize, to: usize)
         requires from { from < length self.old }
         requires to { to < length self.old }
