@@ -1,4 +1,9 @@
--- In reading order: entries by name, how tables are told apart, and what is kept of them.
+-- In reading order: homes of names, slots with rows, what a table shows, how tables are told apart, what is kept of them, and what
+-- probes and shifts ask and say.
+pub mod Homes
+pub mod Rows
 pub mod Table
 pub mod Codes
 pub mod Kept
+pub mod Probes
+pub mod Shifts

@@ -1,13 +1,23 @@
 //! From the name of an overlay to its lines and its block.
 //!
-//! The model of a `MappingTable` is a finite map from names to entries, with the room that it was made with. How
-//! it finds an entry doesn't show.
+//! The model of a `MappingTable` is a finite map from names to entries, with the room that it was made with, and the
+//! name in each of its slots.
 //!
 //! - `entry`: what a name has
+//! - `filled`: lists whose elements are alike until they are written
+//! - `slots`: names and entries by slot
+//! - `places`: slots counted on beyond the last one, and the home of a name
+//! - `probes`: where a name stands or would stand
+//! - `shifts`: rows are put in and taken out
 //! - `table`: the entries by name
 #![tactic(auto)]
 
 mod entry;
+mod filled;
+mod places;
+mod probes;
+mod shifts;
+mod slots;
 mod table;
 
 pub use entry::Entry;

@@ -1,10 +1,13 @@
-ghost use Rattle.std.specs.Prelude.{◌≡◌, ◌+◌, ◌*◌, ◌<◌, ◌≤◌, IfOk, IfErr};
+ghost use Rattle.std.specs.Prelude.{◌≡◌, ◌*◌, ◌<◌, ◌≤◌, length, get_or, None, IfOk};
+ghost use Rattle.std.specs.Int.{IsNextPowerOfTwo};
 ghost use Rattle.std.specs.FinMap as map;
 ghost use Rattle.sizes.specs.declared.TheConstants.{FRAME_UNITS, MOST_FRAMES};
-ghost use Rattle.number_maps.specs.Rows.{IsAt, IsGap, Rise};
-ghost use Rattle.overlay_mapping_table.specs.Table.{HasRoomFor};
+ghost use Rattle.overlay_mapping_table.specs.Table.{HasRoomFor, AreThoseOf, NoneIsEmptyBefore};
 
 use crate::entry::Entry;
+use crate::probes::place_of;
+use crate::shifts::{put_in, take_out};
+use crate::slots::Slots;
 use overlay_address::OverlayPage;
 use sizes::FRAME_UNITS;
 use std::alloc::{AllocError, Global};
@@ -13,8 +16,9 @@ use std::marker::Model;
 /// The overlays by name: of each its lines and its block. There is room for 16 for each frame.
 #[derive(Debug, Drop)]
 pub struct MappingTable {
-    // by rising names
-    rows: Vec<(OverlayPage, Entry)>,
+    // a row stands at its name's home, or behind rows whose homes lie no further on
+    slots: Slots,
+    count: u32,
     room: u32,
 }
 
@@ -26,18 +30,18 @@ impl Model for MappingTable {
 
     ghost coded = { table_code };
 
-    ghost use Rattle.std.specs.FinMap.{from_entries};
-    ghost use Rattle.std.specs.Vec.{vec_capacity};
-    ghost use Rattle.overlay_mapping_table.specs.Kept.{AreKept};
+    ghost use Rattle.overlay_mapping_table.specs.Rows.{map_of};
+    ghost use Rattle.overlay_mapping_table.specs.Kept.{AreKept, names_of};
 
-    ghost view = { λ t. record { entries = from_entries t.rows.items; room = t.room } };
+    ghost view = { λ t. record { entries = map_of t.slots; room = t.room; slots = names_of t.slots } };
 
-    ghost invariant = { λ t. AreKept t.rows.items (vec_capacity t.rows) t.room };
+    ghost invariant = { λ t. AreKept t.slots t.count t.room };
 }
 
 impl MappingTable {
     /// A table without an entry, of a machine of 1 to 65,536 frames: room for 16 entries for each. Takes all the
-    /// memory that the table ever needs, or answers the want of it.
+    /// memory that the table ever needs, or answers the want of it. Writes none of it: what an `insert` first writes
+    /// behind all slots that were written before has the slots up to there cleared.
     pub fn new(alloc: Global, frames: u32) -> Result<MappingTable, AllocError>
         requires some { 0 < frames }
         requires few { frames ≤ MOST_FRAMES }
@@ -45,45 +49,57 @@ impl MappingTable {
         ensures room { IfOk result (λ table. table.room ≡ FRAME_UNITS * frames) }
     {
         let room = FRAME_UNITS * frames;
-        let rows = Vec::with_capacity(alloc, room as usize)?;
-        Ok(MappingTable { rows, room })
+        let slots = Slots::new(alloc, (2 * room as usize).next_power_of_two())?;
+        Ok(MappingTable {
+            slots,
+            count: 0,
+            room,
+        })
     }
 
-    /// The entry of an overlay. None exactly where it has none.
+    /// The entry of an overlay. None exactly where it has none. Costs a few steps, and in a run of slots without an empty
+    /// one the logarithm of its length and a step for each overlay with the same home.
     pub fn get(&self, p: OverlayPage) -> Option<Entry>
         ensures { result ≡ map.get self.now.entries p }
     {
-        match place_of(&self.rows, p) {
-            Ok(at) => Some(self.rows[at].1),
+        match place_of(&self.slots, p) {
+            Ok(at) => self.slots.entry_at(at),
             Err(_) => None,
         }
     }
 
     /// Gives an overlay an entry, in place of the one that it has. It has one, or there are fewer entries than there
-    /// is room for. Every other overlay keeps its entry. Takes no memory.
+    /// is room for. Every other overlay keeps its entry. Takes no memory. Costs a look-up, and where it has none a step
+    /// for each slot from there up to the next empty one.
     pub fn insert(&mut self, p: OverlayPage, e: Entry)
         requires room { HasRoomFor self.old p }
         ensures entries { self.new.entries ≡ map.insert self.old.entries p e }
         ensures room { self.new.room ≡ self.old.room }
     {
-        match place_of(&self.rows, p) {
-            Ok(at) => self.rows[at] = (p, e),
-            Err(at) => match self.rows.insert(at, (p, e)) {
-                Ok(()) => {}
-                Err(_) => unreachable!(),
-            },
+        match place_of(&self.slots, p) {
+            Ok(at) => self.slots.put(at, p, e),
+            Err(place) => {
+                put_in(&mut self.slots, place, p, e);
+                self.count += 1;
+            }
         }
     }
 
     /// Takes away the entry of an overlay, and answers it. None exactly where it has none, and then nothing changes.
-    /// Every other overlay keeps its entry. Takes no memory.
+    /// Every other overlay keeps its entry. Takes no memory. Costs a look-up and a step for each slot behind, up to an
+    /// empty one or one whose overlay is at its home.
     pub fn remove(&mut self, p: OverlayPage) -> Option<Entry>
         ensures entries { self.new.entries ≡ map.remove self.old.entries p }
         ensures room { self.new.room ≡ self.old.room }
         ensures result { result ≡ map.get self.old.entries p }
     {
-        match place_of(&self.rows, p) {
-            Ok(at) => Some(self.rows.remove(at).1),
+        match place_of(&self.slots, p) {
+            Ok(at) => {
+                let entry = self.slots.entry_at(at);
+                take_out(&mut self.slots, at);
+                self.count -= 1;
+                entry
+            }
             Err(_) => None,
         }
     }
@@ -93,15 +109,25 @@ impl MappingTable {
         ensures count { result ≡ map.len self.now.entries }
         ensures few { result ≤ self.now.room }
     {
-        self.rows.len() as u32
+        self.count
     }
-}
 
-// Where the row of a name stands, or would stand.
-fn place_of(rows: &[(OverlayPage, Entry)], p: OverlayPage) -> Result<usize, usize>
-    requires { Rise 0 rows.now }
-    ensures there { IfOk result (IsAt rows.now p) }
-    ensures gap { IfErr result (IsGap rows.now p) }
-{
-    rows.binary_search_by_key(&p, |row| row.0)
+    /// How many slots there are: the least power of two that is at least twice the room. From the home of an overlay
+    /// upwards to its slot, with slot 0 after the last one, no slot is empty. Costs a step.
+    pub fn slots(&self) -> u32
+        ensures count { result ≡ length self.now.slots }
+        ensures size { IsNextPowerOfTwo (2 * self.now.room) result }
+        ensures names { AreThoseOf self.now.slots self.now.entries }
+        ensures ways { NoneIsEmptyBefore self.now.slots }
+    {
+        self.slots.len() as u32
+    }
+
+    /// The overlay in a slot. None exactly where the slot is empty. Costs a step.
+    pub fn slot(&self, at: u32) -> Option<OverlayPage>
+        requires { at < length self.now.slots }
+        ensures { result ≡ get_or self.now.slots at None }
+    {
+        self.slots.name_at(at as usize)
+    }
 }

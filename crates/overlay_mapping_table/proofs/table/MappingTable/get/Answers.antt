@@ -1,15 +1,16 @@
-use Rattle.std.proofs.Common.{subst}
-use Rattle.number_maps.specs.Rows.{IsAt, IsGap}
-use Rattle.overlay_mapping_table.proofs.Tables.{got, got_none}
+use Rattle.std.proofs.Common.{ap}
+use Rattle.overlay_mapping_table.specs.Table.{Table}
+use Rattle.overlay_mapping_table.proofs.Tables.{got_there, lacks, sound}
 use Rattle.overlay_mapping_table.proofs.table.MappingTable.get.Goals as goal
+
+pub place_of-requires : goal.place_of-requires
+place_of-requires c = sound c.self.inside.slots c.self.inside.count c.self.inside.room c.self.invariant
 
 pub returns-in-Ok : goal.returns-in-Ok
 returns-in-Ok c =
-    let there = subst (λ rows. IsAt rows c.args.p c.in-Ok.at) c.deref.ensures.value c.in-Ok.ensures.there in
-    got c.args.self.now c.self.inside.rows.items c.self.inside.room c.args.p c.in-Ok.at c.index.result.now c.self.view_is
-    c.self.invariant.rise there c.index.ensures
+    got_there c.self.inside.slots c.args.self.now.entries c.args.p c.in-Ok.at c.entry_at.result (ap (λ (t : Table). t.entries) c.self.view_is)
+    c.self.invariant.apart c.in-Ok.ensures.there c.entry_at.ensures
 
 pub returns-in-Err : goal.returns-in-Err
 returns-in-Err c =
-    let gap = subst (λ rows. IsGap rows c.args.p c.in-Err.field-0) c.deref.ensures.value c.in-Err.ensures.gap in
-    got_none c.args.self.now c.self.inside.rows.items c.self.inside.room c.args.p c.in-Err.field-0 c.self.view_is gap
+    lacks c.self.inside.slots c.args.self.now.entries c.args.p c.in-Err.field-0 (ap (λ (t : Table). t.entries) c.self.view_is) c.in-Err.ensures.gap

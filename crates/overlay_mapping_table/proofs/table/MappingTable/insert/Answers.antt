@@ -1,37 +1,27 @@
-use Rattle.std.proofs.Common.{rules, ◌≡◌, subst, arith, length}
-use Rattle.std.specs.Vec.{vec_len}
-use Rattle.number_maps.specs.Rows.{IsAt, IsGap}
-use Rattle.overlay_mapping_table.proofs.Tables.{kept_insert, kept_set, room_left, stands_insert, stands_set}
+use Rattle.std.proofs.Common.{ap}
+use Rattle.overlay_mapping_table.specs.Table.{Table}
+use Rattle.overlay_mapping_table.proofs.Tables.{kept_over, kept_put, room_left, sound, stands_over}
 use Rattle.overlay_mapping_table.proofs.table.MappingTable.insert.Goals as goal
+
+pub place_of-requires : goal.place_of-requires
+place_of-requires c = sound c.self.inside.slots c.self.inside.count c.self.inside.room c.self.invariant
 
 pub invariant_of-self : goal.invariant_of-self
 invariant_of-self c =
-    let there = subst (λ rows. IsAt rows c.args.p c.in-Ok.at) c.deref.ensures.value c.in-Ok.ensures.there in
-    kept_set c.self.inside.rows.items _ c.self.inside.room c.args.p c.in-Ok.at c.args.e c.self.invariant there
+    kept_over c.self.inside.slots c.self.inside.count c.self.inside.room c.self.invariant c.args.p c.args.e c.in-Ok.at c.in-Ok.ensures.there
+    c.put.new.self c.put.ensures
 
 pub returns-in-Ok-clause-entries : goal.returns-in-Ok-clause-entries
 returns-in-Ok-clause-entries c =
-    let there = subst (λ rows. IsAt rows c.args.p c.in-Ok.at) c.deref.ensures.value c.in-Ok.ensures.there in
-    stands_set c.args.self.now c.self.inside.rows.items c.self.inside.room c.args.p c.in-Ok.at c.args.e c.self.view_is c.self.invariant.rise there
+    stands_over c.self.inside.slots c.self.inside.count c.self.inside.room c.self.invariant c.args.p c.args.e c.in-Ok.at c.in-Ok.ensures.there
+    c.args.self.now.entries c.put.new.self (ap (λ (t : Table). t.entries) c.self.view_is) c.put.ensures
 
-pub invariant_of-self-in-Ok-insert : goal.invariant_of-self-in-Ok-insert
-invariant_of-self-in-Ok-insert c =
-    let gap = subst (λ rows. IsGap rows c.args.p c.in-Err.at) c.deref.ensures.value c.in-Err.ensures.gap in
-    let less = room_left c.args.self.now c.self.inside.rows.items c.self.inside.room c.args.p c.in-Err.at c.self.view_is
-    c.self.invariant.rise gap c.requires.room in
-    kept_insert c.self.inside.rows.items c.insert.new.self.items _ _ c.self.inside.room c.args.p c.in-Err.at c.args.e c.self.invariant gap less
-    c.in-Ok-insert.ensures.capacity c.in-Ok-insert.ensures.items
+pub put_in-requires-clause-sound : goal.put_in-requires-clause-sound
+put_in-requires-clause-sound c = sound c.self.inside.slots c.self.inside.count c.self.inside.room c.self.invariant
 
-pub returns-in-Ok-insert-clause-entries : goal.returns-in-Ok-insert-clause-entries
-returns-in-Ok-insert-clause-entries c =
-    let gap = subst (λ rows. IsGap rows c.args.p c.in-Err.at) c.deref.ensures.value c.in-Err.ensures.gap in
-    stands_insert c.args.self.now c.self.inside.rows.items c.insert.new.self.items c.self.inside.room c.args.p c.in-Err.at c.args.e c.self.view_is gap
-    c.in-Ok-insert.ensures.items
-
-pub unreachable-requires : goal.unreachable-requires
-unreachable-requires c =
-    let gap = subst (λ rows. IsGap rows c.args.p c.in-Err.at) c.deref.ensures.value c.in-Err.ensures.gap in
-    let less = room_left c.args.self.now c.self.inside.rows.items c.self.inside.room c.args.p c.in-Err.at c.self.view_is
-    c.self.invariant.rise gap c.requires.room in
-    let lens : vec_len c.self.inside.rows ≡ length c.self.inside.rows.items = search rules in
-    omega (arith, less, c.self.invariant.fits, c.in-Err-insert.ensures.full, lens)
+pub invariant_of-self-in-Err : goal.invariant_of-self-in-Err
+invariant_of-self-in-Err c =
+    kept_put c.self.inside.slots c.self.inside.count c.self.inside.room c.self.invariant c.args.p c.args.e c.put_in.new.slots c.in-Err.place
+    c.in-Err.ensures.gap c.put_in.ensures
+    (room_left c.self.inside.slots c.self.inside.count c.self.inside.room c.self.invariant c.args.p c.args.e c.args.self.now c.in-Err.place
+    (ap (λ (t : Table). t.entries) c.self.view_is) (ap (λ (t : Table). t.room) c.self.view_is) c.in-Err.ensures.gap c.requires.room)

@@ -1,33 +1,38 @@
-use Rattle.std.proofs.Common.{subst}
-use Rattle.number_maps.specs.Rows.{IsAt, IsGap}
-use Rattle.overlay_mapping_table.proofs.Tables.{got, got_none, kept_remove, stands_lacking, stands_remove}
+use Rattle.std.proofs.Common.{ap}
+use Rattle.overlay_mapping_table.specs.Table.{Table}
+use Rattle.overlay_mapping_table.proofs.Tables.{got_there, kept_take, lacks, one_at_least, sound, stands_lacking, stands_take}
 use Rattle.overlay_mapping_table.proofs.table.MappingTable.remove.Goals as goal
+
+pub place_of-requires : goal.place_of-requires
+place_of-requires c = sound c.self.inside.slots c.self.inside.count c.self.inside.room c.self.invariant
+
+pub take_out-requires-clause-sound : goal.take_out-requires-clause-sound
+take_out-requires-clause-sound c = sound c.self.inside.slots c.self.inside.count c.self.inside.room c.self.invariant
+
+pub overflow_sub-self : goal.overflow_sub-self
+overflow_sub-self c =
+    one_at_least c.self.inside.slots c.self.inside.count c.self.inside.room c.self.invariant c.args.p c.in-Ok.at c.in-Ok.ensures.there
 
 pub invariant_of-self : goal.invariant_of-self
 invariant_of-self c =
-    let there = subst (λ rows. IsAt rows c.args.p c.in-Ok.at) c.deref.ensures.value c.in-Ok.ensures.there in
-    kept_remove c.self.inside.rows.items c.remove.new.self.items _ _ c.self.inside.room c.args.p c.in-Ok.at c.self.invariant there
-    c.remove.ensures.capacity c.remove.ensures.items
+    kept_take c.self.inside.slots c.self.inside.count c.self.inside.room c.self.invariant c.args.p c.in-Ok.at c.in-Ok.ensures.there c.take_out.new.slots
+    (c.take_out.ensures c.args.p c.in-Ok.ensures.there)
 
 pub returns-in-Ok-clause-entries : goal.returns-in-Ok-clause-entries
 returns-in-Ok-clause-entries c =
-    let there = subst (λ rows. IsAt rows c.args.p c.in-Ok.at) c.deref.ensures.value c.in-Ok.ensures.there in
-    stands_remove c.args.self.now c.self.inside.rows.items c.remove.new.self.items c.self.inside.room c.args.p c.in-Ok.at c.self.view_is
-    c.self.invariant.rise there
-    c.remove.ensures.items
+    stands_take c.self.inside.slots c.self.inside.count c.self.inside.room c.self.invariant c.args.p c.in-Ok.at c.in-Ok.ensures.there
+    c.args.self.now.entries c.take_out.new.slots (ap (λ (t : Table). t.entries) c.self.view_is) (c.take_out.ensures c.args.p c.in-Ok.ensures.there)
 
 pub returns-in-Ok-clause-result : goal.returns-in-Ok-clause-result
 returns-in-Ok-clause-result c =
-    let there = subst (λ rows. IsAt rows c.args.p c.in-Ok.at) c.deref.ensures.value c.in-Ok.ensures.there in
-    got c.args.self.now c.self.inside.rows.items c.self.inside.room c.args.p c.in-Ok.at c.remove.result c.self.view_is
-    c.self.invariant.rise there c.remove.ensures.value
+    got_there c.self.inside.slots c.args.self.now.entries c.args.p c.in-Ok.at c.entry_at-entry.result (ap (λ (t : Table). t.entries) c.self.view_is)
+    c.self.invariant.apart c.in-Ok.ensures.there c.entry_at-entry.ensures
 
 pub returns-in-Err-clause-entries : goal.returns-in-Err-clause-entries
 returns-in-Err-clause-entries c =
-    let gap = subst (λ rows. IsGap rows c.args.p c.in-Err.field-0) c.deref.ensures.value c.in-Err.ensures.gap in
-    stands_lacking c.args.self.now c.self.inside.rows.items c.self.inside.room c.args.p c.in-Err.field-0 c.self.view_is gap
+    stands_lacking c.self.inside.slots c.args.self.now.entries c.args.p c.in-Err.field-0 (ap (λ (t : Table). t.entries) c.self.view_is)
+    c.in-Err.ensures.gap
 
 pub returns-in-Err-clause-result : goal.returns-in-Err-clause-result
 returns-in-Err-clause-result c =
-    let gap = subst (λ rows. IsGap rows c.args.p c.in-Err.field-0) c.deref.ensures.value c.in-Err.ensures.gap in
-    got_none c.args.self.now c.self.inside.rows.items c.self.inside.room c.args.p c.in-Err.field-0 c.self.view_is gap
+    lacks c.self.inside.slots c.args.self.now.entries c.args.p c.in-Err.field-0 (ap (λ (t : Table). t.entries) c.self.view_is) c.in-Err.ensures.gap

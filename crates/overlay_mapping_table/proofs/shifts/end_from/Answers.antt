@@ -1,0 +1,28 @@
+use Rattle.std.proofs.Common.{◌%◌, ap, ◌∙◌, arith}
+use Rattle.overlay_mapping_table.proofs.Ends.{end_found, end_more, end_near}
+use Rattle.overlay_mapping_table.proofs.shifts.end_from.Goals as goal
+
+pub overflow_add-end : goal.overflow_add-end
+overflow_add-end c =
+    let near = end_near c.args.slots.now c.requires.sound c.args.place c.passing.end c.passing.invariant.0 c.passing.invariant.1 in
+    omega (arith, near, c.requires.near, c.requires.sound.most)
+
+pub beyond-end-requires-clause-near : goal.beyond-end-requires-clause-near
+beyond-end-requires-clause-near c =
+    let near = end_near c.args.slots.now c.requires.sound c.args.place c.passing.end c.passing.invariant.0 c.passing.invariant.1 in
+    omega (arith, near, c.requires.near)
+
+pub passing-smaller : goal.passing-smaller
+passing-smaller c =
+    let near = end_near c.args.slots.now c.requires.sound c.args.place c.passing.end c.passing.invariant.0 c.passing.invariant.1 in
+    omega (arith, near, c.beyond-end.ensures.passed.low)
+
+pub passing-preserved : goal.passing-preserved
+passing-preserved c =
+    end_more c.args.slots.now c.requires.sound c.args.place c.passing.end c.passing.invariant.0 c.passing.invariant.1 c.wrap.result c.beyond-end.result
+    c.name_at.result (c.wrap.ensures.same ∙ ap (λ n. c.passing.end % n) c.len-n.ensures) c.name_at.ensures c.passing-test.ensures c.beyond-end.ensures
+
+pub returns : goal.returns
+returns c =
+    end_found c.args.slots.now c.requires.sound c.args.place c.passing.end c.passing.invariant.0 c.passing.invariant.1 c.wrap.result
+    c.name_at.result (c.wrap.ensures.same ∙ ap (λ n. c.passing.end % n) c.len-n.ensures) c.name_at.ensures c.passing-test.ensures

@@ -1,0 +1,84 @@
+ghost use Rattle.std.specs.Prelude.{◌≡◌, ◌<◌, ◌≤◌, ◌+◌, ◌-◌, ◌++◌, length, get_or, slice_set, replicate, IfOk};
+ghost use Rattle.std.specs.Vec.{vec_capacity};
+
+use std::alloc::{AllocError, Global};
+use std::marker::Model;
+
+// A list of fixed length. Up to the last element that was written they are kept, and all behind it are alike: so it
+// costs next to nothing to make.
+#[derive(Debug, Drop)]
+pub(crate) struct Filled<T> {
+    items: Vec<T>,
+    rest: T,
+    len: usize,
+}
+
+impl<T> Model for Filled<T> {
+    ghost use Rattle.std.specs.Prelude.{◌≤◌, ◌-◌, ◌++◌, List, length, replicate};
+    ghost use Rattle.std.specs.Vec.{vec_capacity};
+
+    ghost Value = { List T };
+
+    ghost view = { λ f. f.items.items ++ replicate (f.len - length f.items.items) f.rest };
+
+    ghost invariant = { λ f. (length f.items.items ≤ f.len) × (f.len ≤ vec_capacity f.items) };
+}
+
+impl<T: Copy> Filled<T> {
+    // So many elements, which are alike.
+    pub fn new(alloc: Global, rest: T, len: usize) -> Result<Filled<T>, AllocError>
+        ensures { IfOk result (λ f. f ≡ replicate len rest) }
+    {
+        let items = Vec::with_capacity(alloc, len)?;
+        Ok(Filled { items, rest, len })
+    }
+
+    // How many elements there are.
+    pub fn len(&self) -> usize
+        ensures { result ≡ length self.now }
+    {
+        self.len
+    }
+
+    // An element.
+    #[inline(always)]
+    pub fn at(&self, at: usize) -> T
+        requires { at < length self.now }
+        ensures { result ≡ get_or self.now at result }
+    {
+        if at < self.items.len() {
+            self.items[at]
+        } else {
+            self.rest
+        }
+    }
+
+    // Writes an element, and all before it that were alike so far.
+    #[inline(always)]
+    pub fn set(&mut self, at: usize, x: T)
+        requires { at < length self.old }
+        ensures { self.new ≡ slice_set self.old at x }
+    {
+        if at < self.items.len() {
+            self.items[at] = x;
+        } else {
+            reach(&mut self.items, self.rest, at);
+            self.items[at] = x;
+        }
+    }
+}
+
+// Makes a list as long as needed for a place.
+#[inline(never)]
+fn reach<T: Copy>(items: &mut Vec<T>, rest: T, at: usize)
+    requires { at < vec_capacity items.old }
+    ensures items { items.new.items ≡ items.old.items ++ replicate (at + 1 - length items.old.items) rest }
+    ensures capacity { vec_capacity items.old ≤ vec_capacity items.new }
+{
+    'reaching: while items.len() <= at {
+        match items.push(rest) {
+            Ok(()) => {}
+            Err(_) => unreachable!(),
+        }
+    }
+}

@@ -1,0 +1,100 @@
+ghost use Rattle.std.specs.Prelude.{◌≡◌, ◌≤◌, ◌<◌, ◌+◌, ◌*◌, ◌^◌, ℕ, None, length};
+ghost use Rattle.std.specs.Int.{IsPowerOfTwo};
+ghost use Rattle.std.specs.FinMap.{insert};
+ghost use Rattle.overlay_mapping_table.specs.Rows.{map_of, ring, StandOnce};
+ghost use Rattle.overlay_mapping_table.specs.Probes.{AreNow, AreSound, IsGap, IsTakenOut, IsThere};
+ghost use Rattle.overlay_mapping_table.specs.Shifts.{AreLowered, AreRaised, IsEnd, IsLast};
+
+use crate::entry::Entry;
+use crate::places::wrap;
+use crate::probes::{beyond, is_before};
+use crate::slots::Slots;
+use overlay_address::OverlayPage;
+
+// Puts a row in at the place where its name would stand. Those from there up to the next empty slot go up by one.
+pub(crate) fn put_in(slots: &mut Slots, place: usize, p: OverlayPage, e: Entry)
+    requires sound { AreSound slots.old }
+    requires gap { IsGap slots.old p place }
+    ensures { AreNow slots.old slots.new (insert (map_of slots.old) p e) }
+{
+    let end = end_from(slots, place);
+    raise(slots, place, end);
+    let at = wrap(place, slots.len());
+    slots.put(at, p, e);
+}
+
+// Takes the row of a slot out. Those behind it go down by one, up to an empty slot or a row at its home.
+pub(crate) fn take_out(slots: &mut Slots, at: usize)
+    requires sound { AreSound slots.old }
+    requires there { (name : ℕ) × IsThere slots.old name at }
+    ensures { IsTakenOut slots.old slots.new at }
+{
+    let hole = slots.len() + at;
+    let last = last_from(slots, hole);
+    slots.clear(at);
+    lower(slots, hole, last);
+}
+
+// The first place from one on whose slot is empty.
+fn end_from(slots: &Slots, place: usize) -> usize
+    requires sound { AreSound slots.now }
+    requires behind { length slots.now ≤ place }
+    requires near { place < 3 * length slots.now }
+    ensures { IsEnd (length slots.now) slots.now place result }
+{
+    let n = slots.len();
+    let mut end = place;
+    'passing: while slots.name_at(wrap(end, n)).is_some() {
+        end = beyond(slots, end + 1);
+    }
+    end
+}
+
+// The last place from one on behind which a slot is empty or has a row at its home.
+fn last_from(slots: &Slots, hole: usize) -> usize
+    requires sound { AreSound slots.now }
+    requires behind { length slots.now ≤ hole }
+    requires near { hole < 2 * length slots.now }
+    requires there { ring (length slots.now) slots.now hole ≡ None → ⊥ }
+    ensures { IsLast (length slots.now) slots.now hole result }
+{
+    let mut next = hole + 1;
+    'passing: while is_before(slots, next, next) {
+        next = beyond(slots, next);
+    }
+    next - 1
+}
+
+// Moves the rows from a place up to an empty one up by one.
+fn raise(slots: &mut Slots, place: usize, end: usize)
+    requires power { IsPowerOfTwo (length slots.old) }
+    requires apart { StandOnce slots.old }
+    requires few { end < 2 ^ 30 }
+    requires end { IsEnd (length slots.old) slots.old place end }
+    ensures { AreRaised (length slots.old) slots.old slots.new place end }
+{
+    let n = slots.len();
+    let mut hole = end;
+    'raising: while place < hole {
+        slots.carry(wrap(hole - 1, n), wrap(hole, n));
+        hole -= 1;
+    }
+}
+
+// Moves the rows behind an empty place down by one, up to the last one.
+fn lower(slots: &mut Slots, hole: usize, last: usize)
+    requires power { IsPowerOfTwo (length slots.old) }
+    requires apart { StandOnce slots.old }
+    requires bare { ring (length slots.old) slots.old hole ≡ None }
+    requires order { hole ≤ last }
+    requires near { last + 1 < hole + length slots.old }
+    requires few { last < 2 ^ 30 }
+    ensures { AreLowered (length slots.old) slots.old slots.new hole last }
+{
+    let n = slots.len();
+    let mut gap = hole;
+    'lowering: while gap < last {
+        slots.carry(wrap(gap + 1, n), wrap(gap, n));
+        gap += 1;
+    }
+}
