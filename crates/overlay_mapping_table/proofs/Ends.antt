@@ -20,9 +20,6 @@ use Rattle.overlay_mapping_table.proofs.Ordering.{order_put, order_take}
 -- the first empty place from one on
 module _ (slots : List (Option (ℕ × Entry))) (sound : AreSound slots) (place end : ℕ) (low : place ≤ end)
     (taken : (i : ℕ) → place ≤ i → i < end → ring (length slots) slots i ≡ None → ⊥) where
-  n : ℕ
-  n = length slots
-
   pub end_near : end < place + length slots
   end_near =
       let e = spare_from slots sound place in

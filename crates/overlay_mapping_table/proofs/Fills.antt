@@ -78,14 +78,6 @@ module _ {X : Type 0} where
       ∙ sym (set-append_left long (replicate (n - length long) rest) at x long_is.1)
       ∙ ap (λ (xs : List X). slice_set xs at x) (long_is.2 ∙ same)
 
-  pub kept_set : (f items long : List X) (rest x : X) (n at : ℕ) → whole items rest n ≡ f → length items ≤ n → at < length f
-      → long ≡ items ++ replicate (at + 1 - length items) rest
-      → length (slice_set long at x) ≤ n
-  kept_set f items long rest x n at same le within is =
-      let inside : at < n = omega (arith, within, ap length same, sized items rest n le) in
-      let long_is = reached items long rest n at le inside is in
-      omega (arith, length-set long at x, long_is.0)
-
   -- one that was kept before
   pub set_kept : (f items : List X) (rest x : X) (n at : ℕ) → whole items rest n ≡ f → at < length items
       → whole (slice_set items at x) rest n ≡ slice_set f at x

@@ -34,9 +34,6 @@ in_round n start slots some far round place w i has before le =
 pub short : (slots : List (Option (ℕ × Entry))) → AreSound slots → (p w : ℕ) → HasWay (length slots) slots p w → w + 1 < length slots
 short slots sound p w has = by (cases_lt (w + 1) (length slots))
   where
-    n : ℕ
-    n = length slots
-
     round : p % length slots ≡ (p + length slots) % length slots
     round = sym (add-mod_right p (length slots))
 
@@ -60,9 +57,6 @@ module _ (old new : List (Option (ℕ × Entry))) (name place end : ℕ) (x : En
     (last : IsEnd (length old) old place end) (here : ring (length old) new place ≡ Some (name, x))
     (up : (i : ℕ) → place ≤ i → i < end → ring (length old) new (i + 1) ≡ ring (length old) old i)
     (other : (i : ℕ) → end < i → i < place + length old → ring (length old) new i ≡ ring (length old) old i) where
-  n : ℕ
-  n = length old
-
   has_here : HasWay (length old) new place gap.steps
   has_here = record { name = name; value = x; is = here; way = gap.way }
 

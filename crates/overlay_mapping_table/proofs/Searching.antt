@@ -126,9 +126,6 @@ home_way n k home place same low near =
 
 module _ (slots : List (Option (ℕ × Entry))) (name home : ℕ) (sound : AreSound slots)
     (same : home ≡ length slots + home_number name % length slots) where
-  n : ℕ
-  n = length slots
-
   is_home : home % length slots ≡ home_number name % length slots
   is_home =
       ap (λ x. x % length slots) same
@@ -166,26 +163,6 @@ module _ (slots : List (Option (ℕ × Entry))) (name home : ℕ) (sound : AreSo
       → ring (length slots) slots place ≡ Some (name, x) → ⊥
   not_here place at number x here read differs there =
       differs (read ∙ ap (λ i. name_in (get_or slots i None)) here ∙ ap name_in there)
-
-  pub past_more : (place at number : ℕ) → IsPast (length slots) slots name home place → at ≡ place % length slots
-      → number ≡ name_in (get_or slots at None) → (number ≡ name → ⊥) → IsBefore (length slots) slots (home + 1) place
-      → IsPast (length slots) slots name home (place + 1)
-  past_more place at number past here read differs is =
-      record {
-        low = omega (arith, past.low);
-        led = λ i low less. led i low (omega (arith, less)) (cases_lt i place);
-        other = λ i x low less there. other i x low (omega (arith, less)) there (cases_lt i place);
-      }
-    where
-      led : (i : ℕ) → home ≤ i → i ≤ place → (i < place) ⊎ (place ≤ i) → IsBefore (length slots) slots (home + 1) i
-      led i low le (inl less) = past.led i low less
-      led i low le (inr ge) = let equal : place ≡ i = omega (arith, le, ge) in subst (IsBefore (length slots) slots (home + 1)) equal is
-
-      other : (i : ℕ) (x : Entry) → home ≤ i → i ≤ place → ring (length slots) slots i ≡ Some (name, x) → (i < place) ⊎ (place ≤ i) → ⊥
-      other i x low le there (inl less) = past.other i x low less there
-      other i x low le there (inr ge) =
-          let equal : i ≡ place = omega (arith, le, ge) in
-          not_here place at number x here read differs (ap (λ j. ring (length slots) slots j) (sym equal) ∙ there)
 
   pub gap_found : (place at number : ℕ) → IsPast (length slots) slots name home place → at ≡ place % length slots
       → number ≡ name_in (get_or slots at None) → (number ≡ name → ⊥) → (IsBefore (length slots) slots (home + 1) place → ⊥)
