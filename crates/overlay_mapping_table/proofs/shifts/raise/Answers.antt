@@ -1,6 +1,13 @@
-use Rattle.std.proofs.Common.{arith}
+use Rattle.std.proofs.Common.{◌%◌, length, ap, refl, ◌∙◌, arith}
+use Rattle.overlay_mapping_table.proofs.Blocks.{raised_block}
 use Rattle.overlay_mapping_table.proofs.Moving.{raises}
 use Rattle.overlay_mapping_table.proofs.shifts.raise.Goals as goal
+
+pub returns-then-from-end : goal.returns-then-from-end
+returns-then-from-end c =
+    raised_block (length c.args.slots.now) c.args.slots.now c.move_up.new.self c.args.place c.args.end c.wrap-from.result refl
+    (c.wrap-from.ensures.same ∙ ap (λ n. c.args.place % n) c.len-n.ensures) c.requires.end.low (omega (arith, c.if-from-end.true, c.len-n.ensures))
+    c.move_up.ensures.rows c.requires.apart c.requires.end.bare c.move_up.ensures.bare
 
 pub raising-preserved : goal.raising-preserved
 raising-preserved c =
