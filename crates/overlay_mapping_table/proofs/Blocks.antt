@@ -1,4 +1,4 @@
-use Rattle.std.proofs.Common.{◌≡◌, ℕ, ◌+◌, ◌-◌, ◌%◌, ◌<◌, ◌≤◌, inl, inr, List, length, get_or, slice_set, Option, Some, None, subst, sym, ap, ap₂, refl, ◌∙◌, arith}
+use Rattle.std.proofs.Common.{◌≡◌, ℕ, ◌+◌, ◌-◌, ◌%◌, ◌<◌, ◌≤◌, inl, inr, List, length, get_or, slice_set, Option, None, subst, sym, ap, ap₂, ◌∙◌, arith}
 use Rattle.std.specs.Prelude.{◌⊎◌}
 use Rattle.std.proofs.Math.Nat.{add-mod_right, mod-add-mod, mod-eq_of_lt, mod-lt}
 use Rattle.std.proofs.lemmas.Bool.{cases_lt}
@@ -6,10 +6,9 @@ use Rattle.std.proofs.lemmas.List.{get_or-set_same, get_or-set_other, get_or_pas
 use Rattle.overlay_address.specs.Names.{IsName}
 use Rattle.overlay_mapping_table.specs.declared.entry.Entry.{Entry}
 use Rattle.overlay_mapping_table.specs.Rows.{ring, slot_of, slots_of, AreSlots, StandOnce}
-use Rattle.overlay_mapping_table.specs.Shifts.{AreCopied, AreLowered, AreOneUp, AreRaised, AreSame}
+use Rattle.overlay_mapping_table.specs.Shifts.{AreCopied, AreLowered, AreOneUp, AreRaised}
 use Rattle.overlay_mapping_table.proofs.Beside.{kept_clear, nothing, set_empty, sized, slot_at}
-use Rattle.overlay_mapping_table.proofs.Searching.{within}
-use Rattle.overlay_mapping_table.proofs.Ways.{Placed, placed, same_near}
+use Rattle.overlay_mapping_table.proofs.Moving.{IsShift, lowered, raised}
 
 -- Rows that move as a block.
 
@@ -106,162 +105,6 @@ module _ (names names₂ : List ℕ) (xs xs₂ : List Entry) (from to n : ℕ) (
       }
       )
 
--- Slots of which some are those of others, one place further on.
-record IsShift (n : ℕ) (lower upper : List (Option (ℕ × Entry))) (start end : ℕ) : Type 0 where
-  size : length lower ≡ n
-  level : length upper ≡ length lower
-  order : start ≤ end
-  near : end < start + n
-  up : (i : ℕ) → start ≤ i → i < end → ring n upper (i + 1) ≡ ring n lower i
-  other : (i : ℕ) → end < i → i < start + n → ring n upper i ≡ ring n lower i
-  last : ring n lower end ≡ None
-  first : ring n upper start ≡ None
-
--- two places in one round that are one slot
-same_round : (n start a b : ℕ) → start ≤ a → a < start + n → start ≤ b → b < start + n → a % n ≡ b % n → a ≡ b
-same_round n start a b low less above near same = by (cases_lt a b)
-  where
-    by : (a < b) ⊎ (b ≤ a) → a ≡ b
-    by (inl before) = same_near n a b same (omega (arith, before)) (omega (arith, low, near))
-    by (inr behind) = sym (same_near n b a (sym same) behind (omega (arith, above, less)))
-
-module _ (n : ℕ) (lower upper : List (Option (ℕ × Entry))) (start end : ℕ) (shift : IsShift n lower upper start end) where
-  -- a slot whose row stands in another one then
-  record Goes (i j : ℕ) : Type 0 where
-    p : ℕ
-    q : ℕ
-    here : p % n ≡ i
-    there : q % n ≡ j
-    low : start ≤ p
-    high : p < start + n
-    step : ((p < end) × (q ≡ p + 1)) ⊎ ((end < p) × (q ≡ p))
-
-  ahead : (p q r s : ℕ) → ((p < end) × (q ≡ p + 1)) ⊎ ((end < p) × (q ≡ p)) → ((r < end) × (s ≡ r + 1)) ⊎ ((end < r) × (s ≡ r)) → p ≡ r → q ≡ s
-  ahead p q r s (inl one) (inl two) same = omega (arith, one.1, two.1, same)
-  ahead p q r s (inl one) (inr two) same = absurd (omega (arith, one.0, two.0, same))
-  ahead p q r s (inr one) (inl two) same = absurd (omega (arith, one.0, two.0, same))
-  ahead p q r s (inr one) (inr two) same = omega (arith, one.1, two.1, same)
-
-  back : (p q r s : ℕ) → ((p < end) × (q ≡ p + 1)) ⊎ ((end < p) × (q ≡ p)) → ((r < end) × (s ≡ r + 1)) ⊎ ((end < r) × (s ≡ r)) → q ≡ s → p ≡ r
-  back p q r s (inl one) (inl two) same = omega (arith, one.1, two.1, same)
-  back p q r s (inl one) (inr two) same = absurd (omega (arith, one.0, one.1, two.0, two.1, same))
-  back p q r s (inr one) (inl two) same = absurd (omega (arith, one.0, one.1, two.0, two.1, same))
-  back p q r s (inr one) (inr two) same = omega (arith, one.1, two.1, same)
-
-  inside : (p q : ℕ) → start ≤ p → p < start + n → ((p < end) × (q ≡ p + 1)) ⊎ ((end < p) × (q ≡ p)) → (start ≤ q) × (q < start + n)
-  inside p q low high (inl one) = (omega (arith, low, one.1), omega (arith, one.0, one.1, shift.near))
-  inside p q low high (inr two) = (omega (arith, low, two.1), omega (arith, high, two.1))
-
-  one_way : (i j k l : ℕ) → Goes i j → Goes k l → i ≡ k → j ≡ l
-  one_way i j k l a b same =
-      let place = same_round n start a.p b.p a.low a.high b.low b.high (a.here ∙ same ∙ sym b.here) in
-      sym a.there ∙ ap (λ q. q % n) (ahead a.p a.q b.p b.q a.step b.step place) ∙ b.there
-
-  other_way : (i j k l : ℕ) → Goes i j → Goes k l → j ≡ l → i ≡ k
-  other_way i j k l a b same =
-      let one = inside a.p a.q a.low a.high a.step in
-      let two = inside b.p b.q b.low b.high b.step in
-      let place = same_round n start a.q b.q one.0 one.1 two.0 two.1 (a.there ∙ same ∙ sym b.there) in
-      sym a.here ∙ ap (λ p. p % n) (back a.p a.q b.p b.q a.step b.step place) ∙ b.here
-
-  -- where a row goes, and where it comes from
-  goes : (i : ℕ) (r : ℕ × Entry) → get_or lower i None ≡ Some r → (j : ℕ) × Goes i j × (get_or upper j None ≡ Some r)
-  goes i r is = by (cases_lt at.place end) (cases_lt end at.place)
-    where
-      within_n : i < n
-      within_n = omega (arith, within lower i r is, shift.size)
-
-      at : Placed n start i
-      at = placed n start i (omega (arith, within_n))
-
-      here : at.place % n ≡ i
-      here = at.same ∙ mod-eq_of_lt within_n
-
-      row : ring n lower at.place ≡ Some r
-      row = ap (λ k. get_or lower k None) here ∙ is
-
-      by : (at.place < end) ⊎ (end ≤ at.place) → (end < at.place) ⊎ (at.place ≤ end) → (j : ℕ) × Goes i j × (get_or upper j None ≡ Some r)
-      by (inl before) behind = (
-        (at.place + 1) % n,
-        record { p = at.place; q = at.place + 1; here = here; there = refl; low = at.low; high = at.near; step = inl (before, refl) },
-        shift.up at.place at.low before ∙ row,
-      )
-      by (inr past) (inl behind) = (
-        at.place % n,
-        record { p = at.place; q = at.place; here = here; there = refl; low = at.low; high = at.near; step = inr (behind, refl) },
-        shift.other at.place behind at.near ∙ row,
-      )
-      by (inr past) (inr le) =
-          let same : at.place ≡ end = omega (arith, past, le) in
-          let none = ap (λ k. ring n lower k) same ∙ shift.last in
-          absurd (cc (none, row))
-
-  comes : (j : ℕ) (r : ℕ × Entry) → get_or upper j None ≡ Some r → (i : ℕ) × Goes i j × (get_or lower i None ≡ Some r)
-  comes j r is = by (cases_lt start at.place) (cases_lt end at.place)
-    where
-      within_n : j < n
-      within_n = omega (arith, within upper j r is, shift.size, shift.level)
-
-      at : Placed n start j
-      at = placed n start j (omega (arith, within_n))
-
-      there : at.place % n ≡ j
-      there = at.same ∙ mod-eq_of_lt within_n
-
-      row : ring n upper at.place ≡ Some r
-      row = ap (λ k. get_or upper k None) there ∙ is
-
-      by : (start < at.place) ⊎ (at.place ≤ start) → (end < at.place) ⊎ (at.place ≤ end) → (i : ℕ) × Goes i j × (get_or lower i None ≡ Some r)
-      by later (inl behind) = (
-        at.place % n,
-        record { p = at.place; q = at.place; here = refl; there = there; low = at.low; high = at.near; step = inr (behind, refl) },
-        sym (shift.other at.place behind at.near) ∙ row,
-      )
-      by (inl later) (inr le) =
-          let next : at.place - 1 + 1 ≡ at.place = omega (arith, later) in
-          let before : at.place - 1 < end = omega (arith, later, le) in
-          let low : start ≤ at.place - 1 = omega (arith, later) in (
-            (at.place - 1) % n,
-            record {
-              p = at.place - 1;
-              q = at.place;
-              here = refl;
-              there = there;
-              low = low;
-              high = omega (arith, at.near);
-              step = inl (before, sym next);
-            },
-            sym (shift.up (at.place - 1) low before) ∙ ap (λ k. ring n upper k) next ∙ row,
-          )
-      by (inr le) past =
-          let same : at.place ≡ start = omega (arith, le, at.low) in
-          let none = ap (λ k. ring n upper k) same ∙ shift.first in
-          absurd (cc (none, row))
-
-  same_up : StandOnce lower → AreSame lower upper
-  same_up apart =
-      record {
-        size = shift.level;
-        apart = λ name x y i j one two.
-            let a = comes i (name, x) one in
-            let b = comes j (name, y) two in
-            one_way a.0 i b.0 j a.1 b.1 (apart name x y a.0 b.0 a.2 b.2);
-        kept = λ name x i there. let a = goes i (name, x) there in (a.0, a.2);
-        back = λ name x j there. let a = comes j (name, x) there in (a.0, a.2);
-      }
-
-  same_down : StandOnce upper → AreSame upper lower
-  same_down apart =
-      record {
-        size = sym shift.level;
-        apart = λ name x y i j one two.
-            let a = goes i (name, x) one in
-            let b = goes j (name, y) two in
-            other_way i a.0 j b.0 a.1 b.1 (apart name x y a.0 b.0 a.2 b.2);
-        kept = λ name x i there. let a = comes i (name, x) there in (a.0, a.2);
-        back = λ name x j there. let a = goes j (name, x) there in (a.0, a.2);
-      }
-
 -- The slots of places from one on, up to the last slot and from slot 0 on.
 near_slot : (n start from i : ℕ) → from ≡ start % n → start ≤ i → from + (i - start) < n → i % n ≡ from + (i - start)
 near_slot n start from i is le less =
@@ -311,18 +154,8 @@ module _ (n : ℕ) (lower upper : List (Option (ℕ × Entry))) (start end from 
           rows.below (i % n) (omega (arith, at, past, near, order))
 
   pub raised_block : StandOnce lower → ring n lower end ≡ None → get_or upper from None ≡ None → AreRaised n lower upper start end
-  raised_block apart last bare =
-      let first = ap (λ j. get_or upper j None) (sym is) ∙ bare in
-      let shift = as_shift last first in
-      record { same = same_up n lower upper start end shift apart; up = shift.up; other = shift.other; bare = first }
+  raised_block apart last first = raised n lower upper start end apart (as_shift last (ap (λ j. get_or upper j None) (sym is) ∙ first))
 
   pub lowered_block : StandOnce upper → ring n upper start ≡ None → get_or lower (from + (end - start)) None ≡ None → AreLowered n upper lower start end
-  lowered_block apart first bare =
-      let last = ap (λ j. get_or lower j None) (near_slot n start from end is order whole) ∙ bare in
-      let shift = as_shift last first in
-      record {
-        same = same_down n lower upper start end shift apart;
-        down = λ i low less. sym (shift.up i low less);
-        other = λ i past near. sym (shift.other i past near);
-        bare = last;
-      }
+  lowered_block apart first last =
+      lowered n upper lower start end apart (as_shift (ap (λ j. get_or lower j None) (near_slot n start from end is order whole) ∙ last) first)
