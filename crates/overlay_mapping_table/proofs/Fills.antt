@@ -1,7 +1,9 @@
-use Rattle.std.proofs.Common.{◌≡◌, ℕ, ◌+◌, ◌-◌, ◌<◌, ◌≤◌, inl, inr, List, [], ◌∷◌, ◌++◌, length, get_or, slice_set, replicate, sym, ap, ◌∙◌, refl, arith}
+use Rattle.std.proofs.Common.{◌≡◌, ℕ, ◌+◌, ◌-◌, ◌<◌, ◌≤◌, inl, inr, List, [], ◌∷◌, ◌++◌, length, get_or, slice_set, replicate, max, subst, sym, ap, ◌∙◌, refl, arith}
 use Rattle.std.specs.Prelude.{◌⊎◌}
 use Rattle.std.proofs.lemmas.Bool.{cases_lt}
 use Rattle.std.proofs.lemmas.List.{append_assoc, length-append, length-replicate, length-set, replicate-append-replicate, set-append_left, get_or_append_left, get_or-append_right, get_or-replicate, get_or_past}
+use Rattle.std.specs.List.{CopiedTo, SameBelow, SameFrom}
+use Rattle.overlay_mapping_table.specs.Shifts.{AreCopied}
 
 -- Lists of which all elements behind some are alike.
 
@@ -85,3 +87,56 @@ module _ {X : Type 0} where
       ap (λ k. slice_set items at x ++ replicate (n - k) rest) (length-set items at x)
       ∙ sym (set-append_left items (replicate (n - length items) rest) at x inside)
       ∙ ap (λ (xs : List X). slice_set xs at x) same
+
+  -- a block that is written, of those that are kept
+  pub copied_kept : (f items new : List X) (rest : X) (n from to k : ℕ) → whole items rest n ≡ f → from + k ≤ length items → to + k ≤ length items
+      → AreCopied items new from to k → AreCopied f (whole new rest n) from to k
+  copied_kept f items new rest n from to k same source target copied =
+      subst (λ (xs : List X). AreCopied xs (whole new rest n) from to k) same (
+      record {
+        size = length-append new (replicate (n - length new) rest) ∙ ap (λ m. m + length (replicate (n - m) rest)) copied.size
+            ∙ sym (length-append items (replicate (n - length items) rest));
+        copied = λ i d low less.
+            before i d (omega (arith, less, target, copied.size))
+            ∙ copied.copied i d low less
+            ∙ sym (get_or_append_left items (replicate (n - length items) rest) d (from + (i - to)) (omega (arith, low, less, source)));
+        below = λ i d less. stays i d (copied.below i d less);
+        above = λ i d past. stays i d (copied.above i d past);
+      }
+      )
+    where
+      before : (i : ℕ) (d : X) → i < length new → get_or (whole new rest n) i d ≡ get_or new i d
+      before i d inside = get_or_append_left new (replicate (n - length new) rest) d i inside
+
+      stays : (i : ℕ) (d : X) → get_or new i d ≡ get_or items i d → get_or (whole new rest n) i d ≡ get_or (whole items rest n) i d
+      stays i d is = by (cases_lt i (length items))
+        where
+          by : (i < length items) ⊎ (length items ≤ i) → get_or (whole new rest n) i d ≡ get_or (whole items rest n) i d
+          by (inl inside) =
+              before i d (omega (arith, inside, copied.size)) ∙ is
+              ∙ sym (get_or_append_left items (replicate (n - length items) rest) d i inside)
+          by (inr past) =
+              get_or-append_right new (replicate (n - length new) rest) (length new) i d refl (omega (arith, past, copied.size))
+              ∙ ap (λ m. get_or (replicate (n - m) rest) (i - m) d) copied.size
+              ∙ sym (get_or-append_right items (replicate (n - length items) rest) (length items) i d refl past)
+
+  -- and of those that are kept once as many as needed are
+  pub copied_at : (f items long new : List X) (rest : X) (n from to k end : ℕ) → whole items rest n ≡ f → length items ≤ n → 0 < k
+      → from + k ≤ length f → to + k ≤ length f → end ≡ max from to
+      → long ≡ items ++ replicate (end + k - 1 + 1 - length items) rest
+      → length new ≡ length long
+      → CopiedTo long new from to (from + k - from) × SameBelow long new to × SameFrom long new (to + (from + k - from))
+      → AreCopied f (whole new rest n) from to k
+  copied_at f items long new rest n from to k end same le some source target ends is size copied =
+      let whole_is : length f ≡ n = sym (ap length same) ∙ sized items rest n le in
+      let inside : end + k - 1 < n = omega (arith, source, target, whole_is, ends, some) in
+      let long_is = reached items long rest n (end + k - 1) le inside is in
+      let count : from + k - from ≡ k = omega arith in
+      copied_kept f long new rest n from to k (long_is.2 ∙ same) (omega (arith, long_is.1, ends)) (omega (arith, long_is.1, ends)) (
+      record {
+        size = size;
+        copied = λ i d low less. copied.0 i d low (omega (arith, less));
+        below = λ i d less. copied.1 i d less;
+        above = λ i d past. copied.2 i d (omega (arith, past));
+      }
+      )

@@ -4,6 +4,7 @@ pub mod Contents
 pub mod Searching
 pub mod Moving
 pub mod Ordering
+pub mod Blocks
 pub mod Ends
 pub mod Tables
 pub mod Fills

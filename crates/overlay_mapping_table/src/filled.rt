@@ -1,4 +1,5 @@
 ghost use Rattle.std.specs.Prelude.{◌≡◌, ◌<◌, ◌≤◌, ◌+◌, ◌-◌, ◌++◌, length, get_or, slice_set, replicate, IfOk};
+ghost use Rattle.overlay_mapping_table.specs.Shifts.{AreCopied};
 ghost use Rattle.std.specs.Vec.{vec_capacity};
 
 use std::alloc::{AllocError, Global};
@@ -65,6 +66,17 @@ impl<T: Copy> Filled<T> {
             reach(&mut self.items, self.rest, at);
             self.items[at] = x;
         }
+    }
+
+    // Writes so many elements from one place on to another one, as a block.
+    pub fn copy(&mut self, from: usize, to: usize, n: usize)
+        requires some { 0 < n }
+        requires from { from + n ≤ length self.old }
+        requires to { to + n ≤ length self.old }
+        ensures { AreCopied self.old self.new from to n }
+    {
+        reach(&mut self.items, self.rest, from.max(to) + n - 1);
+        self.items.copy_within(from..from + n, to);
     }
 }
 

@@ -74,10 +74,15 @@ fn raise(slots: &mut Slots, place: usize, end: usize)
     ensures { AreRaised (length slots.old) slots.old slots.new place end }
 {
     let n = slots.len();
-    let mut hole = end;
-    'raising: while place < hole {
-        slots.carry(wrap(hole - 1, n), wrap(hole, n));
-        hole -= 1;
+    let from = wrap(place, n);
+    if place < end && from + (end - place) < n {
+        slots.move_up(from, from + (end - place));
+    } else {
+        let mut hole = end;
+        'raising: while place < hole {
+            slots.carry(wrap(hole - 1, n), wrap(hole, n));
+            hole -= 1;
+        }
     }
 }
 
@@ -92,9 +97,14 @@ fn lower(slots: &mut Slots, hole: usize, last: usize)
     ensures { AreLowered (length slots.old) slots.old slots.new hole last }
 {
     let n = slots.len();
-    let mut gap = hole;
-    'lowering: while gap < last {
-        slots.carry(wrap(gap + 1, n), wrap(gap, n));
-        gap += 1;
+    let to = wrap(hole, n);
+    if hole < last && to + (last - hole) < n {
+        slots.move_down(to, to + (last - hole));
+    } else {
+        let mut gap = hole;
+        'lowering: while gap < last {
+            slots.carry(wrap(gap + 1, n), wrap(gap, n));
+            gap += 1;
+        }
     }
 }

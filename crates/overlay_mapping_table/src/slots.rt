@@ -1,6 +1,7 @@
 ghost use Rattle.std.specs.Prelude.{◌≡◌, ◌<◌, length, get_or, slice_set, None, Some, IfOk};
 ghost use Rattle.std.specs.Option.{option_map};
 ghost use Rattle.overlay_mapping_table.specs.Rows.{name_in, no_rows};
+ghost use Rattle.overlay_mapping_table.specs.Shifts.{AreOneUp};
 
 use crate::entry::Entry;
 use crate::filled::Filled;
@@ -114,5 +115,28 @@ impl Slots {
         self.names.set(to, name);
         self.entries.set(to, entry);
         self.names.set(from, 0);
+    }
+    // Moves the rows of the slots up to another one up by one.
+    pub fn move_up(&mut self, from: usize, end: usize)
+        requires order { from < end }
+        requires end { end < length self.old }
+        ensures rows { AreOneUp self.old self.new from end }
+        ensures bare { get_or self.new from None ≡ None }
+    {
+        self.names.copy(from, from + 1, end - from);
+        self.entries.copy(from, from + 1, end - from);
+        self.names.set(from, 0);
+    }
+
+    // Moves the rows of the slots behind one, up to another one, down by one.
+    pub fn move_down(&mut self, to: usize, last: usize)
+        requires order { to < last }
+        requires last { last < length self.old }
+        ensures rows { AreOneUp self.new self.old to last }
+        ensures bare { get_or self.new last None ≡ None }
+    {
+        self.names.copy(to + 1, to, last - to);
+        self.entries.copy(to + 1, to, last - to);
+        self.names.set(last, 0);
     }
 }
