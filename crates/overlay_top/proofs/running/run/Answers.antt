@@ -1,10 +1,13 @@
-use Rattle.std.proofs.Common.{◌<◌, ◌+◌, ◌∙◌, ap, refl, arith, length, map}
-use Rattle.std.proofs.lemmas.List.{length-map}
+use Rattle.std.proofs.Common.{◌<◌, ◌≤◌, ◌+◌, ◌∙◌, ap, refl, subst, sym, arith, length, map}
+use Rattle.std.proofs.lemmas.List.{drop_all, length-map}
 use Rattle.command_core.specs.Sessions.{InSession}
 use Rattle.command_core.specs.Commands.{asks}
 use Rattle.overlay_top.proofs.Asks.{asked_at, fetches_next}
-use Rattle.overlay_top.proofs.Errors.{by_err}
-use Rattle.overlay_top.proofs.Runs.{none_run, step, stop}
+use Rattle.overlay_top.proofs.Errors.{by_err, shelf_behind, sink_behind}
+use Rattle.overlay_top.proofs.Runs.{all_done, none_run, step, stop}
+use Rattle.overlay_top.specs.Outside.{ShelfBy, SinkBy}
+use Rattle.overlay_top.specs.declared.running.Halt.{Halt}
+use Rattle.std.specs.Prelude.{Result}
 use Rattle.overlay_top.proofs.running.run.Goals as goal
 
 pub running-init : goal.running-init
@@ -67,3 +70,25 @@ running-preserved g c =
           (g.K.Sink.taken c.perform.new.report.sink.now) c.running.invariant.quantum c.running-test.true c.command-item.is (c.running.invariant.kept tells) (c.running.invariant.runs tells)
           (c.in_ok-perform.ensures.given tells) (c.in_ok-perform.ensures.sends tells) (c.in_ok-perform.ensures.after tells);
     }
+
+pub returns-in_err-perform-clause-shelf : goal.returns-in_err-perform-clause-shelf
+returns-in_err-perform-clause-shelf g c =
+    subst (λ (r : Result (Unit {0}) Halt). ShelfBy g.H.Shelf c.args.shelf.now c.perform.new.shelf r)
+    (sym (by_err c.from_residual-in_err-perform.result c.in_err-perform.field-0.0 c.from_residual-in_err-perform.ensures))
+    (shelf_behind g.H.Shelf c.args.shelf.now c.running.shelf c.perform.new.shelf c.in_err-perform.field-0.0 c.running.invariant.shelf c.in_err-perform.ensures.shelf)
+
+pub returns-in_err-perform-clause-sink : goal.returns-in_err-perform-clause-sink
+returns-in_err-perform-clause-sink g c =
+    subst (λ (r : Result (Unit {0}) Halt). SinkBy g.K.Sink c.args.report.now.sink.now c.perform.new.report.sink.now r)
+    (sym (by_err c.from_residual-in_err-perform.result c.in_err-perform.field-0.0 c.from_residual-in_err-perform.ensures))
+    (sink_behind g.K.Sink c.args.report.now.sink.now c.running.report.sink.now c.perform.new.report.sink.now c.in_err-perform.field-0.0 c.running.invariant.sink
+    c.in_err-perform.ensures.sink)
+
+-- all commands are done
+pub returns-clause-ends : goal.returns-clause-ends
+returns-clause-ends g c tells =
+    let all = c.args.commands.now in
+    let index = c.running.command-index in
+    let last : length all ≤ index = (let end = c.running-test.false in omega (arith, end)) in
+    all_done c.args.settings g.H.Shelf g.K.Sink all index (g.H.Shelf.files c.args.shelf.now) c.running.session.state c.args.shelf.now c.running.shelf
+    c.args.report.now.sink.now c.running.report.sink.now last (drop_all index all last) (c.running.invariant.runs tells) c.running.invariant.asked
