@@ -160,18 +160,18 @@ bytes_allow : (m : Memory) (a : ℕ) (bytes : List ℕ) (need q : ℕ) → page_
 bytes_allow m a [] need q = refl
 bytes_allow m a (b ∷ bytes) need q = bytes_allow (with_byte m a b) (a + 1) bytes need q ∙ byte_allows m a b need q
 
--- An access in one line of another list leaves the line.
+-- An access in one page of another list leaves the line.
 
-pub record IsApart (address count start : ℕ) : Type 0 where
+pub record IsApart (address start : ℕ) : Type 0 where
   pub sets : address / PAGE_BYTES % SETS ≡ start / PAGE_BYTES % SETS → ⊥
-  pub one_line : address % LINE_BYTES ≤ LINE_BYTES - count
+  pub one_page : address % PAGE_BYTES ≤ PAGE_BYTES - 8
 
-module _ (old new : TranslatedView) (space start address need count : ℕ) (line : List ℕ) (apart : IsApart address count start) (some : 0 < count) (few : count ≤ 8)
+module _ (old new : TranslatedView) (space start address need count : ℕ) (line : List ℕ) (apart : IsApart address start) (some : 0 < count) (few : count ≤ 8)
     (lists : translations_of new ≡ after_access old space (record { need = need; address = address; length = count }))
     (code : IsCodeLine old space start line) where
   front_left : IsFront space (start / PAGE_BYTES) (translations_of new)
   front_left =
-      let fits = apart.one_line in
+      let fits = apart.one_page in
       subst (IsFront space (start / PAGE_BYTES))
       (sym (lists ∙ counted_one space (memory_of (state_of old) space) (record { need = need; address = address; length = count }) (translations_of old)
       ∙ access_in_page space (memory_of (state_of old) space) (record { need = need; address = address; length = count }) (translations_of old) some (omega (arith, fits, few))))
@@ -197,5 +197,5 @@ module _ (old new : TranslatedView) (space start address need count : ℕ) (line
       out : (address / PAGE_BYTES ≡ start / PAGE_BYTES) ⊎ ((address / PAGE_BYTES < start / PAGE_BYTES) ⊎ (start / PAGE_BYTES < address / PAGE_BYTES))
           → (LINE_BYTES * (start / LINE_BYTES) + LINE_BYTES ≤ address) ⊎ (address + length bytes ≤ LINE_BYTES * (start / LINE_BYTES))
       out (inl same) = absurd (apart.sets (ap (λ n. n % SETS) same))
-      out (inr (inl less)) = let fits = apart.one_line in inr (omega (arith, less, fits, few, length_is))
+      out (inr (inl less)) = let fits = apart.one_page in inr (omega (arith, less, fits, few, length_is))
       out (inr (inr more)) = inl (omega (arith, more))

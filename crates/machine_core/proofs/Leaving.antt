@@ -29,18 +29,18 @@ use Rattle.machine_core.proofs.Holding.{IsApart, code_beside, code_kept}
 
 -- What an action leaves in hand.
 
-apart_of : (address count pc start : ℕ) → is_apart address count pc ≡ true → pc / PAGE_BYTES ≡ start / PAGE_BYTES → IsApart address count start
-apart_of address count pc start test page = by_tests (nat_le (address % LINE_BYTES) (LINE_BYTES - count)) (address / PAGE_BYTES % SETS == pc / PAGE_BYTES % SETS) refl refl test
+apart_of : (address pc start : ℕ) → is_apart address pc ≡ true → pc / PAGE_BYTES ≡ start / PAGE_BYTES → IsApart address start
+apart_of address pc start test page = by_tests (address / PAGE_BYTES % SETS == pc / PAGE_BYTES % SETS) (nat_le (address % PAGE_BYTES) (PAGE_BYTES - 8)) refl refl test
   where
-    by_tests : (b c : Bool) → nat_le (address % LINE_BYTES) (LINE_BYTES - count) ≡ b → (address / PAGE_BYTES % SETS == pc / PAGE_BYTES % SETS) ≡ c
-        → (b && not c) ≡ true → IsApart address count start
-    by_tests false c e f h = cc
-    by_tests true true e f h = cc
-    by_tests true false e f h = record {
+    by_tests : (b c : Bool) → (address / PAGE_BYTES % SETS == pc / PAGE_BYTES % SETS) ≡ b → nat_le (address % PAGE_BYTES) (PAGE_BYTES - 8) ≡ c
+        → (not b && c) ≡ true → IsApart address start
+    by_tests true c e f h = cc
+    by_tests false false e f h = cc
+    by_tests false true e f h = record {
       sets = λ same.
           let both : address / PAGE_BYTES % SETS ≡ pc / PAGE_BYTES % SETS = same ∙ sym (ap (λ n. n % SETS) page) in
           grind (arith, nat_tests);
-      one_line = grind (arith, nat_tests);
+      one_page = grind (arith, nat_tests);
     }
 
 -- a line is held of what follows
@@ -107,37 +107,37 @@ module _ (lines : List (List ℕ)) (old new : View) (full : Option (ℕ × ℕ))
       (subst (λ (v : View). IsCodeLine v.memory.now v.space start (get_or lines (start / LINE_BYTES % KEPT_LINES) [])) (sym made.1))
 
   -- a load
-  loads : (address count : ℕ) → 0 < count → count ≤ 8 → (course_by address count regs.pc ≡ Lost → ⊥) → PerformsLent (Load address count ∷ []) old full new
+  loads : (address count : ℕ) → 0 < count → count ≤ 8 → (course_by address regs.pc ≡ Lost → ⊥) → PerformsLent (Load address count ∷ []) old full new
       → IsHeld lines new.memory.now new.space start
-  loads address count some few on (mid, (loan, same, lists), (none, is)) = by_test (is_apart address count regs.pc) refl
+  loads address count some few on (mid, (loan, same, lists), (none, is)) = by_test (is_apart address regs.pc) refl
     where
-      by_test : (b : Bool) → is_apart address count regs.pc ≡ b → IsHeld lines new.memory.now new.space start
+      by_test : (b : Bool) → is_apart address regs.pc ≡ b → IsHeld lines new.memory.now new.space start
       by_test false test = absurd (on (ap (λ b. cond b On Lost) test))
       by_test true test =
           subst (λ (v : View). IsHeld lines v.memory.now v.space start) (sym is)
           (subst (λ p. IsHeld lines mid.memory.now p start) (sym loan.space)
           (held_over lines old.memory.now mid.memory.now old.space old.space start held (λ code.
-          code_kept old.memory.now mid.memory.now old.space start address (load_at address count).need count _ (apart_of address count regs.pc start test page) some few lists code same)))
+          code_kept old.memory.now mid.memory.now old.space start address (load_at address count).need count _ (apart_of address regs.pc start test page) some few lists code same)))
 
   -- a store
-  stores : (address : ℕ) (bytes : List ℕ) → 0 < length bytes → length bytes ≤ 8 → (course_by address (length bytes) regs.pc ≡ Lost → ⊥)
+  stores : (address : ℕ) (bytes : List ℕ) → 0 < length bytes → length bytes ≤ 8 → (course_by address regs.pc ≡ Lost → ⊥)
       → PerformsLent (Store address bytes ∷ []) old full new → IsHeld lines new.memory.now new.space start
-  stores address bytes some few on (answer, (loan, leaves, lists), full_is, last) = by_test (is_apart address (length bytes) regs.pc) refl
+  stores address bytes some few on (answer, (loan, leaves, lists), full_is, last) = by_test (is_apart address regs.pc) refl
     where
-      by_answer : (a : Result (Unit {0}) Refused) → IsStoredBy old address bytes a new → is_apart address (length bytes) regs.pc ≡ true
+      by_answer : (a : Result (Unit {0}) Refused) → IsStoredBy old address bytes a new → is_apart address regs.pc ≡ true
           → IsCodeLine old.memory.now old.space start (get_or lines (start / LINE_BYTES % KEPT_LINES) [])
           → IsCodeLine new.memory.now old.space start (get_or lines (start / LINE_BYTES % KEPT_LINES) [])
       by_answer (Ok done) (_, (allowed, stored, fits), counts) test code =
           code_beside old.memory.now new.memory.now old.space start address (store_at address (length bytes)).need (length bytes) _
-          (apart_of address (length bytes) regs.pc start test page) some few counts code bytes refl stored.memory
+          (apart_of address regs.pc start test page) some few counts code bytes refl stored.memory
       by_answer (Err (refused.At at)) (_, (denied, same), counts) test code =
           code_kept old.memory.now new.memory.now old.space start address (store_at address (length bytes)).need (length bytes) _
-          (apart_of address (length bytes) regs.pc start test page) some few counts code same
+          (apart_of address regs.pc start test page) some few counts code same
       by_answer (Err (refused.Full needed limit)) (_, (allowed, needed_is, limit_is, over, same), counts) test code =
           code_kept old.memory.now new.memory.now old.space start address (store_at address (length bytes)).need (length bytes) _
-          (apart_of address (length bytes) regs.pc start test page) some few counts code same
+          (apart_of address regs.pc start test page) some few counts code same
 
-      by_test : (b : Bool) → is_apart address (length bytes) regs.pc ≡ b → IsHeld lines new.memory.now new.space start
+      by_test : (b : Bool) → is_apart address regs.pc ≡ b → IsHeld lines new.memory.now new.space start
       by_test false test = absurd (on (ap (λ b. cond b On Lost) test))
       by_test true test =
           subst (λ p. IsHeld lines new.memory.now p start) (sym loan.space)
@@ -160,15 +160,9 @@ module _ (lines : List (List ℕ)) (old new : View) (full : Option (ℕ × ℕ))
       let bytes = little_bytes (count_of size) value in
       let calls = Store address bytes ∷ [] in
       let denied = denied_at memory (store_at address (count_of size)) in
-      stores address bytes (few_bytes size value).0 (few_bytes size value).1 (λ lost. on (ap (λ n. course_by address n regs.pc) (sym (as_many size value)) ∙ lost))
+      stores address bytes (few_bytes size value).0 (few_bytes size value).1 on
       (subst (λ c. PerformsLent c old full new) (store_calls denied address bytes regs memory calls) made)
     where
-      as_many : (size : Size) (value : ℕ) → length (little_bytes (count_of size) value) ≡ count_of size
-      as_many Byte value = refl
-      as_many Half value = refl
-      as_many Word value = refl
-      as_many Double value = refl
-
       few_bytes : (size : Size) (value : ℕ) → (0 < length (little_bytes (count_of size) value)) × (length (little_bytes (count_of size) value) ≤ 8)
       few_bytes Byte value = (omega arith, omega arith)
       few_bytes Half value = (omega arith, omega arith)
@@ -190,11 +184,11 @@ module _ (old new : View) (full : Option (ℕ × ℕ)) (regs : Registers) (rd ne
   line : (a : Action) → (course_of a regs.pc ≡ Lost → ⊥) → PerformsLent (effect a rd regs lent).calls old full new → KeepsLines old new regs.pc
   line a on made lines start held page = held_behind lines old new full start regs rd held page a on made
 
-  by_access : (a : Action) (address count : ℕ) → course_of a regs.pc ≡ course_by address count regs.pc → next ≡ next_pc regs → PerformsLent (effect a rd regs lent).calls old full new
+  by_access : (a : Action) (address : ℕ) → course_of a regs.pc ≡ course_by address regs.pc → next ≡ next_pc regs → PerformsLent (effect a rd regs lent).calls old full new
       → Keeps (course_of a regs.pc) old new regs.pc next
-  by_access a address count course goes made = by_test (is_apart address count regs.pc) refl
+  by_access a address course goes made = by_test (is_apart address regs.pc) refl
     where
-      by_test : (b : Bool) → is_apart address count regs.pc ≡ b → Keeps (course_of a regs.pc) old new regs.pc next
+      by_test : (b : Bool) → is_apart address regs.pc ≡ b → Keeps (course_of a regs.pc) old new regs.pc next
       by_test true test =
           let on : course_of a regs.pc ≡ On = course ∙ ap (λ b. cond b On Lost) test in
           subst (λ (c : Course). Keeps c old new regs.pc next) (sym on) (goes, line a (λ lost. apart (sym on ∙ lost)) made)
@@ -205,10 +199,10 @@ module _ (old new : View) (full : Option (ℕ × ℕ)) (regs : Registers) (rd ne
   keeps (action.Link target) steps goes made = line (action.Link target) elsewhere made
   keeps (action.Goto target) steps goes made = line (action.Goto target) elsewhere made
   keeps (action.Load address size extension) steps goes made =
-      by_access (action.Load address size extension) address (count_of size) refl
+      by_access (action.Load address size extension) address refl
       (goes ∙ load_next (denied_at lent (load_at address (count_of size))) address size extension rd regs lent (Load address (count_of size) ∷ []) steps) made
   keeps (action.Store address size value) steps goes made =
-      by_access (action.Store address size value) address (count_of size) refl
+      by_access (action.Store address size value) address refl
       (goes ∙ store_next (denied_at lent (store_at address (count_of size))) address (little_bytes (count_of size) value) regs lent
       (Store address (little_bytes (count_of size) value) ∷ []) steps) made
   keeps action.Next steps goes made = (goes, line action.Next apart made)

@@ -9,7 +9,6 @@ use Rattle.rv_decode.specs.Encodable.{IsEncodable}
 use Rattle.rv_decode.specs.Meaning.{meaning}
 use Rattle.rv_decode.specs.declared.instruction.Instr.{Instr}
 use Rattle.rv_execute.specs.Calls.{Call, Fetch, fetch_at, word_at}
-use Rattle.rv_execute.specs.Execution.{count_of}
 use Rattle.rv_execute.specs.declared.action.Action.{Action}
 use Rattle.rv_execute.specs.declared.action.Action.TheVariants as action
 use Rattle.rv_execute.specs.declared.outcome.Outcome.{Outcome}
@@ -71,17 +70,17 @@ pub data Makes (k n pc : ℕ) (calls : List Call) (old : View) (full : Option (�
   FetchOwed : (rest : List Call) → n ≡ k + 1 → calls ≡ Fetch pc ∷ rest → pc % 4 ≡ 0 → IsFront old.space (pc / PAGE_BYTES) (lists_lent old)
       → PerformsLent rest old full new → Makes k n pc calls old full new
 
--- An access whose page isn't in the list of the line's page, and that lies in one line, leaves the lines in hand.
-abbrev pub is_apart : ℕ → ℕ → ℕ → Bool
-is_apart address count pc = nat_le (address % LINE_BYTES) (LINE_BYTES - count) && not (address / PAGE_BYTES % SETS == pc / PAGE_BYTES % SETS)
+-- An access whose page isn't in the list of the line's page, and that lies in one page, leaves the line in hand.
+abbrev pub is_apart : ℕ → ℕ → Bool
+is_apart address pc = not (address / PAGE_BYTES % SETS == pc / PAGE_BYTES % SETS) && nat_le (address % PAGE_BYTES) (PAGE_BYTES - 8)
 
 -- What follows an instruction at an address, by what it does.
-abbrev pub course_by : ℕ → ℕ → ℕ → Course
-course_by address count pc = if is_apart address count pc then On else Lost
+abbrev pub course_by : ℕ → ℕ → Course
+course_by address pc = if is_apart address pc then On else Lost
 
 abbrev pub course_of : Action → ℕ → Course
-course_of (action.Load address size extension) pc = course_by address (count_of size) pc
-course_of (action.Store address size value) pc = course_by address (count_of size) pc
+course_of (action.Load address size extension) pc = course_by address pc
+course_of (action.Store address size value) pc = course_by address pc
 course_of (action.Write value) pc = On
 course_of (action.Link target) pc = Elsewhere
 course_of (action.Goto target) pc = Elsewhere

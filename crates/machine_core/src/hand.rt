@@ -1,8 +1,7 @@
 //! The lines that instructions are taken from, decoded.
 
-ghost use Rattle.std.specs.Prelude.{◌≡◌, ℕ, ◌/◌, ◌%◌, ◌<◌, ◌≤◌, [], true};
+ghost use Rattle.std.specs.Prelude.{◌≡◌, ℕ, ◌/◌, ◌%◌, ◌<◌, [], true};
 ghost use Rattle.sizes.specs.declared.TheConstants.{LINE_BYTES, PAGE_BYTES, PAGE_LINES};
-ghost use Rattle.rv_execute.specs.Execution.{count_of};
 ghost use Rattle.machine_core.specs.Access.{IsSameLoan, lists_lent, spaces_lent};
 ghost use Rattle.machine_core.specs.Ahead.{ahead};
 ghost use Rattle.machine_core.specs.Held.{IsInHand, IsTaken, IsTurned, course_by, course_of, is_apart};
@@ -11,7 +10,7 @@ use crate::view::View;
 use decoded_lines::DecodedLines;
 use overlay_bits::Bits;
 use overlay_memory::OverlayMemory;
-use rv_execute::{Action, Size};
+use rv_execute::Action;
 use sizes::{LINE_BYTES, PAGE_BYTES, PAGE_LINES};
 use translation_cache::SETS;
 
@@ -35,51 +34,35 @@ pub(crate) enum Course {
     Lost,
 }
 
-/// Whether an access of so many bytes lies in one line, in a page of another list of translations than that of pc.
-#[inline(always)]
-fn is_apart(address: u64, count: u64, pc: u64) -> bool
-    requires { count ≤ 8 }
-    ensures { result ≡ is_apart address count pc }
+/// Whether an access of at most 8 bytes lies in one page, of another list of translations than that of pc.
+#[inline]
+fn is_apart(address: u64, pc: u64) -> bool
+    ensures { result ≡ is_apart address pc }
 {
-    address % LINE_BYTES as u64 <= LINE_BYTES as u64 - count
-        && address / PAGE_BYTES as u64 % SETS as u64 != pc / PAGE_BYTES as u64 % SETS as u64
+    address / PAGE_BYTES as u64 % SETS as u64 != pc / PAGE_BYTES as u64 % SETS as u64
+        && address % PAGE_BYTES as u64 <= PAGE_BYTES as u64 - 8
 }
 
 /// What follows an access of the instruction at pc.
-#[inline(always)]
-fn course_by(address: u64, count: u64, pc: u64) -> Course
-    requires { count ≤ 8 }
-    ensures { result ≡ course_by address count pc }
+#[inline]
+fn course_by(address: u64, pc: u64) -> Course
+    ensures { result ≡ course_by address pc }
 {
-    if is_apart(address, count, pc) {
+    if is_apart(address, pc) {
         Course::On
     } else {
         Course::Lost
     }
 }
 
-/// How many bytes a size has.
-#[inline(always)]
-fn count_of(size: Size) -> u64
-    ensures count { result ≡ count_of size }
-    ensures few { result ≤ 8 }
-{
-    match size {
-        Size::Byte => 1,
-        Size::Half => 2,
-        Size::Word => 4,
-        Size::Double => 8,
-    }
-}
-
 /// What follows an action of the instruction at pc.
-#[inline(always)]
+#[inline]
 pub(crate) fn course_of(action: &Action, pc: u64) -> Course
     ensures { result ≡ course_of action.now pc }
 {
     match *action {
-        Action::Load(address, size, _) => course_by(address, count_of(size), pc),
-        Action::Store(address, size, _) => course_by(address, count_of(size), pc),
+        Action::Load(address, _, _) => course_by(address, pc),
+        Action::Store(address, _, _) => course_by(address, pc),
         Action::Write(_) => Course::On,
         Action::Next => Course::On,
         Action::Link(_) => Course::Elsewhere,
