@@ -1,8 +1,10 @@
-use Rattle.std.proofs.Common.{◌≡◌, ℕ, ◌+◌, ◌-◌, ◌≤◌, List, [], ◌∷◌, length, sym, ap, ◌∙◌, refl, arith}
-use Rattle.std.specs.Prelude.{Err}
+use Rattle.std.proofs.Common.{◌≡◌, ℕ, zero, suc, ◌+◌, ◌-◌, ◌*◌, ◌/◌, ◌%◌, ◌≤◌, Bool, true, false, List, [], ◌∷◌, length, Some, sym, ap, subst, ◌∙◌, refl, arith}
+use Rattle.std.specs.Prelude.{Result, Ok, Err}
 use Rattle.std.specs.FinMap.{get}
-use Rattle.ovl_io.specs.Memory.{with_bytes}
-use Rattle.ovl_io.specs.MemoryLaws.{access_front}
+use Rattle.sizes.specs.declared.TheConstants.{LINE_BYTES, PAGE_BYTES}
+use Rattle.ovl_io.specs.Memory.{Memory, first_denied, with_bytes}
+use Rattle.ovl_io.specs.MemoryLaws.{access_front, all_allowed, first_refused}
+use Rattle.ovl_io.specs.PageBytes.{page_allows}
 use Rattle.ovl_io.specs.Permissions.{writable}
 use Rattle.ledger.specs.Ledger.{Ledger}
 use Rattle.ledger.specs.Touched.{touched}
@@ -13,8 +15,8 @@ use Rattle.overlay_pages.specs.View.{MemoryView, state_of}
 use Rattle.overlay_memory.specs.declared.error.MemoryError.{MemoryError}
 use Rattle.overlay_memory.specs.declared.error.MemoryError.TheVariants.{Unmapped, Forbidden, Full}
 use Rattle.overlay_memory.specs.declared.error.Shortage.{Shortage}
-use Rattle.overlay_memory.specs.Access.{IsAllowed, IsStored, Reads, Stores, stored_books}
-use Rattle.overlay_memory.specs.Pieces.{IsFilled}
+use Rattle.overlay_memory.specs.Access.{IsAllowed, IsForbiddenAt, IsStored, IsUnmappedAt, Reads, Stores, stored_books}
+use Rattle.overlay_memory.specs.Pieces.{IsFilled, came_of, result_at}
 use Rattle.overlay_memory.specs.Room.{IsShort}
 use Rattle.overlay_memory.specs.StateMemory.{beside_both}
 use Rattle.overlay_memory.proofs.Bringing.{HasBrought}
@@ -89,3 +91,26 @@ pub full_store : (view : MemoryView) (s address rise : ℕ) (bytes : List ℕ) (
     → Stores view view s address bytes (Err (Full shortage.needed shortage.limit))
 full_store view s address rise bytes shortage may is short =
     (may, record { needed_is = short.needed_is ∙ sym is; limit_is = short.limit_is; over = short.over; kept = refl })
+
+-- An access in one page fails at its first byte.
+fails_first : (memory : Memory) (need q address n at : ℕ) (b : Bool) → page_allows memory need q ≡ b → address / PAGE_BYTES ≡ q
+    → address + n ≤ PAGE_BYTES * q + PAGE_BYTES → first_denied memory need address n ≡ Some at → at ≡ address
+fails_first memory need q address zero at b is here high h = absurd cc
+fails_first memory need q address (suc n) at true is here high h =
+    let none = all_allowed memory need q address (suc n) is (omega (arith, here)) high in absurd cc
+fails_first memory need q address (suc n) at false is here high h =
+    let first = first_refused memory need q address (suc n) is here (omega arith) in cc
+
+first_fails : (v : State) (s address n at : ℕ) → address % LINE_BYTES + n ≤ LINE_BYTES → first_denied (memory_of v s) writable address n ≡ Some at → at ≡ address
+first_fails v s address n at fits is =
+    fails_first (memory_of v s) writable (address / 4096) address n at (page_allows (memory_of v s) writable (address / 4096)) refl refl (omega (arith, fits)) is
+
+-- so of a store whose bytes lie in one line no more than what came of it need be said
+pub told_store : (old new : MemoryView) (s address : ℕ) (bytes : List ℕ) (r : Result (Unit {0}) MemoryError) → address % LINE_BYTES + length bytes ≤ LINE_BYTES
+    → Stores old new s address bytes r → Stores old new s address bytes (result_at address (came_of r))
+told_store old new s address bytes (Ok done) fits h = h
+told_store old new s address bytes (Err (Unmapped at)) fits h =
+    (subst (λ a. IsUnmappedAt (state_of old) s writable address (length bytes) a) (first_fails (state_of old) s address (length bytes) at fits h.0.first) h.0, h.1)
+told_store old new s address bytes (Err (Forbidden at)) fits h =
+    (subst (λ a. IsForbiddenAt (state_of old) s writable address (length bytes) a) (first_fails (state_of old) s address (length bytes) at fits h.0.first) h.0, h.1)
+told_store old new s address bytes (Err (Full needed limit)) fits h = h

@@ -12,6 +12,8 @@ use Rattle.overlay_pages.specs.declared.spots.FoundLine.{FoundLine}
 use Rattle.overlay_memory.specs.Access.{IsFoundIn, IsUntouched}
 use Rattle.overlay_memory.specs.declared.error.MemoryError.{MemoryError}
 use Rattle.overlay_memory.specs.declared.error.MemoryError.TheVariants.{Unmapped, Forbidden, Full}
+use Rattle.overlay_memory.specs.declared.error.Came.{Came}
+use Rattle.overlay_memory.specs.declared.error.Came.TheVariants as came
 use Rattle.space_maps.specs.Spaces.{cut_space, holds_space, of_pages, page_in, put_space, space_in}
 
 -- What reads and stores come to, piece by piece.
@@ -34,6 +36,19 @@ Permits view space need address (Ok done) = IsPermitted view space need address
 Permits view space need address (Err (Unmapped at)) = (at ≡ address) × (page_in (state_of view) space (address / PAGE_BYTES) ≡ None)
 Permits view space need address (Err (Forbidden at)) = (at ≡ address) × IsLacking view space need address
 Permits view space need address (Err (Full needed limit)) = ⊥
+
+-- the result of an access to bytes of one line, of which that came, and what came of one with a result
+abbrev pub result_at : ℕ → Came → Result (Unit {0}) MemoryError
+result_at address came.Done = Ok tt
+result_at address came.Unmapped = Err (Unmapped address)
+result_at address came.Forbidden = Err (Forbidden address)
+result_at address (came.Full needed limit) = Err (Full needed limit)
+
+abbrev pub came_of : Result (Unit {0}) MemoryError → Came
+came_of (Ok done) = came.Done
+came_of (Err (Unmapped at)) = came.Unmapped
+came_of (Err (Forbidden at)) = came.Forbidden
+came_of (Err (Full needed limit)) = came.Full needed limit
 
 -- the line with the byte at an address was found, which may be used so; or why it may not
 pub record IsFoundFor (view : MemoryView) (space need address : ℕ) (found : FoundLine) : Type 0 where

@@ -28,7 +28,7 @@ ghost use Rattle.translation_cache.specs.Formed.{IsFormed};
 ghost use Rattle.translation_cache.specs.Translations.{flushed, no_translations, with_hits};
 ghost use Rattle.overlay_memory.specs.contracts.memory.OverlayMemory.{the_row};
 
-use crate::error::{MemoryError, Shortage, SpaceError};
+use crate::error::{MemoryError, Shortage, SpaceError, result_at};
 use crate::fronts::Fronts;
 use crate::reading::{is_in_line, line_of, load_line, read_bytes};
 use crate::removing::{remove_pages, unmap_pages};
@@ -268,7 +268,7 @@ impl OverlayMemory {
             ≡ after_access self.old space (access_at need.0 address (length into.old)) }
     {
         if is_in_line(address, into.len()) {
-            return load_line(
+            let came = load_line(
                 &self.pages,
                 &mut self.cache,
                 &mut self.fronts,
@@ -277,6 +277,7 @@ impl OverlayMemory {
                 into,
                 need,
             );
+            return result_at(address, came);
         }
         translate_access(
             &self.pages,
@@ -327,7 +328,7 @@ impl OverlayMemory {
             ≡ after_access self.old space (access_at writable address (length bytes.now)) }
     {
         if is_in_line(address, bytes.len()) {
-            return store_line(
+            let came = store_line(
                 &mut self.pages,
                 &mut self.cache,
                 &mut self.fronts,
@@ -335,6 +336,7 @@ impl OverlayMemory {
                 address,
                 bytes,
             );
+            return result_at(address, came);
         }
         translate_access(
             &self.pages,

@@ -7,12 +7,12 @@ ghost use Rattle.overlay_pages.specs.State.{memory_of};
 ghost use Rattle.overlay_pages.specs.View.{IsJoined, state_of};
 ghost use Rattle.overlay_memory.specs.Access.{FindsIn, IsFoundIn, Reads};
 ghost use Rattle.overlay_memory.specs.Fronts.{AreFronts};
-ghost use Rattle.overlay_memory.specs.Pieces.{Finds, Permits};
+ghost use Rattle.overlay_memory.specs.Pieces.{Finds, Permits, result_at};
 ghost use Rattle.overlay_memory.specs.View.{AreTrue};
 ghost use Rattle.translation_cache.specs.Bare.{bare};
 ghost use Rattle.translation_cache.specs.Counted.{translated};
 
-use crate::error::MemoryError;
+use crate::error::{Came, MemoryError, result_at};
 use crate::fronts::Fronts;
 use crate::translating::translate_anew;
 use bitflags::Flags;
@@ -90,23 +90,24 @@ pub(crate) fn read_found(
     address: u64,
     into: &mut [u8],
     need: Perms,
-) -> Result<(), MemoryError>
+) -> Came
     requires found { IsFoundIn pages.now found.space address found }
     requires some { 0 < length into.old }
     requires one_line { address % LINE_BYTES + length into.old ≤ LINE_BYTES }
-    ensures access { Reads (state_of pages.now) found.space need.0 address (length into.old) result }
-    ensures bytes { OnOk result (into.new
+    ensures access { Reads (state_of pages.now) found.space need.0 address (length into.old)
+        (result_at address result) }
+    ensures bytes { OnOk (result_at address result) (into.new
         ≡ bytes_at (memory_of (state_of pages.now) found.space) address (length into.old)) }
     ensures kept { length into.new ≡ length into.old }
-    ensures low { OnOk result (address < ADDRESS_END) }
+    ensures low { OnOk (result_at address result) (address < ADDRESS_END) }
 {
     let at = (address % LINE_BYTES as u64) as usize;
     let bytes = pages.line_at(found);
     if found.perms.contains(need) {
         into.copy_from_slice(&bytes[at..at + into.len()]);
-        Ok(())
+        Came::Done
     } else {
-        Err(MemoryError::Forbidden(address))
+        Came::Forbidden
     }
 }
 
@@ -127,12 +128,13 @@ fn read_line(
     ensures low { OnOk result (address < ADDRESS_END) }
 {
     match find_line(pages, space, address) {
-        Some(found) => read_found(pages, found, address, into, need),
+        Some(found) => result_at(address, read_found(pages, found, address, into, need)),
         None => Err(MemoryError::Unmapped(address)),
     }
 }
 
 /// Fills `into` with the bytes from an address on, line by line.
+#[cold]
 #[inline(never)]
 fn read_lines(
     pages: &OverlayPages,
@@ -179,6 +181,7 @@ pub(crate) fn read_bytes(
 }
 
 /// As `load_line`, of a page that isn't known to be at the front of its list.
+#[cold]
 #[inline(never)]
 fn load_anew(
     pages: &OverlayPages,
@@ -188,13 +191,14 @@ fn load_anew(
     address: u64,
     into: &mut [u8],
     need: Perms,
-) -> Result<(), MemoryError>
+) -> Came
     requires some { 0 < length into.old }
     requires one_line { address % LINE_BYTES + length into.old ≤ LINE_BYTES }
     requires held { AreTrue (state_of pages.now) cache.old }
     requires fronts { AreFronts pages.now (bare cache.old) fronts.old }
-    ensures access { Reads (state_of pages.now) space need.0 address (length into.old) result }
-    ensures bytes { OnOk result (into.new
+    ensures access { Reads (state_of pages.now) space need.0 address (length into.old)
+        (result_at address result) }
+    ensures bytes { OnOk (result_at address result) (into.new
         ≡ bytes_at (memory_of (state_of pages.now) space) address (length into.old)) }
     ensures kept { length into.new ≡ length into.old }
     ensures translated { bare cache.new
@@ -204,7 +208,7 @@ fn load_anew(
 {
     match translate_anew(pages, cache, fronts, space, address / PAGE_BYTES as u64) {
         Some(page) => read_found(pages, page.line(line_of(address)), address, into, need),
-        None => Err(MemoryError::Unmapped(address)),
+        None => Came::Unmapped,
     }
 }
 
@@ -218,13 +222,14 @@ pub(crate) fn load_line(
     address: u64,
     into: &mut [u8],
     need: Perms,
-) -> Result<(), MemoryError>
+) -> Came
     requires some { 0 < length into.old }
     requires one_line { address % LINE_BYTES + length into.old ≤ LINE_BYTES }
     requires held { AreTrue (state_of pages.now) cache.old }
     requires fronts { AreFronts pages.now (bare cache.old) fronts.old }
-    ensures access { Reads (state_of pages.now) space need.0 address (length into.old) result }
-    ensures bytes { OnOk result (into.new
+    ensures access { Reads (state_of pages.now) space need.0 address (length into.old)
+        (result_at address result) }
+    ensures bytes { OnOk (result_at address result) (into.new
         ≡ bytes_at (memory_of (state_of pages.now) space) address (length into.old)) }
     ensures kept { length into.new ≡ length into.old }
     ensures translated { bare cache.new

@@ -9,13 +9,13 @@ ghost use Rattle.overlay_pages.specs.View.{IsJoined, state_of};
 ghost use Rattle.overlay_pages.specs.Spots.{IsFound, IsFoundPageAt};
 ghost use Rattle.overlay_memory.specs.Access.{Stores};
 ghost use Rattle.overlay_memory.specs.Fronts.{AreFronts};
-ghost use Rattle.overlay_memory.specs.Pieces.{AreWritable, IsFilled, Permits, lines_under};
+ghost use Rattle.overlay_memory.specs.Pieces.{AreWritable, IsFilled, Permits, lines_under, result_at};
 ghost use Rattle.overlay_memory.specs.View.{AreTrue};
 ghost use Rattle.space_maps.specs.Spaces.{page_in};
 ghost use Rattle.translation_cache.specs.Bare.{bare};
 ghost use Rattle.translation_cache.specs.Counted.{translated};
 
-use crate::error::MemoryError;
+use crate::error::{Came, MemoryError, came_of};
 use crate::fronts::Fronts;
 use crate::reading::{line_of, permit};
 use crate::room::shortage_by;
@@ -171,6 +171,7 @@ fn write_in_two(
 }
 
 /// Stores at most as many bytes as a page has.
+#[cold]
 #[inline(never)]
 pub(crate) fn write_pages(
     pages: &mut OverlayPages,
@@ -197,6 +198,29 @@ pub(crate) fn write_pages(
     }
 }
 
+/// Stores bytes, some and all in one line, of a page of which nothing need be known. Nothing is known of any list then.
+#[cold]
+#[inline(never)]
+fn store_apart(
+    pages: &mut OverlayPages,
+    cache: &mut Cache,
+    fronts: &mut Fronts,
+    space: u16,
+    address: u64,
+    bytes: &[u8],
+) -> Came
+    requires some { 0 < length bytes.now }
+    requires one_line { address % LINE_BYTES + length bytes.now ≤ LINE_BYTES }
+    requires held { AreTrue (state_of pages.old) cache.old }
+    ensures stores { Stores pages.old pages.new space address bytes.now (result_at address result) }
+    ensures held { AreTrue (state_of pages.new) cache.new }
+    ensures lists { bare cache.new ≡ bare cache.old }
+    ensures fronts { AreFronts pages.new (bare cache.new) fronts.new }
+{
+    fronts.clear();
+    came_of(write_in_page(pages, cache, space, address, bytes))
+}
+
 /// Stores bytes, some and all in one line of a page that was found. Where that can be written it takes no units.
 #[inline(always)]
 fn store_found(
@@ -207,13 +231,13 @@ fn store_found(
     page: FoundPage,
     address: u64,
     bytes: &[u8],
-) -> Result<(), MemoryError>
+) -> Came
     requires found { IsFoundPageAt pages.old space (address / PAGE_BYTES) page }
     requires some { 0 < length bytes.now }
     requires one_line { address % LINE_BYTES + length bytes.now ≤ LINE_BYTES }
     requires held { AreTrue (state_of pages.old) cache.old }
     requires fronts { AreFronts pages.old (bare cache.old) fronts.old }
-    ensures stores { Stores pages.old pages.new space address bytes.now result }
+    ensures stores { Stores pages.old pages.new space address bytes.now (result_at address result) }
     ensures held { AreTrue (state_of pages.new) cache.new }
     ensures lists { bare cache.new ≡ bare cache.old }
     ensures fronts { AreFronts pages.new (bare cache.new) fronts.new }
@@ -226,13 +250,13 @@ fn store_found(
             (address % LINE_BYTES as u64) as usize,
             bytes,
         );
-        return Ok(());
+        return Came::Done;
     }
-    fronts.clear();
-    write_pages(pages, cache, space, address, bytes)
+    store_apart(pages, cache, fronts, space, address, bytes)
 }
 
 /// As `store_line`, of a page that isn't known to be at the front of its list.
+#[cold]
 #[inline(never)]
 fn store_anew(
     pages: &mut OverlayPages,
@@ -241,12 +265,12 @@ fn store_anew(
     space: u16,
     address: u64,
     bytes: &[u8],
-) -> Result<(), MemoryError>
+) -> Came
     requires some { 0 < length bytes.now }
     requires one_line { address % LINE_BYTES + length bytes.now ≤ LINE_BYTES }
     requires held { AreTrue (state_of pages.old) cache.old }
     requires fronts { AreFronts pages.old (bare cache.old) fronts.old }
-    ensures stores { Stores pages.old pages.new space address bytes.now result }
+    ensures stores { Stores pages.old pages.new space address bytes.now (result_at address result) }
     ensures held { AreTrue (state_of pages.new) cache.new }
     ensures translated { bare cache.new
         ≡ translated space (memory_of (state_of pages.old) space) (address / PAGE_BYTES) (bare cache.old) }
@@ -254,10 +278,7 @@ fn store_anew(
 {
     match translate_anew(pages, cache, fronts, space, address / PAGE_BYTES as u64) {
         Some(page) => store_found(pages, cache, fronts, space, page, address, bytes),
-        None => {
-            fronts.clear();
-            write_pages(pages, cache, space, address, bytes)
-        }
+        None => store_apart(pages, cache, fronts, space, address, bytes),
     }
 }
 
@@ -270,12 +291,12 @@ pub(crate) fn store_line(
     space: u16,
     address: u64,
     bytes: &[u8],
-) -> Result<(), MemoryError>
+) -> Came
     requires some { 0 < length bytes.now }
     requires one_line { address % LINE_BYTES + length bytes.now ≤ LINE_BYTES }
     requires held { AreTrue (state_of pages.old) cache.old }
     requires fronts { AreFronts pages.old (bare cache.old) fronts.old }
-    ensures stores { Stores pages.old pages.new space address bytes.now result }
+    ensures stores { Stores pages.old pages.new space address bytes.now (result_at address result) }
     ensures held { AreTrue (state_of pages.new) cache.new }
     ensures translated { bare cache.new
         ≡ translated space (memory_of (state_of pages.old) space) (address / PAGE_BYTES) (bare cache.old) }

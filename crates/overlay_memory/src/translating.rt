@@ -148,6 +148,7 @@ fn translate_for(
 }
 
 /// Translates the pages of an access, up to the first that isn't there or lacks the need.
+#[cold]
 #[inline(never)]
 pub(crate) fn translate_access(
     pages: &OverlayPages,

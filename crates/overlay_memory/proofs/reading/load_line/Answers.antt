@@ -2,6 +2,7 @@ use Rattle.std.proofs.Common.{◌≡◌, ◌/◌, length, subst, ap, ◌∙◌}
 use Rattle.std.specs.Prelude.{OnOk}
 use Rattle.ovl_io.specs.Memory.{bytes_at}
 use Rattle.overlay_memory.specs.Access.{Reads}
+use Rattle.overlay_memory.specs.Pieces.{result_at}
 use Rattle.overlay_memory.proofs.Fronting.{hits_fronts, hits_true, known_found, known_translated, line_found, line_space}
 use Rattle.overlay_memory.proofs.reading.load_line.Goals as goal
 use Rattle.overlay_pages.specs.State.{memory_of}
@@ -16,7 +17,7 @@ read_found-requires-clause-found c =
 pub returns-in-Some-clause-access : goal.returns-in-Some-clause-access
 returns-in-Some-clause-access c =
     let at = known_found c.args.pages.now c.args.space (c.args.address / 4096) c.in-Some.page.now (bare c.args.cache.now) c.args.fronts.now c.requires.fronts c.in-Some.ensures in
-    subst (λ s. Reads (state_of c.args.pages.now) s c.args.need.0 c.args.address (length c.args.into.now) c.read_found.result)
+    subst (λ s. Reads (state_of c.args.pages.now) s c.args.need.0 c.args.address (length c.args.into.now) (result_at c.args.address c.read_found.result))
     (line_space c.args.pages.now c.args.space c.args.address c.line_of.result c.in-Some.page.now c.line.result at c.line_of.ensures.line
     (c.line.ensures c.args.pages.now at.is))
     c.read_found.ensures.access
@@ -24,7 +25,7 @@ returns-in-Some-clause-access c =
 pub returns-in-Some-clause-bytes : goal.returns-in-Some-clause-bytes
 returns-in-Some-clause-bytes c =
     let at = known_found c.args.pages.now c.args.space (c.args.address / 4096) c.in-Some.page.now (bare c.args.cache.now) c.args.fronts.now c.requires.fronts c.in-Some.ensures in
-    subst (λ s. OnOk c.read_found.result (c.read_found.new.into ≡ bytes_at (memory_of (state_of c.args.pages.now) s) c.args.address (length c.args.into.now)))
+    subst (λ s. OnOk (result_at c.args.address c.read_found.result) (c.read_found.new.into ≡ bytes_at (memory_of (state_of c.args.pages.now) s) c.args.address (length c.args.into.now)))
     (line_space c.args.pages.now c.args.space c.args.address c.line_of.result c.in-Some.page.now c.line.result at c.line_of.ensures.line
     (c.line.ensures c.args.pages.now at.is))
     c.read_found.ensures.bytes

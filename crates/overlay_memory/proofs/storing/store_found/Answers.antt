@@ -4,7 +4,7 @@ use Rattle.overlay_pages.specs.View.{state_of}
 use Rattle.overlay_pages.specs.Changes.{is_writable}
 use Rattle.overlay_pages.specs.SpotLaws.{found_at}
 use Rattle.overlay_memory.specs.Pieces.{IsFilled}
-use Rattle.overlay_memory.proofs.Fronting.{at_address, filled_fronts, line_there, may_be_used, none_known}
+use Rattle.overlay_memory.proofs.Fronting.{at_address, filled_fronts, line_there, may_be_used}
 use Rattle.overlay_memory.proofs.InOne.{stored_in_line}
 use Rattle.overlay_memory.proofs.Truths.{filled_true}
 use Rattle.overlay_memory.proofs.storing.store_found.Goals as goal
@@ -36,9 +36,6 @@ returns-then-is_writable-clause-held c =
 pub returns-then-is_writable-clause-fronts : goal.returns-then-is_writable-clause-fronts
 returns-then-is_writable-clause-fronts c =
     filled_fronts c.args.pages.now c.put.new.pages (bare c.args.cache.now) c.args.fronts.now c.put.ensures.table c.requires.fronts
-
-pub returns-clause-fronts : goal.returns-clause-fronts
-returns-clause-fronts c = none_known _ _ _ c.clear.ensures
 
 pub put-requires-clause-found : goal.put-requires-clause-found
 put-requires-clause-found c = (c.line.ensures c.args.pages.now c.requires.found.is).is

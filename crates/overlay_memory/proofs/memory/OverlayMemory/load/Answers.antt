@@ -11,7 +11,7 @@ returns-then-is_in_line-clause-translations c =
     let n = length c.args.into.now in
     let fits = c.is_in_line.ensures c.if-is_in_line.true in
     counted_in_page c.args.space c.args.need.0 c.args.address n (c.args.address / 4096) (memory_of (state_of c.self.inside.pages) c.args.space)
-    (bare c.self.inside.cache) (bare c.load_line.new.cache) fits.0 fits.1 refl c.load_line.ensures.translated
+    (bare c.self.inside.cache) (bare c.load_line-came.new.cache) fits.0 fits.1 refl c.load_line-came.ensures.translated
     ∙ ap (λ m. after_access m c.args.space (access_at c.args.need.0 c.args.address n)) c.self.view_is
 
 pub returns-clause-translations : goal.returns-clause-translations

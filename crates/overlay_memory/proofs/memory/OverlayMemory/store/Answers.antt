@@ -2,6 +2,7 @@ use Rattle.std.proofs.Common.{◌/◌, length, refl, ap, ◌∙◌}
 use Rattle.ovl_io.specs.Permissions.{writable}
 use Rattle.overlay_pages.specs.State.{memory_of}
 use Rattle.overlay_pages.specs.View.{state_of}
+use Rattle.overlay_memory.specs.Pieces.{result_at}
 use Rattle.overlay_memory.specs.Translated.{access_at, after_access}
 use Rattle.overlay_memory.proofs.Counting.{counted_in_page, counted_is}
 use Rattle.overlay_memory.proofs.Fronting.{none_known}
@@ -11,9 +12,9 @@ use Rattle.overlay_memory.proofs.memory.OverlayMemory.store.Goals as goal
 
 pub invariant_of-self : goal.invariant_of-self
 invariant_of-self c = (
-  stored_translated c.self.inside.pages c.store_line.new.pages c.args.space c.args.address c.args.bytes.now c.store_line.result c.store_line.new.cache
-      c.store_line.ensures.stores c.store_line.ensures.held c.self.invariant.0.apart,
-  c.store_line.ensures.fronts,
+  stored_translated c.self.inside.pages c.store_line-came.new.pages c.args.space c.args.address c.args.bytes.now (result_at c.args.address c.store_line-came.result) c.store_line-came.new.cache
+      c.store_line-came.ensures.stores c.store_line-came.ensures.held c.self.invariant.0.apart,
+  c.store_line-came.ensures.fronts,
 )
 
 pub invariant_of-self-2 : goal.invariant_of-self-2
@@ -28,7 +29,7 @@ returns-then-is_in_line-clause-translations c =
     let n = length c.args.bytes.now in
     let fits = c.is_in_line.ensures c.if-is_in_line.true in
     counted_in_page c.args.space writable c.args.address n (c.args.address / 4096) (memory_of (state_of c.self.inside.pages) c.args.space)
-    (bare c.self.inside.cache) (bare c.store_line.new.cache) fits.0 fits.1 refl c.store_line.ensures.translated
+    (bare c.self.inside.cache) (bare c.store_line-came.new.cache) fits.0 fits.1 refl c.store_line-came.ensures.translated
     ∙ ap (λ m. after_access m c.args.space (access_at writable c.args.address n)) c.self.view_is
 
 pub returns-clause-translations : goal.returns-clause-translations
