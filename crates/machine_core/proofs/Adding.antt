@@ -1,16 +1,17 @@
-use Rattle.std.proofs.Common.{◌≡◌, ℕ, ◌+◌, Bool, true, false, cond, ◌||◌, List, [], ◌∷◌, ◌++◌, length, map, nat_eq, replicate, sym, ap, subst, ◌∙◌, refl, arith, Option, Some, None}
+use Rattle.std.proofs.Common.{◌≡◌, ℕ, zero, suc, ◌+◌, ◌<◌, Bool, true, false, cond, ◌||◌, List, [], ◌∷◌, ◌++◌, length, map, nat_eq, replicate, sym, ap, subst, ◌∙◌, refl, arith, Option, Some, None}
 use Rattle.std.specs.Option.{is_some}
-use Rattle.std.specs.List.{fold, list_any}
+use Rattle.std.specs.List.{fold, list_any, range_with_len}
 use Rattle.std.specs.Ordering.{nat_cmp, is_eq}
 use Rattle.std.specs.Cmp.{nat_cmp_total}
 use Rattle.std.specs.FinMap.{empty, get, insert, len, len-insert, get-insert}
-use Rattle.std.proofs.lemmas.List.{length-append, map-append}
+use Rattle.std.proofs.lemmas.List.{append-nil, append_assoc, length-append, map-append}
 use Rattle.std.proofs.lemmas.List.Sums.{fold-append}
 use Rattle.number_maps.specs.Keys.{get_other, get_same, tied}
 use Rattle.number_maps.specs.Views.{viewed, viewed_put}
 use Rattle.ovl_io.specs.Memory.{Memory, Page}
 use Rattle.ovl_io.specs.declared.perms.Perms.{Perms}
-use Rattle.elf_loader.specs.Image.{is_stored, page_bytes}
+use Rattle.elf_loader.specs.Fields.{loads_of}
+use Rattle.elf_loader.specs.Image.{image_page, is_stored, page_bytes, perms_in}
 use Rattle.elf_loader.specs.TakenLaws.{zero_bytes}
 use Rattle.page_table.specs.declared.entry.PageEntry.{PageEntry}
 use Rattle.ledger.specs.Ledger.{Ledger, with_page}
@@ -23,7 +24,7 @@ use Rattle.overlay_pages.specs.Changes.{IsPlaced, whole_page, with_zeros}
 use Rattle.overlay_pages.specs.Lines.{lines_of_bytes, zero_page}
 use Rattle.overlay_pages.specs.State.{PageState, SpaceState, State, books, held_page, memory_of, seen_page}
 use Rattle.space_maps.specs.Books.{books_put_page}
-use Rattle.space_maps.specs.Laws.{page_of, space_put}
+use Rattle.space_maps.specs.Laws.{page_of, page_put_beside, space_put}
 use Rattle.space_maps.specs.Spaces.{holds_space, of_pages, page_in, put_page, put_pages, put_space, space_in}
 use Rattle.machine_core.specs.Load.{zero_content}
 use Rattle.overlay_memory.specs.View.{TranslatedView, translations_of}
@@ -73,16 +74,13 @@ zero_added old new p page perms is =
           subst (λ (l : Ledger). AreAlike (with_page ledger p page (without_own 0)) l) (sym now) (loaded_zero ledger (books old) alike p page);
     }
 
--- the same of a page of an image that isn't stored
-pub unstored_added : (old new : State) (p page : ℕ) (perms : Perms) (file : List ℕ) (stored : Bool) → stored ≡ false → stored ≡ is_stored file page
-    → IsAdded old new p page (zero_content perms.0) false → IsAdded old new p page (record { perms = perms.0; bytes = page_bytes file page }) stored
-unstored_added old new p page perms file stored none marked added = record {
-  x = added.x;
-  put = added.put;
-  seen = added.seen ∙ ap (λ n. record { perms = perms.0; bytes = replicate n 0 }) page_length_is
-      ∙ ap (λ bs. record { perms = perms.0; bytes = bs }) (sym (zero_bytes file page (sym marked ∙ none)));
-  alike = λ ledger alike. subst (λ b. AreAlike (one_loaded p ledger (page, b)) (books new)) (sym none) (added.alike ledger alike);
-}
+-- a page of an image that isn't stored
+pub unstored_page : (file : List ℕ) (page perms : ℕ) → is_stored file page ≡ false → perms_in (loads_of file) page ≡ perms
+    → image_page file page ≡ zero_content perms
+unstored_page file page perms none is =
+    ap (λ n. record { perms = n; bytes = page_bytes file page }) is
+    ∙ ap (λ bs. record { perms = perms; bytes = bs }) (zero_bytes file page none)
+    ∙ ap (λ n. record { perms = perms; bytes = replicate n 0 }) (sym page_length_is)
 
 -- What is among a list with one more.
 
@@ -176,6 +174,37 @@ module _ (before now new : State) (p : ℕ) (content : ℕ → Page) (mark : ℕ
         (added.alike (fold (one_loaded p) a (map (λ q. (q, mark q)) pages)) (so_far.ledger a alike));
     rest = open_with p before now new page added.x so_far.rest added.put;
   }
+
+-- zeros, one behind the other
+module _ (before : State) (p : ℕ) (content : ℕ → Page) (mark : ℕ → Bool) (perms : Perms) where
+  pub zeros_added : (n : ℕ) (now new : State) (pages : List ℕ) (page : ℕ) → HasAdded before now p content mark pages
+      → new ≡ with_zeros now p page n (record { perms = perms; frame = now.zero_frame })
+      → ((k : ℕ) → k < n → content (page + k) ≡ zero_content perms.0) → ((k : ℕ) → k < n → mark (page + k) ≡ false)
+      → ((k : ℕ) → k < n → page_in now p (page + k) ≡ None) → HasAdded before new p content mark (pages ++ range_with_len page n)
+  unfolding with_zeros put_pages put_page put_space
+  zeros_added zero now new pages page so_far is zeros marks absent =
+      subst (λ (s : State). HasAdded before s p content mark (pages ++ [])) (sym is)
+      (subst (HasAdded before now p content mark) (sym (append-nil pages)) so_far)
+  zeros_added (suc n) now new pages page so_far is zeros marks absent =
+      let mid : State = put_page now p page (whole_page (record { perms = perms; frame = now.zero_frame }) zero_page) in
+      let first : page + 0 ≡ page = omega arith in
+      let one : IsAdded now mid p page (content page) (mark page) =
+      subst (λ c. IsAdded now mid p page c (mark page)) (sym (sym (ap content first) ∙ zeros 0 (omega arith)))
+      (subst (IsAdded now mid p page (zero_content perms.0)) (sym (sym (ap mark first) ∙ marks 0 (omega arith))) (zero_added now mid p page perms refl)) in
+      let more = added_more before now mid p content mark pages page so_far one (sym (ap (page_in now p) first) ∙ absent 0 (omega arith)) in
+      let up : (k : ℕ) → page + suc k ≡ page + 1 + k = λ k. omega arith in
+      subst (HasAdded before new p content mark) (append_assoc pages (page ∷ []) (range_with_len (page + 1) n))
+      (zeros_added n mid new (pages ++ page ∷ []) (page + 1) more is
+      (λ k below. sym (ap content (up k)) ∙ zeros (suc k) (omega (arith, below)))
+      (λ k below. sym (ap mark (up k)) ∙ marks (suc k) (omega (arith, below)))
+      (λ k below. page_put_beside now p page (whole_page (record { perms = perms; frame = now.zero_frame }) zero_page) p (page + 1 + k) (λ same here. absurd (omega (arith, here)))
+      ∙ sym (ap (page_in now p) (up k)) ∙ absent (suc k) (omega (arith, below))))
+
+-- pages were added, or nothing was done
+pub open_either : (result : Result (Unit {0}) AllocError) (before new : State) (p : ℕ) (content : ℕ → Page) (mark : ℕ → Bool) (pages : List ℕ) → IsOpen p before before
+    → OnOk result (HasAdded before new p content mark pages) → OnErr result (new ≡ before) → IsOpen p before new
+open_either (Ok done) before new p content mark pages itself added kept = added.rest
+open_either (Err error) before new p content mark pages itself added kept = subst (IsOpen p before) (sym kept) itself
 
 -- what is flushed of a space of which nothing was translated
 pub zero_lists : (result : Result (Unit {0}) AllocError) (p : ℕ) (old new : TranslatedView)

@@ -1,28 +1,29 @@
 use Rattle.std.proofs.Common.{◌≡◌, ℕ, ◌+◌, ◌-◌, ◌*◌, ◌<◌, ◌≤◌, zero, suc, Bool, true, false, cond, ◌||◌, List, [], ◌∷◌, ◌++◌, length, map, take, get_or, sym, ap, subst, ◌∙◌, refl, arith, Option, Some, None}
 use Rattle.std.specs.List.{filter, list_any, range_with_len}
 use Rattle.std.specs.Option.{option_map}
-use Rattle.std.specs.Ordering.{nat_cmp}
+use Rattle.std.specs.Ordering.{nat_cmp, is_eq}
 use Rattle.std.specs.FinMap.{get, get-empty, len, len-empty}
-use Rattle.std.proofs.lemmas.List.FromFn.{length-range_with_len}
-use Rattle.std.proofs.lemmas.List.{get_or-map, length-map, length-take-le}
+use Rattle.std.proofs.lemmas.Bool.Decides.{nat_tests}
+use Rattle.std.proofs.lemmas.List.{append-nil, append_assoc, get_or-map, length-map, length-take-le, take_more}
 use Rattle.number_maps.specs.Keys.{differs}
 use Rattle.number_maps.specs.Views.{get_viewed}
 use Rattle.elf_loader.specs.Accepted.{file_refusal}
 use Rattle.elf_loader.specs.Fields.{loads_of}
-use Rattle.elf_loader.specs.Image.{image_page, image_pages, is_stored, listed_page, page_numbers, touches_memory}
+use Rattle.elf_loader.specs.Image.{image_page, image_pages, is_stored, listed_page, page_numbers, perms_in, touches_memory}
 use Rattle.elf_loader.specs.TakenLaws.{few_pages, kept_numbers, low_page}
 use Rattle.elf_loader.specs.declared.image.ImagePage.{ImagePage}
+use Rattle.ovl_io.specs.declared.perms.Perms.{Perms}
 use Rattle.ledger.specs.AlikeLaws.{alike_itself}
 use Rattle.ledger.specs.AlikeUnits.{units_alike}
 use Rattle.ledger.specs.Ledger.{holding_at}
-use Rattle.overlay_pages.specs.Changes.{limit_of, units_of}
+use Rattle.overlay_pages.specs.Changes.{AreAbsent, limit_of, units_of, with_zeros}
 use Rattle.overlay_pages.specs.State.{PageState, SpaceState, State, books, held_page, memory_of, seen_page}
 use Rattle.space_maps.specs.Books.{books_page, books_spaces}
 use Rattle.space_maps.specs.Laws.{page_of}
 use Rattle.space_maps.specs.Spaces.{bare_space, holds_space, page_in, space_in}
-use Rattle.machine_core.specs.Load.{stack_page, stored_pages, zero_content}
-use Rattle.machine_core.specs.Loading.{HasAdded, HasImage, IsAdded, IsReady, is_among}
-use Rattle.machine_core.proofs.Adding.{added_more}
+use Rattle.machine_core.specs.Load.{stack_page, stack_pages, stored_pages, zero_content}
+use Rattle.machine_core.specs.Loading.{AreZeros, HasAdded, HasImage, HasStack, IsOpen, IsReady, is_among, no_page, page_of as page_at_place}
+use Rattle.machine_core.proofs.Adding.{added_none, unstored_page, zeros_added}
 use Rattle.machine_core.proofs.Marks.{units_so_far}
 
 -- What is known of the pages of a file that is taken.
@@ -30,10 +31,6 @@ use Rattle.machine_core.proofs.Marks.{units_so_far}
 -- an image has at most 65,536 pages
 pub few_items : (file : List ℕ) (items : List ImagePage) → file_refusal file ≡ None → items ≡ map (listed_page file) (image_pages file) → length items ≤ 65536
 few_items file items taken same = omega (arith, ap length same, length-map (image_pages file) (listed_page file), few_pages file taken)
-
--- no page, where a list is read past its end
-abbrev pub no_page : ImagePage
-no_page = record { page = 0; perms = record { 0 = 0 }; stored = false }
 
 -- what stands at a place among the pages of an image
 pub page_at : (file : List ℕ) (items : List ImagePage) (i : ℕ) (d : ImagePage) → items ≡ map (listed_page file) (image_pages file) → i < length items
@@ -144,33 +141,106 @@ module _ (file : List ℕ) (p : ℕ) (before now : State) (i : ℕ) (taken : fil
       let limit = ap (λ n. 16 * n) so_far.rest.frames in
       omega (arith, so, same, limit, fits)
 
--- The next page of the stack.
+-- numbers of which none is among more aren't among the first of those
+among_fewer : (xs : List ℕ) (i k q : ℕ) → is_among (take (i + k) xs) q ≡ false → is_among (take i xs) q ≡ false
+among_fewer xs zero k q h = refl
+among_fewer [] (suc i) k q h = refl
+among_fewer (x ∷ xs) (suc i) k q h =
+    let more : suc i + k ≡ suc (i + k) = omega arith in
+    both (is_eq (nat_cmp q x)) (is_among (take (i + k) xs) q) (is_among (take i xs) q) (sym (ap (λ n. is_among (take n (x ∷ xs)) q) more) ∙ h) (among_fewer xs i k q)
+  where
+    both : (b c d : Bool) → (b || c) ≡ false → (c ≡ false → d ≡ false) → (b || d) ≡ false
+    both true c d h on = cc
+    both false c d h on = on h
 
-module _ (p : ℕ) (before now : State) (page : ℕ) (low : 67108848 ≤ page) (high : page < 67108864) (few : len (space_in before p).pages ≤ 65536)
-    (absent : (q : ℕ) → 67108848 ≤ q → page_in before p q ≡ None)
-    (so_far : HasAdded before now p (λ page. stack_page) (λ page. false) (range_with_len 67108848 (page - 67108848))) where
-  pub stack_ready : IsReady now p page
-  stack_ready =
-      record {
-        there = so_far.rest.there;
-        settled = so_far.rest.settled;
-        absent = not_seen now p page (so_far.memory page
-            ∙ ap (λ (b : Bool). cond b (Some stack_page) (get (memory_of before p) page)) (none_above page 67108848 (page - 67108848) (omega (arith, low)))
-            ∙ isnt_seen before p page (absent page low));
-        low = high;
-        few = omega (arith, so_far.count, few, length-range_with_len 67108848 (page - 67108848), high);
-      }
+-- numbers of a list that go up by one
+take_run : (xs : List ℕ) (i from n : ℕ) → i + n ≤ length xs → ((k : ℕ) → k < n → get_or xs (i + k) 0 ≡ from + k)
+    → take (i + n) xs ≡ take i xs ++ range_with_len from n
+take_run xs i from zero fits up =
+    let none : i + 0 ≡ i = omega arith in ap (λ k. take k xs) none ∙ sym (append-nil (take i xs))
+take_run xs i from (suc n) fits up =
+    let more : i + suc n ≡ i + n + 1 = omega arith in
+    let last : suc n ≡ n + 1 = omega arith in
+    ap (λ k. take k xs) more ∙ take_more xs (i + n) 0 (omega (arith, fits))
+    ∙ ap (λ (l : List ℕ). l ++ get_or xs (i + n) 0 ∷ []) (take_run xs i from n (omega (arith, fits)) (λ k below. up k (omega (arith, below))))
+    ∙ ap (λ k. (take i xs ++ range_with_len from n) ++ k ∷ []) (up n (omega arith))
+    ∙ append_assoc (take i xs) (range_with_len from n) ((from + n) ∷ [])
+    ∙ ap (λ (l : List ℕ). take i xs ++ l) (sym (ap (range_with_len from) last ∙ range_more from n))
 
-  pub stack_more : (new : State) (perms : ℕ) → perms ≡ 6 → IsAdded now new p page (zero_content perms) false
-      → HasAdded before new p (λ page. stack_page) (λ page. false) (range_with_len 67108848 (page + 1 - 67108848))
-  stack_more new perms may added =
-      let n = page - 67108848 in
-      let end : 67108848 + n ≡ page = omega (arith, low) in
-      let more : n + 1 ≡ page + 1 - 67108848 = omega (arith, low) in
-      let one = subst (λ k. IsAdded now new p page (zero_content k) false) may added in
-      subst (HasAdded before new p (λ page. stack_page) (λ page. false))
-      (sym (ap (range_with_len 67108848) (sym more) ∙ range_more 67108848 n ∙ ap (λ k. range_with_len 67108848 n ++ k ∷ []) end))
-      (added_more before now new p (λ page. stack_page) (λ page. false) (range_with_len 67108848 n) page so_far one stack_ready.absent)
+-- The next zeros of an image.
+
+module _ (file : List ℕ) (p : ℕ) (before now : State) (items : List ImagePage) (at n : ℕ) (taken : file_refusal file ≡ None) (there : holds_space before p ≡ true)
+    (bare : space_in before p ≡ bare_space) (same : items ≡ map (listed_page file) (image_pages file))
+    (so_far : HasAdded before now p (image_page file) (is_stored file) (take at (image_pages file))) (zeros : AreZeros items at n) where
+  abbrev first : ImagePage
+  first = page_at_place items at
+
+  abbrev pages : List ℕ
+  pages = image_pages file
+
+  as_many : length items ≡ length pages
+  as_many = ap length same ∙ length-map (image_pages file) (listed_page file)
+
+  its_page : (k : ℕ) → k < n → listed_page file (get_or pages (at + k) 0) ≡ record { page = first.page + k; perms = first.perms; stored = false }
+  its_page k below = sym (page_at file items (at + k) no_page same (let fits = zeros.within in omega (arith, below, fits))).1 ∙ zeros.each k below
+
+  goes_up : (k : ℕ) → k < n → get_or pages (at + k) 0 ≡ first.page + k
+  goes_up k below = ap (λ (x : ImagePage). x.page) (its_page k below)
+
+  free : (k : ℕ) → k < n → page_in now p (first.page + k) ≡ None
+  free k below =
+      let q = first.page + k in
+      let fits = zeros.within in
+      let before_it = subst (λ page. is_among (take (at + k) pages) page ≡ false) (goes_up k below) (not_before file (at + k) (omega (arith, below, fits, as_many))) in
+      not_seen now p q (so_far.memory q
+      ∙ ap (λ (b : Bool). cond b (Some (image_page file q)) (get (memory_of before p) q)) (among_fewer pages at k q before_it)
+      ∙ isnt_seen before p q (bare_page before p bare q))
+
+  pub zeros_absent : AreAbsent now p first.page n
+  zeros_absent q inside =
+      let low : first.page ≤ q = grind (arith, nat_tests) in
+      let high : q < first.page + n = grind (arith, nat_tests) in
+      let here : first.page + (q - first.page) ≡ q = omega (arith, low) in
+      sym (ap (page_in now p) here) ∙ free (q - first.page) (omega (arith, low, high))
+
+  pub zeros_low : 0 < n → first.page + n ≤ 67108864
+  zeros_low some =
+      let fits = zeros.within in
+      let last = goes_up (n - 1) (omega (arith, some)) in
+      let low = low_page file (at + (n - 1)) taken (omega (arith, some, fits, as_many)) in omega (arith, last, low, some)
+
+  pub zeros_within : at + n ≤ length pages
+  zeros_within = let fits = zeros.within in omega (arith, fits, as_many)
+
+  pub zeros_few : len (space_in now p).pages + n ≤ 131072
+  zeros_few =
+      let fits = zeros.within in
+      let few = few_pages file taken in
+      let count = length-take-le at pages (omega (arith, fits, as_many)) in
+      omega (arith, so_far.count, bare_count before p bare, count, fits, as_many, few)
+
+  pub zeros_more : (new : State) → new ≡ with_zeros now p first.page n (record { perms = first.perms; frame = now.zero_frame })
+      → HasAdded before new p (image_page file) (is_stored file) (take (at + n) pages)
+  zeros_more new is =
+      let fits = zeros.within in
+      subst (HasAdded before new p (image_page file) (is_stored file)) (sym (take_run pages at first.page n (omega (arith, fits, as_many)) goes_up))
+      (zeros_added before p (image_page file) (is_stored file) first.perms n now new (take at pages) first.page so_far is
+      (λ k below. unstored_page file (first.page + k) first.perms.0 (unstored k below) (may k below)) unstored free)
+    where
+      unstored : (k : ℕ) → k < n → is_stored file (first.page + k) ≡ false
+      unstored k below = sym (ap (is_stored file) (goes_up k below)) ∙ ap (λ (x : ImagePage). x.stored) (its_page k below)
+
+      may : (k : ℕ) → k < n → perms_in (loads_of file) (first.page + k) ≡ first.perms.0
+      may k below = sym (ap (perms_in (loads_of file)) (goes_up k below)) ∙ ap (λ (x : ImagePage). x.perms.0) (its_page k below)
+
+-- The stack.
+
+module _ (p : ℕ) (before new : State) (there : IsOpen p before before) (absent : (q : ℕ) → 67108848 ≤ q → page_in before p q ≡ None) where
+  pub stack_added : (perms : Perms) → perms.0 ≡ 6 → new ≡ with_zeros before p 67108848 16 (record { perms = perms; frame = before.zero_frame }) → HasStack p before new
+  unfolding stack_pages
+  stack_added perms may is =
+      zeros_added before p (λ page. stack_page) (λ page. false) perms 16 before new [] 67108848 (added_none p before (λ page. stack_page) (λ page. false) there) is
+      (λ k below. ap zero_content (sym may)) (λ k below. refl) (λ k below. absent (67108848 + k) (omega arith))
 
 -- no page of the stack is among those of an image
 pub above_all : (q m : ℕ) (ps : List ℕ) → ((i : ℕ) → i < length ps → get_or ps i 0 < m) → m ≤ q → is_among ps q ≡ false

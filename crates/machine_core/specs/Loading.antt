@@ -1,10 +1,11 @@
-use Rattle.std.specs.Prelude.{◌≡◌, ℕ, ◌+◌, ◌<◌, Bool, true, false, cond, if◌then◌else◌, List, length, map, Some, None}
+use Rattle.std.specs.Prelude.{◌≡◌, ℕ, ◌+◌, ◌<◌, ◌≤◌, Bool, true, false, cond, if◌then◌else◌, List, length, get_or, map, Some, None}
 use Rattle.std.specs.List.{fold, list_any}
 use Rattle.std.specs.Ordering.{nat_cmp, is_eq}
 use Rattle.std.specs.FinMap.{empty, get, len}
 use Rattle.sizes.specs.declared.TheConstants.{MOST_SPACE_PAGES, PAGE_END}
 use Rattle.ovl_io.specs.Memory.{Page}
 use Rattle.elf_loader.specs.Image.{image_page, image_pages, is_stored}
+use Rattle.elf_loader.specs.declared.image.ImagePage.{ImagePage}
 use Rattle.ledger.specs.Ledger.{Ledger, with_page}
 use Rattle.ledger.specs.Alike.{AreAlike}
 use Rattle.ledger.specs.Changes.{without_own}
@@ -35,6 +36,19 @@ pub record IsAdded (old new : State) (p page : ℕ) (content : Page) (stored : B
   pub put : new ≡ put_page old p page x
   pub seen : seen_page x ≡ content
   pub alike : (ledger : Ledger) → AreAlike ledger (books old) → AreAlike (one_loaded p ledger (page, stored)) (books new)
+
+-- a page of an image at a place; none past the last one
+abbrev pub no_page : ImagePage
+no_page = record { page = 0; perms = record { 0 = 0 }; stored = false }
+
+abbrev pub page_of : List ImagePage → ℕ → ImagePage
+page_of pages at = get_or pages at no_page
+
+-- so many from a place on are zeros, one behind the other with the same permissions
+pub record AreZeros (pages : List ImagePage) (at n : ℕ) : Type 0 where
+  pub within : at + n ≤ length pages
+  pub each : (k : ℕ) → k < n
+      → page_of pages (at + k) ≡ record { page = (page_of pages at).page + k; perms = (page_of pages at).perms; stored = false }
 
 -- nothing of a space was translated: there is nothing to remove
 abbrev pub IsUnseen : ℕ → BareTranslations → Type 0

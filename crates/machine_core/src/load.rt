@@ -2,21 +2,21 @@
 
 ghost use Rattle.std.specs.Prelude.{◌≡◌, ℕ, ◌+◌, ◌*◌, ◌<◌, ◌≤◌, length, map, Contains, true, false, OnOk, OnErr, None};
 ghost use Rattle.std.specs.FinMap as map;
-ghost use Rattle.sizes.specs.declared.TheConstants.{FRAME_UNITS, LAST_SPACE, MOST_IMAGE_PAGES, STACK_PAGE};
-ghost use Rattle.elf_loader.specs.Image.{IsImageOf, is_stored, page_bytes};
+ghost use Rattle.sizes.specs.declared.TheConstants.{FRAME_UNITS, LAST_SPACE, MOST_IMAGE_PAGES, MOST_SPACE_PAGES, PAGE_END, STACK_PAGE};
+ghost use Rattle.elf_loader.specs.Image.{IsImageOf, page_bytes};
 ghost use Rattle.ledger.specs.Units.{units};
-ghost use Rattle.overlay_pages.specs.Changes.{limit_of, units_of};
+ghost use Rattle.overlay_pages.specs.Changes.{AreAbsent, limit_of, units_of, with_zeros};
 ghost use Rattle.overlay_pages.specs.State.{books};
 ghost use Rattle.overlay_memory.specs.View.{state_of, translations_of};
 ghost use Rattle.space_maps.specs.Spaces.{bare_space, holds_space, page_in, space_in};
-ghost use Rattle.machine_core.specs.Load.{loaded_ledger, stored_count, stored_pages, zero_content};
-ghost use Rattle.machine_core.specs.Loading.{HasImage, HasStack, IsAdded, IsOpen, IsReady, HasPages, IsSpaceOf, IsUnseen};
+ghost use Rattle.machine_core.specs.Load.{loaded_ledger, stored_count, stored_pages};
+ghost use Rattle.machine_core.specs.Loading.{AreZeros, HasImage, HasStack, IsAdded, IsOpen, IsReady, HasPages, IsSpaceOf, IsUnseen, page_of};
 
 use bitflags::Flags;
 use elf_loader::{Image, ImagePage};
 use overlay_memory::{OverlayMemory, SpaceError};
 use ovl_io::Perms;
-use sizes::{PAGE_BYTES, PAGE_END, STACK_PAGE};
+use sizes::{PAGE_BYTES, STACK_PAGE, STACK_PAGES};
 use std::alloc::AllocError;
 
 /// How many of some pages are stored.
@@ -58,20 +58,31 @@ fn place(
     }
 }
 
-/// Maps a zero page that isn't there. After want of memory the spaces are as before.
-fn zero(memory: &mut OverlayMemory, p: u16, page: u64, perms: Perms) -> Result<(), AllocError>
-    requires ready { IsReady (state_of memory.old) p page }
+/// Adds pages of zeros, one behind the other, which aren't there. After want of memory the spaces are as before.
+fn add_zeros(
+    memory: &mut OverlayMemory,
+    p: u16,
+    page: u64,
+    n: u32,
+    perms: Perms,
+) -> Result<(), AllocError>
+    requires there { holds_space (state_of memory.old) p ≡ true }
+    requires settled { (space_in (state_of memory.old) p).awaiting ≡ map.empty }
+    requires absent { AreAbsent (state_of memory.old) p page n }
+    requires low { page + n ≤ PAGE_END }
+    requires few { map.len (space_in (state_of memory.old) p).pages + n ≤ MOST_SPACE_PAGES }
     requires unseen { IsUnseen p (translations_of memory.old) }
-    ensures added { OnOk result (IsAdded (state_of memory.old) (state_of memory.new) p page
-        (zero_content perms.0) false) }
+    ensures added { OnOk result
+        (state_of memory.new ≡ with_zeros (state_of memory.old) p page n
+        (record { perms = perms; frame = (state_of memory.old).zero_frame })) }
     ensures kept { OnErr result (state_of memory.new ≡ state_of memory.old) }
     ensures lists { translations_of memory.new ≡ translations_of memory.old }
 {
-    memory.map_zero(p, page, 1, perms)
+    memory.map_zero(p, page, n, perms)
 }
 
-/// Adds a page of an image, which isn't there: in a frame of its own where it is stored, else on the zero frame.
-fn add_page(
+/// Adds a page of an image that is stored, and isn't there, in a frame of its own.
+fn add_stored(
     memory: &mut OverlayMemory,
     p: u16,
     image: &Image,
@@ -82,21 +93,37 @@ fn add_page(
     requires unseen { IsUnseen p (translations_of memory.old) }
     requires of_file { IsImageOf file.now image.now }
     requires there { Contains (map (λ p. p.page) image.now.pages) image_page.page }
-    requires marked { image_page.stored ≡ is_stored file.now image_page.page }
-    requires fits { image_page.stored ≡ true
-        → units_of (state_of memory.old) + FRAME_UNITS ≤ limit_of (state_of memory.old) }
+    requires fits { units_of (state_of memory.old) + FRAME_UNITS ≤ limit_of (state_of memory.old) }
     ensures added { OnOk result (IsAdded (state_of memory.old) (state_of memory.new) p image_page.page
-        (record { perms = image_page.perms.0; bytes = page_bytes file.now image_page.page }) image_page.stored) }
+        (record { perms = image_page.perms.0; bytes = page_bytes file.now image_page.page }) true) }
     ensures kept { OnErr result (state_of memory.new ≡ state_of memory.old) }
     ensures lists { translations_of memory.new ≡ translations_of memory.old }
 {
-    if image_page.stored {
-        let mut bytes = [0; PAGE_BYTES];
-        image.fill_page(file, image_page.page, &mut bytes);
-        place(memory, p, image_page.page, image_page.perms, &bytes)
-    } else {
-        zero(memory, p, image_page.page, image_page.perms)
+    let mut bytes = [0; PAGE_BYTES];
+    image.fill_page(file, image_page.page, &mut bytes);
+    place(memory, p, image_page.page, image_page.perms, &bytes)
+}
+
+/// How many pages of zeros there are from a place on, one behind the other with the permissions of the first one.
+fn zeros_from(pages: &[ImagePage], at: usize) -> u32
+    requires there { at < length pages.now }
+    requires few { length pages.now ≤ MOST_IMAGE_PAGES }
+    ensures zeros { AreZeros pages.now at result }
+    ensures some { (page_of pages.now at).stored ≡ false → 0 < result }
+{
+    let first = pages[at];
+    let mut n = 0u32;
+    'passing: while at + (n as usize) < pages.len() {
+        let next = pages[at + n as usize];
+        if next.stored || next.perms.bits() != first.perms.bits() {
+            return n;
+        }
+        if next.page < first.page || next.page - first.page != u64::from(n) {
+            return n;
+        }
+        n += 1;
     }
+    n
 }
 
 /// Adds the pages of an image to a space that has none. The units for them are there.
@@ -116,8 +143,18 @@ fn add_image(
     ensures open { IsOpen p (state_of memory.old) (state_of memory.new) }
     ensures lists { translations_of memory.new ≡ translations_of memory.old }
 {
-    'adding: for image_page in image.pages() {
-        add_page(memory, p, image, file, *image_page)?;
+    let pages = image.pages();
+    let mut at = 0;
+    'adding: while at < pages.len() {
+        let next = pages[at];
+        if next.stored {
+            add_stored(memory, p, image, file, next)?;
+            at += 1;
+        } else {
+            let n = zeros_from(pages, at);
+            add_zeros(memory, p, next.page, n, next.perms)?;
+            at += n as usize;
+        }
     }
     Ok(())
 }
@@ -133,10 +170,13 @@ fn add_stack(memory: &mut OverlayMemory, p: u16) -> Result<(), AllocError>
     ensures open { IsOpen p (state_of memory.old) (state_of memory.new) }
     ensures lists { translations_of memory.new ≡ translations_of memory.old }
 {
-    'adding: for page in STACK_PAGE..PAGE_END {
-        zero(memory, p, page, Perms::R.union(Perms::W))?;
-    }
-    Ok(())
+    add_zeros(
+        memory,
+        p,
+        STACK_PAGE,
+        STACK_PAGES as u32,
+        Perms::R.union(Perms::W),
+    )
 }
 
 /// Adds the pages of an image and the stack to a space that has no page. The units for them are there.

@@ -105,20 +105,21 @@ fn execute_word(process: &mut Process, view: &mut View, word: &Option<Instr>) ->
 }
 
 /// Executes the instruction at pc in the space that is lent, which is there, and has no line in hand then. Answers whether it was
-/// a step, as 0 or 1, and what came of it.
+/// a step, as 0 or 1, and writes down what came of it.
+#[cold]
 #[inline(never)]
-fn execute_apart(process: &mut Process, view: &mut View, hand: &mut Hand) -> (u32, Outcome)
+fn execute_apart(process: &mut Process, view: &mut View, hand: &mut Hand, came: &mut Outcome) -> u32
     requires runs { process.old.state ≡ ProcessState.Running }
     requires ready { IsReadyView view.old }
     ensures loan { view.new.memory.ghost_name ≡ view.old.memory.ghost_name }
     ensures space { view.new.space ≡ view.old.space }
     ensures came { (stops : Addresses) (most : ℕ) → 0 < most → Comes stops view.old.space most
-        (guest_ahead hand.old.owed (guest_lent view.old process.old)) result.0 result.1
+        (guest_ahead hand.old.owed (guest_lent view.old process.old)) result came.new
         (guest_ahead hand.new.owed (guest_lent view.new process.new)) }
     ensures none { hand.new.known ≡ [] }
     ensures owed { hand.new.owed ≡ hand.old.owed }
-    ensures steps { result.0 ≡ steps_in result.1 }
-    ensures running { result.1 ≡ Outcome.Stepped → process.new.state ≡ ProcessState.Running }
+    ensures steps { result ≡ steps_in came.new }
+    ensures running { came.new ≡ Outcome.Stepped → process.new.state ≡ ProcessState.Running }
     ensures ready { IsReadyView view.new }
     ensures saved { process.new.saved ≡ process.old.saved }
     ensures beside { IsBeside view.old.space (spaces_lent view.old) (spaces_lent view.new) }
@@ -126,7 +127,8 @@ fn execute_apart(process: &mut Process, view: &mut View, hand: &mut Hand) -> (u3
     let outcome = execute(&mut process.regs, view);
     hand.lose();
     note(process, outcome);
-    (steps_in(outcome), outcome)
+    *came = outcome;
+    steps_in(outcome)
 }
 
 /// How many steps an instruction was of which that came.
@@ -172,6 +174,7 @@ fn leave(hand: &mut Hand, k: u32, outcome: Outcome, course: Course) -> u32
 }
 
 /// How many words of a line there are from an address on, at most so many, of which all but the first are at no stop.
+#[cold]
 #[inline(never)]
 fn count_past(addresses: &Addresses, pc: u64, most: u32) -> u32
     requires inside { AreInLine pc most }
@@ -256,7 +259,8 @@ fn run(
     (count, Outcome::Stepped)
 }
 
-/// Executes some instructions, at most so many, as `run` does, where the line of the first one is in hand or can be taken, and else one.
+/// Executes some instructions, at most so many, as `run` does, where the line of the first one is in hand or can be taken, and else one. Answers how
+/// many were steps, and writes down what came of the last one, where it was none.
 #[inline]
 fn advance(
     process: &mut Process,
@@ -265,27 +269,34 @@ fn advance(
     hand: &mut Hand,
     most: u32,
     stops: Option<&Addresses>,
-) -> (u32, Outcome)
+    came: &mut Outcome,
+) -> u32
     requires runs { process.old.state ≡ ProcessState.Running }
     requires ready { IsReadyView view.old }
     requires hand { IsInHand lines.old view.old.memory.now view.old.space hand.old }
     requires some { 0 < most }
+    requires step { came.old ≡ Outcome.Stepped }
     requires few { hand.old.owed + most < 2 ^ 32 }
     ensures loan { view.new.memory.ghost_name ≡ view.old.memory.ghost_name }
     ensures space { view.new.space ≡ view.old.space }
     ensures came { Comes (stops_in stops.entry) view.old.space most
-        (guest_ahead hand.old.owed (guest_lent view.old process.old)) result.0 result.1
+        (guest_ahead hand.old.owed (guest_lent view.old process.old)) result came.new
         (guest_ahead hand.new.owed (guest_lent view.new process.new)) }
-    ensures running { result.1 ≡ Outcome.Stepped → process.new.state ≡ ProcessState.Running }
-    ensures goes { result.1 ≡ Outcome.Stepped
-        → GoesOn lines.new view.new hand.old.owed result.0 hand.new }
+    ensures running { came.new ≡ Outcome.Stepped → process.new.state ≡ ProcessState.Running }
+    ensures goes { came.new ≡ Outcome.Stepped
+        → GoesOn lines.new view.new hand.old.owed result hand.new }
     ensures saved { process.new.saved ≡ process.old.saved }
     ensures beside { IsBeside view.old.space (spaces_lent view.old) (spaces_lent view.new) }
 {
     if !hand.reach(&*view.memory, view.space, lines, process.regs.pc()) {
-        return execute_apart(process, view, hand);
+        return execute_apart(process, view, hand, came);
     }
-    run(process, view, lines, hand, most, stops)
+    let (n, outcome) = run(process, view, lines, hand, most, stops);
+    match outcome {
+        Outcome::Stepped => {}
+        _ => *came = outcome,
+    }
+    n
 }
 
 /// Whether an address is among those at which executions stop.
@@ -326,16 +337,17 @@ fn step_owing(
     ensures beside { IsBeside view.old.space (spaces_lent view.old) (spaces_lent view.new) }
 {
     let mut steps = 0u32;
+    let mut came = Outcome::Stepped;
     'stepping: while steps < most {
-        let (n, outcome) = advance(process, view, lines, hand, most - steps, stops);
-        match outcome {
+        let n = advance(process, view, lines, hand, most - steps, stops, &mut came);
+        match came {
             Outcome::Stepped => {
                 steps += n;
                 if is_stop(stops, process.regs.pc()) {
                     return (steps, Outcome::Stepped);
                 }
             }
-            _ => return (steps + n, outcome),
+            _ => return (steps + n, came),
         }
     }
     (steps, Outcome::Stepped)

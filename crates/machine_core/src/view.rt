@@ -56,6 +56,7 @@ impl<'a> GuestMemory for View<'a> {
 
     ghost stored = { λ old address bytes answer new. IsStoredBy old address bytes answer new };
 
+    #[cold]
     #[inline(never)]
     fn fetch(&mut self, address: u64) -> Result<u32, Denied> {
         let mut word = [0; 4];

@@ -21,6 +21,7 @@ stepping-init c = record {
   hand = c.requires.hand;
   beside = record { spaces = λ q other. refl; there = λ q. refl; awaiting = refl; mark = refl };
   within = omega arith;
+  step = refl;
 }
 
 pub stepping-preserved : goal.stepping-preserved
@@ -30,11 +31,11 @@ stepping-preserved c =
     let so = c.stepping.invariant in
     let came = c.advance-n in
     let k = c.stepping.steps in
-    let n = came.result.0 in
+    let n = came.result in
     let now = guest_ahead c.stepping.hand.owed (guest_lent c.stepping.view c.stepping.process) in
     let next = guest_ahead came.new.hand.owed (guest_lent came.new.view came.new.process) in
     let goes = came.ensures.goes c.in-Stepped.is in
-    let steps = subst (λ o. Comes S p (c.args.most - k) now n o next) c.in-Stepped.is (subst (λ q. Comes S q (c.args.most - k) now n came.result.1 next) so.space came.ensures.came) in
+    let steps = subst (λ o. Comes S p (c.args.most - k) now n o next) c.in-Stepped.is (subst (λ q. Comes S q (c.args.most - k) now n came.new.came next) so.space came.ensures.came) in
     let turn = c.stepping-test.true in
     let few = steps.0 in
     let owes = goes.owes in
@@ -52,4 +53,5 @@ stepping-preserved c =
       beside = both_beside p (spaces_lent c.args.view.now) (spaces_lent c.stepping.view) (spaces_lent came.new.view) so.beside
           (subst (λ q. IsBeside q (spaces_lent c.stepping.view) (spaces_lent came.new.view)) so.space came.ensures.beside);
       within = omega (arith, few, turn);
+      step = c.in-Stepped.is;
     }

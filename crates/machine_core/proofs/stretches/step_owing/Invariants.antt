@@ -1,5 +1,6 @@
 use Rattle.std.proofs.Common.{◌≡◌, ◌-◌, ◌≤◌}
 use Rattle.ovl_io.specs.declared.process_state.ProcessState.TheVariants.{Running}
+use Rattle.rv_execute.specs.declared.outcome.Outcome.TheVariants.{Stepped}
 use Rattle.machine_core.specs.Access.{IsReadyView, spaces_lent}
 use Rattle.machine_core.specs.Ahead.{guest_ahead}
 use Rattle.machine_core.specs.Executions.{behind, executions, stops_in}
@@ -21,6 +22,7 @@ invariant-stepping l = record {
   hand : IsInHand l.lines l.view.memory.now l.view.space l.hand;
   beside : IsBeside l.fn.view.space (spaces_lent l.fn.view) (spaces_lent l.view);
   within : l.steps ≤ l.most;
+  step : l.came ≡ Stepped;
 }
 
 abbrev pub decreases-stepping : goal.decreases-stepping
