@@ -22,7 +22,7 @@ use Rattle.space_maps.specs.Books.{books_page, books_spaces}
 use Rattle.space_maps.specs.Laws.{page_of}
 use Rattle.space_maps.specs.Spaces.{bare_space, holds_space, page_in, space_in}
 use Rattle.machine_core.specs.Load.{stack_page, stack_pages, stored_pages, zero_content}
-use Rattle.machine_core.specs.Loading.{AreZeros, HasAdded, HasImage, HasStack, IsOpen, IsReady, is_among, no_page, page_of as page_at_place}
+use Rattle.machine_core.specs.Loading.{AreZeros, HasAdded, HasImage, HasStack, IsOpen, IsReady, is_among, none_listed, listed_at}
 use Rattle.machine_core.proofs.Adding.{added_none, unstored_page, zeros_added}
 use Rattle.machine_core.proofs.Marks.{units_so_far}
 
@@ -173,7 +173,7 @@ module _ (file : List ℕ) (p : ℕ) (before now : State) (items : List ImagePag
     (bare : space_in before p ≡ bare_space) (same : items ≡ map (listed_page file) (image_pages file))
     (so_far : HasAdded before now p (image_page file) (is_stored file) (take at (image_pages file))) (zeros : AreZeros items at n) where
   abbrev first : ImagePage
-  first = page_at_place items at
+  first = listed_at items at
 
   abbrev pages : List ℕ
   pages = image_pages file
@@ -182,7 +182,7 @@ module _ (file : List ℕ) (p : ℕ) (before now : State) (items : List ImagePag
   as_many = ap length same ∙ length-map (image_pages file) (listed_page file)
 
   its_page : (k : ℕ) → k < n → listed_page file (get_or pages (at + k) 0) ≡ record { page = first.page + k; perms = first.perms; stored = false }
-  its_page k below = sym (page_at file items (at + k) no_page same (let fits = zeros.within in omega (arith, below, fits))).1 ∙ zeros.each k below
+  its_page k below = sym (page_at file items (at + k) none_listed same (let fits = zeros.within in omega (arith, below, fits))).1 ∙ zeros.each k below
 
   goes_up : (k : ℕ) → k < n → get_or pages (at + k) 0 ≡ first.page + k
   goes_up k below = ap (λ (x : ImagePage). x.page) (its_page k below)

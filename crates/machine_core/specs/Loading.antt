@@ -37,18 +37,18 @@ pub record IsAdded (old new : State) (p page : ℕ) (content : Page) (stored : B
   pub seen : seen_page x ≡ content
   pub alike : (ledger : Ledger) → AreAlike ledger (books old) → AreAlike (one_loaded p ledger (page, stored)) (books new)
 
--- a page of an image at a place; none past the last one
-abbrev pub no_page : ImagePage
-no_page = record { page = 0; perms = record { 0 = 0 }; stored = false }
+-- what an image has at a place, and what it has past the last one
+abbrev pub none_listed : ImagePage
+none_listed = record { page = 0; perms = record { 0 = 0 }; stored = false }
 
-abbrev pub page_of : List ImagePage → ℕ → ImagePage
-page_of pages at = get_or pages at no_page
+abbrev pub listed_at : List ImagePage → ℕ → ImagePage
+listed_at pages at = get_or pages at none_listed
 
 -- so many from a place on are zeros, one behind the other with the same permissions
 pub record AreZeros (pages : List ImagePage) (at n : ℕ) : Type 0 where
   pub within : at + n ≤ length pages
   pub each : (k : ℕ) → k < n
-      → page_of pages (at + k) ≡ record { page = (page_of pages at).page + k; perms = (page_of pages at).perms; stored = false }
+      → listed_at pages (at + k) ≡ record { page = (listed_at pages at).page + k; perms = (listed_at pages at).perms; stored = false }
 
 -- nothing of a space was translated: there is nothing to remove
 abbrev pub IsUnseen : ℕ → BareTranslations → Type 0

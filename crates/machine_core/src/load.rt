@@ -10,7 +10,7 @@ ghost use Rattle.overlay_pages.specs.State.{books};
 ghost use Rattle.overlay_memory.specs.View.{state_of, translations_of};
 ghost use Rattle.space_maps.specs.Spaces.{bare_space, holds_space, page_in, space_in};
 ghost use Rattle.machine_core.specs.Load.{loaded_ledger, stored_count, stored_pages};
-ghost use Rattle.machine_core.specs.Loading.{AreZeros, HasImage, HasStack, IsAdded, IsOpen, IsReady, HasPages, IsSpaceOf, IsUnseen, page_of};
+ghost use Rattle.machine_core.specs.Loading.{AreZeros, HasImage, HasStack, IsAdded, IsOpen, IsReady, HasPages, IsSpaceOf, IsUnseen, listed_at};
 
 use bitflags::Flags;
 use elf_loader::{Image, ImagePage};
@@ -109,7 +109,7 @@ fn zeros_from(pages: &[ImagePage], at: usize) -> u32
     requires there { at < length pages.now }
     requires few { length pages.now ≤ MOST_IMAGE_PAGES }
     ensures zeros { AreZeros pages.now at result }
-    ensures some { (page_of pages.now at).stored ≡ false → 0 < result }
+    ensures some { (listed_at pages.now at).stored ≡ false → 0 < result }
 {
     let first = pages[at];
     let mut n = 0u32;

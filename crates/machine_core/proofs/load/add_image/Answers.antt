@@ -3,7 +3,7 @@ use Rattle.std.proofs.lemmas.List.{take_more}
 use Rattle.elf_loader.specs.Image.{image_page, image_pages, is_stored, page_bytes}
 use Rattle.elf_loader.specs.declared.image.ImagePage.{ImagePage}
 use Rattle.overlay_memory.specs.View.{state_of}
-use Rattle.machine_core.specs.Loading.{HasAdded, IsAdded, IsReady, no_page}
+use Rattle.machine_core.specs.Loading.{HasAdded, IsAdded, IsReady, none_listed}
 use Rattle.machine_core.proofs.Adding.{added_more, added_none, open_itself}
 use Rattle.machine_core.proofs.Images.{few_items, next_fits, next_ready, page_at, zeros_absent, zeros_few, zeros_low, zeros_more, zeros_within}
 use Rattle.machine_core.proofs.load.add_image.Goals as goal
@@ -28,7 +28,7 @@ add_stored-requires-clause-ready c =
     let now = state_of c.adding.memory in
     let same = c.pages-pages.ensures ∙ c.requires.of_file.pages in
     let turn = c.adding-test.true in
-    let at = page_at file items i no_page same (omega (arith, turn)) in
+    let at = page_at file items i none_listed same (omega (arith, turn)) in
     subst (IsReady now c.args.p) (sym (ap (λ (p : ImagePage). p.page) at.1))
     (next_ready file c.args.p before now i c.requires.of_file.taken c.requires.there c.requires.bare at.0 c.adding.invariant.added)
 
@@ -41,7 +41,7 @@ add_stored-requires-clause-fits c =
     let now = state_of c.adding.memory in
     let same = c.pages-pages.ensures ∙ c.requires.of_file.pages in
     let turn = c.adding-test.true in
-    let at = page_at file items i no_page same (omega (arith, turn)) in
+    let at = page_at file items i none_listed same (omega (arith, turn)) in
     next_fits file c.args.p before now i c.requires.of_file.taken c.requires.there c.requires.bare at.0 c.adding.invariant.added c.requires.fits
     (sym (ap (λ (p : ImagePage). p.stored) at.1) ∙ c.if-next.true)
 
@@ -54,7 +54,7 @@ adding-preserved-then-next c =
     let now = state_of c.adding.memory in
     let same = c.pages-pages.ensures ∙ c.requires.of_file.pages in
     let turn = c.adding-test.true in
-    let at = page_at file items i no_page same (omega (arith, turn)) in
+    let at = page_at file items i none_listed same (omega (arith, turn)) in
     let new = state_of c.add_stored.new.memory in
     let k = get_or (image_pages file) i 0 in
     let ready = next_ready file c.args.p before now i c.requires.of_file.taken c.requires.there c.requires.bare at.0 c.adding.invariant.added in
