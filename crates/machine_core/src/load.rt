@@ -105,7 +105,7 @@ fn add_stored(
 }
 
 /// How many pages of zeros there are from a place on, one behind the other with the permissions of the first one.
-fn zeros_from(pages: &[ImagePage], at: usize) -> u32
+fn count_zeros(pages: &[ImagePage], at: usize) -> u32
     requires there { at < length pages.now }
     requires few { length pages.now ≤ MOST_IMAGE_PAGES }
     ensures zeros { AreZeros pages.now at result }
@@ -151,7 +151,7 @@ fn add_image(
             add_stored(memory, p, image, file, next)?;
             at += 1;
         } else {
-            let n = zeros_from(pages, at);
+            let n = count_zeros(pages, at);
             add_zeros(memory, p, next.page, n, next.perms)?;
             at += n as usize;
         }

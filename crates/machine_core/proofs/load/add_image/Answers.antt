@@ -70,8 +70,8 @@ adding-preserved-then-next c =
     }
 
 -- zeros
-pub zeros_from-n-requires-clause-few : goal.zeros_from-n-requires-clause-few
-zeros_from-n-requires-clause-few c = few_items c.args.file.now c.pages-pages.result.now c.requires.of_file.taken (c.pages-pages.ensures ∙ c.requires.of_file.pages)
+pub count_zeros-n-requires-clause-few : goal.count_zeros-n-requires-clause-few
+count_zeros-n-requires-clause-few c = few_items c.args.file.now c.pages-pages.result.now c.requires.of_file.taken (c.pages-pages.ensures ∙ c.requires.of_file.pages)
 
 pub add_zeros-requires-clause-absent : goal.add_zeros-requires-clause-absent
 add_zeros-requires-clause-absent c =
@@ -81,7 +81,7 @@ add_zeros-requires-clause-absent c =
     let before = state_of c.args.memory.now in
     let now = state_of c.adding.memory in
     let same = c.pages-pages.ensures ∙ c.requires.of_file.pages in
-    zeros_absent file c.args.p before now items i c.zeros_from-n.result c.requires.of_file.taken c.requires.there c.requires.bare same c.adding.invariant.added c.zeros_from-n.ensures.zeros
+    zeros_absent file c.args.p before now items i c.count_zeros-n.result c.requires.of_file.taken c.requires.there c.requires.bare same c.adding.invariant.added c.count_zeros-n.ensures.zeros
 
 pub add_zeros-requires-clause-low : goal.add_zeros-requires-clause-low
 add_zeros-requires-clause-low c =
@@ -91,8 +91,8 @@ add_zeros-requires-clause-low c =
     let before = state_of c.args.memory.now in
     let now = state_of c.adding.memory in
     let same = c.pages-pages.ensures ∙ c.requires.of_file.pages in
-    zeros_low file c.args.p before now items i c.zeros_from-n.result c.requires.of_file.taken c.requires.there c.requires.bare same c.adding.invariant.added c.zeros_from-n.ensures.zeros
-    (c.zeros_from-n.ensures.some c.if-next.false)
+    zeros_low file c.args.p before now items i c.count_zeros-n.result c.requires.of_file.taken c.requires.there c.requires.bare same c.adding.invariant.added c.count_zeros-n.ensures.zeros
+    (c.count_zeros-n.ensures.some c.if-next.false)
 
 pub add_zeros-requires-clause-few : goal.add_zeros-requires-clause-few
 add_zeros-requires-clause-few c =
@@ -102,7 +102,7 @@ add_zeros-requires-clause-few c =
     let before = state_of c.args.memory.now in
     let now = state_of c.adding.memory in
     let same = c.pages-pages.ensures ∙ c.requires.of_file.pages in
-    zeros_few file c.args.p before now items i c.zeros_from-n.result c.requires.of_file.taken c.requires.there c.requires.bare same c.adding.invariant.added c.zeros_from-n.ensures.zeros
+    zeros_few file c.args.p before now items i c.count_zeros-n.result c.requires.of_file.taken c.requires.there c.requires.bare same c.adding.invariant.added c.count_zeros-n.ensures.zeros
 
 pub adding-preserved : goal.adding-preserved
 adding-preserved c =
@@ -113,8 +113,8 @@ adding-preserved c =
     let now = state_of c.adding.memory in
     let same = c.pages-pages.ensures ∙ c.requires.of_file.pages in
     record {
-      added = zeros_more file c.args.p before now items i c.zeros_from-n.result c.requires.of_file.taken c.requires.there c.requires.bare same c.adding.invariant.added c.zeros_from-n.ensures.zeros
+      added = zeros_more file c.args.p before now items i c.count_zeros-n.result c.requires.of_file.taken c.requires.there c.requires.bare same c.adding.invariant.added c.count_zeros-n.ensures.zeros
           (state_of c.add_zeros.new.memory) c.in_ok-add_zeros.ensures.added;
       lists = c.add_zeros.ensures.lists ∙ c.adding.invariant.lists;
-      within = zeros_within file c.args.p before now items i c.zeros_from-n.result c.requires.of_file.taken c.requires.there c.requires.bare same c.adding.invariant.added c.zeros_from-n.ensures.zeros;
+      within = zeros_within file c.args.p before now items i c.count_zeros-n.result c.requires.of_file.taken c.requires.there c.requires.bare same c.adding.invariant.added c.count_zeros-n.ensures.zeros;
     }

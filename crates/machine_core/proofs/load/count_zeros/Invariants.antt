@@ -1,6 +1,6 @@
 use Rattle.std.proofs.Common.{◌+◌, ◌-◌, length}
 use Rattle.machine_core.specs.Loading.{AreZeros}
-use Rattle.machine_core.proofs.load.zeros_from.Given as goal
+use Rattle.machine_core.proofs.load.count_zeros.Given as goal
 
 abbrev pub invariant-passing : goal.invariant-passing
 invariant-passing l = AreZeros l.pages l.at l.n
