@@ -53,7 +53,8 @@ pub(crate) fn find(
     address: u64,
     need: Perms,
 ) -> Result<FoundLine, MemoryError>
-    ensures { Finds pages.now space need.0 address result }
+    ensures found { Finds pages.now space need.0 address result }
+    ensures joined { IsJoined pages.now }
 {
     match find_line(pages, space, address) {
         Some(found) => {
@@ -74,7 +75,8 @@ pub(crate) fn permit(
     address: u64,
     need: Perms,
 ) -> Result<(), MemoryError>
-    ensures { Permits pages.now space need.0 address result }
+    ensures permits { Permits pages.now space need.0 address result }
+    ensures joined { IsJoined pages.now }
 {
     match find(pages, space, address, need) {
         Ok(_) => Ok(()),
