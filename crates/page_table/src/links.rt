@@ -34,7 +34,8 @@ pub(crate) fn place_in(low: usize, high: usize, guess: usize) -> usize
 
 // Where the link of a slot stands, or would stand. Looks at a guess first, then further and further from it, and then in the middle
 // of what is left.
-#[inline]
+#[cold]
+#[inline(never)]
 fn search(links: &[Link], slot: u64, guess: usize) -> Result<usize, usize>
     requires { Rise 0 links.now }
     ensures there { IfOk result (IsAt links.now slot) }
@@ -93,6 +94,7 @@ fn place_of(links: &[Link], nodes: &Nodes, slot: u64) -> Result<usize, usize>
 }
 
 /// The child of a node at a digit.
+#[inline]
 pub(crate) fn child_in(links: &[Link], nodes: &Nodes, node: u32, digit: u64) -> Option<u32>
     requires rise { Rise 0 links.now }
     requires digit { digit < TABLE_SLOTS }

@@ -5,8 +5,8 @@
 use sizes::TABLE_SLOTS;
 use std::alloc::{AllocError, Global};
 
-// A node with so many rows is searched by what they begin and end with; fewer are gone over.
-const MANY: usize = 5;
+/// A node with so many rows is searched by what they begin and end with; fewer are gone over.
+pub(crate) const MANY: usize = 5;
 
 // Where rows move, so many guesses are put right; behind those they stay as they are.
 const MOST_MOVED: usize = 1 << 13;

@@ -9,7 +9,7 @@ ghost use Rattle.page_table.specs.Table.{AreThere, IsFree};
 
 use crate::entry::PageEntry;
 use crate::links::place_in;
-use crate::nodes::Nodes;
+use crate::nodes::{MANY, Nodes};
 use crate::run::PageRun;
 use sizes::TABLE_SLOTS;
 use std::collections::VecDeque;
@@ -122,12 +122,30 @@ pub(crate) fn next_slots(runs: &VecDeque<PageRun>, page: u64, guess: usize) -> O
     }
 }
 
+// The first place from one on, among a few, whose run doesn't lie before a slot.
+#[inline]
+fn passed(runs: &VecDeque<PageRun>, slot: u64, first: usize) -> usize {
+    let mut at = first;
+    'passing: for _ in 0..MANY {
+        match runs.get(at) {
+            Some(run) => {
+                if !lies_before(run, slot) {
+                    return at;
+                }
+            }
+            None => return at,
+        }
+        at = at.wrapping_add(1);
+    }
+    at
+}
+
 /// Where the run of a slot may stand.
 #[inline]
 pub(crate) fn guess_of(runs: &VecDeque<PageRun>, nodes: &Nodes, slot: u64) -> usize {
     let rows = nodes.runs_of(slot / TABLE_SLOTS, runs.len());
     match rows.few() {
-        Some(first) => first,
+        Some(first) => passed(runs, slot, first),
         None => match runs.get(rows.first()) {
             Some(from) => match runs.get(rows.last()) {
                 Some(to) => rows.between(slot, from.page, to.page),
