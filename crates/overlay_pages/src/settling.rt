@@ -41,8 +41,7 @@ pub(crate) fn commit(store: &mut SegmentStore, ledger: &mut SpaceLedger, space: 
 {
     if let Some(overlay) = ledger.overlay(space, page) {
         let frame = frame_of(ledger, space, page);
-        store.lift(overlay.block, overlay.bits);
-        store.compose_frame(frame, overlay.bits, frame);
+        store.lay_in_frame(overlay.block, overlay.bits, frame);
         drop_overlay(store, ledger, space, page);
     }
 }

@@ -90,6 +90,17 @@ impl StoreLines {
         self.units.copy_lines(from, to, n);
     }
 
+    /// Copies a line before scratch to another one there.
+    #[inline]
+    pub(crate) fn copy_line(&mut self, from: u32, to: u32)
+        requires source { from + PAGE_LINES < length self.old }
+        requires target { to + PAGE_LINES < length self.old }
+        ensures { self.new ≡ slice_set self.old to (line_of self.old from) }
+    {
+        let bytes = *self.units.line(from);
+        self.units.put_line(to, &bytes);
+    }
+
     /// Copies a line before scratch to a line of scratch.
     #[inline]
     pub(crate) fn lift_line(&mut self, from: u32, line: u8)

@@ -355,6 +355,19 @@ impl SegmentStore {
         places::lay_over(&mut self.region, 64 * to, bits);
     }
 
+    /// Copies each line of a segment, which has to be there with just these lines, to its own place in a frame, which is taken. Nothing
+    /// else changes. Costs a copy for each line.
+    pub fn lay_in_frame(&mut self, block: Block, bits: Bits, frame: u32)
+        requires there { IsSegment self.old block }
+        requires bits { lines_at self.old block.unit ≡ bits }
+        requires frame { IsFrame self.old frame }
+        ensures fills { FillsFrame self.old self.new frame }
+        ensures lines { (line : ℕ) → line < PAGE_LINES → frame_line self.new frame line
+            ≡ cond (has_line bits line) (line_in self.old block line) (frame_line self.old frame line) }
+    {
+        places::lay_in_page(&mut self.region, block, bits, 64 * frame);
+    }
+
     /// Makes a move on the way to room for a block of an order from 0 to 4, and answers it. At least 2^order
     /// units have to be free. None, and nothing changes, exactly where there is room. So at most as many
     /// calls answer a move as there are free blocks, and then there is room. Costs what the move copies.
