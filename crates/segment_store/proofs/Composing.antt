@@ -2,11 +2,12 @@ use Rattle.std.proofs.Common.{◌≡◌, ℕ, ◌+◌, ◌-◌, ◌*◌, ◌^◌
 use Rattle.std.proofs.lemmas.Bool.{cases_eq}
 use Rattle.std.proofs.lemmas.Bool.Decides.{nat_tests}
 use Rattle.std.proofs.lemmas.List.{get_or-set_same, get_or-set_other, length-set}
-use Rattle.line_store.specs.Lines.{line_of}
+use Rattle.line_store.specs.Lines.{line_of, with_put}
 use Rattle.unit_map.specs.Pieces.{ArePieces, IsPiece, taken_at, units_in}
 use Rattle.unit_map.specs.declared.block.Block.{Block}
 use Rattle.overlay_bits.specs.Lines.{AreLines, has_line}
 use Rattle.overlay_bits.specs.Laws.{has_next, has_with, next_inside, with_next}
+use Rattle.segment_store.proofs.Copies.{put_in, put_out}
 use Rattle.segment_store.specs.Store.{Store, IsFrame, IsSegment, composed_line, frame_line, line_in, segment_at}
 use Rattle.segment_store.specs.Places.{CopiesPage, HasLaidOver, IsApartFrom, LaysOver, LiftsLines}
 use Rattle.segment_store.specs.Kept.{IsStore}
@@ -145,3 +146,22 @@ laid_in_frame old new block bits frame is f are lift blocks segments = record {
     each : (line : ℕ) (t : Bool) → has_line bits line ≡ t → frame_line new frame line ≡ cond t (line_in old block line) (frame_line old frame line)
     each line true has = lift.lifted line has
     each line false has = lift.others (64 * frame + line) (λ other also e. true≢false (sym also ∙ (let same : other ≡ line = omega (arith, e) in ap (has_line bits) same) ∙ has))
+
+-- Lines are put into a frame.
+
+pub record HasPutFrame (old new : Store) (frame : ℕ) (given : List (List ℕ)) : Type 0 where
+  pub fills : FillsFrame old new frame
+  pub lines : (line : ℕ) → line < 64 → frame_line new frame line ≡ line_of given line
+
+pub put_in_frame : (old new : Store) (frame : ℕ) (given : List (List ℕ)) → IsStore old → IsFrame old frame → length given ≡ 64 → new.lines ≡ with_put old.lines (64 * frame) given 64 → length new.lines ≡ length old.lines
+    → new.blocks ≡ old.blocks → new.segments ≡ old.segments → HasPutFrame old new frame given
+put_in_frame old new frame given is f many put size blocks segments = record {
+  fills = frame_filled old new frame is f (record {
+    size = size;
+    outside = λ at out. ap (λ l. line_of l at) put ∙ put_out old.lines (64 * frame) given 64 (omega (arith, many)) fits at out;
+  }) blocks segments;
+  lines = λ line low. ap (λ l. line_of l (64 * frame + line)) put ∙ put_in old.lines (64 * frame) given 64 (omega (arith, many)) fits line low;
+}
+  where
+    fits : 64 * frame + 64 ≤ length old.lines
+    fits = omega (arith, frame_inside old is frame f, is.lines)

@@ -3,6 +3,7 @@ ghost use Rattle.std.specs.Option.{option_to_list};
 ghost use Rattle.std.specs.Borrow.{Lends, sem, Array, u8 as byte};
 ghost use Rattle.arrayvec.specs.ArrayVec.{array_vec_len};
 ghost use Rattle.sizes.specs.declared.TheConstants.{FRAME_UNITS, LINE_BYTES, MOST_FRAMES, PAGE_LINES};
+ghost use Rattle.line_store.specs.Lines.{line_of};
 ghost use Rattle.unit_map.specs.Pieces.{AreSettled, AreSettledBut, CanSettle, free_units, units_in};
 ghost use Rattle.unit_map.specs.Changes.{CanMove, HasRoom, IsFull, Gives, OnlyGives, OnlyTakes, TakesBlock};
 ghost use Rattle.store_compaction.specs.Runs.{HasPair};
@@ -228,6 +229,16 @@ impl SegmentStore {
         ensures store { IsStore self.old }
     {
         self.region.line_mut(64 * frame + u32::from(line))
+    }
+
+    /// Puts 64 lines into a frame, which has to be taken. Nothing else changes. Costs one copy.
+    pub fn put_frame(&mut self, frame: u32, lines: &[[u8; 64]])
+        requires frame { IsFrame self.old frame }
+        requires lines { length lines.now ≡ PAGE_LINES }
+        ensures fills { FillsFrame self.old self.new frame }
+        ensures lines { (line : ℕ) → line < PAGE_LINES → frame_line self.new frame line ≡ line_of lines.now line }
+    {
+        self.region.put_lines(64 * frame, lines);
     }
 
     /// Begins an empty segment of an order from 0 to 4, for which there has to be room, in a block of a free
