@@ -1,7 +1,7 @@
 use Rattle.overlay_pages.proofs.Common.{option_map, ◌≡◌, ℕ, ◌+◌, ◌<◌, ◌≤◌, Bool, true, false, cond, List, [], Option, Some, None, IfSome, IsSome, refl, sym, ap, subst, ◌∙◌, arith, same_Some, empty}
 use Rattle.overlay_pages.proofs.Stores.{has_line, Entry, FillsFrame, IsFrame, Store, composed_line, frame_line, line_in, scratch_line, KeepsFrames}
 use Rattle.overlay_pages.proofs.Books.{Ledger, has_origin, holding_at, is_alone, put_again, class_none, origin_with, books_page, books_put_page, keeps_page_put, page_over, page_put_here, there_space, page_in, put_page, space_in, turned_page, LedgerView, PageView, ledger_of, lines_of, overlay_at, changed_there}
-use Rattle.overlay_pages.proofs.Views.{page_lines, lines_same, PageState, State, books, held_page, HasCopyRoom, IsNewFrame, IsPlaced, committed, copied, discarded, limit_of, moved_to, units_of, IsHeld, IsJoined, MemoryView, line_seen, page_state, state_of, view_of, state_awaiting, state_books, state_holds, state_page_there}
+use Rattle.overlay_pages.proofs.Views.{page_lines, lines_same, PageState, State, books, held_page, HasCopyRoom, IsNewFrame, IsPlaced, committed, copied, discarded, limit_of, moved_to, units_of, IsJoined, MemoryView, line_seen, page_state, state_of, view_of, state_awaiting, state_books, state_holds, state_page_there}
 use Rattle.overlay_pages.proofs.Steps.{alone_other, rewritten, seen_bare, seen_inside, seen_outside}
 use Rattle.overlay_pages.proofs.Joining.{Has, page_with}
 use Rattle.overlay_pages.proofs.Growing.{turned_units}

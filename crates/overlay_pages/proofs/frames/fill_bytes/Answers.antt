@@ -1,5 +1,5 @@
 use Rattle.std.specs.Prelude.{◌/◌}
-use Rattle.overlay_pages.proofs.Common.{◌*◌, drop, take, length, ap, arith, ◌∙◌}
+use Rattle.overlay_pages.proofs.Common.{length, ap, arith, ◌∙◌}
 use Rattle.overlay_pages.proofs.Stores.{line_of}
 use Rattle.overlay_pages.proofs.Filling.{chunk_at}
 use Rattle.overlay_pages.proofs.frames.fill_bytes.Goals as goal

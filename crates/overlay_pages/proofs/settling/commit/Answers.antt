@@ -34,9 +34,9 @@ filled c =
     committing (view_of c.args.store.now c.args.ledger.now) c.args.space c.args.page c.in-Some.overlay c.requires.joined c.requires.there over c.lay_in_frame.new.self c.frame_of-frame.result
     (page_frame c.args.ledger.now c.args.space c.args.page found.x c.frame_of-frame.result found.there c.frame_of-frame.ensures) c.requires.alone f.fills f.lines
 
-pub drop_overlay-requires-clause-joined : goal.drop_overlay-requires-clause-joined
-drop_overlay-requires-clause-joined c = (filled (goal.at.drop_overlay-requires-clause-joined c).After-lay_in_frame).0
+pub end_overlay-requires-clause-joined : goal.end_overlay-requires-clause-joined
+end_overlay-requires-clause-joined c = (filled (goal.at.end_overlay-requires-clause-joined c).After-lay_in_frame).0
 
 pub returns-in-Some-clause-state : goal.returns-in-Some-clause-state
 returns-in-Some-clause-state c =
-    (filled (goal.at.returns-in-Some-clause-state c).After-lay_in_frame).1 (view_of c.drop_overlay.new.store c.drop_overlay.new.ledger) c.drop_overlay.ensures.state
+    (filled (goal.at.returns-in-Some-clause-state c).After-lay_in_frame).1 (view_of c.end_overlay.new.store c.end_overlay.new.ledger) c.end_overlay.ensures.state
