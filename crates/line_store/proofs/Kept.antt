@@ -2,9 +2,10 @@ use Rattle.std.proofs.Common.{◌≡◌, ℕ, ◌+◌, ◌-◌, ◌<◌, ◌≤�
 use Rattle.std.proofs.lemmas.Bool.{cases_lt}
 use Rattle.std.proofs.lemmas.List.{length-append, length-replicate, length-take-le, get_or-replicate, get_or_append_left, get_or-append_right, get_or-take, get_or-drop, set-append_left, replicate-append-replicate, append_assoc, take-append-le, drop-append-le, same_lists}
 use Rattle.std.proofs.lemmas.List.Edits.{length-paste, drop-paste}
+use Rattle.std.proofs.lemmas.Slice.{put_mid-paste}
 use Rattle.std.proofs.VecSteps.Gaps.{all_new}
 use Rattle.std.specs.List.{copy_within, refill}
-use Rattle.line_store.specs.Lines.{zero_lines, with_copied}
+use Rattle.line_store.specs.Lines.{zero_lines, with_copied, with_put}
 use Rattle.line_store.specs.Kept.{kept_lines, EndsInZero, IsKept}
 
 -- Lines of which the first are kept.
@@ -128,42 +129,39 @@ copied first seen written made from to n count same long is =
     all_new made first written (omega (arith, count, ap length same, long))
     ∙ is ∙ ap (λ l. copy_within l from (from + n) to) same ∙ ap (λ (k : ℕ). take to first ++ take k (drop from first) ++ drop (to + k) first) many
 
-length-with_copied : (first : List (List ℕ)) (from to n : ℕ) → from + n ≤ length first → to + n ≤ length first → length (with_copied first from to n) ≡ length first
-length-with_copied first from to n h k = length-paste first to (drop from first) n k (omega (arith, length-drop from first))
+-- lines are put over those kept
 
-pub copy_same : (first : List (List ℕ)) (count from to n : ℕ) → from + n ≤ length first → to + n ≤ length first
-    → kept_lines (with_copied first from to n) count ≡ with_copied (kept_lines first count) from to n
-copy_same first count from to n h k =
+pub length-with_put : (first : List (List ℕ)) (to : ℕ) (given : List (List ℕ)) (n : ℕ) → n ≤ length given → to + n ≤ length first → length (with_put first to given n) ≡ length first
+length-with_put first to given n h k = length-paste first to given n k h
+
+pub put_same : (first : List (List ℕ)) (count to : ℕ) (given : List (List ℕ)) (n : ℕ) → n ≤ length given → to + n ≤ length first
+    → kept_lines (with_put first to given n) count ≡ with_put (kept_lines first count) to given n
+put_same first count to given n h k =
     let zeros = zero_lines (count - length first) in
     let to_low : to ≤ length first = omega arith in
-    let from_low : from ≤ length first = omega arith in
-    let room : n ≤ length (drop from first) = omega (arith, length-drop from first) in
-    ap (λ (m : ℕ). with_copied first from to n ++ zero_lines (count - m)) (length-with_copied first from to n h k)
-    ∙ append_assoc (take to first ++ take n (drop from first)) (drop (to + n) first) zeros
-    ∙ sym (ap (λ l. l ++ take n (drop from (first ++ zeros)) ++ drop (to + n) (first ++ zeros)) (take-append-le to first zeros to_low)
-    ∙ ap (λ l. take to first ++ l ++ drop (to + n) (first ++ zeros)) (ap (take n) (drop-append-le from first zeros from_low) ∙ take-append-le n (drop from first) zeros room)
-    ∙ ap (λ l. take to first ++ take n (drop from first) ++ l) (drop-append-le (to + n) first zeros k))
+    ap (λ (m : ℕ). with_put first to given n ++ zero_lines (count - m)) (length-with_put first to given n h k)
+    ∙ append_assoc (take to first ++ take n given) (drop (to + n) first) zeros
+    ∙ sym (ap (λ l. l ++ take n given ++ drop (to + n) (first ++ zeros)) (take-append-le to first zeros to_low)
+    ∙ ap (λ l. take to first ++ take n given ++ l) (drop-append-le (to + n) first zeros k))
 
-pub copy_ends : (first : List (List ℕ)) (from to n : ℕ) → from + n ≤ length first → (to + n) + 64 ≤ length first → EndsInZero first
-    → EndsInZero (with_copied first from to n)
-copy_ends first from to n h k ends at d near low =
-    let target : to + n ≤ length first = omega arith in
-    let long = length-with_copied first from to n h target in
+put_ends : (first : List (List ℕ)) (to : ℕ) (given : List (List ℕ)) (n : ℕ) → n ≤ length given → (to + n) + 64 ≤ length first → EndsInZero first
+    → EndsInZero (with_put first to given n)
+put_ends first to given n h k ends at d near low =
+    let long = length-with_put first to given n h (omega arith) in
     let to_low : to ≤ length first = omega arith in
-    let room : n ≤ length (drop from first) = omega (arith, length-drop from first) in
     let behind : (to + n) + (at - (to + n)) ≡ at = omega (arith, long) in
-    let copied = with_copied first from to n in
-    ap (λ (i : ℕ). get_or copied i d) (sym behind)
-    ∙ sym (get_or-drop (to + n) copied (at - (to + n)) d)
-    ∙ ap (λ l. get_or l (at - (to + n)) d) (drop-paste first to (drop from first) n to_low room)
+    let put = with_put first to given n in
+    ap (λ (i : ℕ). get_or put i d) (sym behind)
+    ∙ sym (get_or-drop (to + n) put (at - (to + n)) d)
+    ∙ ap (λ l. get_or l (at - (to + n)) d) (drop-paste first to given n to_low h)
     ∙ get_or-drop (to + n) first (at - (to + n)) d
     ∙ ap (λ (i : ℕ). get_or first i d) behind
     ∙ ends at d (omega (arith, long)) (omega (arith, long))
 
-pub copy_kept : (first new : List (List ℕ)) (count from to n end : ℕ) → new ≡ with_copied first from to n → from + n ≤ length first → to + n ≤ length first
+pub put_kept : (first new : List (List ℕ)) (count to : ℕ) (given : List (List ℕ)) (n end : ℕ) → new ≡ with_put first to given n → n ≤ length given → to + n ≤ length first
     → (length first ≡ count) ⊎ (end + 64 ≤ length first) → to + n ≤ end → IsKept first count → IsKept new count
-copy_kept first new count from to n end is h k reached inside kept =
-    let long = ap length is ∙ length-with_copied first from to n h k in
+put_kept first new count to given n end is h k reached inside kept =
+    let long = ap length is ∙ length-with_put first to given n h k in
     let below = kept.below in
     record {
       few = kept.few;
@@ -172,7 +170,29 @@ copy_kept first new count from to n end is h k reached inside kept =
         | inl whole ↦ inl (long ∙ whole)
         | inr ends ↦ elim reached [
           | inl whole ↦ inl (long ∙ whole)
-          | inr behind ↦ inr (subst EndsInZero (sym is) (copy_ends first from to n h (omega (arith, behind)) ends))
+          | inr behind ↦ inr (subst EndsInZero (sym is) (put_ends first to given n h (omega (arith, behind)) ends))
         ]
       ];
     }
+
+-- through a slice of those kept
+pub was_put : (first seen written given : List (List ℕ)) (made at k n : ℕ) → made ≡ length first → seen ≡ first → written ≡ given → n ≡ k → n ≡ length given → at + n ≤ length first
+    → refill made first (take at seen ++ (written ++ drop k (drop at seen))) ≡ with_put first at given n
+was_put first seen written given made at k n count same is many size fits =
+    let put : take at seen ++ (written ++ drop k (drop at seen)) ≡ with_put first at given n = put_mid-paste at k seen written given n is many size ∙ ap (λ l. with_put l at given n) same in
+    all_new made first _ (omega (arith, count, ap length put, length-with_put first at given n (omega (arith, size)) fits)) ∙ put
+
+-- lines of their own are copied
+
+pub copy_same : (first : List (List ℕ)) (count from to n : ℕ) → from + n ≤ length first → to + n ≤ length first
+    → kept_lines (with_copied first from to n) count ≡ with_copied (kept_lines first count) from to n
+copy_same first count from to n h k =
+    let zeros = zero_lines (count - length first) in
+    let room : n ≤ length (drop from first) = omega (arith, length-drop from first) in
+    let from_low : from ≤ length first = omega arith in
+    put_same first count to (drop from first) n room k
+    ∙ sym (ap (λ l. take to (first ++ zeros) ++ l ++ drop (to + n) (first ++ zeros)) (ap (take n) (drop-append-le from first zeros from_low) ∙ take-append-le n (drop from first) zeros room))
+
+pub copy_kept : (first new : List (List ℕ)) (count from to n end : ℕ) → new ≡ with_copied first from to n → from + n ≤ length first → to + n ≤ length first
+    → (length first ≡ count) ⊎ (end + 64 ≤ length first) → to + n ≤ end → IsKept first count → IsKept new count
+copy_kept first new count from to n end is h k reached inside kept = put_kept first new count to (drop from first) n end is (omega (arith, length-drop from first)) k reached inside kept

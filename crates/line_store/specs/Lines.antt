@@ -14,6 +14,10 @@ line_of lines at = slice_index_or lines at []
 abbrev pub made_up_to : ℕ → List (List ℕ) → List (List ℕ)
 made_up_to wanted lines = lines ++ replicate (wanted - length lines) (replicate 64 0)
 
+-- the first n of some lines were put over those from one on
+abbrev pub with_put : List (List ℕ) → ℕ → List (List ℕ) → ℕ → List (List ℕ)
+with_put lines to given n = take to lines ++ take n given ++ drop (to + n) lines
+
 -- the lines after the n from `from` on were copied over the n from `to` on
 abbrev pub with_copied : List (List ℕ) → ℕ → ℕ → ℕ → List (List ℕ)
-with_copied lines from to n = take to lines ++ take n (drop from lines) ++ drop (to + n) lines
+with_copied lines from to n = with_put lines to (drop from lines) n

@@ -2,7 +2,7 @@ ghost use Rattle.std.specs.Prelude.{◌≡◌, ◌+◌, ◌-◌, ◌*◌, ◌≤
 ghost use Rattle.std.specs.Borrow.{Lends, sem, Array, u8 as byte};
 ghost use Rattle.sizes.specs.declared.TheConstants.{LINE_BYTES, MOST_REGION_FRAMES, MOST_REGION_LINES};
 ghost use Rattle.line_store.specs.contracts.region.Region.{the_row};
-ghost use Rattle.line_store.specs.Lines.{zero_lines, line_of, with_copied};
+ghost use Rattle.line_store.specs.Lines.{zero_lines, line_of, with_copied, with_put};
 ghost use Rattle.line_store.specs.Kept.{kept_lines, IsKept};
 
 use crate::lines::{Lease, Lines};
@@ -134,6 +134,18 @@ impl<A: Allocator> Region<A> {
     {
         reach(&mut self.lines, self.count, at + 1);
         self.lines.line_mut(at as usize)
+    }
+
+    /// Puts lines into those from `at` on, which have to be there. No other line changes. Costs one copy.
+    pub fn put_lines(&mut self, at: u32, lines: &[[u8; 64]])
+        requires there { at + length lines.now ≤ length self.old }
+        ensures put { self.new ≡ with_put self.old at lines.now (length lines.now) }
+        ensures count { length self.new ≡ length self.old }
+    {
+        let first = at as usize;
+        let end = first + lines.len();
+        reach(&mut self.lines, self.count, end as u32);
+        self.lines.as_mut_slice()[first..end].copy_from_slice(lines);
     }
 
     /// Makes the `n` lines from `to` on the `n` lines from `from` on. Both have to be there, and may not

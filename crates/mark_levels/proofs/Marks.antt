@@ -4,7 +4,7 @@ use Rattle.std.proofs.lemmas.List.{length-set, length-replicate, get_or-replicat
 use Rattle.std.proofs.lemmas.Nat.Bits.{bit_at_or, bit_at-zero, bit_at-lt}
 use Rattle.std.specs.Int.{bit_at}
 use Rattle.std.specs.Int.Bits.{bit_or}
-use Rattle.mark_levels.specs.Levels.{or_of, AreMarks, HasBit, LackBit, LackBitIn, IsEndBit, IsEndBitIn, IsNearer}
+use Rattle.mark_levels.specs.Levels.{or_of, AreMarks, AreMarksBut, HasBit, LackBit, LackBitIn, IsEndBit, IsEndBitIn, IsLeastBit, IsNearer}
 use Rattle.mark_levels.specs.declared.levels.End.{End}
 use Rattle.mark_levels.specs.declared.levels.End.TheVariants.{Low, High}
 
@@ -57,31 +57,39 @@ or_zero bytes from (suc n) h = ap (λ a. bit_or a (get_or bytes (from + n) 0)) (
 pub zero_at : (n x : ℕ) → ◌≡◌ {A = ℕ} (get_or (replicate n 0) x 0) 0
 zero_at n x = elim (cases_lt x n) [ inl lt ↦ get_or-replicate n x 0 0 lt | inr le ↦ get_or_past (replicate n 0) x 0 (omega (arith, length-replicate {A = ℕ} n 0, le)) ]
 
-pub zero_marks : (n m : ℕ) → m < n → n ≤ 16 * m → AreMarks (replicate n 0) (replicate m 0)
-zero_marks n m less le = record {
-  fewer = omega (arith, length-replicate {A = ℕ} n 0, length-replicate {A = ℕ} m 0, less);
+pub zero_marks : (n m : ℕ) → n ≤ 16 * m → AreMarks (replicate n 0) (replicate m 0)
+zero_marks n m le = record {
   enough = omega (arith, length-replicate {A = ℕ} n 0, length-replicate {A = ℕ} m 0, le);
   marked = λ g. zero_at m g ∙ sym (or_zero (replicate n 0) (16 * g) 16 (zero_at n));
 }
 
-pub set_marks : (bytes marks : List ℕ) (at byte : ℕ) → at < length bytes → AreMarks bytes marks → AreMarks (set bytes at byte) (set marks (at / 16) (or_of (set bytes at byte) (16 * (at / 16)) 16))
-set_marks bytes marks at byte lt are = record {
-  fewer = omega (arith, are.fewer, length-set bytes at byte, length-set marks (at / 16) bits);
-  enough = omega (arith, are.enough, length-set bytes at byte, length-set marks (at / 16) bits);
-  marked = λ g. by g (cases_eq g (at / 16));
+-- the mark of a group whose bytes were written
+pub group_marked : (bytes marks : List ℕ) (group : ℕ) → group < length marks → AreMarksBut group bytes marks → AreMarks bytes (set marks group (or_of bytes (16 * group) 16))
+group_marked bytes marks group lt but = record {
+  enough = omega (arith, but.marks_was.enough, but.size, length-set marks group (or_of bytes (16 * group) 16));
+  marked = λ g. by g (cases_eq g group);
 }
   where
-    bits : ℕ
-    bits = or_of (set bytes at byte) (16 * (at / 16)) 16
-
-    by : (g : ℕ) → (g ≡ at / 16) ⊎ (g ≡ at / 16 → ⊥) → get_or (set marks (at / 16) (or_of (set bytes at byte) (16 * (at / 16)) 16)) g 0 ≡ or_of (set bytes at byte) (16 * g) 16
+    by : (g : ℕ) → (g ≡ group) ⊎ (g ≡ group → ⊥) → get_or (set marks group (or_of bytes (16 * group) 16)) g 0 ≡ or_of bytes (16 * g) 16
     by g (inl e) =
-        ap (λ f. get_or (set marks (at / 16) (or_of (set bytes at byte) (16 * (at / 16)) 16)) f 0) e
-        ∙ get_or-set_same marks (at / 16) (or_of (set bytes at byte) (16 * (at / 16)) 16) 0 (omega (arith, are.enough, lt))
-        ∙ ap (λ f. or_of (set bytes at byte) (16 * f) 16) (sym e)
+        ap (λ f. get_or (set marks group (or_of bytes (16 * group) 16)) f 0) e
+        ∙ get_or-set_same marks group (or_of bytes (16 * group) 16) 0 lt
+        ∙ ap (λ f. or_of bytes (16 * f) 16) (sym e)
     by g (inr differs) =
-        get_or-set_other marks (at / 16) g (or_of (set bytes at byte) (16 * (at / 16)) 16) 0 differs ∙ are.marked g
-        ∙ or_same bytes (set bytes at byte) (16 * g) 16 (λ x le less. sym (get_or-set_other bytes at x byte 0 (λ e. differs (omega (arith, e, le, less)))))
+        get_or-set_other marks group g (or_of bytes (16 * group) 16) 0 differs ∙ but.marks_was.marked g
+        ∙ or_same but.was bytes (16 * g) 16 (λ x le less. sym (but.others x (elim (cases_lt x (16 * group)) [ inl lt ↦ inl lt | inr high ↦ inr (omega (arith, high, le, less, differs)) ])))
+
+pub set_marks : (bytes marks : List ℕ) (at byte : ℕ) → at < length bytes → AreMarks bytes marks → AreMarks (set bytes at byte) (set marks (at / 16) (or_of (set bytes at byte) (16 * (at / 16)) 16))
+set_marks bytes marks at byte lt are = group_marked (set bytes at byte) marks (at / 16) (omega (arith, are.enough, lt)) (record {
+  was = bytes;
+  marks_was = are;
+  size = length-set bytes at byte;
+  others = λ x out. get_or-set_other bytes at x byte 0 (λ e. apart x e out);
+})
+  where
+    apart : (x : ℕ) → x ≡ at → (x < 16 * (at / 16)) ⊎ (16 * (at / 16) + 16 ≤ x) → ⊥
+    apart x e (inl h) = omega (arith, e, h)
+    apart x e (inr h) = omega (arith, e, h)
 
 -- The bits of all bytes.
 
@@ -131,3 +139,8 @@ end_bit bytes marks k g end (Some at) are group here = (
     | inr differs ↦ not_in_group bytes marks k x are (group.1 (x / 16) (nearer end x at g here.0 here.1 differs h))
   ],
 )
+
+-- The least bit of marks is that of the bytes.
+pub least_marked : (bytes marks : List ℕ) (from below : ℕ) (o : Option ℕ) → AreMarks bytes marks → IsLeastBit marks from below o → IsLeastBit bytes from below o
+least_marked bytes marks from below None are none = λ k low high. marks_none bytes marks k are (none k low high)
+least_marked bytes marks from below (Some bit) are least = (least.0, least.1, marks_some bytes marks bit are least.2, λ k low high. marks_none bytes marks k are (least.3 k low high))

@@ -8,4 +8,4 @@ use Rattle.mark_levels.specs.Kept.{AreBelow}
 
 pub falls : (bytes : List ℕ) (above : Above) → AreBelow bytes above → max (deep-Above above) 0 ≤ length bytes
 falls bytes Top h = omega arith
-falls bytes (Marks marks) h = omega (arith, h.fewer)
+falls bytes (Marks marks) h = omega (arith, h.0)

@@ -1,4 +1,4 @@
-use Rattle.std.specs.Prelude.{◌≡◌, ℕ, ◌%◌, ◌^◌, ◌≤◌, List, length}
+use Rattle.std.specs.Prelude.{◌≡◌, ℕ, ◌%◌, ◌^◌, ◌<◌, ◌≤◌, List, length}
 use Rattle.std.specs.Int.{bit_at}
 use Rattle.mark_levels.specs.declared.levels.Above.{Above}
 use Rattle.mark_levels.specs.declared.levels.Above.TheVariants.{Top, Marks}
@@ -8,7 +8,7 @@ use Rattle.mark_levels.specs.Levels.{AreMarks, HasBit, LackBit}
 
 abbrev pub AreBelow : List ℕ → Above → Type 0
 AreBelow bytes Top = length bytes ≡ 16
-AreBelow bytes (Marks marks) = AreMarks bytes marks.value
+AreBelow bytes (Marks marks) = (length marks.value < length bytes) × AreMarks bytes marks.value
 
 pub record IsLevel (bytes : List ℕ) (bits : ℕ) (above : Above) : Type 0 where
   pub whole : length bytes % 16 ≡ 0

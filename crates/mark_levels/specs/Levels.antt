@@ -1,4 +1,4 @@
-use Rattle.std.specs.Prelude.{◌≡◌, ℕ, zero, suc, ◌+◌, ◌*◌, ◌<◌, ◌≤◌, List, length, get_or, Option, Some, None}
+use Rattle.std.specs.Prelude.{◌≡◌, ℕ, zero, suc, ◌+◌, ◌*◌, ◌<◌, ◌≤◌, ◌⊎◌, List, length, get_or, Option, Some, None}
 use Rattle.std.specs.Int.{bit_at}
 use Rattle.std.specs.Int.Bits.{bit_or}
 use Rattle.mark_levels.specs.declared.levels.End.{End}
@@ -13,9 +13,15 @@ or_of bytes from (suc n) = bit_or (or_of bytes from n) (get_or bytes (from + n) 
 
 -- the mark of each sixteen has the bits that its bytes have
 pub record AreMarks (bytes marks : List ℕ) : Type 0 where
-  pub fewer : length marks < length bytes
   pub enough : length bytes ≤ 16 * length marks
   pub marked : (g : ℕ) → get_or marks g 0 ≡ or_of bytes (16 * g) 16
+
+-- they had, before bytes of one group were written
+pub record AreMarksBut (group : ℕ) (bytes marks : List ℕ) : Type 0 where
+  pub was : List ℕ
+  pub marks_was : AreMarks was marks
+  pub size : length bytes ≡ length was
+  pub others : (x : ℕ) → (x < 16 * group) ⊎ (16 * group + 16 ≤ x) → get_or bytes x 0 ≡ get_or was x 0
 
 -- some byte has a bit
 abbrev pub HasBit : List ℕ → ℕ → Type 0

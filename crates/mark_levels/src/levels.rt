@@ -1,8 +1,9 @@
 //! A level of bytes, and above it levels of marks.
-ghost use Rattle.std.specs.Prelude.{◌≡◌, ◌+◌, ◌*◌, ◌^◌, ◌<◌, ◌≤◌, ℕ, false, IfOk, IsTrue, length, get_or, replicate, slice_set};
+ghost use Rattle.std.specs.Prelude.{◌≡◌, ◌+◌, ◌*◌, ◌^◌, ◌%◌, ◌<◌, ◌≤◌, ℕ, List, false, IfOk, IsTrue, length, get_or, replicate, slice_set};
 ghost use Rattle.std.specs.Int.{bit_at};
-ghost use Rattle.mark_levels.specs.Levels.{or_of, HasBit, IsEndBit, IsEndBitIn, IsLeastBit, LackBit};
+ghost use Rattle.mark_levels.specs.Levels.{or_of, AreMarks, AreMarksBut, HasBit, IsEndBit, IsEndBitIn, IsLeastBit, LackBit};
 
+use crate::bytes::Bytes;
 use std::alloc::{AllocError, Global};
 use std::marker::Model;
 
@@ -73,6 +74,15 @@ impl Level {
         })
     }
 
+    /// The marks of sixteen bytes 0 for each of 1 to 16,777,216 groups, which stand apart, or the want of memory.
+    pub fn marks(alloc: Global, groups: u32) -> Result<Level, AllocError>
+        requires some { 0 < groups }
+        requires few { groups ≤ MOST_GROUPS }
+        ensures { IfOk result (λ level. AreMarks (replicate (16 * groups) 0) level) }
+    {
+        Level::new(alloc, (groups + 15) / 16)
+    }
+
     /// The byte at a place, and 0 past the last one.
     pub fn get(&self, at: u32) -> u8
         ensures { result ≡ get_or self.now at 0 }
@@ -134,6 +144,39 @@ impl Level {
             },
         }
     }
+
+    /// Writes the mark of a group of bytes that stand apart. Those of all other groups have to be right.
+    pub fn mark(&mut self, bytes: &Bytes, group: u32)
+        requires there { 16 * group + 16 ≤ length bytes.now }
+        requires but { AreMarksBut group bytes.now self.old }
+        ensures { AreMarks bytes.now self.new }
+    {
+        self.set(group, union(&bytes.bytes, group));
+    }
+
+    /// The least bit from one to below another one, which is at most 8, that some byte has of those of which these are the
+    /// marks, or that none has any. Costs a step for each bit.
+    pub fn least_below(&self, from: u8, below: u8) -> Option<u8>
+        requires { below ≤ 8 }
+        ensures { (bytes : List ℕ) → AreMarks bytes self.now → IsLeastBit bytes from below result }
+    {
+        self.least(from, below)
+    }
+
+    /// The byte nearest to an end that has a bit from 0 to 7, of bytes that stand apart, or that none has it. Costs at most
+    /// sixteen steps for each level, and sixteen more.
+    pub fn nearest_below(&self, bytes: &Bytes, bit: u8, end: End) -> Option<u32>
+        requires low { bit < 8 }
+        requires marks { AreMarks bytes.now self.now }
+        requires whole { length bytes.now % 16 ≡ 0 }
+        requires few { length bytes.now ≤ 2 ^ 28 }
+        ensures { IsEndBit bytes.now bit end result }
+    {
+        match self.nearest(bit, end) {
+            None => None,
+            Some(group) => scan(&bytes.bytes, bit, end, 16 * group),
+        }
+    }
 }
 
 // Whether a byte has a bit.
@@ -159,6 +202,7 @@ fn union(bytes: &[u8], group: u32) -> u8
 }
 
 // The byte nearest to an end that has a bit, among the sixteen from one on.
+#[inline(always)]
 fn scan(bytes: &[u8], bit: u8, end: End, from: u32) -> Option<u32>
     requires low { bit < 8 }
     requires fits { (from + 16 ≤ length bytes.now) × (length bytes.now ≤ 2 ^ 28) }

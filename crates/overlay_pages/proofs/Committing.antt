@@ -1,10 +1,10 @@
 use Rattle.overlay_pages.proofs.Common.{option_map, ◌≡◌, ℕ, ◌+◌, ◌<◌, ◌≤◌, Bool, true, false, cond, List, [], Option, Some, None, IfSome, IsSome, refl, sym, ap, subst, ◌∙◌, arith, same_Some, empty}
-use Rattle.overlay_pages.proofs.Stores.{has_line, Entry, FillsFrame, IsStore, Lifts, Store, composed_line, frame_line, line_in, scratch_line, KeepsFrames, KeepsSegments}
+use Rattle.overlay_pages.proofs.Stores.{has_line, Entry, FillsFrame, IsFrame, Store, composed_line, frame_line, line_in, scratch_line, KeepsFrames}
 use Rattle.overlay_pages.proofs.Books.{Ledger, has_origin, holding_at, is_alone, put_again, class_none, origin_with, books_page, books_put_page, keeps_page_put, page_over, page_put_here, there_space, page_in, put_page, space_in, turned_page, LedgerView, PageView, ledger_of, lines_of, overlay_at, changed_there}
-use Rattle.overlay_pages.proofs.Views.{page_lines, lines_same, PageState, State, books, held_page, HasCopyRoom, IsNewFrame, IsPlaced, committed, copied, discarded, limit_of, moved_to, units_of, IsHeld, IsJoined, MemoryView, line_seen, page_state, state_of, view_of, state_awaiting, state_books, state_holds, state_page_there}
+use Rattle.overlay_pages.proofs.Views.{page_lines, lines_same, PageState, State, books, held_page, HasCopyRoom, IsNewFrame, IsPlaced, committed, copied, discarded, limit_of, moved_to, units_of, IsJoined, MemoryView, line_seen, page_state, state_of, view_of, state_awaiting, state_books, state_holds, state_page_there}
 use Rattle.overlay_pages.proofs.Steps.{alone_other, rewritten, seen_bare, seen_inside, seen_outside}
 use Rattle.overlay_pages.proofs.Joining.{Has, page_with}
-use Rattle.overlay_pages.proofs.Growing.{all_kept, turned_units}
+use Rattle.overlay_pages.proofs.Growing.{turned_units}
 use Rattle.overlay_pages.proofs.NewFrames.{new_still}
 use Rattle.overlay_pages.proofs.Joining.{turned_still}
 
@@ -90,34 +90,36 @@ module _ (a : MemoryView) (s p : ℕ) (e : Entry) (is : IsJoined a) (there : IsS
           ∙ sym (origin_with (books (state_of a)) s p (held_page (state_of a).zero_frame was) (frame + 1))
           ∙ ap (λ (l : Ledger). has_origin l (frame + 1)) (put_again (books (state_of a)) s p (held_page (state_of a).zero_frame was) held_before)
 
+  -- own lines over those of its frame are the lines that the page has
+  drawn : (frame : ℕ) → own.x.entry.frame ≡ frame → (i : ℕ) (t : Bool) → has_line e.bits i ≡ t → cond t (line_in a.store e.block i) (frame_line a.store frame i) ≡ line_seen a.store own.x i
+  drawn frame frame_is i true has = sym (seen_inside a.store own.x e i own.is has)
+  drawn frame frame_is i false has =
+      ap (λ f. frame_line a.store f i) (sym frame_is) ∙ sym (seen_outside a.store own.x i (ap (λ (o : Option Entry). has_line (lines_of o) i) own.is ∙ has))
+
   -- the lines that were composed are those that the page has
   pub composed_lines_are : (d : MemoryView) (frame : ℕ) → ((i : ℕ) → i < 64 → has_line e.bits i ≡ true → scratch_line d.store i ≡ line_in a.store e.block i)
       → KeepsFrames a.store d.store → own.x.entry.frame ≡ frame → page_lines (composed_line d.store frame e.bits) ≡ was.lines
   unfolding page_state
-  composed_lines_are d frame lifted frames frame_is = lines_same (composed_line d.store frame e.bits) (line_seen a.store own.x) (λ i low. pulled (has_line e.bits i) i refl low)
+  composed_lines_are d frame lifted frames frame_is =
+      lines_same (composed_line d.store frame e.bits) (line_seen a.store own.x) (λ i low. pulled (has_line e.bits i) i refl low ∙ drawn frame frame_is i (has_line e.bits i) refl)
     where
-      held : IsHeld a.store s p own.x
-      held = is.held s p own.x own.there
+      kept : IsFrame a.store frame
+      kept = subst (IsFrame a.store) frame_is (is.held s p own.x own.there).frame
 
-      pulled : (t : Bool) (i : ℕ) → has_line e.bits i ≡ t → i < 64 → cond t (scratch_line d.store i) (frame_line d.store frame i) ≡ line_seen a.store own.x i
-      pulled true i has low = lifted i low has ∙ sym (seen_inside a.store own.x e i own.is has)
-      pulled false i has low =
-          ap (λ f. frame_line d.store f i) (sym frame_is) ∙ (frames own.x.entry.frame held.frame).lines i low
-          ∙ sym (seen_outside a.store own.x i (ap (λ (o : Option Entry). has_line (lines_of o) i) own.is ∙ has))
+      pulled : (t : Bool) (i : ℕ) → has_line e.bits i ≡ t → i < 64 → cond t (scratch_line d.store i) (frame_line d.store frame i) ≡ cond t (line_in a.store e.block i) (frame_line a.store frame i)
+      pulled true i has low = lifted i low has
+      pulled false i has low = (frames frame kept).lines i low
 
   -- A page that is alone: they come into its frame, and once the overlay ended it is committed.
-  pub committing : (mid new : Store) (frame : ℕ) → own.x.entry.frame ≡ frame → is_alone (ledger_of a.table) s p ≡ true → Lifts a.store mid e.block e.bits → KeepsSegments a.store mid → KeepsFrames a.store mid → IsStore mid
-      → FillsFrame mid new frame → ((i : ℕ) → i < 64 → frame_line new frame i ≡ composed_line mid frame e.bits i)
+  pub committing : (new : Store) (frame : ℕ) → own.x.entry.frame ≡ frame → is_alone (ledger_of a.table) s p ≡ true → FillsFrame a.store new frame
+      → ((i : ℕ) → i < 64 → frame_line new frame i ≡ cond (has_line e.bits i) (line_in a.store e.block i) (frame_line a.store frame i))
       → IsJoined (view_of new a.table) × ((c : MemoryView) → state_of c ≡ turned_page discarded (state_of (view_of new a.table)) s p → state_of c ≡ turned_page committed (state_of a) s p)
   unfolding page_state
-  committing mid new frame frame_is alone lifts segments frames mid_is fills lines =
-      let still = all_kept a.store mid a.table is segments frames lifts.blocks lifts.segments mid_is in
-      let filled = filled_up (view_of mid a.table) new s p own.x frame still.0 own.there frame_is alone fills in
-      let same = lines_same (frame_line new own.x.entry.frame) (composed_line mid frame e.bits) (λ i low. ap (λ f. frame_line new f i) frame_is ∙ lines i low)
-      ∙ composed_lines_are (view_of mid a.table) frame (λ i low has. lifts.lifted i has) frames frame_is in (
+  committing new frame frame_is alone fills lines =
+      let filled = filled_up a new s p own.x frame is own.there frame_is alone fills in
+      let same = lines_same (frame_line new own.x.entry.frame) (line_seen a.store own.x) (λ i low. ap (λ f. frame_line new f i) frame_is ∙ lines i low ∙ drawn frame frame_is i (has_line e.bits i) refl) in (
         filled.0,
-        λ c. commits a (view_of new a.table) c s p own.x own.there (filled.1 ∙ ap (λ st. put_page st s p (page_state new own.x)) still.1)
-            (λ i. record { entry = own.x.entry; own = []; lines = same i; base = same i }),
+        λ c. commits a (view_of new a.table) c s p own.x own.there filled.1 (λ i. record { entry = own.x.entry; own = []; lines = same i; base = same i }),
       )
 
   pub copied_at : (d new : MemoryView) (lines : List (List ℕ)) → state_of d ≡ turned_page discarded (state_of a) s p → lines ≡ was.lines

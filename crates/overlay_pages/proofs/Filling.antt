@@ -1,5 +1,7 @@
-use Rattle.overlay_pages.proofs.Common.{◌≡◌, ℕ, ◌+◌, ◌*◌, ◌<◌, List, [], refl, sym, ap, ◌∙◌, arith, inl, inr, cases_eq, get_or-set_other}
-use Rattle.overlay_pages.proofs.Stores.{FillsFrame, IsStore, Store, IsFrame, frame_line, with_frame_line, KeepsSegments, block_of, frame_alters, frame_inside, frame_set_here, frame_set_store, frame_stays, scratch_stays, segments_stay, stays_twice}
+use Rattle.std.proofs.lemmas.List.{drop-drop}
+use Rattle.std.specs.Simd.{first_chunks}
+use Rattle.overlay_pages.proofs.Common.{◌≡◌, ℕ, zero, suc, ◌+◌, ◌*◌, ◌<◌, List, [], take, drop, refl, ap, ◌∙◌, arith, get_or-set_other}
+use Rattle.overlay_pages.proofs.Stores.{line_of, IsStore, Store, IsFrame, with_frame_line, KeepsSegments, block_of, frame_alters, frame_inside, frame_set_here, frame_set_store, frame_stays, scratch_stays, segments_stay, stays_twice}
 use Rattle.overlay_pages.proofs.Views.{PutsLine}
 
 -- A frame is filled.
@@ -26,31 +28,10 @@ pub segments_twice : (one two three : Store) → KeepsSegments one two → Keeps
 segments_twice one two three a b unit segment there =
     let first = a unit segment there in stays_twice one two three (block_of unit segment) first (b unit segment (first.there ∙ there))
 
-pub fills_twice : (one two three : Store) (frame : ℕ) → FillsFrame one two frame → FillsFrame two three frame → FillsFrame one three frame
-fills_twice one two three frame a b = record {
-  blocks = b.blocks ∙ a.blocks;
-  same = b.same ∙ a.same;
-  segments = segments_twice one two three a.segments b.segments;
-  frames = λ other away there. record {
-    stays = (b.frames other away (a.frames other away there).stays).stays;
-    lines = λ line low. (b.frames other away (a.frames other away there).stays).lines line low ∙ (a.frames other away there).lines line low;
-  };
-  scratch = λ line low. b.scratch line low ∙ a.scratch line low;
-  stays = b.stays;
-  store = b.store;
-}
-
--- So far: the first lines are those that were given.
-pub record HasFilled (old new : Store) (frame count : ℕ) (given : ℕ → List ℕ) : Type 0 where
-  pub fills : FillsFrame old new frame
-  pub lines : (i : ℕ) → i < count → frame_line new frame i ≡ given i
-
--- one more is
-pub filled_more : (old mid new : Store) (frame line : ℕ) (given : ℕ → List ℕ) (bytes : List ℕ) → HasFilled old mid frame line given → PutsLine mid new frame line bytes → bytes ≡ given line → HasFilled old new frame (line + 1) given
-filled_more old mid new frame line given bytes so puts same = record {
-  fills = fills_twice old mid new frame so.fills puts.fills;
-  lines = λ i low. elim (cases_eq i line) [
-    | inl e ↦ ap (frame_line new frame) e ∙ puts.here ∙ same ∙ ap given (sym e)
-    | inr away ↦ puts.others i away ∙ so.lines i (omega (arith, low, away))
-  ];
-}
+-- a line of bytes that were cut into lines
+pub chunk_at : (k : ℕ) (bytes : List ℕ) (i : ℕ) → i < k → line_of (first_chunks 64 k bytes) i ≡ take 64 (drop (64 * i) bytes)
+chunk_at zero bytes i low = absurd (omega (arith, low))
+chunk_at (suc k) bytes zero low = refl
+chunk_at (suc k) bytes (suc i) low =
+    let next : 64 + 64 * i ≡ 64 * suc i = omega arith in
+    chunk_at k (drop 64 bytes) i (omega (arith, low)) ∙ ap (take 64) (drop-drop (64 * i) 64 bytes ∙ ap (λ n. drop n bytes) next)

@@ -39,7 +39,32 @@ fn capacity(order: u8) -> u32
     }
 }
 
-/// The overlay of a page that is there ends, if it has one. Its segment ends, and the store is settled.
+/// The overlay of a page ends. Its segment ends, and the store is settled.
+pub(crate) fn end_overlay(
+    store: &mut SegmentStore,
+    ledger: &mut SpaceLedger,
+    space: u16,
+    page: u64,
+    overlay: &Entry,
+)
+    requires joined { IsJoined (view_of store.old ledger.old) }
+    requires there { IsSome (page_in ledger.old space page) }
+    requires overlaid { overlay_at ledger.old space page ≡ Some overlay.now }
+    ensures joined { IsJoined (view_of store.new ledger.new) }
+    ensures state { state_of (view_of store.new ledger.new)
+        ≡ turned_page discarded (state_of (view_of store.old ledger.old)) space page }
+    ensures there { IsSome (page_in ledger.new space page) }
+    ensures bare { overlay_at ledger.new space page ≡ None }
+    ensures scratch { KeepsScratch store.old store.new }
+    ensures frames { KeepsFrames store.old store.new }
+    ensures few { MovesFewBeside space page ledger.old ledger.new }
+{
+    store.end_segment(overlay.block);
+    ledger.set_overlay(space, page, None);
+    settle(store, ledger);
+}
+
+/// The overlay of a page that is there ends, if it has one.
 pub(crate) fn drop_overlay(
     store: &mut SegmentStore,
     ledger: &mut SpaceLedger,
@@ -58,9 +83,7 @@ pub(crate) fn drop_overlay(
     ensures few { MovesFewBeside space page ledger.old ledger.new }
 {
     if let Some(entry) = ledger.overlay(space, page) {
-        store.end_segment(entry.block);
-        ledger.set_overlay(space, page, None);
-        settle(store, ledger);
+        end_overlay(store, ledger, space, page, &entry);
     }
 }
 
@@ -92,7 +115,7 @@ pub(crate) fn take_up(
     ensures few { MovesFewBeside space page ledger.old ledger.new }
 {
     store.lift(overlay.block, overlay.bits);
-    drop_overlay(store, ledger, space, page);
+    end_overlay(store, ledger, space, page, overlay);
 }
 
 /// A page that is there and has no overlay gets one, for which there is room: with these lines of scratch, and with one line more.

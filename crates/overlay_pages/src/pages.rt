@@ -463,7 +463,7 @@ impl OverlayPages {
         }
     }
 
-    /// The own lines of a page that is there and alone go into its frame. Takes no memory. Costs two copies of each own line, and
+    /// The own lines of a page that is there and alone go into its frame. Takes no memory. Costs a copy of each own line, and
     /// moves that copy 60 lines at most.
     pub fn commit_page(&mut self, space: u16, page: u64)
         requires there { IsSome (page_in (state_of self.old) space page) }

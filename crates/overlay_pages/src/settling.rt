@@ -12,7 +12,7 @@ ghost use Rattle.overlay_pages.specs.Changes.{HasCopyRoom, IsPlaced, committed, 
 ghost use Rattle.overlay_pages.specs.Calls.{MovesFewBeside};
 ghost use Rattle.overlay_pages.specs.View.{IsJoined, state_of, view_of};
 
-use crate::overlays::{drop_overlay, take_up};
+use crate::overlays::{end_overlay, take_up};
 use crate::placing::place_composed;
 use overlay_mapping_table::Entry;
 use segment_store::SegmentStore;
@@ -41,9 +41,8 @@ pub(crate) fn commit(store: &mut SegmentStore, ledger: &mut SpaceLedger, space: 
 {
     if let Some(overlay) = ledger.overlay(space, page) {
         let frame = frame_of(ledger, space, page);
-        store.lift(overlay.block, overlay.bits);
-        store.compose_frame(frame, overlay.bits, frame);
-        drop_overlay(store, ledger, space, page);
+        store.lay_in_frame(overlay.block, overlay.bits, frame);
+        end_overlay(store, ledger, space, page, &overlay);
     }
 }
 

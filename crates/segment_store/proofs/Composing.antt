@@ -1,16 +1,18 @@
-use Rattle.std.proofs.Common.{◌≡◌, ℕ, ◌+◌, ◌-◌, ◌*◌, ◌<◌, ◌≤◌, true, false, cond, ◌||◌, nat_eq, ◌⊎◌, inl, inr, List, [], ◌∷◌, ◌++◌, append-nil, length, get_or, set, None, sym, ap, ap₂, subst, refl, ◌∙◌, arith, append_assoc}
+use Rattle.std.proofs.Common.{◌≡◌, ℕ, ◌+◌, ◌-◌, ◌*◌, ◌^◌, ◌<◌, ◌≤◌, Bool, true, false, cond, ◌||◌, nat_eq, ◌⊎◌, inl, inr, List, [], ◌∷◌, ◌++◌, append-nil, length, get_or, set, None, sym, ap, ap₂, subst, refl, ◌∙◌, arith, append_assoc, true≢false}
 use Rattle.std.proofs.lemmas.Bool.{cases_eq}
 use Rattle.std.proofs.lemmas.Bool.Decides.{nat_tests}
 use Rattle.std.proofs.lemmas.List.{get_or-set_same, get_or-set_other, length-set}
-use Rattle.line_store.specs.Lines.{line_of}
+use Rattle.line_store.specs.Lines.{line_of, with_put}
 use Rattle.unit_map.specs.Pieces.{ArePieces, IsPiece, taken_at, units_in}
+use Rattle.unit_map.specs.declared.block.Block.{Block}
 use Rattle.overlay_bits.specs.Lines.{AreLines, has_line}
 use Rattle.overlay_bits.specs.Laws.{has_next, has_with, next_inside, with_next}
-use Rattle.segment_store.specs.Store.{Store, IsFrame, composed_line, frame_line, segment_at}
-use Rattle.segment_store.specs.Places.{CopiesPage, HasLaidOver, LaysOver}
+use Rattle.segment_store.proofs.Copies.{put_in, put_out}
+use Rattle.segment_store.specs.Store.{Store, IsFrame, IsSegment, composed_line, frame_line, line_in, segment_at}
+use Rattle.segment_store.specs.Places.{CopiesPage, HasLaidOver, IsApartFrom, LaysOver, LiftsLines}
 use Rattle.segment_store.specs.Kept.{IsStore}
 use Rattle.segment_store.specs.Changes.{FillsFrame, KeepsLines}
-use Rattle.segment_store.specs.Laws.{Alters, frame_inside, frame_range, frame_stays, next_store, scratch_stays, segments_stay, some_none}
+use Rattle.segment_store.specs.Laws.{Alters, frame_inside, frame_range, frame_stays, next_store, scratch_stays, segment_range, segments_stay, some_none}
 
 -- Lines of scratch are laid over a page.
 
@@ -116,3 +118,50 @@ composed_frame old new mid from bits to is f page lay blocks segments = record {
     scratch_same line =
         let place : length mid - 64 + line ≡ 4 * units_in old.blocks + line = omega (arith, page.size, is.lines) in
         ap (line_of mid) place ∙ page.outside (4 * units_in old.blocks + line) (inr (omega (arith, frame_inside old is to f)))
+
+-- The lines of a segment are laid in a frame.
+
+pub apart_frame : (store : Store) (block : Block) (frame : ℕ) → IsStore store → IsSegment store block → IsFrame store frame → IsApartFrom block (64 * frame)
+apart_frame store block frame is there f = at (segment_range store is block there (16 * frame) 4 f.taken (λ e. some_none there.segment (sym there.there ∙ ap (segment_at store) (sym e) ∙ f.alone)))
+  where
+    at : (4 * (16 * frame + 2 ^ 4) ≤ 4 * block.unit) ⊎ (4 * block.unit + 4 * 2 ^ block.order ≤ 4 * (16 * frame)) → IsApartFrom block (64 * frame)
+    at (inl h) = inl (omega (arith, h))
+    at (inr h) = inr (omega (arith, h))
+
+pub record HasLaidInFrame (old new : Store) (block : Block) (bits : List ℕ) (frame : ℕ) : Type 0 where
+  pub fills : FillsFrame old new frame
+  pub lines : (line : ℕ) → line < 64 → frame_line new frame line ≡ cond (has_line bits line) (line_in old block line) (frame_line old frame line)
+
+pub laid_in_frame : (old new : Store) (block : Block) (bits : List ℕ) (frame : ℕ) → IsStore old → IsFrame old frame → AreLines bits
+    → LiftsLines (64 * frame) block bits old.lines new.lines → new.blocks ≡ old.blocks → new.segments ≡ old.segments → HasLaidInFrame old new block bits frame
+laid_in_frame old new block bits frame is f are lift blocks segments = record {
+  fills = frame_filled old new frame is f (record { size = lift.size; outside = λ at out. lift.others at (λ line has e. off at out (are.inside line has) e) }) blocks segments;
+  lines = λ line low. each line (has_line bits line) refl;
+}
+  where
+    off : (at : ℕ) {line : ℕ} → (at < 64 * frame) ⊎ (64 * frame + 64 ≤ at) → line < 64 → at ≡ 64 * frame + line → ⊥
+    off at (inl out) low e = omega (arith, out, e)
+    off at (inr out) low e = omega (arith, out, low, e)
+
+    each : (line : ℕ) (t : Bool) → has_line bits line ≡ t → frame_line new frame line ≡ cond t (line_in old block line) (frame_line old frame line)
+    each line true has = lift.lifted line has
+    each line false has = lift.others (64 * frame + line) (λ other also e. true≢false (sym also ∙ (let same : other ≡ line = omega (arith, e) in ap (has_line bits) same) ∙ has))
+
+-- Lines are put into a frame.
+
+pub record HasPutFrame (old new : Store) (frame : ℕ) (given : List (List ℕ)) : Type 0 where
+  pub fills : FillsFrame old new frame
+  pub lines : (line : ℕ) → line < 64 → frame_line new frame line ≡ line_of given line
+
+pub put_in_frame : (old new : Store) (frame : ℕ) (given : List (List ℕ)) → IsStore old → IsFrame old frame → length given ≡ 64 → new.lines ≡ with_put old.lines (64 * frame) given 64 → length new.lines ≡ length old.lines
+    → new.blocks ≡ old.blocks → new.segments ≡ old.segments → HasPutFrame old new frame given
+put_in_frame old new frame given is f many put size blocks segments = record {
+  fills = frame_filled old new frame is f (record {
+    size = size;
+    outside = λ at out. ap (λ l. line_of l at) put ∙ put_out old.lines (64 * frame) given 64 (omega (arith, many)) fits at out;
+  }) blocks segments;
+  lines = λ line low. ap (λ l. line_of l (64 * frame + line)) put ∙ put_in old.lines (64 * frame) given 64 (omega (arith, many)) fits line low;
+}
+  where
+    fits : 64 * frame + 64 ≤ length old.lines
+    fits = omega (arith, frame_inside old is frame f, is.lines)

@@ -5,10 +5,10 @@ use Rattle.std.proofs.lemmas.List.{get_or-set_same, get_or-set_other, length-set
 use Rattle.line_store.specs.Lines.{line_of}
 use Rattle.unit_map.specs.declared.block.Block.{Block}
 use Rattle.overlay_bits.specs.Lines.{AreLines, has_line}
-use Rattle.overlay_bits.specs.Laws.{front_lacks, has_next, has_with, next_inside, with_next}
+use Rattle.overlay_bits.specs.Laws.{are_front, front_lacks, has_next, has_with, next_inside, with_next}
 use Rattle.segment_store.specs.Pointers.{slot_of}
 use Rattle.segment_store.specs.Store.{place_in}
-use Rattle.segment_store.specs.Places.{HasBlock, HasLifted, LiesIn, LiftsLines}
+use Rattle.segment_store.specs.Places.{HasBlock, HasLifted, IsApartFrom, LiesIn, LiftsLines}
 use Rattle.segment_store.specs.Laws.{place_same}
 
 -- Segments that are lifted into scratch, and laid from there.
@@ -36,6 +36,15 @@ none_lifted scratch block bits rest lines e = record {
   lifted = record { size = refl; lifted = λ line has. absurd (true≢false (sym has)); others = λ at n. refl };
 }
 
+-- lines of the block stay where some of the 64 lines were written
+same_in : (scratch : ℕ) (block : Block) (front : List ℕ) (old mid : List (List ℕ)) → IsApartFrom block scratch → AreLines front → LiftsLines scratch block front old mid
+    → (x : ℕ) → 4 * block.unit ≤ x → x < 4 * (block.unit + 2 ^ block.order) → line_of mid x ≡ line_of old x
+same_in scratch block front old mid apart are lift x from to = lift.others x (λ i has e. off apart (are.inside i has) e)
+  where
+    off : {i : ℕ} → IsApartFrom block scratch → i < 64 → x ≡ scratch + i → ⊥
+    off (inl h) low e = omega (arith, h, from, low, e)
+    off (inr h) low e = omega (arith, h, to, e)
+
 -- what is known of the next line
 pub record IsNextLifted (block : Block) (line : ℕ) (mid : List (List ℕ)) : Type 0 where
   pub low : line < 64
@@ -43,13 +52,14 @@ pub record IsNextLifted (block : Block) (line : ℕ) (mid : List (List ℕ)) : T
   pub within : HasBlock mid block
 
 pub next_lifted : (scratch : ℕ) (block : Block) (bits front : List ℕ) (line : ℕ) (rest : List ℕ) (old mid : List (List ℕ))
-    → AreLines bits → HasBlock old block → 4 * (block.unit + 2 ^ block.order) ≤ scratch → ((line : ℕ) → has_line bits line ≡ true → LiesIn old block.unit block.order line)
+    → AreLines bits → HasBlock old block → IsApartFrom block scratch → ((line : ℕ) → has_line bits line ≡ true → LiesIn old block.unit block.order line)
     → (left : List ℕ) → left ≡ line ∷ rest → HasLifted scratch block bits front left old mid → IsNextLifted block line mid
-next_lifted scratch block bits front line rest old mid are within before lie left next found =
+next_lifted scratch block bits front line rest old mid are within apart lie left next found =
     let h = subst (λ l. HasLifted scratch block bits front l old mid) next found in
     let has_it : has_line bits line ≡ true = ap (λ l. has_line l line) h.whole ∙ has_next front line rest in
     let l = lie line has_it in
-    let was = place_same mid old block.unit block.order line within.order (λ less. ap (λ p. slot_of p line) (h.lifted.others (4 * block.unit) (λ i has e. omega (arith, before, l.from, l.to, e)))) in
+    let was = place_same mid old block.unit block.order line within.order (λ less. ap (λ p. slot_of p line)
+    (same_in scratch block front old mid apart (are_front front (line ∷ rest) (subst AreLines h.whole are)) h.lifted (4 * block.unit) (omega arith) (omega (arith, l.from, l.to)))) in
     record {
       low = next_inside front line rest (subst AreLines h.whole are);
       below = omega (arith, was, l.to);
@@ -57,11 +67,11 @@ next_lifted scratch block bits front line rest old mid are within before lie lef
     }
 
 pub one_lifted : (scratch : ℕ) (block : Block) (bits front : List ℕ) (line : ℕ) (rest : List ℕ) (old mid new : List (List ℕ)) (at : ℕ)
-    → AreLines bits → HasBlock old block → 4 * (block.unit + 2 ^ block.order) ≤ scratch → scratch + 64 ≡ length old → ((line : ℕ) → has_line bits line ≡ true → LiesIn old block.unit block.order line)
+    → AreLines bits → HasBlock old block → IsApartFrom block scratch → scratch + 64 ≤ length old → ((line : ℕ) → has_line bits line ≡ true → LiesIn old block.unit block.order line)
     → (left : List ℕ) → left ≡ line ∷ rest → HasLifted scratch block bits front left old mid
     → at ≡ place_in mid block.unit block.order line → new ≡ set mid (scratch + line) (line_of mid at)
     → HasLifted scratch block bits (front ++ line ∷ []) rest old new
-one_lifted scratch block bits front line rest old mid new at are within before size lie left next found place e = record {
+one_lifted scratch block bits front line rest old mid new at are within apart size lie left next found place e = record {
   whole = h.whole ∙ sym (append_assoc front (line ∷ []) rest);
   lifted = record {
     size = ap length e ∙ length-set mid (scratch + line) _ ∙ h.lifted.size;
@@ -87,12 +97,11 @@ one_lifted scratch block bits front line rest old mid new at are within before s
     has_it : has_line bits line ≡ true
     has_it = ap (λ l. has_line l line) h.whole ∙ has_next front line rest
 
-    -- below scratch nothing changed
-    same : (x : ℕ) → x < scratch → line_of mid x ≡ line_of old x
-    same x less = h.lifted.others x (λ i has e. omega (arith, less, e))
+    same : (x : ℕ) → 4 * block.unit ≤ x → x < 4 * (block.unit + 2 ^ block.order) → line_of mid x ≡ line_of old x
+    same = same_in scratch block front old mid apart (are_front front (line ∷ rest) whole) h.lifted
 
     was : place_in mid block.unit block.order line ≡ place_in old block.unit block.order line
-    was = place_same mid old block.unit block.order line within.order (λ less. ap (λ p. slot_of p line) (same (4 * block.unit) (omega (arith, before, (lie line has_it).from, (lie line has_it).to))))
+    was = place_same mid old block.unit block.order line within.order (λ less. ap (λ p. slot_of p line) (same (4 * block.unit) (omega arith) (omega (arith, (lie line has_it).from, (lie line has_it).to))))
 
     each : (i : ℕ) → (i ≡ line) ⊎ (has_line front i ≡ true) → line_of new (scratch + i) ≡ line_of old (place_in old block.unit block.order i)
     each i (inl s) =
@@ -100,7 +109,7 @@ one_lifted scratch block bits front line rest old mid new at are within before s
         ∙ ap (λ l. line_of l (scratch + line)) e
         ∙ get_or-set_same mid (scratch + line) _ [] (omega (arith, size, h.lifted.size, low))
         ∙ ap (line_of mid) (place ∙ was)
-        ∙ same (place_in old block.unit block.order line) (omega (arith, (lie line has_it).to, before))
+        ∙ same (place_in old block.unit block.order line) (lie line has_it).from (lie line has_it).to
         ∙ ap (λ i. line_of old (place_in old block.unit block.order i)) (sym s)
     each i (inr has) =
         ap (λ l. line_of l (scratch + i)) e

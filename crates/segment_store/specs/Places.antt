@@ -24,6 +24,10 @@ pub record LiesIn (lines : List (List ℕ)) (unit order line : ℕ) : Type 0 whe
 abbrev pub LieIn : List (List ℕ) → Block → List ℕ → Type 0
 LieIn lines block bits = (line : ℕ) → has_line bits line ≡ true → LiesIn lines block.unit block.order line
 
+-- no line of a block is one of the 64 from one on
+abbrev pub IsApartFrom : Block → ℕ → Type 0
+IsApartFrom block first = (first + PAGE_LINES ≤ UNIT_LINES * block.unit) ⊎ (UNIT_LINES * (block.unit + 2 ^ block.order) ≤ first)
+
 -- below order 4 the line of a segment's pointers has no line yet, or a slot that is free
 abbrev pub HasNoLine : List (List ℕ) → Block → Type 0
 HasNoLine lines block = block.order < 4 → ArePointers (capacity_of block.order) [] (line_of lines (UNIT_LINES * block.unit))
@@ -44,7 +48,7 @@ pub record BeginsLines (old new : List (List ℕ)) (block : Block) : Type 0 wher
   pub others : (at : ℕ) → (block.order < 4 → at ≡ UNIT_LINES * block.unit → ⊥) → line_of new at ≡ line_of old at
   pub pointers : block.order < 4 → ArePointers (capacity_of block.order) [] (line_of new (UNIT_LINES * block.unit))
 
--- the lines of a segment were copied to their own places behind `scratch`, and no other line changed
+-- the lines of a segment were copied to their own places from `scratch` on, or from the first line of a page, and no other line changed
 pub record LiftsLines (scratch : ℕ) (block : Block) (bits : List ℕ) (old new : List (List ℕ)) : Type 0 where
   pub size : length new ≡ length old
   pub lifted : (line : ℕ) → has_line bits line ≡ true → line_of new (scratch + line) ≡ line_of old (place_in old block.unit block.order line)

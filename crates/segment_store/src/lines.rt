@@ -2,7 +2,7 @@
 ghost use Rattle.std.specs.Prelude.{◌≡◌, ◌+◌, ◌-◌, ◌*◌, ◌≤◌, ◌<◌, ◌⊎◌, IfOk, length, take, drop, slice_set};
 ghost use Rattle.std.specs.Borrow.{Lends, sem, Array, u8 as byte};
 ghost use Rattle.sizes.specs.declared.TheConstants.{LINE_BYTES, MOST_FRAMES, PAGE_LINES};
-ghost use Rattle.line_store.specs.Lines.{line_of, with_copied, zero_lines};
+ghost use Rattle.line_store.specs.Lines.{line_of, with_copied, with_put, zero_lines};
 ghost use Rattle.segment_store.specs.contracts.lines.StoreLines.{the_row};
 
 use line_store::Region;
@@ -79,6 +79,15 @@ impl StoreLines {
         self.units.put_line(at, bytes);
     }
 
+    /// Puts lines into those before scratch from one on.
+    pub(crate) fn put_lines(&mut self, at: u32, lines: &[[u8; 64]])
+        requires there { at + length lines.now + PAGE_LINES ≤ length self.old }
+        ensures put { self.new ≡ with_put self.old at lines.now (length lines.now) }
+        ensures count { length self.new ≡ length self.old }
+    {
+        self.units.put_lines(at, lines);
+    }
+
     /// Copies lines before scratch to others there, which may not overlap them.
     pub(crate) fn copy_lines(&mut self, from: u32, to: u32, n: u32)
         requires source { from + n + PAGE_LINES ≤ length self.old }
@@ -88,6 +97,17 @@ impl StoreLines {
         ensures count { length self.new ≡ length self.old }
     {
         self.units.copy_lines(from, to, n);
+    }
+
+    /// Copies a line before scratch to another one there.
+    #[inline]
+    pub(crate) fn copy_line(&mut self, from: u32, to: u32)
+        requires source { from + PAGE_LINES < length self.old }
+        requires target { to + PAGE_LINES < length self.old }
+        ensures { self.new ≡ slice_set self.old to (line_of self.old from) }
+    {
+        let bytes = *self.units.line(from);
+        self.units.put_line(to, &bytes);
     }
 
     /// Copies a line before scratch to a line of scratch.

@@ -4,7 +4,7 @@ ghost use Rattle.sizes.specs.declared.TheConstants.{PAGE_LINES};
 ghost use Rattle.overlay_bits.specs.Lines.{AreLines};
 ghost use Rattle.segment_store.specs.Pointers.{capacity_of};
 ghost use Rattle.segment_store.specs.Store.{place_in};
-ghost use Rattle.segment_store.specs.Places.{BeginsLines, HasBlock, HasFreeSlot, HasNoLine, LieIn, Reserves, LiftsLines, LaysLines, LaysOver, CopiesPage};
+ghost use Rattle.segment_store.specs.Places.{BeginsLines, HasBlock, HasFreeSlot, HasNoLine, IsApartFrom, LieIn, Reserves, LiftsLines, LaysLines, LaysOver, CopiesPage};
 
 use crate::lines::StoreLines;
 use crate::pointers;
@@ -64,6 +64,21 @@ pub(crate) fn lift(region: &mut StoreLines, block: Block, bits: Bits)
     'lifting: for line in bits.iter() {
         let at = place(region, block, line);
         region.lift_line(at, line);
+    }
+}
+
+/// Copies the lines of the segment at a block to their own places in a page, which lies before scratch and apart from the block.
+pub(crate) fn lay_in_page(region: &mut StoreLines, block: Block, bits: Bits, first: u32)
+    requires block { HasBlock region.old block }
+    requires lie { LieIn region.old block bits }
+    requires inside { first + 2 * PAGE_LINES ≤ length region.old }
+    requires apart { IsApartFrom block first }
+    ensures are { AreLines bits }
+    ensures lifts { LiftsLines first block bits region.old region.new }
+{
+    'laying: for line in bits.iter() {
+        let at = place(region, block, line);
+        region.copy_line(at, first + u32::from(line));
     }
 }
 

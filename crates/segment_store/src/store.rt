@@ -3,6 +3,7 @@ ghost use Rattle.std.specs.Option.{option_to_list};
 ghost use Rattle.std.specs.Borrow.{Lends, sem, Array, u8 as byte};
 ghost use Rattle.arrayvec.specs.ArrayVec.{array_vec_len};
 ghost use Rattle.sizes.specs.declared.TheConstants.{FRAME_UNITS, LINE_BYTES, MOST_FRAMES, PAGE_LINES};
+ghost use Rattle.line_store.specs.Lines.{line_of};
 ghost use Rattle.unit_map.specs.Pieces.{AreSettled, AreSettledBut, CanSettle, free_units, units_in};
 ghost use Rattle.unit_map.specs.Changes.{CanMove, HasRoom, IsFull, Gives, OnlyGives, OnlyTakes, TakesBlock};
 ghost use Rattle.store_compaction.specs.Runs.{HasPair};
@@ -230,6 +231,16 @@ impl SegmentStore {
         self.region.line_mut(64 * frame + u32::from(line))
     }
 
+    /// Puts 64 lines into a frame, which has to be taken. Nothing else changes. Costs one copy.
+    pub fn put_frame(&mut self, frame: u32, lines: &[[u8; 64]])
+        requires frame { IsFrame self.old frame }
+        requires lines { length lines.now ≡ PAGE_LINES }
+        ensures fills { FillsFrame self.old self.new frame }
+        ensures lines { (line : ℕ) → line < PAGE_LINES → frame_line self.new frame line ≡ line_of lines.now line }
+    {
+        self.region.put_lines(64 * frame, lines);
+    }
+
     /// Begins an empty segment of an order from 0 to 4, for which there has to be room, in a block of a free
     /// block of the least order that is enough, and answers its block. Below order 4 the block's first line
     /// becomes its line of pointers. No other line changes. Costs what taking a block costs.
@@ -353,6 +364,19 @@ impl SegmentStore {
     {
         places::copy_page(&mut self.region, from, to);
         places::lay_over(&mut self.region, 64 * to, bits);
+    }
+
+    /// Copies each line of a segment, which has to be there with just these lines, to its own place in a frame, which is taken. Nothing
+    /// else changes. Costs a copy for each line.
+    pub fn lay_in_frame(&mut self, block: Block, bits: Bits, frame: u32)
+        requires there { IsSegment self.old block }
+        requires bits { lines_at self.old block.unit ≡ bits }
+        requires frame { IsFrame self.old frame }
+        ensures fills { FillsFrame self.old self.new frame }
+        ensures lines { (line : ℕ) → line < PAGE_LINES → frame_line self.new frame line
+            ≡ cond (has_line bits line) (line_in self.old block line) (frame_line self.old frame line) }
+    {
+        places::lay_in_page(&mut self.region, block, bits, 64 * frame);
     }
 
     /// Makes a move on the way to room for a block of an order from 0 to 4, and answers it. At least 2^order

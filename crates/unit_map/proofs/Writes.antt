@@ -1,6 +1,7 @@
-use Rattle.std.proofs.Common.{◌≡◌, ℕ, ◌+◌, ◌<◌, ◌≤◌, ◌⊎◌, inl, inr, List, length, get_or, set, sym, ap, ◌∙◌, refl, arith}
+use Rattle.std.proofs.Common.{◌≡◌, ℕ, ◌+◌, ◌*◌, ◌^◌, ◌<◌, ◌≤◌, ◌⊎◌, inl, inr, List, length, get_or, set, sym, ap, ◌∙◌, refl, arith}
 use Rattle.std.proofs.lemmas.Bool.{cases_lt}
 use Rattle.std.proofs.lemmas.List.{length-set, get_or-set_same, get_or-set_other}
+use Rattle.mark_levels.specs.Levels.{AreMarks, AreMarksBut}
 use Rattle.unit_map.specs.Cells.{AreSameBut, AreInside}
 
 -- Bytes of the table are written.
@@ -44,3 +45,12 @@ same_side u m old new x same = elim (cases_lt x u) [
   | inl lt ↦ inr (inl lt, same.before x lt)
   | inr low ↦ elim (cases_lt x (u + m)) [ inl lt ↦ inl (low, lt) | inr le ↦ inr (inr le, same.behind x le) ]
 ]
+
+-- The marks of frames, but for one that was written.
+pub marks_but : (old new marks : List ℕ) (g : ℕ) → AreMarks old marks → AreSameBut (16 * g) (2 ^ 4) old new → AreMarksBut g new marks
+marks_but old new marks g are same = record {
+  was = old;
+  marks_was = are;
+  size = same.units;
+  others = λ x out. elim out [ inl lt ↦ same.before x lt | inr le ↦ same.behind x le ];
+}

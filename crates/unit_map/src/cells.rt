@@ -1,5 +1,6 @@
 //! What is done to the table: a byte a unit, which says what starts there.
 ghost use Rattle.std.specs.Prelude.{◌≡◌, ◌+◌, ◌*◌, ◌/◌, ◌^◌, ◌<◌, ◌≤◌, ◌⊎◌, ℕ, true, false, length, get_or};
+ghost use Rattle.mark_levels.specs.Levels.{AreMarks};
 ghost use Rattle.unit_map.specs.Changes.{CanMove};
 ghost use Rattle.unit_map.specs.Cells.{code, pieces_of, with_free, CanClear, AreHalves, AreInside, AreSameBut, IsCleared, IsHeld, IsIn, IsJoined, IsRange, IsSplit, IsTable, IsWiped};
 ghost use Rattle.unit_map.specs.Counted.{AreCounts, CanCount, GoAlong};
@@ -7,7 +8,7 @@ ghost use Rattle.unit_map.specs.Moves.{IsCarried};
 
 use crate::Block;
 use crate::orders::{self, Counts};
-use mark_levels::Level;
+use mark_levels::{Bytes, Level};
 use sizes::{FRAME_ORDER, FRAME_UNITS};
 
 /// No block starts at the unit.
@@ -30,7 +31,7 @@ pub fn taken(order: u8) -> u8
 }
 
 /// Takes the lowest block of an order out of a free one of the order `from`, and frees the rest.
-pub fn split(cells: &mut Level, unit: u32, from: u8, order: u8)
+pub fn split(cells: &mut Bytes, unit: u32, from: u8, order: u8)
     requires low { order ≤ from }
     requires range { IsRange cells.old unit from }
     requires inside { AreInside cells.old (unit + 1) (unit + 2 ^ from) }
@@ -44,7 +45,7 @@ pub fn split(cells: &mut Level, unit: u32, from: u8, order: u8)
 
 /// Makes one free block of all that fills the range of a block, and merges it with its other half as long as that is
 /// free too.
-pub fn clear(cells: &mut Level, counts: &mut Counts, block: Block)
+pub fn clear(cells: &mut Bytes, counts: &mut Counts, block: Block)
     requires table { IsTable cells.old }
     requires held { IsHeld cells.old block.unit block.order }
     requires counts { CanCount counts.old (with_free cells.old block.unit block.order) }
@@ -61,22 +62,33 @@ pub fn clear(cells: &mut Level, counts: &mut Counts, block: Block)
 
 /// Lets what fills the range of a block of an order, whose other half is free, go to a free block of it. Of the range a free
 /// block becomes, which is merged as one that was given.
-pub fn carry(cells: &mut Level, counts: &mut Counts, from: u32, to: u32, order: u8)
+pub fn carry(
+    cells: &mut Bytes,
+    marks: &mut Level,
+    counts: &mut Counts,
+    from: u32,
+    to: u32,
+    order: u8,
+)
     requires table { IsTable cells.old }
+    requires marks { AreMarks cells.old marks.old }
     requires can { CanMove (pieces_of cells.old) from to order }
     requires counts { AreCounts counts.old (pieces_of cells.old) }
     ensures carried { IsCarried cells.old from to order cells.new }
+    ensures marks { AreMarks cells.new marks.new }
     ensures counts { AreCounts counts.new (pieces_of cells.new) }
 {
     let part = lift(cells, from, order);
     counts[order as usize] += 1;
     clear(cells, counts, Block { unit: from, order });
+    marks.mark(cells, from / FRAME_UNITS);
     lay(cells, to, order, part);
+    marks.mark(cells, to / FRAME_UNITS);
     counts[order as usize] -= 1;
 }
 
 // The same within a larger block.
-fn clear_in(cells: &mut Level, counts: &mut Counts, within: Block, block: Block)
+fn clear_in(cells: &mut Bytes, counts: &mut Counts, within: Block, block: Block)
     requires can { CanClear cells.old block.unit block.order within.unit within.order }
     requires counts { CanCount counts.old (with_free cells.old block.unit block.order) }
     ensures cleared { IsCleared cells.old block.unit block.order within.unit within.order cells.new }
@@ -118,7 +130,7 @@ fn half_with(within: Block, block: Block) -> Block
 }
 
 // Makes one free block of the range of a block.
-fn wipe(cells: &mut Level, block: Block)
+fn wipe(cells: &mut Bytes, block: Block)
     requires { IsRange cells.old block.unit block.order }
     ensures { IsWiped cells.old block.unit block.order cells.new }
 {
@@ -130,7 +142,7 @@ fn wipe(cells: &mut Level, block: Block)
 }
 
 // Makes one free block of two that are halves of it, the lower one of an order at a unit, if both are free.
-fn join(cells: &mut Level, counts: &mut Counts, lower: Block)
+fn join(cells: &mut Bytes, counts: &mut Counts, lower: Block)
     requires halves { AreHalves cells.old lower.unit lower.order }
     requires counts { CanCount counts.old (pieces_of cells.old) }
     ensures joined { IsJoined cells.old lower.unit lower.order cells.new }
@@ -146,7 +158,7 @@ fn join(cells: &mut Level, counts: &mut Counts, lower: Block)
 }
 
 // The bytes of the range of a block below a frame.
-fn lift(cells: &Level, from: u32, order: u8) -> [u8; 8]
+fn lift(cells: &Bytes, from: u32, order: u8) -> [u8; 8]
     requires low { order < 4 }
     requires range { IsRange cells.now from order }
     ensures { (i : ℕ) → i < 2 ^ order → get_or result i 0 ≡ get_or cells.now (from + i) 0 }
@@ -159,7 +171,7 @@ fn lift(cells: &Level, from: u32, order: u8) -> [u8; 8]
 }
 
 // Puts bytes into the range of a block below a frame.
-fn lay(cells: &mut Level, to: u32, order: u8, part: [u8; 8])
+fn lay(cells: &mut Bytes, to: u32, order: u8, part: [u8; 8])
     requires low { order < 4 }
     requires range { IsRange cells.old to order }
     ensures same { AreSameBut to (2 ^ order) cells.old cells.new }

@@ -1,5 +1,6 @@
 ghost use Rattle.std.specs.Prelude.{◌≡◌, ◌↔◌, ◌+◌, ◌*◌, ◌^◌, ◌<◌, ◌≤◌, IfOk, IfSome, IsTrue, None, false, replicate};
 ghost use Rattle.sizes.specs.declared.TheConstants.{MOST_FRAMES};
+ghost use Rattle.mark_levels.specs.Levels.{AreMarks};
 ghost use Rattle.unit_map.specs.Pieces.{ArePieces, AreSettled, AreSettledBut, IsPiece, AreBlocksApart, free_blocks, free_by_order, free_frames, free_units, taken_at, units_in};
 ghost use Rattle.unit_map.specs.Changes.{HasRoom, IsFull, Gives, CanMove, Relocates, KeepsTaken, KeepsOthers, KeepsOutside, MovesInside, OnlyTakes, OnlyGives, OnlyMoves};
 ghost use Rattle.unit_map.specs.Cells.{IsTable, pieces_of};
@@ -7,7 +8,7 @@ ghost use Rattle.unit_map.specs.Blocks.{AreTwoBlocks, IsTakenBlock, IsWithin, Lo
 
 use crate::orders::{self, Counts};
 use crate::{Block, cells};
-use mark_levels::{End, Level};
+use mark_levels::{Bytes, End, Level};
 use sizes::{FRAME_ORDER, FRAME_UNITS};
 use std::alloc::{AllocError, Global};
 use std::marker::Model;
@@ -16,7 +17,9 @@ use std::marker::Model;
 #[derive(Drop)]
 pub struct UnitMap {
     // a byte a unit, which says what starts there
-    cells: Level,
+    cells: Bytes,
+    // a mark a frame, with the bits that its bytes have
+    marks: Level,
     // how many free blocks there are of each order
     counts: Counts,
     // how many units are free
@@ -33,7 +36,7 @@ impl Model for UnitMap {
 
     ghost view = { λ m. pieces_of m.cells };
 
-    ghost invariant = { λ m. IsMap m.cells m.counts m.free };
+    ghost invariant = { λ m. IsMap m.cells m.marks m.counts m.free };
 }
 
 impl UnitMap {
@@ -45,10 +48,12 @@ impl UnitMap {
         ensures free { IfOk result (λ map. map ≡ free_frames 0 frames) }
         ensures pieces { IfOk result (λ map. ArePieces map) }
     {
-        let mut cells = Level::new(alloc, frames)?;
-        free_all(&mut cells, frames);
+        let mut cells = Bytes::new(alloc, frames)?;
+        let mut marks = Level::marks(alloc, frames)?;
+        free_all(&mut cells, &mut marks, frames);
         Ok(UnitMap {
             cells,
+            marks,
             counts: [0, 0, 0, 0, frames],
             free: FRAME_UNITS * frames,
         })
@@ -71,9 +76,10 @@ impl UnitMap {
         ensures apart { IfSome result (OverlapsNone self.old) }
         ensures settled { AreSettled self.old → AreSettled self.new }
     {
-        let from = self.cells.least(order, FRAME_ORDER + 1)?;
-        let unit = self.cells.nearest(from, End::Low)?;
+        let from = self.marks.least_below(order, FRAME_ORDER + 1)?;
+        let unit = self.marks.nearest_below(&self.cells, from, End::Low)?;
         cells::split(&mut self.cells, unit, from, order);
+        self.marks.mark(&self.cells, unit / FRAME_UNITS);
         orders::split(&mut self.counts, from, order);
         self.free -= 1u32 << order;
         Some(Block { unit, order })
@@ -93,6 +99,7 @@ impl UnitMap {
     {
         self.counts[block.order as usize] += 1;
         cells::clear(&mut self.cells, &mut self.counts, block);
+        self.marks.mark(&self.cells, block.unit / FRAME_UNITS);
         self.free += 1u32 << block.order;
     }
 
@@ -113,7 +120,7 @@ impl UnitMap {
         ensures settled { AreSettled self.now → IsTrue result ↔ (2 ^ order ≤ free_units self.now) }
         ensures pieces { ArePieces self.now }
     {
-        match self.cells.least(order, FRAME_ORDER + 1) {
+        match self.marks.least_below(order, FRAME_ORDER + 1) {
             None => false,
             Some(_) => true,
         }
@@ -129,8 +136,8 @@ impl UnitMap {
         if self.counts[order as usize] < 2 {
             return None;
         }
-        let lower = self.cells.nearest(order, End::Low)?;
-        let upper = self.cells.nearest(order, End::High)?;
+        let lower = self.marks.nearest_below(&self.cells, order, End::Low)?;
+        let upper = self.marks.nearest_below(&self.cells, order, End::High)?;
         Some((Block { unit: lower, order }, Block { unit: upper, order }))
     }
 
@@ -151,7 +158,8 @@ impl UnitMap {
         ensures within { from + 2 ^ order ≤ units_in self.old }
         ensures apart { AreBlocksApart from order to order }
     {
-        cells::carry(&mut self.cells, &mut self.counts, from, to, order);
+        let (cells, marks) = (&mut self.cells, &mut self.marks);
+        cells::carry(cells, marks, &mut self.counts, from, to, order);
     }
 
     /// Whether a block is one of those that are taken, so that it can be given. Costs a few steps.
@@ -167,14 +175,17 @@ impl UnitMap {
     }
 }
 
-// Frees each frame of a table that has no block yet.
-fn free_all(cells: &mut Level, frames: u32)
+// Frees each frame of a table that has no block yet, and marks it.
+fn free_all(cells: &mut Bytes, marks: &mut Level, frames: u32)
     requires few { frames ≤ MOST_FRAMES }
     requires empty { cells.old ≡ replicate (16 * frames) 0 }
+    requires marks { AreMarks cells.old marks.old }
     ensures table { IsTable cells.new }
+    ensures marks { AreMarks cells.new marks.new }
     ensures pieces { pieces_of cells.new ≡ free_frames 0 frames }
 {
     'freeing: for frame in 0..frames {
         cells.set(FRAME_UNITS * frame, cells::free(FRAME_ORDER));
+        marks.mark(cells, frame);
     }
 }

@@ -115,3 +115,31 @@ fn a_composed_page_has_the_lines_of_scratch_over_those_of_the_frame(
     }
     Ok(())
 }
+
+// Lays the lines of a segment, which has to be there, in a frame.
+fn lay_in(rt: &impl Abort, store: &mut SegmentStore, block: Block, frame: u32) {
+    let segment = expect_segment(rt, store, block);
+    assert!(rt; frame < 65_536);
+    assert!(rt; store.is_taken(frame));
+    store.lay_in_frame(block, segment.bits, frame);
+}
+
+#[test]
+fn a_frame_in_which_a_segment_was_laid_has_its_lines(rt: HostRuntime) -> Result<(), Fail> {
+    let mut store = SegmentStore::new(rt.alloc(), 4)?;
+    let frame = take(&rt, &mut store);
+    for line in 0..64u8 {
+        write_frame(&rt, &mut store, frame, line, 100 + line);
+    }
+    for order in 0..5u8 {
+        let block = begin(&rt, &mut store, order, order);
+        lay_in(&rt, &mut store, block, frame);
+        expect_bytes(&rt, &store, block, 9, 9);
+        for line in 0..64u8 {
+            let own = line == 5 || line == 9 || line == 63;
+            let byte = if own { line } else { 100 + line };
+            expect_frame(&rt, &store, frame, line, byte);
+        }
+    }
+    Ok(())
+}

@@ -1,10 +1,12 @@
-use Rattle.overlay_pages.proofs.Common.{◌≡◌, ◌+◌, ◌-◌, ◌*◌, drop, take, ap₂, arith, LINE_BYTES}
-use Rattle.overlay_pages.proofs.Filling.{filled_more}
+use Rattle.std.specs.Prelude.{◌/◌}
+use Rattle.overlay_pages.proofs.Common.{length, ap, arith, ◌∙◌}
+use Rattle.overlay_pages.proofs.Stores.{line_of}
+use Rattle.overlay_pages.proofs.Filling.{chunk_at}
 use Rattle.overlay_pages.proofs.frames.fill_bytes.Goals as goal
 
-pub filling-preserved : goal.filling-preserved
-filling-preserved c =
-    let at = c.from-at.result in
-    let n : LINE_BYTES * at + LINE_BYTES - LINE_BYTES * at ≡ LINE_BYTES = omega arith in
-    filled_more c.args.store.now c.filling.store c.put_line.new.store c.args.frame c.filling.i _ _ c.filling.invariant c.put_line.ensures
-    (ap₂ (λ n i. take n (drop (LINE_BYTES * i) c.args.bytes.now)) n c.from-at.ensures)
+pub put_frame-requires-clause-lines : goal.put_frame-requires-clause-lines
+put_frame-requires-clause-lines c = omega (arith, c.as_chunks.ensures.front_len, c.told-bytes)
+
+pub returns-clause-lines : goal.returns-clause-lines
+returns-clause-lines c i low =
+    c.put_frame.ensures.lines i low ∙ ap (λ l. line_of l i) c.as_chunks.ensures.front ∙ chunk_at (length c.args.bytes.now / 64) c.args.bytes.now i (omega (arith, low, c.told-bytes))

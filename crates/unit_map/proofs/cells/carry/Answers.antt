@@ -1,7 +1,10 @@
-use Rattle.std.proofs.Common.{◌+◌, ◌^◌, ◌<◌, ◌≤◌, get_or, set, arith}
+use Rattle.std.proofs.Common.{◌+◌, ◌*◌, ◌/◌, ◌^◌, ◌<◌, ◌≤◌, get_or, set, arith}
 use Rattle.unit_map.specs.Cells.{behind, pieces_in, pieces_of, with_free}
+use Rattle.unit_map.specs.Pieces.{free_at}
 use Rattle.unit_map.proofs.Counting.{can_clear_counts, can_go, counts_carried, counts_few, some_there}
 use Rattle.unit_map.proofs.Moving.{can_move, carried, move_fits, move_now, move_was}
+use Rattle.unit_map.proofs.Tables.{frame_fits, piece_block}
+use Rattle.unit_map.proofs.Writes.{marks_but, same_wider}
 use Rattle.unit_map.proofs.cells.carry.Goals as goal
 
 pub lift-part-requires : goal.lift-part-requires
@@ -28,6 +31,22 @@ lay-requires c =
       low = move.low;
       range = record { low = move.held.low; fits = move_fits c.args.cells.now c.clear.new.cells c.args.from c.args.to c.args.order move c.clear.ensures.table c.clear.ensures.cleared; few = c.clear.ensures.table.few };
     }
+
+pub mark-requires-clause-there : goal.mark-requires-clause-there
+mark-requires-clause-there c =
+    let move = can_move c.args.cells.now c.args.from c.args.to c.args.order c.requires.table c.requires.can in
+    omega (arith, frame_fits c.args.cells.now c.args.from c.requires.table move.held.there, c.clear.ensures.cleared.same.units)
+
+pub mark-requires-2-clause-there : goal.mark-requires-2-clause-there
+mark-requires-2-clause-there c =
+    let at = piece_block c.args.cells.now (free_at c.args.to c.args.order) c.requires.table c.requires.can.there in
+    omega (arith, frame_fits c.args.cells.now c.args.to c.requires.table at.there, c.clear.ensures.cleared.same.units, c.lay.ensures.same.units)
+
+pub mark-requires-2-clause-but : goal.mark-requires-2-clause-but
+mark-requires-2-clause-but c =
+    let to = c.args.to in
+    let at = piece_block c.args.cells.now (free_at to c.args.order) c.requires.table c.requires.can.there in
+    marks_but c.clear.new.cells c.lay.new.cells c.mark.new.self (to / 16) c.mark.ensures (same_wider to (2 ^ c.args.order) (16 * (to / 16)) (2 ^ 4) c.clear.new.cells c.lay.new.cells (omega arith) at.fits c.lay.ensures.same)
 
 left : (c : goal.After-counts-2-1) → 0 < get_or c.clear.new.counts c.args.order 0
 left c =
@@ -60,6 +79,7 @@ returns c =
     let move = can_move old from to k c.requires.table c.requires.can in
     record {
       carried = carried old mid new part from to k move lifts table gone c.lay.ensures.same c.lay.ensures.part c.requires.table;
+      marks = c.mark-2.ensures;
       counts = counts_carried c.args.counts.now c.clear.new.counts old (pieces_of mid) (pieces_of new) (pieces_in mid 0 to) (behind mid to (2 ^ k)) from to k (omega (arith, move.low)) move.fits c.requires.counts c.clear.ensures.counts
           (move_was old mid from to k move table gone) (move_now old mid new part from to k move lifts table gone c.lay.ensures.same c.lay.ensures.part) (left c);
     }

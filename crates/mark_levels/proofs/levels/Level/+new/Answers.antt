@@ -1,4 +1,4 @@
-use Rattle.std.proofs.Common.{◌+◌, ◌*◌, ◌/◌, length, get_or, sym, ap, subst, ◌∙◌, arith}
+use Rattle.std.proofs.Common.{ℕ, ◌+◌, ◌*◌, ◌/◌, length, get_or, sym, ap, subst, ◌∙◌, arith}
 use Rattle.std.proofs.lemmas.Nat.Bits.{bit_at-zero}
 use Rattle.std.specs.Int.{bit_at}
 use Rattle.std.proofs.lemmas.List.{length-replicate}
@@ -22,6 +22,6 @@ invariant_of-result t c =
       below = elim c.if-groups-eq1.branch [
         | then-groups-eq1 w ↦ subst (AreBelow bytes) (sym w.above-is) (omega (arith, size, w.if-groups-eq1.true))
         | else-groups-eq1+in_ok-marks+in_ok-new w ↦
-            rw (w.above-is, w.in_ok-new.ensures.ok, w.in_ok-marks.ensures, is) (zero_marks (16 * n) (16 * m) (omega (arith, w.if-groups-eq1.false, c.requires.some)) (omega arith))
+            rw (w.above-is, w.in_ok-new.ensures.ok, w.in_ok-marks.ensures, is) (omega (arith, length-replicate {A = ℕ} (16 * n) 0, length-replicate {A = ℕ} (16 * m) 0, w.if-groups-eq1.false, c.requires.some), zero_marks (16 * n) (16 * m) (omega arith))
       ];
     }

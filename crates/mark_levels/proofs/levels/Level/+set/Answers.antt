@@ -26,8 +26,9 @@ invariant_of-self t c =
       | in-Marks w ↦
           let bits = w.union.ensures ∙ ap (λ bs. or_of bs (16 * (at / 16)) 16) w.deref-in-Marks.ensures.value in
           let now = w.set.ensures ∙ ap (λ b. set w.deref_mut.result.now (at / 16) b) bits ∙ ap (λ ms. set ms (at / 16) (or_of new (16 * (at / 16)) 16)) w.deref_mut.ensures.value in
-          let are = subst (AreMarks new) (sym now) (set_marks bytes w.in-Marks.marks.value at c.args.byte there (subst (AreBelow bytes) w.in-Marks.is old.below)) in
+          let are = subst (AreMarks new) (sym now) (set_marks bytes w.in-Marks.marks.value at c.args.byte there (subst (AreBelow bytes) w.in-Marks.is old.below).1) in
           let some = λ (k : ℕ) (bit : bit_at w.bits-self-inside.result k ≡ 1). subst (λ ms. HasBit ms k) w.deref-in-Marks-2.ensures (w.bits-self-inside.ensures.some k bit) in
           let none = λ (k : ℕ) (bit : bit_at w.bits-self-inside.result k ≡ 0). subst (λ ms. LackBit ms k) w.deref-in-Marks-2.ensures (w.bits-self-inside.ensures.none k bit) in
-          rw (w.self-is, w.self-inside-is) (kept _ _ (λ k bit. marks_some new _ k are (some k bit)) (λ k bit. marks_none new _ k are (none k bit)) are)
+          rw (w.self-is, w.self-inside-is) (kept _ _ (λ k bit. marks_some new _ k are (some k bit)) (λ k bit. marks_none new _ k are (none k bit))
+          (omega (arith, size, ap length now, length-set w.in-Marks.marks.value (at / 16) (or_of new (16 * (at / 16)) 16), (subst (AreBelow bytes) w.in-Marks.is old.below).0), are))
     ]

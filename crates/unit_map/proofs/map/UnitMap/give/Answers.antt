@@ -1,4 +1,4 @@
-use Rattle.std.proofs.Common.{◌≡◌, ℕ, ◌+◌, ◌^◌, ◌≤◌, List, get_or, set, arith}
+use Rattle.std.proofs.Common.{◌≡◌, ℕ, ◌+◌, ◌/◌, ◌^◌, ◌≤◌, List, get_or, set, arith}
 use Rattle.unit_map.specs.Cells.{behind, pieces_in, pieces_of, with_free, IsTable}
 use Rattle.unit_map.specs.Counted.{AreCounts}
 use Rattle.unit_map.specs.Laws.{free_le}
@@ -7,7 +7,8 @@ use Rattle.unit_map.specs.Settled.{gives_settled}
 use Rattle.unit_map.proofs.Calls.{IsGiven, giving, taken_held, taken_was}
 use Rattle.unit_map.proofs.Counting.{are_go, can_are, counts_few, counts_given}
 use Rattle.unit_map.proofs.Numbers.{pow_mono, size_is}
-use Rattle.unit_map.proofs.Tables.{piece_there, table_fills, table_pieces}
+use Rattle.unit_map.proofs.Tables.{frame_fits, piece_there, table_fills, table_pieces}
+use Rattle.unit_map.proofs.Writes.{marks_but}
 use Rattle.unit_map.proofs.map.UnitMap.give.Goals as goal
 
 order_low : (cells : List ℕ) (ps : List Piece) (unit order : ℕ) → IsTable cells → pieces_of cells ≡ ps → IsPiece ps (taken_at unit order) → order ≤ 4
@@ -37,7 +38,7 @@ clear-requires c = record {
   counts = can_are _ _ (counted c.self.inside.cells c.self.inside.counts c.args.self.now c.args.block.unit c.args.block.order c.self.invariant.table c.self.invariant.counts_are c.self.view_is c.requires);
 }
 
-given : (c : goal.After-struct_known-2-1) → IsGiven c.self.inside.cells c.args.block.order c.args.block.unit c.clear.new.cells
+given : (c : goal.After-struct_known-3-1) → IsGiven c.self.inside.cells c.args.block.order c.args.block.unit c.clear.new.cells
 given c = giving c.self.inside.cells c.clear.new.cells c.args.block.order c.args.block.unit c.self.invariant.table (rw c.self.view_is c.requires) c.clear.ensures.table c.clear.ensures.cleared
 
 pub overflow_shl-self : goal.overflow_shl-self
@@ -53,6 +54,7 @@ invariant_of-self c =
     let is = given c.before in
     record {
       table = c.clear.ensures.table;
+      marked = c.mark.ensures;
       counts_are = are_go _ c.clear.new.counts (with_free c.self.inside.cells c.args.block.unit c.args.block.order) (pieces_of c.clear.new.cells)
           (counted c.self.inside.cells c.self.inside.counts c.args.self.now c.args.block.unit c.args.block.order c.self.invariant.table c.self.invariant.counts_are c.self.view_is c.requires) c.clear.ensures.counts;
       kept = omega (arith, size_is c.args.block.order is.low, is.free, c.self.invariant.kept);
@@ -62,3 +64,14 @@ pub returns : goal.returns
 returns c =
     let is = given c.before in
     rw (← c.self.view_is) (record { gives = is.gives; others = is.others; only = is.only; units = is.units; free = is.free; pieces = table_pieces c.clear.new.cells c.clear.ensures.table; settled = gives_settled _ _ _ _ is.gives })
+
+pub mark-requires : goal.mark-requires
+mark-requires c =
+    let cells = c.self.inside.cells in
+    let unit = c.args.block.unit in
+    let is = c.self.invariant.table in
+    let same = c.clear.ensures.cleared.same in
+    record {
+      there = omega (arith, frame_fits cells unit is (taken_held cells c.args.block.order unit is (rw c.self.view_is c.requires)).there, same.units);
+      but = marks_but cells c.clear.new.cells c.self.inside.marks (unit / 16) c.self.invariant.marked same;
+    }

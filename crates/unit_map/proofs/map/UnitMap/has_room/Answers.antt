@@ -8,7 +8,7 @@ pub returns-in-None : goal.returns-in-None
 returns-in-None c =
     let is = c.self.invariant.table in
     let pieces = table_pieces c.self.inside.cells is in
-    let full = least_none c.self.inside.cells c.args.order is c.in-None.ensures in
+    let full = least_none c.self.inside.cells c.args.order is (c.in-None.ensures _ c.self.invariant.marked) in
     rw (← c.self.view_is) (record {
       room = λ h. cc;
       full = λ h. full;
@@ -19,7 +19,7 @@ returns-in-None c =
 pub returns-in-Some : goal.returns-in-Some
 returns-in-Some c =
     let is = c.self.invariant.table in
-    let least = c.in-Some.ensures in
+    let least = c.in-Some.ensures _ c.self.invariant.marked in
     let here = room c.self.inside.cells c.args.order _ is least.0 (omega (arith, least.1)) least.2 in
     rw (← c.self.view_is) (record {
       room = λ h. here;

@@ -6,10 +6,10 @@ use Rattle.unit_map.proofs.Tables.{table_fills, table_pieces}
 use Rattle.unit_map.proofs.map.UnitMap.relocate.Goals as goal
 
 pub carry-requires : goal.carry-requires
-carry-requires c = record { table = c.self.invariant.table; can = rw c.self.view_is c.requires; counts = c.self.invariant.counts_are }
+carry-requires c = record { table = c.self.invariant.table; marks = c.self.invariant.marked; can = rw c.self.view_is c.requires; counts = c.self.invariant.counts_are }
 
 pub invariant_of-self : goal.invariant_of-self
-invariant_of-self c = record { table = c.carry.ensures.carried.table; counts_are = c.carry.ensures.counts; kept = c.self.invariant.kept ∙ sym (free_moves _ _ _ _ _ c.carry.ensures.carried.relocates) }
+invariant_of-self c = record { table = c.carry.ensures.carried.table; marked = c.carry.ensures.marks; counts_are = c.carry.ensures.counts; kept = c.self.invariant.kept ∙ sym (free_moves _ _ _ _ _ c.carry.ensures.carried.relocates) }
 
 pub returns : goal.returns
 returns c =
