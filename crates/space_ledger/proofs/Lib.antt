@@ -1,10 +1,8 @@
 pub mod Parts
 pub mod RunParts
 pub mod Seen
-pub mod Keeping
-pub mod Mapping
-pub mod Overlaying
-pub mod Overlaid
+pub mod Counting
+pub mod Changing
 pub mod RunViews
 pub mod TableOps
 pub mod Booking

@@ -22,7 +22,7 @@ use Rattle.space_maps.specs.Spaces.{bare_space, cut_page, holds_space, page_in, 
 use Rattle.space_maps.specs.Books.{books_cut_page, books_empty, books_len, books_page, books_put_page, books_spaces, books_there}
 use Rattle.space_ledger.specs.View.{LedgerView, PageView, SpaceView, holding_of, ledger_of, lines_of, origin_of, overlay_at, with_frame, with_overlay, with_zero_pages}
 use Rattle.space_ledger.specs.ViewLaws.{given_as, unused_is}
-use Rattle.space_ledger.specs.Calls.{AreSharersCounted, AreFree, IsApart, IsBooked, IsFreeFor, IsSound, given_up}
+use Rattle.space_ledger.specs.Calls.{AreSharersCounted, AreFree, IsApart, IsBooked, IsFreeFor, IsNextOverlaid, IsNextOwn, IsSound, given_up}
 use Rattle.space_ledger.specs.Frames.{frame_units, held_by, released_by}
 use Rattle.space_ledger.proofs.Booking.{by_two, counts_held, counts_released, eq_false, eq_true, has_frame, some_sharer, units_by_count}
 use Rattle.space_ledger.proofs.Booked.{FitsIn, nothing_apart, booked_gone, booked_put, booked_shared, fits_same, in_pages}
@@ -58,7 +58,7 @@ frame_most true = omega arith
 frame_most false = omega arith
 
 -- what a holding in the ledger is of
-held_page : (v : LedgerView) (s p : ℕ) (h : Holding) → holding_at (ledger_of v) s p ≡ Some h → (x : PageView) × (page_in v s p ≡ Some x) × (h ≡ holding_of v.zero_frame x)
+pub held_page : (v : LedgerView) (s p : ℕ) (h : Holding) → holding_at (ledger_of v) s p ≡ Some h → (x : PageView) × (page_in v s p ≡ Some x) × (h ≡ holding_of v.zero_frame x)
 held_page v s p h there = map_from (holding_of v.zero_frame) (page_in v s p) h (sym (books_page holding_of v s p) ∙ there) (λ x is same. (x, is, sym same))
 
 module _ (v : LedgerView) (counts : List ℕ) (u n : ℕ) (kept : IsBooked v counts u n) (sound : IsSound v) where
@@ -435,6 +435,15 @@ own_is v sound s p =
         → is_some (option_and_then (λ (x : PageView). x.overlay) o) ≡ option_map_or (λ (holding : Holding). nat_lt 0 (length holding.own)) (option_map (holding_of v.zero_frame) o) false
     at None is = refl
     at (Some x) is = lines x.overlay (λ e o. (sound.lines s p x e is o).0)
+
+-- and which page is the next one that has
+pub next_own : (v w : LedgerView) → v ≡ w → IsSound v → (s p : ℕ) (r : Option ℕ) → IsNextOverlaid v s p r → IsNextOwn (ledger_of w) s p r
+next_own v w same sound s p None next = λ q le. ap (λ k. has_own (ledger_of k) s q) (sym same) ∙ sym (own_is v sound s q) ∙ ap is_some (next q le)
+next_own v w same sound s p (Some k) next = (
+  next.0,
+  ap (λ x. has_own (ledger_of x) s k) (sym same) ∙ sym (own_is v sound s k) ∙ next.1,
+  λ q le lt. ap (λ x. has_own (ledger_of x) s q) (sym same) ∙ sym (own_is v sound s q) ∙ ap is_some (next.2 q le lt),
+)
 
 -- a page by its entry
 pub entry_page : (v : LedgerView) (s p : ℕ) (e : PageEntry) → Some e ≡ option_map (λ (x : PageView). x.entry) (page_in v s p) → (x : PageView) × (page_in v s p ≡ Some x) × (e ≡ x.entry)

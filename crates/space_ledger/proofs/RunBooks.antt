@@ -15,7 +15,7 @@ use Rattle.space_maps.specs.Spaces.{holds_space, page_in, put_shared, put_space,
 use Rattle.space_ledger.specs.View.{LedgerView, PageView, SpaceView, with_run_shared}
 use Rattle.space_ledger.specs.Calls.{AreBareBelow, IsBooked, IsSound}
 use Rattle.space_ledger.specs.Frames.{counted_run, counted_units, frame_units, held_by, held_run, run_units}
-use Rattle.space_ledger.proofs.Keeping.{overlaid_shared}
+use Rattle.space_ledger.proofs.Counting.{overlaid_shared}
 use Rattle.space_ledger.proofs.Numbers.{units_fit}
 use Rattle.space_ledger.proofs.RunViews.{HasReached, reached}
 use Rattle.space_ledger.proofs.LedgerCalls.{before_share, shared_call, shared_frame}

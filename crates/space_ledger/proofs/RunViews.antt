@@ -1,18 +1,13 @@
-use Rattle.std.proofs.Common.{◌≡◌, ℕ, zero, suc, ◌+◌, ◌≤◌, ◌<◌, true, Some, None, is_some, refl, nat_cmp, sym, ap, subst, ◌∙◌, arith}
-use Rattle.std.specs.FinMap.{FinMap, get, insert, remove}
-use Rattle.number_maps.specs.Keys.{by_key, get_same, insert_kept, insert_over, removed_other, removed_same}
-use Rattle.sizes.specs.declared.TheConstants.{PAGE_END}
+use Rattle.std.proofs.Common.{◌≡◌, ℕ, zero, suc, ◌+◌, ◌≤◌, ◌<◌, true, None, is_some, refl, ap, ◌∙◌, arith}
+use Rattle.std.specs.FinMap.{get, remove}
+use Rattle.number_maps.specs.Keys.{by_key, get_same, removed_other, removed_same}
 use Rattle.page_table.specs.Table.{Pages}
-use Rattle.page_table.specs.Run.{IsRunFrom, entry_at}
+use Rattle.page_table.specs.Run.{entry_at}
 use Rattle.page_table.specs.declared.run.PageRun.{PageRun}
 use Rattle.space_maps.specs.Spaces.{holds_space, page_in, put_shared, put_space, space_in}
 use Rattle.space_maps.specs.Laws.{page_shared_beside, space_put}
-use Rattle.space_ledger.specs.Space.{SpaceTable, awaited, run_awaited}
 use Rattle.space_ledger.specs.View.{LedgerView, PageView, SpaceView, with_run_shared}
 use Rattle.space_ledger.proofs.Parts.{nat_apart}
-use Rattle.space_ledger.specs.Kept.{Held}
-use Rattle.space_ledger.proofs.Seen.{Shows, there_is, with_spaces}
-use Rattle.space_ledger.proofs.Overlaying.{shown_shared}
 
 -- A run of pages that become a space's one after the other, without overlays.
 
@@ -72,30 +67,3 @@ reached v s run there none (suc k) =
       still = λ q high. page_shared_beside w s p y s q (λ _ same. absurd (omega (arith, high, same))) ∙ before.still q (omega (arith, high));
       beside = λ r q d. page_shared_beside w s p y r q (λ same _. d same) ∙ before.beside r q d;
     }
-
--- What the spaces and the overlays show of it.
-
-module _ {t : Held} {v : LedgerView} (show : Shows t v) (s : ℕ) (x : SpaceTable) (at : get t.spaces s ≡ Some x) (run : PageRun) (first : IsRunFrom (space_in v s).awaiting 0 run)
-    (absent : (i : ℕ) → i < run.n → page_in v s (run.page + i) ≡ None) (low : run.page + run.n ≤ PAGE_END) where
-  has : holds_space v s ≡ true
-  has = there_is show s x at
-
-  -- the tables after so many pages
-  after : ℕ → Held
-  after k = with_spaces t (insert t.spaces s (run_awaited x run k))
-
-  one_more : (k : ℕ) → with_spaces (after k) (insert (after k).spaces s (awaited (run_awaited x run k) (run.page + k) (entry_at run k))) ≡ after (suc k)
-  unfolding after run_awaited
-  one_more k = ap (with_spaces t) (insert_over t.spaces s (run_awaited x run k) (run_awaited x run (suc k)))
-
-  shown_after : (k : ℕ) → k ≤ run.n → Shows (with_spaces t (insert t.spaces s (run_awaited x run k))) (with_run_shared v s run k)
-  unfolding with_run_shared run_awaited after
-  shown_after zero few = subst (λ (m : FinMap nat_cmp SpaceTable). Shows (with_spaces t m) v) (sym (insert_kept t.spaces s x at)) show
-  shown_after (suc k) few =
-      let before = reached v s run has (λ q under. first.none q (omega arith) under) k in
-      subst (λ (u : Held). Shows u (with_run_shared v s run (suc k))) (one_more k)
-      (shown_shared (shown_after k (omega (arith, few))) s (run.page + k) (run_awaited x run k) (get_same t.spaces s s (run_awaited x run k) refl) (entry_at run k)
-      (before.still (run.page + k) (omega arith) ∙ absent k (omega (arith, few))) (omega (arith, few, low)))
-
-  pub shown_run : Shows (with_spaces t (insert t.spaces s (run_awaited x run run.n))) (with_run_shared v s run run.n)
-  shown_run = shown_after run.n (omega arith)

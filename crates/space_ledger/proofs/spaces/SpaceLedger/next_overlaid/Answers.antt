@@ -1,4 +1,4 @@
-use Rattle.space_ledger.proofs.Overlaid.{next_own}
+use Rattle.space_ledger.proofs.Numbers.{next_own}
 use Rattle.space_ledger.proofs.spaces.SpaceLedger.next_overlaid.Goals as goal
 
 pub returns : goal.returns

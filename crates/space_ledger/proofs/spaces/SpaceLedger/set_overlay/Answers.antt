@@ -10,8 +10,8 @@ use Rattle.space_ledger.proofs.spaces.SpaceLedger.set_overlay.Goals.{After-lines
 -- what is kept beside the tables with the other overlay
 overlaid : (c : After-lines_in-after) → Overlaid c.self.inside.tables c.self.inside.pool c.self.inside.units c.self.inside.lines c.args.space c.args.page c.lines_in-before.result c.lines_in-after.result c.args.entry
 overlaid c =
-    overlaid_call c.self.inside.tables c.self.inside.pool c.self.inside.units c.self.inside.lines c.self.invariant c.overlay.ensures.sound c.args.space c.args.page c.lines_in-before.result c.lines_in-after.result
-    c.overlay.result c.args.entry (ap (λ (v : LedgerView). is_some (page_in v c.args.space c.args.page)) c.self.view_is ∙ c.requires.there) c.overlay.ensures.overlay
+    overlaid_call c.self.inside.tables c.self.inside.pool c.self.inside.units c.self.inside.lines c.self.invariant c.overlay-overlay.ensures.sound c.args.space c.args.page c.lines_in-before.result c.lines_in-after.result
+    c.overlay-overlay.result c.args.entry (ap (λ (v : LedgerView). is_some (page_in v c.args.space c.args.page)) c.self.view_is ∙ c.requires.there) c.overlay-overlay.ensures.overlay
     c.lines_in-before.ensures.count c.lines_in-after.ensures.count c.lines_in-after.ensures.few
 
 pub overflow_sub-self : goal.overflow_sub-self

@@ -1,0 +1,9 @@
+use Rattle.std.proofs.Common.{ap, sym, ◌∙◌}
+use Rattle.number_maps.specs.Values.{remove_absent}
+use Rattle.space_maps.specs.Options.{none_by}
+use Rattle.space_ledger.specs.Kept.{put_over}
+use Rattle.space_ledger.proofs.tables.put.Goals as goal
+
+pub returns-else-had-clause-entries : goal.returns-else-had-clause-entries
+returns-else-had-clause-entries c =
+    sym (remove_absent c.args.overlays.now.entries c.args.name (none_by _ (sym c.requires.had ∙ c.if-had.false))) ∙ ap (put_over c.args.overlays.now.entries c.args.name) (sym c.in-None.is)
