@@ -16,3 +16,4 @@ pub mod RunReleases
 pub mod RunRemoved
 pub mod RunBooks
 pub mod Sharing
+pub mod Laws

@@ -63,7 +63,7 @@ module _ (v : LedgerView) (counts : List ℕ) (u n : ℕ) (kept : IsBooked v cou
       (shared_frame v counts u n kept from to (run.page + i) (entry_at run i) (there_from i low) (first.has i low) was.0).3
 
   pub frame_low : (i : ℕ) → i < run.n → (entry_at run i).frame < length counts
-  frame_low i low = subst (λ k. (entry_at run i).frame < k) (sym kept.room) (frame_in i low)
+  frame_low i low = subst (λ k. (entry_at run i).frame < k) (sym kept.books.room) (frame_in i low)
 
   -- The same once so many pages of it are shared.
   module _ (absent : (i : ℕ) → i < run.n → page_in v to (run.page + i) ≡ None) where
@@ -111,8 +111,8 @@ module _ (v : LedgerView) (counts : List ℕ) (u n : ℕ) (kept : IsBooked v cou
     few_at z is i low =
         let here = kept_at i (omega (arith, low)) in
         subst (λ m. ((entry_at run i).frame ≡ m) ⊎ (sharers_of (held_run m counts run i) (entry_at run i).frame < 2 ^ 32 - 1)) (sym is)
-        ((before_share (with_run_shared v to run i) (held_run v.zero_frame counts run i) (u + run_units v.zero_frame counts run i) n here.booked here.holds to (run.page + i) v.zero_frame (entry_at run i) None
-        (at i).there (absent_at i low) (waiting_at i low) (frame_at_step i low) (sym (at i).zero_frame)).1)
+        (before_share (with_run_shared v to run i) (held_run v.zero_frame counts run i) (u + run_units v.zero_frame counts run i) n here.booked here.holds v.zero_frame (entry_at run i)
+        (frame_at_step i low) (sym (at i).zero_frame)).1
 
     -- and once all are
     pub run_books : (z : ℕ) → z ≡ v.zero_frame → (new : List ℕ) (added : ℕ) → new ≡ held_run z counts run run.n → added ≡ run_units z counts run run.n

@@ -6,8 +6,7 @@ use Rattle.page_table.specs.Run.{entry_at}
 use Rattle.page_table.specs.declared.entry.PageEntry.{PageEntry}
 use Rattle.page_table.specs.declared.run.PageRun.{PageRun}
 use Rattle.space_ledger.specs.Frames.{counted_run, counted_units, frame_units, held_by, released_by}
-use Rattle.space_ledger.proofs.Booking.{held_zero, released_zero}
-use Rattle.space_ledger.proofs.Numbers.{length_held, length_released}
+use Rattle.space_ledger.proofs.Booking.{few_units, held_zero, length_held, length_released, no_units, released_zero}
 
 -- The counts of a run, page by page, whether its pages come or go.
 
@@ -24,18 +23,6 @@ pub record Counts (z : ℕ) (step : List ℕ → ℕ → List ℕ) (cost : List 
   pub free : (before after : List ℕ) (f : ℕ) → f ≡ z → cost before after f ≡ 0
   pub size : (counts : List ℕ) (f : ℕ) → length (step counts f) ≡ length counts
   pub few : (before after : List ℕ) (f : ℕ) → cost before after f ≤ 16
-
-no_units : (z f : ℕ) (counts : List ℕ) → f ≡ z → frame_units z counts f ≡ 0
-unfolding frame_units
-no_units z f counts same = ap (λ (b : Bool). cond (b || not (sharers_of counts f == 0)) 0 FRAME_UNITS) (are f z same)
-
-few_units : (z f : ℕ) (counts : List ℕ) → frame_units z counts f ≤ 16
-unfolding frame_units
-few_units z f counts = by (nat_eq f z || not (sharers_of counts f == 0))
-  where
-    by : (b : Bool) → cond b 0 FRAME_UNITS ≤ 16
-    by true = omega arith
-    by false = omega arith
 
 pub coming : (z : ℕ) → Counts z (held_by z) (units_held z)
 coming z = record { still = held_zero z; free = λ a b f. no_units z f a; size = length_held z; few = λ a b f. few_units z f a }

@@ -5,6 +5,7 @@ use Rattle.ledger.specs.Units.{units as units_of}
 use Rattle.page_table.specs.Run.{IsRunFrom, entry_at}
 use Rattle.page_table.specs.declared.entry.PageEntry.{PageEntry}
 use Rattle.page_table.specs.declared.run.PageRun.{PageRun}
+use Rattle.overlay_mapping_table.specs.declared.entry.Entry.{Entry}
 use Rattle.space_maps.specs.Laws.{after_cut, are_cut}
 use Rattle.space_maps.specs.Spaces.{cut_page, cut_pages, holds_space, page_in}
 use Rattle.space_ledger.specs.Frames.{counted_run, counted_units, frame_units, released_run, run_freed}
@@ -27,7 +28,7 @@ pub unused_call : (v : LedgerView) (counts : List ℕ) (u n : ℕ) → IsBooked 
     → count ≡ sharers_of counts f → nat_eq count 0 ≡ is_unused (ledger_of v) (origin_of v.zero_frame f)
 unused_call v counts u n kept f z count low zero_is other is =
     ap (λ k. nat_eq k 0) is ∙ ap (λ (b : Bool). not b && nat_eq (sharers_of counts f) 0) (sym (arent f v.zero_frame (λ e. other (e ∙ sym zero_is))))
-    ∙ unused_by_count (ledger_of v) v.zero_frame v.frames f counts kept.counted low
+    ∙ unused_by_count (ledger_of v) v.zero_frame v.frames f counts kept.books.counted low
 
 pub zero_used : (v : LedgerView) (f z : ℕ) → z ≡ v.zero_frame → f ≡ z → not (nat_eq f z) ≡ is_unused (ledger_of v) (origin_of v.zero_frame f)
 zero_used v f z zero_is same =
@@ -41,7 +42,7 @@ given_by_count : (v : LedgerView) (counts : List ℕ) (u n : ℕ) → IsBooked v
     → given_up v (Some x) ≡ given_by v.zero_frame counts x.entry.frame
 unfolding given_by
 given_by_count v counts u n kept x low =
-    given_as v x ∙ ap (λ b. cond b (Some x.entry.frame) None) (sym (unused_by_count (ledger_of v) v.zero_frame v.frames x.entry.frame counts kept.counted low))
+    given_as v x ∙ ap (λ b. cond b (Some x.entry.frame) None) (sym (unused_by_count (ledger_of v) v.zero_frame v.frames x.entry.frame counts kept.books.counted low))
 
 given_still : (z f : ℕ) (a b : List ℕ) → ((f ≡ z → ⊥) → sharers_of a f ≡ sharers_of b f) → given_by z a f ≡ given_by z b f
 unfolding given_by
@@ -127,16 +128,15 @@ module _ (v : LedgerView) (counts : List ℕ) (u n : ℕ) (kept : IsBooked v cou
       before_release (left k) (counts_left k) (u - freed k) n (freed_at k (omega (arith, low))).booked
       s (run.page + k) v.zero_frame (entry_at run k) (zero_is k) (entry_is k low)
 
+  page_is : (k : ℕ) → k < run.n → (o : Option Entry) × (page_in v s (run.page + k) ≡ Some (record { entry = entry_at run k; overlay = o }))
+  page_is k low = entry_page v s (run.page + k) (entry_at run k) (sym (is.has k low))
+
   -- The frames of two pages of the run aren't the same, but the zero frame.
   frames_differ : (i j : ℕ) → i < run.n → j < run.n → (j ≡ i → ⊥) → (frame_of i ≡ v.zero_frame → ⊥) → frame_of j ≡ frame_of i → ⊥
   frames_differ i j low_i low_j other isnt same =
-      let one = entry_page v s (run.page + i) (entry_at run i) (sym (is.has i low_i)) in
-      let two = entry_page v s (run.page + j) (entry_at run j) (sym (is.has j low_j)) in
-      let frame_one = ap (λ (e : PageEntry). e.frame) one.2 in
-      let frame_two = ap (λ (e : PageEntry). e.frame) two.2 in
-      let at = (kept.apart s).pages (run.page + j) (run.page + i) two.0 one.0
-      (in_pages v s (run.page + j) two.0 two.1) (in_pages v s (run.page + i) one.0 one.1)
-      (sym frame_two ∙ same ∙ frame_one) (λ z. isnt (sym same ∙ frame_two ∙ z)) in
+      let one = page_is i low_i in
+      let two = page_is j low_j in
+      let at = (kept.apart s).pages (run.page + j) (run.page + i) _ _ (in_pages v s (run.page + j) _ two.1) (in_pages v s (run.page + i) _ one.1) same (λ z. isnt (sym same ∙ z)) in
       other (omega (arith, at))
 
   -- So no later page changes the count of its frame.
@@ -146,12 +146,10 @@ module _ (v : LedgerView) (counts : List ℕ) (u n : ℕ) (kept : IsBooked v cou
 
   given_at : (i k : ℕ) → i < run.n → k ≤ run.n → given_up (left k) (page_in v s (run.page + i)) ≡ given_by v.zero_frame (counts_left k) (frame_of i)
   given_at i k low few =
-      let one = entry_page v s (run.page + i) (entry_at run i) (sym (is.has i low)) in
+      let one = page_is i low in
       ap (given_up (left k)) one.1
-      ∙ given_by_count (left k) (counts_left k) (u - freed k) n (freed_at k few).booked one.0
-      (subst (λ m. one.0.entry.frame < m) (sym (frames_is k)) (kept.inside s (run.page + i) one.0 one.1))
-      ∙ ap (λ z. given_by z (counts_left k) one.0.entry.frame) (sym (zero_is k))
-      ∙ ap (λ (e : PageEntry). given_by v.zero_frame (counts_left k) e.frame) (sym one.2)
+      ∙ given_by_count (left k) (counts_left k) (u - freed k) n (freed_at k few).booked (record { entry = entry_at run i; overlay = one.0 }) (subst (λ m. frame_of i < m) (sym (frames_is k)) (kept.inside s (run.page + i) _ one.1))
+      ∙ ap (λ z. given_by z (counts_left k) (frame_of i)) (sym (zero_is k))
 
   given_at_last : GivesUpAtLast v (left run.n) s run
   given_at_last i low =
@@ -185,8 +183,8 @@ module _ (v : LedgerView) (counts : List ℕ) (u n : ℕ) (kept : IsBooked v cou
       let fits : units ≤ u = subst (λ k. k ≤ u) units_here all.fits in
       let booked : IsBooked (left run.n) now (u - units) n =
       subst (λ k. IsBooked (left run.n) now (u - k) n) units_here (subst (λ (c : List ℕ). IsBooked (left run.n) c (u - freed run.n) n) now_here all.booked) in
-      let before = kept.units_is in
-      let after = booked.units_is in record {
+      let before = kept.books.units_is in
+      let after = booked.books.units_is in record {
         fits = fits;
         booked = booked;
         count = omega (arith, before, after, fits);

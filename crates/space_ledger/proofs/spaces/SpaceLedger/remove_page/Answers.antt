@@ -10,7 +10,7 @@ use Rattle.space_ledger.proofs.spaces.SpaceLedger.remove_page.Goals as goal
 use Rattle.space_ledger.proofs.spaces.SpaceLedger.remove_page.Goals.{After-release-freed}
 
 pub remove_pages-requires-clause-there : goal.remove_pages-requires-clause-there
-remove_pages-requires-clause-there c = there_space c.self.inside.tables c.args.space c.args.page (entry_page c.self.inside.tables c.args.space c.args.page c.in-Some.old c.in-Some.ensures).0 (entry_page c.self.inside.tables c.args.space c.args.page c.in-Some.old c.in-Some.ensures).1
+remove_pages-requires-clause-there c = there_space c.self.inside.tables c.args.space c.args.page _ (entry_page c.self.inside.tables c.args.space c.args.page c.in-Some.old c.in-Some.ensures).1
 
 pub remove_pages-requires-clause-bare : goal.remove_pages-requires-clause-bare
 remove_pages-requires-clause-bare c = subst (λ (v : LedgerView). AreBare v c.args.space c.args.page 1) (sym c.self.view_is) (bare_one c.args.self.now c.args.space c.args.page c.requires.there c.requires.bare)

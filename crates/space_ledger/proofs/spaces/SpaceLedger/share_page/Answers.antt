@@ -21,9 +21,8 @@ from_page c =
 before : (c : After-share-entry) → (c.share-entry.result.frame < length c.self.inside.pool)
     × ((c.share-entry.result.frame ≡ c.zero-zero.result) ⊎ (sharers_of c.self.inside.pool c.share-entry.result.frame < 2 ^ 32 - 1))
 before c =
-    before_share c.self.inside.tables c.self.inside.pool c.self.inside.units c.self.inside.lines c.self.invariant c.zero-zero.ensures.sound c.args.to c.args.page c.zero-zero.result
-    c.share-entry.result c.in_block-overlay.result (ap (λ (v : LedgerView). holds_space v c.args.to) c.self.view_is ∙ c.requires.space) c.share-entry.ensures.apart
-    c.share-entry.ensures.entry (from_page c).3 c.zero-zero.ensures.zero
+    before_share c.self.inside.tables c.self.inside.pool c.self.inside.units c.self.inside.lines c.self.invariant c.zero-zero.ensures.sound c.zero-zero.result
+    c.share-entry.result (from_page c).3 c.zero-zero.ensures.zero
 
 done : (c : After-hold-added) → c.share-entry.result.frame < c.self.inside.tables.frames → Shared c.self.inside.tables c.self.inside.pool c.hold-added.new.pool c.self.inside.units c.self.inside.lines c.args.to c.args.page c.zero-zero.result
     c.hold-added.result c.lines_in-lines.result c.share-entry.result c.in_block-overlay.result
