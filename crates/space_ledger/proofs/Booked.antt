@@ -1,23 +1,7 @@
-use Rattle.std.proofs.Common.{◌≡◌, ℕ, ◌+◌, ◌≤◌, ◌<◌, ◌⊎◌, Bool, true, false, List, length, Some, is_some, refl, nat_cmp, sym, ap, subst, subst₂, ◌∙◌, inl, inr}
-use Rattle.std.proofs.lemmas.Option.{none-some, same_Some}
-use Rattle.std.specs.FinMap.{FinMap, empty, get, get-empty, insert, remove}
-use Rattle.number_maps.specs.Keys.{by_key, get_other, get_same, removed_other, removed_same}
-use Rattle.number_maps.specs.Values.{remove_absent}
-use Rattle.number_maps.specs.Views.{viewed, viewed_empty}
-use Rattle.sizes.specs.declared.TheConstants.{MOST_FRAMES}
-use Rattle.page_table.specs.Table.{Pages}
-use Rattle.page_table.specs.declared.entry.PageEntry.{PageEntry}
-use Rattle.ledger.specs.Ledger.{Ledger, all_holdings, with_page, without_page}
-use Rattle.ledger.specs.PlaceLaws.{by_place}
-use Rattle.ledger.specs.Units.{own_lines, units}
-use Rattle.ledger.specs.TallyLaws.{empty_holdings, same_lines, same_sharers, same_units}
-use Rattle.space_maps.specs.Options.{none_by}
-use Rattle.space_maps.specs.Books.{books_added, books_awaiting, books_cut, books_cut_page, books_kept, books_lost, books_marked, books_put, books_put_page, books_put_shared, books_spaces}
-use Rattle.space_maps.specs.Laws.{beside_space, in_space, page_added, page_awaited, page_cut_beside, page_cut_here, page_lost, page_marked, page_of, page_put_beside, page_put_here, page_shared_beside, page_shared_here, space_absent, space_beside, space_left, space_put}
-use Rattle.space_maps.specs.Spaces.{bare_space, cut_page, cut_space, holds_space, of_pages, page_in, put_awaiting, put_mark, put_page, put_shared, put_space, space_in}
-use Rattle.space_ledger.specs.View.{LedgerView, PageView, SpaceView, holding_of, ledger_of}
+use Rattle.space_ledger.proofs.Common.{◌≡◌, ℕ, ◌+◌, ◌<◌, ◌⊎◌, Bool, true, false, List, Some, is_some, refl, nat_cmp, sym, ap, subst, ◌∙◌, inl, inr, none-some, same_Some, FinMap, empty, get, get-empty, insert, remove}
+use Rattle.space_ledger.proofs.Pages.{by_key, get_other, get_same, removed_other, removed_same, Pages, PageEntry}
+use Rattle.space_ledger.proofs.Views.{Ledger, all_holdings, with_page, without_page, by_place, same_lines, same_sharers, same_units, books_added, books_awaiting, books_cut_page, books_lost, books_marked, books_put_page, books_put_shared, page_added, page_awaited, page_cut_beside, page_cut_here, page_lost, page_marked, page_of, page_put_beside, page_put_here, page_shared_beside, page_shared_here, space_absent, space_beside, space_left, space_put, bare_space, cut_page, cut_space, holds_space, of_pages, page_in, put_awaiting, put_mark, put_page, put_shared, put_space, space_in, LedgerView, PageView, SpaceView, holding_of, ledger_of, AreBooks, IsApart, IsBooked, NamesOnce}
 use Rattle.space_ledger.proofs.Booking.{by_two}
-use Rattle.space_ledger.specs.Calls.{AreBooks, IsApart, IsBooked, NamesOnce}
 
 -- How what is kept beside the tables is kept.
 

@@ -1,18 +1,6 @@
-use Rattle.std.proofs.Common.{◌≡◌, ℕ, zero, suc, ◌+◌, ◌-◌, ◌==◌, ◌≤◌, ◌<◌, ◌⊎◌, Bool, true, false, cond, not, ◌&&◌, ◌||◌, nat_eq, nat_lt, List, length, Some, refl, sym, ap, subst, ◌∙◌, arith, inl, inr}
-use Rattle.std.proofs.lemmas.Bool.Decides.{nat_tests}
-use Rattle.std.proofs.lemmas.List.{length-set}
-use Rattle.sizes.specs.declared.TheConstants.{FRAME_UNITS}
-use Rattle.frame_pool.specs.Counts.{held, released, sharers_of}
-use Rattle.frame_pool.specs.Laws.{held_here, held_other, released_here, released_other}
-use Rattle.ledger.specs.Ledger.{Holding, Ledger, has_origin, holding_at, is_alone, is_unused, with_page, without_page}
-use Rattle.ledger.specs.Units.{class, own_lines, sharers, units}
-use Rattle.ledger.specs.UnitLaws.{alone_is, frame_for, lines_at, lines_put, units_at, units_own, units_put}
-use Rattle.ledger.specs.AloneLaws.{are, arent}
-use Rattle.ledger.specs.TallyLaws.{alone_by_count, had_by_count, sharers_at, sharers_put}
-use Rattle.space_ledger.specs.View.{origin_of}
-use Rattle.space_ledger.specs.ViewLaws.{unused_is}
-use Rattle.space_ledger.specs.Frames.{frame_units, held_by, released_by}
-use Rattle.space_ledger.specs.Calls.{AreBooks, AreSharersCounted}
+use Rattle.space_ledger.proofs.Common.{◌≡◌, ℕ, zero, suc, ◌+◌, ◌-◌, ◌==◌, ◌≤◌, ◌<◌, ◌⊎◌, Bool, true, false, cond, not, ◌&&◌, ◌||◌, nat_eq, nat_lt, List, length, Some, refl, sym, ap, subst, ◌∙◌, arith, inl, inr, nat_tests, length-set, FRAME_UNITS}
+use Rattle.space_ledger.proofs.Pages.{held, released, sharers_of, held_here, held_other, released_here, released_other}
+use Rattle.space_ledger.proofs.Views.{Holding, Ledger, has_origin, holding_at, is_alone, is_unused, with_page, without_page, class, sharers, units, alone_is, frame_for, lines_at, lines_put, units_at, units_own, units_put, are, arent, alone_by_count, had_by_count, sharers_at, sharers_put, origin_of, unused_is, frame_units, held_by, released_by, AreBooks, AreSharersCounted}
 
 -- The counts of frames, page by page.
 

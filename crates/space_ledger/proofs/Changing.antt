@@ -1,23 +1,8 @@
-use Rattle.std.proofs.Common.{◌≡◌, ℕ, ◌^◌, ◌≤◌, ◌<◌, ◌⊎◌, true, false, Some, is_some, IsSome, option_map, sym, ap, subst, ◌∙◌, arith, inl, inr}
-use Rattle.std.proofs.lemmas.Option.{same_Some}
-use Rattle.std.specs.FinMap.{get, insert, len}
-use Rattle.number_maps.specs.Keys.{alike, by_key, get_other, get_same}
-use Rattle.number_maps.specs.Views.{viewed_same}
-use Rattle.sizes.specs.declared.TheConstants.{LAST_SPACE, PAGE_END}
-use Rattle.page_set.specs.Sets.{holds}
-use Rattle.page_table.specs.Table.{is_within}
-use Rattle.overlay_address.specs.Names.{IsName, overlay_page, page_of as page_named, space_of}
-use Rattle.overlay_address.specs.Laws.{is_name, page_back, same_page, same_space, space_back}
-use Rattle.overlay_mapping_table.specs.declared.entry.Entry.{Entry}
+use Rattle.space_ledger.proofs.Common.{◌≡◌, ℕ, ◌^◌, ◌≤◌, ◌<◌, ◌⊎◌, true, false, Some, is_some, IsSome, option_map, sym, ap, subst, ◌∙◌, arith, inl, inr, same_Some, get, insert, len, LAST_SPACE, PAGE_END}
+use Rattle.space_ledger.proofs.Pages.{alike, by_key, get_other, get_same, viewed_same, holds, is_within, IsName, overlay_page, space_of, is_name, page_back, same_page, same_space, space_back, Entry}
+use Rattle.space_ledger.proofs.Views.{by_test, map_alike, page_in, put_space, mapped, mapped_space, Inside, OverlaidSpace, LedgerView, IsLined, AreTables, IsShown, Overlays, plain, seen, seen_page}
+use Rattle.overlay_address.specs.Names.{page_of as page_named}
 use Rattle.overlay_mapping_table.specs.Table.{Table}
-use Rattle.space_maps.specs.Options.{by_test, map_alike}
-use Rattle.space_maps.specs.Spaces.{page_in, put_space}
-use Rattle.space_maps.specs.Mapped.{mapped, mapped_space}
-use Rattle.space_ledger.specs.declared.tables.Tables.TheInside.{Inside}
-use Rattle.space_ledger.specs.Space.{OverlaidSpace}
-use Rattle.space_ledger.specs.View.{LedgerView}
-use Rattle.space_ledger.specs.Calls.{IsLined}
-use Rattle.space_ledger.specs.Kept.{AreTables, IsShown, Overlays, plain, seen, seen_page}
 use Rattle.space_ledger.proofs.Seen.{Shows, found, frames_is, plain_at, space_seen, zero_is}
 
 -- One space of the tables is changed, in a range of its pages, with their overlays: what is seen then, and that what is true is kept.

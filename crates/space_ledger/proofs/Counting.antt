@@ -1,29 +1,7 @@
-use Rattle.std.proofs.Common.{◌≡◌, ℕ, ◌+◌, ◌*◌, ◌≤◌, ◌<◌, true, cond, nat_lt, length, Option, Some, None, is_some, IfSome, IsSome, refl, option_and_then, sym, ap, subst, ◌∙◌, arith, inl, inr}
-use Rattle.std.proofs.lemmas.Bool.Decides.{nat_tests}
-use Rattle.std.proofs.lemmas.Option.{same_Some}
-use Rattle.std.specs.Cmp.{nat_cmp_total}
-use Rattle.std.specs.FinMap.{empty, get, get-empty, insert, len, len-empty, len-insert}
-use Rattle.std.proofs.Common.{nat_cmp}
-use Rattle.number_maps.specs.Cuts.{by_entries}
-use Rattle.number_maps.specs.Keys.{get_other, get_same}
-use Rattle.number_maps.specs.Values.{len_low}
-use Rattle.sizes.specs.declared.TheConstants.{FRAME_UNITS, LAST_SPACE, PAGE_END}
-use Rattle.overlay_address.specs.Names.{IsName, overlay_page, page_of, space_of}
-use Rattle.overlay_address.specs.Laws.{page_back, space_back}
-use Rattle.overlay_mapping_table.specs.declared.entry.Entry.{Entry}
-use Rattle.overlay_mapping_table.specs.Table.{HasRoomFor}
-use Rattle.ledger.specs.Ledger.{Holding, Ledger}
-use Rattle.ledger.specs.Units.{overlaid_pages, own_lines, tally}
-use Rattle.ledger.specs.PlaceLaws.{by_place}
-use Rattle.ledger.specs.AloneLaws.{without_absent}
-use Rattle.ledger.specs.TallyLaws.{lines_tally, tally_changed, tally_le, tally_put}
-use Rattle.space_maps.specs.Spaces.{holds_space, page_in, put_page, put_shared}
-use Rattle.space_maps.specs.Laws.{page_put_beside, page_put_here}
-use Rattle.space_maps.specs.Books.{books_absent, books_put_page, books_put_shared, books_spaces, books_there}
-use Rattle.space_ledger.specs.declared.tables.Tables.TheInside.{Inside}
-use Rattle.space_ledger.specs.View.{LedgerView, PageView, holding_of, ledger_of, lines_of}
-use Rattle.space_ledger.specs.Kept.{Overlays}
-use Rattle.space_ledger.specs.Calls.{HasOverlayRoom, HasSpare, IsSound}
+use Rattle.space_ledger.proofs.Common.{◌≡◌, ℕ, ◌+◌, ◌*◌, ◌≤◌, ◌<◌, true, cond, nat_lt, length, Option, Some, None, is_some, IfSome, IsSome, refl, option_and_then, sym, ap, subst, ◌∙◌, arith, inl, inr, nat_tests, same_Some, nat_cmp_total, empty, get, get-empty, insert, len, len-empty, len-insert, nat_cmp, FRAME_UNITS, LAST_SPACE, PAGE_END}
+use Rattle.space_ledger.proofs.Pages.{by_entries, get_other, get_same, len_low, IsName, overlay_page, space_of, page_back, space_back, Entry, HasRoomFor}
+use Rattle.space_ledger.proofs.Views.{Holding, Ledger, overlaid_pages, own_lines, tally, by_place, without_absent, lines_tally, tally_changed, tally_le, tally_put, holds_space, page_in, put_page, put_shared, page_put_beside, page_put_here, books_absent, books_put_page, books_put_shared, books_spaces, books_there, Inside, LedgerView, PageView, holding_of, ledger_of, lines_of, Overlays, HasOverlayRoom, HasSpare, IsSound}
+use Rattle.overlay_address.specs.Names.{page_of}
 use Rattle.space_ledger.proofs.Numbers.{held_page}
 use Rattle.space_ledger.proofs.Seen.{Shows, frames_is, has_is, low_is, number_is, overlay_is, plain_some, some_is}
 

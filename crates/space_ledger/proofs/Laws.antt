@@ -1,9 +1,6 @@
-use Rattle.std.proofs.Common.{◌≡◌, ℕ, Bool, true, List, Option, is_some, sym, ap, subst, ◌∙◌}
-use Rattle.overlay_mapping_table.specs.declared.entry.Entry.{Entry}
-use Rattle.ledger.specs.Changes.{has_own}
-use Rattle.space_maps.specs.Spaces.{holds_space, put_mark}
-use Rattle.space_ledger.specs.View.{LedgerView, ledger_of, overlay_at}
-use Rattle.space_ledger.specs.Calls.{IsBooked, IsSound}
+use Rattle.space_ledger.proofs.Common.{◌≡◌, ℕ, Bool, true, List, Option, is_some, sym, ap, subst, ◌∙◌}
+use Rattle.space_ledger.proofs.Pages.{Entry}
+use Rattle.space_ledger.proofs.Views.{has_own, holds_space, put_mark, LedgerView, ledger_of, overlay_at, IsBooked, IsSound}
 use Rattle.space_ledger.proofs.Booked.{booked_mark}
 use Rattle.space_ledger.proofs.Numbers.{next_own, own_is}
 

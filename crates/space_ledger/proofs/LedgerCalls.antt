@@ -1,33 +1,10 @@
-use Rattle.std.proofs.Common.{◌≡◌, ℕ, ◌+◌, ◌-◌, ◌^◌, ◌==◌, ◌≤◌, ◌<◌, ◌⊎◌, Bool, true, false, cond, not, ◌&&◌, nat_lt, List, length, Option, Some, None, is_some, IsSome, Result, Ok, Err, IfOk, refl, nat_cmp, inl, inr, sym, ap, subst, subst₂, ◌∙◌, arith}
-use Rattle.std.proofs.lemmas.Option.{same_Some}
-use Rattle.std.specs.Option.{option_and_then, option_map, option_map_or}
-use Rattle.std.specs.FinMap.{empty, get, get-empty}
-use Rattle.number_maps.specs.Views.{get_viewed}
-use Rattle.sizes.specs.declared.TheConstants.{PAGE_LINES}
-use Rattle.page_table.specs.Table.{Pages}
-use Rattle.page_table.specs.Nodes.{Table}
-use Rattle.page_table.specs.declared.entry.PageEntry.{PageEntry}
-use Rattle.overlay_mapping_table.specs.declared.entry.Entry.{Entry}
-use Rattle.unit_map.specs.declared.block.Block.{Block}
-use Rattle.space_maps.specs.Options.{map_from}
-use Rattle.space_maps.specs.Laws.{changed_there, page_of, page_shared_here}
-use Rattle.space_maps.specs.Spaces.{cut_page, holds_space, page_in, put_page, put_shared, put_space, space_in}
+use Rattle.space_ledger.proofs.Common.{◌≡◌, ℕ, ◌+◌, ◌-◌, ◌^◌, ◌==◌, ◌≤◌, ◌<◌, ◌⊎◌, Bool, true, false, cond, not, ◌&&◌, nat_lt, List, length, Option, Some, None, is_some, IsSome, Result, Ok, Err, IfOk, refl, nat_cmp, inl, inr, sym, ap, subst, subst₂, ◌∙◌, arith, same_Some, option_and_then, option_map, option_map_or, empty, get, get-empty, PAGE_LINES}
+use Rattle.space_ledger.proofs.Pages.{get_viewed, Pages, Table, PageEntry, Entry, Block, sharers_of}
+use Rattle.space_ledger.proofs.Views.{map_from, changed_there, page_of, page_shared_here, cut_page, holds_space, page_in, put_page, put_shared, put_space, space_in, holding_at, is_alone, is_unused, with_page, without_page, class, class_most, books_cut_page, books_page, books_put_page, books_there, LedgerView, PageView, frame_at, frame_awaiting, holding_of, ledger_of, lines_of, origin_of, overlay_at, with_block, with_entry_at, with_frame, with_overlay, with_page_shared, AreBooks, IsBooked, IsFreeFor, IsSound, NamesOnce, entries_of, given_up, frame_units, held_by, released_by, given_as, by_option, class_none, sharers_at}
 use Rattle.space_ledger.proofs.Seen.{some_is}
-use Rattle.frame_pool.specs.Counts.{sharers_of}
-use Rattle.ledger.specs.Ledger.{holding_at, is_alone, is_unused, with_page, without_page}
-use Rattle.ledger.specs.Units.{class}
-use Rattle.ledger.specs.ClassLaws.{class_most}
-use Rattle.space_maps.specs.Books.{books_cut_page, books_page, books_put_page, books_there}
-use Rattle.space_ledger.specs.View.{LedgerView, PageView, frame_at, frame_awaiting, holding_of, ledger_of, lines_of, origin_of, overlay_at, with_block, with_entry_at, with_frame, with_overlay, with_page_shared}
-use Rattle.space_ledger.specs.Calls.{AreBooks, IsBooked, IsFreeFor, IsSound, NamesOnce, entries_of, given_up}
-use Rattle.space_ledger.specs.Frames.{frame_units, held_by, released_by}
 use Rattle.space_ledger.proofs.Booking.{HasGone, alone_frame, by_two, few_units, length_released, page_come, page_gone, page_over, same_books, some_sharer}
 use Rattle.space_ledger.proofs.Booked.{FitsIn, booked_gone, booked_put, booked_shared, fits_same, in_pages}
 use Rattle.space_ledger.proofs.Numbers.{books_without, entry_page, lines_fit, sharers_bound, units_fit, unused_put, unused_tells}
-use Rattle.space_ledger.specs.ViewLaws.{given_as}
-use Rattle.space_maps.specs.Options.{by_option}
-use Rattle.ledger.specs.ClassLaws.{class_none}
-use Rattle.ledger.specs.TallyLaws.{sharers_at}
 
 -- What the calls leave, in the words of the calls below them.
 

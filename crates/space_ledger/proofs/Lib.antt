@@ -1,3 +1,6 @@
+pub mod Common
+pub mod Pages
+pub mod Views
 pub mod Parts
 pub mod RunParts
 pub mod Seen

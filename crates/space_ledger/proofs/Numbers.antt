@@ -1,30 +1,8 @@
-use Rattle.std.proofs.Common.{◌≡◌, ℕ, zero, suc, ◌+◌, ◌-◌, ◌*◌, ◌^◌, ◌==◌, ◌≤◌, ◌<◌, ◌⊎◌, Bool, true, false, cond, not, ◌&&◌, ◌||◌, nat_eq, nat_lt, List, [], length, Option, Some, None, is_some, Result, Ok, Err, OnOk, OnErr, refl, nat_cmp, sym, ap, subst, ◌∙◌, arith, inl, inr}
-use Rattle.std.proofs.lemmas.Bool.Decides.{nat_tests}
-use Rattle.std.proofs.lemmas.List.{length-set}
-use Rattle.std.specs.Option.{option_and_then, option_map, option_map_or}
-use Rattle.std.specs.FinMap.{empty, get, get-empty, len}
-use Rattle.sizes.specs.declared.TheConstants.{FRAME_UNITS, LAST_SPACE, MOST_FRAMES, PAGE_LINES}
-use Rattle.page_table.specs.Table.{is_within}
-use Rattle.page_table.specs.declared.entry.PageEntry.{PageEntry}
-use Rattle.overlay_mapping_table.specs.declared.entry.Entry.{Entry}
-use Rattle.frame_pool.specs.Counts.{held, none_shared, released, sharers_of}
-use Rattle.frame_pool.specs.Laws.{none_at}
-use Rattle.ledger.specs.Ledger.{Holding, Ledger, all_holdings, has_origin, holding_at, is_unused, with_page, without_page}
-use Rattle.ledger.specs.Units.{class, own_lines, sharers, units, units_of}
-use Rattle.ledger.specs.Changes.{has_own}
-use Rattle.ledger.specs.ClassLaws.{class_none}
-use Rattle.ledger.specs.UnitLaws.{no_units as no_page_units, frame_for, lines_at, lines_put, units_at, units_put}
-use Rattle.ledger.specs.AloneLaws.{are, arent, origin_with, without_absent}
-use Rattle.ledger.specs.TallyLaws.{no_holdings, tally_none, lines_tally, sharers_at, sharers_few, sharers_put, units_few}
-use Rattle.space_maps.specs.Options.{map_from}
-use Rattle.space_maps.specs.Laws.{changed_there, keeps_page_put, page_of, page_put_beside, space_absent}
-use Rattle.space_maps.specs.Spaces.{bare_space, cut_page, holds_space, page_in, put_page, put_pages, put_shared, put_space, space_in}
-use Rattle.space_maps.specs.Books.{books_absent, books_cut_page, books_empty, books_len, books_page, books_put_page, books_spaces, books_there}
-use Rattle.space_ledger.specs.View.{LedgerView, PageView, SpaceView, holding_of, ledger_of, lines_of, origin_of, overlay_at, with_frame, with_overlay, with_zero_pages}
-use Rattle.space_ledger.specs.ViewLaws.{given_as, unused_is}
-use Rattle.space_ledger.specs.Calls.{AreBooks, AreFree, IsApart, IsBooked, IsFreeFor, IsNextOverlaid, IsNextOwn, IsSound, given_up}
-use Rattle.space_ledger.specs.Frames.{frame_units, held_by, released_by}
-use Rattle.space_ledger.proofs.Booking.{by_two, eq_false, eq_true, has_frame, held_zero, no_units, page_come, same_books}
+use Rattle.space_ledger.proofs.Common.{◌≡◌, ℕ, zero, suc, ◌+◌, ◌*◌, ◌^◌, ◌==◌, ◌≤◌, ◌<◌, Bool, true, false, cond, not, ◌&&◌, ◌||◌, nat_eq, nat_lt, List, [], length, Option, Some, None, is_some, Result, Ok, Err, OnOk, OnErr, refl, nat_cmp, sym, ap, subst, ◌∙◌, arith, inl, nat_tests, option_and_then, option_map, option_map_or, empty, get, get-empty, len, FRAME_UNITS, LAST_SPACE, MOST_FRAMES, PAGE_LINES}
+use Rattle.space_ledger.proofs.Pages.{is_within, PageEntry, Entry, none_shared, sharers_of, none_at}
+use Rattle.space_ledger.proofs.Views.{Holding, Ledger, all_holdings, has_origin, holding_at, is_unused, with_page, without_page, class, own_lines, sharers, units, units_of, has_own, class_none, frame_for, are, arent, origin_with, without_absent, no_holdings, tally_none, lines_tally, sharers_few, units_few, map_from, keeps_page_put, page_of, page_put_beside, space_absent, bare_space, holds_space, page_in, put_page, put_pages, put_space, space_in, books_absent, books_empty, books_len, books_page, books_spaces, LedgerView, PageView, SpaceView, holding_of, ledger_of, lines_of, origin_of, overlay_at, with_zero_pages, unused_is, AreBooks, AreFree, IsApart, IsBooked, IsNextOverlaid, IsNextOwn, IsSound}
+use Rattle.ledger.specs.UnitLaws.{no_units as no_page_units}
+use Rattle.space_ledger.proofs.Booking.{by_two, has_frame, held_zero, no_units, page_come, same_books}
 use Rattle.space_ledger.proofs.Booked.{nothing_apart, booked_put, in_pages}
 
 -- The numbers that each call leaves.

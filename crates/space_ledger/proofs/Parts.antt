@@ -1,14 +1,6 @@
-use Rattle.std.proofs.Common.{◌≡◌, ℕ, zero, suc, ◌+◌, ◌-◌, ◌^◌, ◌≤◌, ◌<◌, Bool, true, false, cond, nat_le, nat_lt, Option, Some, None, is_some, IsSome, refl, nat_cmp, sym, ap, subst, ◌∙◌, arith}
-use Rattle.std.proofs.lemmas.Bool.Decides.{nat_tests}
-use Rattle.std.specs.Cmp.{nat_cmp_total}
-use Rattle.std.specs.FinMap.{empty, empty_of_len, get, get-empty, get-retain_keys, insert, len, len-empty, len-insert, len-remove, nat_cmp-IsAntisymmetric, remove}
-use Rattle.number_maps.specs.Keys.{alike, by_key, get_other, get_same, removed_other, removed_same}
-use Rattle.page_table.specs.Table.{Pages, IsFree, IsMapped, IsNext, is_within}
-use Rattle.page_table.specs.declared.entry.PageEntry.{PageEntry}
-use Rattle.page_set.specs.Sets.{Chunks, IsNextMember, holds}
-use Rattle.page_table.specs.Nodes.{OverlaidAreThere, Table}
-use Rattle.ledger.specs.AloneLaws.{not_true}
-use Rattle.space_ledger.specs.Space.{AreNotOverlaid, IsLeastOverlaid, SpaceTable, HasMapped, IsCounted, IsLeast, IsLeastFrom, OverlaidSpace, adopted, awaited, pages_below, pages_from, with_entry}
+use Rattle.space_ledger.proofs.Common.{◌≡◌, ℕ, zero, suc, ◌+◌, ◌-◌, ◌^◌, ◌≤◌, ◌<◌, Bool, true, false, cond, nat_le, nat_lt, Option, Some, None, is_some, IsSome, refl, nat_cmp, sym, ap, subst, ◌∙◌, arith, nat_tests, nat_cmp_total, empty, empty_of_len, get, get-empty, get-retain_keys, insert, len, len-empty, len-insert, len-remove, nat_cmp-IsAntisymmetric, remove}
+use Rattle.space_ledger.proofs.Pages.{alike, by_key, get_other, get_same, removed_other, removed_same, Pages, IsFree, IsMapped, IsNext, is_within, PageEntry, Chunks, IsNextMember, holds, OverlaidAreThere, Table}
+use Rattle.space_ledger.proofs.Views.{not_true, AreNotOverlaid, IsLeastOverlaid, SpaceTable, HasMapped, IsCounted, IsLeast, IsLeastFrom, OverlaidSpace, adopted, awaited, pages_below, pages_from, with_entry}
 
 -- the pages that a space is seen to have
 pub table_is : {a b : OverlaidSpace} → a ≡ b → a.table ≡ b.table

@@ -1,18 +1,6 @@
-use Rattle.std.proofs.Common.{◌≡◌, ℕ, zero, suc, ◌+◌, ◌-◌, ◌≤◌, ◌<◌, Bool, true, false, cond, nat_le, nat_lt, Option, Some, None, is_some, IsSome, refl, option_map, sym, ap, subst, ◌∙◌, arith}
-use Rattle.std.proofs.lemmas.Bool.Decides.{nat_tests}
-use Rattle.std.specs.FinMap.{get, len}
-use Rattle.number_maps.specs.Keys.{alike, by_key, removed_other, removed_same}
-use Rattle.number_maps.specs.Views.{get_viewed}
-use Rattle.page_table.specs.Run.{IsNextRun, IsRunFrom, entry_at}
-use Rattle.page_table.specs.Table.{Pages, AreThere, IsUnmapped, is_within}
-use Rattle.page_table.specs.declared.entry.PageEntry.{PageEntry}
-use Rattle.page_table.specs.declared.run.PageRun.{PageRun}
-use Rattle.space_maps.specs.Options.{map_from, none_by, map_some}
-use Rattle.space_maps.specs.Spaces.{AreMapped, page_in, space_in}
-use Rattle.space_maps.specs.Laws.{page_of}
-use Rattle.space_ledger.specs.Space.{SpaceTable, IsCounted, pages_below, pages_from, without_pages}
-use Rattle.space_ledger.specs.View.{LedgerView, PageView, overlay_at}
-use Rattle.space_ledger.specs.Calls.{AreBare, AreBareOnZero, entries_of}
+use Rattle.space_ledger.proofs.Common.{◌≡◌, ℕ, zero, suc, ◌+◌, ◌-◌, ◌≤◌, ◌<◌, Bool, true, false, cond, nat_le, nat_lt, Option, Some, None, is_some, IsSome, refl, option_map, sym, ap, subst, ◌∙◌, arith, nat_tests, get, len}
+use Rattle.space_ledger.proofs.Pages.{alike, by_key, removed_other, removed_same, get_viewed, IsNextRun, IsRunFrom, entry_at, Pages, AreThere, IsUnmapped, is_within, PageEntry, PageRun}
+use Rattle.space_ledger.proofs.Views.{map_from, none_by, map_some, AreMapped, page_in, space_in, page_of, SpaceTable, IsCounted, pages_below, pages_from, without_pages, LedgerView, PageView, overlay_at, AreBare, AreBareOnZero, entries_of}
 use Rattle.space_ledger.proofs.Parts.{below_at, count_gone, from_at, is_inside, same_space, some_count}
 
 -- Pages that are taken away, one after the other.

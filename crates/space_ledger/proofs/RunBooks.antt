@@ -1,20 +1,6 @@
-use Rattle.std.proofs.Common.{◌≡◌, ℕ, zero, suc, ◌+◌, ◌-◌, ◌*◌, ◌^◌, ◌≤◌, ◌<◌, ◌⊎◌, Bool, true, cond, List, length, Option, Some, None, is_some, IsSome, refl, option_map, sym, ap, subst, ◌∙◌, arith}
-use Rattle.std.specs.Cmp.{nat_cmp_total}
-use Rattle.std.specs.FinMap.{get, insert, len, len-insert, remove}
-use Rattle.sizes.specs.declared.TheConstants.{FRAME_UNITS, PAGE_END}
-use Rattle.frame_pool.specs.Counts.{sharers_of}
-use Rattle.ledger.specs.Units.{class}
-use Rattle.ledger.specs.ClassLaws.{class_none}
-use Rattle.ledger.specs.PlaceLaws.{by_place}
-use Rattle.page_table.specs.Run.{IsRunFrom, entry_at}
-use Rattle.page_table.specs.declared.entry.PageEntry.{PageEntry}
-use Rattle.page_table.specs.declared.run.PageRun.{PageRun}
-use Rattle.space_maps.specs.Options.{map_some}
-use Rattle.space_maps.specs.Laws.{page_shared_beside, page_shared_here}
-use Rattle.space_maps.specs.Spaces.{holds_space, page_in, put_shared, put_space, space_in}
-use Rattle.space_ledger.specs.View.{LedgerView, PageView, SpaceView, with_run_shared}
-use Rattle.space_ledger.specs.Calls.{AreBareBelow, IsBooked, IsSound}
-use Rattle.space_ledger.specs.Frames.{counted_run, counted_units, frame_units, held_by, held_run, run_units}
+use Rattle.space_ledger.proofs.Common.{◌≡◌, ℕ, zero, suc, ◌+◌, ◌-◌, ◌*◌, ◌^◌, ◌≤◌, ◌<◌, ◌⊎◌, Bool, true, cond, List, length, Option, Some, None, is_some, IsSome, refl, option_map, sym, ap, subst, ◌∙◌, arith, nat_cmp_total, get, insert, len, len-insert, remove, FRAME_UNITS, PAGE_END}
+use Rattle.space_ledger.proofs.Pages.{sharers_of, IsRunFrom, entry_at, PageEntry, PageRun}
+use Rattle.space_ledger.proofs.Views.{class, class_none, by_place, map_some, page_shared_beside, page_shared_here, holds_space, page_in, put_shared, put_space, space_in, LedgerView, PageView, SpaceView, with_run_shared, AreBareBelow, IsBooked, IsSound, counted_run, counted_units, frame_units, held_by, held_run, run_units}
 use Rattle.space_ledger.proofs.Counting.{overlaid_shared}
 use Rattle.space_ledger.proofs.Numbers.{units_fit}
 use Rattle.space_ledger.proofs.RunViews.{HasReached, reached}

@@ -1,11 +1,6 @@
-use Rattle.std.proofs.Common.{◌≡◌, ℕ, zero, suc, ◌+◌, ◌*◌, ◌==◌, ◌≤◌, ◌<◌, ◌^◌, ◌||◌, Bool, true, false, cond, not, nat_eq, List, length, refl, sym, ap, subst, ◌∙◌, arith}
-use Rattle.sizes.specs.declared.TheConstants.{FRAME_UNITS, PAGE_END}
-use Rattle.frame_pool.specs.Counts.{sharers_of}
-use Rattle.ledger.specs.AloneLaws.{are}
-use Rattle.page_table.specs.Run.{entry_at}
-use Rattle.page_table.specs.declared.entry.PageEntry.{PageEntry}
-use Rattle.page_table.specs.declared.run.PageRun.{PageRun}
-use Rattle.space_ledger.specs.Frames.{counted_run, counted_units, frame_units, held_by, released_by}
+use Rattle.space_ledger.proofs.Common.{◌≡◌, ℕ, zero, suc, ◌+◌, ◌*◌, ◌≤◌, ◌<◌, ◌^◌, Bool, false, cond, List, length, refl, sym, ap, subst, ◌∙◌, arith, PAGE_END}
+use Rattle.space_ledger.proofs.Pages.{entry_at, PageEntry, PageRun}
+use Rattle.space_ledger.proofs.Views.{counted_run, counted_units, frame_units, held_by, released_by}
 use Rattle.space_ledger.proofs.Booking.{few_units, held_zero, length_held, length_released, no_units, released_zero}
 
 -- The counts of a run, page by page, whether its pages come or go.

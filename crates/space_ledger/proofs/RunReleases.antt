@@ -1,9 +1,6 @@
-use Rattle.std.proofs.Common.{◌≡◌, ℕ, zero, suc, ◌≤◌, ◌<◌, ◌⊎◌, List, sym, ap, subst, ◌∙◌, arith}
-use Rattle.frame_pool.specs.Counts.{sharers_of}
-use Rattle.page_table.specs.Run.{entry_at}
-use Rattle.page_table.specs.declared.entry.PageEntry.{PageEntry}
-use Rattle.page_table.specs.declared.run.PageRun.{PageRun}
-use Rattle.space_ledger.specs.Frames.{counted_run, counted_units, frame_units, released_by, released_run, run_freed}
+use Rattle.space_ledger.proofs.Common.{◌≡◌, ℕ, zero, suc, ◌≤◌, ◌<◌, ◌⊎◌, List, sym, ap, subst, ◌∙◌, arith}
+use Rattle.space_ledger.proofs.Pages.{sharers_of, entry_at, PageEntry, PageRun}
+use Rattle.space_ledger.proofs.Views.{counted_run, counted_units, frame_units, released_by, released_run, run_freed}
 use Rattle.space_ledger.proofs.Booking.{by_two, released_beside}
 use Rattle.space_ledger.proofs.RunCounts.{units_released, HasCounted}
 

@@ -1,20 +1,8 @@
-use Rattle.std.proofs.Common.{◌≡◌, ℕ, zero, suc, ◌+◌, ◌-◌, ◌≤◌, ◌<◌, ◌⊎◌, ◌||◌, ◌&&◌, Bool, true, cond, not, nat_eq, nat_lt, List, length, Option, Some, None, refl, option_and_then, option_map, sym, ap, subst, ◌∙◌, arith}
-use Rattle.frame_pool.specs.Counts.{sharers_of}
-use Rattle.ledger.specs.Ledger.{has_origin, is_unused}
+use Rattle.space_ledger.proofs.Common.{◌≡◌, ℕ, zero, suc, ◌+◌, ◌-◌, ◌≤◌, ◌<◌, ◌⊎◌, ◌||◌, ◌&&◌, Bool, true, cond, not, nat_eq, nat_lt, List, length, Option, Some, None, refl, option_and_then, option_map, sym, ap, subst, ◌∙◌, arith}
+use Rattle.space_ledger.proofs.Pages.{sharers_of, IsRunFrom, entry_at, PageRun, Entry}
+use Rattle.space_ledger.proofs.Views.{has_origin, is_unused, after_cut, are_cut, cut_page, cut_pages, holds_space, page_in, counted_run, counted_units, frame_units, released_run, run_freed, LedgerView, PageView, ledger_of, origin_of, overlay_at, given_as, unused_is, GivesNothingUp, GivesUpAtLast, IsBareFrom, IsBareRun, IsBooked, entries_of, given_up, IsStartOf, are, arent}
 use Rattle.ledger.specs.Units.{units as units_of}
-use Rattle.page_table.specs.Run.{IsRunFrom, entry_at}
-use Rattle.page_table.specs.declared.entry.PageEntry.{PageEntry}
-use Rattle.page_table.specs.declared.run.PageRun.{PageRun}
-use Rattle.overlay_mapping_table.specs.declared.entry.Entry.{Entry}
-use Rattle.space_maps.specs.Laws.{after_cut, are_cut}
-use Rattle.space_maps.specs.Spaces.{cut_page, cut_pages, holds_space, page_in}
-use Rattle.space_ledger.specs.Frames.{counted_run, counted_units, frame_units, released_run, run_freed}
-use Rattle.space_ledger.specs.View.{LedgerView, PageView, ledger_of, origin_of, overlay_at}
-use Rattle.space_ledger.specs.ViewLaws.{given_as, unused_is}
-use Rattle.space_ledger.specs.Calls.{GivesNothingUp, GivesUpAtLast, IsBareFrom, IsBareRun, IsBooked, entries_of, given_up}
-use Rattle.space_ledger.specs.Space.{IsStartOf}
 use Rattle.space_ledger.proofs.Booked.{in_pages}
-use Rattle.ledger.specs.AloneLaws.{are, arent}
 use Rattle.space_ledger.proofs.Booking.{by_two, unused_by_count}
 use Rattle.space_ledger.proofs.LedgerCalls.{Released, before_release, removed_call}
 use Rattle.space_ledger.proofs.Numbers.{entry_page}

@@ -1,12 +1,6 @@
-use Rattle.std.proofs.Common.{◌≡◌, ℕ, zero, suc, ◌+◌, ◌≤◌, ◌<◌, true, None, is_some, refl, ap, ◌∙◌, arith}
-use Rattle.std.specs.FinMap.{get, remove}
-use Rattle.number_maps.specs.Keys.{by_key, get_same, removed_other, removed_same}
-use Rattle.page_table.specs.Table.{Pages}
-use Rattle.page_table.specs.Run.{entry_at}
-use Rattle.page_table.specs.declared.run.PageRun.{PageRun}
-use Rattle.space_maps.specs.Spaces.{holds_space, page_in, put_shared, put_space, space_in}
-use Rattle.space_maps.specs.Laws.{page_shared_beside, space_put}
-use Rattle.space_ledger.specs.View.{LedgerView, PageView, SpaceView, with_run_shared}
+use Rattle.space_ledger.proofs.Common.{◌≡◌, ℕ, zero, suc, ◌+◌, ◌≤◌, ◌<◌, true, None, is_some, refl, ap, ◌∙◌, arith, get, remove}
+use Rattle.space_ledger.proofs.Pages.{by_key, get_same, removed_other, removed_same, Pages, entry_at, PageRun}
+use Rattle.space_ledger.proofs.Views.{holds_space, page_in, put_shared, put_space, space_in, page_shared_beside, space_put, LedgerView, PageView, SpaceView, with_run_shared}
 use Rattle.space_ledger.proofs.Parts.{nat_apart}
 
 -- A run of pages that become a space's one after the other, without overlays.

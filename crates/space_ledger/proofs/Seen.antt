@@ -1,25 +1,6 @@
-use Rattle.std.proofs.Common.{◌≡◌, ℕ, ◌+◌, ◌-◌, ◌^◌, ◌≤◌, ◌<◌, true, false, Option, Some, None, is_some, IsSome, refl, option_and_then, option_map, nat_cmp, sym, ap, subst, subst₂, ◌∙◌, arith}
-use Rattle.std.proofs.lemmas.Bool.Decides.{nat_tests}
-use Rattle.std.specs.FinMap.{FinMap, empty, get, get-empty, len}
-use Rattle.number_maps.specs.Keys.{alike}
-use Rattle.number_maps.specs.Values.{len_low}
-use Rattle.number_maps.specs.Views.{get_viewed, len_viewed}
-use Rattle.sizes.specs.declared.TheConstants.{LAST_SPACE, PAGE_END}
-use Rattle.page_set.specs.Sets.{holds}
-use Rattle.page_table.specs.Table.{AreThere, IsFree, is_within}
-use Rattle.page_table.specs.declared.entry.PageEntry.{PageEntry}
-use Rattle.overlay_address.specs.Names.{overlay_page}
-use Rattle.overlay_address.specs.Laws.{page_back, space_back}
-use Rattle.ledger.specs.AloneLaws.{not_true}
-use Rattle.space_maps.specs.Options.{by_option, map_twice, map_still, none_by, map_some}
-use Rattle.space_maps.specs.Spaces.{bare_space, holds_space, page_in, space_in}
-use Rattle.space_maps.specs.Laws.{page_of, space_absent, space_there, there_space}
-use Rattle.space_maps.specs.Mapped.{mapped, mapped_at, mapped_holds, mapped_page, mapped_space}
-use Rattle.space_ledger.specs.declared.tables.Tables.TheInside.{Inside}
-use Rattle.space_ledger.specs.Space.{IsLeastFrom, IsLeastOverlaid, OverlaidSpace, SpaceTable}
-use Rattle.space_ledger.specs.View.{LedgerView, PageView, SpaceView, overlay_at}
-use Rattle.space_ledger.specs.Calls.{AreBare, AreFree, IsNextOf, IsNextOverlaid, entries_of}
-use Rattle.space_ledger.specs.Kept.{AreTables, plain, seen, seen_page, tables_of}
+use Rattle.space_ledger.proofs.Common.{◌≡◌, ℕ, ◌+◌, ◌-◌, ◌^◌, ◌≤◌, ◌<◌, true, false, Option, Some, None, is_some, IsSome, refl, option_and_then, option_map, nat_cmp, sym, ap, subst, subst₂, ◌∙◌, arith, nat_tests, FinMap, empty, get, get-empty, len, LAST_SPACE, PAGE_END}
+use Rattle.space_ledger.proofs.Pages.{alike, len_low, get_viewed, len_viewed, holds, AreThere, IsFree, is_within, PageEntry, overlay_page, page_back, space_back}
+use Rattle.space_ledger.proofs.Views.{not_true, by_option, map_twice, map_still, none_by, map_some, bare_space, holds_space, page_in, space_in, page_of, space_absent, space_there, there_space, mapped, mapped_at, mapped_holds, mapped_page, mapped_space, Inside, IsLeastFrom, IsLeastOverlaid, OverlaidSpace, SpaceTable, LedgerView, PageView, SpaceView, overlay_at, AreBare, AreFree, IsNextOf, IsNextOverlaid, entries_of, AreTables, plain, seen, seen_page, tables_of}
 
 -- What the spaces and the overlays show.
 

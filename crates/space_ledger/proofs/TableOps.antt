@@ -1,30 +1,9 @@
-use Rattle.std.proofs.Common.{◌≡◌, ℕ, zero, suc, ◌+◌, ◌-◌, ◌*◌, ◌^◌, ◌≤◌, ◌<◌, ◌⊎◌, Bool, true, false, cond, Option, Some, None, is_some, IfSome, IsSome, Result, Ok, Err, OnOk, OnErr, refl, option_map, option_and_then, nat_cmp, sym, ap, subst, ◌∙◌, arith, inl, inr}
-use Rattle.std.proofs.lemmas.Bool.Decides.{nat_tests}
-use Rattle.std.specs.Cmp.{nat_cmp_total}
-use Rattle.std.specs.FinMap.{FinMap, empty, get, get-empty, insert, len, len-empty, len-insert, len-remove, remove}
-use Rattle.number_maps.specs.Keys.{alike, by_key, get_other, get_same, insert_kept, removed_other, removed_same}
-use Rattle.number_maps.specs.Views.{get_viewed, viewed, viewed_empty, viewed_gone, viewed_put}
-use Rattle.sizes.specs.declared.TheConstants.{FRAME_UNITS, LAST_SPACE, PAGE_END}
-use Rattle.page_set.specs.Sets.{AreCut, IsPut, holds}
-use Rattle.page_table.specs.Table.{Pages, is_within}
-use Rattle.page_table.specs.Run.{entry_at}
-use Rattle.page_table.specs.declared.entry.PageEntry.{PageEntry}
-use Rattle.page_table.specs.declared.run.PageRun.{PageRun}
-use Rattle.overlay_address.specs.Names.{overlay_page, page_of as page_named, space_of}
-use Rattle.overlay_address.specs.Laws.{same_page}
-use Rattle.overlay_mapping_table.specs.declared.entry.Entry.{Entry}
-use Rattle.overlay_mapping_table.specs.Table.{Table, HasRoomFor}
-use Rattle.ledger.specs.AloneLaws.{are, arent}
-use Rattle.std.proofs.lemmas.Option.{same_Some}
-use Rattle.space_maps.specs.Options.{by_test, map_alike, none_by}
-use Rattle.space_maps.specs.Spaces.{Spaces, bare_space, cut_page, cut_pages, cut_space, holds_space, page_in, put_awaiting, put_mark, put_page, put_pages, put_shared, put_space, space_in}
-use Rattle.space_maps.specs.Laws.{ArePut, are_put, beside_space, changed_there, in_space, keeps_put, page_absent, page_of, same_spaces, space_over, space_put, space_there, spaces_alike}
-use Rattle.space_maps.specs.Mapped.{mapped, mapped_bare, mapped_cut, mapped_cut_pages, mapped_none, mapped_put, mapped_space}
-use Rattle.space_ledger.specs.declared.tables.Tables.TheInside.{Inside}
-use Rattle.space_ledger.specs.Space.{AreNotOverlaid, HasMapped, OverlaidSpace, SpaceTable, adopted, awaited, marked, run_awaited, with_entry, without_page, without_pages}
-use Rattle.space_ledger.specs.View.{LedgerView, PageView, SpaceView, with_entry_at, with_overlay, with_run_shared, with_zero_pages}
-use Rattle.space_ledger.specs.Calls.{AreBare, AreFree, IsLined}
-use Rattle.space_ledger.specs.Kept.{AreTables, Overlays, plain, put_over, seen, seen_page, tables_of}
+use Rattle.space_ledger.proofs.Common.{◌≡◌, ℕ, zero, suc, ◌+◌, ◌-◌, ◌*◌, ◌^◌, ◌≤◌, ◌<◌, ◌⊎◌, Bool, true, false, cond, Option, Some, None, is_some, IfSome, IsSome, Result, Ok, Err, OnOk, OnErr, refl, option_map, option_and_then, nat_cmp, sym, ap, subst, ◌∙◌, arith, inl, inr, nat_tests, nat_cmp_total, FinMap, empty, get, get-empty, insert, len, len-empty, len-insert, len-remove, remove, FRAME_UNITS, LAST_SPACE, PAGE_END, same_Some}
+use Rattle.space_ledger.proofs.Pages.{alike, by_key, get_other, get_same, insert_kept, removed_other, removed_same, get_viewed, viewed, viewed_empty, viewed_gone, viewed_put, AreCut, IsPut, holds, Pages, is_within, entry_at, PageEntry, PageRun, overlay_page, space_of, same_page, Entry, HasRoomFor}
+use Rattle.space_ledger.proofs.Views.{are, arent, by_test, map_alike, none_by, Spaces, bare_space, cut_page, cut_pages, cut_space, holds_space, page_in, put_awaiting, put_mark, put_page, put_pages, put_shared, put_space, space_in, ArePut, are_put, beside_space, changed_there, in_space, keeps_put, page_absent, page_of, same_spaces, space_over, space_put, space_there, spaces_alike, mapped, mapped_bare, mapped_cut, mapped_cut_pages, mapped_none, mapped_put, mapped_space, Inside, AreNotOverlaid, HasMapped, OverlaidSpace, SpaceTable, adopted, awaited, marked, run_awaited, with_entry, without_pages, LedgerView, PageView, SpaceView, with_entry_at, with_overlay, with_run_shared, with_zero_pages, AreBare, AreFree, IsLined, AreTables, Overlays, plain, put_over, seen, seen_page, tables_of}
+use Rattle.overlay_address.specs.Names.{page_of as page_named}
+use Rattle.overlay_mapping_table.specs.Table.{Table}
+use Rattle.space_ledger.specs.Space.{without_page}
 use Rattle.space_ledger.proofs.Seen.{Shows, absent_is, awaiting_is, bare_at, empty_in, entry_at as entry_is, entry_there, found, held_at, low_is, mark_is, none_placed, overlay_is, page_at, plain_at, plain_some, some_is, space_is, there_is}
 use Rattle.space_ledger.proofs.Removing.{without_at}
 use Rattle.space_ledger.proofs.Changing.{AreBeside, IsChange, WasAt, changed, made}

@@ -1,7 +1,6 @@
-use Rattle.std.proofs.Common.{ap, sym, ◌∙◌}
-use Rattle.number_maps.specs.Values.{remove_absent}
-use Rattle.space_maps.specs.Options.{none_by}
-use Rattle.space_ledger.specs.Kept.{put_over}
+use Rattle.space_ledger.proofs.Common.{ap, sym, ◌∙◌}
+use Rattle.space_ledger.proofs.Pages.{remove_absent}
+use Rattle.space_ledger.proofs.Views.{none_by, put_over}
 use Rattle.space_ledger.proofs.tables.put.Goals as goal
 
 pub returns-else-had-clause-entries : goal.returns-else-had-clause-entries

@@ -1,5 +1,5 @@
-use Rattle.std.proofs.Common.{Some, None, subst}
-use Rattle.space_ledger.specs.Space.{OverlaidSpace, IsLeastOverlaid}
+use Rattle.space_ledger.proofs.Common.{Some, None, subst}
+use Rattle.space_ledger.proofs.Views.{OverlaidSpace, IsLeastOverlaid}
 use Rattle.space_ledger.proofs.Parts.{overlaid_inside, overlaid_nowhere, overlaid_waits}
 use Rattle.space_ledger.proofs.space.Space.next_overlaid.Goals as goal
 

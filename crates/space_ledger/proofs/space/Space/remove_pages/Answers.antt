@@ -1,6 +1,6 @@
-use Rattle.std.proofs.Common.{ap, sym, subst, ◌∙◌}
-use Rattle.page_table.specs.Table.{AreThere}
-use Rattle.space_ledger.specs.Space.{SpaceTable, without_pages}
+use Rattle.space_ledger.proofs.Common.{ap, sym, subst, ◌∙◌}
+use Rattle.space_ledger.proofs.Pages.{AreThere}
+use Rattle.space_ledger.proofs.Views.{SpaceTable, without_pages}
 use Rattle.space_ledger.proofs.Parts.{in_table, table_is}
 use Rattle.space_ledger.proofs.Removing.{unmapped_counted, unmapped_entry}
 use Rattle.space_ledger.proofs.space.Space.remove_pages.Goals as goal

@@ -1,7 +1,5 @@
-use Rattle.std.proofs.Common.{ap, ◌∙◌}
-use Rattle.std.specs.Option.{is_some}
-use Rattle.std.specs.FinMap.{get}
-use Rattle.space_ledger.specs.Space.{OverlaidSpace}
+use Rattle.space_ledger.proofs.Common.{ap, ◌∙◌, is_some, get}
+use Rattle.space_ledger.proofs.Views.{OverlaidSpace}
 use Rattle.space_ledger.proofs.Parts.{in_table}
 use Rattle.space_ledger.proofs.space.Space.set_overlaid.Goals as goal
 

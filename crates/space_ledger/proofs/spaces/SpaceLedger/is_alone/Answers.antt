@@ -1,6 +1,5 @@
-use Rattle.std.proofs.Common.{◌<◌, sym, subst, ◌∙◌, ap}
-use Rattle.space_ledger.specs.View.{LedgerView, frame_at}
-use Rattle.space_ledger.specs.ViewLaws.{entry_frame}
+use Rattle.space_ledger.proofs.Common.{◌<◌, sym, subst, ◌∙◌, ap}
+use Rattle.space_ledger.proofs.Views.{LedgerView, frame_at, entry_frame}
 use Rattle.space_ledger.proofs.LedgerCalls.{entry_inside}
 use Rattle.space_ledger.proofs.spaces.SpaceLedger.is_alone.Goals as goal
 

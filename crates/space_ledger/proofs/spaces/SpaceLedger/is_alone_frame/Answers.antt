@@ -1,6 +1,5 @@
-use Rattle.std.proofs.Common.{◌<◌, sym, ap, subst, ◌∙◌}
-use Rattle.space_ledger.specs.View.{LedgerView, frame_at, ledger_of}
-use Rattle.ledger.specs.Ledger.{is_alone}
+use Rattle.space_ledger.proofs.Common.{◌<◌, sym, ap, subst, ◌∙◌}
+use Rattle.space_ledger.proofs.Views.{LedgerView, frame_at, ledger_of, is_alone}
 use Rattle.space_ledger.proofs.LedgerCalls.{alone_call}
 use Rattle.space_ledger.proofs.spaces.SpaceLedger.is_alone_frame.Goals as goal
 

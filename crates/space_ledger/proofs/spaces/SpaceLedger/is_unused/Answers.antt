@@ -1,6 +1,5 @@
-use Rattle.std.proofs.Common.{◌<◌, sym, ap, subst, ◌∙◌}
-use Rattle.ledger.specs.Ledger.{is_unused}
-use Rattle.space_ledger.specs.View.{LedgerView, ledger_of, origin_of}
+use Rattle.space_ledger.proofs.Common.{◌<◌, sym, ap, subst, ◌∙◌}
+use Rattle.space_ledger.proofs.Views.{is_unused, LedgerView, ledger_of, origin_of}
 use Rattle.space_ledger.proofs.RunRemoved.{unused_call, zero_used}
 use Rattle.space_ledger.proofs.spaces.SpaceLedger.is_unused.Goals as goal
 

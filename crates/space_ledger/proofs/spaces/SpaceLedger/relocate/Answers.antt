@@ -1,7 +1,7 @@
-use Rattle.std.proofs.Common.{sym, ap, subst, ◌∙◌}
-use Rattle.overlay_address.specs.Names.{page_of, space_of}
-use Rattle.space_ledger.specs.View.{LedgerView, with_block}
-use Rattle.space_ledger.specs.Calls.{IsBooked}
+use Rattle.space_ledger.proofs.Common.{sym, ap, subst, ◌∙◌}
+use Rattle.space_ledger.proofs.Pages.{space_of}
+use Rattle.space_ledger.proofs.Views.{LedgerView, with_block, IsBooked}
+use Rattle.overlay_address.specs.Names.{page_of}
 use Rattle.space_ledger.proofs.LedgerCalls.{moved_call}
 use Rattle.space_ledger.proofs.spaces.SpaceLedger.relocate.Goals as goal
 

@@ -1,9 +1,6 @@
-use Rattle.std.proofs.Common.{◌≡◌, sym, ap, subst, ◌∙◌, ◌-◌}
-use Rattle.space_maps.specs.Laws.{cut_one, there_space}
+use Rattle.space_ledger.proofs.Common.{◌≡◌, sym, ap, subst, ◌∙◌, ◌-◌}
+use Rattle.space_ledger.proofs.Views.{cut_one, there_space, cut_page, page_in, LedgerView, overlay_at, AreBare, IsBooked, given_up}
 use Rattle.space_ledger.proofs.Numbers.{entry_page}
-use Rattle.space_maps.specs.Spaces.{cut_page, page_in}
-use Rattle.space_ledger.specs.View.{LedgerView, overlay_at}
-use Rattle.space_ledger.specs.Calls.{AreBare, IsBooked, given_up}
 use Rattle.space_ledger.proofs.LedgerCalls.{Released, before_release, removed_call}
 use Rattle.space_ledger.proofs.Removing.{bare_one}
 use Rattle.space_ledger.proofs.spaces.SpaceLedger.remove_page.Goals as goal

@@ -1,7 +1,5 @@
-use Rattle.std.proofs.Common.{ℕ, ◌<◌, ◌-◌, ◌+◌, ◌==◌, cond, Some, None, option_and_then, sym, ap, subst, ◌∙◌, arith}
-use Rattle.space_maps.specs.Spaces.{page_in, space_in}
-use Rattle.space_ledger.specs.View.{LedgerView, with_frame}
-use Rattle.space_ledger.specs.Calls.{IsBooked, IsFreeFor, given_up}
+use Rattle.space_ledger.proofs.Common.{ℕ, ◌<◌, ◌-◌, ◌+◌, ◌==◌, cond, Some, None, option_and_then, sym, ap, subst, ◌∙◌, arith}
+use Rattle.space_ledger.proofs.Views.{page_in, space_in, LedgerView, with_frame, IsBooked, IsFreeFor, given_up}
 use Rattle.space_ledger.proofs.LedgerCalls.{BeforeHold, Framed, before_hold, before_release, entry_is_frame, framed_call}
 use Rattle.space_ledger.proofs.spaces.SpaceLedger.set_frame.Goals as goal
 use Rattle.space_ledger.proofs.spaces.SpaceLedger.set_frame.Goals.{After-release-freed, After-hold-added}

@@ -1,8 +1,5 @@
-use Rattle.std.proofs.Common.{sym, ap, subst, subst₂, ◌∙◌, arith, ◌+◌, ◌-◌}
-use Rattle.std.specs.Option.{is_some}
-use Rattle.space_maps.specs.Spaces.{page_in}
-use Rattle.space_ledger.specs.View.{LedgerView, with_overlay}
-use Rattle.space_ledger.specs.Calls.{IsBooked}
+use Rattle.space_ledger.proofs.Common.{sym, ap, subst, subst₂, ◌∙◌, arith, ◌+◌, ◌-◌, is_some}
+use Rattle.space_ledger.proofs.Views.{page_in, LedgerView, with_overlay, IsBooked}
 use Rattle.space_ledger.proofs.LedgerCalls.{Overlaid, overlaid_call}
 use Rattle.space_ledger.proofs.spaces.SpaceLedger.set_overlay.Goals as goal
 use Rattle.space_ledger.proofs.spaces.SpaceLedger.set_overlay.Goals.{After-lines_in-after}

@@ -1,10 +1,6 @@
-use Rattle.std.proofs.Common.{◌≡◌, ◌+◌, ◌-◌, ◌^◌, ◌<◌, ◌⊎◌, length, Some, sym, ap, subst, ◌∙◌, refl, arith}
-use Rattle.std.specs.Option.{is_some}
-use Rattle.frame_pool.specs.Counts.{sharers_of}
-use Rattle.ledger.specs.Ledger.{holding_at}
-use Rattle.space_maps.specs.Spaces.{holds_space, page_in, put_shared}
-use Rattle.space_ledger.specs.View.{LedgerView, PageView, frame_at, frame_awaiting, ledger_of, overlay_at, with_page_shared}
-use Rattle.space_ledger.specs.Calls.{IsBooked}
+use Rattle.space_ledger.proofs.Common.{◌≡◌, ◌+◌, ◌-◌, ◌^◌, ◌<◌, ◌⊎◌, length, Some, sym, ap, subst, ◌∙◌, refl, arith, is_some}
+use Rattle.space_ledger.proofs.Pages.{sharers_of}
+use Rattle.space_ledger.proofs.Views.{holding_at, holds_space, page_in, put_shared, LedgerView, PageView, frame_at, frame_awaiting, ledger_of, overlay_at, with_page_shared, IsBooked}
 use Rattle.space_ledger.proofs.LedgerCalls.{Shared, before_share, shared_call, shared_frame, shared_holding, shared_view}
 use Rattle.space_ledger.proofs.spaces.SpaceLedger.share_page.Goals as goal
 use Rattle.space_ledger.proofs.spaces.SpaceLedger.share_page.Goals.{After-share-entry, After-hold-added}

@@ -1,8 +1,6 @@
-use Rattle.std.proofs.Common.{◌+◌, sym, ap, subst, ◌∙◌, arith}
-use Rattle.page_table.specs.Run.{IsRunFrom}
-use Rattle.space_maps.specs.Spaces.{holds_space, page_in, space_in}
-use Rattle.space_ledger.specs.View.{LedgerView, with_run_shared}
-use Rattle.space_ledger.specs.Calls.{AreBareBelow, IsBooked}
+use Rattle.space_ledger.proofs.Common.{◌+◌, sym, ap, subst, ◌∙◌, arith}
+use Rattle.space_ledger.proofs.Pages.{IsRunFrom}
+use Rattle.space_ledger.proofs.Views.{holds_space, page_in, space_in, LedgerView, with_run_shared, AreBareBelow, IsBooked}
 use Rattle.space_ledger.proofs.RunBooks.{few_at, frame_low, pages_low, run_books, run_fits}
 use Rattle.space_ledger.proofs.spaces.SpaceLedger.share_run.Goals as goal
 

@@ -1,8 +1,5 @@
-use Rattle.std.proofs.Common.{◌≡◌, false, nat_cmp, sym, ap, subst, ◌∙◌}
-use Rattle.std.specs.FinMap.{FinMap, empty}
-use Rattle.space_maps.specs.Spaces.{bare_space, put_space}
-use Rattle.space_ledger.specs.Kept.{AreTables, seen}
-use Rattle.space_ledger.specs.Space.{OverlaidSpace, SpaceTable}
+use Rattle.space_ledger.proofs.Common.{◌≡◌, false, nat_cmp, sym, ap, subst, ◌∙◌, FinMap, empty}
+use Rattle.space_ledger.proofs.Views.{bare_space, put_space, AreTables, seen, OverlaidSpace, SpaceTable}
 use Rattle.space_ledger.proofs.Seen.{Shows, shows}
 use Rattle.space_ledger.proofs.Changing.{made}
 use Rattle.space_ledger.proofs.TableOps.{added_made, either, on_ok, on_err}

@@ -1,6 +1,5 @@
-use Rattle.std.proofs.Common.{◌≡◌, Result, Ok, Err, IfOk, ◌∙◌}
-use Rattle.page_table.specs.Table.{Pages}
-use Rattle.page_table.specs.Nodes.{Table}
+use Rattle.space_ledger.proofs.Common.{◌≡◌, Result, Ok, Err, IfOk, ◌∙◌}
+use Rattle.space_ledger.proofs.Pages.{Pages, Table}
 use Rattle.space_ledger.proofs.Seen.{entries_is, no_space_is, settled_in, shows}
 use Rattle.space_ledger.proofs.tables.Tables.copy.Goals as goal
 

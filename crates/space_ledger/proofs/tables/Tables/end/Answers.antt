@@ -1,7 +1,5 @@
-use Rattle.std.proofs.Common.{nat_cmp, sym, ap, subst, ◌∙◌}
-use Rattle.std.specs.FinMap.{FinMap}
-use Rattle.space_ledger.specs.Kept.{AreTables, seen}
-use Rattle.space_ledger.specs.Space.{OverlaidSpace}
+use Rattle.space_ledger.proofs.Common.{nat_cmp, sym, ap, subst, ◌∙◌, FinMap}
+use Rattle.space_ledger.proofs.Views.{AreTables, seen, OverlaidSpace}
 use Rattle.space_ledger.proofs.Seen.{shows}
 use Rattle.space_ledger.proofs.TableOps.{lost_made}
 use Rattle.space_ledger.proofs.tables.Tables.end.Goals as goal

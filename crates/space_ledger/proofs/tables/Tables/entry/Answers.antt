@@ -1,5 +1,5 @@
-use Rattle.std.proofs.Common.{option_map, sym, ap, ◌∙◌}
-use Rattle.space_ledger.specs.View.{PageView}
+use Rattle.space_ledger.proofs.Common.{option_map, sym, ap, ◌∙◌}
+use Rattle.space_ledger.proofs.Views.{PageView}
 use Rattle.space_ledger.proofs.Seen.{entry_at, no_page_is, shows}
 use Rattle.space_ledger.proofs.tables.Tables.entry.Goals as goal
 

@@ -1,6 +1,5 @@
-use Rattle.std.proofs.Common.{sym, ap, subst}
-use Rattle.space_ledger.specs.View.{SpaceView}
-use Rattle.space_ledger.specs.Space.{AwaitsFirst}
+use Rattle.space_ledger.proofs.Common.{sym, ap, subst}
+use Rattle.space_ledger.proofs.Views.{SpaceView, AwaitsFirst}
 use Rattle.space_ledger.proofs.Seen.{awaiting_is, shows, space_none}
 use Rattle.space_ledger.proofs.tables.Tables.first_awaiting.Goals as goal
 

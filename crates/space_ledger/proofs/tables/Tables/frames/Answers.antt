@@ -1,4 +1,4 @@
-use Rattle.std.proofs.Common.{sym}
+use Rattle.space_ledger.proofs.Common.{sym}
 use Rattle.space_ledger.proofs.Seen.{shows, frames_is}
 use Rattle.space_ledger.proofs.tables.Tables.frames.Goals as goal
 

@@ -1,4 +1,4 @@
-use Rattle.std.proofs.Common.{◌∙◌}
+use Rattle.space_ledger.proofs.Common.{◌∙◌}
 use Rattle.space_ledger.proofs.Seen.{has_is, shows}
 use Rattle.space_ledger.proofs.tables.Tables.has.Goals as goal
 

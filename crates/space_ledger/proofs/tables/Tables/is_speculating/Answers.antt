@@ -1,5 +1,5 @@
-use Rattle.std.proofs.Common.{sym, ap, ◌∙◌}
-use Rattle.space_ledger.specs.View.{SpaceView}
+use Rattle.space_ledger.proofs.Common.{sym, ap, ◌∙◌}
+use Rattle.space_ledger.proofs.Views.{SpaceView}
 use Rattle.space_ledger.proofs.Seen.{mark_is, shows, space_none}
 use Rattle.space_ledger.proofs.tables.Tables.is_speculating.Goals as goal
 

@@ -1,6 +1,5 @@
-use Rattle.std.proofs.Common.{nat_cmp, sym, ap, ◌∙◌}
-use Rattle.std.specs.FinMap.{len, len-empty}
-use Rattle.space_ledger.specs.View.{PageView, SpaceView}
+use Rattle.space_ledger.proofs.Common.{nat_cmp, sym, ap, ◌∙◌, len, len-empty}
+use Rattle.space_ledger.proofs.Views.{PageView, SpaceView}
 use Rattle.space_ledger.proofs.Seen.{len_is, shows, space_none}
 use Rattle.space_ledger.proofs.tables.Tables.len.Goals as goal
 

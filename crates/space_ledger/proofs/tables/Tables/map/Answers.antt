@@ -1,4 +1,4 @@
-use Rattle.std.proofs.Common.{arith}
+use Rattle.space_ledger.proofs.Common.{arith}
 use Rattle.space_ledger.proofs.Seen.{free_in, len_is, no_space_is, settled_in, shows}
 use Rattle.space_ledger.proofs.TableOps.{either, mapped_made, on_ok, on_err, still_made}
 use Rattle.space_ledger.proofs.tables.Tables.map.Goals as goal

@@ -1,6 +1,5 @@
-use Rattle.std.proofs.Common.{refl}
-use Rattle.space_maps.specs.Mapped.{mapped}
-use Rattle.space_ledger.specs.Kept.{seen}
+use Rattle.space_ledger.proofs.Common.{refl}
+use Rattle.space_ledger.proofs.Views.{mapped, seen}
 use Rattle.space_ledger.proofs.TableOps.{none_kept, seen_none}
 use Rattle.space_ledger.proofs.tables.Tables.new.Goals as goal
 

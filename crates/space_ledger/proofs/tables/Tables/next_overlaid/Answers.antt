@@ -1,5 +1,5 @@
-use Rattle.std.proofs.Common.{option_and_then, ap}
-use Rattle.space_ledger.specs.View.{PageView}
+use Rattle.space_ledger.proofs.Common.{option_and_then, ap}
+use Rattle.space_ledger.proofs.Views.{PageView}
 use Rattle.space_ledger.proofs.Seen.{next_is_overlaid, no_page_is, shows}
 use Rattle.space_ledger.proofs.Counting.{is_sound}
 use Rattle.space_ledger.proofs.tables.Tables.next_overlaid.Goals as goal

@@ -1,6 +1,5 @@
-use Rattle.std.proofs.Common.{subst}
-use Rattle.page_table.specs.Table.{Pages}
-use Rattle.page_table.specs.Run.{IsNextRun}
+use Rattle.space_ledger.proofs.Common.{subst}
+use Rattle.space_ledger.proofs.Pages.{Pages, IsNextRun}
 use Rattle.space_ledger.proofs.Seen.{entries_is, no_page_is, settled_in, shows}
 use Rattle.space_ledger.proofs.Removing.{none_next}
 use Rattle.space_ledger.proofs.tables.Tables.next_run.Goals as goal

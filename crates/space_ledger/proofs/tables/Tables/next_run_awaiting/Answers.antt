@@ -1,7 +1,5 @@
-use Rattle.std.proofs.Common.{nat_cmp, sym, ap, subst, ◌∙◌}
-use Rattle.std.specs.FinMap.{get, get-empty}
-use Rattle.space_ledger.specs.View.{SpaceView}
-use Rattle.space_ledger.specs.Space.{AwaitsRun}
+use Rattle.space_ledger.proofs.Common.{nat_cmp, sym, ap, subst, ◌∙◌, get, get-empty}
+use Rattle.space_ledger.proofs.Views.{SpaceView, AwaitsRun}
 use Rattle.space_ledger.proofs.Seen.{awaiting_is, shows, space_none}
 use Rattle.space_ledger.proofs.tables.Tables.next_run_awaiting.Goals as goal
 

@@ -1,5 +1,4 @@
-use Rattle.std.proofs.Common.{ap, arith, ◌∙◌}
-use Rattle.std.specs.FinMap.{get}
+use Rattle.space_ledger.proofs.Common.{ap, arith, ◌∙◌, get}
 use Rattle.space_ledger.proofs.Seen.{low_is, number_is, overlay_is, shows}
 use Rattle.space_ledger.proofs.Counting.{is_sound}
 use Rattle.space_ledger.proofs.tables.Tables.overlay.Goals as goal

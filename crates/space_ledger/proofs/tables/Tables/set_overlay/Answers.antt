@@ -1,9 +1,6 @@
-use Rattle.std.proofs.Common.{IfSome, is_some, sym, ap, subst, arith, ◌∙◌}
-use Rattle.std.specs.FinMap.{get}
-use Rattle.page_set.specs.Sets.{IsPut}
-use Rattle.overlay_mapping_table.specs.Table.{HasRoomFor}
-use Rattle.space_ledger.specs.View.{with_overlay}
-use Rattle.space_ledger.specs.Kept.{put_over}
+use Rattle.space_ledger.proofs.Common.{IfSome, is_some, sym, ap, subst, arith, ◌∙◌, get}
+use Rattle.space_ledger.proofs.Pages.{IsPut, HasRoomFor}
+use Rattle.space_ledger.proofs.Views.{with_overlay, put_over}
 use Rattle.space_ledger.proofs.Seen.{Shows, entry_there, low_is, no_page_there, number_is, overlay_is, shown_at, shows}
 use Rattle.space_ledger.proofs.Counting.{room_for}
 use Rattle.space_ledger.proofs.Changing.{made}

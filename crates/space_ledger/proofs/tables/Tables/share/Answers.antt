@@ -1,10 +1,6 @@
-use Rattle.std.proofs.Common.{is_some, sym, ap, subst, arith, ◌∙◌}
-use Rattle.std.specs.FinMap.{get}
-use Rattle.page_set.specs.Sets.{IsPut}
-use Rattle.page_table.specs.Table.{Pages}
-use Rattle.space_maps.specs.Spaces.{put_shared}
-use Rattle.space_ledger.specs.Space.{IsLeast}
-use Rattle.space_ledger.specs.Kept.{put_over}
+use Rattle.space_ledger.proofs.Common.{is_some, sym, ap, subst, arith, ◌∙◌, get}
+use Rattle.space_ledger.proofs.Pages.{IsPut, Pages}
+use Rattle.space_ledger.proofs.Views.{put_shared, IsLeast, put_over}
 use Rattle.space_ledger.proofs.Seen.{Shows, absent_is, awaiting_is, no_space_is, none_placed, room_in, shows}
 use Rattle.space_ledger.proofs.Counting.{room_spare}
 use Rattle.space_ledger.proofs.Changing.{made}

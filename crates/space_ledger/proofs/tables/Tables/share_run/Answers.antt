@@ -1,6 +1,5 @@
-use Rattle.std.proofs.Common.{◌+◌, subst, arith}
-use Rattle.page_table.specs.Table.{Pages}
-use Rattle.page_table.specs.Run.{IsRunFrom}
+use Rattle.space_ledger.proofs.Common.{◌+◌, subst, arith}
+use Rattle.space_ledger.proofs.Pages.{Pages, IsRunFrom}
 use Rattle.space_ledger.proofs.Seen.{absent_is, awaiting_is, no_space_is, room_in, shows}
 use Rattle.space_ledger.proofs.TableOps.{run_made}
 use Rattle.space_ledger.proofs.tables.Tables.share_run.Goals as goal
