@@ -1,10 +1,10 @@
-use Rattle.space_ledger.proofs.Common.{◌≡◌, ℕ, ◌+◌, ◌-◌, ◌^◌, ◌==◌, ◌≤◌, ◌<◌, ◌⊎◌, Bool, true, false, cond, not, ◌&&◌, nat_lt, List, length, Option, Some, None, is_some, IsSome, Result, Ok, Err, IfOk, refl, nat_cmp, inl, inr, sym, ap, subst, subst₂, ◌∙◌, arith, same_Some, option_and_then, option_map, option_map_or, empty, get, get-empty, PAGE_LINES}
+use Rattle.space_ledger.proofs.Common.{◌≡◌, ℕ, ◌+◌, ◌-◌, ◌^◌, ◌==◌, ◌≤◌, ◌<◌, ◌⊎◌, Bool, true, false, cond, not, ◌&&◌, nat_lt, List, length, Option, Some, None, is_some, IsSome, Result, Ok, Err, IfOk, refl, nat_cmp, inl, inr, sym, ap, subst, subst₂, ◌∙◌, arith, same_Some, option_and_then, option_map, option_map_or, empty, get, get-empty}
 use Rattle.space_ledger.proofs.Pages.{get_viewed, Pages, Table, PageEntry, Entry, Block, sharers_of}
-use Rattle.space_ledger.proofs.Views.{map_from, changed_there, page_of, page_shared_here, cut_page, holds_space, page_in, put_page, put_shared, put_space, space_in, holding_at, is_alone, is_unused, with_page, without_page, class, class_most, books_cut_page, books_page, books_put_page, books_there, LedgerView, PageView, frame_at, frame_awaiting, holding_of, ledger_of, lines_of, origin_of, overlay_at, with_block, with_entry_at, with_frame, with_overlay, with_page_shared, AreBooks, IsBooked, IsFreeFor, IsSound, NamesOnce, entries_of, given_up, frame_units, held_by, released_by, given_as, by_option, class_none, sharers_at}
+use Rattle.space_ledger.proofs.Views.{map_from, changed_there, page_of, page_shared_here, cut_page, holds_space, page_in, put_page, put_shared, put_space, space_in, holding_at, is_alone, is_unused, with_page, without_page, class, books_cut_page, books_page, books_put_page, books_there, LedgerView, PageView, frame_at, frame_awaiting, holding_of, ledger_of, lines_of, origin_of, overlay_at, with_block, with_entry_at, with_frame, with_overlay, with_page_shared, AreBooks, IsBooked, IsFreeFor, IsSound, NamesOnce, entries_of, given_up, frame_units, held_by, released_by, given_as, by_option, class_none, sharers_at}
 use Rattle.space_ledger.proofs.Seen.{some_is}
-use Rattle.space_ledger.proofs.Booking.{HasGone, alone_frame, by_two, few_units, length_released, page_come, page_gone, page_over, same_books, some_sharer}
+use Rattle.space_ledger.proofs.Booking.{HasGone, alone_frame, by_two, length_released, page_come, page_gone, page_over, same_books, some_sharer}
 use Rattle.space_ledger.proofs.Booked.{FitsIn, booked_gone, booked_put, booked_shared, fits_same, in_pages}
-use Rattle.space_ledger.proofs.Numbers.{books_without, entry_page, lines_fit, sharers_bound, units_fit, unused_put, unused_tells}
+use Rattle.space_ledger.proofs.Numbers.{books_without, entry_page, sharers_bound, unused_put, unused_tells}
 
 -- What the calls leave, in the words of the calls below them.
 
@@ -47,7 +47,6 @@ pub record BeforeHold (v : LedgerView) (less : List ℕ) (f z : ℕ) : Type 0 wh
 
 pub record Framed (v : LedgerView) (more : List ℕ) (u n s p f freed added frame : ℕ) : Type 0 where
   pub fits : freed ≤ u
-  pub small : u - freed + added < 2 ^ 32
   pub books : IsBooked (with_frame v s p f) more (u - freed + added) n
   pub answer : option_and_then (λ (k : ℕ). cond (f == k) None (Some k)) (cond (nat_lt 0 freed) (Some frame) None) ≡ given_up (with_frame v s p f) (page_in v s p)
 
@@ -100,11 +99,8 @@ module _ (v : LedgerView) (counts : List ℕ) (u n : ℕ) (kept : IsBooked v cou
     unfolding put_page put_space
     framed settled free =
         let fits = gone.fits in
-        let lines = gone.lines_fit in
-        let fit = units_fit v counts u n kept sound in
-        let most = few_units v.zero_frame f less_x in record {
+        let lines = gone.lines_fit in record {
           fits = omega (arith, fits);
-          small = omega (arith, fit, most);
           books = subst (λ w. IsBooked w (held_by v.zero_frame less_x f) (u - freed_x + frame_units v.zero_frame less_x f) n) (sym framed_is) (booked_put kept s p y low (fits_in free)
               (same_books (page_come (ledger_of v) v.zero_frame v.frames s p f (holding_of v.zero_frame y) refl low less_x _ _ gone.books) (omega (arith, fits)) (omega (arith, lines))));
           answer = joined (nat_lt 0 freed_x) e.frame (f == e.frame) refl
@@ -175,26 +171,19 @@ over_books v counts u n kept s p x there o =
 
 pub record Overlaid (v : LedgerView) (counts : List ℕ) (u n s p before after : ℕ) (o : Option Entry) : Type 0 where
   pub fits : class before ≤ u
-  pub small : u - class before + class after < 2 ^ 32
   pub lines_fit : before ≤ n
-  pub lines_small : n - before + after < 2 ^ 32
   pub books : IsBooked (with_overlay v s p o) counts (u - class before + class after) (n - before + after)
 
-pub overlaid_call : (v : LedgerView) (counts : List ℕ) (u n : ℕ) → IsBooked v counts u n → IsSound v → (s p before after : ℕ) (had o : Option Entry) → IsSome (page_in v s p)
-    → had ≡ overlay_at v s p → before ≡ length (lines_of had) → after ≡ length (lines_of o) → after ≤ PAGE_LINES → Overlaid v counts u n s p before after o
-overlaid_call v counts u n kept sound s p before after had o there had_is before_is after_is few =
+pub overlaid_call : (v : LedgerView) (counts : List ℕ) (u n : ℕ) → IsBooked v counts u n → (s p before after : ℕ) (had o : Option Entry) → IsSome (page_in v s p)
+    → had ≡ overlay_at v s p → before ≡ length (lines_of had) → after ≡ length (lines_of o) → Overlaid v counts u n s p before after o
+overlaid_call v counts u n kept s p before after had o there had_is before_is after_is =
     let x = some_is (page_in v s p) there in
     let before_x : before ≡ length (lines_of x.0.overlay) = before_is ∙ ap (λ k. length (lines_of k)) (had_is ∙ ap (option_and_then (λ (y : PageView). y.overlay)) x.1) in
-    let fit = units_fit v counts u n kept sound in
-    let lines = lines_fit v counts u n kept sound in
-    let most = class_most after in
     let gone = gone v counts u n kept s p x.0.entry x.0.overlay x.1 in
     let fits = gone.fits in
     subst (λ k. Overlaid v counts u n s p k after o) (sym before_x) (record {
       fits = omega (arith, fits);
-      small = omega (arith, fit, most);
       lines_fit = gone.lines_fit;
-      lines_small = omega (arith, lines, few);
       books = subst (λ k. IsBooked (with_overlay v s p o) counts (u - class (length (lines_of x.0.overlay)) + class k) (n - length (lines_of x.0.overlay) + k)) (sym after_is)
           (over_books v counts u n kept s p x.0 x.1 o);
     })
@@ -234,11 +223,6 @@ shared_frame v counts u n kept from to p entry there waiting same =
     some_frame : {a b : ℕ} → Some a ≡ Some b → a ≡ b
     some_frame {a = a} e = same_Some _ _ e
 
-pub record Shared (v : LedgerView) (counts more : List ℕ) (u n s p z added lines : ℕ) (entry : PageEntry) (o : Option Entry) : Type 0 where
-  pub small : u + added + class lines < 2 ^ 32
-  pub lines_small : n + lines < 2 ^ 32
-  pub books : IsBooked (put_shared v s p (record { entry = entry; overlay = o })) more (u + added + class lines) (n + lines)
-
 pub before_share : (v : LedgerView) (counts : List ℕ) (u n : ℕ) → IsBooked v counts u n → IsSound v → (z : ℕ) (entry : PageEntry) → entry.frame < v.frames → z ≡ v.zero_frame
     → (entry.frame < length counts) × ((entry.frame ≡ z) ⊎ (sharers_of counts entry.frame < 2 ^ 32 - 1))
 before_share v counts u n kept sound z entry low zero_is =
@@ -250,24 +234,17 @@ before_share v counts u n kept sound z entry low zero_is =
           inr (omega (arith, bound, count))),
     )
 
-pub shared_call : (v : LedgerView) (counts more : List ℕ) (u n : ℕ) → IsBooked v counts u n → IsSound v → (s p z added lines : ℕ) (entry : PageEntry) (o : Option Entry) → holds_space v s ≡ true
+pub shared_call : (v : LedgerView) (counts more : List ℕ) (u n : ℕ) → IsBooked v counts u n → (s p z added lines : ℕ) (entry : PageEntry) (o : Option Entry) → holds_space v s ≡ true
     → page_in v s p ≡ None → get (space_in v s).awaiting p ≡ Some entry → entry.frame < v.frames → z ≡ v.zero_frame → more ≡ held_by z counts entry.frame → added ≡ frame_units z counts entry.frame
-    → lines ≡ length (lines_of o) → lines ≤ PAGE_LINES → Shared v counts more u n s p z added lines entry o
-shared_call v counts more u n kept sound s p z added lines entry o has absent waiting low zero_is more_is added_is lines_is few =
+    → lines ≡ length (lines_of o) → IsBooked (put_shared v s p (record { entry = entry; overlay = o })) more (u + added + class lines) (n + lines)
+shared_call v counts more u n kept s p z added lines entry o has absent waiting low zero_is more_is added_is lines_is =
     let y : PageView = record { entry = entry; overlay = o } in
     let added_v : added ≡ frame_units v.zero_frame counts entry.frame = added_is ∙ ap (λ k. frame_units k counts entry.frame) zero_is in
-    let fit = units_fit v counts u n kept sound in
-    let fit_lines = lines_fit v counts u n kept sound in
-    let most = class_most lines in
-    let frame_few = few_units v.zero_frame entry.frame counts in
-    let classes = ap class lines_is in record {
-      small = omega (arith, fit, most, added_v, frame_few);
-      lines_small = omega (arith, fit_lines, few);
-      books = booked_shared kept s p y entry low waiting refl (subst (λ c. AreBooks (with_page (ledger_of v) s p (holding_of v.zero_frame y)) v.zero_frame v.frames c (u + added + class lines) (n + lines))
-          (sym (more_is ∙ ap (λ k. held_by k counts entry.frame) zero_is))
-          (same_books (page_come (ledger_of v) v.zero_frame v.frames s p entry.frame (holding_of v.zero_frame y) refl low counts u n (books_without v counts u n kept s p has absent))
-          (omega (arith, added_v, classes)) (omega (arith, lines_is))));
-    }
+    let classes = ap class lines_is in
+    booked_shared kept s p y entry low waiting refl (subst (λ c. AreBooks (with_page (ledger_of v) s p (holding_of v.zero_frame y)) v.zero_frame v.frames c (u + added + class lines) (n + lines))
+    (sym (more_is ∙ ap (λ k. held_by k counts entry.frame) zero_is))
+    (same_books (page_come (ledger_of v) v.zero_frame v.frames s p entry.frame (holding_of v.zero_frame y) refl low counts u n (books_without v counts u n kept s p has absent))
+    (omega (arith, added_v, classes)) (omega (arith, lines_is))))
 
 -- the view of a page shared, and that it has the origin and the own lines of the other
 pub shared_view : (v : LedgerView) (from to p : ℕ) (entry : PageEntry) (own o : Option Entry) (block : Option Block) → get (space_in v to).awaiting p ≡ Some entry → own ≡ overlay_at v from p

@@ -4,6 +4,7 @@ pub mod Views
 pub mod Parts
 pub mod RunParts
 pub mod Seen
+pub mod Answered
 pub mod Counting
 pub mod Changing
 pub mod RunViews

@@ -14,11 +14,6 @@ origin_low z frame frames low = at (frame == z)
     at true = omega arith
     at false = omega (arith, low)
 
-pub frame_most : (b : Bool) → frame_for b ≤ 16
-unfolding frame_for
-frame_most true = omega arith
-frame_most false = omega arith
-
 -- what a holding in the ledger is of
 pub held_page : (v : LedgerView) (s p : ℕ) (h : Holding) → holding_at (ledger_of v) s p ≡ Some h → (x : PageView) × (page_in v s p ≡ Some x) × (h ≡ holding_of v.zero_frame x)
 held_page v s p h there = map_from (holding_of v.zero_frame) (page_in v s p) h (sym (books_page holding_of v s p) ∙ there) (λ x is same. (x, is, sym same))

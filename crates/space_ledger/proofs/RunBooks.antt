@@ -29,32 +29,39 @@ sound_shared v s p y sound there absent bare low = record {
     over : {z : PageView} → Some y ≡ Some z → z.overlay ≡ y.overlay
     over {z = z} e = ap (λ (k : Option PageView). elim k [ None ↦ y.overlay | Some x ↦ x.overlay ]) (sym e)
 
-module _ (v : LedgerView) (counts : List ℕ) (u n : ℕ) (kept : IsBooked v counts u n) (sound : IsSound v) (from to : ℕ) (run : PageRun) (has : holds_space v to ≡ true)
-    (first : IsRunFrom (space_in v to).awaiting 0 run) (bare : AreBareBelow v from to (run.page + run.n)) where
+-- what is known before a run is shared
+pub record SharesRun (v : LedgerView) (counts : List ℕ) (u n from to : ℕ) (run : PageRun) : Type 0 where
+  pub kept : IsBooked v counts u n
+  pub sound : IsSound v
+  pub has : holds_space v to ≡ true
+  pub first : IsRunFrom (space_in v to).awaiting 0 run
+  pub bare : AreBareBelow v from to (run.page + run.n)
+
+module _ {v : LedgerView} {counts : List ℕ} {u n from to : ℕ} {run : PageRun} (r : SharesRun v counts u n from to run) where
   -- each page of the run is there in the other space, on its frame
   there_from : (i : ℕ) → i < run.n → IsSome (page_in v from (run.page + i))
   there_from i low =
-      let was = bare (run.page + i) (omega (arith, low)) (ap is_some (first.has i low)) in
-      sym (map_some (λ (x : PageView). x.entry.frame) (page_in v from (run.page + i))) ∙ ap is_some (sym was.0 ∙ ap (option_map (λ (e : PageEntry). e.frame)) (first.has i low))
+      let was = r.bare (run.page + i) (omega (arith, low)) (ap is_some (r.first.has i low)) in
+      sym (map_some (λ (x : PageView). x.entry.frame) (page_in v from (run.page + i))) ∙ ap is_some (sym was.0 ∙ ap (option_map (λ (e : PageEntry). e.frame)) (r.first.has i low))
 
   pub pages_low : run.page + run.n ≤ PAGE_END
   pages_low =
-      let some = first.some in
-      let low = sound.low from (run.page + (run.n - 1)) (there_from (run.n - 1) (omega (arith, some))) in
+      let some = r.first.some in
+      let low = r.sound.low from (run.page + (run.n - 1)) (there_from (run.n - 1) (omega (arith, some))) in
       omega (arith, some, low)
 
   frame_in : (i : ℕ) → i < run.n → (entry_at run i).frame < v.frames
   frame_in i low =
-      let was = bare (run.page + i) (omega (arith, low)) (ap is_some (first.has i low)) in
-      (shared_frame v counts u n kept from to (run.page + i) (entry_at run i) (there_from i low) (first.has i low) was.0).3
+      let was = r.bare (run.page + i) (omega (arith, low)) (ap is_some (r.first.has i low)) in
+      (shared_frame v counts u n r.kept from to (run.page + i) (entry_at run i) (there_from i low) (r.first.has i low) was.0).3
 
   pub frame_low : (i : ℕ) → i < run.n → (entry_at run i).frame < length counts
-  frame_low i low = subst (λ k. (entry_at run i).frame < k) (sym kept.books.room) (frame_in i low)
+  frame_low i low = subst (λ k. (entry_at run i).frame < k) (sym r.kept.books.room) (frame_in i low)
 
   -- The same once so many pages of it are shared.
   module _ (absent : (i : ℕ) → i < run.n → page_in v to (run.page + i) ≡ None) where
     at : (k : ℕ) → HasReached v to run k
-    at k = reached v to run has (λ q before. first.none q (omega arith) before) k
+    at k = reached v to run r.has (λ q before. r.first.none q (omega arith) before) k
 
     record IsKeptAt (k : ℕ) : Type 0 where
       pub booked : IsBooked (with_run_shared v to run k) (held_run v.zero_frame counts run k) (u + run_units v.zero_frame counts run k) n
@@ -64,7 +71,7 @@ module _ (v : LedgerView) (counts : List ℕ) (u n : ℕ) (kept : IsBooked v cou
     absent_at k low = (at k).still (run.page + k) (omega arith) ∙ absent k low
 
     waiting_at : (k : ℕ) → k < run.n → get (space_in (with_run_shared v to run k) to).awaiting (run.page + k) ≡ Some (entry_at run k)
-    waiting_at k low = (at k).ahead (run.page + k) (omega arith) ∙ first.has k low
+    waiting_at k low = (at k).ahead (run.page + k) (omega arith) ∙ r.first.has k low
 
     frame_at_step : (k : ℕ) → k < run.n → (entry_at run k).frame < (with_run_shared v to run k).frames
     frame_at_step k low = subst (λ m. (entry_at run k).frame < m) (sym (at k).frames) (frame_in k low)
@@ -75,20 +82,20 @@ module _ (v : LedgerView) (counts : List ℕ) (u n : ℕ) (kept : IsBooked v cou
         let z = v.zero_frame in
         let w = with_run_shared v to run k in
         let frame = (entry_at run k).frame in
-        let made = shared_call w (held_run z counts run k) (held_by z (held_run z counts run k) frame) (u + run_units z counts run k) n here.booked here.holds to (run.page + k) z
-        (frame_units z (held_run z counts run k) frame) 0 (entry_at run k) None (at k).there (absent_at k low) (waiting_at k low) (frame_at_step k low) (sym (at k).zero_frame) refl refl refl (omega arith) in
+        let made = shared_call w (held_run z counts run k) (held_by z (held_run z counts run k) frame) (u + run_units z counts run k) n here.booked to (run.page + k) z
+        (frame_units z (held_run z counts run k) frame) 0 (entry_at run k) None (at k).there (absent_at k low) (waiting_at k low) (frame_at_step k low) (sym (at k).zero_frame) refl refl refl in
         let most = pages_low in
         let units : u + run_units z counts run k + frame_units z (held_run z counts run k) frame + class 0 ≡ u + (run_units z counts run k + frame_units z (held_run z counts run k) frame) = omega (arith, class_none) in
         let lines : n + 0 ≡ n = omega arith in record {
           booked = subst (λ m. IsBooked (put_shared w to (run.page + k) (record { entry = entry_at run k; overlay = None })) (held_by z (held_run z counts run k) frame)
               (u + (run_units z counts run k + frame_units z (held_run z counts run k) frame)) m) lines
-              (subst (λ m. IsBooked (put_shared w to (run.page + k) (record { entry = entry_at run k; overlay = None })) (held_by z (held_run z counts run k) frame) m (n + 0)) units made.books);
+              (subst (λ m. IsBooked (put_shared w to (run.page + k) (record { entry = entry_at run k; overlay = None })) (held_by z (held_run z counts run k) frame) m (n + 0)) units made);
           holds = sound_shared w to (run.page + k) (record { entry = entry_at run k; overlay = None }) here.holds (at k).there (absent_at k low) refl (omega (arith, low, most));
         }
 
     kept_at : (k : ℕ) → k ≤ run.n → IsKeptAt k
     unfolding with_run_shared counted_run counted_units
-    kept_at zero few = let same : u ≡ u + 0 = omega arith in record { booked = subst (λ m. IsBooked v counts m n) same kept; holds = sound }
+    kept_at zero few = let same : u ≡ u + 0 = omega arith in record { booked = subst (λ m. IsBooked v counts m n) same r.kept; holds = r.sound }
     kept_at (suc k) few = one_more k (omega (arith, few)) (kept_at k (omega (arith, few)))
 
     -- before a page of it is counted

@@ -1,4 +1,4 @@
-use Rattle.space_ledger.proofs.Common.{◌≡◌, ℕ, zero, suc, ◌≤◌, ◌<◌, ◌⊎◌, List, sym, ap, subst, ◌∙◌, arith}
+use Rattle.space_ledger.proofs.Common.{refl, ◌≡◌, ℕ, zero, suc, ◌≤◌, ◌<◌, ◌⊎◌, List, sym, subst, ◌∙◌, arith}
 use Rattle.space_ledger.proofs.Pages.{sharers_of, entry_at, PageEntry, PageRun}
 use Rattle.space_ledger.proofs.Views.{counted_run, counted_units, frame_units, released_by, released_run, run_freed}
 use Rattle.space_ledger.proofs.Booking.{by_two, released_beside}
@@ -14,50 +14,27 @@ named_left z old now units run k entry h is named =
     subst (λ (c : List ℕ). (entry.frame ≡ z) ⊎ (0 < sharers_of c entry.frame)) (sym h.counts)
     (subst (λ (e : PageEntry). (e.frame ≡ z) ⊎ (0 < sharers_of (released_run z old run k) e.frame)) (sym is) named)
 
--- Where nothing is freed, no page freed anything.
-
-freed_more : (z : ℕ) (counts : List ℕ) (run : PageRun) (n : ℕ) → run_freed z counts run n ≤ run_freed z counts run (suc n)
-unfolding counted_units
-freed_more z counts run n = omega arith
-
-freed_grows : (z : ℕ) (counts : List ℕ) (run : PageRun) (n i : ℕ) → i < n → run_freed z counts run (suc i) ≤ run_freed z counts run n
-freed_grows z counts run zero i low = absurd (omega (arith, low))
-freed_grows z counts run (suc n) i low = by_two i n
-    (λ same. subst (λ m. run_freed z counts run (suc i) ≤ run_freed z counts run (suc m)) same (omega arith))
-    (λ other.
-    let rest = freed_grows z counts run n i (before other) in
-    let more = freed_more z counts run n in
-    omega (arith, rest, more))
+-- what a page leaves and later ones keep is so once all went
+after : (P : ℕ → Type 0) (n i : ℕ) → i < n → P (suc i) → ((j : ℕ) → i < j → j < n → P j → P (suc j)) → P n
+after P zero i low here keeps = absurd (omega (arith, low))
+after P (suc n) i low here keeps = by_two i n
+    (λ same. subst (λ m. P (suc m)) same here)
+    (λ other. keeps n (before other) (omega arith) (after P n i (before other) here (λ j later low_j. keeps j later (omega (arith, low_j)))))
   where
     before : (i ≡ n → ⊥) → i < n
     before other = grind (arith, low, other)
 
-freed_last : (z : ℕ) (counts : List ℕ) (run : PageRun) (i : ℕ) → run_freed z counts run (suc i) ≡ 0
-    → frame_units z (released_run z counts run (suc i)) (entry_at run i).frame ≡ 0
-unfolding counted_units
-freed_last z counts run i none = omega (arith, none)
-
+-- where nothing is freed, no page freed anything
 pub nothing_freed : (z : ℕ) (counts : List ℕ) (run : PageRun) (n i : ℕ) → run_freed z counts run n ≡ 0 → i < n
     → frame_units z (released_run z counts run (suc i)) (entry_at run i).frame ≡ 0
+unfolding counted_units
 nothing_freed z counts run n i none low =
-    let most = freed_grows z counts run n i low in
-    freed_last z counts run i (omega (arith, most, none))
+    let most = after (λ m. run_freed z counts run (suc i) ≤ run_freed z counts run m) n i low (omega arith) (λ j later low_j le. omega (arith, le)) in
+    omega (arith, most, none)
 
--- A count that no later page of the run changes.
-
-count_step : (z : ℕ) (counts : List ℕ) (run : PageRun) (f m : ℕ) → ((entry_at run m).frame ≡ f → ⊥)
-    → sharers_of (released_run z counts run (suc m)) f ≡ sharers_of (released_run z counts run m) f
-unfolding counted_run
-count_step z counts run f m differ = released_beside z (released_run z counts run m) (entry_at run m).frame f (λ e. differ (sym e))
-
+-- a count that no later page of the run changes
 pub count_stays : (z : ℕ) (counts : List ℕ) (run : PageRun) (f n i : ℕ) → i < n → ((j : ℕ) → i < j → j < n → (entry_at run j).frame ≡ f → ⊥)
     → sharers_of (released_run z counts run n) f ≡ sharers_of (released_run z counts run (suc i)) f
-count_stays z counts run f zero i low differ = absurd (omega (arith, low))
-count_stays z counts run f (suc n) i low differ = by_two i n
-    (λ same. ap (λ m. sharers_of (released_run z counts run (suc m)) f) (sym same))
-    (λ other.
-    count_step z counts run f n (differ n (before other) (omega arith))
-    ∙ count_stays z counts run f n i (before other) (λ j after low_j. differ j after (omega (arith, low_j))))
-  where
-    before : (i ≡ n → ⊥) → i < n
-    before other = grind (arith, low, other)
+unfolding counted_run
+count_stays z counts run f n i low differ = after (λ m. sharers_of (released_run z counts run m) f ≡ sharers_of (released_run z counts run (suc i)) f) n i low refl
+    (λ j later low_j so_far. released_beside z (released_run z counts run j) (entry_at run j).frame f (λ e. differ j later low_j (sym e)) ∙ so_far)

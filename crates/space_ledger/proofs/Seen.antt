@@ -103,12 +103,6 @@ module _ {t : Inside} {v : LedgerView} (show : Shows t v) where
   pub no_page_is : (q p : ℕ) → None ≡ get t.spaces q → page_in v q p ≡ None
   no_page_is q p none = page_of v q p ∙ ap (λ (x : SpaceView). get x.pages p) (space_none q none) ∙ get-empty nat_cmp p
 
-  pub no_page_there : (q p : ℕ) → None ≡ get t.spaces q → IsSome (page_in v q p) → ⊥
-  no_page_there q p none there = let no = sym there ∙ ap is_some (no_page_is q p none) in cc
-
-  pub no_space_is : (q : ℕ) → None ≡ get t.spaces q → holds_space v q ≡ true → ⊥
-  no_space_is q none there = let no = sym there ∙ sym (has_is q) ∙ ap is_some (sym none) in cc
-
 -- One space of the tables.
 module _ {t : Inside} {v : LedgerView} (show : Shows t v) (s : ℕ) (x : OverlaidSpace) (at : Some x ≡ get t.spaces s) where
   pub space_is : space_in v s ≡ mapped_space (seen_page t.overlays.entries s) x.table
@@ -147,9 +141,6 @@ module _ {t : Inside} {v : LedgerView} (show : Shows t v) (s : ℕ) (x : Overlai
   -- what is asked of its table: none of its pages, none that awaits, pages that aren't there, and some that are
   pub empty_in : (space_in v s).pages ≡ empty → x.table.pages ≡ empty
   empty_in none = alike _ _ (λ p. none_by (get x.table.pages p) (some_at p ∙ ap is_some (page_of v s p ∙ ap (λ m. get m p) none ∙ get-empty nat_cmp p)) ∙ sym (get-empty nat_cmp p))
-
-  pub settled_in : (space_in v s).awaiting ≡ empty → x.table.awaiting ≡ empty
-  settled_in none = sym awaiting_is ∙ none
 
   pub free_in : (from n : ℕ) → AreFree v s from n → IsFree x.table.pages from n
   free_in from n free q within = none_by (get x.table.pages q) (some_at q ∙ ap is_some (free q within))

@@ -56,7 +56,7 @@ impl Model for SpaceLedger {
     ghost invariant = { λ l. IsBooked l.tables l.pool l.units l.lines };
 }
 
-#[tactic(auto, using(crate::proofs::Laws::kept))]
+#[tactic(auto, using(crate::proofs::Laws::kept, crate::proofs::Laws::fits))]
 impl SpaceLedger {
     /// A ledger without a space, over 1 to 65,536 frames, of which one is the zero frame. Takes all the memory that frames
     /// and overlays ever need, or answers the want of it.

@@ -48,6 +48,7 @@ impl Model for Tables {
     ghost invariant = { AreTables };
 }
 
+#[tactic(auto, using(crate::proofs::Answered::reads))]
 impl Tables {
     /// No space, and room for 16 overlays a frame.
     pub(crate) fn new(alloc: Global, frames: u32, zero: u32) -> Result<Tables, AllocError>

@@ -12,9 +12,6 @@ remove_pages-requires-clause-there c = there_space c.self.inside.tables c.args.s
 pub remove_pages-requires-clause-bare : goal.remove_pages-requires-clause-bare
 remove_pages-requires-clause-bare c = subst (λ (v : LedgerView). AreBare v c.args.space c.args.page 1) (sym c.self.view_is) (bare_one c.args.self.now c.args.space c.args.page c.requires.there c.requires.bare)
 
-pub release-freed-requires-clause-there : goal.release-freed-requires-clause-there
-release-freed-requires-clause-there c = (before_release c.self.inside.tables c.self.inside.pool c.self.inside.units c.self.inside.lines c.self.invariant c.args.space c.args.page c.zero-zero.result c.in-Some.old c.zero-zero.ensures.zero c.in-Some.ensures).0
-
 pub release-freed-requires-clause-some : goal.release-freed-requires-clause-some
 release-freed-requires-clause-some c = (before_release c.self.inside.tables c.self.inside.pool c.self.inside.units c.self.inside.lines c.self.invariant c.args.space c.args.page c.zero-zero.result c.in-Some.old c.zero-zero.ensures.zero c.in-Some.ensures).1
 
@@ -33,9 +30,6 @@ overflow_sub-self c = (released c).fits
 pub invariant_of-self : goal.invariant_of-self
 invariant_of-self c =
     subst (λ v. IsBooked v c.release-freed.new.pool (c.self.inside.units - c.release-freed.result) c.self.inside.lines) (sym (gone (goal.at.invariant_of-self c).After-release-freed)) (released (goal.at.invariant_of-self c).After-release-freed).books
-
-pub returns-clause-gone : goal.returns-clause-gone
-returns-clause-gone c = gone (goal.at.returns-clause-gone c).After-release-freed ∙ ap (λ (v : LedgerView). cut_page v c.args.space c.args.page) c.self.view_is
 
 pub returns-clause-freed : goal.returns-clause-freed
 returns-clause-freed c =

@@ -1,17 +1,11 @@
 use Rattle.space_ledger.proofs.Common.{◌≡◌, Result, Ok, Err, IfOk, ◌∙◌}
 use Rattle.space_ledger.proofs.Pages.{Pages, Table}
-use Rattle.space_ledger.proofs.Seen.{entries_is, no_space_is, settled_in, shows}
+use Rattle.space_ledger.proofs.Seen.{entries_is, shows}
 use Rattle.space_ledger.proofs.tables.Tables.copy.Goals as goal
 
 if_ok : {E : Type 0} {x y : Pages} (r : Result Table E) → IfOk r (λ copy. copy.pages ≡ x) → x ≡ y → IfOk r (λ copy. copy.pages ≡ y)
 if_ok (Ok copy) h same = h ∙ same
 if_ok (Err e) h same = h
-
-pub copy-requires : goal.copy-requires
-copy-requires c = settled_in (shows c.self.view_is c.self.invariant) c.args.space c.in-Some.space.now c.in-Some.ensures c.requires.settled
-
-pub unreachable-requires : goal.unreachable-requires
-unreachable-requires c = no_space_is (shows c.self.view_is c.self.invariant) c.args.space c.in-None.ensures c.requires.there
 
 pub returns : goal.returns
 returns c = if_ok c.copy.result c.copy.ensures (entries_is (shows c.self.view_is c.self.invariant) c.args.space c.in-Some.space.now c.in-Some.ensures)

@@ -1,11 +1,8 @@
 use Rattle.space_ledger.proofs.Common.{subst}
 use Rattle.space_ledger.proofs.Pages.{Pages, IsNextRun}
-use Rattle.space_ledger.proofs.Seen.{entries_is, no_page_is, settled_in, shows}
+use Rattle.space_ledger.proofs.Seen.{entries_is, no_page_is, shows}
 use Rattle.space_ledger.proofs.Removing.{none_next}
 use Rattle.space_ledger.proofs.tables.Tables.next_run.Goals as goal
-
-pub next_run-requires : goal.next_run-requires
-next_run-requires c = settled_in (shows c.self.view_is c.self.invariant) c.args.space c.in-Some.space.now c.in-Some.ensures c.requires
 
 pub returns-in-Some : goal.returns-in-Some
 returns-in-Some c =

@@ -1,30 +1,12 @@
-use Rattle.space_ledger.proofs.Common.{IfSome, is_some, sym, ap, subst, arith, ◌∙◌, get}
+use Rattle.space_ledger.proofs.Common.{IfSome, sym, ap, subst, ◌∙◌}
 use Rattle.space_ledger.proofs.Pages.{IsPut, HasRoomFor}
 use Rattle.space_ledger.proofs.Views.{with_overlay, put_over}
-use Rattle.space_ledger.proofs.Seen.{Shows, entry_there, low_is, no_page_there, number_is, overlay_is, shown_at, shows}
+use Rattle.space_ledger.proofs.Seen.{Shows, low_is, shows}
 use Rattle.space_ledger.proofs.Counting.{room_for}
 use Rattle.space_ledger.proofs.Changing.{made}
 use Rattle.space_ledger.proofs.TableOps.{over_made}
 use Rattle.space_ledger.proofs.tables.Tables.set_overlay.Goals as goal
 use Rattle.space_ledger.proofs.tables.Tables.set_overlay.Goals.{After-put}
-
-pub set_overlaid-requires-clause-there : goal.set_overlaid-requires-clause-there
-set_overlaid-requires-clause-there c = entry_there (shows c.self.view_is c.self.invariant) c.args.space c.in-Some.space.now c.in-Some.ensures.value c.args.page c.requires.there
-
-pub set_overlaid-requires-clause-was : goal.set_overlaid-requires-clause-was
-set_overlaid-requires-clause-was c = (shown_at (shows c.self.view_is c.self.invariant) c.args.space c.in-Some.space.now c.in-Some.ensures.value c.args.page c.requires.there).1 ∙ sym c.requires.had
-
-pub unreachable-requires : goal.unreachable-requires
-unreachable-requires c = no_page_there (shows c.self.view_is c.self.invariant) c.args.space c.args.page c.in-None.ensures.value c.requires.there
-
-pub of-requires-clause-few : goal.of-requires-clause-few
-of-requires-clause-few c = let low = number_is (shows c.self.view_is c.self.invariant) c.args.space c.args.page c.requires.there in omega (arith, low)
-
-pub of-requires-clause-low : goal.of-requires-clause-low
-of-requires-clause-low c = let low = low_is (shows c.self.view_is c.self.invariant) c.args.space c.args.page c.requires.there in omega (arith, low)
-
-pub put-requires-clause-had : goal.put-requires-clause-had
-put-requires-clause-had c = c.requires.had ∙ sym (ap is_some (ap (get c.self.inside.overlays.entries) c.of.ensures.name ∙ overlay_is (shows c.self.view_is c.self.invariant) c.args.space c.args.page c.requires.there))
 
 pub put-requires-clause-room : goal.put-requires-clause-room
 put-requires-clause-room c =

@@ -1,26 +1,15 @@
 use Rattle.space_ledger.proofs.Common.{is_some, sym, ap, subst, arith, ◌∙◌, get}
-use Rattle.space_ledger.proofs.Pages.{IsPut, Pages}
-use Rattle.space_ledger.proofs.Views.{put_shared, IsLeast, put_over}
-use Rattle.space_ledger.proofs.Seen.{Shows, absent_is, awaiting_is, no_space_is, none_placed, room_in, shows}
+use Rattle.space_ledger.proofs.Pages.{IsPut}
+use Rattle.space_ledger.proofs.Views.{put_shared, put_over}
+use Rattle.space_ledger.proofs.Seen.{Shows, absent_is, none_placed, room_in, shows}
 use Rattle.space_ledger.proofs.Counting.{room_spare}
 use Rattle.space_ledger.proofs.Changing.{made}
 use Rattle.space_ledger.proofs.TableOps.{shared_made}
 use Rattle.space_ledger.proofs.tables.Tables.share.Goals as goal
 use Rattle.space_ledger.proofs.tables.Tables.share.Goals.{After-put}
 
-pub share-entry-requires-clause-least : goal.share-entry-requires-clause-least
-share-entry-requires-clause-least c = subst (λ (m : Pages). IsLeast m c.args.page) (awaiting_is (shows c.self.view_is c.self.invariant) c.args.space c.in-Some.space.now c.in-Some.ensures.value) c.requires.least
-
 pub share-entry-requires-clause-few : goal.share-entry-requires-clause-few
 share-entry-requires-clause-few c = room_in (shows c.self.view_is c.self.invariant) c.args.space c.in-Some.space.now c.in-Some.ensures.value 1 (omega arith)
-
-pub unreachable-requires : goal.unreachable-requires
-unreachable-requires c = no_space_is (shows c.self.view_is c.self.invariant) c.args.space c.in-None.ensures.value c.requires.there
-
-pub put-requires-clause-had : goal.put-requires-clause-had
-put-requires-clause-had c =
-    sym (ap is_some (ap (get c.self.inside.overlays.entries) c.of.ensures.name
-    ∙ none_placed (shows c.self.view_is c.self.invariant) c.args.space c.args.page c.requires.there c.requires.low (absent_is (shows c.self.view_is c.self.invariant) c.args.space c.in-Some.space.now c.in-Some.ensures.value c.args.page c.share-entry.ensures.apart)))
 
 pub put-requires-clause-room : goal.put-requires-clause-room
 put-requires-clause-room c = room_spare (shows c.self.view_is c.self.invariant) c.of.result c.args.overlay c.requires.room
@@ -37,11 +26,10 @@ done c =
 pub invariant_of-self : goal.invariant_of-self
 invariant_of-self c = (done c).own
 
-pub returns-clause-entry : goal.returns-clause-entry
-returns-clause-entry c = ap (λ (m : Pages). get m c.args.page) (awaiting_is (shows c.self.view_is c.self.invariant) c.args.space c.in-Some.space.now c.in-Some.ensures.value) ∙ c.share-entry.ensures.entry
-
-pub returns-clause-apart : goal.returns-clause-apart
-returns-clause-apart c = absent_is (shows c.self.view_is c.self.invariant) c.args.space c.in-Some.space.now c.in-Some.ensures.value c.args.page c.share-entry.ensures.apart
-
 pub returns-clause-shared : goal.returns-clause-shared
 returns-clause-shared c = (done c).is
+
+pub put-requires-clause-had : goal.put-requires-clause-had
+put-requires-clause-had c =
+    sym (ap is_some (ap (get c.self.inside.overlays.entries) c.of.ensures.name
+    ∙ none_placed (shows c.self.view_is c.self.invariant) c.args.space c.args.page c.requires.there c.requires.low (absent_is (shows c.self.view_is c.self.invariant) c.args.space c.in-Some.space.now c.in-Some.ensures.value c.args.page c.share-entry.ensures.apart)))

@@ -1,23 +1,16 @@
-use Rattle.space_ledger.proofs.Common.{◌+◌, subst, arith}
-use Rattle.space_ledger.proofs.Pages.{Pages, IsRunFrom}
-use Rattle.space_ledger.proofs.Seen.{absent_is, awaiting_is, no_space_is, room_in, shows}
+use Rattle.space_ledger.proofs.Common.{◌+◌, arith}
+use Rattle.space_ledger.proofs.Seen.{absent_is, room_in, shows}
 use Rattle.space_ledger.proofs.TableOps.{run_made}
 use Rattle.space_ledger.proofs.tables.Tables.share_run.Goals as goal
 
-pub share_run-requires-clause-first : goal.share_run-requires-clause-first
-share_run-requires-clause-first c = subst (λ (m : Pages). IsRunFrom m 0 c.args.run.now) (awaiting_is (shows c.self.view_is c.self.invariant) c.args.space c.in-Some.space.now c.in-Some.ensures.value) c.requires.first
-
 pub share_run-requires-clause-few : goal.share_run-requires-clause-few
 share_run-requires-clause-few c = let low = c.requires.low in room_in (shows c.self.view_is c.self.invariant) c.args.space c.in-Some.space.now c.in-Some.ensures.value c.args.run.now.n (omega (arith, low))
-
-pub returns-clause-apart : goal.returns-clause-apart
-returns-clause-apart c i low = absent_is (shows c.self.view_is c.self.invariant) c.args.space c.in-Some.space.now c.in-Some.ensures.value (c.args.run.now.page + i) (c.share_run.ensures.apart i low)
-
-pub unreachable-requires : goal.unreachable-requires
-unreachable-requires c = no_space_is (shows c.self.view_is c.self.invariant) c.args.space c.in-None.ensures.value c.requires.there
 
 pub invariant_of-self : goal.invariant_of-self
 invariant_of-self c = (run_made (shows c.self.view_is c.self.invariant) c.args.space c.in-Some.space.now c.share_run.new.self c.in-Some.ensures.value c.args.run.now c.share_run.ensures.shared c.share_run.ensures.apart c.requires.low c.share_run.ensures.overlaid).own
 
 pub returns-clause-shared : goal.returns-clause-shared
 returns-clause-shared c = (run_made (shows c.self.view_is c.self.invariant) c.args.space c.in-Some.space.now c.share_run.new.self c.in-Some.ensures.value c.args.run.now c.share_run.ensures.shared c.share_run.ensures.apart c.requires.low c.share_run.ensures.overlaid).is
+
+pub returns-clause-apart : goal.returns-clause-apart
+returns-clause-apart c i low = absent_is (shows c.self.view_is c.self.invariant) c.args.space c.in-Some.space.now c.in-Some.ensures.value (c.args.run.now.page + i) (c.share_run.ensures.apart i low)
