@@ -101,7 +101,7 @@ module _ {t : Inside} {v : LedgerView} (show : Shows t v) {s from n : ℕ} {x y 
 
   seen_made : seen (made t s y new) ≡ w
   unfolding seen mapped put_space
-  seen_made = (λ i. record { spaces = all i; frames = sym (frames_is show) i; zero_frame = sym (zero_is show) i }) ∙ sym change.is
+  seen_made = (λ i. record { spaces = all i; frames = sym (frames_is show.is show.own) i; zero_frame = sym (zero_is show.is show.own) i }) ∙ sym change.is
     where
       all : (seen (made t s y new)).spaces ≡ insert v.spaces s (mapped_space (seen_page new.entries s) y.table)
       all = alike _ _ (λ q. space_seen (made t s y new) q ∙ by_key q s

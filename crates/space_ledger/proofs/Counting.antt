@@ -126,20 +126,20 @@ module _ {t : Inside} {v : LedgerView} (show : Shows t v) where
   count_is = by_entries Counts no_overlays one_more t.overlays.entries v (record {
     page = λ s p x at.
         let there = ap is_some at in
-        (number_is show s p there, low_is show s p there, sym (overlay_is show s p there ∙ ap (option_and_then (λ (k : PageView). k.overlay)) at));
-    placed = λ n some. let own = show.own.placed n some in (own.0, plain_some show (space_of n) (page_of n) ∙ own.1);
+        (number_is show.is show.own s p there, low_is show.is show.own s p there, sym (overlay_is show.is show.own s p there ∙ ap (option_and_then (λ (k : PageView). k.overlay)) at));
+    placed = λ n some. let own = show.own.placed n some in (own.0, plain_some show.is show.own (space_of n) (page_of n) ∙ own.1);
     lined = λ n e at. (show.own.lined n e at).0;
   })
 
   room_is : t.overlays.room ≡ FRAME_UNITS * v.frames
-  room_is = show.own.roomy ∙ ap (λ k. FRAME_UNITS * k) (sym (frames_is show))
+  room_is = show.own.roomy ∙ ap (λ k. FRAME_UNITS * k) (sym (frames_is show.is show.own))
 
   pub is_sound : IsSound v
   is_sound = record {
-    few = let few = len_low (LAST_SPACE + 1) v.spaces (λ q there. let low = show.own.numbers q (has_is show q ∙ there) in omega (arith, low)) in few;
+    few = let few = len_low (LAST_SPACE + 1) v.spaces (λ q there. let low = show.own.numbers q (has_is show.is show.own q ∙ there) in omega (arith, low)) in few;
     most = let most = show.own.most in let count = count_is in let room = room_is in omega (arith, most, count, room);
-    low = low_is show;
-    lines = λ s p x o at is. show.own.lined (overlay_page s p) o (overlay_is show s p (ap is_some at) ∙ ap (option_and_then (λ (k : PageView). k.overlay)) at ∙ is);
+    low = low_is show.is show.own;
+    lines = λ s p x o at is. show.own.lined (overlay_page s p) o (overlay_is show.is show.own s p (ap is_some at) ∙ ap (option_and_then (λ (k : PageView). k.overlay)) at ∙ is);
   }
 
   -- there is room for an overlay, as the mapping table asks
@@ -148,7 +148,7 @@ module _ {t : Inside} {v : LedgerView} (show : Shows t v) where
 
   pub room_for : (s p : ℕ) → IsSome (page_in v s p) → (o : Option Entry) → HasOverlayRoom v s p o → IfSome o (λ e. HasRoomFor t.overlays (overlay_page s p))
   room_for s p there None room = tt
-  room_for s p there (Some e) (inl some) = inl (ap is_some (overlay_is show s p there) ∙ some)
+  room_for s p there (Some e) (inl some) = inl (ap is_some (overlay_is show.is show.own s p there) ∙ some)
   room_for s p there (Some e) (inr less) = inr (room_left less)
 
   pub room_spare : (n : ℕ) (o : Option Entry) → IfSome o (λ e. HasSpare v) → IfSome o (λ e. HasRoomFor t.overlays n)

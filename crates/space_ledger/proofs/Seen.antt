@@ -51,25 +51,25 @@ bare_at v s from n bare q within =
     let here : from + (q - from) ≡ q = omega (arith, low) in
     subst (λ k. IsSome (page_in v s k) × (overlay_at v s k ≡ None)) here (bare (q - from) (omega (arith, low, high)))
 
-module _ {t : Inside} {v : LedgerView} (show : Shows t v) where
+module _ {t : Inside} {v : LedgerView} (is : seen t ≡ v) (own : AreTables t) where
   -- what is asked of spaces and pages
   pub has_is : (q : ℕ) → is_some (get t.spaces q) ≡ holds_space v q
   unfolding seen
   has_is q =
       sym (map_some (λ (x : OverlaidSpace). x.table) (get t.spaces q)) ∙ ap is_some (sym (held_at t.spaces q))
-      ∙ sym (mapped_holds (seen_page t.overlays.entries) (plain t) q) ∙ ap (λ (w : LedgerView). holds_space w q) show.is
+      ∙ sym (mapped_holds (seen_page t.overlays.entries) (plain t) q) ∙ ap (λ (w : LedgerView). holds_space w q) is
 
   pub page_is : (q p : ℕ) → page_in v q p ≡ option_map (seen_page t.overlays.entries q p) (page_in (plain t) q p)
   unfolding seen
-  page_is q p = ap (λ (w : LedgerView). page_in w q p) (sym show.is) ∙ mapped_page (seen_page t.overlays.entries) (plain t) q p
+  page_is q p = ap (λ (w : LedgerView). page_in w q p) (sym is) ∙ mapped_page (seen_page t.overlays.entries) (plain t) q p
 
   pub frames_is : v.frames ≡ t.frames
   unfolding seen mapped
-  frames_is = ap (λ (w : LedgerView). w.frames) (sym show.is)
+  frames_is = ap (λ (w : LedgerView). w.frames) (sym is)
 
   pub zero_is : v.zero_frame ≡ t.zero
   unfolding seen mapped
-  zero_is = ap (λ (w : LedgerView). w.zero_frame) (sym show.is)
+  zero_is = ap (λ (w : LedgerView). w.zero_frame) (sym is)
 
   pub plain_some : (q p : ℕ) → is_some (page_in v q p) ≡ is_some (page_in (plain t) q p)
   plain_some q p = ap is_some (page_is q p) ∙ map_some (seen_page t.overlays.entries q p) (page_in (plain t) q p)
@@ -84,16 +84,16 @@ module _ {t : Inside} {v : LedgerView} (show : Shows t v) where
 
   -- a page that is there is in range; one that isn't has no overlay
   pub number_is : (q p : ℕ) → IsSome (page_in v q p) → q ≤ LAST_SPACE
-  number_is q p there = let x = some_is (page_in v q p) there in show.own.numbers q (has_is q ∙ there_space v q p x.0 x.1)
+  number_is q p there = let x = some_is (page_in v q p) there in own.numbers q (has_is q ∙ there_space v q p x.0 x.1)
 
   pub low_is : (q p : ℕ) → IsSome (page_in v q p) → p < PAGE_END
-  low_is q p there = let x = found t q p (sym (plain_some q p) ∙ there) in (show.own.pages q p x.0 x.1 x.2).0
+  low_is q p there = let x = found t q p (sym (plain_some q p) ∙ there) in (own.pages q p x.0 x.1 x.2).0
 
   pub none_placed : (q p : ℕ) → holds_space v q ≡ true → p < PAGE_END → page_in v q p ≡ None → get t.overlays.entries (overlay_page q p) ≡ None
   none_placed q p has low none = none_by (get t.overlays.entries (overlay_page q p)) (not_true (is_some (get t.overlays.entries (overlay_page q p))) (λ some.
-      let number = show.own.numbers q (has_is q ∙ has) in
+      let number = own.numbers q (has_is q ∙ has) in
       let there : IsSome (page_in (plain t) q p) = subst₂ (λ a b. IsSome (page_in (plain t) a b)) (space_back q p (omega (arith, number)) (omega (arith, low))) (page_back q p (omega (arith, number)) (omega (arith, low)))
-      (show.own.placed (overlay_page q p) some).1 in
+      (own.placed (overlay_page q p) some).1 in
       let no = sym there ∙ sym (plain_some q p) ∙ ap is_some none in cc))
 
   -- what isn't there
@@ -104,12 +104,12 @@ module _ {t : Inside} {v : LedgerView} (show : Shows t v) where
   no_page_is q p none = page_of v q p ∙ ap (λ (x : SpaceView). get x.pages p) (space_none q none) ∙ get-empty nat_cmp p
 
 -- One space of the tables.
-module _ {t : Inside} {v : LedgerView} (show : Shows t v) (s : ℕ) (x : OverlaidSpace) (at : Some x ≡ get t.spaces s) where
+module _ {t : Inside} {v : LedgerView} (is : seen t ≡ v) (own : AreTables t) (s : ℕ) (x : OverlaidSpace) (at : Some x ≡ get t.spaces s) where
   pub space_is : space_in v s ≡ mapped_space (seen_page t.overlays.entries s) x.table
-  space_is = space_there v s _ (ap (λ (w : LedgerView). get w.spaces s) (sym show.is) ∙ space_seen t s ∙ ap (option_map (λ (k : OverlaidSpace). mapped_space (seen_page t.overlays.entries s) k.table)) (sym at))
+  space_is = space_there v s _ (ap (λ (w : LedgerView). get w.spaces s) (sym is) ∙ space_seen t s ∙ ap (option_map (λ (k : OverlaidSpace). mapped_space (seen_page t.overlays.entries s) k.table)) (sym at))
 
   pub there_is : holds_space v s ≡ true
-  there_is = sym (has_is show s) ∙ ap is_some (sym at)
+  there_is = sym (has_is is own s) ∙ ap is_some (sym at)
 
   pub awaiting_is : (space_in v s).awaiting ≡ x.table.awaiting
   awaiting_is = ap (λ (k : SpaceView). k.awaiting) space_is
@@ -136,7 +136,7 @@ module _ {t : Inside} {v : LedgerView} (show : Shows t v) (s : ℕ) (x : Overlai
 
   -- which pages are overlaid
   pub shown_at : (p : ℕ) → IsSome (page_in v s p) → (p < PAGE_END) × (holds x.overlaid p ≡ is_some (overlay_at v s p))
-  shown_at p there = let own = show.own.pages s p x (sym at) (entry_there p there) in (own.0, own.1 ∙ ap is_some (overlay_is show s p there))
+  shown_at p there = let page = own.pages s p x (sym at) (entry_there p there) in (page.0, page.1 ∙ ap is_some (overlay_is is own s p there))
 
   -- what is asked of its table: none of its pages, none that awaits, pages that aren't there, and some that are
   pub empty_in : (space_in v s).pages ≡ empty → x.table.pages ≡ empty
@@ -150,7 +150,7 @@ module _ {t : Inside} {v : LedgerView} (show : Shows t v) (s : ℕ) (x : Overlai
 
   -- there is room for the count of as many pages more
   pub room_in : (n : ℕ) → n ≤ PAGE_END → len x.table.pages + n < 2 ^ 32
-  room_in n most = let few = len_low PAGE_END x.table.pages (λ q some. (show.own.pages s q x (sym at) some).0) in omega (arith, few, most)
+  room_in n most = let few = len_low PAGE_END x.table.pages (λ q some. (own.pages s q x (sym at) some).0) in omega (arith, few, most)
 
   -- the next page, the next one that is overlaid, the entries, and how many there are
   pub next_is : (p : ℕ) (found : Option ℕ) → IsLeastFrom x.table.pages p found → IsNextOf v s p found
@@ -159,8 +159,8 @@ module _ {t : Inside} {v : LedgerView} (show : Shows t v) (s : ℕ) (x : Overlai
 
   none_at : (q : ℕ) → (IsSome (get x.table.pages q) → holds x.overlaid q ≡ false) → overlay_at v s q ≡ None
   none_at q lacks = by_option (page_in v s q)
-      (λ is. ap (option_and_then (λ (k : PageView). k.overlay)) is)
-      (λ k is. let there = ap is_some is in none_by (overlay_at v s q) (sym (shown_at q there).1 ∙ lacks (entry_there q there)))
+      (λ none. ap (option_and_then (λ (k : PageView). k.overlay)) none)
+      (λ k some. let there = ap is_some some in none_by (overlay_at v s q) (sym (shown_at q there).1 ∙ lacks (entry_there q there)))
 
   pub next_is_overlaid : (p : ℕ) (found : Option ℕ) → IsLeastOverlaid x p found → IsNextOverlaid v s p found
   next_is_overlaid p None next = λ q le. none_at q (next q le)

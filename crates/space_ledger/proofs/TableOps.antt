@@ -99,7 +99,7 @@ module _ {t : Inside} {v : LedgerView} (show : Shows t v) (s : ℕ) where
   empty_made y w number none pages is = changed show {x = y}
       (record {
         number = number;
-        pages = λ q. none_by (page_in (plain t) s q) (sym (plain_some show s q) ∙ ap is_some (none q)) ∙ sym (no_page q);
+        pages = λ q. none_by (page_in (plain t) s q) (sym (plain_some show.is show.own s q) ∙ ap is_some (none q)) ∙ sym (no_page q);
         shown = λ q some. let no = sym some ∙ ap is_some (no_page q) in cc;
       })
       (same_overlays 0 0) (record { is = is; inside = nowhere _; beside = λ q out. (refl, λ some. refl) })
@@ -129,7 +129,7 @@ module _ {t : Inside} {v : LedgerView} (show : Shows t v) (s : ℕ) where
             old.0,
             by_key (space_of m) s
                 (λ same.
-                let no = sym old.1 ∙ sym (plain_some show (space_of m) (page_named m)) ∙ ap (λ k. is_some (page_in v k (page_named m))) same
+                let no = sym old.1 ∙ sym (plain_some show.is show.own (space_of m) (page_named m)) ∙ ap (λ k. is_some (page_in v k (page_named m))) same
                 ∙ ap is_some (page_of v s (page_named m) ∙ ap (λ n. get n (page_named m)) none ∙ get-empty {X = PageView} nat_cmp (page_named m)) in cc)
                 (λ d. ap is_some (plain_at (record t { spaces = remove t.spaces s }) (space_of m) z.0 (removed_other t.spaces s (space_of m) d ∙ z.1) (page_named m)) ∙ z.2),
           );
@@ -159,7 +159,7 @@ none_kept t none entries roomy = record {
 
 module _ {t : Inside} {v : LedgerView} (show : Shows t v) (s : ℕ) (x y : OverlaidSpace) (at : Some x ≡ get t.spaces s) where
   has : holds_space v s ≡ true
-  has = there_is show s x at
+  has = there_is show.is show.own s x at
 
   was : WasAt t s x
   was = record { number = show.own.numbers s (ap is_some (sym at)); pages = plain_at t s x (sym at); shown = λ q some. show.own.pages s q x (sym at) some }
@@ -187,20 +187,20 @@ module _ {t : Inside} {v : LedgerView} (show : Shows t v) (s : ℕ) (x y : Overl
   pub marked_made : (on : Bool) → y.table ≡ marked x.table on → y.overlaid ≡ x.overlaid → Shows (made t s y t.overlays) (put_mark v s on)
   unfolding put_mark
   marked_made on is same = left (put_mark v s on)
-      (ap (λ (k : SpaceView). put_space v s (record { pages = k.pages; awaiting = k.awaiting; speculating = on })) (space_is show s x at) ∙ ap (λ k. put_space v s (mapped_space (seen_page t.overlays.entries s) k)) (sym is))
+      (ap (λ (k : SpaceView). put_space v s (record { pages = k.pages; awaiting = k.awaiting; speculating = on })) (space_is show.is show.own s x at) ∙ ap (λ k. put_space v s (mapped_space (seen_page t.overlays.entries s) k)) (sym is))
       (ap (λ (k : SpaceTable). k.pages) is) same
 
   pub still_made : y ≡ x → Shows (made t s y t.overlays) v
   still_made is = left v
-      (sym (same_spaces v s has) ∙ ap (put_space v s) (space_is show s x at) ∙ ap (λ (k : OverlaidSpace). put_space v s (mapped_space (seen_page t.overlays.entries s) k.table)) (sym is))
+      (sym (same_spaces v s has) ∙ ap (put_space v s) (space_is show.is show.own s x at) ∙ ap (λ (k : OverlaidSpace). put_space v s (mapped_space (seen_page t.overlays.entries s) k.table)) (sym is))
       (ap (λ (k : OverlaidSpace). k.table.pages) is) (ap (λ (k : OverlaidSpace). k.overlaid) is)
 
   pub adopted_made : (given : Pages) → y.table ≡ adopted x.table given → (space_in v s).pages ≡ empty → Shows (made t s y t.overlays) (put_awaiting v s given)
   unfolding put_awaiting
   adopted_made given is none = empty_made show s y (put_awaiting v s given) was.number
       (λ q. page_of v s q ∙ ap (λ m. get m q) none ∙ get-empty nat_cmp q) (ap (λ (k : SpaceTable). k.pages) is)
-      (ap (λ (k : SpaceView). put_space v s (record { pages = k.pages; awaiting = given; speculating = k.speculating })) (space_is show s x at)
-      ∙ ap (λ (m : Pages). put_space v s (mapped_space (seen_page t.overlays.entries s) (record { pages = m; awaiting = given; speculating = x.table.speculating }))) (empty_in show s x at none)
+      (ap (λ (k : SpaceView). put_space v s (record { pages = k.pages; awaiting = given; speculating = k.speculating })) (space_is show.is show.own s x at)
+      ∙ ap (λ (m : Pages). put_space v s (mapped_space (seen_page t.overlays.entries s) (record { pages = m; awaiting = given; speculating = x.table.speculating }))) (empty_in show.is show.own s x at none)
       ∙ ap (λ k. put_space v s (mapped_space (seen_page t.overlays.entries s) k)) (sym is))
 
   -- pages without overlays taken away
@@ -210,7 +210,7 @@ module _ {t : Inside} {v : LedgerView} (show : Shows t v) (s : ℕ) (x y : Overl
       (ap (λ (w : LedgerView). cut_pages w s from n) (sym show.is) ∙ sym (mapped_cut_pages (seen_page t.overlays.entries) n from (plain t) s)
       ∙ ap (mapped (seen_page t.overlays.entries)) (cut_as n from (plain t) s has_plain ∙ ap (put_space (plain t) s) (ap (λ (k : SpaceTable). without_pages k from n) here ∙ sym is))
       ∙ mapped_put (seen_page t.overlays.entries) (plain t) s y.table ∙ ap (λ (w : LedgerView). put_space w s (mapped_space (seen_page t.overlays.entries s) y.table)) show.is)
-      (λ q within. let b = bare_at v s from n none q within in (low_is show s q b.0, overlay_is show s q b.0 ∙ b.1))
+      (λ q within. let b = bare_at v s from n none q within in (low_is show.is show.own s q b.0, overlay_is show.is show.own s q b.0 ∙ b.1))
       (λ q out. ap (λ (k : SpaceTable). get k.pages q) is ∙ without_at n from x.table q ∙ ap (λ b. cond b None (get x.table.pages q)) out) cut
     where
       plain_there : get (plain t).spaces s ≡ Some x.table
@@ -228,7 +228,7 @@ module _ {t : Inside} {v : LedgerView} (show : Shows t v) (s : ℕ) (x y : Overl
   unfolding with_zero_pages
   mapped_made from n e mapped same none free low = bare from n (put_pages v s from n page)
       (spaces_alike v (put_pages v s from n page) (put_space v s z) all.keeps
-      (keeps_put v s z has (mapped.awaiting ∙ sym (awaiting_is show s x at)) (mapped.mark ∙ sym (mark_is show s x at))) (λ q r. sym (pages q r)))
+      (keeps_put v s z has (mapped.awaiting ∙ sym (awaiting_is show.is show.own s x at)) (mapped.mark ∙ sym (mark_is show.is show.own s x at))) (λ q r. sym (pages q r)))
       (λ q within. (below q within, nothing q within))
       (λ q out. mapped.pages q ∙ ap (λ b. cond b (Some e) (get x.table.pages q)) out)
       (λ q. ap (λ m. holds m q) same ∙ by_test (is_within from n q)
@@ -247,11 +247,11 @@ module _ {t : Inside} {v : LedgerView} (show : Shows t v) (s : ℕ) (x y : Overl
       below q within = grind (arith, nat_tests)
 
       nothing : (q : ℕ) → is_within from n q ≡ true → get t.overlays.entries (overlay_page s q) ≡ None
-      nothing q within = none_placed show s q has (below q within) (free q within)
+      nothing q within = none_placed show.is show.own s q has (below q within) (free q within)
 
       here : (r : ℕ) (b : Bool) → is_within from n r ≡ b → option_map (seen_by r) (cond b (Some e) (get x.table.pages r)) ≡ page_in (put_pages v s from n page) s r
       here r true within = ap (λ o. Some (record { entry = e; overlay = o })) (nothing r within) ∙ sym (all.here r within)
-      here r false within = sym (page_at show s x at r) ∙ sym (all.beside s r (λ _ inside. let no = sym inside ∙ within in cc))
+      here r false within = sym (page_at show.is show.own s x at r) ∙ sym (all.beside s r (λ _ inside. let no = sym inside ∙ within in cc))
 
       pages : (q r : ℕ) → page_in (put_space v s z) q r ≡ page_in (put_pages v s from n page) q r
       pages q r = by_key q s
@@ -263,12 +263,12 @@ module _ {t : Inside} {v : LedgerView} (show : Shows t v) (s : ℕ) (x y : Overl
   pub run_made : (run : PageRun) → y.table ≡ run_awaited x.table run run.n → ((i : ℕ) → i < run.n → get x.table.pages (run.page + i) ≡ None) → run.page + run.n ≤ PAGE_END
       → AreCut x.overlaid run.page run.n y.overlaid → Shows (made t s y t.overlays) (with_run_shared v s run run.n)
   run_made run is absent low cut = bare run.page run.n (with_run_shared v s run run.n)
-      (shared_as seen_by v s x.table run has (space_is show s x at) run.n (λ i few. nothing i few) (λ p e. refl) ∙ ap (λ k. put_space v s (mapped_space (seen_page t.overlays.entries s) k)) (sym is))
+      (shared_as seen_by v s x.table run has (space_is show.is show.own s x at) run.n (λ i few. nothing i few) (λ p e. refl) ∙ ap (λ k. put_space v s (mapped_space (seen_page t.overlays.entries s) k)) (sym is))
       (λ q within. let i = place q within in (i.2, ap (λ k. get t.overlays.entries (overlay_page s k)) (sym i.1) ∙ nothing (q - run.page) i.0))
       (λ q out. ap (λ (k : SpaceTable). get k.pages q) is ∙ run_beside x.table run run.n q out) cut
     where
       nothing : (i : ℕ) → i < run.n → get t.overlays.entries (overlay_page s (run.page + i)) ≡ None
-      nothing i few = none_placed show s (run.page + i) has (omega (arith, few, low)) (absent_is show s x at (run.page + i) (absent i few))
+      nothing i few = none_placed show.is show.own s (run.page + i) has (omega (arith, few, low)) (absent_is show.is show.own s x at (run.page + i) (absent i few))
 
       place : (q : ℕ) → is_within run.page run.n q ≡ true → (q - run.page < run.n) × (run.page + (q - run.page) ≡ q) × (q < PAGE_END)
       place q within =
@@ -329,20 +329,20 @@ module _ {t : Inside} {v : LedgerView} (show : Shows t v) (s : ℕ) (x y : Overl
     unfolding with_overlay put_page
     over_made same there =
         let z = some_is (page_in v s p) there in
-        let e = some_is (get x.table.pages p) (entry_there show s x at p there) in
+        let e = some_is (get x.table.pages p) (entry_there show.is show.own s x at p there) in
         let pages = insert_kept x.table.pages p e.0 e.1 in
-        let entry : z.0.entry ≡ e.0 = same_Some z.0.entry e.0 (sym (ap (option_map (λ (k : PageView). k.entry)) z.1) ∙ sym (entry_is show s x at p) ∙ e.1) in
+        let entry : z.0.entry ≡ e.0 = same_Some z.0.entry e.0 (sym (ap (option_map (λ (k : PageView). k.entry)) z.1) ∙ sym (entry_is show.is show.own s x at p) ∙ e.1) in
         changed show was over_beside (over_change e.0 (with_overlay v s p o) (ap (λ (k : SpaceTable). k.pages) same ∙ sym pages)
         (changed_there (λ (k : PageView). record { entry = k.entry; overlay = o }) v s p z.0 z.1
         ∙ ap (λ k. put_page v s p (record { entry = k; overlay = o })) entry
-        ∙ ap (λ (k : SpaceView). put_space v s (record { pages = insert k.pages p (record { entry = e.0; overlay = o }); awaiting = k.awaiting; speculating = k.speculating })) (space_is show s x at)
+        ∙ ap (λ (k : SpaceView). put_space v s (record { pages = insert k.pages p (record { entry = e.0; overlay = o }); awaiting = k.awaiting; speculating = k.speculating })) (space_is show.is show.own s x at)
         ∙ ap (λ m. put_space v s (record { pages = m; awaiting = x.table.awaiting; speculating = x.table.speculating })) (sym (viewed_over e.0) ∙ ap (viewed (seen_page new.entries s)) pages)
         ∙ ap (λ k. put_space v s (mapped_space (seen_page new.entries s) k)) (sym same)))
 
     pub shared_made : (e : PageEntry) → y.table ≡ awaited x.table p e → Shows (made t s y new) (put_shared v s p (record { entry = e; overlay = o }))
     unfolding put_shared
     shared_made e is = changed show was over_beside (over_change e (put_shared v s p (record { entry = e; overlay = o })) (ap (λ (k : SpaceTable). k.pages) is)
-        (ap (λ (k : SpaceView). put_space v s (record { pages = insert k.pages p (record { entry = e; overlay = o }); awaiting = remove k.awaiting p; speculating = k.speculating })) (space_is show s x at)
+        (ap (λ (k : SpaceView). put_space v s (record { pages = insert k.pages p (record { entry = e; overlay = o }); awaiting = remove k.awaiting p; speculating = k.speculating })) (space_is show.is show.own s x at)
         ∙ ap (λ m. put_space v s (record { pages = m; awaiting = remove x.table.awaiting p; speculating = x.table.speculating })) (sym (viewed_over e))
         ∙ ap (λ k. put_space v s (mapped_space (seen_page new.entries s) k)) (sym is)))
 
@@ -350,15 +350,15 @@ module _ {t : Inside} {v : LedgerView} (show : Shows t v) (s : ℕ) (x y : Overl
   unfolding with_entry_at put_page
   entry_made p e is same there =
       let z = some_is (page_in v s p) there in
-      let over = overlay_is show s p there ∙ ap (option_and_then (λ (k : PageView). k.overlay)) z.1 in
+      let over = overlay_is show.is show.own s p there ∙ ap (option_and_then (λ (k : PageView). k.overlay)) z.1 in
       changed show was (same_overlays show s p 1) (record {
         is = changed_there (λ (k : PageView). record { entry = e; overlay = k.overlay }) v s p z.0 z.1
             ∙ ap (λ k. put_page v s p (record { entry = e; overlay = k })) (sym over)
-            ∙ ap (λ (k : SpaceView). put_space v s (record { pages = insert k.pages p (seen_by p e); awaiting = k.awaiting; speculating = k.speculating })) (space_is show s x at)
+            ∙ ap (λ (k : SpaceView). put_space v s (record { pages = insert k.pages p (seen_by p e); awaiting = k.awaiting; speculating = k.speculating })) (space_is show.is show.own s x at)
             ∙ ap (λ m. put_space v s (record { pages = m; awaiting = x.table.awaiting; speculating = x.table.speculating })) (sym (viewed_put seen_by x.table.pages p e))
             ∙ ap (λ k. put_space v s (mapped_space (seen_page t.overlays.entries s) k)) (sym is);
         inside = λ q within. let here = within_one p q within in
-            let own = was.shown q (ap (λ k. is_some (get x.table.pages k)) here ∙ entry_there show s x at p there) in
+            let own = was.shown q (ap (λ k. is_some (get x.table.pages k)) here ∙ entry_there show.is show.own s x at p there) in
             ((own.0, ap (λ m. holds m q) same ∙ own.1), λ some. ap (λ (k : SpaceTable). is_some (get k.pages q)) is ∙ ap is_some (get_same x.table.pages p q e here));
         beside = λ q out. (ap (λ (k : SpaceTable). is_some (get k.pages q)) is ∙ ap is_some (get_other x.table.pages p q e (beside_one p q out)), λ some. ap (λ m. holds m q) same);
       })

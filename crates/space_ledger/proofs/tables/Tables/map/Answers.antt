@@ -3,7 +3,7 @@ use Rattle.space_ledger.proofs.TableOps.{either, mapped_made, on_ok, on_err, sti
 use Rattle.space_ledger.proofs.tables.Tables.map.Goals as goal
 
 pub map-requires-clause-free : goal.map-requires-clause-free
-map-requires-clause-free c = free_in (shows c.self.view_is c.self.invariant) c.args.space c.in-Some.space.now c.in-Some.ensures.value c.args.from c.args.n c.requires.free
+map-requires-clause-free c = free_in c.self.view_is c.self.invariant c.args.space c.in-Some.space.now c.in-Some.ensures.value c.args.from c.args.n c.requires.free
 
 pub invariant_of-self : goal.invariant_of-self
 invariant_of-self c = either c.map.result c.map.ensures.mapped c.map.ensures.kept

@@ -16,7 +16,7 @@ put-requires-clause-room c =
 done : (c : After-put) → Shows (made c.self.inside c.args.space c.set_overlaid.new.self c.put.new.overlays) (with_overlay c.args.self.now c.args.space c.args.page c.args.overlay)
 done c =
     over_made (shows c.self.view_is c.self.invariant) c.args.space c.in-Some.space.now c.set_overlaid.new.self c.in-Some.ensures.value c.args.page c.args.overlay c.put.new.overlays
-    (low_is (shows c.self.view_is c.self.invariant) c.args.space c.args.page c.requires.there) c.requires.lined (room_for (shows c.self.view_is c.self.invariant) c.args.space c.args.page c.requires.there c.args.overlay c.requires.room)
+    (low_is c.self.view_is c.self.invariant c.args.space c.args.page c.requires.there) c.requires.lined (room_for (shows c.self.view_is c.self.invariant) c.args.space c.args.page c.requires.there c.args.overlay c.requires.room)
     (c.put.ensures.entries ∙ ap (λ n. put_over c.self.inside.overlays.entries n c.args.overlay) c.of.ensures.name) c.put.ensures.room
     (subst (λ b. IsPut c.in-Some.space.now.overlaid c.args.page b c.set_overlaid.new.self.overlaid) c.is_some.ensures c.set_overlaid.ensures.overlaid) c.set_overlaid.ensures.table c.requires.there
 

@@ -9,7 +9,7 @@ use Rattle.space_ledger.proofs.tables.Tables.share.Goals as goal
 use Rattle.space_ledger.proofs.tables.Tables.share.Goals.{After-put}
 
 pub share-entry-requires-clause-few : goal.share-entry-requires-clause-few
-share-entry-requires-clause-few c = room_in (shows c.self.view_is c.self.invariant) c.args.space c.in-Some.space.now c.in-Some.ensures.value 1 (omega arith)
+share-entry-requires-clause-few c = room_in c.self.view_is c.self.invariant c.args.space c.in-Some.space.now c.in-Some.ensures.value 1 (omega arith)
 
 pub put-requires-clause-room : goal.put-requires-clause-room
 put-requires-clause-room c = room_spare (shows c.self.view_is c.self.invariant) c.of.result c.args.overlay c.requires.room
@@ -32,4 +32,4 @@ returns-clause-shared c = (done c).is
 pub put-requires-clause-had : goal.put-requires-clause-had
 put-requires-clause-had c =
     sym (ap is_some (ap (get c.self.inside.overlays.entries) c.of.ensures.name
-    ∙ none_placed (shows c.self.view_is c.self.invariant) c.args.space c.args.page c.requires.there c.requires.low (absent_is (shows c.self.view_is c.self.invariant) c.args.space c.in-Some.space.now c.in-Some.ensures.value c.args.page c.share-entry.ensures.apart)))
+    ∙ none_placed c.self.view_is c.self.invariant c.args.space c.args.page c.requires.there c.requires.low (absent_is c.self.view_is c.self.invariant c.args.space c.in-Some.space.now c.in-Some.ensures.value c.args.page c.share-entry.ensures.apart)))
