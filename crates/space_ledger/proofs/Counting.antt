@@ -1,6 +1,6 @@
-use Rattle.space_ledger.proofs.Common.{◌≡◌, ℕ, ◌+◌, ◌*◌, ◌≤◌, ◌<◌, true, cond, nat_lt, length, Option, Some, None, is_some, IfSome, IsSome, refl, option_and_then, sym, ap, subst, ◌∙◌, arith, inl, inr, nat_tests, same_Some, nat_cmp_total, empty, get, get-empty, insert, len, len-empty, len-insert, nat_cmp, FRAME_UNITS, LAST_SPACE, PAGE_END}
+use Rattle.space_ledger.proofs.Common.{◌≡◌, ℕ, ◌+◌, ◌*◌, ◌≤◌, ◌<◌, cond, nat_lt, length, Option, Some, None, is_some, IfSome, IsSome, refl, option_and_then, sym, ap, subst, ◌∙◌, arith, inl, inr, nat_tests, same_Some, nat_cmp_total, empty, get, get-empty, insert, len, len-empty, len-insert, nat_cmp, FRAME_UNITS, LAST_SPACE, PAGE_END}
 use Rattle.space_ledger.proofs.Pages.{by_entries, get_other, get_same, len_low, IsName, overlay_page, space_of, page_back, space_back, Entry, HasRoomFor}
-use Rattle.space_ledger.proofs.Views.{Holding, Ledger, overlaid_pages, own_lines, tally, by_place, without_absent, lines_tally, tally_changed, tally_le, tally_put, holds_space, page_in, put_page, put_shared, page_put_beside, page_put_here, books_absent, books_put_page, books_put_shared, books_spaces, books_there, Inside, LedgerView, PageView, holding_of, ledger_of, lines_of, Overlays, HasOverlayRoom, HasSpare, IsSound}
+use Rattle.space_ledger.proofs.Views.{Holding, Ledger, overlaid_pages, own_lines, tally, by_place, lines_tally, tally_changed, tally_le, page_in, put_page, page_put_beside, page_put_here, books_put_page, books_there, Inside, LedgerView, PageView, holding_of, ledger_of, lines_of, Overlays, HasOverlayRoom, HasSpare, IsSound}
 use Rattle.overlay_address.specs.Names.{page_of}
 use Rattle.space_ledger.proofs.Numbers.{held_page}
 use Rattle.space_ledger.proofs.Seen.{Shows, frames_is, has_is, low_is, number_is, overlay_is, plain_some, some_is}
@@ -23,17 +23,6 @@ overlaid_changed v s p x y there =
     ∙ ap (λ n. n + has_lines (holding_of v.zero_frame x)) (overlaid_is _)
     ∙ tally_changed has_lines (ledger_of v) s p (holding_of v.zero_frame x) (holding_of v.zero_frame y) (books_there holding_of v s p x there)
     ∙ ap (λ n. n + has_lines (holding_of v.zero_frame y)) (sym (overlaid_is (ledger_of v)))
-
--- with one shared that has none
-pub overlaid_shared : (v : LedgerView) (s p : ℕ) (y : PageView) → holds_space v s ≡ true → page_in v s p ≡ None → y.overlay ≡ None
-    → overlaid_pages (ledger_of (put_shared v s p y)) ≡ overlaid_pages (ledger_of v)
-unfolding has_lines
-overlaid_shared v s p y there absent bare =
-    let none : has_lines (holding_of v.zero_frame y) ≡ 0 = ap (λ o. cond (nat_lt 0 (length (lines_of o))) 1 0) bare in
-    let new = ap overlaid_pages (books_put_shared holding_of v s p y) ∙ overlaid_is _ ∙ tally_put has_lines (ledger_of v) s p (holding_of v.zero_frame y)
-    ∙ ap (λ (l : Ledger). tally has_lines l + has_lines (holding_of v.zero_frame y)) (without_absent (ledger_of v) s p (books_spaces holding_of v s ∙ there) (books_absent holding_of v s p absent))
-    ∙ ap (λ n. n + has_lines (holding_of v.zero_frame y)) (sym (overlaid_is (ledger_of v))) in
-    omega (arith, new, none)
 
 -- overlays by name are those of the pages of a view
 record AreThose (v : LedgerView) (overlays : Overlays) : Type 0 where

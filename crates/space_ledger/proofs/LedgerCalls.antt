@@ -1,4 +1,4 @@
-use Rattle.space_ledger.proofs.Common.{◌≡◌, ℕ, ◌+◌, ◌-◌, ◌^◌, ◌==◌, ◌≤◌, ◌<◌, ◌⊎◌, Bool, true, false, cond, not, ◌&&◌, nat_lt, List, length, Option, Some, None, is_some, IsSome, Result, Ok, Err, IfOk, refl, nat_cmp, inl, inr, sym, ap, subst, subst₂, ◌∙◌, arith, same_Some, option_and_then, option_map, option_map_or, empty, get, get-empty}
+use Rattle.space_ledger.proofs.Common.{len, LAST_SPACE, ◌≡◌, ℕ, ◌+◌, ◌-◌, ◌^◌, ◌==◌, ◌≤◌, ◌<◌, ◌⊎◌, Bool, true, false, cond, not, ◌&&◌, nat_lt, List, length, Option, Some, None, is_some, IsSome, Result, Ok, Err, IfOk, refl, nat_cmp, inl, inr, sym, ap, subst, subst₂, ◌∙◌, arith, same_Some, option_and_then, option_map, option_map_or, empty, get, get-empty}
 use Rattle.space_ledger.proofs.Pages.{get_viewed, Pages, Table, PageEntry, Entry, Block, sharers_of}
 use Rattle.space_ledger.proofs.Views.{map_from, changed_there, page_of, page_shared_here, cut_page, holds_space, page_in, put_page, put_shared, put_space, space_in, holding_at, is_alone, is_unused, with_page, without_page, class, books_cut_page, books_page, books_put_page, books_there, LedgerView, PageView, frame_at, frame_awaiting, holding_of, ledger_of, lines_of, origin_of, overlay_at, with_block, with_entry_at, with_frame, with_overlay, with_page_shared, AreBooks, IsBooked, IsFreeFor, IsSound, NamesOnce, entries_of, given_up, frame_units, held_by, released_by, given_as, by_option, class_none, sharers_at}
 use Rattle.space_ledger.proofs.Seen.{some_is}
@@ -81,7 +81,7 @@ module _ (v : LedgerView) (counts : List ℕ) (u n : ℕ) (kept : IsBooked v cou
     before = record {
       there = subst (λ k. f < k) (sym (length_released v.zero_frame counts e.frame ∙ kept.books.room)) low;
       few = by_two f v.zero_frame inl (λ isnt.
-          let bound = sharers_bound v counts u n kept sound f low isnt in
+          let bound = sharers_bound v counts u n kept sound.few f low isnt in
           let all = sharers_at (ledger_of v) s p (holding_of v.zero_frame (record { entry = e; overlay = o })) (f + 1) (books_there holding_of v s p _ there) in
           let count = gone.books.counted f low isnt in
           inr (omega (arith, bound, all, count)));
@@ -223,13 +223,13 @@ shared_frame v counts u n kept from to p entry there waiting same =
     some_frame : {a b : ℕ} → Some a ≡ Some b → a ≡ b
     some_frame {a = a} e = same_Some _ _ e
 
-pub before_share : (v : LedgerView) (counts : List ℕ) (u n : ℕ) → IsBooked v counts u n → IsSound v → (z : ℕ) (entry : PageEntry) → entry.frame < v.frames → z ≡ v.zero_frame
+pub before_share : (v : LedgerView) (counts : List ℕ) (u n : ℕ) → IsBooked v counts u n → len v.spaces ≤ LAST_SPACE + 1 → (z : ℕ) (entry : PageEntry) → entry.frame < v.frames → z ≡ v.zero_frame
     → (entry.frame < length counts) × ((entry.frame ≡ z) ⊎ (sharers_of counts entry.frame < 2 ^ 32 - 1))
-before_share v counts u n kept sound z entry low zero_is =
+before_share v counts u n kept few z entry low zero_is =
     subst (λ k. (entry.frame < length counts) × ((entry.frame ≡ k) ⊎ (sharers_of counts entry.frame < 2 ^ 32 - 1))) (sym zero_is) (
       subst (λ k. entry.frame < k) (sym kept.books.room) low,
       by_two entry.frame v.zero_frame inl (λ isnt.
-          let bound = sharers_bound v counts u n kept sound entry.frame low isnt in
+          let bound = sharers_bound v counts u n kept few entry.frame low isnt in
           let count = kept.books.counted entry.frame low isnt in
           inr (omega (arith, bound, count))),
     )

@@ -46,28 +46,27 @@ module _ (v : LedgerView) (counts : List ℕ) (u n : ℕ) (kept : IsBooked v cou
       by_overlay s p x at None is = omega arith
       by_overlay s p x at (Some e) is = (sound.lines s p x e at is).1
 
-  -- a frame that isn't the zero frame has at most a sharer a space
-  pub sharers_bound : (f : ℕ) → f < v.frames → (f ≡ v.zero_frame → ⊥) → sharers (ledger_of v) (f + 1) ≤ LAST_SPACE + 1
-  sharers_bound f low isnt =
-      let most = sharers_few (ledger_of v) (f + 1) (λ s p q a b at_p at_q is_a is_b.
-      let x = held_page v s p a at_p in
-      let y = held_page v s q b at_q in
-      let fx = frame_is x.0.entry.frame (ap (λ (h : Holding). h.origin) (sym x.2) ∙ is_a) in
-      let fy = frame_is y.0.entry.frame (ap (λ (h : Holding). h.origin) (sym y.2) ∙ is_b) in
-      (kept.apart s).pages p q x.0 y.0 (in_pages v s p x.0 x.1) (in_pages v s q y.0 y.1) (fx ∙ sym fy) (λ zero_x. isnt (sym fx ∙ zero_x))) in
-      let spaces = spaces_len in
-      let few = sound.few in
-      omega (arith, most, spaces, few)
-    where
-      frame_is : (g : ℕ) → origin_of v.zero_frame g ≡ f + 1 → g ≡ f
-      frame_is g is = at (nat_eq g v.zero_frame) refl is
-        where
-          at : (b : Bool) → nat_eq g v.zero_frame ≡ b → cond b 0 (g + 1) ≡ f + 1 → g ≡ f
-          at true e h = absurd (omega (arith, h))
-          at false e h = omega (arith, h)
+-- a frame that isn't the zero frame has at most a sharer a space
+pub sharers_bound : (v : LedgerView) (counts : List ℕ) (u n : ℕ) → IsBooked v counts u n → len v.spaces ≤ LAST_SPACE + 1 → (f : ℕ) → f < v.frames → (f ≡ v.zero_frame → ⊥) → sharers (ledger_of v) (f + 1) ≤ LAST_SPACE + 1
+sharers_bound v counts u n kept few f low isnt =
+    let most = sharers_few (ledger_of v) (f + 1) (λ s p q a b at_p at_q is_a is_b.
+    let x = held_page v s p a at_p in
+    let y = held_page v s q b at_q in
+    let fx = frame_is x.0.entry.frame (ap (λ (h : Holding). h.origin) (sym x.2) ∙ is_a) in
+    let fy = frame_is y.0.entry.frame (ap (λ (h : Holding). h.origin) (sym y.2) ∙ is_b) in
+    (kept.apart s).pages p q x.0 y.0 (in_pages v s p x.0 x.1) (in_pages v s q y.0 y.1) (fx ∙ sym fy) (λ zero_x. isnt (sym fx ∙ zero_x))) in
+    let spaces = spaces_len in
+    omega (arith, most, spaces, few)
+  where
+    frame_is : (g : ℕ) → origin_of v.zero_frame g ≡ f + 1 → g ≡ f
+    frame_is g is = at (nat_eq g v.zero_frame) refl is
+      where
+        at : (b : Bool) → nat_eq g v.zero_frame ≡ b → cond b 0 (g + 1) ≡ f + 1 → g ≡ f
+        at true e h = absurd (omega (arith, h))
+        at false e h = omega (arith, h)
 
-      spaces_len : len (ledger_of v) ≡ len v.spaces
-      spaces_len = books_len holding_of v
+    spaces_len : len (ledger_of v) ≡ len v.spaces
+    spaces_len = books_len holding_of v
 
 -- A frame that is unused costs units, and one that a page is put on isn't unused.
 pub unused_tells : (b : Bool) → nat_lt 0 (frame_for b) ≡ b

@@ -49,7 +49,7 @@ module _ {z : ℕ} {step : List ℕ → ℕ → List ℕ} {cost : List ℕ → L
         let here = is.free (counted_run step counts run k) (counted_run step counts run (suc k)) (entry_at run k).frame (frame_is k) in
         omega (arith, rest, here)
 
-  units_most : (counts : List ℕ) (run : PageRun) (k : ℕ) → counted_units step cost counts run k ≤ 16 * k
+  pub units_most : (counts : List ℕ) (run : PageRun) (k : ℕ) → counted_units step cost counts run k ≤ 16 * k
   unfolding counted_units
   units_most counts run zero = omega arith
   units_most counts run (suc k) =

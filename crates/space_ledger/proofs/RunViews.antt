@@ -1,4 +1,4 @@
-use Rattle.space_ledger.proofs.Common.{◌≡◌, ℕ, zero, suc, ◌+◌, ◌≤◌, ◌<◌, true, None, is_some, refl, ap, ◌∙◌, arith, get, remove}
+use Rattle.space_ledger.proofs.Common.{len, len-insert, nat_cmp_total, Bool, cond, ◌≡◌, ℕ, zero, suc, ◌+◌, ◌≤◌, ◌<◌, true, None, is_some, refl, ap, ◌∙◌, arith, get, remove}
 use Rattle.space_ledger.proofs.Pages.{by_key, get_same, removed_other, removed_same, Pages, entry_at, PageRun}
 use Rattle.space_ledger.proofs.Views.{holds_space, page_in, put_shared, put_space, space_in, page_shared_beside, space_put, LedgerView, PageView, SpaceView, with_run_shared}
 use Rattle.space_ledger.proofs.Parts.{nat_apart}
@@ -15,6 +15,10 @@ module _ (v : LedgerView) (s p : ℕ) (y : PageView) where
   unfolding put_shared put_space
   frames_same = refl
 
+  len_same : holds_space v s ≡ true → len (put_shared v s p y).spaces ≡ len v.spaces
+  unfolding put_shared put_space
+  len_same there = len-insert nat_cmp_total v.spaces s _ ∙ ap (λ (b : Bool). cond b (len v.spaces) (len v.spaces + 1)) there
+
   there_still : holds_space (put_shared v s p y) s ≡ true
   unfolding put_shared put_space
   there_still = ap is_some (get_same v.spaces s s _ refl)
@@ -27,6 +31,7 @@ module _ (v : LedgerView) (s p : ℕ) (y : PageView) where
 pub record HasReached (v : LedgerView) (s : ℕ) (run : PageRun) (k : ℕ) : Type 0 where
   pub zero_frame : (with_run_shared v s run k).zero_frame ≡ v.zero_frame
   pub frames : (with_run_shared v s run k).frames ≡ v.frames
+  pub spaces : len (with_run_shared v s run k).spaces ≡ len v.spaces
   pub there : holds_space (with_run_shared v s run k) s ≡ true
   pub gone : (q : ℕ) → q < run.page + k → get (space_in (with_run_shared v s run k) s).awaiting q ≡ None
   pub ahead : (q : ℕ) → run.page + k ≤ q → get (space_in (with_run_shared v s run k) s).awaiting q ≡ get (space_in v s).awaiting q
@@ -39,6 +44,7 @@ unfolding with_run_shared
 reached v s run there none zero = record {
   zero_frame = refl;
   frames = refl;
+  spaces = refl;
   there = there;
   gone = λ q low. none q (omega (arith, low));
   ahead = λ q high. refl;
@@ -52,6 +58,7 @@ reached v s run there none (suc k) =
     let y : PageView = record { entry = entry_at run k; overlay = None } in record {
       zero_frame = zero_same w s p y ∙ before.zero_frame;
       frames = frames_same w s p y ∙ before.frames;
+      spaces = len_same w s p y before.there ∙ before.spaces;
       there = there_still w s p y;
       gone = λ q low. ap (λ (m : Pages). get m q) (awaiting_is w s p y) ∙ by_key q p
           (λ same. removed_same (space_in w s).awaiting p q same)

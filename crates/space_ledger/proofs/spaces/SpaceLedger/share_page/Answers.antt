@@ -17,7 +17,7 @@ from_page c =
 before : (c : After-share-entry) → (c.share-entry.result.frame < length c.self.inside.pool)
     × ((c.share-entry.result.frame ≡ c.zero-zero.result) ⊎ (sharers_of c.self.inside.pool c.share-entry.result.frame < 2 ^ 32 - 1))
 before c =
-    before_share c.self.inside.tables c.self.inside.pool c.self.inside.units c.self.inside.lines c.self.invariant c.zero-zero.ensures.sound c.zero-zero.result
+    before_share c.self.inside.tables c.self.inside.pool c.self.inside.units c.self.inside.lines c.self.invariant c.zero-zero.ensures.sound.few c.zero-zero.result
     c.share-entry.result (from_page c).3 c.zero-zero.ensures.zero
 
 pub hold-added-requires-clause-there : goal.hold-added-requires-clause-there
