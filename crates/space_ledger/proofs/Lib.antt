@@ -16,7 +16,6 @@ pub mod RunCounts
 pub mod Rises
 pub mod LedgerCalls
 pub mod Removing
-pub mod RunReleases
 pub mod RunRemoved
 pub mod RunBooks
 pub mod Sharing

@@ -138,21 +138,10 @@ pub mapped_view : (v : LedgerView) (counts : List ℕ) (u n s from k : ℕ) (e :
 unfolding with_zero_pages
 mapped_view v counts u n s from k e kept has free zero_e = mapped_books k from v counts u n s (record { entry = e; overlay = None }) kept has free zero_e refl
 
-none_held : (v : LedgerView) (o : ℕ) → all_holdings (ledger_of v) ≡ [] → sharers (ledger_of v) o ≡ 0
-unfolding sharers
-none_held v o nothing = tally_none (λ x. cond (x.origin == o) 1 0) (ledger_of v) nothing
-
-empty_lines : (l : Ledger) → all_holdings l ≡ [] → own_lines l ≡ 0
-unfolding own_lines
-empty_lines book nothing = tally_none (λ x. length x.own) book nothing
-
-empty_units : (l : Ledger) → all_holdings l ≡ [] → units l ≡ FRAME_UNITS
-unfolding units
-empty_units book nothing = ap units_of nothing ∙ no_page_units
-
 -- no space at all
 pub new_books : (v : LedgerView) (counts : List ℕ) (frames z : ℕ) → v.spaces ≡ empty → v.frames ≡ frames → v.zero_frame ≡ z → counts ≡ none_shared frames → length counts ≡ frames
     → 0 < frames → frames ≤ MOST_FRAMES → z < frames → IsBooked v counts FRAME_UNITS 0
+unfolding sharers own_lines units
 new_books v counts frames z none frames_is zero_is counts_is room some few inside = record {
   some = subst (λ k. 0 < k) (sym frames_is) some;
   frames = subst (λ k. k ≤ MOST_FRAMES) (sym frames_is) few;
@@ -161,9 +150,9 @@ new_books v counts frames z none frames_is zero_is counts_is room some few insid
   apart = λ s. subst (IsApart v.zero_frame) (sym (no_space s)) (nothing_apart v.zero_frame);
   books = record {
     room = room ∙ sym frames_is;
-    counted = λ f low isnt. ap (λ (c : List ℕ). sharers_of c f) counts_is ∙ none_at frames f (subst (λ k. f < k) frames_is low) ∙ sym (none_held v (f + 1) nothing);
-    units_is = sym (empty_units (ledger_of v) nothing);
-    lines_is = sym (empty_lines (ledger_of v) nothing);
+    counted = λ f low isnt. ap (λ (c : List ℕ). sharers_of c f) counts_is ∙ none_at frames f (subst (λ k. f < k) frames_is low) ∙ sym (tally_none (λ x. cond (x.origin == f + 1) 1 0) (ledger_of v) nothing);
+    units_is = sym (ap units_of nothing ∙ no_page_units);
+    lines_is = sym (tally_none (λ x. length x.own) (ledger_of v) nothing);
   };
 }
   where

@@ -18,15 +18,10 @@ without_at (suc k) from x r = by_key r (from + k)
     as_before : (r ≡ from + k → ⊥) → is_within from k r ≡ is_within from (suc k) r
     as_before other = grind (arith, nat_tests)
 
-pub without_awaiting : (k from : ℕ) (x : SpaceTable) → (without_pages x from k).awaiting ≡ x.awaiting
+pub without_rest : (k from : ℕ) (x : SpaceTable) → ((without_pages x from k).awaiting ≡ x.awaiting) × ((without_pages x from k).speculating ≡ x.speculating)
 unfolding without_pages
-without_awaiting zero from x = refl
-without_awaiting (suc k) from x = without_awaiting k from x
-
-pub without_mark : (k from : ℕ) (x : SpaceTable) → (without_pages x from k).speculating ≡ x.speculating
-unfolding without_pages
-without_mark zero from x = refl
-without_mark (suc k) from x = without_mark k from x
+without_rest zero from x = (refl, refl)
+without_rest (suc k) from x = without_rest k from x
 
 -- how many are left
 pub without_count : (n from : ℕ) (x : SpaceTable) → AreThere x.pages from n → len (without_pages x from n).pages + n ≡ len x.pages
@@ -60,7 +55,7 @@ module _ (old new : Pages) (end from n : ℕ) (gone : IsUnmapped old from n new)
       ∙ ap (λ (o : Option PageEntry). cond (is_within from n q) None o) (sym (below_at old end q)) ∙ sym (without_at n from was q)))
       (alike _ _ (λ q. from_at new end q ∙ ap (λ (o : Option PageEntry). cond (nat_le end q) o None) (gone q)
       ∙ waits_as (nat_le end q) (is_within from n q) (get old q) (λ within. let low = is_inside old end q (there q within) in grind (arith, nat_tests, low)) ∙ sym (from_at old end q))
-      ∙ sym (without_awaiting n from was)) (sym (without_mark n from was))
+      ∙ sym (without_rest n from was).0) (sym (without_rest n from was).1)
     where
       either : (b c : Bool) (o : Option PageEntry) → cond b (cond c None o) None ≡ cond c None (cond b o None)
       either true c o = refl

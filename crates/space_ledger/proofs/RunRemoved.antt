@@ -3,11 +3,10 @@ use Rattle.space_ledger.proofs.Pages.{sharers_of, IsRunFrom, entry_at, PageRun, 
 use Rattle.space_ledger.proofs.Views.{has_origin, is_unused, after_cut, are_cut, cut_page, cut_pages, holds_space, page_in, counted_run, counted_units, frame_units, released_run, run_freed, LedgerView, PageView, ledger_of, origin_of, overlay_at, given_as, unused_is, GivesNothingUp, GivesUpAtLast, IsBareFrom, IsBareRun, IsBooked, entries_of, given_up, IsStartOf, are, arent}
 use Rattle.ledger.specs.Units.{units as units_of}
 use Rattle.space_ledger.proofs.Booked.{in_pages}
-use Rattle.space_ledger.proofs.Booking.{by_two, unused_by_count}
+use Rattle.space_ledger.proofs.Booking.{released_beside, by_two, unused_by_count}
 use Rattle.space_ledger.proofs.LedgerCalls.{Released, before_release, removed_call}
 use Rattle.space_ledger.proofs.Numbers.{entry_page}
 use Rattle.space_ledger.proofs.Removing.{entry_of}
-use Rattle.space_ledger.proofs.RunReleases.{count_stays, nothing_freed}
 
 -- What is kept beside the tables while the pages of a run go, one after the other.
 
@@ -57,6 +56,31 @@ bare_of_run v s page most few run (Some part) first inside within bare start =
     entry : (i : ℕ) → i < run.n → option_map (λ (x : PageView). x.entry) (page_in v s (run.page + i)) ≡ Some (entry_at run i)
     entry i low = entry_of v s (run.page + i) (entry_at run i) (first.has i low)
 
+-- what a page leaves and later ones keep is so once all went
+after : (P : ℕ → Type 0) (n i : ℕ) → i < n → P (suc i) → ((j : ℕ) → i < j → j < n → P j → P (suc j)) → P n
+after P zero i low here keeps = absurd (omega (arith, low))
+after P (suc n) i low here keeps = by_two i n
+    (λ same. subst (λ m. P (suc m)) same here)
+    (λ other. keeps n (before other) (omega arith) (after P n i (before other) here (λ j later low_j. keeps j later (omega (arith, low_j)))))
+  where
+    before : (i ≡ n → ⊥) → i < n
+    before other = grind (arith, low, other)
+
+-- where nothing is freed, no page freed anything
+pub nothing_freed : (z : ℕ) (counts : List ℕ) (run : PageRun) (n i : ℕ) → run_freed z counts run n ≡ 0 → i < n
+    → frame_units z (released_run z counts run (suc i)) (entry_at run i).frame ≡ 0
+unfolding counted_units
+nothing_freed z counts run n i none low =
+    let most = after (λ m. run_freed z counts run (suc i) ≤ run_freed z counts run m) n i low (omega arith) (λ j later low_j le. omega (arith, le)) in
+    omega (arith, most, none)
+
+-- a count that no later page of the run changes
+pub count_stays : (z : ℕ) (counts : List ℕ) (run : PageRun) (f n i : ℕ) → i < n → ((j : ℕ) → i < j → j < n → (entry_at run j).frame ≡ f → ⊥)
+    → sharers_of (released_run z counts run n) f ≡ sharers_of (released_run z counts run (suc i)) f
+unfolding counted_run
+count_stays z counts run f n i low differ = after (λ m. sharers_of (released_run z counts run m) f ≡ sharers_of (released_run z counts run (suc i)) f) n i low refl
+    (λ j later low_j so_far. released_beside z (released_run z counts run j) (entry_at run j).frame f (λ e. differ j later low_j (sym e)) ∙ so_far)
+
 -- What is left once so many pages of a run went.
 module _ (v : LedgerView) (counts : List ℕ) (u n : ℕ) (kept : IsBooked v counts u n) (s : ℕ) (run : PageRun) (has : holds_space v s ≡ true) (is : IsBareRun v s run) where
   abbrev left : ℕ → LedgerView
@@ -94,21 +118,18 @@ module _ (v : LedgerView) (counts : List ℕ) (u n : ℕ) (kept : IsBooked v cou
       s (run.page + k) v.zero_frame (freed_next k) (entry_at run k) (zero_is k) (entry_is k low) refl refl
       (ap (option_and_then (λ (x : PageView). x.overlay)) (after_cut k run.page v s has) ∙ is.bare k low)
 
-  one_more : (k : ℕ) → k < run.n → IsFreedAt k → IsFreedAt (suc k)
-  unfolding cut_pages counted_units
-  one_more k low so_far =
-      let made = step k low so_far in
+  freed_at : (k : ℕ) → k ≤ run.n → IsFreedAt k
+  unfolding cut_pages counted_run counted_units
+  freed_at zero low = record { fits = omega arith; booked = let all : u ≡ u - 0 = omega arith in subst (λ m. IsBooked v counts m n) all kept }
+  freed_at (suc k) low =
+      let so_far = freed_at k (omega (arith, low)) in
+      let made = step k (omega (arith, low)) so_far in
       let before = so_far.fits in
       let fits = made.fits in
       let same : u - freed k - freed_next k ≡ u - (freed k + freed_next k) = omega arith in record {
         fits = omega (arith, before, fits);
         booked = subst (λ m. IsBooked (cut_page (left k) s (run.page + k)) (counts_left (suc k)) m n) same made.books;
       }
-
-  freed_at : (k : ℕ) → k ≤ run.n → IsFreedAt k
-  unfolding cut_pages counted_run counted_units
-  freed_at zero low = record { fits = omega arith; booked = let all : u ≡ u - 0 = omega arith in subst (λ m. IsBooked v counts m n) all kept }
-  freed_at (suc k) low = one_more k (omega (arith, low)) (freed_at k (omega (arith, low)))
 
   -- what is asked before the next frame is let go
   pub before_at : (k : ℕ) → k < run.n → (frame_of k < length (counts_left k)) × ((frame_of k ≡ v.zero_frame) ⊎ (0 < sharers_of (counts_left k) (frame_of k)))
