@@ -1,23 +1,7 @@
-use Rattle.std.proofs.Common.{◌≡◌, ℕ, ◌+◌, ◌≤◌, ◌<◌, ◌⊎◌, Bool, true, false, List, length, Some, is_some, refl, nat_cmp, sym, ap, subst, subst₂, ◌∙◌, inl, inr}
-use Rattle.std.proofs.lemmas.Option.{none-some, same_Some}
-use Rattle.std.specs.FinMap.{empty, get, get-empty, insert, remove}
-use Rattle.number_maps.specs.Keys.{by_key, get_other, get_same, removed_other, removed_same}
-use Rattle.number_maps.specs.Values.{remove_absent}
-use Rattle.number_maps.specs.Views.{viewed, viewed_empty}
-use Rattle.sizes.specs.declared.TheConstants.{MOST_FRAMES}
-use Rattle.page_table.specs.Table.{Pages}
-use Rattle.page_table.specs.declared.entry.PageEntry.{PageEntry}
-use Rattle.ledger.specs.Ledger.{Ledger, all_holdings, with_page, without_page}
-use Rattle.ledger.specs.PlaceLaws.{by_place}
-use Rattle.ledger.specs.Units.{own_lines, units}
-use Rattle.ledger.specs.TallyLaws.{empty_holdings, same_lines, same_sharers, same_units}
-use Rattle.space_maps.specs.Options.{none_by}
-use Rattle.space_maps.specs.Books.{books_awaiting, books_cut, books_cut_page, books_kept, books_marked, books_put, books_put_page, books_put_shared, books_spaces}
-use Rattle.space_maps.specs.Laws.{beside_space, in_space, page_awaited, page_cut_beside, page_cut_here, page_marked, page_of, page_put_beside, page_put_here, page_shared_beside, page_shared_here, space_absent, space_beside, space_left, space_put}
-use Rattle.space_maps.specs.Spaces.{bare_space, cut_page, cut_space, holds_space, of_pages, page_in, put_awaiting, put_mark, put_page, put_shared, put_space, space_in}
-use Rattle.space_ledger.specs.View.{LedgerView, PageView, SpaceView, holding_of, ledger_of}
+use Rattle.space_ledger.proofs.Common.{◌≡◌, ℕ, ◌+◌, ◌<◌, ◌⊎◌, Bool, true, false, List, Some, is_some, refl, nat_cmp, sym, ap, subst, ◌∙◌, inl, inr, none-some, same_Some, FinMap, empty, get, get-empty, insert, remove}
+use Rattle.space_ledger.proofs.Pages.{by_key, get_other, get_same, removed_other, removed_same, Pages, PageEntry}
+use Rattle.space_ledger.proofs.Views.{Ledger, all_holdings, with_page, without_page, by_place, same_lines, same_sharers, same_units, books_added, books_awaiting, books_cut_page, books_lost, books_marked, books_put_page, books_put_shared, page_added, page_awaited, page_cut_beside, page_cut_here, page_lost, page_marked, page_of, page_put_beside, page_put_here, page_shared_beside, page_shared_here, space_absent, space_beside, space_left, space_put, bare_space, cut_page, cut_space, holds_space, of_pages, page_in, put_awaiting, put_mark, put_page, put_shared, put_space, space_in, LedgerView, PageView, SpaceView, holding_of, ledger_of, AreBooks, IsApart, IsBooked, NamesOnce}
 use Rattle.space_ledger.proofs.Booking.{by_two}
-use Rattle.space_ledger.specs.Calls.{AreSharersCounted, IsApart, IsBooked, NamesOnce}
 
 -- How what is kept beside the tables is kept.
 
@@ -125,64 +109,53 @@ apart_all v s x apart here q = by_key q s
     (λ same. subst (IsApart v.zero_frame) (sym (space_put v s x q same)) here)
     (λ d. subst (IsApart v.zero_frame) (sym (space_beside v s x q d)) (apart q))
 
--- The books of another view, by its ledger.
+-- The books of a view with other spaces, by its ledger.
 
-pub booked_by : (v w : LedgerView) (l : Ledger) (counts new : List ℕ) (u n u' n' : ℕ) → IsBooked v counts u n → w.frames ≡ v.frames → w.zero_frame ≡ v.zero_frame → ledger_of w ≡ l
-    → ((s p : ℕ) (x : PageView) → page_in w s p ≡ Some x → x.entry.frame < v.frames) → ((s : ℕ) → IsApart v.zero_frame (space_in w s))
-    → length new ≡ v.frames → AreSharersCounted l v.zero_frame v.frames new → u' ≡ units l → n' ≡ own_lines l → IsBooked w new u' n'
-booked_by v w l counts new u n u' n' kept frames zero_same is inside apart room counted units_is lines_is = record {
-  some = subst (λ k. 0 < k) (sym frames) kept.some;
-  frames = subst (λ k. k ≤ MOST_FRAMES) (sym frames) kept.frames;
-  zero_in = subst₂ (λ a b. a < b) (sym zero_same) (sym frames) kept.zero_in;
-  room = room ∙ sym frames;
-  inside = λ s p x at. subst (λ k. x.entry.frame < k) (sym frames) (inside s p x at);
-  apart = λ s. subst (λ k. IsApart k (space_in w s)) (sym zero_same) (apart s);
-  counted = subst (λ m. AreSharersCounted m w.zero_frame w.frames new) (sym is) (subst₂ (λ a b. AreSharersCounted l a b new) (sym zero_same) (sym frames) counted);
-  units_is = units_is ∙ ap units (sym is);
-  lines_is = lines_is ∙ ap own_lines (sym is);
+abbrev with_spaces : LedgerView → FinMap nat_cmp SpaceView → LedgerView
+with_spaces v m = record { spaces = m; frames = v.frames; zero_frame = v.zero_frame }
+
+booked_by : {v : LedgerView} {counts : List ℕ} {u n : ℕ} → IsBooked v counts u n → (m : FinMap nat_cmp SpaceView) (l : Ledger) → ledger_of (with_spaces v m) ≡ l
+    → ((s p : ℕ) (x : PageView) → page_in (with_spaces v m) s p ≡ Some x → x.entry.frame < v.frames) → ((s : ℕ) → IsApart v.zero_frame (space_in (with_spaces v m) s))
+    → {new : List ℕ} {u' n' : ℕ} → AreBooks l v.zero_frame v.frames new u' n' → IsBooked (with_spaces v m) new u' n'
+booked_by {v = v} kept m l is inside apart {new = new} {u' = u'} {n' = n'} books = record {
+  some = kept.some;
+  frames = kept.frames;
+  zero_in = kept.zero_in;
+  inside = inside;
+  apart = apart;
+  books = subst (λ k. AreBooks k v.zero_frame v.frames new u' n') (sym is) books;
 }
 
 -- with the same pages
-same_counts : (a b : Ledger) (z frames : ℕ) (counts : List ℕ) → all_holdings b ≡ all_holdings a → AreSharersCounted a z frames counts → AreSharersCounted b z frames counts
-same_counts a b z frames counts same counted f low isnt = counted f low isnt ∙ sym (same_sharers b a (f + 1) same)
-
-pub booked_as : (v w : LedgerView) (counts : List ℕ) (u n : ℕ) → IsBooked v counts u n → w.frames ≡ v.frames → w.zero_frame ≡ v.zero_frame
-    → ((s p : ℕ) (x : PageView) → page_in w s p ≡ Some x → x.entry.frame < v.frames) → ((s : ℕ) → IsApart v.zero_frame (space_in w s))
-    → all_holdings (ledger_of w) ≡ all_holdings (ledger_of v) → IsBooked w counts u n
-booked_as v w counts u n kept frames zero_same inside apart same =
-    booked_by v w (ledger_of w) counts counts u n u n kept frames zero_same refl inside apart kept.room (same_counts (ledger_of v) (ledger_of w) v.zero_frame v.frames counts same kept.counted)
-    (kept.units_is ∙ sym (same_units (ledger_of w) (ledger_of v) same)) (kept.lines_is ∙ sym (same_lines (ledger_of w) (ledger_of v) same))
+booked_as : {v : LedgerView} {counts : List ℕ} {u n : ℕ} → IsBooked v counts u n → (m : FinMap nat_cmp SpaceView)
+    → ((s p : ℕ) (x : PageView) → page_in (with_spaces v m) s p ≡ Some x → x.entry.frame < v.frames) → ((s : ℕ) → IsApart v.zero_frame (space_in (with_spaces v m) s))
+    → all_holdings (ledger_of (with_spaces v m)) ≡ all_holdings (ledger_of v) → IsBooked (with_spaces v m) counts u n
+booked_as {v = v} kept m inside apart same = booked_by kept m (ledger_of (with_spaces v m)) refl inside apart (record {
+  room = kept.books.room;
+  counted = λ f low isnt. kept.books.counted f low isnt ∙ sym (same_sharers (ledger_of (with_spaces v m)) (ledger_of v) (f + 1) same);
+  units_is = kept.books.units_is ∙ sym (same_units (ledger_of (with_spaces v m)) (ledger_of v) same);
+  lines_is = kept.books.lines_is ∙ sym (same_lines (ledger_of (with_spaces v m)) (ledger_of v) same);
+})
 
 -- a space made, and one taken away
 pub booked_space : (v : LedgerView) (counts : List ℕ) (u n s : ℕ) → IsBooked v counts u n → holds_space v s ≡ false → IsBooked (put_space v s bare_space) counts u n
 unfolding put_space
-booked_space v counts u n s kept absent = booked_as v (put_space v s bare_space) counts u n kept refl refl
-    (λ q p x at. by_key q s
-    (λ same. let no = ap is_some (sym at ∙ in_space v s bare_space q p same ∙ get-empty nat_cmp p) in cc)
-    (λ d. kept.inside q p x (sym (beside_space v s bare_space q p d) ∙ at)))
-    (apart_all v s bare_space kept.apart (nothing_apart v.zero_frame))
-    (ap all_holdings (books_put holding_of v s bare_space) ∙ empty_holdings (ledger_of v) s _ (viewed_empty _)
-    ∙ ap all_holdings (remove_absent (ledger_of v) s (none_by (get (ledger_of v) s) (books_spaces holding_of v s ∙ absent))))
+booked_space v counts u n s kept absent = booked_as kept (put_space v s bare_space).spaces
+    (λ q p x at. kept.inside q p x (sym (page_added v s absent q p) ∙ at))
+    (apart_all v s bare_space kept.apart (nothing_apart v.zero_frame)) (books_added holding_of v s absent)
 
 pub booked_lost : (v : LedgerView) (counts : List ℕ) (u n s : ℕ) → IsBooked v counts u n → holds_space v s ≡ true → (space_in v s).pages ≡ empty → IsBooked (cut_space v s) counts u n
 unfolding cut_space
-booked_lost v counts u n s kept there none = booked_as v (cut_space v s) counts u n kept refl refl
-    (λ q p x at. by_key q s
-    (λ same. let no = ap is_some (sym at ∙ page_of (cut_space v s) q p ∙ ap (λ (y : SpaceView). get y.pages p) (lost q same) ∙ get-empty nat_cmp p) in cc)
-    (λ d. kept.inside q p x (page_of v q p ∙ ap (λ (y : SpaceView). get y.pages p) (sym (space_left v s q d)) ∙ sym (page_of (cut_space v s) q p) ∙ at)))
+booked_lost v counts u n s kept there none = booked_as kept (cut_space v s).spaces
+    (λ q p x at. kept.inside q p x (sym (page_lost v s none q p) ∙ at))
     (λ q. by_key q s
-    (λ same. subst (IsApart v.zero_frame) (sym (lost q same)) (nothing_apart v.zero_frame))
+    (λ same. subst (IsApart v.zero_frame) (sym (space_absent (cut_space v s) q (removed_same v.spaces s q same))) (nothing_apart v.zero_frame))
     (λ d. subst (IsApart v.zero_frame) (sym (space_left v s q d)) (kept.apart q)))
-    (ap all_holdings (books_cut holding_of v s)
-    ∙ sym (ap all_holdings (sym (books_kept holding_of v s there))
-    ∙ empty_holdings (ledger_of v) s _ (ap (viewed (λ page y. holding_of v.zero_frame y)) none ∙ viewed_empty _)))
-  where
-    lost : (q : ℕ) → q ≡ s → space_in (cut_space v s) q ≡ bare_space
-    lost q same = space_absent (cut_space v s) q (removed_same v.spaces s q same)
+    (books_lost holding_of v s there none)
 
 pub booked_mark : (v : LedgerView) (counts : List ℕ) (u n s : ℕ) (on : Bool) → IsBooked v counts u n → holds_space v s ≡ true → IsBooked (put_mark v s on) counts u n
 unfolding put_mark put_space
-booked_mark v counts u n s on kept there = booked_as v (put_mark v s on) counts u n kept refl refl
+booked_mark v counts u n s on kept there = booked_as kept (put_mark v s on).spaces
     (λ q p x at. kept.inside q p x (sym (page_marked v s on q p) ∙ at))
     (apart_all v s _ kept.apart (let h = kept.apart s in record { pages = h.pages; waits = h.waits; both = h.both }))
     (ap all_holdings (books_marked holding_of v s on there))
@@ -190,7 +163,7 @@ booked_mark v counts u n s on kept there = booked_as v (put_mark v s on) counts 
 pub booked_adopted : (v : LedgerView) (counts : List ℕ) (u n s : ℕ) (table : Pages) → IsBooked v counts u n → holds_space v s ≡ true → (space_in v s).pages ≡ empty → NamesOnce v.zero_frame table
     → IsBooked (put_awaiting v s table) counts u n
 unfolding put_awaiting put_space
-booked_adopted v counts u n s table kept there none once = booked_as v (put_awaiting v s table) counts u n kept refl refl
+booked_adopted v counts u n s table kept there none once = booked_as kept (put_awaiting v s table).spaces
     (λ q p x at. kept.inside q p x (sym (page_awaited v s table q p) ∙ at))
     (apart_all v s _ kept.apart (apart_adopted v.zero_frame (space_in v s) table none once))
     (ap all_holdings (books_awaiting holding_of v s table there))
@@ -200,37 +173,29 @@ booked_adopted v counts u n s table kept there none once = booked_as v (put_awai
 pub in_pages : (v : LedgerView) (s p : ℕ) (x : PageView) → page_in v s p ≡ Some x → get (space_in v s).pages p ≡ Some x
 in_pages v s p x there = sym (page_of v s p) ∙ there
 
-module _ (v : LedgerView) (counts : List ℕ) (u n : ℕ) (kept : IsBooked v counts u n) (s p : ℕ) where
-  pub booked_put : (y : PageView) (new : List ℕ) (u' n' : ℕ) → y.entry.frame < v.frames → FitsIn v.zero_frame (space_in v s) p y → length new ≡ v.frames
-      → AreSharersCounted (with_page (ledger_of v) s p (holding_of v.zero_frame y)) v.zero_frame v.frames new
-      → u' ≡ units (with_page (ledger_of v) s p (holding_of v.zero_frame y)) → n' ≡ own_lines (with_page (ledger_of v) s p (holding_of v.zero_frame y))
-      → IsBooked (put_page v s p y) new u' n'
+module _ {v : LedgerView} {counts : List ℕ} {u n : ℕ} (kept : IsBooked v counts u n) (s p : ℕ) {new : List ℕ} {u' n' : ℕ} where
+  pub booked_put : (y : PageView) → y.entry.frame < v.frames → FitsIn v.zero_frame (space_in v s) p y
+      → AreBooks (with_page (ledger_of v) s p (holding_of v.zero_frame y)) v.zero_frame v.frames new u' n' → IsBooked (put_page v s p y) new u' n'
   unfolding put_page put_space
-  booked_put y new u' n' low fits room counted units_is lines_is =
-      booked_by v (put_page v s p y) (with_page (ledger_of v) s p (holding_of v.zero_frame y)) counts new u n u' n' kept refl refl (books_put_page holding_of v s p y)
+  booked_put y low fits = booked_by kept (put_page v s p y).spaces (with_page (ledger_of v) s p (holding_of v.zero_frame y)) (books_put_page holding_of v s p y)
       (λ q r x at. by_place s p q r
       (λ ss pp. subst (λ k. k < v.frames) (ap (λ (w : PageView). w.entry.frame) (same_Some y x (sym (page_put_here v s p y q r ss pp) ∙ at))) low)
       (λ d. kept.inside q r x (sym (page_put_beside v s p y q r d) ∙ at)))
-      (apart_all v s _ kept.apart (apart_put v.zero_frame (space_in v s) p y (kept.apart s) fits)) room counted units_is lines_is
+      (apart_all v s _ kept.apart (apart_put v.zero_frame (space_in v s) p y (kept.apart s) fits))
 
-  pub booked_gone : (new : List ℕ) (u' : ℕ) → length new ≡ v.frames → AreSharersCounted (without_page (ledger_of v) s p) v.zero_frame v.frames new
-      → u' ≡ units (without_page (ledger_of v) s p) → n ≡ own_lines (without_page (ledger_of v) s p) → IsBooked (cut_page v s p) new u' n
+  pub booked_gone : AreBooks (without_page (ledger_of v) s p) v.zero_frame v.frames new u' n' → IsBooked (cut_page v s p) new u' n'
   unfolding cut_page put_space
-  booked_gone new u' room counted units_is lines_is =
-      booked_by v (cut_page v s p) (without_page (ledger_of v) s p) counts new u n u' n kept refl refl (books_cut_page holding_of v s p)
+  booked_gone = booked_by kept (cut_page v s p).spaces (without_page (ledger_of v) s p) (books_cut_page holding_of v s p)
       (λ q r x at. by_place s p q r
       (λ ss pp. absurd (none-some x (sym (page_cut_here v s p q r ss pp) ∙ at)))
       (λ d. kept.inside q r x (sym (page_cut_beside v s p q r d) ∙ at)))
-      (apart_all v s _ kept.apart (apart_gone v.zero_frame (space_in v s) p (kept.apart s))) room counted units_is lines_is
+      (apart_all v s _ kept.apart (apart_gone v.zero_frame (space_in v s) p (kept.apart s)))
 
-  pub booked_shared : (y : PageView) (e : PageEntry) (new : List ℕ) (u' n' : ℕ) → y.entry.frame < v.frames → get (space_in v s).awaiting p ≡ Some e → y.entry.frame ≡ e.frame → length new ≡ v.frames
-      → AreSharersCounted (with_page (ledger_of v) s p (holding_of v.zero_frame y)) v.zero_frame v.frames new
-      → u' ≡ units (with_page (ledger_of v) s p (holding_of v.zero_frame y)) → n' ≡ own_lines (with_page (ledger_of v) s p (holding_of v.zero_frame y))
-      → IsBooked (put_shared v s p y) new u' n'
+  pub booked_shared : (y : PageView) (e : PageEntry) → y.entry.frame < v.frames → get (space_in v s).awaiting p ≡ Some e → y.entry.frame ≡ e.frame
+      → AreBooks (with_page (ledger_of v) s p (holding_of v.zero_frame y)) v.zero_frame v.frames new u' n' → IsBooked (put_shared v s p y) new u' n'
   unfolding put_shared put_space
-  booked_shared y e new u' n' low waiting same room counted units_is lines_is =
-      booked_by v (put_shared v s p y) (with_page (ledger_of v) s p (holding_of v.zero_frame y)) counts new u n u' n' kept refl refl (books_put_shared holding_of v s p y)
+  booked_shared y e low waiting same = booked_by kept (put_shared v s p y).spaces (with_page (ledger_of v) s p (holding_of v.zero_frame y)) (books_put_shared holding_of v s p y)
       (λ q r x at. by_place s p q r
       (λ ss pp. subst (λ k. k < v.frames) (ap (λ (w : PageView). w.entry.frame) (same_Some y x (sym (page_shared_here v s p y q r ss pp) ∙ at))) low)
       (λ d. kept.inside q r x (sym (page_shared_beside v s p y q r d) ∙ at)))
-      (apart_all v s _ kept.apart (apart_shared v.zero_frame (space_in v s) p y e (kept.apart s) waiting same)) room counted units_is lines_is
+      (apart_all v s _ kept.apart (apart_shared v.zero_frame (space_in v s) p y e (kept.apart s) waiting same))

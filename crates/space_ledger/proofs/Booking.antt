@@ -1,17 +1,6 @@
-use Rattle.std.proofs.Common.{◌≡◌, ℕ, zero, suc, ◌+◌, ◌-◌, ◌==◌, ◌<◌, ◌⊎◌, Bool, true, false, cond, not, ◌&&◌, ◌||◌, nat_eq, nat_lt, List, length, Some, refl, sym, ap, subst, ◌∙◌, arith, inl, inr}
-use Rattle.std.proofs.lemmas.Bool.Decides.{nat_tests}
-use Rattle.sizes.specs.declared.TheConstants.{FRAME_UNITS}
-use Rattle.frame_pool.specs.Counts.{held, released, sharers_of}
-use Rattle.frame_pool.specs.Laws.{held_here, held_other, released_here, released_other}
-use Rattle.ledger.specs.Ledger.{Holding, Ledger, has_origin, holding_at, is_alone, is_unused, with_page, without_page}
-use Rattle.ledger.specs.Units.{sharers}
-use Rattle.ledger.specs.UnitLaws.{frame_for}
-use Rattle.ledger.specs.AloneLaws.{are, arent}
-use Rattle.ledger.specs.TallyLaws.{alone_by_count, had_by_count, sharers_at, sharers_put}
-use Rattle.space_ledger.specs.View.{origin_of}
-use Rattle.space_ledger.specs.ViewLaws.{unused_is}
-use Rattle.space_ledger.specs.Frames.{frame_units, held_by, released_by}
-use Rattle.space_ledger.specs.Calls.{AreSharersCounted}
+use Rattle.space_ledger.proofs.Common.{◌≡◌, ℕ, zero, suc, ◌+◌, ◌-◌, ◌==◌, ◌≤◌, ◌<◌, ◌⊎◌, Bool, true, false, cond, not, ◌&&◌, ◌||◌, nat_eq, nat_lt, List, length, Some, refl, sym, ap, subst, ◌∙◌, arith, inl, inr, nat_tests, length-set, FRAME_UNITS}
+use Rattle.space_ledger.proofs.Pages.{held, released, sharers_of, held_here, held_other, released_here, released_other}
+use Rattle.space_ledger.proofs.Views.{Holding, Ledger, has_origin, holding_at, is_alone, is_unused, with_page, without_page, class, sharers, units, alone_is, frame_for, lines_at, lines_put, units_at, units_own, units_put, are, arent, alone_by_count, had_by_count, sharers_at, sharers_put, origin_of, unused_is, frame_units, held_by, released_by, AreBooks, AreSharersCounted}
 
 -- The counts of frames, page by page.
 
@@ -63,6 +52,36 @@ held_beside z counts g f differ = by_two g z (λ same. ap (λ c. sharers_of c f)
 pub released_beside : (z : ℕ) (counts : List ℕ) (g f : ℕ) → (f ≡ g → ⊥) → sharers_of (released_by z counts g) f ≡ sharers_of counts f
 released_beside z counts g f differ =
     by_two g z (λ same. ap (λ c. sharers_of c f) (released_zero z counts g same)) (λ other. ap (λ c. sharers_of c f) (released_less z counts g other) ∙ released_other counts g f differ)
+
+-- as many counts
+pub length_held : (z : ℕ) (counts : List ℕ) (f : ℕ) → length (held_by z counts f) ≡ length counts
+unfolding held_by
+length_held z counts f = at (f == z)
+  where
+    at : (b : Bool) → length (cond b counts (held counts f)) ≡ length counts
+    at true = refl
+    at false = length-set counts f _
+
+pub length_released : (z : ℕ) (counts : List ℕ) (f : ℕ) → length (released_by z counts f) ≡ length counts
+unfolding released_by
+length_released z counts f = at (f == z)
+  where
+    at : (b : Bool) → length (cond b counts (released counts f)) ≡ length counts
+    at true = refl
+    at false = length-set counts f _
+
+-- the units of a frame
+pub no_units : (z f : ℕ) (counts : List ℕ) → f ≡ z → frame_units z counts f ≡ 0
+unfolding frame_units
+no_units z f counts same = ap (λ (b : Bool). cond (b || not (sharers_of counts f == 0)) 0 FRAME_UNITS) (are f z same)
+
+pub few_units : (z f : ℕ) (counts : List ℕ) → frame_units z counts f ≤ 16
+unfolding frame_units
+few_units z f counts = by (nat_eq f z || not (sharers_of counts f == 0))
+  where
+    by : (b : Bool) → cond b 0 FRAME_UNITS ≤ 16
+    by true = omega arith
+    by false = omega arith
 
 -- whether a page with a frame's origin has another frame's
 same_origin : (z g f : ℕ) (h : Holding) → h.origin ≡ origin_of z g → (f ≡ z → ⊥) → (b : Bool) → nat_eq g f ≡ b → (h.origin == f + 1) ≡ b
@@ -146,3 +165,58 @@ alone_frame l z frames s p g h counts counted there origin low =
     at false e =
         let not_zero : ((g + 1) == 0) ≡ false = grind (arith, nat_tests) in
         ap (λ n. n == 1) (counted g low (eq_false g z e)) ∙ ap (λ (b : Bool). not b && nat_eq (sharers l (g + 1)) 1) (sym not_zero)
+
+-- A page of a frame goes, and one comes: what is kept of the ledger then.
+
+-- the counts without it, and the units that it frees
+abbrev pub less_of : ℕ → List ℕ → ℕ → List ℕ
+less_of z counts g = released_by z counts g
+
+abbrev pub freed_of : ℕ → List ℕ → ℕ → ℕ
+freed_of z counts g = frame_units z (released_by z counts g) g
+
+pub record HasGone (l : Ledger) (z frames s p g : ℕ) (h : Holding) (counts : List ℕ) (u n : ℕ) : Type 0 where
+  pub books : AreBooks (without_page l s p) z frames (less_of z counts g) (u - (freed_of z counts g + class (length h.own))) (n - length h.own)
+  pub fits : freed_of z counts g + class (length h.own) ≤ u
+  pub lines_fit : length h.own ≤ n
+  pub freed : freed_of z counts g ≡ frame_for (is_unused (without_page l s p) (origin_of z g))
+
+module _ (l : Ledger) (z frames s p g : ℕ) (h : Holding) (origin : h.origin ≡ origin_of z g) (low : g < frames) where
+  pub page_gone : (counts : List ℕ) (u n : ℕ) → AreBooks l z frames counts u n → holding_at l s p ≡ Some h → HasGone l z frames s p g h counts u n
+  page_gone counts u n books there =
+      let less = counts_released l z frames s p g h counts books.counted books.room there origin low in
+      let freed = units_by_count (without_page l s p) z frames g (released_by z counts g) less low in
+      let was = books.units_is ∙ units_at l s p h there
+      ∙ ap (λ b. units (without_page l s p) + (frame_for b + class (length h.own))) (alone_is l s p h there ∙ ap (is_unused (without_page l s p)) origin) in
+      let lines = books.lines_is ∙ lines_at l s p h there in record {
+        books = record { room = length_released z counts g ∙ books.room; counted = less; units_is = omega (arith, was, freed); lines_is = omega (arith, lines) };
+        fits = omega (arith, was, freed);
+        lines_fit = omega (arith, lines);
+        freed = freed;
+      }
+
+  pub page_come : (counts : List ℕ) (u n : ℕ) → AreBooks (without_page l s p) z frames counts u n
+      → AreBooks (with_page l s p h) z frames (held_by z counts g) (u + (frame_units z counts g + class (length h.own))) (n + length h.own)
+  page_come counts u n books =
+      let added = units_by_count (without_page l s p) z frames g counts books.counted low in
+      let put = units_put l s p h ∙ ap (λ o. units (without_page l s p) + (frame_for (is_unused (without_page l s p) o) + class (length h.own))) origin in
+      let was = books.units_is in record {
+        room = length_held z counts g ∙ books.room;
+        counted = counts_held l z frames s p g h counts books.counted books.room origin low;
+        units_is = omega (arith, added, put, was);
+        lines_is = ap (λ k. k + length h.own) books.lines_is ∙ sym (lines_put l s p h);
+      }
+
+  -- one of the same frame in its place
+  pub page_over : (counts : List ℕ) (u n : ℕ) (k : Holding) → AreBooks l z frames counts u n → holding_at l s p ≡ Some k → k.origin ≡ h.origin
+      → AreBooks (with_page l s p h) z frames counts (u - class (length k.own) + class (length h.own)) (n - length k.own + length h.own)
+  page_over counts u n k books there same = record {
+    room = books.room;
+    counted = λ f f_low isnt. books.counted f f_low isnt ∙ sharers_at l s p k (f + 1) there
+        ∙ ap (λ o. sharers (without_page l s p) (f + 1) + cond (o == f + 1) 1 0) same ∙ sym (sharers_put l s p h (f + 1));
+    units_is = let own = units_own l s p k h there (sym same) in let was = books.units_is ∙ units_at l s p k there in let is = books.units_is in omega (arith, own, was, is);
+    lines_is = let put = lines_put l s p h in let was = books.lines_is ∙ lines_at l s p k there in omega (arith, put, was);
+  }
+
+pub same_books : {l : Ledger} {z frames : ℕ} {counts : List ℕ} {u n u' n' : ℕ} → AreBooks l z frames counts u n → u' ≡ u → n' ≡ n → AreBooks l z frames counts u' n'
+same_books books units lines = record { room = books.room; counted = books.counted; units_is = units ∙ books.units_is; lines_is = lines ∙ books.lines_is }

@@ -1,10 +1,12 @@
+pub mod Common
+pub mod Pages
+pub mod Views
 pub mod Parts
 pub mod RunParts
 pub mod Seen
-pub mod Keeping
-pub mod Mapping
-pub mod Overlaying
-pub mod Overlaid
+pub mod Answered
+pub mod Counting
+pub mod Changing
 pub mod RunViews
 pub mod TableOps
 pub mod Booking
@@ -14,7 +16,7 @@ pub mod RunCounts
 pub mod Rises
 pub mod LedgerCalls
 pub mod Removing
-pub mod RunReleases
 pub mod RunRemoved
 pub mod RunBooks
 pub mod Sharing
+pub mod Laws

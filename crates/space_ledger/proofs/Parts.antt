@@ -1,11 +1,6 @@
-use Rattle.std.proofs.Common.{◌≡◌, ℕ, zero, suc, ◌+◌, ◌-◌, ◌^◌, ◌≤◌, ◌<◌, Bool, true, false, cond, nat_le, nat_lt, Option, Some, None, is_some, IsSome, refl, nat_cmp, sym, ap, subst, ◌∙◌, arith}
-use Rattle.std.proofs.lemmas.Bool.Decides.{nat_tests}
-use Rattle.std.specs.Cmp.{nat_cmp_total}
-use Rattle.std.specs.FinMap.{empty, empty_of_len, get, get-empty, get-retain_keys, insert, len, len-empty, len-insert, len-remove, nat_cmp-IsAntisymmetric, remove}
-use Rattle.number_maps.specs.Keys.{alike, by_key, get_other, get_same, removed_other, removed_same}
-use Rattle.page_table.specs.Table.{Pages, AreThere, IsFree, IsMapped, IsNext, is_within}
-use Rattle.page_table.specs.declared.entry.PageEntry.{PageEntry}
-use Rattle.space_ledger.specs.Space.{SpaceTable, HasMapped, IsCounted, IsLeast, IsLeastFrom, OverlaidSpace, adopted, awaited, pages_below, pages_from, with_entry, without_page}
+use Rattle.space_ledger.proofs.Common.{◌≡◌, ℕ, zero, suc, ◌+◌, ◌-◌, ◌^◌, ◌≤◌, ◌<◌, Bool, true, false, cond, nat_le, nat_lt, Option, Some, None, is_some, IsSome, refl, nat_cmp, sym, ap, subst, ◌∙◌, arith, nat_tests, nat_cmp_total, empty, empty_of_len, get, get-empty, get-retain_keys, insert, len, len-empty, len-insert, len-remove, nat_cmp-IsAntisymmetric, remove}
+use Rattle.space_ledger.proofs.Pages.{alike, by_key, get_other, get_same, removed_other, removed_same, Pages, IsFree, IsMapped, IsNext, is_within, PageEntry, Chunks, IsNextMember, holds, OverlaidAreThere, Table}
+use Rattle.space_ledger.proofs.Views.{not_true, AreNotOverlaid, IsLeastOverlaid, SpaceTable, HasMapped, IsCounted, IsLeast, IsLeastFrom, OverlaidSpace, adopted, awaited, pages_below, pages_from, with_entry}
 
 -- the pages that a space is seen to have
 pub table_is : {a b : OverlaidSpace} → a ≡ b → a.table ≡ b.table
@@ -64,20 +59,6 @@ from_put t end page x low = alike _ _ (λ q. by_key q page
     (λ same. waits_not (insert t page x) end q (subst (λ n. n < end) (sym same) low) ∙ sym (waits_not t end q (subst (λ n. n < end) (sym same) low)))
     (λ other. from_at (insert t page x) end q ∙ ap (λ (o : Option PageEntry). cond (nat_le end q) o None) (get_other t page q x other) ∙ sym (from_at t end q)))
 
-pub below_gone : (t : Pages) (end page : ℕ) → pages_below (remove t page) end ≡ remove (pages_below t end) page
-below_gone t end page = alike _ _ (λ q. below_at (remove t page) end q ∙ by_key q page
-    (λ same. ap (λ (o : Option PageEntry). cond (nat_lt q end) o None) (removed_same t page q same) ∙ either (nat_lt q end) ∙ sym (removed_same (pages_below t end) page q same))
-    (λ other. ap (λ (o : Option PageEntry). cond (nat_lt q end) o None) (removed_other t page q other) ∙ sym (below_at t end q) ∙ sym (removed_other (pages_below t end) page q other)))
-  where
-    either : (b : Bool) → ◌≡◌ {A = Option PageEntry} (cond b None None) None
-    either true = refl
-    either false = refl
-
-pub from_gone : (t : Pages) (end page : ℕ) → page < end → pages_from (remove t page) end ≡ pages_from t end
-from_gone t end page low = alike _ _ (λ q. by_key q page
-    (λ same. waits_not (remove t page) end q (subst (λ n. n < end) (sym same) low) ∙ sym (waits_not t end q (subst (λ n. n < end) (sym same) low)))
-    (λ other. from_at (remove t page) end q ∙ ap (λ (o : Option PageEntry). cond (nat_le end q) o None) (removed_other t page q other) ∙ sym (from_at t end q)))
-
 -- where none awaits, the pages are the table
 pub all_inside : (t : Pages) (end : ℕ) → pages_from t end ≡ empty → pages_below t end ≡ t
 all_inside t end settled = alike _ _ (λ q. by_end q end
@@ -118,6 +99,26 @@ next_waits t end page found entry next high q from =
 
 pub next_none : (t : Pages) (end page : ℕ) → IsNext t page None → IsLeastFrom (pages_below t end) page None
 next_none t end page next q from = by_end q end (λ low. inside t end q low ∙ next q from) (λ out. outside t end q out)
+
+-- the next one that is overlaid
+module _ (t : Pages) (end page : ℕ) (overlaid : Chunks) (mark : Bool) where
+  abbrev space : OverlaidSpace
+  space = record { table = record { pages = pages_below t end; awaiting = pages_from t end; speculating = mark }; overlaid = overlaid }
+
+  pub overlaid_inside : (found : ℕ) → IsNextMember overlaid page (Some found) → IsSome (get t found) → found < end → IsLeastOverlaid space page (Some found)
+  overlaid_inside found next there low =
+      (next.0, ap is_some (inside t end found low) ∙ there, next.1, λ q le lt some. next.2 q le lt)
+
+  pub overlaid_waits : (found : ℕ) → IsNextMember overlaid page (Some found) → end ≤ found → IsLeastOverlaid space page None
+  overlaid_waits found next high q le some = let low = is_inside t end q some in next.2 q le (omega (arith, low, high))
+
+  pub overlaid_nowhere : IsNextMember overlaid page None → IsLeastOverlaid space page None
+  overlaid_nowhere next q le some = next q le
+
+-- pages that aren't there aren't overlaid
+pub free_bare : (table : Table) → OverlaidAreThere table → (from n : ℕ) → IsFree table.pages from n → AreNotOverlaid table.overlaid from n
+free_bare table there from n free page within =
+    not_true (holds table.overlaid page) (λ held. let no = sym (there page held) ∙ ap is_some (free page within) in cc)
 
 -- a run mapped over a table of which no page awaits
 pub free_too : (t : Pages) (end from n : ℕ) (mark : Bool) (s : SpaceTable)
@@ -259,30 +260,12 @@ count_set old new end page entry count there is kept = record {
       kept.pages ∙ sym (ap (λ (m : Pages). len (pages_below m end)) is ∙ ap len (below_put old end page entry (is_inside old end page there)) ∙ count_put (pages_below old end) page entry there);
 }
 
-pub there_one : (t : Pages) (page : ℕ) → IsSome (get t page) → AreThere t page 1
-there_one t page there q within = let same : q ≡ page = grind (arith, nat_tests) in ap (λ n. is_some (get t n)) same ∙ there
-
 pub some_count : (m : Pages) (page : ℕ) → IsSome (get m page) → 0 < len m
 some_count m page there = by_count (len m) refl
   where
     by_count : (n : ℕ) → len m ≡ n → 0 < len m
     by_count zero none = let no = sym there ∙ ap (λ (m : Pages). is_some (get m page)) (empty_of_len m none) ∙ ap is_some (none_at page) in cc
     by_count (suc n) some = omega (arith, some)
-
-pub remove_entry : (old new : Pages) (end page : ℕ) (mark : Bool) → IsSome (get (pages_below old end) page) → new ≡ remove old page
-    → ◌≡◌ {A = SpaceTable} (record { pages = pages_below new end; awaiting = pages_from new end; speculating = mark })
-    (without_page (record { pages = pages_below old end; awaiting = pages_from old end; speculating = mark }) page)
-remove_entry old new end page mark there is =
-    same_space (ap (λ (m : Pages). pages_below m end) is ∙ below_gone old end page)
-    (ap (λ (m : Pages). pages_from m end) is ∙ from_gone old end page (is_inside old end page there)) refl
-
-pub count_removed : (old new : Pages) (end page count : ℕ) → IsSome (get (pages_below old end) page) → new ≡ remove old page
-    → IsCounted old end count → IsCounted new end (count - 1)
-count_removed old new end page count there is kept = record {
-  reach = kept.reach;
-  pages =
-      ap (λ n. n - 1) kept.pages ∙ sym (ap (λ (m : Pages). len (pages_below m end)) is ∙ ap len (below_gone old end page) ∙ count_gone (pages_below old end) page there);
-}
 
 -- whether a page awaits
 pub none_wait : (t : Pages) (end : ℕ) → IsNext t end None → pages_from t end ≡ empty

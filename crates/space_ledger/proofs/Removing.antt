@@ -1,22 +1,7 @@
-use Rattle.std.proofs.Common.{◌≡◌, ℕ, zero, suc, ◌+◌, ◌-◌, ◌≤◌, ◌<◌, Bool, true, false, cond, nat_le, nat_lt, Option, Some, None, is_some, IsSome, refl, option_and_then, option_map, nat_cmp, sym, ap, subst, ◌∙◌, arith}
-use Rattle.std.proofs.lemmas.Bool.Decides.{nat_tests}
-use Rattle.std.specs.FinMap.{FinMap, empty, get, get-empty, insert, len}
-use Rattle.number_maps.specs.Keys.{alike, by_key, get_same, insert_over, removed_other, removed_same}
-use Rattle.number_maps.specs.Views.{get_viewed}
-use Rattle.page_table.specs.Run.{IsNextRun, IsRunFrom, entry_at}
-use Rattle.page_table.specs.Table.{Pages, AreThere, IsUnmapped, is_within}
-use Rattle.page_table.specs.declared.entry.PageEntry.{PageEntry}
-use Rattle.page_table.specs.declared.run.PageRun.{PageRun}
-use Rattle.space_maps.specs.Options.{map_from, none_by, map_some}
-use Rattle.space_maps.specs.Spaces.{AreMapped, cut_page, cut_pages, page_in, space_in}
-use Rattle.space_maps.specs.Laws.{after_cut, page_of}
-use Rattle.space_ledger.specs.Space.{SpaceTable, IsCounted, pages_below, pages_from, without_page, without_pages}
-use Rattle.space_ledger.specs.View.{LedgerView, PageView, overlay_at}
-use Rattle.space_ledger.specs.Calls.{AreBare, AreBareOnZero, entries_of}
-use Rattle.space_ledger.proofs.Parts.{all_inside, from_at, in_table, same_space}
-use Rattle.space_ledger.specs.Kept.{Held}
-use Rattle.space_ledger.proofs.Seen.{Shows, entry_there, there_is, with_spaces}
-use Rattle.space_ledger.proofs.TableOps.{shown_gone, shown_still}
+use Rattle.space_ledger.proofs.Common.{◌≡◌, ℕ, zero, suc, ◌+◌, ◌-◌, ◌≤◌, ◌<◌, Bool, true, false, cond, nat_le, nat_lt, Option, Some, None, is_some, IsSome, refl, option_map, sym, ap, subst, ◌∙◌, arith, nat_tests, get, len}
+use Rattle.space_ledger.proofs.Pages.{alike, by_key, removed_other, removed_same, get_viewed, IsNextRun, IsRunFrom, entry_at, Pages, AreThere, IsUnmapped, is_within, PageEntry, PageRun}
+use Rattle.space_ledger.proofs.Views.{map_from, none_by, map_some, AreMapped, page_in, space_in, page_of, SpaceTable, IsCounted, pages_below, pages_from, without_pages, LedgerView, PageView, overlay_at, AreBare, AreBareOnZero, entries_of}
+use Rattle.space_ledger.proofs.Parts.{below_at, count_gone, from_at, is_inside, same_space, some_count}
 
 -- Pages that are taken away, one after the other.
 
@@ -33,78 +18,65 @@ without_at (suc k) from x r = by_key r (from + k)
     as_before : (r ≡ from + k → ⊥) → is_within from k r ≡ is_within from (suc k) r
     as_before other = grind (arith, nat_tests)
 
-pub without_awaiting : (k from : ℕ) (x : SpaceTable) → (without_pages x from k).awaiting ≡ x.awaiting
+pub without_rest : (k from : ℕ) (x : SpaceTable) → ((without_pages x from k).awaiting ≡ x.awaiting) × ((without_pages x from k).speculating ≡ x.speculating)
 unfolding without_pages
-without_awaiting zero from x = refl
-without_awaiting (suc k) from x = without_awaiting k from x
+without_rest zero from x = (refl, refl)
+without_rest (suc k) from x = without_rest k from x
 
-pub without_mark : (k from : ℕ) (x : SpaceTable) → (without_pages x from k).speculating ≡ x.speculating
+-- how many are left
+pub without_count : (n from : ℕ) (x : SpaceTable) → AreThere x.pages from n → len (without_pages x from n).pages + n ≡ len x.pages
 unfolding without_pages
-without_mark zero from x = refl
-without_mark (suc k) from x = without_mark k from x
+without_count zero from x there = omega arith
+without_count (suc n) from x there =
+    let rest = without_count n from x (λ q within. there q (wider q within)) in
+    let here = ap is_some (without_at n from x (from + n) ∙ ap (λ b. cond b None (get x.pages (from + n))) past) ∙ there (from + n) last in
+    let less = count_gone (without_pages x from n).pages (from + n) here in
+    let some = some_count (without_pages x from n).pages (from + n) here in
+    omega (arith, rest, less, some)
+  where
+    wider : (q : ℕ) → is_within from n q ≡ true → is_within from (suc n) q ≡ true
+    wider q within = grind (arith, nat_tests)
 
--- A table of which no page awaits, without a run.
-module _ (old new : Pages) (end from n : ℕ) (settled : pages_from old end ≡ empty) (gone : IsUnmapped old from n new) where
-  none_waits : pages_from new end ≡ empty
-  none_waits = alike _ _ (λ q.
-      from_at new end q ∙ ap (λ (o : Option PageEntry). cond (nat_le end q) o None) (gone q)
-      ∙ at (nat_le end q) (is_within from n q) (get old q) (sym (from_at old end q) ∙ ap (λ (m : Pages). get m q) settled ∙ get-empty nat_cmp q) ∙ sym (get-empty nat_cmp q))
-    where
-      at : (b c : Bool) (o : Option PageEntry) → cond b o None ≡ None → cond b (cond c None o) None ≡ None
-      at true true o h = refl
-      at true false o h = h
-      at false c o h = refl
+    past : is_within from n (from + n) ≡ false
+    past = grind (arith, nat_tests)
 
+    last : is_within from (suc n) (from + n) ≡ true
+    last = grind (arith, nat_tests)
+
+-- A table without some of the pages of the space.
+module _ (old new : Pages) (end from n : ℕ) (gone : IsUnmapped old from n new) (there : AreThere (pages_below old end) from n) where
   pub unmapped_entry : (mark : Bool)
       → ◌≡◌ {A = SpaceTable} (record { pages = pages_below new end; awaiting = pages_from new end; speculating = mark })
       (without_pages (record { pages = pages_below old end; awaiting = pages_from old end; speculating = mark }) from n)
   unmapped_entry mark =
       let was : SpaceTable = record { pages = pages_below old end; awaiting = pages_from old end; speculating = mark } in
       same_space
-      (all_inside new end none_waits
-      ∙ alike _ _ (λ r. gone r ∙ ap (λ (m : Pages). cond (is_within from n r) None (get m r)) (sym (all_inside old end settled)) ∙ sym (without_at n from was r)))
-      (none_waits ∙ sym settled ∙ sym (without_awaiting n from was)) (sym (without_mark n from was))
+      (alike _ _ (λ q. below_at new end q ∙ ap (λ (o : Option PageEntry). cond (nat_lt q end) o None) (gone q) ∙ either (nat_lt q end) (is_within from n q) (get old q)
+      ∙ ap (λ (o : Option PageEntry). cond (is_within from n q) None o) (sym (below_at old end q)) ∙ sym (without_at n from was q)))
+      (alike _ _ (λ q. from_at new end q ∙ ap (λ (o : Option PageEntry). cond (nat_le end q) o None) (gone q)
+      ∙ waits_as (nat_le end q) (is_within from n q) (get old q) (λ within. let low = is_inside old end q (there q within) in grind (arith, nat_tests, low)) ∙ sym (from_at old end q))
+      ∙ sym (without_rest n from was).0) (sym (without_rest n from was).1)
+    where
+      either : (b c : Bool) (o : Option PageEntry) → cond b (cond c None o) None ≡ cond c None (cond b o None)
+      either true c o = refl
+      either false true o = refl
+      either false false o = refl
 
-  pub unmapped_counted : (count : ℕ) → len new + n ≡ len old → IsCounted old end count → IsCounted new end (count - n)
-  unmapped_counted count fewer kept =
-      let was = ap len (all_inside old end settled) in
-      let is = ap len (all_inside new end none_waits) in
-      let counted = kept.pages in record { reach = kept.reach; pages = omega (arith, fewer, was, is, counted) }
+      waits_as : (b c : Bool) (o : Option PageEntry) → (c ≡ true → b ≡ false) → cond b (cond c None o) None ≡ cond b o None
+      waits_as true true o h = let no = h refl in cc
+      waits_as true false o h = refl
+      waits_as false c o h = refl
 
--- pages of a space are pages of its table
-pub all_in_table : (t : Pages) (end from n : ℕ) → AreThere (pages_below t end) from n → AreThere t from n
-all_in_table t end from n there page within = in_table t end page (there page within)
+  pub unmapped_counted : (count : ℕ) → IsCounted old end count → IsCounted new end (count - n) × (n ≤ count)
+  unmapped_counted count kept =
+      let was : SpaceTable = record { pages = pages_below old end; awaiting = pages_from old end; speculating = true } in
+      let left = without_count n from was there in
+      let is = ap (λ (k : SpaceTable). len k.pages) (unmapped_entry true) in
+      let counted = kept.pages in (record { reach = kept.reach; pages = omega (arith, left, is, counted) }, omega (arith, left, counted))
 
--- Pages without overlays taken from a space: what is seen then.
-pub shown_pages_gone : (k from : ℕ) {t : Held} {v : LedgerView} → Shows t v → (s : ℕ) (x : SpaceTable) → Some x ≡ get t.spaces s → AreBare v s from k
-    → Shows (with_spaces t (insert t.spaces s (without_pages x from k))) (cut_pages v s from k)
-unfolding without_pages cut_pages
-shown_pages_gone zero from show s x at bare = shown_still show s x x at refl
-shown_pages_gone (suc k) from {t = t} {v = v} show s x at bare =
-    let there = there_is show s x (sym at) in
-    let before = shown_pages_gone k from show s x at (λ i less. bare i (omega (arith, less))) in
-    let last = bare k (omega arith) in
-    let same = after_cut k from v s there in
-    let mid = without_pages x from k in
-    let next = without_page mid (from + k) in
-    subst (λ (m : FinMap nat_cmp SpaceTable). Shows (with_spaces t m) (cut_page (cut_pages v s from k) s (from + k)))
-    (insert_over t.spaces s mid next)
-    (shown_gone before s mid next (sym (get_same t.spaces s s mid refl)) (from + k) refl (ap is_some same ∙ last.0)
-    (ap (option_and_then (λ (p : PageView). p.overlay)) same ∙ last.1))
-
-pub shown_removed : {t : Held} {v : LedgerView} → Shows t v → (s : ℕ) (x y : SpaceTable) → Some x ≡ get t.spaces s → (from n : ℕ) → y ≡ without_pages x from n → AreBare v s from n
-    → Shows (with_spaces t (insert t.spaces s y)) (cut_pages v s from n)
-shown_removed {t = t} {v = v} show s x y at from n is bare =
-    subst (λ (k : SpaceTable). Shows (with_spaces t (insert t.spaces s k)) (cut_pages v s from n)) (sym is) (shown_pages_gone n from show s x at bare)
-
--- what is asked of the table then
-pub bare_in_table : {t : Held} {v : LedgerView} → Shows t v → (s : ℕ) (x : SpaceTable) → Some x ≡ get t.spaces s → (from n : ℕ) → AreBare v s from n → AreThere x.pages from n
-bare_in_table {v = v} show s x at from n bare page within =
-    let low : from ≤ page = grind (arith, nat_tests) in
-    let high : page < from + n = grind (arith, nat_tests) in
-    let here : from + (page - from) ≡ page = omega (arith, low) in
-    entry_there show s x (sym at) page
-    (subst (λ q. IsSome (page_in v s q)) here (bare (page - from) (omega (arith, low, high))).0)
+-- a page without an overlay, as a range
+pub bare_one : (v : LedgerView) (s p : ℕ) → IsSome (page_in v s p) → overlay_at v s p ≡ None → AreBare v s p 1
+bare_one v s p there none i low = let here : p ≡ p + i = omega (arith, low) in subst (λ q. IsSome (page_in v s q) × (overlay_at v s q ≡ None)) here (there, none)
 
 -- a space that isn't there has no pages in a run
 pub none_next : (v : LedgerView) (s page : ℕ) → ((q : ℕ) → page_in v s q ≡ None) → IsNextRun (entries_of v s) page None

@@ -1,15 +1,7 @@
-use Rattle.std.proofs.Common.{◌≡◌, ℕ, ◌+◌, ◌-◌, ◌≤◌, Bool, true, false, cond, not, ◌&&◌, List, [], ◌∷◌, length, Some, IsSome, refl, option_and_then, sym, ap, subst, ◌∙◌, arith}
+use Rattle.space_ledger.proofs.Common.{◌≡◌, ℕ, ◌+◌, ◌-◌, ◌≤◌, Bool, true, false, cond, not, ◌&&◌, List, [], ◌∷◌, length, Some, IsSome, refl, option_and_then, sym, ap, subst, ◌∙◌, arith}
+use Rattle.space_ledger.proofs.Pages.{AreLines}
+use Rattle.space_ledger.proofs.Views.{is_alone, class, units, with_lines, page_in, joined_same, Store, ledger_after, class_rises, store_joins, store_nothing, two_rises, units_joined, books_there, LedgerView, PageView, holding_of, ledger_of, lines_of, overlay_at}
 use Rattle.overlay_bits.specs.Lines as bits
-use Rattle.overlay_bits.specs.Lines.{AreLines, Rise, has_line}
-use Rattle.ledger.specs.Ledger.{is_alone}
-use Rattle.ledger.specs.Units.{class, units}
-use Rattle.ledger.specs.Changes.{with_lines}
-use Rattle.space_maps.specs.Spaces.{page_in}
-use Rattle.space_ledger.specs.Joined.{joined_same}
-use Rattle.ledger.specs.Events.{Store, ledger_after}
-use Rattle.ledger.specs.StoreLaws.{class_rises, store_joins, store_nothing, two_rises, units_joined}
-use Rattle.space_maps.specs.Books.{books_there}
-use Rattle.space_ledger.specs.View.{LedgerView, PageView, holding_of, ledger_of, lines_of, overlay_at}
 use Rattle.space_ledger.proofs.Seen.{some_is}
 
 -- By how much a store rises.

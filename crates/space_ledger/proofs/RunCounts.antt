@@ -1,13 +1,7 @@
-use Rattle.std.proofs.Common.{◌≡◌, ℕ, zero, suc, ◌+◌, ◌*◌, ◌==◌, ◌≤◌, ◌<◌, ◌^◌, ◌||◌, Bool, true, false, cond, not, nat_eq, List, length, refl, sym, ap, subst, ◌∙◌, arith}
-use Rattle.sizes.specs.declared.TheConstants.{FRAME_UNITS, PAGE_END}
-use Rattle.frame_pool.specs.Counts.{sharers_of}
-use Rattle.ledger.specs.AloneLaws.{are}
-use Rattle.page_table.specs.Run.{entry_at}
-use Rattle.page_table.specs.declared.entry.PageEntry.{PageEntry}
-use Rattle.page_table.specs.declared.run.PageRun.{PageRun}
-use Rattle.space_ledger.specs.Frames.{counted_run, counted_units, frame_units, held_by, released_by}
-use Rattle.space_ledger.proofs.Booking.{held_zero, released_zero}
-use Rattle.space_ledger.proofs.Numbers.{length_held, length_released}
+use Rattle.space_ledger.proofs.Common.{◌⊎◌, ◌≡◌, ℕ, zero, suc, ◌+◌, ◌*◌, ◌≤◌, ◌<◌, ◌^◌, Bool, false, cond, List, length, refl, sym, ap, subst, ◌∙◌, arith, PAGE_END}
+use Rattle.space_ledger.proofs.Pages.{sharers_of, entry_at, PageEntry, PageRun}
+use Rattle.space_ledger.proofs.Views.{released_run, counted_run, counted_units, frame_units, held_by, released_by}
+use Rattle.space_ledger.proofs.Booking.{few_units, held_zero, length_held, length_released, no_units, released_zero}
 
 -- The counts of a run, page by page, whether its pages come or go.
 
@@ -24,18 +18,6 @@ pub record Counts (z : ℕ) (step : List ℕ → ℕ → List ℕ) (cost : List 
   pub free : (before after : List ℕ) (f : ℕ) → f ≡ z → cost before after f ≡ 0
   pub size : (counts : List ℕ) (f : ℕ) → length (step counts f) ≡ length counts
   pub few : (before after : List ℕ) (f : ℕ) → cost before after f ≤ 16
-
-no_units : (z f : ℕ) (counts : List ℕ) → f ≡ z → frame_units z counts f ≡ 0
-unfolding frame_units
-no_units z f counts same = ap (λ (b : Bool). cond (b || not (sharers_of counts f == 0)) 0 FRAME_UNITS) (are f z same)
-
-few_units : (z f : ℕ) (counts : List ℕ) → frame_units z counts f ≤ 16
-unfolding frame_units
-few_units z f counts = by (nat_eq f z || not (sharers_of counts f == 0))
-  where
-    by : (b : Bool) → cond b 0 FRAME_UNITS ≤ 16
-    by true = omega arith
-    by false = omega arith
 
 pub coming : (z : ℕ) → Counts z (held_by z) (units_held z)
 coming z = record { still = held_zero z; free = λ a b f. no_units z f a; size = length_held z; few = λ a b f. few_units z f a }
@@ -67,7 +49,7 @@ module _ {z : ℕ} {step : List ℕ → ℕ → List ℕ} {cost : List ℕ → L
         let here = is.free (counted_run step counts run k) (counted_run step counts run (suc k)) (entry_at run k).frame (frame_is k) in
         omega (arith, rest, here)
 
-  units_most : (counts : List ℕ) (run : PageRun) (k : ℕ) → counted_units step cost counts run k ≤ 16 * k
+  pub units_most : (counts : List ℕ) (run : PageRun) (k : ℕ) → counted_units step cost counts run k ≤ 16 * k
   unfolding counted_units
   units_most counts run zero = omega arith
   units_most counts run (suc k) =
@@ -107,3 +89,11 @@ module _ {z : ℕ} {step : List ℕ → ℕ → List ℕ} {cost : List ℕ → L
         let most = units_most old run k in
         let few = is.few now new f in
         omega (arith, so_far, most, more_is, few, low)
+
+-- the frame of the next one is one that some page names
+pub named_left : (z : ℕ) (old now : List ℕ) (units : ℕ) (run : PageRun) (k : ℕ) (entry : PageEntry) → HasCounted (released_by z) (units_released z) old now units run k
+    → entry ≡ entry_at run k → ((entry_at run k).frame ≡ z) ⊎ (0 < sharers_of (released_run z old run k) (entry_at run k).frame)
+    → (entry.frame ≡ z) ⊎ (0 < sharers_of now entry.frame)
+named_left z old now units run k entry h is named =
+    subst (λ (c : List ℕ). (entry.frame ≡ z) ⊎ (0 < sharers_of c entry.frame)) (sym h.counts)
+    (subst (λ (e : PageEntry). (e.frame ≡ z) ⊎ (0 < sharers_of (released_run z old run k) e.frame)) (sym is) named)

@@ -1,9 +1,6 @@
-use Rattle.std.proofs.Common.{◌≡◌, ℕ, zero, suc, ◌+◌, ◌≤◌, ◌<◌, Bool, Option, Some, None, is_some, IsSome, refl, sym, ap, subst, ◌∙◌, arith}
-use Rattle.std.specs.FinMap.{get}
-use Rattle.page_table.specs.Table.{Pages}
-use Rattle.page_table.specs.Run.{IsNextRun, IsRunFrom, entry_at}
-use Rattle.page_table.specs.declared.run.PageRun.{PageRun}
-use Rattle.space_ledger.specs.Space.{SpaceTable, AwaitsRun, IsCounted, IsRunBelow, IsLeast, awaited, first_of, pages_below, pages_from, run_awaited}
+use Rattle.space_ledger.proofs.Common.{◌≡◌, ℕ, zero, suc, ◌+◌, ◌≤◌, ◌<◌, Bool, Option, Some, None, is_some, IsSome, refl, sym, ap, subst, ◌∙◌, arith, get}
+use Rattle.space_ledger.proofs.Pages.{Pages, IsNextRun, IsRunFrom, entry_at, PageRun}
+use Rattle.space_ledger.proofs.Views.{SpaceTable, AwaitsRun, IsCounted, IsRunBelow, IsLeast, awaited, first_of, pages_below, pages_from, run_awaited}
 use Rattle.space_ledger.proofs.Parts.{by_end, outside, share_counted, share_entry, waits, waits_not}
 
 -- Runs in a table of two parts: the pages below one, and those from it on.

@@ -1,24 +1,12 @@
-use Rattle.std.proofs.Common.{◌≡◌, ℕ, zero, suc, ◌+◌, ◌-◌, ◌≤◌, ◌<◌, ◌⊎◌, ◌||◌, ◌&&◌, Bool, true, cond, not, nat_eq, nat_lt, List, length, Option, Some, None, refl, option_and_then, option_map, sym, ap, subst, ◌∙◌, arith}
-use Rattle.frame_pool.specs.Counts.{sharers_of}
-use Rattle.ledger.specs.Ledger.{has_origin, is_unused}
+use Rattle.space_ledger.proofs.Common.{◌≡◌, ℕ, zero, suc, ◌+◌, ◌-◌, ◌≤◌, ◌<◌, ◌⊎◌, ◌||◌, ◌&&◌, Bool, true, cond, not, nat_eq, nat_lt, List, length, Option, Some, None, refl, option_and_then, option_map, sym, ap, subst, ◌∙◌, arith}
+use Rattle.space_ledger.proofs.Pages.{sharers_of, IsRunFrom, entry_at, PageRun, Entry}
+use Rattle.space_ledger.proofs.Views.{has_origin, is_unused, after_cut, are_cut, cut_page, cut_pages, holds_space, page_in, counted_run, counted_units, frame_units, released_run, run_freed, LedgerView, PageView, ledger_of, origin_of, overlay_at, given_as, unused_is, GivesNothingUp, GivesUpAtLast, IsBareFrom, IsBareRun, IsBooked, entries_of, given_up, IsStartOf, are, arent}
 use Rattle.ledger.specs.Units.{units as units_of}
-use Rattle.page_table.specs.Run.{IsRunFrom, entry_at}
-use Rattle.page_table.specs.declared.entry.PageEntry.{PageEntry}
-use Rattle.page_table.specs.declared.run.PageRun.{PageRun}
-use Rattle.space_maps.specs.Laws.{after_cut, are_cut}
-use Rattle.space_maps.specs.Spaces.{cut_page, cut_pages, holds_space, page_in}
-use Rattle.space_ledger.specs.Frames.{counted_run, counted_units, frame_units, released_run, run_freed}
-use Rattle.space_ledger.specs.View.{LedgerView, PageView, ledger_of, origin_of, overlay_at}
-use Rattle.space_ledger.specs.ViewLaws.{given_as, unused_is}
-use Rattle.space_ledger.specs.Calls.{GivesNothingUp, GivesUpAtLast, IsBareFrom, IsBareRun, IsBooked, entries_of, given_up}
-use Rattle.space_ledger.specs.Space.{IsStartOf}
 use Rattle.space_ledger.proofs.Booked.{in_pages}
-use Rattle.ledger.specs.AloneLaws.{are, arent}
-use Rattle.space_ledger.proofs.Booking.{by_two, unused_by_count}
+use Rattle.space_ledger.proofs.Booking.{released_beside, by_two, unused_by_count}
 use Rattle.space_ledger.proofs.LedgerCalls.{Released, before_release, removed_call}
 use Rattle.space_ledger.proofs.Numbers.{entry_page}
 use Rattle.space_ledger.proofs.Removing.{entry_of}
-use Rattle.space_ledger.proofs.RunReleases.{count_stays, nothing_freed}
 
 -- What is kept beside the tables while the pages of a run go, one after the other.
 
@@ -27,7 +15,7 @@ pub unused_call : (v : LedgerView) (counts : List ℕ) (u n : ℕ) → IsBooked 
     → count ≡ sharers_of counts f → nat_eq count 0 ≡ is_unused (ledger_of v) (origin_of v.zero_frame f)
 unused_call v counts u n kept f z count low zero_is other is =
     ap (λ k. nat_eq k 0) is ∙ ap (λ (b : Bool). not b && nat_eq (sharers_of counts f) 0) (sym (arent f v.zero_frame (λ e. other (e ∙ sym zero_is))))
-    ∙ unused_by_count (ledger_of v) v.zero_frame v.frames f counts kept.counted low
+    ∙ unused_by_count (ledger_of v) v.zero_frame v.frames f counts kept.books.counted low
 
 pub zero_used : (v : LedgerView) (f z : ℕ) → z ≡ v.zero_frame → f ≡ z → not (nat_eq f z) ≡ is_unused (ledger_of v) (origin_of v.zero_frame f)
 zero_used v f z zero_is same =
@@ -41,7 +29,7 @@ given_by_count : (v : LedgerView) (counts : List ℕ) (u n : ℕ) → IsBooked v
     → given_up v (Some x) ≡ given_by v.zero_frame counts x.entry.frame
 unfolding given_by
 given_by_count v counts u n kept x low =
-    given_as v x ∙ ap (λ b. cond b (Some x.entry.frame) None) (sym (unused_by_count (ledger_of v) v.zero_frame v.frames x.entry.frame counts kept.counted low))
+    given_as v x ∙ ap (λ b. cond b (Some x.entry.frame) None) (sym (unused_by_count (ledger_of v) v.zero_frame v.frames x.entry.frame counts kept.books.counted low))
 
 given_still : (z f : ℕ) (a b : List ℕ) → ((f ≡ z → ⊥) → sharers_of a f ≡ sharers_of b f) → given_by z a f ≡ given_by z b f
 unfolding given_by
@@ -67,6 +55,31 @@ bare_of_run v s page most few run (Some part) first inside within bare start =
   where
     entry : (i : ℕ) → i < run.n → option_map (λ (x : PageView). x.entry) (page_in v s (run.page + i)) ≡ Some (entry_at run i)
     entry i low = entry_of v s (run.page + i) (entry_at run i) (first.has i low)
+
+-- what a page leaves and later ones keep is so once all went
+after : (P : ℕ → Type 0) (n i : ℕ) → i < n → P (suc i) → ((j : ℕ) → i < j → j < n → P j → P (suc j)) → P n
+after P zero i low here keeps = absurd (omega (arith, low))
+after P (suc n) i low here keeps = by_two i n
+    (λ same. subst (λ m. P (suc m)) same here)
+    (λ other. keeps n (before other) (omega arith) (after P n i (before other) here (λ j later low_j. keeps j later (omega (arith, low_j)))))
+  where
+    before : (i ≡ n → ⊥) → i < n
+    before other = grind (arith, low, other)
+
+-- where nothing is freed, no page freed anything
+pub nothing_freed : (z : ℕ) (counts : List ℕ) (run : PageRun) (n i : ℕ) → run_freed z counts run n ≡ 0 → i < n
+    → frame_units z (released_run z counts run (suc i)) (entry_at run i).frame ≡ 0
+unfolding counted_units
+nothing_freed z counts run n i none low =
+    let most = after (λ m. run_freed z counts run (suc i) ≤ run_freed z counts run m) n i low (omega arith) (λ j later low_j le. omega (arith, le)) in
+    omega (arith, most, none)
+
+-- a count that no later page of the run changes
+pub count_stays : (z : ℕ) (counts : List ℕ) (run : PageRun) (f n i : ℕ) → i < n → ((j : ℕ) → i < j → j < n → (entry_at run j).frame ≡ f → ⊥)
+    → sharers_of (released_run z counts run n) f ≡ sharers_of (released_run z counts run (suc i)) f
+unfolding counted_run
+count_stays z counts run f n i low differ = after (λ m. sharers_of (released_run z counts run m) f ≡ sharers_of (released_run z counts run (suc i)) f) n i low refl
+    (λ j later low_j so_far. released_beside z (released_run z counts run j) (entry_at run j).frame f (λ e. differ j later low_j (sym e)) ∙ so_far)
 
 -- What is left once so many pages of a run went.
 module _ (v : LedgerView) (counts : List ℕ) (u n : ℕ) (kept : IsBooked v counts u n) (s : ℕ) (run : PageRun) (has : holds_space v s ≡ true) (is : IsBareRun v s run) where
@@ -105,10 +118,12 @@ module _ (v : LedgerView) (counts : List ℕ) (u n : ℕ) (kept : IsBooked v cou
       s (run.page + k) v.zero_frame (freed_next k) (entry_at run k) (zero_is k) (entry_is k low) refl refl
       (ap (option_and_then (λ (x : PageView). x.overlay)) (after_cut k run.page v s has) ∙ is.bare k low)
 
-  one_more : (k : ℕ) → k < run.n → IsFreedAt k → IsFreedAt (suc k)
-  unfolding cut_pages counted_units
-  one_more k low so_far =
-      let made = step k low so_far in
+  freed_at : (k : ℕ) → k ≤ run.n → IsFreedAt k
+  unfolding cut_pages counted_run counted_units
+  freed_at zero low = record { fits = omega arith; booked = let all : u ≡ u - 0 = omega arith in subst (λ m. IsBooked v counts m n) all kept }
+  freed_at (suc k) low =
+      let so_far = freed_at k (omega (arith, low)) in
+      let made = step k (omega (arith, low)) so_far in
       let before = so_far.fits in
       let fits = made.fits in
       let same : u - freed k - freed_next k ≡ u - (freed k + freed_next k) = omega arith in record {
@@ -116,27 +131,21 @@ module _ (v : LedgerView) (counts : List ℕ) (u n : ℕ) (kept : IsBooked v cou
         booked = subst (λ m. IsBooked (cut_page (left k) s (run.page + k)) (counts_left (suc k)) m n) same made.books;
       }
 
-  freed_at : (k : ℕ) → k ≤ run.n → IsFreedAt k
-  unfolding cut_pages counted_run counted_units
-  freed_at zero low = record { fits = omega arith; booked = let all : u ≡ u - 0 = omega arith in subst (λ m. IsBooked v counts m n) all kept }
-  freed_at (suc k) low = one_more k (omega (arith, low)) (freed_at k (omega (arith, low)))
-
   -- what is asked before the next frame is let go
   pub before_at : (k : ℕ) → k < run.n → (frame_of k < length (counts_left k)) × ((frame_of k ≡ v.zero_frame) ⊎ (0 < sharers_of (counts_left k) (frame_of k)))
   before_at k low =
       before_release (left k) (counts_left k) (u - freed k) n (freed_at k (omega (arith, low))).booked
       s (run.page + k) v.zero_frame (entry_at run k) (zero_is k) (entry_is k low)
 
+  page_is : (k : ℕ) → k < run.n → (o : Option Entry) × (page_in v s (run.page + k) ≡ Some (record { entry = entry_at run k; overlay = o }))
+  page_is k low = entry_page v s (run.page + k) (entry_at run k) (sym (is.has k low))
+
   -- The frames of two pages of the run aren't the same, but the zero frame.
   frames_differ : (i j : ℕ) → i < run.n → j < run.n → (j ≡ i → ⊥) → (frame_of i ≡ v.zero_frame → ⊥) → frame_of j ≡ frame_of i → ⊥
   frames_differ i j low_i low_j other isnt same =
-      let one = entry_page v s (run.page + i) (entry_at run i) (sym (is.has i low_i)) in
-      let two = entry_page v s (run.page + j) (entry_at run j) (sym (is.has j low_j)) in
-      let frame_one = ap (λ (e : PageEntry). e.frame) one.2 in
-      let frame_two = ap (λ (e : PageEntry). e.frame) two.2 in
-      let at = (kept.apart s).pages (run.page + j) (run.page + i) two.0 one.0
-      (in_pages v s (run.page + j) two.0 two.1) (in_pages v s (run.page + i) one.0 one.1)
-      (sym frame_two ∙ same ∙ frame_one) (λ z. isnt (sym same ∙ frame_two ∙ z)) in
+      let one = page_is i low_i in
+      let two = page_is j low_j in
+      let at = (kept.apart s).pages (run.page + j) (run.page + i) _ _ (in_pages v s (run.page + j) _ two.1) (in_pages v s (run.page + i) _ one.1) same (λ z. isnt (sym same ∙ z)) in
       other (omega (arith, at))
 
   -- So no later page changes the count of its frame.
@@ -146,12 +155,10 @@ module _ (v : LedgerView) (counts : List ℕ) (u n : ℕ) (kept : IsBooked v cou
 
   given_at : (i k : ℕ) → i < run.n → k ≤ run.n → given_up (left k) (page_in v s (run.page + i)) ≡ given_by v.zero_frame (counts_left k) (frame_of i)
   given_at i k low few =
-      let one = entry_page v s (run.page + i) (entry_at run i) (sym (is.has i low)) in
+      let one = page_is i low in
       ap (given_up (left k)) one.1
-      ∙ given_by_count (left k) (counts_left k) (u - freed k) n (freed_at k few).booked one.0
-      (subst (λ m. one.0.entry.frame < m) (sym (frames_is k)) (kept.inside s (run.page + i) one.0 one.1))
-      ∙ ap (λ z. given_by z (counts_left k) one.0.entry.frame) (sym (zero_is k))
-      ∙ ap (λ (e : PageEntry). given_by v.zero_frame (counts_left k) e.frame) (sym one.2)
+      ∙ given_by_count (left k) (counts_left k) (u - freed k) n (freed_at k few).booked (record { entry = entry_at run i; overlay = one.0 }) (subst (λ m. frame_of i < m) (sym (frames_is k)) (kept.inside s (run.page + i) _ one.1))
+      ∙ ap (λ z. given_by z (counts_left k) (frame_of i)) (sym (zero_is k))
 
   given_at_last : GivesUpAtLast v (left run.n) s run
   given_at_last i low =
@@ -185,8 +192,8 @@ module _ (v : LedgerView) (counts : List ℕ) (u n : ℕ) (kept : IsBooked v cou
       let fits : units ≤ u = subst (λ k. k ≤ u) units_here all.fits in
       let booked : IsBooked (left run.n) now (u - units) n =
       subst (λ k. IsBooked (left run.n) now (u - k) n) units_here (subst (λ (c : List ℕ). IsBooked (left run.n) c (u - freed run.n) n) now_here all.booked) in
-      let before = kept.units_is in
-      let after = booked.units_is in record {
+      let before = kept.books.units_is in
+      let after = booked.books.units_is in record {
         fits = fits;
         booked = booked;
         count = omega (arith, before, after, fits);

@@ -1,18 +1,7 @@
-use Rattle.std.proofs.Common.{◌≡◌, ℕ, zero, suc, ◌+◌, ◌≤◌, ◌<◌, true, Some, None, is_some, refl, nat_cmp, sym, ap, subst, ◌∙◌, arith}
-use Rattle.std.specs.FinMap.{FinMap, get, insert, remove}
-use Rattle.number_maps.specs.Keys.{by_key, get_same, insert_kept, insert_over, removed_other, removed_same}
-use Rattle.sizes.specs.declared.TheConstants.{PAGE_END}
-use Rattle.page_table.specs.Table.{Pages}
-use Rattle.page_table.specs.Run.{IsRunFrom, entry_at}
-use Rattle.page_table.specs.declared.run.PageRun.{PageRun}
-use Rattle.space_maps.specs.Spaces.{holds_space, page_in, put_shared, put_space, space_in}
-use Rattle.space_maps.specs.Laws.{page_shared_beside, space_put}
-use Rattle.space_ledger.specs.Space.{SpaceTable, awaited, run_awaited}
-use Rattle.space_ledger.specs.View.{LedgerView, PageView, SpaceView, with_run_shared}
+use Rattle.space_ledger.proofs.Common.{len, len-insert, nat_cmp_total, Bool, cond, ◌≡◌, ℕ, zero, suc, ◌+◌, ◌≤◌, ◌<◌, true, None, is_some, refl, ap, ◌∙◌, arith, get, remove}
+use Rattle.space_ledger.proofs.Pages.{by_key, get_same, removed_other, removed_same, Pages, entry_at, PageRun}
+use Rattle.space_ledger.proofs.Views.{holds_space, page_in, put_shared, put_space, space_in, page_shared_beside, space_put, LedgerView, PageView, SpaceView, with_run_shared}
 use Rattle.space_ledger.proofs.Parts.{nat_apart}
-use Rattle.space_ledger.specs.Kept.{Held}
-use Rattle.space_ledger.proofs.Seen.{Shows, there_is, with_spaces}
-use Rattle.space_ledger.proofs.Overlaying.{shown_shared}
 
 -- A run of pages that become a space's one after the other, without overlays.
 
@@ -26,6 +15,10 @@ module _ (v : LedgerView) (s p : ℕ) (y : PageView) where
   unfolding put_shared put_space
   frames_same = refl
 
+  len_same : holds_space v s ≡ true → len (put_shared v s p y).spaces ≡ len v.spaces
+  unfolding put_shared put_space
+  len_same there = len-insert nat_cmp_total v.spaces s _ ∙ ap (λ (b : Bool). cond b (len v.spaces) (len v.spaces + 1)) there
+
   there_still : holds_space (put_shared v s p y) s ≡ true
   unfolding put_shared put_space
   there_still = ap is_some (get_same v.spaces s s _ refl)
@@ -38,6 +31,7 @@ module _ (v : LedgerView) (s p : ℕ) (y : PageView) where
 pub record HasReached (v : LedgerView) (s : ℕ) (run : PageRun) (k : ℕ) : Type 0 where
   pub zero_frame : (with_run_shared v s run k).zero_frame ≡ v.zero_frame
   pub frames : (with_run_shared v s run k).frames ≡ v.frames
+  pub spaces : len (with_run_shared v s run k).spaces ≡ len v.spaces
   pub there : holds_space (with_run_shared v s run k) s ≡ true
   pub gone : (q : ℕ) → q < run.page + k → get (space_in (with_run_shared v s run k) s).awaiting q ≡ None
   pub ahead : (q : ℕ) → run.page + k ≤ q → get (space_in (with_run_shared v s run k) s).awaiting q ≡ get (space_in v s).awaiting q
@@ -50,6 +44,7 @@ unfolding with_run_shared
 reached v s run there none zero = record {
   zero_frame = refl;
   frames = refl;
+  spaces = refl;
   there = there;
   gone = λ q low. none q (omega (arith, low));
   ahead = λ q high. refl;
@@ -63,6 +58,7 @@ reached v s run there none (suc k) =
     let y : PageView = record { entry = entry_at run k; overlay = None } in record {
       zero_frame = zero_same w s p y ∙ before.zero_frame;
       frames = frames_same w s p y ∙ before.frames;
+      spaces = len_same w s p y before.there ∙ before.spaces;
       there = there_still w s p y;
       gone = λ q low. ap (λ (m : Pages). get m q) (awaiting_is w s p y) ∙ by_key q p
           (λ same. removed_same (space_in w s).awaiting p q same)
@@ -72,30 +68,3 @@ reached v s run there none (suc k) =
       still = λ q high. page_shared_beside w s p y s q (λ _ same. absurd (omega (arith, high, same))) ∙ before.still q (omega (arith, high));
       beside = λ r q d. page_shared_beside w s p y r q (λ same _. d same) ∙ before.beside r q d;
     }
-
--- What the spaces and the overlays show of it.
-
-module _ {t : Held} {v : LedgerView} (show : Shows t v) (s : ℕ) (x : SpaceTable) (at : get t.spaces s ≡ Some x) (run : PageRun) (first : IsRunFrom (space_in v s).awaiting 0 run)
-    (absent : (i : ℕ) → i < run.n → page_in v s (run.page + i) ≡ None) (low : run.page + run.n ≤ PAGE_END) where
-  has : holds_space v s ≡ true
-  has = there_is show s x at
-
-  -- the tables after so many pages
-  after : ℕ → Held
-  after k = with_spaces t (insert t.spaces s (run_awaited x run k))
-
-  one_more : (k : ℕ) → with_spaces (after k) (insert (after k).spaces s (awaited (run_awaited x run k) (run.page + k) (entry_at run k))) ≡ after (suc k)
-  unfolding after run_awaited
-  one_more k = ap (with_spaces t) (insert_over t.spaces s (run_awaited x run k) (run_awaited x run (suc k)))
-
-  shown_after : (k : ℕ) → k ≤ run.n → Shows (with_spaces t (insert t.spaces s (run_awaited x run k))) (with_run_shared v s run k)
-  unfolding with_run_shared run_awaited after
-  shown_after zero few = subst (λ (m : FinMap nat_cmp SpaceTable). Shows (with_spaces t m) v) (sym (insert_kept t.spaces s x at)) show
-  shown_after (suc k) few =
-      let before = reached v s run has (λ q under. first.none q (omega arith) under) k in
-      subst (λ (u : Held). Shows u (with_run_shared v s run (suc k))) (one_more k)
-      (shown_shared (shown_after k (omega (arith, few))) s (run.page + k) (run_awaited x run k) (get_same t.spaces s s (run_awaited x run k) refl) (entry_at run k)
-      (before.still (run.page + k) (omega arith) ∙ absent k (omega (arith, few))) (omega (arith, few, low)))
-
-  pub shown_run : Shows (with_spaces t (insert t.spaces s (run_awaited x run run.n))) (with_run_shared v s run run.n)
-  shown_run = shown_after run.n (omega arith)

@@ -1,13 +1,6 @@
-use Rattle.std.proofs.Common.{◌≡◌, ℕ, zero, suc, ◌+◌, ◌≤◌, ◌<◌, true, Some, None, is_some, IsSome, refl, option_and_then, option_map, sym, ap, subst, ◌∙◌, arith}
-use Rattle.std.specs.FinMap.{get, len}
-use Rattle.page_table.specs.Run.{IsRunFrom, entry_at}
-use Rattle.page_table.specs.declared.entry.PageEntry.{PageEntry}
-use Rattle.page_table.specs.declared.run.PageRun.{PageRun}
-use Rattle.space_maps.specs.Spaces.{holds_space, page_in, put_shared, space_in}
-use Rattle.space_ledger.specs.Space.{IsLeast}
-use Rattle.space_ledger.specs.View.{LedgerView, PageView, overlay_at, with_page_shared, with_run_shared}
-use Rattle.space_ledger.specs.Calls.{AreBareBelow, AreSharedBare}
-use Rattle.space_ledger.specs.Calls.AreSharedBare.{Still, Then}
+use Rattle.space_ledger.proofs.Common.{◌≡◌, ℕ, zero, suc, ◌+◌, ◌≤◌, ◌<◌, true, Some, None, is_some, IsSome, refl, option_and_then, option_map, sym, ap, subst, ◌∙◌, arith, get, len}
+use Rattle.space_ledger.proofs.Pages.{IsRunFrom, entry_at, PageEntry, PageRun}
+use Rattle.space_ledger.proofs.Views.{holds_space, page_in, put_shared, space_in, IsLeast, LedgerView, PageView, overlay_at, with_page_shared, with_run_shared, AreBareBelow, AreSharedBare, Still, Then}
 use Rattle.space_ledger.proofs.Parts.{by_end, count_gone, some_count}
 use Rattle.space_ledger.proofs.RunViews.{HasReached, awaiting_is, reached}
 use Rattle.space_ledger.proofs.LedgerCalls.{shared_view}

@@ -123,17 +123,21 @@ GivesUpAtLast old new space run = (i : ℕ) → i < run.n
 abbrev pub GivesNothingUp : LedgerView → LedgerView → ℕ → PageRun → Type 0
 GivesNothingUp old new space run = (i : ℕ) → i < run.n → given_up new (page_in old space (run.page + i)) ≡ None
 
+-- what is kept of a ledger
+pub record AreBooks (ledger : Ledger) (zero_frame frames : ℕ) (counts : List ℕ) (units_kept lines_kept : ℕ) : Type 0 where
+  pub room : length counts ≡ frames
+  pub counted : AreSharersCounted ledger zero_frame frames counts
+  pub units_is : units_kept ≡ units ledger
+  pub lines_is : lines_kept ≡ own_lines ledger
+
 -- what is kept beside the tables: how many pages name each frame but the zero frame, the units, and the own lines
 pub record IsBooked (view : LedgerView) (counts : List ℕ) (units_kept lines_kept : ℕ) : Type 0 where
   pub some : 0 < view.frames
   pub frames : view.frames ≤ MOST_FRAMES
   pub zero_in : view.zero_frame < view.frames
-  pub room : length counts ≡ view.frames
   pub inside : (space page : ℕ) (x : PageView) → page_in view space page ≡ Some x → x.entry.frame < view.frames
   pub apart : (space : ℕ) → IsApart view.zero_frame (space_in view space)
-  pub counted : AreSharersCounted (ledger_of view) view.zero_frame view.frames counts
-  pub units_is : units_kept ≡ units (ledger_of view)
-  pub lines_is : lines_kept ≡ own_lines (ledger_of view)
+  pub books : AreBooks (ledger_of view) view.zero_frame view.frames counts units_kept lines_kept
 
 -- each page below one that awaits in a space does so with the frame that it has in another one, and has no overlay there
 abbrev pub AreBareBelow : LedgerView → ℕ → ℕ → ℕ → Type 0

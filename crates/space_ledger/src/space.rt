@@ -2,10 +2,10 @@
 
 ghost use Rattle.std.specs.Prelude.{◌≡◌, ℕ, ◌+◌, ◌^◌, ◌<◌, ◌≤◌, IfOk, IsSome, OnOk, OnErr, None, Some, false};
 ghost use Rattle.std.specs.FinMap as map;
-ghost use Rattle.page_set.specs.Sets.{AreCut, IsPut};
+ghost use Rattle.page_set.specs.Sets.{AreCut, IsPut, holds};
 ghost use Rattle.page_table.specs.Run.{IsNextRun, IsRunFrom};
 ghost use Rattle.page_table.specs.Table.{AreThere, IsFree};
-ghost use Rattle.space_ledger.specs.Space.{AreNotOverlaid, HasMapped, IsLeast, IsLeastFrom, IsLeastOverlaid, AwaitsFirst, AwaitsRun, adopted, awaited, marked, run_awaited, with_entry, without_page, without_pages};
+ghost use Rattle.space_ledger.specs.Space.{AreNotOverlaid, HasMapped, IsLeast, IsLeastFrom, IsLeastOverlaid, AwaitsFirst, AwaitsRun, adopted, awaited, marked, run_awaited, with_entry, without_pages};
 
 use crate::runs::cut;
 use ovl_io::Perms;
@@ -134,20 +134,9 @@ impl Space {
         }
     }
 
-    /// Takes away a page that is there.
-    pub(crate) fn remove(&mut self, page: u64)
-        requires { IsSome (map.get self.old.table.pages page) }
-        ensures table { self.new.table ≡ without_page self.old.table page }
-        ensures overlaid { AreCut self.old.overlaid page 1 self.new.overlaid }
-    {
-        self.table.unmap(page, 1);
-        self.count -= 1;
-    }
-
-    /// Takes away the `n` pages from `from` on, which are there, where none awaits.
+    /// Takes away the `n` pages from `from` on, which are there.
     pub(crate) fn remove_pages(&mut self, from: u64, n: u32)
-        requires settled { self.old.table.awaiting ≡ map.empty }
-        requires there { AreThere self.old.table.pages from n }
+        requires { AreThere self.old.table.pages from n }
         ensures table { self.new.table ≡ without_pages self.old.table from n }
         ensures overlaid { AreCut self.old.overlaid from n self.new.overlaid }
     {
@@ -227,13 +216,16 @@ impl Space {
         self.count += run.n;
     }
 
-    /// Says of a page that is there whether it is overlaid.
-    pub(crate) fn set_overlaid(&mut self, page: u64, on: bool)
-        requires { IsSome (map.get self.old.table.pages page) }
+    /// Says of a page that is there whether it is overlaid, where it was or wasn't. Costs a step where that stays.
+    pub(crate) fn set_overlaid(&mut self, page: u64, was: bool, on: bool)
+        requires there { IsSome (map.get self.old.table.pages page) }
+        requires was { holds self.old.overlaid page ≡ was }
         ensures table { self.new.table ≡ self.old.table }
         ensures overlaid { IsPut self.old.overlaid page on self.new.overlaid }
     {
-        self.table.set_overlaid(page, on);
+        if was != on {
+            self.table.set_overlaid(page, on);
+        }
     }
 
     /// The least overlaid page not below one. None exactly where none is.

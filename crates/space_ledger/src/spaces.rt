@@ -56,6 +56,7 @@ impl Model for SpaceLedger {
     ghost invariant = { λ l. IsBooked l.tables l.pool l.units l.lines };
 }
 
+#[tactic(auto, using(crate::proofs::Laws::kept, crate::proofs::Laws::fits))]
 impl SpaceLedger {
     /// A ledger without a space, over 1 to 65,536 frames, of which one is the zero frame. Takes all the memory that frames
     /// and overlays ever need, or answers the want of it.
@@ -301,9 +302,11 @@ impl SpaceLedger {
         requires room { HasOverlayRoom self.old space page entry }
         ensures { self.new ≡ with_overlay self.old space page entry }
     {
-        let before = lines_in(&self.tables.overlay(space, page));
+        let overlay = self.tables.overlay(space, page);
+        let before = lines_in(&overlay);
         let after = lines_in(&entry);
-        self.tables.set_overlay(space, page, entry);
+        self.tables
+            .set_overlay(space, page, overlay.is_some(), entry);
         self.units = self.units - class_of(before) + class_of(after);
         self.lines = self.lines - before + after;
     }
@@ -319,7 +322,7 @@ impl SpaceLedger {
             Some(entry) => {
                 let bits = entry.bits;
                 self.tables
-                    .set_overlay(space, page, Some(Entry { bits, block: to }));
+                    .set_overlay(space, page, true, Some(Entry { bits, block: to }));
             }
             None => unreachable!(),
         }
@@ -336,7 +339,7 @@ impl SpaceLedger {
         let zero = self.tables.zero();
         match self.tables.entry(space, page) {
             Some(old) => {
-                self.tables.remove(space, page);
+                self.tables.remove_pages(space, page, 1);
                 let freed = release(&mut self.pool, zero, old.frame);
                 self.units -= freed;
                 freed_frame(freed, old.frame)

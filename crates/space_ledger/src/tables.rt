@@ -6,8 +6,10 @@ ghost use Rattle.std.specs.Option.{is_some, option_and_then, option_map};
 ghost use Rattle.sizes.specs.declared.TheConstants.{FRAME_UNITS, LAST_SPACE, MOST_FRAMES, PAGE_END, PAGE_LINES};
 ghost use Rattle.ledger.specs.Units.{overlaid_pages};
 ghost use Rattle.overlay_bits.specs.Lines.{AreLines};
+ghost use Rattle.overlay_mapping_table.specs.Table.{HasRoomFor};
 ghost use Rattle.page_table.specs.Run.{IsNextRun, IsRunFrom};
 ghost use Rattle.space_maps.specs.Spaces.{bare_space, cut_page, cut_pages, cut_space, holds_space, page_in, put_awaiting, put_mark, put_shared, put_space, space_in, turned_page};
+ghost use Rattle.space_ledger.specs.Kept.{put_over};
 ghost use Rattle.space_ledger.specs.Space.{AwaitsFirst, AwaitsRun, IsLeast};
 ghost use Rattle.space_ledger.specs.View.{ledger_of, with_entry_at, with_overlay, with_run_shared, with_zero_pages};
 ghost use Rattle.space_ledger.specs.Calls.{AreBare, AreFree, HasOverlayRoom, HasSpare, IsLined, IsNextOf, IsNextOverlaid, IsSound, entries_of};
@@ -39,13 +41,14 @@ impl Model for Tables {
 
     ghost coded = { view_code };
 
-    ghost use Rattle.space_ledger.specs.Kept.{AreTables, held_of, seen};
+    ghost use Rattle.space_ledger.specs.Kept.{AreTables, seen};
 
-    ghost view = { λ t. seen (held_of t) };
+    ghost view = { seen };
 
     ghost invariant = { AreTables };
 }
 
+#[tactic(auto, using(crate::proofs::Answered::reads))]
 impl Tables {
     /// No space, and room for 16 overlays a frame.
     pub(crate) fn new(alloc: Global, frames: u32, zero: u32) -> Result<Tables, AllocError>
@@ -188,8 +191,7 @@ impl Tables {
 
     /// How many pages a space has.
     pub(crate) fn len(&self, space: u16) -> u32
-        ensures count { result ≡ map.len (space_in self.now space).pages }
-        ensures sound { IsSound self.now }
+        ensures { result ≡ map.len (space_in self.now space).pages }
     {
         match self.spaces.get(space) {
             Some(space) => space.len(),
@@ -227,23 +229,24 @@ impl Tables {
         }
     }
 
-    /// Gives a page that is there another overlay, or none.
-    pub(crate) fn set_overlay(&mut self, space: u16, page: u64, overlay: Option<Entry>)
+    /// Gives a page that is there another overlay, or none, where it had one or none.
+    pub(crate) fn set_overlay(&mut self, space: u16, page: u64, had: bool, overlay: Option<Entry>)
         requires there { IsSome (page_in self.old space page) }
+        requires had { had ≡ is_some (option_and_then (λ x. x.overlay) (page_in self.old space page)) }
         requires lined { IfSome overlay IsLined }
         requires room { HasOverlayRoom self.old space page overlay }
         ensures { self.new ≡ with_overlay self.old space page overlay }
     {
         match self.spaces.get_mut(space) {
-            Some(space) => space.set_overlaid(page, overlay.is_some()),
+            Some(space) => space.set_overlaid(page, had, overlay.is_some()),
             None => unreachable!(),
         }
-        match overlay {
-            Some(entry) => self.overlays.insert(OverlayPage::of(space, page), entry),
-            None => {
-                self.overlays.remove(OverlayPage::of(space, page));
-            }
-        }
+        put(
+            &mut self.overlays,
+            OverlayPage::of(space, page),
+            had,
+            overlay,
+        );
     }
 
     /// Gives pages that aren't there an entry, in a space of which no page awaits. After want of memory nothing changed.
@@ -270,22 +273,9 @@ impl Tables {
         }
     }
 
-    /// Takes away a page that has no overlay.
-    pub(crate) fn remove(&mut self, space: u16, page: u64)
-        requires there { IsSome (page_in self.old space page) }
-        requires bare { option_and_then (λ x. x.overlay) (page_in self.old space page) ≡ None }
-        ensures { self.new ≡ cut_page self.old space page }
-    {
-        match self.spaces.get_mut(space) {
-            Some(space) => space.remove(page),
-            None => unreachable!(),
-        }
-    }
-
-    /// Takes away pages that lie one after the other and have no overlays, from a space of which no page awaits.
+    /// Takes away pages that lie one after the other and have no overlays.
     pub(crate) fn remove_pages(&mut self, space: u16, from: u64, n: u32)
         requires there { holds_space self.old space ≡ true }
-        requires settled { (space_in self.old space).awaiting ≡ map.empty }
         requires bare { AreBare self.old space from n }
         ensures { self.new ≡ cut_pages self.old space from n }
     {
@@ -299,8 +289,7 @@ impl Tables {
     pub(crate) fn copy(&self, space: u16) -> Result<PageTable, AllocError>
         requires there { holds_space self.now space ≡ true }
         requires settled { (space_in self.now space).awaiting ≡ map.empty }
-        ensures table { IfOk result (λ table. table.pages ≡ entries_of self.now space) }
-        ensures sound { IsSound self.now }
+        ensures { IfOk result (λ table. table.pages ≡ entries_of self.now space) }
     {
         match self.spaces.get(space) {
             Some(space) => space.copy(),
@@ -337,10 +326,12 @@ impl Tables {
             Some(space) => space.share(page, overlay.is_some()),
             None => unreachable!(),
         };
-        match overlay {
-            Some(e) => self.overlays.insert(OverlayPage::of(space, page), e),
-            None => (),
-        }
+        put(
+            &mut self.overlays,
+            OverlayPage::of(space, page),
+            false,
+            overlay,
+        );
         entry
     }
 
@@ -355,6 +346,24 @@ impl Tables {
         match self.spaces.get_mut(space) {
             Some(space) => space.share_run(run),
             None => unreachable!(),
+        }
+    }
+}
+
+/// Gives a name another overlay, or none, where it had one or none.
+#[inline(always)]
+fn put(overlays: &mut MappingTable, name: OverlayPage, had: bool, overlay: Option<Entry>)
+    requires had { had ≡ is_some (map.get overlays.old.entries name) }
+    requires room { IfSome overlay (λ e. HasRoomFor overlays.old name) }
+    ensures entries { overlays.new.entries ≡ put_over overlays.old.entries name overlay }
+    ensures room { overlays.new.room ≡ overlays.old.room }
+{
+    match overlay {
+        Some(entry) => overlays.insert(name, entry),
+        None => {
+            if had {
+                overlays.remove(name);
+            }
         }
     }
 }

@@ -1,4 +1,4 @@
-use Rattle.std.proofs.Common.{sym, arith}
+use Rattle.space_ledger.proofs.Common.{sym, arith}
 use Rattle.space_ledger.proofs.RunCounts.{coming, frame_there, none_counted, one_counted, units_small, zero_counted, zero_units}
 use Rattle.space_ledger.proofs.frames.hold_run.Goals as goal
 

@@ -1,4 +1,4 @@
-use Rattle.space_ledger.specs.Frames.{held_by}
+use Rattle.space_ledger.proofs.Views.{held_by}
 use Rattle.space_ledger.proofs.RunCounts.{units_held, HasCounted}
 use Rattle.space_ledger.proofs.frames.hold_run.Given as goal
 

@@ -1,6 +1,5 @@
-use Rattle.std.proofs.Common.{sym, arith}
-use Rattle.space_ledger.proofs.RunCounts.{going, frame_there, none_counted, one_counted, units_small, zero_counted, zero_units}
-use Rattle.space_ledger.proofs.RunReleases.{named_left}
+use Rattle.space_ledger.proofs.Common.{sym, arith}
+use Rattle.space_ledger.proofs.RunCounts.{named_left, going, frame_there, none_counted, one_counted, units_small, zero_counted, zero_units}
 use Rattle.space_ledger.proofs.frames.release_run.Goals as goal
 
 pub returns-then-run-zero-clause-released : goal.returns-then-run-zero-clause-released

@@ -1,4 +1,4 @@
-use Rattle.space_ledger.specs.Frames.{released_by}
+use Rattle.space_ledger.proofs.Views.{released_by}
 use Rattle.space_ledger.proofs.RunCounts.{units_released, HasCounted}
 use Rattle.space_ledger.proofs.frames.release_run.Given as goal
 

@@ -1,5 +1,5 @@
-use Rattle.std.proofs.Common.{ℕ, List, ap, arith, length, ◌∙◌}
-use Rattle.ledger.specs.Units.{class}
+use Rattle.space_ledger.proofs.Common.{ℕ, List, ap, arith, length, ◌∙◌}
+use Rattle.space_ledger.proofs.Views.{class}
 use Rattle.space_ledger.proofs.Rises.{rises_by}
 use Rattle.space_ledger.proofs.spaces.rise_of.Goals as goal
 

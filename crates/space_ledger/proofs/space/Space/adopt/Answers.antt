@@ -1,5 +1,5 @@
-use Rattle.std.proofs.Common.{ap, ◌∙◌}
-use Rattle.space_ledger.specs.Space.{SpaceTable, adopted}
+use Rattle.space_ledger.proofs.Common.{ap, ◌∙◌}
+use Rattle.space_ledger.proofs.Views.{SpaceTable, adopted}
 use Rattle.space_ledger.proofs.Parts.{adopt_entry, count_adopted, table_is}
 use Rattle.space_ledger.proofs.space.Space.adopt.Goals as goal
 

@@ -1,7 +1,6 @@
-use Rattle.std.proofs.Common.{◌≡◌, Result, Ok, Err, IfOk, ap, ◌∙◌, sym}
-use Rattle.space_ledger.specs.Space.{SpaceTable}
-use Rattle.page_table.specs.Table.{Pages}
-use Rattle.page_table.specs.Nodes.{Table}
+use Rattle.space_ledger.proofs.Common.{◌≡◌, Result, Ok, Err, IfOk, ap, ◌∙◌, sym}
+use Rattle.space_ledger.proofs.Pages.{Pages, Table}
+use Rattle.space_ledger.proofs.Views.{SpaceTable}
 use Rattle.space_ledger.proofs.Parts.{all_inside, table_is}
 use Rattle.space_ledger.proofs.space.Space.copy.Goals as goal
 

@@ -1,5 +1,5 @@
-use Rattle.std.proofs.Common.{Some, None, subst}
-use Rattle.space_ledger.specs.Space.{SpaceTable, AwaitsFirst}
+use Rattle.space_ledger.proofs.Common.{Some, None, subst}
+use Rattle.space_ledger.proofs.Views.{SpaceTable, AwaitsFirst}
 use Rattle.space_ledger.proofs.Parts.{first_waits, none_wait, table_is}
 use Rattle.space_ledger.proofs.space.Space.first_awaiting.Goals as goal
 

@@ -1,6 +1,5 @@
-use Rattle.std.proofs.Common.{sym, ap, ◌∙◌}
-use Rattle.std.specs.FinMap.{get}
-use Rattle.space_ledger.specs.Space.{SpaceTable}
+use Rattle.space_ledger.proofs.Common.{sym, ap, ◌∙◌, get}
+use Rattle.space_ledger.proofs.Views.{SpaceTable}
 use Rattle.space_ledger.proofs.Parts.{inside, outside, table_is}
 use Rattle.space_ledger.proofs.space.Space.get.Goals as goal
 

@@ -1,9 +1,8 @@
-use Rattle.std.proofs.Common.{◌^◌, ◌-◌, ap, subst, ◌∙◌, arith}
-use Rattle.std.specs.FinMap.{len}
-use Rattle.page_table.specs.declared.entry.PageEntry.{PageEntry}
-use Rattle.space_ledger.specs.Space.{AreNotOverlaid, OverlaidSpace, SpaceTable, HasMapped, pages_below, pages_from}
+use Rattle.space_ledger.proofs.Common.{◌^◌, ◌-◌, ap, subst, ◌∙◌, arith, len}
+use Rattle.space_ledger.proofs.Pages.{PageEntry}
+use Rattle.space_ledger.proofs.Views.{AreNotOverlaid, OverlaidSpace, SpaceTable, HasMapped, pages_below, pages_from}
 use Rattle.space_ledger.proofs.Parts.{all_inside, count_mapped, free_too, map_all, table_is}
-use Rattle.space_ledger.proofs.Overlaid.{free_bare}
+use Rattle.space_ledger.proofs.Parts.{free_bare}
 use Rattle.space_ledger.proofs.space.Space.map.Goals as goal
 use Rattle.space_ledger.proofs.space.Space.map.Goals.{After-map_pages}
 

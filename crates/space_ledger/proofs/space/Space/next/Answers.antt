@@ -1,5 +1,5 @@
-use Rattle.std.proofs.Common.{Some, None, subst}
-use Rattle.space_ledger.specs.Space.{SpaceTable, IsLeastFrom}
+use Rattle.space_ledger.proofs.Common.{Some, None, subst}
+use Rattle.space_ledger.proofs.Views.{SpaceTable, IsLeastFrom}
 use Rattle.space_ledger.proofs.Parts.{next_inside, next_none, next_waits, table_is}
 use Rattle.space_ledger.proofs.space.Space.next.Goals as goal
 

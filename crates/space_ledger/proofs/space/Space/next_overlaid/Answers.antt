@@ -1,6 +1,6 @@
-use Rattle.std.proofs.Common.{Some, None, subst}
-use Rattle.space_ledger.specs.Space.{OverlaidSpace, IsLeastOverlaid}
-use Rattle.space_ledger.proofs.Overlaid.{overlaid_inside, overlaid_nowhere, overlaid_waits}
+use Rattle.space_ledger.proofs.Common.{Some, None, subst}
+use Rattle.space_ledger.proofs.Views.{OverlaidSpace, IsLeastOverlaid}
+use Rattle.space_ledger.proofs.Parts.{overlaid_inside, overlaid_nowhere, overlaid_waits}
 use Rattle.space_ledger.proofs.space.Space.next_overlaid.Goals as goal
 
 pub returns-then-found-self : goal.returns-then-found-self

@@ -1,7 +1,6 @@
-use Rattle.std.proofs.Common.{ap, sym, subst, ◌∙◌}
-use Rattle.page_table.specs.Table.{Pages}
-use Rattle.page_table.specs.Run.{IsNextRun}
-use Rattle.space_ledger.specs.Space.{SpaceTable}
+use Rattle.space_ledger.proofs.Common.{ap, sym, subst, ◌∙◌}
+use Rattle.space_ledger.proofs.Pages.{Pages, IsNextRun}
+use Rattle.space_ledger.proofs.Views.{SpaceTable}
 use Rattle.space_ledger.proofs.Parts.{all_inside, table_is}
 use Rattle.space_ledger.proofs.space.Space.next_run.Goals as goal
 

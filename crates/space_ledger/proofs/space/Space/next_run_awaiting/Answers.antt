@@ -1,5 +1,5 @@
-use Rattle.std.proofs.Common.{None, subst}
-use Rattle.space_ledger.specs.Space.{SpaceTable, AwaitsRun}
+use Rattle.space_ledger.proofs.Common.{None, subst}
+use Rattle.space_ledger.proofs.Views.{SpaceTable, AwaitsRun}
 use Rattle.space_ledger.proofs.Parts.{table_is}
 use Rattle.space_ledger.proofs.RunParts.{cut_waits, no_run}
 use Rattle.space_ledger.proofs.space.Space.next_run_awaiting.Goals as goal

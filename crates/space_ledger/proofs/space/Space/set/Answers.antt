@@ -1,7 +1,5 @@
-use Rattle.std.proofs.Common.{ap, ◌∙◌}
-use Rattle.std.specs.Option.{is_some}
-use Rattle.std.specs.FinMap.{get}
-use Rattle.space_ledger.specs.Space.{SpaceTable, with_entry}
+use Rattle.space_ledger.proofs.Common.{ap, ◌∙◌, is_some, get}
+use Rattle.space_ledger.proofs.Views.{SpaceTable, with_entry}
 use Rattle.space_ledger.proofs.Parts.{count_set, in_table, set_entry, table_is}
 use Rattle.space_ledger.proofs.space.Space.set.Goals as goal
 

@@ -1,9 +1,6 @@
-use Rattle.std.proofs.Common.{◌≡◌, ◌+◌, None, ap, sym, subst, ◌∙◌}
-use Rattle.std.specs.Option.{is_some}
-use Rattle.std.specs.FinMap.{get}
-use Rattle.page_table.specs.Nodes.{Table}
-use Rattle.page_table.specs.Table.{Pages}
-use Rattle.space_ledger.specs.Space.{SpaceTable, IsCounted, IsLeast, awaited, pages_below, pages_from}
+use Rattle.space_ledger.proofs.Common.{◌≡◌, ◌+◌, None, ap, sym, subst, ◌∙◌, is_some, get}
+use Rattle.space_ledger.proofs.Pages.{Table, Pages}
+use Rattle.space_ledger.proofs.Views.{SpaceTable, IsCounted, IsLeast, awaited, pages_below, pages_from}
 use Rattle.space_ledger.proofs.Parts.{is_waiting, outside, share_counted, share_entry, table_is, waits_in}
 use Rattle.space_ledger.proofs.space.Space.share.Goals as goal
 use Rattle.space_ledger.proofs.space.Space.share.Goals.{After-set_overlaid}

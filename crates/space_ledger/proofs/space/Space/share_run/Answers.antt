@@ -1,9 +1,6 @@
-use Rattle.std.proofs.Common.{◌≡◌, ◌+◌, sym, ap, subst, ◌∙◌}
-use Rattle.std.specs.FinMap.{get}
-use Rattle.page_table.specs.Run.{IsRunFrom}
-use Rattle.page_table.specs.Nodes.{Table}
-use Rattle.page_table.specs.Table.{Pages}
-use Rattle.space_ledger.specs.Space.{SpaceTable, IsCounted, pages_below, pages_from, run_awaited}
+use Rattle.space_ledger.proofs.Common.{◌≡◌, ◌+◌, sym, ap, subst, ◌∙◌, get}
+use Rattle.space_ledger.proofs.Pages.{IsRunFrom, Table, Pages}
+use Rattle.space_ledger.proofs.Views.{SpaceTable, IsCounted, pages_below, pages_from, run_awaited}
 use Rattle.space_ledger.proofs.Parts.{table_is}
 use Rattle.space_ledger.proofs.RunParts.{run_apart, run_counted, run_entry}
 use Rattle.space_ledger.proofs.space.Space.share_run.Goals as goal

@@ -1,6 +1,5 @@
-use Rattle.std.proofs.Common.{ap, ◌∙◌}
-use Rattle.space_maps.specs.Spaces.{bare_space, holds_space, put_space}
-use Rattle.space_ledger.specs.View.{LedgerView}
+use Rattle.space_ledger.proofs.Common.{ap, ◌∙◌}
+use Rattle.space_ledger.proofs.Views.{bare_space, holds_space, put_space, LedgerView}
 use Rattle.space_ledger.proofs.Booked.{booked_space}
 use Rattle.space_ledger.proofs.Numbers.{on_either}
 use Rattle.space_ledger.proofs.spaces.SpaceLedger.add_space.Goals as goal

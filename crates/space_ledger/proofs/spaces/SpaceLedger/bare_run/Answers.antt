@@ -1,6 +1,5 @@
-use Rattle.std.proofs.Common.{◌≡◌, ◌+◌, None, sym, subst, arith}
-use Rattle.space_ledger.specs.View.{LedgerView, overlay_at}
-use Rattle.space_ledger.specs.Calls.{IsBareFrom}
+use Rattle.space_ledger.proofs.Common.{◌≡◌, ◌+◌, None, sym, subst, arith}
+use Rattle.space_ledger.proofs.Views.{LedgerView, overlay_at, IsBareFrom}
 use Rattle.space_ledger.proofs.RunRemoved.{bare_of_run}
 use Rattle.space_ledger.proofs.spaces.SpaceLedger.bare_run.Goals as goal
 

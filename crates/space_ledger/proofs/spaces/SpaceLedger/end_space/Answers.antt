@@ -1,7 +1,5 @@
-use Rattle.std.proofs.Common.{sym, ap, subst, ◌∙◌}
-use Rattle.space_maps.specs.Spaces.{holds_space, space_in}
-use Rattle.space_ledger.specs.View.{LedgerView}
-use Rattle.space_ledger.specs.Calls.{IsBooked}
+use Rattle.space_ledger.proofs.Common.{sym, ap, subst, ◌∙◌}
+use Rattle.space_ledger.proofs.Views.{holds_space, space_in, LedgerView, IsBooked}
 use Rattle.space_ledger.proofs.Booked.{booked_lost}
 use Rattle.space_ledger.proofs.spaces.SpaceLedger.end_space.Goals as goal
 

@@ -1,11 +1,7 @@
-use Rattle.std.proofs.Common.{◌<◌, sym, ap, subst, ◌∙◌}
-use Rattle.space_ledger.specs.View.{LedgerView, frame_at, ledger_of}
-use Rattle.ledger.specs.Ledger.{is_alone}
+use Rattle.space_ledger.proofs.Common.{ap, ◌∙◌}
+use Rattle.space_ledger.proofs.Views.{LedgerView, frame_at, ledger_of, is_alone}
 use Rattle.space_ledger.proofs.LedgerCalls.{alone_call}
 use Rattle.space_ledger.proofs.spaces.SpaceLedger.is_alone_frame.Goals as goal
-
-pub is_only-requires : goal.is_only-requires
-is_only-requires c = subst (λ n. c.args.frame < n) (ap (λ (v : LedgerView). v.frames) (sym c.self.view_is) ∙ sym c.self.invariant.room) c.requires
 
 pub returns : goal.returns
 returns c space page on =

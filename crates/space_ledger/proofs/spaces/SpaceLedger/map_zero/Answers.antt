@@ -1,7 +1,5 @@
-use Rattle.std.proofs.Common.{sym, ap, subst, ◌∙◌}
-use Rattle.space_maps.specs.Spaces.{holds_space}
-use Rattle.space_ledger.specs.View.{LedgerView, with_zero_pages}
-use Rattle.space_ledger.specs.Calls.{AreFree}
+use Rattle.space_ledger.proofs.Common.{sym, ap, subst, ◌∙◌}
+use Rattle.space_ledger.proofs.Views.{holds_space, LedgerView, with_zero_pages, AreFree}
 use Rattle.space_ledger.proofs.Numbers.{mapped_view, on_either}
 use Rattle.space_ledger.proofs.spaces.SpaceLedger.map_zero.Goals as goal
 

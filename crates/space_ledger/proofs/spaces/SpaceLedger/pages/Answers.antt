@@ -1,6 +1,5 @@
-use Rattle.std.proofs.Common.{ap, sym}
-use Rattle.space_ledger.specs.Calls.{entries_of}
-use Rattle.space_ledger.specs.View.{LedgerView}
+use Rattle.space_ledger.proofs.Common.{ap, sym}
+use Rattle.space_ledger.proofs.Views.{entries_of, LedgerView}
 use Rattle.space_ledger.proofs.LedgerCalls.{named_once}
 use Rattle.space_ledger.proofs.spaces.SpaceLedger.pages.Goals as goal
 

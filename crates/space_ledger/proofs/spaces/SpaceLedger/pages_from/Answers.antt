@@ -1,6 +1,5 @@
-use Rattle.std.proofs.Common.{ap, sym, subst, ◌∙◌}
-use Rattle.space_maps.specs.Spaces.{page_in, AreMapped}
-use Rattle.space_ledger.specs.View.{LedgerView}
+use Rattle.space_ledger.proofs.Common.{ap, sym, subst, ◌∙◌}
+use Rattle.space_ledger.proofs.Views.{page_in, AreMapped, LedgerView}
 use Rattle.space_ledger.proofs.Removing.{no_run_there, run_past, run_there}
 use Rattle.space_ledger.proofs.spaces.SpaceLedger.pages_from.Goals as goal
 

@@ -1,11 +1,6 @@
-use Rattle.std.proofs.Common.{◌≡◌, ◌+◌, ◌-◌, ◌<◌, ◌⊎◌, sym, ap, subst, ◌∙◌}
-use Rattle.frame_pool.specs.Counts.{sharers_of}
-use Rattle.page_table.specs.Run.{entry_at}
-use Rattle.space_maps.specs.Spaces.{holds_space}
-use Rattle.ledger.specs.Units.{units}
-use Rattle.space_ledger.specs.View.{LedgerView, ledger_of}
-use Rattle.space_ledger.specs.Calls.{GivesNothingUp, GivesUpAtLast, IsBareRun, IsBooked}
-use Rattle.space_ledger.specs.Frames.{released_run}
+use Rattle.space_ledger.proofs.Common.{◌≡◌, ◌+◌, ◌-◌, ◌<◌, ◌⊎◌, sym, ap, subst, ◌∙◌}
+use Rattle.space_ledger.proofs.Pages.{sharers_of, entry_at}
+use Rattle.space_ledger.proofs.Views.{holds_space, units, LedgerView, ledger_of, GivesNothingUp, GivesUpAtLast, IsBareRun, IsBooked, released_run}
 use Rattle.space_ledger.proofs.RunRemoved.{AreFreed, before_at, run_removed}
 use Rattle.space_ledger.proofs.spaces.SpaceLedger.remove_run.Goals as goal
 use Rattle.space_ledger.proofs.spaces.SpaceLedger.remove_run.Goals.{After-release_run-freed}

@@ -1,7 +1,5 @@
-use Rattle.std.proofs.Common.{ℕ, ◌<◌, ◌-◌, ◌+◌, ◌==◌, cond, Some, None, option_and_then, sym, ap, subst, ◌∙◌, arith}
-use Rattle.space_maps.specs.Spaces.{page_in, space_in}
-use Rattle.space_ledger.specs.View.{LedgerView, with_frame}
-use Rattle.space_ledger.specs.Calls.{IsBooked, IsFreeFor, given_up}
+use Rattle.space_ledger.proofs.Common.{ℕ, ◌<◌, ◌-◌, ◌+◌, ◌==◌, cond, Some, None, option_and_then, sym, ap, subst, ◌∙◌}
+use Rattle.space_ledger.proofs.Views.{page_in, space_in, LedgerView, IsBooked, IsFreeFor, given_up}
 use Rattle.space_ledger.proofs.LedgerCalls.{BeforeHold, Framed, before_hold, before_release, entry_is_frame, framed_call}
 use Rattle.space_ledger.proofs.spaces.SpaceLedger.set_frame.Goals as goal
 use Rattle.space_ledger.proofs.spaces.SpaceLedger.set_frame.Goals.{After-release-freed, After-hold-added}
@@ -20,9 +18,6 @@ framed c =
     c.hold-added.ensures.held c.hold-added.ensures.units (subst (λ (v : LedgerView). c.args.frame < v.frames) (sym c.self.view_is) c.requires.inside)
     (ap (λ (v : LedgerView). (space_in v c.args.space).awaiting) c.self.view_is ∙ c.requires.settled) (subst (λ (v : LedgerView). IsFreeFor v c.args.space c.args.page c.args.frame) (sym c.self.view_is) c.requires.free)
 
-pub release-freed-requires-clause-there : goal.release-freed-requires-clause-there
-release-freed-requires-clause-there c = (before_release c.self.inside.tables c.self.inside.pool c.self.inside.units c.self.inside.lines c.self.invariant c.args.space c.args.page c.zero-zero.result c.in-Some.old c.zero-zero.ensures.zero c.in-Some.ensures).0
-
 pub release-freed-requires-clause-some : goal.release-freed-requires-clause-some
 release-freed-requires-clause-some c = (before_release c.self.inside.tables c.self.inside.pool c.self.inside.units c.self.inside.lines c.self.invariant c.args.space c.args.page c.zero-zero.result c.in-Some.old c.zero-zero.ensures.zero c.in-Some.ensures).1
 
@@ -35,18 +30,10 @@ hold-added-requires-clause-few c = (before (goal.at.hold-added-requires-clause-f
 pub overflow_sub-self : goal.overflow_sub-self
 overflow_sub-self c = (framed (goal.at.overflow_sub-self c).After-hold-added).fits
 
-pub overflow_add-self : goal.overflow_add-self
-overflow_add-self c = omega (arith, (framed (goal.at.overflow_add-self c).After-hold-added).small)
-
 pub invariant_of-self : goal.invariant_of-self
 invariant_of-self c =
     subst (λ v. IsBooked v c.hold-added.new.pool (c.self.inside.units - c.release-freed.result + c.hold-added.result) c.self.inside.lines)
     (sym (c.set_entry.ensures ∙ entry_is_frame c.self.inside.tables c.args.space c.args.page c.args.frame c.in-Some.old c.in-Some.ensures)) (framed (goal.at.invariant_of-self c).After-hold-added).books
-
-pub returns-clause-framed : goal.returns-clause-framed
-returns-clause-framed c =
-    c.set_entry.ensures ∙ entry_is_frame c.self.inside.tables c.args.space c.args.page c.args.frame c.in-Some.old c.in-Some.ensures
-    ∙ ap (λ (v : LedgerView). with_frame v c.args.space c.args.page c.args.frame) c.self.view_is
 
 pub returns-clause-freed : goal.returns-clause-freed
 returns-clause-freed c =

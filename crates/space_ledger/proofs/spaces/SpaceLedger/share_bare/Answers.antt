@@ -1,9 +1,6 @@
-use Rattle.std.proofs.Common.{◌<◌, sym, subst}
-use Rattle.std.specs.FinMap.{len}
-use Rattle.page_table.specs.Run.{IsRunFrom}
-use Rattle.space_maps.specs.Spaces.{space_in}
-use Rattle.space_ledger.specs.View.{LedgerView}
-use Rattle.space_ledger.specs.Calls.AreSharedBare.{Still}
+use Rattle.space_ledger.proofs.Common.{◌<◌, sym, subst, len}
+use Rattle.space_ledger.proofs.Pages.{IsRunFrom}
+use Rattle.space_ledger.proofs.Views.{space_in, LedgerView, Still}
 use Rattle.space_ledger.proofs.Sharing.{IsSharing, bare_run, fewer, one_more}
 use Rattle.space_ledger.proofs.spaces.SpaceLedger.share_bare.Goals as goal
 

@@ -1,5 +1,5 @@
-use Rattle.std.specs.FinMap.{len}
-use Rattle.space_maps.specs.Spaces.{space_in}
+use Rattle.space_ledger.proofs.Common.{len}
+use Rattle.space_ledger.proofs.Views.{space_in}
 use Rattle.space_ledger.proofs.Sharing.{IsSharing}
 use Rattle.space_ledger.proofs.spaces.SpaceLedger.share_bare.Given as goal
 

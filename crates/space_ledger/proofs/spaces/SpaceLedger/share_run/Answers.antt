@@ -1,58 +1,39 @@
-use Rattle.std.proofs.Common.{◌+◌, sym, ap, subst, ◌∙◌, arith}
-use Rattle.page_table.specs.Run.{IsRunFrom}
-use Rattle.space_maps.specs.Spaces.{holds_space, page_in, space_in}
-use Rattle.space_ledger.specs.View.{LedgerView, with_run_shared}
-use Rattle.space_ledger.specs.Calls.{AreBareBelow, IsBooked}
-use Rattle.space_ledger.proofs.RunBooks.{few_at, frame_low, pages_low, run_books, run_fits}
+use Rattle.space_ledger.proofs.Common.{◌+◌, sym, ap, subst, ◌∙◌, arith}
+use Rattle.space_ledger.proofs.Pages.{IsRunFrom}
+use Rattle.space_ledger.proofs.Views.{AreBareBelow, IsBooked, LedgerView, holds_space, page_in, space_in, with_run_shared}
+use Rattle.space_ledger.proofs.RunBooks.{SharesRun, few_at, frame_low, pages_low, run_books, run_fits}
 use Rattle.space_ledger.proofs.spaces.SpaceLedger.share_run.Goals as goal
+use Rattle.space_ledger.proofs.spaces.SpaceLedger.share_run.Goals.{After-zero-zero}
+
+known : (c : After-zero-zero) → SharesRun c.self.inside.tables c.self.inside.pool c.self.inside.units c.self.inside.lines c.args.from c.args.to c.args.run.now
+known c = record {
+  kept = c.self.invariant;
+  sound = c.zero-zero.ensures.sound;
+  has = ap (λ (v : LedgerView). holds_space v c.args.to) c.self.view_is ∙ c.requires.space;
+  first = subst (λ (v : LedgerView). IsRunFrom (space_in v c.args.to).awaiting 0 c.args.run.now) (sym c.self.view_is) c.requires.first;
+  bare = subst (λ (v : LedgerView). AreBareBelow v c.args.from c.args.to (c.args.run.now.page + c.args.run.now.n)) (sym c.self.view_is) c.requires.bare;
+}
 
 pub share_run-requires-clause-low : goal.share_run-requires-clause-low
-share_run-requires-clause-low c =
-    pages_low c.self.inside.tables c.self.inside.pool c.self.inside.units c.self.inside.lines c.self.invariant c.zero-zero.ensures.sound c.args.from c.args.to c.args.run.now
-    (ap (λ (v : LedgerView). holds_space v c.args.to) c.self.view_is ∙ c.requires.space)
-    (subst (λ (v : LedgerView). IsRunFrom (space_in v c.args.to).awaiting 0 c.args.run.now) (sym c.self.view_is) c.requires.first)
-    (subst (λ (v : LedgerView). AreBareBelow v c.args.from c.args.to (c.args.run.now.page + c.args.run.now.n)) (sym c.self.view_is) c.requires.bare)
+share_run-requires-clause-low c = pages_low (known (goal.at.share_run-requires-clause-low c).After-zero-zero)
 
 pub hold_run-requires-clause-there : goal.hold_run-requires-clause-there
-hold_run-requires-clause-there c =
-    frame_low c.self.inside.tables c.self.inside.pool c.self.inside.units c.self.inside.lines c.self.invariant c.zero-zero.ensures.sound c.args.from c.args.to c.args.run.now
-    (ap (λ (v : LedgerView). holds_space v c.args.to) c.self.view_is ∙ c.requires.space)
-    (subst (λ (v : LedgerView). IsRunFrom (space_in v c.args.to).awaiting 0 c.args.run.now) (sym c.self.view_is) c.requires.first)
-    (subst (λ (v : LedgerView). AreBareBelow v c.args.from c.args.to (c.args.run.now.page + c.args.run.now.n)) (sym c.self.view_is) c.requires.bare)
+hold_run-requires-clause-there c = frame_low (known (goal.at.hold_run-requires-clause-there c).After-zero-zero)
 
 pub hold_run-requires-clause-few : goal.hold_run-requires-clause-few
-hold_run-requires-clause-few c =
-    few_at c.self.inside.tables c.self.inside.pool c.self.inside.units c.self.inside.lines c.self.invariant c.zero-zero.ensures.sound c.args.from c.args.to c.args.run.now
-    (ap (λ (v : LedgerView). holds_space v c.args.to) c.self.view_is ∙ c.requires.space)
-    (subst (λ (v : LedgerView). IsRunFrom (space_in v c.args.to).awaiting 0 c.args.run.now) (sym c.self.view_is) c.requires.first)
-    (subst (λ (v : LedgerView). AreBareBelow v c.args.from c.args.to (c.args.run.now.page + c.args.run.now.n)) (sym c.self.view_is) c.requires.bare)
-    c.share_run.ensures.apart c.zero-zero.result c.zero-zero.ensures.zero
+hold_run-requires-clause-few c = few_at (known (goal.at.hold_run-requires-clause-few c).After-zero-zero) c.share_run.ensures.apart c.zero-zero.result c.zero-zero.ensures.zero
 
 pub hold_run-requires-clause-short : goal.hold_run-requires-clause-short
-hold_run-requires-clause-short c =
-    let low = pages_low c.self.inside.tables c.self.inside.pool c.self.inside.units c.self.inside.lines c.self.invariant c.zero-zero.ensures.sound c.args.from c.args.to c.args.run.now
-    (ap (λ (v : LedgerView). holds_space v c.args.to) c.self.view_is ∙ c.requires.space)
-    (subst (λ (v : LedgerView). IsRunFrom (space_in v c.args.to).awaiting 0 c.args.run.now) (sym c.self.view_is) c.requires.first)
-    (subst (λ (v : LedgerView). AreBareBelow v c.args.from c.args.to (c.args.run.now.page + c.args.run.now.n)) (sym c.self.view_is) c.requires.bare) in
-    omega (arith, low)
+hold_run-requires-clause-short c = let low = pages_low (known (goal.at.hold_run-requires-clause-short c).After-zero-zero) in omega (arith, low)
 
 pub overflow_add-self : goal.overflow_add-self
 overflow_add-self c =
-    let fits = run_fits c.self.inside.tables c.self.inside.pool c.self.inside.units c.self.inside.lines c.self.invariant c.zero-zero.ensures.sound c.args.from c.args.to c.args.run.now
-    (ap (λ (v : LedgerView). holds_space v c.args.to) c.self.view_is ∙ c.requires.space)
-    (subst (λ (v : LedgerView). IsRunFrom (space_in v c.args.to).awaiting 0 c.args.run.now) (sym c.self.view_is) c.requires.first)
-    (subst (λ (v : LedgerView). AreBareBelow v c.args.from c.args.to (c.args.run.now.page + c.args.run.now.n)) (sym c.self.view_is) c.requires.bare)
-    c.share_run.ensures.apart c.zero-zero.result c.zero-zero.ensures.zero c.hold_run.result c.hold_run.ensures.units in
-    omega (arith, fits)
+    let fits = run_fits (known (goal.at.overflow_add-self c).After-zero-zero) c.share_run.ensures.apart c.zero-zero.result c.zero-zero.ensures.zero c.hold_run.result c.hold_run.ensures.units in omega (arith, fits)
 
 pub invariant_of-self : goal.invariant_of-self
 invariant_of-self c =
     subst (λ (v : LedgerView). IsBooked v c.hold_run.new.pool (c.self.inside.units + c.hold_run.result) c.self.inside.lines) (sym c.share_run.ensures.shared)
-    (run_books c.self.inside.tables c.self.inside.pool c.self.inside.units c.self.inside.lines c.self.invariant c.zero-zero.ensures.sound c.args.from c.args.to c.args.run.now
-    (ap (λ (v : LedgerView). holds_space v c.args.to) c.self.view_is ∙ c.requires.space)
-    (subst (λ (v : LedgerView). IsRunFrom (space_in v c.args.to).awaiting 0 c.args.run.now) (sym c.self.view_is) c.requires.first)
-    (subst (λ (v : LedgerView). AreBareBelow v c.args.from c.args.to (c.args.run.now.page + c.args.run.now.n)) (sym c.self.view_is) c.requires.bare)
-    c.share_run.ensures.apart c.zero-zero.result c.zero-zero.ensures.zero c.hold_run.new.pool c.hold_run.result c.hold_run.ensures.held c.hold_run.ensures.units)
+    (run_books (known (goal.at.invariant_of-self c).After-zero-zero) c.share_run.ensures.apart c.zero-zero.result c.zero-zero.ensures.zero c.hold_run.new.pool c.hold_run.result c.hold_run.ensures.held c.hold_run.ensures.units)
 
 pub returns-clause-shared : goal.returns-clause-shared
 returns-clause-shared c = c.share_run.ensures.shared ∙ ap (λ (v : LedgerView). with_run_shared v c.args.to c.args.run.now c.args.run.now.n) c.self.view_is

@@ -1,12 +1,6 @@
-use Rattle.std.proofs.Common.{sym, ap, subst, ◌∙◌, ◌≡◌, ◌+◌, ◌-◌, ◌&&◌, not, cond, length, [], ◌∷◌}
-use Rattle.std.specs.Option.{is_some}
+use Rattle.space_ledger.proofs.Common.{sym, ap, subst, ◌∙◌, ◌≡◌, ◌+◌, ◌-◌, ◌&&◌, not, cond, length, [], ◌∷◌, is_some}
+use Rattle.space_ledger.proofs.Views.{is_alone, class, units, Store, ledger_after, page_in, space_in, LedgerView, ledger_of, lines_of, RisesBeside}
 use Rattle.overlay_bits.specs.Lines.{with_lines}
-use Rattle.ledger.specs.Ledger.{is_alone}
-use Rattle.ledger.specs.Units.{class, units}
-use Rattle.ledger.specs.Events.{Store, ledger_after}
-use Rattle.space_maps.specs.Spaces.{page_in, space_in}
-use Rattle.space_ledger.specs.View.{LedgerView, ledger_of, lines_of}
-use Rattle.space_ledger.specs.Calls.{RisesBeside}
 use Rattle.space_ledger.proofs.Rises.{Rises, rises}
 use Rattle.space_ledger.proofs.spaces.SpaceLedger.store_units.Goals as goal
 use Rattle.space_ledger.proofs.spaces.SpaceLedger.store_units.Goals.{After-rise_of}

@@ -1,6 +1,5 @@
-use Rattle.std.proofs.Common.{◌≡◌, ◌+◌, None, sym, subst, ◌∙◌}
-use Rattle.space_ledger.specs.View.{LedgerView, overlay_at}
-use Rattle.space_ledger.specs.Calls.{AreBareOnZero}
+use Rattle.space_ledger.proofs.Common.{◌≡◌, ◌+◌, None, sym, subst, ◌∙◌}
+use Rattle.space_ledger.proofs.Views.{LedgerView, overlay_at, AreBareOnZero}
 use Rattle.space_ledger.proofs.Removing.{zeros_of_run}
 use Rattle.space_ledger.proofs.spaces.SpaceLedger.zeros_from.Goals as goal
 

@@ -1,11 +1,8 @@
-use Rattle.std.proofs.Common.{sym}
-use Rattle.space_ledger.proofs.Seen.{no_page_is, shows}
-use Rattle.space_ledger.proofs.TableOps.{next_is}
-use Rattle.space_ledger.proofs.Overlaid.{at_held, none_held}
+use Rattle.space_ledger.proofs.Seen.{next_is, no_page_is}
 use Rattle.space_ledger.proofs.tables.Tables.next.Goals as goal
 
 pub returns-in-Some : goal.returns-in-Some
-returns-in-Some c = next_is (shows c.self.view_is c.self.invariant) c.args.space c.in-Some.space.now.table c.in-Some.space.now.table (at_held c.self.inside.spaces c.args.space c.in-Some.ensures) c.args.page c.next.result c.next.ensures
+returns-in-Some c = next_is c.self.view_is c.self.invariant c.args.space c.in-Some.space.now c.in-Some.ensures c.args.page c.next.result c.next.ensures
 
 pub returns-in-None : goal.returns-in-None
-returns-in-None c = λ q from. no_page_is (shows c.self.view_is c.self.invariant) c.args.space q (sym (none_held c.self.inside.spaces c.args.space c.in-None.ensures))
+returns-in-None c = λ q from. no_page_is c.self.view_is c.self.invariant c.args.space q c.in-None.ensures

@@ -1,19 +1,13 @@
-use Rattle.std.proofs.Common.{sym, subst}
-use Rattle.page_table.specs.Table.{Pages}
-use Rattle.page_table.specs.Run.{IsNextRun}
-use Rattle.space_ledger.proofs.Seen.{no_page_is, shows}
-use Rattle.space_ledger.proofs.TableOps.{entries_is, settled_in}
+use Rattle.space_ledger.proofs.Common.{subst}
+use Rattle.space_ledger.proofs.Pages.{Pages, IsNextRun}
+use Rattle.space_ledger.proofs.Seen.{entries_is, no_page_is}
 use Rattle.space_ledger.proofs.Removing.{none_next}
-use Rattle.space_ledger.proofs.Overlaid.{at_held, none_held}
 use Rattle.space_ledger.proofs.tables.Tables.next_run.Goals as goal
-
-pub next_run-requires : goal.next_run-requires
-next_run-requires c = settled_in (shows c.self.view_is c.self.invariant) c.args.space c.in-Some.space.now.table c.in-Some.space.now.table (at_held c.self.inside.spaces c.args.space c.in-Some.ensures) c.requires
 
 pub returns-in-Some : goal.returns-in-Some
 returns-in-Some c =
     subst (λ (m : Pages). IsNextRun m c.args.page c.next_run.result)
-    (entries_is (shows c.self.view_is c.self.invariant) c.args.space c.in-Some.space.now.table c.in-Some.space.now.table (at_held c.self.inside.spaces c.args.space c.in-Some.ensures)) c.next_run.ensures
+    (entries_is c.self.view_is c.self.invariant c.args.space c.in-Some.space.now c.in-Some.ensures) c.next_run.ensures
 
 pub returns-in-None : goal.returns-in-None
-returns-in-None c = none_next c.args.self.now c.args.space c.args.page (λ q. no_page_is (shows c.self.view_is c.self.invariant) c.args.space q (sym (none_held c.self.inside.spaces c.args.space c.in-None.ensures)))
+returns-in-None c = none_next c.args.self.now c.args.space c.args.page (λ q. no_page_is c.self.view_is c.self.invariant c.args.space q c.in-None.ensures)

@@ -1,28 +1,16 @@
-use Rattle.std.proofs.Common.{◌+◌, sym, subst, arith}
-use Rattle.page_table.specs.Table.{Pages}
-use Rattle.page_table.specs.Run.{IsRunFrom}
-use Rattle.space_ledger.proofs.Seen.{awaiting_is, no_space_is, shows}
-use Rattle.space_ledger.proofs.Mapping.{room_in}
-use Rattle.space_ledger.proofs.TableOps.{absent_is, shown_awaited_run}
-use Rattle.space_ledger.proofs.Overlaid.{all_shared_run, at_held, none_held, put_kept, put_seen}
+use Rattle.space_ledger.proofs.Common.{◌+◌, arith}
+use Rattle.space_ledger.proofs.Seen.{absent_is, room_in, shows}
+use Rattle.space_ledger.proofs.TableOps.{run_made}
 use Rattle.space_ledger.proofs.tables.Tables.share_run.Goals as goal
 
-pub share_run-requires-clause-first : goal.share_run-requires-clause-first
-share_run-requires-clause-first c = subst (λ (m : Pages). IsRunFrom m 0 c.args.run.now) (awaiting_is (shows c.self.view_is c.self.invariant) c.args.space c.in-Some.space.now.table (sym (at_held c.self.inside.spaces c.args.space c.in-Some.ensures.value))) c.requires.first
-
 pub share_run-requires-clause-few : goal.share_run-requires-clause-few
-share_run-requires-clause-few c = let low = c.requires.low in room_in (shows c.self.view_is c.self.invariant) c.args.space c.in-Some.space.now.table (sym (at_held c.self.inside.spaces c.args.space c.in-Some.ensures.value)) c.args.run.now.n (omega (arith, low))
-
-pub unreachable-requires : goal.unreachable-requires
-unreachable-requires c = no_space_is (shows c.self.view_is c.self.invariant) c.args.space (sym (none_held c.self.inside.spaces c.args.space c.in-None.ensures.value)) c.requires.there
+share_run-requires-clause-few c = let low = c.requires.low in room_in c.self.view_is c.self.invariant c.args.space c.in-Some.space.now c.in-Some.ensures.value c.args.run.now.n (omega (arith, low))
 
 pub invariant_of-self : goal.invariant_of-self
-invariant_of-self c =
-    put_kept c.self.inside c.args.space c.share_run.new.self (shown_awaited_run (shows c.self.view_is c.self.invariant) c.args.space c.in-Some.space.now.table c.share_run.new.self.table (at_held c.self.inside.spaces c.args.space c.in-Some.ensures.value) c.args.run.now c.share_run.ensures.shared c.requires.first c.share_run.ensures.apart c.requires.low)
-    (all_shared_run c.self.view_is c.self.invariant c.args.space c.in-Some.space.now c.share_run.new.self c.in-Some.ensures.value c.args.run.now c.share_run.ensures.shared c.share_run.ensures.apart c.requires.low c.share_run.ensures.overlaid)
-
-pub returns-clause-apart : goal.returns-clause-apart
-returns-clause-apart c i low = absent_is (shows c.self.view_is c.self.invariant) c.args.space c.in-Some.space.now.table c.share_run.new.self.table (at_held c.self.inside.spaces c.args.space c.in-Some.ensures.value) (c.args.run.now.page + i) (c.share_run.ensures.apart i low)
+invariant_of-self c = (run_made (shows c.self.view_is c.self.invariant) c.args.space c.in-Some.space.now c.share_run.new.self c.in-Some.ensures.value c.args.run.now c.share_run.ensures.shared c.share_run.ensures.apart c.requires.low c.share_run.ensures.overlaid).own
 
 pub returns-clause-shared : goal.returns-clause-shared
-returns-clause-shared c = put_seen c.self.inside c.args.space c.share_run.new.self (shown_awaited_run (shows c.self.view_is c.self.invariant) c.args.space c.in-Some.space.now.table c.share_run.new.self.table (at_held c.self.inside.spaces c.args.space c.in-Some.ensures.value) c.args.run.now c.share_run.ensures.shared c.requires.first c.share_run.ensures.apart c.requires.low)
+returns-clause-shared c = (run_made (shows c.self.view_is c.self.invariant) c.args.space c.in-Some.space.now c.share_run.new.self c.in-Some.ensures.value c.args.run.now c.share_run.ensures.shared c.share_run.ensures.apart c.requires.low c.share_run.ensures.overlaid).is
+
+pub returns-clause-apart : goal.returns-clause-apart
+returns-clause-apart c i low = absent_is c.self.view_is c.self.invariant c.args.space c.in-Some.space.now c.in-Some.ensures.value (c.args.run.now.page + i) (c.share_run.ensures.apart i low)

@@ -1,9 +1,7 @@
-use Rattle.std.proofs.Common.{ap}
-use Rattle.space_maps.specs.Mapped.{mapped}
-use Rattle.space_ledger.specs.View.{LedgerView}
-use Rattle.space_ledger.specs.Kept.{seen}
+use Rattle.space_ledger.proofs.Common.{ap}
+use Rattle.space_ledger.proofs.Views.{mapped, LedgerView, seen}
 use Rattle.space_ledger.proofs.Seen.{shows}
-use Rattle.space_ledger.proofs.TableOps.{is_sound}
+use Rattle.space_ledger.proofs.Counting.{is_sound}
 use Rattle.space_ledger.proofs.tables.Tables.zero.Goals as goal
 
 pub returns-clause-zero : goal.returns-clause-zero
