@@ -6,6 +6,7 @@
 //! - `entry`: what a name has
 //! - `filled`: lists whose elements are alike until they are written
 //! - `slots`: names and entries by slot
+//! - `guesses`: where a search looks first
 //! - `places`: slots counted on beyond the last one, and the home of a name
 //! - `probes`: where a name stands or would stand
 //! - `shifts`: rows are put in and taken out
@@ -14,6 +15,7 @@
 
 mod entry;
 mod filled;
+mod guesses;
 mod places;
 mod probes;
 mod shifts;

@@ -116,6 +116,7 @@ impl Slots {
         self.entries.set(to, entry);
         self.names.set(from, 0);
     }
+
     // Moves the rows of the slots up to another one up by one.
     pub fn move_up(&mut self, from: usize, end: usize)
         requires order { from < end }

@@ -5,8 +5,8 @@ use Rattle.overlay_mapping_table.proofs.probes.place_of.Goals as goal
 
 pub probing-init : goal.probing-init
 probing-init c =
-    past_begun c.args.slots.now c.args.p (c.len-n.result + c.home.result) c.requires
-    (ap (λ n. n + c.home.result) c.len-n.ensures ∙ ap (λ h. length c.args.slots.now + h) c.home.ensures.same
+    past_begun c.args.slots.now c.args.p (c.len-n.result + c.home-slot.result) c.requires
+    (ap (λ n. n + c.home-slot.result) c.len-n.ensures ∙ ap (λ h. length c.args.slots.now + h) c.home-slot.ensures.same
     ∙ ap (λ n. length c.args.slots.now + home_number c.args.p % n) c.len-n.ensures)
     c.beyond-place.result c.beyond-place.ensures
 
@@ -17,8 +17,8 @@ returns-then-number_at-name-clause-there c =
 
 pub returns-then-not-is_before-clause-gap : goal.returns-then-not-is_before-clause-gap
 returns-then-not-is_before-clause-gap c =
-    gap_found c.args.slots.now c.args.p (c.len-n.result + c.home.result) c.requires
-    (ap (λ n. n + c.home.result) c.len-n.ensures ∙ ap (λ h. length c.args.slots.now + h) c.home.ensures.same
+    gap_found c.args.slots.now c.args.p (c.len-n.result + c.home-slot.result) c.requires
+    (ap (λ n. n + c.home-slot.result) c.len-n.ensures ∙ ap (λ h. length c.args.slots.now + h) c.home-slot.ensures.same
     ∙ ap (λ n. length c.args.slots.now + home_number c.args.p % n) c.len-n.ensures)
     c.probing.place c.wrap-at.result c.number_at.result c.probing.invariant
     (c.wrap-at.ensures.same ∙ ap (λ n. c.probing.place % n) c.len-n.ensures) c.number_at.ensures
