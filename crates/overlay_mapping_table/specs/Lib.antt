@@ -7,3 +7,4 @@ pub mod Codes
 pub mod Kept
 pub mod Probes
 pub mod Shifts
+pub mod Gaps
