@@ -32,7 +32,8 @@ pub(crate) fn room_from(names: &Filled<u64>, gap: Gap, from: usize, end: usize) 
     ensures inside { end + result ≤ length names.now }
     ensures bare { AreBare (seen names.now 0 gap) end result }
 {
-    if gap.end == end || end - from < MANY {
+    let is_there = gap.len > 0 && gap.end == end;
+    if is_there || end - from < MANY {
         return 1;
     }
     let most = ROOM.min(names.len() - end);

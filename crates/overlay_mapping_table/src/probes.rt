@@ -15,8 +15,11 @@ pub(crate) fn place_of(slots: &Slots, guesses: &Guesses, p: OverlayPage) -> Resu
     let n = slots.len();
     let name = p.address(0);
     let slot = home(p, n);
+    if slots.number_at(slot) == name {
+        return Ok(slot);
+    }
     let home = n + slot;
-    let mut place = beyond(slots, home, home + guesses.steps(slot) as usize);
+    let mut place = beyond(slots, home, home + guesses.steps(slot, home) as usize);
     'probing: loop {
         let at = wrap(place, n);
         if slots.number_at(at) == name {

@@ -88,7 +88,7 @@ fn pass(slots: &Slots, guesses: &Guesses, from: usize) -> usize
     if from < end && is_before(slots, end - 1, from) {
         beyond(slots, from, end)
     } else {
-        let steps = guesses.steps(wrap(from, slots.len()));
+        let steps = guesses.steps(wrap(from, slots.len()), from);
         beyond(slots, from, from + steps as usize)
     }
 }
