@@ -19,6 +19,7 @@ use std::marker::Model;
 pub struct MappingTable {
     // a row stands at its name's home, or behind rows whose homes lie no further on
     slots: Slots,
+    // where the next look-up begins
     guesses: Guesses,
     count: u32,
     room: u32,
@@ -74,7 +75,8 @@ impl MappingTable {
 
     /// Gives an overlay an entry, in place of the one that it has. It has one, or there are fewer entries than there
     /// is room for. Every other overlay keeps its entry. Takes no memory. Costs a look-up, and where it has none a step
-    /// for each slot from there up to the next empty one.
+    /// for each slot of the run in which it is put, at most: overlays that are put in one behind the other cost the slots
+    /// between them.
     pub fn insert(&mut self, p: OverlayPage, e: Entry)
         requires room { HasRoomFor self.old p }
         ensures entries { self.new.entries ≡ map.insert self.old.entries p e }
@@ -92,8 +94,8 @@ impl MappingTable {
     }
 
     /// Takes away the entry of an overlay, and answers it. None exactly where it has none, and then nothing changes.
-    /// Every other overlay keeps its entry. Takes no memory. Costs a look-up and a step for each slot behind, up to an
-    /// empty one or one whose overlay is at its home.
+    /// Every other overlay keeps its entry. Takes no memory. Costs a look-up and a step for each slot of its run, at most:
+    /// overlays that are taken out one behind the other cost the slots between them.
     pub fn remove(&mut self, p: OverlayPage) -> Option<Entry>
         ensures entries { self.new.entries ≡ map.remove self.old.entries p }
         ensures room { self.new.room ≡ self.old.room }
