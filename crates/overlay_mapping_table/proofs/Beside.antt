@@ -5,14 +5,9 @@ use Rattle.std.proofs.lemmas.Bool.{cases_eq, cases_lt}
 use Rattle.std.proofs.lemmas.Bool.Decides.{nat_tests}
 use Rattle.std.proofs.lemmas.List.{get_or_default, get_or-replicate, get_or-set_same, get_or-set_other, get_or_past, length-replicate, length-set}
 use Rattle.overlay_address.specs.Names.{IsName, split_address}
-use Rattle.overlay_mapping_table.specs.declared.entry.Entry.{Entry}
 use Rattle.overlay_mapping_table.specs.Rows.{slot_of, slots_of, name_in, no_rows, AreSlots}
 
 -- Slots, by the names and what stands beside them.
-
--- an entry of no lines, for what no slot needs
-pub nothing : Entry
-nothing = record { bits = []; block = record { unit = 0; order = 0 } }
 
 -- a name is the address of its first byte
 splits : (name : ℕ) → IsName name → split_address name ≡ None → ⊥

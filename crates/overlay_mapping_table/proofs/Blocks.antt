@@ -1,27 +1,38 @@
-use Rattle.std.proofs.Common.{◌≡◌, ℕ, ◌+◌, ◌-◌, ◌%◌, ◌<◌, ◌≤◌, inl, inr, List, length, get_or, slice_set, Option, None, subst, sym, ap, ap₂, ◌∙◌, arith}
+use Rattle.std.proofs.Common.{◌≡◌, ℕ, ◌+◌, ◌-◌, ◌%◌, ◌<◌, ◌≤◌, inl, inr, List, length, get_or, Option, None, subst, sym, ap, ap₂, ◌∙◌, arith}
 use Rattle.std.specs.Prelude.{◌⊎◌}
 use Rattle.std.proofs.Math.Nat.{add-mod_right, mod-add-mod, mod-eq_of_lt, mod-lt}
-use Rattle.std.proofs.lemmas.Bool.{cases_lt}
-use Rattle.std.proofs.lemmas.List.{get_or-set_same, get_or-set_other, get_or_past, length-set}
+use Rattle.std.proofs.lemmas.Bool.{cases_lt, cases_order}
+use Rattle.std.proofs.lemmas.List.{get_or_past}
 use Rattle.overlay_address.specs.Names.{IsName}
 use Rattle.overlay_mapping_table.specs.declared.entry.Entry.{Entry}
-use Rattle.overlay_mapping_table.specs.Rows.{ring, slot_of, slots_of, AreSlots, StandOnce}
-use Rattle.overlay_mapping_table.specs.Shifts.{AreCopied, AreLowered, AreOneUp, AreRaised}
-use Rattle.overlay_mapping_table.proofs.Beside.{kept_clear, nothing, set_empty, sized, slot_at}
+use Rattle.overlay_mapping_table.specs.Rows.{nothing, ring, slot_of, slots_of, AreSlots, StandOnce}
+use Rattle.overlay_mapping_table.specs.Gaps.{AreBare, AreDown, AreUp}
+use Rattle.overlay_mapping_table.specs.Shifts.{AreLowered, AreOneUp, AreRaised}
+use Rattle.overlay_mapping_table.proofs.Beside.{none_back, sized, slot_at}
 use Rattle.overlay_mapping_table.proofs.Moving.{IsShift, lowered, raised}
 
 -- Rows that move as a block.
 
--- Where names and entries are copied alike, slots are.
-module _ (names names₂ : List ℕ) (xs xs₂ : List Entry) (from to n : ℕ) (kept : AreSlots names xs) (source : from + n ≤ length names)
-    (target : to + n ≤ length names) (named : AreCopied names names₂ from to n) (beside : AreCopied xs xs₂ from to n) where
+-- a slot without a name is empty
+bare_slot : (names : List ℕ) (xs : List Entry) (i : ℕ) → length xs ≡ length names → get_or names i 0 ≡ 0 → get_or (slots_of names xs) i None ≡ None
+bare_slot names xs i same none = by (cases_lt i (length names))
+  where
+    by : (i < length names) ⊎ (length names ≤ i) → get_or (slots_of names xs) i None ≡ None
+    by (inl inside) = slot_at names xs i nothing same inside ∙ none_back (get_or names i 0) (get_or xs i nothing) none
+    by (inr past) = get_or_past (slots_of names xs) i None (omega (arith, past, sized names xs same))
+
+-- Where names and entries move alike, slots do.
+module _ (names names₂ : List ℕ) (xs xs₂ : List Entry) (kept : AreSlots names xs) (named : length names₂ ≡ length names) (beside : length xs₂ ≡ length xs) where
   level : length xs₂ ≡ length names₂
-  level = omega (arith, named.size, beside.size, kept.same)
+  level = omega (arith, named, beside, kept.same)
+
+  size_same : length (slots_of names₂ xs₂) ≡ length (slots_of names xs)
+  size_same = omega (arith, sized names₂ xs₂ level, named, kept.size)
 
   slot_as : (i j : ℕ) → i < length names → j < length names → get_or names₂ i 0 ≡ get_or names j 0 → get_or xs₂ i nothing ≡ get_or xs j nothing
       → get_or (slots_of names₂ xs₂) i None ≡ get_or (slots_of names xs) j None
   slot_as i j inside within name x =
-      slot_at names₂ xs₂ i nothing level (omega (arith, inside, named.size))
+      slot_at names₂ xs₂ i nothing level (omega (arith, inside, named))
       ∙ ap₂ (λ m y. slot_of m y) name x
       ∙ sym (slot_at names xs j nothing kept.same within)
 
@@ -32,78 +43,85 @@ module _ (names names₂ : List ℕ) (xs xs₂ : List Entry) (from to n : ℕ) (
       by : (i < length names) ⊎ (length names ≤ i) → get_or (slots_of names₂ xs₂) i None ≡ get_or (slots_of names xs) i None
       by (inl inside) = slot_as i i inside inside name x
       by (inr past) =
-          get_or_past (slots_of names₂ xs₂) i None (omega (arith, past, sized names₂ xs₂ level, named.size))
+          get_or_past (slots_of names₂ xs₂) i None (omega (arith, past, sized names₂ xs₂ level, named))
           ∙ sym (get_or_past (slots_of names xs) i None (omega (arith, past, kept.size)))
 
-  slots_copied : (i j : ℕ) → to ≤ i → i < to + n → j ≡ from + (i - to) → get_or (slots_of names₂ xs₂) i None ≡ get_or (slots_of names xs) j None
-  slots_copied i j low less is =
-      slot_as i j (omega (arith, less, target)) (omega (arith, low, less, source, is))
-      (named.copied i 0 low less ∙ ap (λ k. get_or names k 0) (sym is))
-      (beside.copied i nothing low less ∙ ap (λ k. get_or xs k nothing) (sym is))
-
-  slots_below : (i : ℕ) → i < to → get_or (slots_of names₂ xs₂) i None ≡ get_or (slots_of names xs) i None
-  slots_below i less = slot_stays i (named.below i 0 less) (beside.below i nothing less)
-
-  slots_above : (i : ℕ) → to + n ≤ i → get_or (slots_of names₂ xs₂) i None ≡ get_or (slots_of names xs) i None
-  slots_above i past = slot_stays i (named.above i 0 past) (beside.above i nothing past)
-
-  size_copied : length (slots_of names₂ xs₂) ≡ length (slots_of names xs)
-  size_copied = omega (arith, sized names₂ xs₂ level, named.size, kept.size)
-
-  kept_copied : AreSlots names₂ xs₂
-  kept_copied = record { same = level; size = sized names₂ xs₂ level; each = λ i. by i (cases_lt i to) (cases_lt i (to + n)) }
+  -- as slots, where each name is one of before or none
+  kept_by : ((i : ℕ) → (get_or names₂ i 0 ≡ 0) ⊎ ((j : ℕ) × (get_or names₂ i 0 ≡ get_or names j 0))) → AreSlots names₂ xs₂
+  kept_by was = record { same = level; size = sized names₂ xs₂ level; each = λ i. by i (was i) }
     where
-      by : (i : ℕ) → (i < to) ⊎ (to ≤ i) → (i < to + n) ⊎ (to + n ≤ i) → (get_or names₂ i 0 ≡ 0) ⊎ IsName (get_or names₂ i 0)
-      by i (inl less) inside = subst (λ m. (m ≡ 0) ⊎ IsName m) (sym (named.below i 0 less)) (kept.each i)
-      by i (inr low) (inl less) = subst (λ m. (m ≡ 0) ⊎ IsName m) (sym (named.copied i 0 low less)) (kept.each (from + (i - to)))
-      by i (inr low) (inr past) = subst (λ m. (m ≡ 0) ⊎ IsName m) (sym (named.above i 0 past)) (kept.each i)
+      by : (i : ℕ) → (get_or names₂ i 0 ≡ 0) ⊎ ((j : ℕ) × (get_or names₂ i 0 ≡ get_or names j 0)) → (get_or names₂ i 0 ≡ 0) ⊎ IsName (get_or names₂ i 0)
+      by i (inl none) = inl none
+      by i (inr from) = subst (λ m. (m ≡ 0) ⊎ IsName m) (sym from.1) (kept.each from.0)
 
-  pub kept_moved : (at : ℕ) (new : List ℕ) → new ≡ slice_set names₂ at 0 → AreSlots new xs₂
-  kept_moved at new is = subst (λ ns. AreSlots ns xs₂) (sym is) (kept_clear names₂ xs₂ at kept_copied)
+  module _ (from end room : ℕ) (up : AreUp names names₂ 0 from end room) (bare : get_or names₂ from 0 ≡ 0) (up₂ : AreUp xs xs₂ nothing from end room) where
+    pub kept_up : AreSlots names₂ xs₂
+    kept_up = kept_by (λ i. by i (cases_order i from) (cases_lt end i))
+      where
+        by : (i : ℕ) → (i ≡ from) ⊎ ((i < from) ⊎ (from < i)) → (end < i) ⊎ (i ≤ end)
+            → (get_or names₂ i 0 ≡ 0) ⊎ ((j : ℕ) × (get_or names₂ i 0 ≡ get_or names j 0))
+        by i (inl same) side = inl (ap (λ j. get_or names₂ j 0) same ∙ bare)
+        by i (inr (inl less)) side = inr (i, up.below i 0 less)
+        by i (inr (inr more)) (inl past) = above (up.above i 0 past)
+          where
+            above : (get_or names₂ i 0 ≡ get_or names i 0) ⊎ ((i < end + room) × (get_or names₂ i 0 ≡ 0))
+                → (get_or names₂ i 0 ≡ 0) ⊎ ((j : ℕ) × (get_or names₂ i 0 ≡ get_or names j 0))
+            above (inl stays) = inr (i, stays)
+            above (inr (near, none)) = inl none
+        by i (inr (inr more)) (inr le) =
+            let next : i - 1 + 1 ≡ i = omega (arith, more) in
+            inr (i - 1, ap (λ j. get_or names₂ j 0) (sym next) ∙ up.up (i - 1) 0 (omega (arith, more)) (omega (arith, le, more)))
 
-  -- the slots, once one of them is empty
-  emptied : (at : ℕ) (new : List ℕ) → new ≡ slice_set names₂ at 0 → slots_of new xs₂ ≡ slice_set (slots_of names₂ xs₂) at None
-  emptied at new is = ap (λ (ns : List ℕ). slots_of ns xs₂) is ∙ set_empty names₂ xs₂ at
+    pub bare_up_slot : get_or (slots_of names₂ xs₂) from None ≡ None
+    bare_up_slot = bare_slot names₂ xs₂ from level bare
 
-  pub bare_moved : (at : ℕ) (new : List ℕ) → new ≡ slice_set names₂ at 0 → at < length names → get_or (slots_of new xs₂) at None ≡ None
-  bare_moved at new is inside =
-      ap (λ (ss : List (Option (ℕ × Entry))). get_or ss at None) (emptied at new is)
-      ∙ get_or-set_same (slots_of names₂ xs₂) at None None (omega (arith, inside, sized names₂ xs₂ level, named.size))
+    pub rows_up : (slots : List (Option (ℕ × Entry))) → slots_of names xs ≡ slots → AreBare names end room → end < length names
+        → AreOneUp slots (slots_of names₂ xs₂) from end
+    rows_up slots stands free inside =
+        subst (λ ss. AreOneUp ss (slots_of names₂ xs₂) from end) stands (
+        record {
+          size = size_same;
+          up = λ i low less. slot_as (i + 1) i (omega (arith, less, inside)) (omega (arith, less, inside)) (up.up i 0 low less) (up₂.up i nothing low less);
+          below = λ i less. slot_stays i (up.below i 0 less) (up₂.below i nothing less);
+          above = λ i past. above i past (up.above i 0 past) (up₂.above i nothing past);
+        }
+        )
+      where
+        none : (i : ℕ) → get_or names₂ i 0 ≡ 0 → get_or names i 0 ≡ 0 → get_or (slots_of names₂ xs₂) i None ≡ get_or (slots_of names xs) i None
+        none i new old = bare_slot names₂ xs₂ i level new ∙ sym (bare_slot names xs i kept.same old)
 
-  kept_other : (at i : ℕ) (new : List ℕ) → new ≡ slice_set names₂ at 0 → (i ≡ at → ⊥) → get_or (slots_of new xs₂) i None ≡ get_or (slots_of names₂ xs₂) i None
-  kept_other at i new is differ =
-      ap (λ (ss : List (Option (ℕ × Entry))). get_or ss i None) (emptied at new is) ∙ get_or-set_other (slots_of names₂ xs₂) at i None None differ
+        above : (i : ℕ) → end < i → (get_or names₂ i 0 ≡ get_or names i 0) ⊎ ((i < end + room) × (get_or names₂ i 0 ≡ 0))
+            → (get_or xs₂ i nothing ≡ get_or xs i nothing) ⊎ ((i < end + room) × (get_or xs₂ i nothing ≡ nothing))
+            → get_or (slots_of names₂ xs₂) i None ≡ get_or (slots_of names xs) i None
+        above i past (inl stays) (inl stays₂) = slot_stays i stays stays₂
+        above i past (inl stays) (inr (near, rest)) = none i (stays ∙ free i past near) (free i past near)
+        above i past (inr (near, rest)) beside = none i rest (free i past near)
 
-  size_moved : (at : ℕ) (new : List ℕ) → new ≡ slice_set names₂ at 0 → length (slots_of new xs₂) ≡ length (slots_of names xs)
-  size_moved at new is = ap length (emptied at new is) ∙ length-set (slots_of names₂ xs₂) at None ∙ size_copied
+  module _ (to last : ℕ) (down : AreDown names names₂ 0 to last) (down₂ : AreDown xs xs₂ nothing to last) where
+    pub kept_down : AreSlots names₂ xs₂
+    kept_down = kept_by (λ i. by i (cases_order i last) (cases_lt i to))
+      where
+        by : (i : ℕ) → (i ≡ last) ⊎ ((i < last) ⊎ (last < i)) → (i < to) ⊎ (to ≤ i)
+            → (get_or names₂ i 0 ≡ 0) ⊎ ((j : ℕ) × (get_or names₂ i 0 ≡ get_or names j 0))
+        by i (inl same) side = inl (ap (λ j. get_or names₂ j 0) same ∙ down.here 0)
+        by i (inr (inl less)) (inl before) = inr (i, down.below i 0 before)
+        by i (inr (inl less)) (inr ge) = inr (i + 1, down.down i 0 ge less)
+        by i (inr (inr more)) side = inr (i, down.above i 0 more)
 
-  pub moved_up : (slots : List (Option (ℕ × Entry))) (new : List ℕ) (end : ℕ) → slots_of names xs ≡ slots → new ≡ slice_set names₂ from 0 → to ≡ from + 1
-      → end ≡ from + n → AreOneUp slots (slots_of new xs₂) from end
-  moved_up slots new end stands is next last =
-      subst (λ ss. AreOneUp ss (slots_of new xs₂) from end) stands (
-      record {
-        size = size_moved from new is;
-        up = λ i low less.
-            kept_other from (i + 1) new is (λ same. omega (arith, same, low))
-            ∙ slots_copied (i + 1) i (omega (arith, low, next)) (omega (arith, less, last, next)) (omega (arith, low, next));
-        below = λ i less. kept_other from i new is (λ same. omega (arith, same, less)) ∙ slots_below i (omega (arith, less, next));
-        above = λ i past. kept_other from i new is (λ same. omega (arith, same, past, last)) ∙ slots_above i (omega (arith, past, next, last));
-      }
-      )
+    pub bare_down_slot : get_or (slots_of names₂ xs₂) last None ≡ None
+    bare_down_slot = bare_slot names₂ xs₂ last level (down.here 0)
 
-  pub moved_down : (slots : List (Option (ℕ × Entry))) (new : List ℕ) (end : ℕ) → slots_of names xs ≡ slots → new ≡ slice_set names₂ end 0 → from ≡ to + 1
-      → end ≡ to + n → AreOneUp (slots_of new xs₂) slots to end
-  moved_down slots new end stands is next last =
-      subst (λ ss. AreOneUp (slots_of new xs₂) ss to end) stands (
-      record {
-        size = sym (size_moved end new is);
-        up = λ i low less.
-            sym (kept_other end i new is (λ same. omega (arith, same, less))
-            ∙ slots_copied i (i + 1) low (omega (arith, less, last)) (omega (arith, low, next)));
-        below = λ i less. sym (kept_other end i new is (λ same. omega (arith, same, less, last)) ∙ slots_below i less);
-        above = λ i past. sym (kept_other end i new is (λ same. omega (arith, same, past)) ∙ slots_above i (omega (arith, past, last)));
-      }
-      )
+    pub rows_down : (slots : List (Option (ℕ × Entry))) → slots_of names xs ≡ slots → last < length names → AreOneUp (slots_of names₂ xs₂) slots to last
+    rows_down slots stands inside =
+        subst (λ ss. AreOneUp (slots_of names₂ xs₂) ss to last) stands (
+        record {
+          size = sym size_same;
+          up = λ i low less.
+              sym (slot_as i (i + 1) (omega (arith, less, inside)) (omega (arith, less, inside)) (down.down i 0 low less) (down₂.down i nothing low less));
+          below = λ i less. sym (slot_stays i (down.below i 0 less) (down₂.below i nothing less));
+          above = λ i past. sym (slot_stays i (down.above i 0 past) (down₂.above i nothing past));
+        }
+        )
 
 -- The slots of places from one on, up to the last slot and from slot 0 on.
 near_slot : (n start from i : ℕ) → from ≡ start % n → start ≤ i → from + (i - start) < n → i % n ≡ from + (i - start)

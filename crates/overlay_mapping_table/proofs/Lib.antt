@@ -8,3 +8,5 @@ pub mod Blocks
 pub mod Ends
 pub mod Tables
 pub mod Fills
+pub mod Seen
+pub mod Laid

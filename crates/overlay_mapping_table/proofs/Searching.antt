@@ -80,7 +80,22 @@ module _ (n : ℕ) (slots : List (Option (ℕ × Entry))) where
 pub record IsBetween (n : ℕ) (slots : List (Option (ℕ × Entry))) (from low high : ℕ) : Type 0 where
   pub passed : IsPassed n slots from low
   pub order : low ≤ high
+  pub round : high ≤ from + n
   pub stops : IsBefore n slots from high → ⊥
+
+module _ (n : ℕ) (slots : List (Option (ℕ × Entry))) (from low middle high : ℕ) (between : IsBetween n slots from low high) (above : low ≤ middle)
+    (below : middle < high) where
+  pub halved_up : AreInOrder n slots → IsBefore n slots from middle → IsBetween n slots from (middle + 1) high
+  halved_up order is =
+      record {
+        passed = leapt n slots from low middle order between.passed above is;
+        order = omega (arith, below);
+        round = between.round;
+        stops = between.stops;
+      }
+
+  pub halved_down : (IsBefore n slots from middle → ⊥) → IsBetween n slots from low middle
+  halved_down stops = record { passed = between.passed; order = above; round = omega (arith, below, between.round); stops = stops }
 
 module _ (slots : List (Option (ℕ × Entry))) (sound : AreSound slots) where
   pub some : 0 < length slots
@@ -102,6 +117,13 @@ module _ (slots : List (Option (ℕ × Entry))) (sound : AreSound slots) where
           let e = spare_from from in
           let has = past.passed e.0 e.1 (omega (arith, e.2, le)) in
           absurd (not_bare (length slots) slots has.way e.0 e.0 has.has e.3 refl)
+
+  -- a round further on no row's home lies before
+  pub never : (from : ℕ) → IsBefore (length slots) slots from (from + length slots) → ⊥
+  never from is =
+      let e = spare_from from in
+      let has = all_before (length slots) slots from (from + length slots) sound.order is e.0 e.1 (omega (arith, e.2)) in
+      not_bare (length slots) slots has.way e.0 e.0 has.has e.3 refl
 
   pub stopped : (from low high : ℕ) → IsBetween (length slots) slots from low high → high ≤ low → IsBeyond (length slots) slots from low
   stopped from low high between le =

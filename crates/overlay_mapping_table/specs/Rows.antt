@@ -2,6 +2,7 @@ use Rattle.std.specs.Prelude.{◌≡◌, ℕ, zero, suc, ◌+◌, ◌%◌, ◌<�
 use Rattle.std.specs.Ordering.{nat_cmp}
 use Rattle.std.specs.FinMap.{FinMap, from_entries}
 use Rattle.overlay_address.specs.Names.{IsName}
+use Rattle.overlay_mapping_table.specs.declared.entry.Entry.{Entry}
 use Rattle.overlay_mapping_table.specs.Homes.{home_number, IsWay}
 
 -- Slots, each empty or with a row of a name and a value.
@@ -56,6 +57,10 @@ module _ {X : Type 0} where
   -- so many empty slots
   unfoldable pub no_rows : ℕ → List (Option (ℕ × X))
   no_rows n = replicate n None
+
+-- an entry of no lines, which stands beside no name
+unfoldable pub nothing : Entry
+nothing = record { bits = []; block = record { unit = 0; order = 0 } }
 
 -- beside each name stands a value, and each name is one or 0
 pub record AreSlots {X : Type 0} (names : List ℕ) (xs : List X) : Type 0 where

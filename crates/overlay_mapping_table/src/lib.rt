@@ -5,7 +5,10 @@
 //!
 //! - `entry`: what a name has
 //! - `filled`: lists whose elements are alike until they are written
+//! - `gaps`: lists of which a stretch is written further on than its numbers say
+//! - `moves`: names and entries that move beside each other
 //! - `slots`: names and entries by slot
+//! - `guesses`: where a search looks first
 //! - `places`: slots counted on beyond the last one, and the home of a name
 //! - `probes`: where a name stands or would stand
 //! - `shifts`: rows are put in and taken out
@@ -14,6 +17,9 @@
 
 mod entry;
 mod filled;
+mod gaps;
+mod guesses;
+mod moves;
 mod places;
 mod probes;
 mod shifts;

@@ -1,4 +1,4 @@
-ghost use Rattle.std.specs.Prelude.{◌≡◌, ◌%◌, ◌≤◌, ◌<◌};
+ghost use Rattle.std.specs.Prelude.{◌≡◌, ◌+◌, ◌%◌, ◌≤◌, ◌<◌};
 ghost use Rattle.std.specs.Int.{IsPowerOfTwo};
 ghost use Rattle.overlay_mapping_table.specs.Homes.{home_number, IsWay};
 
@@ -32,4 +32,18 @@ pub(crate) fn way(p: OverlayPage, place: usize, n: usize) -> usize
     ensures { IsWay n (home_number p) result place }
 {
     wrap(place - home(p, n), n)
+}
+
+// A place between two, so many steps from one of them.
+#[inline(always)]
+pub(crate) fn middle(low: usize, high: usize, steps: usize, upwards: bool) -> usize
+    requires { low + steps < high }
+    ensures low { low ≤ result }
+    ensures high { result < high }
+{
+    if upwards {
+        low + steps
+    } else {
+        high - 1 - steps
+    }
 }

@@ -1,20 +1,25 @@
-ghost use Rattle.std.specs.Prelude.{◌≡◌, ◌≤◌, ◌<◌, ◌*◌, ◌↔◌, true, length, IfOk, IfErr};
+ghost use Rattle.std.specs.Prelude.{◌≡◌, ◌+◌, ◌≤◌, ◌<◌, ◌*◌, ◌↔◌, true, length, IfOk, IfErr};
 ghost use Rattle.overlay_mapping_table.specs.Probes.{AreSound, IsBefore, IsBeyond, IsGap, IsPassed, IsThere};
 
-use crate::places::{home, way, wrap};
+use crate::guesses::Guesses;
+use crate::places::{home, middle, way, wrap};
 use crate::slots::Slots;
 use overlay_address::OverlayPage;
 
 // The slot in which a name stands, or else the place where it would stand, counted on from the number of slots.
-pub(crate) fn place_of(slots: &Slots, p: OverlayPage) -> Result<usize, usize>
+pub(crate) fn place_of(slots: &Slots, guesses: &Guesses, p: OverlayPage) -> Result<usize, usize>
     requires { AreSound slots.now }
     ensures there { IfOk result (IsThere slots.now p) }
     ensures gap { IfErr result (IsGap slots.now p) }
 {
     let n = slots.len();
     let name = p.address(0);
-    let home = n + home(p, n);
-    let mut place = beyond(slots, home);
+    let slot = home(p, n);
+    if slots.number_at(slot) == name {
+        return Ok(slot);
+    }
+    let home = n + slot;
+    let mut place = beyond(slots, home, home + guesses.steps(slot, home) as usize);
     'probing: loop {
         let at = wrap(place, n);
         if slots.number_at(at) == name {
@@ -27,42 +32,47 @@ pub(crate) fn place_of(slots: &Slots, p: OverlayPage) -> Result<usize, usize>
     }
 }
 
-// The first place from one on that has no row of a home before it: rows stand by rising homes, so most steps are leaps.
-pub(crate) fn beyond(slots: &Slots, from: usize) -> usize
+// The first place from one on that has no row of a home before it. Rows stand by rising homes, so what is found at one
+// place tells of all on one side of it: a right guess takes two looks, and one that is off by some steps the logarithm.
+pub(crate) fn beyond(slots: &Slots, from: usize, guess: usize) -> usize
     requires sound { AreSound slots.now }
     requires behind { length slots.now ≤ from }
     requires near { from < 6 * length slots.now }
     ensures { IsBeyond (length slots.now) slots.now from result }
 {
-    let mut low = from;
-    'leaping: loop {
-        let next = low + (low - from);
-        if !is_before(slots, next, from) {
-            return between(slots, from, low, next);
-        }
-        low = next + 1;
+    let end = from + slots.len();
+    let first = guess.max(from).min(end - 1);
+    if is_before(slots, first, from) {
+        between(slots, from, first + 1, end, true)
+    } else {
+        between(slots, from, from, first, false)
     }
 }
 
-// The same, between two places: all before the lower one are passed, and the upper one isn't.
-fn between(slots: &Slots, from: usize, low: usize, high: usize) -> usize
+// The same, between two places: all before the lower one are passed, and the upper one isn't. The steps begin at one of
+// them, and double.
+fn between(slots: &Slots, from: usize, low: usize, high: usize, upwards: bool) -> usize
     requires sound { AreSound slots.now }
     requires behind { length slots.now ≤ from }
     requires near { from < 6 * length slots.now }
     requires passed { IsPassed (length slots.now) slots.now from low }
     requires order { low ≤ high }
+    requires round { high ≤ from + length slots.now }
     requires stops { IsBefore (length slots.now) slots.now from high → ⊥ }
     ensures { IsBeyond (length slots.now) slots.now from result }
 {
     let mut low = low;
     let mut high = high;
+    let mut step = 0;
     'halving: while low < high {
-        let middle = low + (high - low) / 2;
+        let steps = step.min((high - low) / 2);
+        let middle = middle(low, high, steps, upwards);
         if is_before(slots, middle, from) {
             low = middle + 1;
         } else {
             high = middle;
         }
+        step = 2 * steps + 1;
     }
     low
 }

@@ -2,41 +2,52 @@ ghost use Rattle.std.specs.Prelude.{◌≡◌, ◌≤◌, ◌<◌, ◌+◌, ◌*
 ghost use Rattle.std.specs.Int.{IsPowerOfTwo};
 ghost use Rattle.std.specs.FinMap.{insert};
 ghost use Rattle.overlay_mapping_table.specs.Rows.{map_of, ring, StandOnce};
-ghost use Rattle.overlay_mapping_table.specs.Probes.{AreNow, AreSound, IsGap, IsTakenOut, IsThere};
+ghost use Rattle.overlay_mapping_table.specs.Probes.{AreNow, AreSound, IsBeyond, IsGap, IsTakenOut, IsThere};
 ghost use Rattle.overlay_mapping_table.specs.Shifts.{AreLowered, AreRaised, IsEnd, IsLast};
 
 use crate::entry::Entry;
+use crate::guesses::Guesses;
 use crate::places::wrap;
 use crate::probes::{beyond, is_before};
 use crate::slots::Slots;
 use overlay_address::OverlayPage;
 
 // Puts a row in at the place where its name would stand. Those from there up to the next empty slot go up by one.
-pub(crate) fn put_in(slots: &mut Slots, place: usize, p: OverlayPage, e: Entry)
+// Answers where they end then.
+pub(crate) fn put_in(
+    slots: &mut Slots,
+    guesses: &Guesses,
+    place: usize,
+    p: OverlayPage,
+    e: Entry,
+) -> usize
     requires sound { AreSound slots.old }
     requires gap { IsGap slots.old p place }
     ensures { AreNow slots.old slots.new (insert (map_of slots.old) p e) }
 {
-    let end = end_from(slots, place);
+    let end = end_from(slots, guesses, place);
     raise(slots, place, end);
     let at = wrap(place, slots.len());
     slots.put(at, p, e);
+    end + 1
 }
 
-// Takes the row of a slot out. Those behind it go down by one, up to an empty slot or a row at its home.
-pub(crate) fn take_out(slots: &mut Slots, at: usize)
+// Takes the row of a slot out. Those behind it go down by one, up to an empty slot or a row at its home. Answers where
+// they end then.
+pub(crate) fn take_out(slots: &mut Slots, guesses: &Guesses, at: usize) -> usize
     requires sound { AreSound slots.old }
     requires there { (name : ℕ) × IsThere slots.old name at }
     ensures { IsTakenOut slots.old slots.new at }
 {
     let hole = slots.len() + at;
-    let last = last_from(slots, hole);
+    let last = last_from(slots, guesses, hole);
     slots.clear(at);
     lower(slots, hole, last);
+    last
 }
 
 // The first place from one on whose slot is empty.
-fn end_from(slots: &Slots, place: usize) -> usize
+fn end_from(slots: &Slots, guesses: &Guesses, place: usize) -> usize
     requires sound { AreSound slots.now }
     requires behind { length slots.now ≤ place }
     requires near { place < 3 * length slots.now }
@@ -45,13 +56,13 @@ fn end_from(slots: &Slots, place: usize) -> usize
     let n = slots.len();
     let mut end = place;
     'passing: while slots.name_at(wrap(end, n)).is_some() {
-        end = beyond(slots, end + 1);
+        end = pass(slots, guesses, end + 1);
     }
     end
 }
 
 // The last place from one on behind which a slot is empty or has a row at its home.
-fn last_from(slots: &Slots, hole: usize) -> usize
+fn last_from(slots: &Slots, guesses: &Guesses, hole: usize) -> usize
     requires sound { AreSound slots.now }
     requires behind { length slots.now ≤ hole }
     requires near { hole < 2 * length slots.now }
@@ -60,9 +71,26 @@ fn last_from(slots: &Slots, hole: usize) -> usize
 {
     let mut next = hole + 1;
     'passing: while is_before(slots, next, next) {
-        next = beyond(slots, next);
+        next = pass(slots, guesses, next);
     }
     next - 1
+}
+
+// The first place from one on that has no row of a home before it. That is mostly where the rows end that were moved
+// last: then one look at the last of them tells that all are passed.
+fn pass(slots: &Slots, guesses: &Guesses, from: usize) -> usize
+    requires sound { AreSound slots.now }
+    requires behind { length slots.now ≤ from }
+    requires near { from < 6 * length slots.now }
+    ensures { IsBeyond (length slots.now) slots.now from result }
+{
+    let end = guesses.end();
+    if from < end && is_before(slots, end - 1, from) {
+        beyond(slots, from, end)
+    } else {
+        let steps = guesses.steps(wrap(from, slots.len()), from);
+        beyond(slots, from, from + steps as usize)
+    }
 }
 
 // Moves the rows from a place up to an empty one up by one.

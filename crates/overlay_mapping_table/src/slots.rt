@@ -5,11 +5,11 @@ ghost use Rattle.overlay_mapping_table.specs.Shifts.{AreOneUp};
 
 use crate::entry::Entry;
 use crate::filled::Filled;
+use crate::gaps::{Gap, read, spot};
+use crate::moves::{move_down, move_up, nothing, room_from, settle};
 use overlay_address::OverlayPage;
-use overlay_bits::Bits;
 use std::alloc::{AllocError, Global};
 use std::marker::Model;
-use unit_map::Block;
 
 // Slots for rows of a name and an entry. The names stand apart, so that a probe reads 8 bytes a slot.
 #[derive(Debug, Drop)]
@@ -18,18 +18,21 @@ pub(crate) struct Slots {
     names: Filled<u64>,
     // beside each name its entry, and beside 0 any
     entries: Filled<Entry>,
+    // of both lists
+    gap: Gap,
 }
 
 impl Model for Slots {
     ghost use Rattle.std.specs.Prelude.{ℕ, List, Option};
     ghost use Rattle.overlay_mapping_table.specs.declared.entry.Entry.{Entry};
-    ghost use Rattle.overlay_mapping_table.specs.Rows.{slots_of, AreSlots};
+    ghost use Rattle.overlay_mapping_table.specs.Rows.{nothing, slots_of};
+    ghost use Rattle.overlay_mapping_table.specs.Gaps.{seen, AreLaid};
 
     ghost Value = { List (Option (ℕ × Entry)) };
 
-    ghost view = { λ s. slots_of s.names s.entries };
+    ghost view = { λ s. slots_of (seen s.names 0 s.gap) (seen s.entries nothing s.gap) };
 
-    ghost invariant = { λ s. AreSlots s.names s.entries };
+    ghost invariant = { λ s. AreLaid s.names s.entries s.gap };
 }
 
 impl Slots {
@@ -37,13 +40,14 @@ impl Slots {
     pub fn new(alloc: Global, n: usize) -> Result<Slots, AllocError>
         ensures { IfOk result (λ slots. slots ≡ no_rows n) }
     {
-        let nothing = Entry {
-            bits: Bits::empty(),
-            block: Block { unit: 0, order: 0 },
-        };
         let names = Filled::new(alloc, 0, n)?;
-        let entries = Filled::new(alloc, nothing, n)?;
-        Ok(Slots { names, entries })
+        let entries = Filled::new(alloc, nothing(), n)?;
+        let gap = Gap::none();
+        Ok(Slots {
+            names,
+            entries,
+            gap,
+        })
     }
 
     // How many slots there are.
@@ -59,7 +63,7 @@ impl Slots {
         requires { at < length self.now }
         ensures { result ≡ name_in (get_or self.now at None) }
     {
-        self.names.at(at)
+        read(&self.names, 0, self.gap, at)
     }
 
     // The name in a slot. None exactly where it is empty.
@@ -68,7 +72,7 @@ impl Slots {
         requires { at < length self.now }
         ensures { result ≡ option_map (λ row. row.0) (get_or self.now at None) }
     {
-        match OverlayPage::from_address(self.names.at(at)) {
+        match OverlayPage::from_address(read(&self.names, 0, self.gap, at)) {
             Some((name, _)) => Some(name),
             None => None,
         }
@@ -79,10 +83,10 @@ impl Slots {
         requires { at < length self.now }
         ensures { result ≡ option_map (λ row. row.1) (get_or self.now at None) }
     {
-        if self.names.at(at) == 0 {
+        if read(&self.names, 0, self.gap, at) == 0 {
             None
         } else {
-            Some(self.entries.at(at))
+            Some(read(&self.entries, nothing(), self.gap, at))
         }
     }
 
@@ -91,8 +95,10 @@ impl Slots {
         requires { at < length self.old }
         ensures { self.new ≡ slice_set self.old at (Some (p, e)) }
     {
-        self.names.set(at, p.address(0));
-        self.entries.set(at, e);
+        self.gap = settle(&mut self.names, &mut self.entries, self.gap, at);
+        let place = spot(self.gap, self.names.len(), at);
+        self.names.set(place, p.address(0));
+        self.entries.set(place, e);
     }
 
     // Empties a slot.
@@ -100,22 +106,30 @@ impl Slots {
         requires { at < length self.old }
         ensures { self.new ≡ slice_set self.old at None }
     {
-        self.names.set(at, 0);
+        self.gap = settle(&mut self.names, &mut self.entries, self.gap, at);
+        let place = spot(self.gap, self.names.len(), at);
+        self.names.set(place, 0);
     }
 
     // Moves what one slot has into another one.
-    #[inline(always)]
     pub fn carry(&mut self, from: usize, to: usize)
         requires from { from < length self.old }
         requires to { to < length self.old }
         ensures { self.new ≡ slice_set (slice_set self.old to (get_or self.old from None)) from None }
     {
-        let name = self.names.at(from);
-        let entry = self.entries.at(from);
-        self.names.set(to, name);
-        self.entries.set(to, entry);
-        self.names.set(from, 0);
+        match self.name_at(from) {
+            Some(name) => {
+                let entry = self.entry_at(from).unwrap_or(nothing());
+                self.put(to, name, entry);
+                self.clear(from);
+            }
+            None => {
+                self.clear(to);
+                self.clear(from);
+            }
+        }
     }
+
     // Moves the rows of the slots up to another one up by one.
     pub fn move_up(&mut self, from: usize, end: usize)
         requires order { from < end }
@@ -123,9 +137,15 @@ impl Slots {
         ensures rows { AreOneUp self.old self.new from end }
         ensures bare { get_or self.new from None ≡ None }
     {
-        self.names.copy(from, from + 1, end - from);
-        self.entries.copy(from, from + 1, end - from);
-        self.names.set(from, 0);
+        let room = room_from(&self.names, self.gap, from, end);
+        self.gap = move_up(
+            &mut self.names,
+            &mut self.entries,
+            self.gap,
+            from,
+            end,
+            room,
+        );
     }
 
     // Moves the rows of the slots behind one, up to another one, down by one.
@@ -135,8 +155,6 @@ impl Slots {
         ensures rows { AreOneUp self.new self.old to last }
         ensures bare { get_or self.new last None ≡ None }
     {
-        self.names.copy(to + 1, to, last - to);
-        self.entries.copy(to + 1, to, last - to);
-        self.names.set(last, 0);
+        self.gap = move_down(&mut self.names, &mut self.entries, self.gap, to, last);
     }
 }

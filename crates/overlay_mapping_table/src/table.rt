@@ -5,6 +5,7 @@ ghost use Rattle.sizes.specs.declared.TheConstants.{FRAME_UNITS, MOST_FRAMES};
 ghost use Rattle.overlay_mapping_table.specs.Table.{HasRoomFor, AreThoseOf, NoneIsEmptyBefore};
 
 use crate::entry::Entry;
+use crate::guesses::Guesses;
 use crate::probes::place_of;
 use crate::shifts::{put_in, take_out};
 use crate::slots::Slots;
@@ -18,6 +19,8 @@ use std::marker::Model;
 pub struct MappingTable {
     // a row stands at its name's home, or behind rows whose homes lie no further on
     slots: Slots,
+    // where the next look-up begins
+    guesses: Guesses,
     count: u32,
     room: u32,
 }
@@ -50,8 +53,10 @@ impl MappingTable {
     {
         let room = FRAME_UNITS * frames;
         let slots = Slots::new(alloc, (2 * room as usize).next_power_of_two())?;
+        let guesses = Guesses::new(alloc, slots.len())?;
         Ok(MappingTable {
             slots,
+            guesses,
             count: 0,
             room,
         })
@@ -62,7 +67,7 @@ impl MappingTable {
     pub fn get(&self, p: OverlayPage) -> Option<Entry>
         ensures { result ≡ map.get self.now.entries p }
     {
-        match place_of(&self.slots, p) {
+        match place_of(&self.slots, &self.guesses, p) {
             Ok(at) => self.slots.entry_at(at),
             Err(_) => None,
         }
@@ -70,33 +75,38 @@ impl MappingTable {
 
     /// Gives an overlay an entry, in place of the one that it has. It has one, or there are fewer entries than there
     /// is room for. Every other overlay keeps its entry. Takes no memory. Costs a look-up, and where it has none a step
-    /// for each slot from there up to the next empty one.
+    /// for each slot of the run in which it is put, at most: overlays that are put in one behind the other cost the slots
+    /// between them.
     pub fn insert(&mut self, p: OverlayPage, e: Entry)
         requires room { HasRoomFor self.old p }
         ensures entries { self.new.entries ≡ map.insert self.old.entries p e }
         ensures room { self.new.room ≡ self.old.room }
     {
-        match place_of(&self.slots, p) {
+        match place_of(&self.slots, &self.guesses, p) {
             Ok(at) => self.slots.put(at, p, e),
             Err(place) => {
-                put_in(&mut self.slots, place, p, e);
+                let n = self.slots.len();
+                let end = put_in(&mut self.slots, &self.guesses, place, p, e);
+                self.guesses.keep(p, place, n, end);
                 self.count += 1;
             }
         }
     }
 
     /// Takes away the entry of an overlay, and answers it. None exactly where it has none, and then nothing changes.
-    /// Every other overlay keeps its entry. Takes no memory. Costs a look-up and a step for each slot behind, up to an
-    /// empty one or one whose overlay is at its home.
+    /// Every other overlay keeps its entry. Takes no memory. Costs a look-up and a step for each slot of its run, at most:
+    /// overlays that are taken out one behind the other cost the slots between them.
     pub fn remove(&mut self, p: OverlayPage) -> Option<Entry>
         ensures entries { self.new.entries ≡ map.remove self.old.entries p }
         ensures room { self.new.room ≡ self.old.room }
         ensures result { result ≡ map.get self.old.entries p }
     {
-        match place_of(&self.slots, p) {
+        match place_of(&self.slots, &self.guesses, p) {
             Ok(at) => {
                 let entry = self.slots.entry_at(at);
-                take_out(&mut self.slots, at);
+                let n = self.slots.len();
+                let end = take_out(&mut self.slots, &self.guesses, at);
+                self.guesses.keep(p, n + at, n, end);
                 self.count -= 1;
                 entry
             }

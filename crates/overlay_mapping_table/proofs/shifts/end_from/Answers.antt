@@ -7,20 +7,20 @@ overflow_add-end c =
     let near = end_near c.args.slots.now c.requires.sound c.args.place c.passing.end c.passing.invariant.0 c.passing.invariant.1 in
     omega (arith, near, c.requires.near, c.requires.sound.most)
 
-pub beyond-end-requires-clause-near : goal.beyond-end-requires-clause-near
-beyond-end-requires-clause-near c =
+pub pass-end-requires-clause-near : goal.pass-end-requires-clause-near
+pass-end-requires-clause-near c =
     let near = end_near c.args.slots.now c.requires.sound c.args.place c.passing.end c.passing.invariant.0 c.passing.invariant.1 in
     omega (arith, near, c.requires.near)
 
 pub passing-smaller : goal.passing-smaller
 passing-smaller c =
     let near = end_near c.args.slots.now c.requires.sound c.args.place c.passing.end c.passing.invariant.0 c.passing.invariant.1 in
-    omega (arith, near, c.beyond-end.ensures.passed.low)
+    omega (arith, near, c.pass-end.ensures.passed.low)
 
 pub passing-preserved : goal.passing-preserved
 passing-preserved c =
-    end_more c.args.slots.now c.requires.sound c.args.place c.passing.end c.passing.invariant.0 c.passing.invariant.1 c.wrap.result c.beyond-end.result
-    c.name_at.result (c.wrap.ensures.same ∙ ap (λ n. c.passing.end % n) c.len-n.ensures) c.name_at.ensures c.passing-test.ensures c.beyond-end.ensures
+    end_more c.args.slots.now c.requires.sound c.args.place c.passing.end c.passing.invariant.0 c.passing.invariant.1 c.wrap.result c.pass-end.result
+    c.name_at.result (c.wrap.ensures.same ∙ ap (λ n. c.passing.end % n) c.len-n.ensures) c.name_at.ensures c.passing-test.ensures c.pass-end.ensures
 
 pub returns : goal.returns
 returns c =

@@ -7,8 +7,8 @@ is_before-requires-clause-near c =
     let near = next_near c.args.slots.now c.requires.sound c.args.hole c.passing.next c.requires.there c.passing.invariant.0 c.passing.invariant.1 in
     omega (arith, near, c.requires.near)
 
-pub beyond-next-requires-clause-near : goal.beyond-next-requires-clause-near
-beyond-next-requires-clause-near c =
+pub pass-next-requires-clause-near : goal.pass-next-requires-clause-near
+pass-next-requires-clause-near c =
     let near = next_near c.args.slots.now c.requires.sound c.args.hole c.passing.next c.requires.there c.passing.invariant.0 c.passing.invariant.1 in
     omega (arith, near, c.requires.near)
 
@@ -16,13 +16,13 @@ pub passing-smaller : goal.passing-smaller
 passing-smaller c =
     let near = next_near c.args.slots.now c.requires.sound c.args.hole c.passing.next c.requires.there c.passing.invariant.0 c.passing.invariant.1 in
     let more = next_more c.args.slots.now c.requires.sound c.args.hole c.passing.next c.requires.there c.passing.invariant.0 c.passing.invariant.1
-    c.beyond-next.result (c.passing-test.ensures.0 refl) c.beyond-next.ensures in
+    c.pass-next.result (c.passing-test.ensures.0 refl) c.pass-next.ensures in
     omega (arith, near, more.0)
 
 pub passing-preserved : goal.passing-preserved
 passing-preserved c =
     (next_more c.args.slots.now c.requires.sound c.args.hole c.passing.next c.requires.there c.passing.invariant.0 c.passing.invariant.1
-    c.beyond-next.result (c.passing-test.ensures.0 refl) c.beyond-next.ensures).1
+    c.pass-next.result (c.passing-test.ensures.0 refl) c.pass-next.ensures).1
 
 pub returns : goal.returns
 returns c =

@@ -1,12 +1,33 @@
-use Rattle.overlay_mapping_table.proofs.Beside.{nothing, value_none, value_some}
+use Rattle.std.proofs.Common.{get_or, ap, ◌∙◌}
+use Rattle.overlay_mapping_table.specs.declared.entry.Entry.{Entry}
+use Rattle.overlay_mapping_table.specs.Gaps.{seen}
+use Rattle.overlay_mapping_table.specs.Rows.{nothing}
+use Rattle.overlay_mapping_table.proofs.Beside.{value_none, value_some}
+use Rattle.overlay_mapping_table.proofs.Laid.{room_entries, within_entries, within_names}
 use Rattle.overlay_mapping_table.proofs.slots.Slots.entry_at.Goals as goal
 
-pub returns-then-at-eq0 : goal.returns-then-at-eq0
-returns-then-at-eq0 c =
-    value_none c.args.self.now c.self.inside.names c.self.inside.entries c.args.at c.self.view_is c.self.invariant c.requires
-    c.at.result nothing c.at.ensures c.if-at-eq0.true
+pub read-requires-clause-inside : goal.read-requires-clause-inside
+read-requires-clause-inside c =
+    within_names c.args.self.now c.self.inside.names c.self.inside.entries c.self.inside.gap c.self.view_is c.self.invariant c.args.at
+    c.requires
 
-pub returns-else-at-eq0 : goal.returns-else-at-eq0
-returns-else-at-eq0 c =
-    value_some c.args.self.now c.self.inside.names c.self.inside.entries c.args.at c.self.view_is c.self.invariant c.requires
-    c.at.result c.at-else-at-eq0.result c.at.ensures c.if-at-eq0.false c.at-else-at-eq0.ensures
+pub returns-then-read-eq0 : goal.returns-then-read-eq0
+returns-then-read-eq0 c =
+    value_none c.args.self.now (seen c.self.inside.names 0 c.self.inside.gap) (seen c.self.inside.entries nothing c.self.inside.gap) c.args.at c.self.view_is c.self.invariant.slots c.requires
+    c.read.result nothing c.read.ensures c.if-read-eq0.true
+
+pub read-requires-else-read-eq0-clause-inside : goal.read-requires-else-read-eq0-clause-inside
+read-requires-else-read-eq0-clause-inside c =
+    within_entries c.args.self.now c.self.inside.names c.self.inside.entries c.self.inside.gap c.self.view_is c.self.invariant c.args.at
+    c.requires
+
+pub read-requires-else-read-eq0-clause-gap : goal.read-requires-else-read-eq0-clause-gap
+read-requires-else-read-eq0-clause-gap c =
+    room_entries c.args.self.now c.self.inside.names c.self.inside.entries c.self.inside.gap c.self.view_is c.self.invariant
+
+pub returns-else-read-eq0 : goal.returns-else-read-eq0
+returns-else-read-eq0 c =
+    value_some c.args.self.now (seen c.self.inside.names 0 c.self.inside.gap) (seen c.self.inside.entries nothing c.self.inside.gap) c.args.at c.self.view_is c.self.invariant.slots c.requires
+    c.read.result c.read-else-read-eq0.result c.read.ensures c.if-read-eq0.false
+    (c.read-else-read-eq0.ensures
+    ∙ ap (λ (e : Entry). get_or (seen c.self.inside.entries e c.self.inside.gap) c.args.at c.read-else-read-eq0.result) c.nothing.ensures)

@@ -1,23 +1,25 @@
-use Rattle.std.proofs.Common.{◌+◌, ◌-◌, ◌≤◌, length, ap, refl, arith}
-use Rattle.overlay_mapping_table.proofs.Blocks.{bare_moved, kept_moved, moved_up}
+use Rattle.overlay_mapping_table.proofs.Laid.{laid_up, rows_raised, bare_raised, within_names}
 use Rattle.overlay_mapping_table.proofs.slots.Slots.move_up.Goals as goal
+
+pub room_from-room-requires-clause-end : goal.room_from-room-requires-clause-end
+room_from-room-requires-clause-end c =
+    within_names c.args.self.now c.self.inside.names c.self.inside.entries c.self.inside.gap c.self.view_is c.self.invariant c.args.end
+    c.requires.end
 
 pub invariant_of-self : goal.invariant_of-self
 invariant_of-self c =
-    let inside : c.args.end + 1 ≤ length c.self.inside.names = omega (arith, c.requires.end, ap length c.self.view_is, c.self.invariant.size) in
-    kept_moved c.self.inside.names c.copy.new.self c.self.inside.entries c.copy-2.new.self c.args.from (c.args.from + 1) (c.args.end - c.args.from)
-    c.self.invariant (omega (arith, inside)) (omega (arith, inside, c.requires.order)) c.copy.ensures c.copy-2.ensures c.args.from c.set.new.self c.set.ensures
+    laid_up c.args.self.now c.self.inside.names c.self.inside.entries c.self.inside.gap c.self.view_is c.self.invariant
+    c.move_up-self-inside.new.names c.move_up-self-inside.new.entries c.move_up-self-inside.result c.args.from c.args.end c.room_from-room.result c.move_up-self-inside.ensures.gap c.move_up-self-inside.ensures.names
+    c.move_up-self-inside.ensures.bare c.move_up-self-inside.ensures.entries
 
 pub returns-clause-rows : goal.returns-clause-rows
 returns-clause-rows c =
-    let inside : c.args.end + 1 ≤ length c.self.inside.names = omega (arith, c.requires.end, ap length c.self.view_is, c.self.invariant.size) in
-    moved_up c.self.inside.names c.copy.new.self c.self.inside.entries c.copy-2.new.self c.args.from (c.args.from + 1) (c.args.end - c.args.from)
-    c.self.invariant (omega (arith, inside)) (omega (arith, inside, c.requires.order)) c.copy.ensures c.copy-2.ensures c.args.self.now c.set.new.self c.args.end
-    c.self.view_is c.set.ensures refl (omega (arith, c.requires.order))
+    rows_raised c.args.self.now c.self.inside.names c.self.inside.entries c.self.inside.gap c.self.view_is c.self.invariant
+    c.move_up-self-inside.new.names c.move_up-self-inside.new.entries c.move_up-self-inside.result c.args.from c.args.end c.room_from-room.result c.move_up-self-inside.ensures.gap c.move_up-self-inside.ensures.names
+    c.move_up-self-inside.ensures.bare c.move_up-self-inside.ensures.entries c.room_from-room.ensures.bare c.requires.end
 
 pub returns-clause-bare : goal.returns-clause-bare
 returns-clause-bare c =
-    let inside : c.args.end + 1 ≤ length c.self.inside.names = omega (arith, c.requires.end, ap length c.self.view_is, c.self.invariant.size) in
-    bare_moved c.self.inside.names c.copy.new.self c.self.inside.entries c.copy-2.new.self c.args.from (c.args.from + 1) (c.args.end - c.args.from)
-    c.self.invariant (omega (arith, inside)) (omega (arith, inside, c.requires.order)) c.copy.ensures c.copy-2.ensures c.args.from c.set.new.self c.set.ensures
-    (omega (arith, inside, c.requires.order))
+    bare_raised c.args.self.now c.self.inside.names c.self.inside.entries c.self.inside.gap c.self.view_is c.self.invariant
+    c.move_up-self-inside.new.names c.move_up-self-inside.new.entries c.move_up-self-inside.result c.args.from c.args.end c.room_from-room.result c.move_up-self-inside.ensures.gap c.move_up-self-inside.ensures.names
+    c.move_up-self-inside.ensures.bare c.move_up-self-inside.ensures.entries

@@ -1,16 +1,35 @@
-use Rattle.std.proofs.Common.{ap₂, subst₂, sym, ◌∙◌}
-use Rattle.overlay_mapping_table.specs.Rows.{slots_of, AreSlots}
-use Rattle.overlay_mapping_table.proofs.Beside.{kept_put, stands_put}
+use Rattle.overlay_mapping_table.proofs.Laid.{laid_put, shows_put, inside₁, inside₂, gap_in₁}
 use Rattle.overlay_mapping_table.proofs.slots.Slots.put.Goals as goal
 
 pub invariant_of-self : goal.invariant_of-self
 invariant_of-self c =
-    subst₂ (λ names xs. AreSlots names xs) (sym c.set.ensures) (sym c.set-2.ensures)
-    (kept_put c.self.inside.names c.self.inside.entries c.args.at c.args.p c.address.result c.args.e c.self.invariant c.address.ensures.address
-    c.address.ensures.is)
+    laid_put c.args.self.now c.self.inside.names c.self.inside.entries c.self.inside.gap c.self.view_is c.self.invariant
+    c.settle-self-inside.new.names c.settle-self-inside.new.entries c.settle-self-inside.result c.settle-self-inside.ensures.gap c.settle-self-inside.ensures.names c.settle-self-inside.ensures.entries c.args.at
+    c.requires c.spot-place.result c.spot-place.ensures.same
+    c.args.p c.address.result c.args.e c.set.new.self c.set-2.new.self c.set.ensures c.set-2.ensures c.address.ensures.address c.address.ensures.is
 
 pub returns : goal.returns
 returns c =
-    ap₂ (λ names xs. slots_of names xs) c.set.ensures c.set-2.ensures
-    ∙ stands_put c.args.self.now c.self.inside.names c.self.inside.entries c.args.at c.args.p c.address.result c.args.e c.self.view_is
-    c.address.ensures.address c.address.ensures.is
+    shows_put c.args.self.now c.self.inside.names c.self.inside.entries c.self.inside.gap c.self.view_is c.self.invariant
+    c.settle-self-inside.new.names c.settle-self-inside.new.entries c.settle-self-inside.result c.settle-self-inside.ensures.gap c.settle-self-inside.ensures.names c.settle-self-inside.ensures.entries c.args.at
+    c.requires c.spot-place.result c.spot-place.ensures.same
+    c.args.p c.address.result c.args.e c.set.new.self c.set-2.new.self c.set.ensures c.set-2.ensures c.address.ensures.address c.address.ensures.is
+
+pub spot-place-requires-clause-inside : goal.spot-place-requires-clause-inside
+spot-place-requires-clause-inside c =
+    inside₁ c.args.self.now c.self.inside.names c.self.inside.entries c.self.inside.gap c.self.view_is c.self.invariant
+    c.settle-self-inside.new.names c.settle-self-inside.new.entries c.settle-self-inside.result c.settle-self-inside.ensures.gap
+    c.settle-self-inside.ensures.names c.settle-self-inside.ensures.entries c.args.at c.requires c.len.result c.len.ensures
+
+pub spot-place-requires-clause-gap : goal.spot-place-requires-clause-gap
+spot-place-requires-clause-gap c =
+    gap_in₁ c.args.self.now c.self.inside.names c.self.inside.entries c.self.inside.gap c.self.view_is c.self.invariant
+    c.settle-self-inside.new.names c.settle-self-inside.new.entries c.settle-self-inside.result c.settle-self-inside.ensures.gap
+    c.settle-self-inside.ensures.names c.settle-self-inside.ensures.entries c.args.at c.requires c.len.result c.len.ensures
+
+pub set-requires-2 : goal.set-requires-2
+set-requires-2 c =
+    inside₂ c.args.self.now c.self.inside.names c.self.inside.entries c.self.inside.gap c.self.view_is c.self.invariant
+    c.settle-self-inside.new.names c.settle-self-inside.new.entries c.settle-self-inside.result c.settle-self-inside.ensures.gap
+    c.settle-self-inside.ensures.names c.settle-self-inside.ensures.entries c.args.at c.requires c.len.result c.spot-place.result c.len.ensures
+    c.spot-place.ensures.below

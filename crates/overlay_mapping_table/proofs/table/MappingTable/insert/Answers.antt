@@ -16,12 +16,12 @@ returns-in-Ok-clause-entries c =
     stands_over c.self.inside.slots c.self.inside.count c.self.inside.room c.self.invariant c.args.p c.args.e c.in-Ok.at c.in-Ok.ensures.there
     c.args.self.now.entries c.put.new.self (ap (λ (t : Table). t.entries) c.self.view_is) c.put.ensures
 
-pub put_in-requires-clause-sound : goal.put_in-requires-clause-sound
-put_in-requires-clause-sound c = sound c.self.inside.slots c.self.inside.count c.self.inside.room c.self.invariant
+pub put_in-end-requires-clause-sound : goal.put_in-end-requires-clause-sound
+put_in-end-requires-clause-sound c = sound c.self.inside.slots c.self.inside.count c.self.inside.room c.self.invariant
 
 pub invariant_of-self-in-Err : goal.invariant_of-self-in-Err
 invariant_of-self-in-Err c =
-    kept_put c.self.inside.slots c.self.inside.count c.self.inside.room c.self.invariant c.args.p c.args.e c.put_in.new.slots c.in-Err.place
-    c.in-Err.ensures.gap c.put_in.ensures
+    kept_put c.self.inside.slots c.self.inside.count c.self.inside.room c.self.invariant c.args.p c.args.e c.put_in-end.new.slots c.in-Err.place
+    c.in-Err.ensures.gap c.put_in-end.ensures
     (room_left c.self.inside.slots c.self.inside.count c.self.inside.room c.self.invariant c.args.p c.args.e c.args.self.now c.in-Err.place
     (ap (λ (t : Table). t.entries) c.self.view_is) (ap (λ (t : Table). t.room) c.self.view_is) c.in-Err.ensures.gap c.requires.room)

@@ -6,8 +6,8 @@ use Rattle.overlay_mapping_table.proofs.table.MappingTable.remove.Goals as goal
 pub place_of-requires : goal.place_of-requires
 place_of-requires c = sound c.self.inside.slots c.self.inside.count c.self.inside.room c.self.invariant
 
-pub take_out-requires-clause-sound : goal.take_out-requires-clause-sound
-take_out-requires-clause-sound c = sound c.self.inside.slots c.self.inside.count c.self.inside.room c.self.invariant
+pub take_out-end-requires-clause-sound : goal.take_out-end-requires-clause-sound
+take_out-end-requires-clause-sound c = sound c.self.inside.slots c.self.inside.count c.self.inside.room c.self.invariant
 
 pub overflow_sub-self : goal.overflow_sub-self
 overflow_sub-self c =
@@ -15,13 +15,13 @@ overflow_sub-self c =
 
 pub invariant_of-self : goal.invariant_of-self
 invariant_of-self c =
-    kept_take c.self.inside.slots c.self.inside.count c.self.inside.room c.self.invariant c.args.p c.in-Ok.at c.in-Ok.ensures.there c.take_out.new.slots
-    (c.take_out.ensures c.args.p c.in-Ok.ensures.there)
+    kept_take c.self.inside.slots c.self.inside.count c.self.inside.room c.self.invariant c.args.p c.in-Ok.at c.in-Ok.ensures.there c.take_out-end.new.slots
+    (c.take_out-end.ensures c.args.p c.in-Ok.ensures.there)
 
 pub returns-in-Ok-clause-entries : goal.returns-in-Ok-clause-entries
 returns-in-Ok-clause-entries c =
     stands_take c.self.inside.slots c.self.inside.count c.self.inside.room c.self.invariant c.args.p c.in-Ok.at c.in-Ok.ensures.there
-    c.args.self.now.entries c.take_out.new.slots (ap (λ (t : Table). t.entries) c.self.view_is) (c.take_out.ensures c.args.p c.in-Ok.ensures.there)
+    c.args.self.now.entries c.take_out-end.new.slots (ap (λ (t : Table). t.entries) c.self.view_is) (c.take_out-end.ensures c.args.p c.in-Ok.ensures.there)
 
 pub returns-in-Ok-clause-result : goal.returns-in-Ok-clause-result
 returns-in-Ok-clause-result c =
