@@ -4,12 +4,13 @@ use Rattle.std.specs.Option.{is_some, option_map}
 use Rattle.std.specs.FinMap.{FinMap, insert, remove}
 use Rattle.std.specs.Ordering.{nat_cmp}
 use Rattle.std.proofs.Math.Nat.{add-mod_left, mod-eq_of_lt, mod-lt}
-use Rattle.std.proofs.lemmas.Bool.{cases_lt}
+use Rattle.std.proofs.lemmas.Bool.{cases_eq, cases_lt}
 use Rattle.std.proofs.lemmas.List.{get_or-set_same, get_or-set_other, length-set}
 use Rattle.overlay_mapping_table.specs.declared.entry.Entry.{Entry}
+use Rattle.overlay_mapping_table.specs.declared.full.Full.{Full}
 use Rattle.overlay_mapping_table.specs.Rows.{map_of, ring, AreInOrder, HasWay}
 use Rattle.overlay_mapping_table.specs.Probes.{AreNow, AreSound, IsBefore, IsBeyond, IsGap, IsThere}
-use Rattle.overlay_mapping_table.specs.Shifts.{AreLowered, AreRaised, IsEnd, IsLast}
+use Rattle.overlay_mapping_table.specs.Shifts.{AreLowered, AreRaised, IsEnd, IsFull, IsLast}
 use Rattle.overlay_mapping_table.proofs.Contents.{IsOwn, same_key, apart_put, apart_take, map_put, map_take, same_rows}
 use Rattle.overlay_mapping_table.proofs.Searching.{not_bare, some, spare_from}
 use Rattle.overlay_mapping_table.proofs.Moving.{two_slots}
@@ -112,48 +113,85 @@ module _ (slots : List (Option (ℕ × Entry))) (sound : AreSound slots) (hole n
       home v has (inr none) = omega (arith, none)
 
 -- A row that was put in.
-pub put_now : (old mid new : List (Option (ℕ × Entry))) (name place end at : ℕ) (e : Entry) → AreSound old → IsGap old name place
-    → IsEnd (length old) old place end → AreRaised (length old) old mid place end → at ≡ place % length old → new ≡ slice_set mid at (Some (name, e))
-    → AreNow old new (insert (map_of old) name e)
-put_now old mid new name place end at e sound gap last raised here is =
-    subst (λ ss. AreNow old ss (insert (map_of old) name e)) (sym is) (record {
-      size = same;
-      apart = apart_put mid name at e own raised.same.apart;
-      order = subst (λ n. AreInOrder n put) (sym same) (order_put old put name place end e sound gap last now up other);
-      map =
-          map_put mid name at e own raised.same.apart
-          ∙ ap (λ (m : FinMap nat_cmp Entry). insert m name e) (same_rows old mid sound.apart raised.same.apart raised.same.kept raised.same.back);
-    })
+module _ (old mid : List (Option (ℕ × Entry))) (name place end at : ℕ) (e : Entry) (sound : AreSound old) (last : IsEnd (length old) old place end)
+    (raised : AreRaised (length old) old mid place end) (here : at ≡ place % length old) where
+  abbrev put : List (Option (ℕ × Entry))
+  put = slice_set mid at (Some (name, e))
+
+  same : length put ≡ length old
+  same = length-set mid at (Some (name, e)) ∙ raised.same.size
+
+  inside : at < length mid
+  inside = let less : place % length old < length old = mod-lt place (some old sound) in omega (arith, here, less, raised.same.size)
+
+  now : ring (length old) put place ≡ Some (name, e)
+  now = ap (λ j. get_or put j None) (sym here) ∙ get_or-set_same mid at (Some (name, e)) None inside
+
+  apart_from : (i : ℕ) → place < i → i < place + length old → ring (length old) put i ≡ ring (length old) mid i
+  apart_from i low near =
+      get_or-set_other mid at (i % length old) (Some (name, e)) None (λ equal. two_slots (length old) place i low near (sym (equal ∙ here)))
+
+  up : (i : ℕ) → place ≤ i → i < end → ring (length old) put (i + 1) ≡ ring (length old) old i
+  up i low less = apart_from (i + 1) (omega (arith, low)) (omega (arith, less, last.near)) ∙ raised.up i low less
+
+  other : (i : ℕ) → end < i → i < place + length old → ring (length old) put i ≡ ring (length old) old i
+  other i low less = apart_from i (omega (arith, low, last.low)) less ∙ raised.other i low less
+
+  pub put_now : (new : List (Option (ℕ × Entry))) → IsGap old name place → new ≡ put → AreNow old new (insert (map_of old) name e)
+  put_now new gap is =
+      subst (λ ss. AreNow old ss (insert (map_of old) name e)) (sym is) (record {
+        size = same;
+        apart = apart_put mid name at e own raised.same.apart;
+        order = subst (λ n. AreInOrder n put) (sym same) (order_put old put name place end e sound gap last now up other);
+        map =
+            map_put mid name at e own raised.same.apart
+            ∙ ap (λ (m : FinMap nat_cmp Entry). insert m name e) (same_rows old mid sound.apart raised.same.apart raised.same.kept raised.same.back);
+      })
+    where
+      own : IsOwn mid name at
+      own =
+          record {
+            inside = inside;
+            mine = λ q y there. let none : get_or mid at None ≡ None = ap (λ j. get_or mid j None) here ∙ raised.bare in absurd (cc (none, there));
+            only = λ i y there. let was = raised.same.back name y i there in absurd (gap.absent was.0 y was.1);
+          }
+
+  -- and all those that it was put among
+  pub full_put : (new : List (Option (ℕ × Entry))) → new ≡ put → IsFull new (record { from = place; end = end + 1 })
+  full_put new is = subst (λ ss. IsFull ss (record { from = place; end = end + 1 })) (sym is) full
+    where
+      at_old : (i : ℕ) → ring (length put) put i ≡ None → ring (length old) put i ≡ None
+      at_old i none = ap (λ n. ring n put i) (sym same) ∙ none
+
+      by : (i : ℕ) → place ≤ i → i < end + 1 → ring (length old) put i ≡ None → (place < i) ⊎ (i ≤ place) → ⊥
+      by i low less none (inl above) =
+          let back : i - 1 + 1 ≡ i = omega (arith, above) in
+          last.taken (i - 1) (omega (arith, above)) (omega (arith, above, less))
+          (sym (up (i - 1) (omega (arith, above)) (omega (arith, above, less))) ∙ ap (ring (length old) put) back ∙ none)
+      by i low less none (inr le) =
+          let equal : place ≡ i = omega (arith, low, le) in
+          let there = sym now ∙ ap (ring (length old) put) equal ∙ none in cc
+
+      full : IsFull put (record { from = place; end = end + 1 })
+      full i low less none = by i low less (at_old i none) (cases_lt place i)
+
+-- places that have rows, where another row is put over one
+pub full_over : (slots new : List (Option (ℕ × Entry))) (full : Full) (at : ℕ) (row : ℕ × Entry) → at < length slots → IsFull slots full
+    → new ≡ slice_set slots at (Some row) → IsFull new full
+full_over slots new full at row inside are is = subst (λ ss. IsFull ss full) (sym is) by_place
   where
     put : List (Option (ℕ × Entry))
-    put = slice_set mid at (Some (name, e))
+    put = slice_set slots at (Some row)
 
-    same : length put ≡ length old
-    same = length-set mid at (Some (name, e)) ∙ raised.same.size
+    by : (i : ℕ) → full.from ≤ i → i < full.end → ring (length slots) put i ≡ None → (i % length slots ≡ at) ⊎ (i % length slots ≡ at → ⊥) → ⊥
+    by i low less none (inl equal) =
+        let there = sym (get_or-set_same slots at (Some row) None inside) ∙ ap (λ j. get_or put j None) (sym equal) ∙ none in cc
+    by i low less none (inr differ) =
+        are i low less (sym (get_or-set_other slots at (i % length slots) (Some row) None differ) ∙ none)
 
-    inside : at < length mid
-    inside = let less : place % length old < length old = mod-lt place (some old sound) in omega (arith, here, less, raised.same.size)
-
-    own : IsOwn mid name at
-    own =
-        record {
-          inside = inside;
-          mine = λ q y there. let none : get_or mid at None ≡ None = ap (λ j. get_or mid j None) here ∙ raised.bare in absurd (cc (none, there));
-          only = λ i y there. let was = raised.same.back name y i there in absurd (gap.absent was.0 y was.1);
-        }
-
-    now : ring (length old) put place ≡ Some (name, e)
-    now = ap (λ j. get_or put j None) (sym here) ∙ get_or-set_same mid at (Some (name, e)) None inside
-
-    apart_from : (i : ℕ) → place < i → i < place + length old → ring (length old) put i ≡ ring (length old) mid i
-    apart_from i low near =
-        get_or-set_other mid at (i % length old) (Some (name, e)) None (λ equal. two_slots (length old) place i low near (sym (equal ∙ here)))
-
-    up : (i : ℕ) → place ≤ i → i < end → ring (length old) put (i + 1) ≡ ring (length old) old i
-    up i low less = apart_from (i + 1) (omega (arith, low)) (omega (arith, less, last.near)) ∙ raised.up i low less
-
-    other : (i : ℕ) → end < i → i < place + length old → ring (length old) put i ≡ ring (length old) old i
-    other i low less = apart_from i (omega (arith, low, last.low)) less ∙ raised.other i low less
+    by_place : IsFull put full
+    by_place i low less none =
+        by i low less (ap (λ n. ring n put i) (sym (length-set slots at (Some row))) ∙ none) (cases_eq (i % length slots) at)
 
 -- A row that was taken out.
 pub take_now : (old cleared new : List (Option (ℕ × Entry))) (name at hole last : ℕ) → AreSound old → IsThere old name at → hole ≡ length old + at

@@ -1,5 +1,6 @@
 use Rattle.std.specs.Prelude.{◌≡◌, ℕ, ◌+◌, ◌-◌, ◌<◌, ◌≤◌, List, length, get_or, Option, Some, None}
 use Rattle.overlay_mapping_table.specs.declared.entry.Entry.{Entry}
+use Rattle.overlay_mapping_table.specs.declared.full.Full.{Full}
 use Rattle.overlay_mapping_table.specs.Rows.{ring, StandOnce, HasWay}
 
 -- Rows that move by one place.
@@ -24,6 +25,10 @@ pub record IsEnd (n : ℕ) (slots : List (Option (ℕ × Entry))) (place end : �
   pub near : end < place + n
   pub taken : (i : ℕ) → place ≤ i → i < end → ring n slots i ≡ None → ⊥
   pub bare : ring n slots end ≡ None
+
+-- each of these places has a row
+abbrev pub IsFull : List (Option (ℕ × Entry)) → Full → Type 0
+IsFull slots full = (i : ℕ) → full.from ≤ i → i < full.end → ring (length slots) slots i ≡ None → ⊥
 
 -- the rows behind a place up to the last one stand behind their homes, and what comes next doesn't
 pub record IsLast (n : ℕ) (slots : List (Option (ℕ × Entry))) (hole last : ℕ) : Type 0 where

@@ -4,6 +4,7 @@
 //! name in each of its slots.
 //!
 //! - `entry`: what a name has
+//! - `full`: places known to have rows
 //! - `filled`: lists whose elements are alike until they are written
 //! - `gaps`: lists of which a stretch is written further on than its numbers say
 //! - `moves`: names and entries that move beside each other
@@ -17,6 +18,7 @@
 
 mod entry;
 mod filled;
+mod full;
 mod gaps;
 mod guesses;
 mod moves;

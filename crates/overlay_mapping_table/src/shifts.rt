@@ -3,9 +3,10 @@ ghost use Rattle.std.specs.Int.{IsPowerOfTwo};
 ghost use Rattle.std.specs.FinMap.{insert};
 ghost use Rattle.overlay_mapping_table.specs.Rows.{map_of, ring, StandOnce};
 ghost use Rattle.overlay_mapping_table.specs.Probes.{AreNow, AreSound, IsBeyond, IsGap, IsTakenOut, IsThere};
-ghost use Rattle.overlay_mapping_table.specs.Shifts.{AreLowered, AreRaised, IsEnd, IsLast};
+ghost use Rattle.overlay_mapping_table.specs.Shifts.{AreLowered, AreRaised, IsEnd, IsFull, IsLast};
 
 use crate::entry::Entry;
+use crate::full::Full;
 use crate::guesses::Guesses;
 use crate::places::wrap;
 use crate::probes::{beyond, is_before};
@@ -13,23 +14,29 @@ use crate::slots::Slots;
 use overlay_address::OverlayPage;
 
 // Puts a row in at the place where its name would stand. Those from there up to the next empty slot go up by one.
-// Answers where they end then.
+// Answers where all of these stand then.
 pub(crate) fn put_in(
     slots: &mut Slots,
     guesses: &Guesses,
+    full: Full,
     place: usize,
     p: OverlayPage,
     e: Entry,
-) -> usize
+) -> Full
     requires sound { AreSound slots.old }
+    requires full { IsFull slots.old full }
     requires gap { IsGap slots.old p place }
-    ensures { AreNow slots.old slots.new (insert (map_of slots.old) p e) }
+    ensures now { AreNow slots.old slots.new (insert (map_of slots.old) p e) }
+    ensures full { IsFull slots.new result }
 {
-    let end = end_from(slots, guesses, place);
+    let end = end_from(slots, guesses, full, place);
     raise(slots, place, end);
     let at = wrap(place, slots.len());
     slots.put(at, p, e);
-    end + 1
+    Full {
+        from: place,
+        end: end + 1,
+    }
 }
 
 // Takes the row of a slot out. Those behind it go down by one, up to an empty slot or a row at its home. Answers where
@@ -47,14 +54,15 @@ pub(crate) fn take_out(slots: &mut Slots, guesses: &Guesses, at: usize) -> usize
 }
 
 // The first place from one on whose slot is empty.
-fn end_from(slots: &Slots, guesses: &Guesses, place: usize) -> usize
+fn end_from(slots: &Slots, guesses: &Guesses, full: Full, place: usize) -> usize
     requires sound { AreSound slots.now }
+    requires full { IsFull slots.now full }
     requires behind { length slots.now ≤ place }
     requires near { place < 3 * length slots.now }
     ensures { IsEnd (length slots.now) slots.now place result }
 {
     let n = slots.len();
-    let mut end = place;
+    let mut end = full.behind(place);
     'passing: while slots.name_at(wrap(end, n)).is_some() {
         end = pass(slots, guesses, end + 1);
     }

@@ -5,6 +5,7 @@ ghost use Rattle.sizes.specs.declared.TheConstants.{FRAME_UNITS, MOST_FRAMES};
 ghost use Rattle.overlay_mapping_table.specs.Table.{HasRoomFor, AreThoseOf, NoneIsEmptyBefore};
 
 use crate::entry::Entry;
+use crate::full::Full;
 use crate::guesses::Guesses;
 use crate::probes::place_of;
 use crate::shifts::{put_in, take_out};
@@ -21,6 +22,8 @@ pub struct MappingTable {
     slots: Slots,
     // where the next look-up begins
     guesses: Guesses,
+    // where the rows stand that the last one was put among
+    full: Full,
     count: u32,
     room: u32,
 }
@@ -38,7 +41,9 @@ impl Model for MappingTable {
 
     ghost view = { λ t. record { entries = map_of t.slots; room = t.room; slots = names_of t.slots } };
 
-    ghost invariant = { λ t. AreKept t.slots t.count t.room };
+    ghost use Rattle.overlay_mapping_table.specs.Shifts.{IsFull};
+
+    ghost invariant = { λ t. AreKept t.slots t.count t.room × IsFull t.slots t.full };
 }
 
 impl MappingTable {
@@ -57,6 +62,7 @@ impl MappingTable {
         Ok(MappingTable {
             slots,
             guesses,
+            full: Full::none(),
             count: 0,
             room,
         })
@@ -86,8 +92,9 @@ impl MappingTable {
             Ok(at) => self.slots.put(at, p, e),
             Err(place) => {
                 let n = self.slots.len();
-                let end = put_in(&mut self.slots, &self.guesses, place, p, e);
-                self.guesses.keep(p, place, n, end);
+                let full = put_in(&mut self.slots, &self.guesses, self.full, place, p, e);
+                self.full = full;
+                self.guesses.keep(p, place, n, full.end);
                 self.count += 1;
             }
         }
@@ -106,6 +113,7 @@ impl MappingTable {
                 let entry = self.slots.entry_at(at);
                 let n = self.slots.len();
                 let end = take_out(&mut self.slots, &self.guesses, at);
+                self.full = Full::none();
                 self.guesses.keep(p, n + at, n, end);
                 self.count -= 1;
                 entry

@@ -2,6 +2,12 @@ use Rattle.std.proofs.Common.{◌%◌, ap, ◌∙◌, arith}
 use Rattle.overlay_mapping_table.proofs.Ends.{end_found, end_more, end_near}
 use Rattle.overlay_mapping_table.proofs.shifts.end_from.Goals as goal
 
+pub passing-init : goal.passing-init
+passing-init c = (
+  c.behind-end.ensures.low,
+  λ i low less. c.requires.full i (c.behind-end.ensures.among i low less) (c.behind-end.ensures.inside i low less),
+)
+
 pub overflow_add-end : goal.overflow_add-end
 overflow_add-end c =
     let near = end_near c.args.slots.now c.requires.sound c.args.place c.passing.end c.passing.invariant.0 c.passing.invariant.1 in

@@ -4,12 +4,12 @@ use Rattle.overlay_mapping_table.proofs.Tables.{got_there, lacks, sound}
 use Rattle.overlay_mapping_table.proofs.table.MappingTable.get.Goals as goal
 
 pub place_of-requires : goal.place_of-requires
-place_of-requires c = sound c.self.inside.slots c.self.inside.count c.self.inside.room c.self.invariant
+place_of-requires c = sound c.self.inside.slots c.self.inside.count c.self.inside.room c.self.invariant.0
 
 pub returns-in-Ok : goal.returns-in-Ok
 returns-in-Ok c =
     got_there c.self.inside.slots c.args.self.now.entries c.args.p c.in-Ok.at c.entry_at.result (ap (λ (t : Table). t.entries) c.self.view_is)
-    c.self.invariant.apart c.in-Ok.ensures.there c.entry_at.ensures
+    c.self.invariant.0.apart c.in-Ok.ensures.there c.entry_at.ensures
 
 pub returns-in-Err : goal.returns-in-Err
 returns-in-Err c =
