@@ -186,6 +186,14 @@ module _ (slots : List (Option (ℕ × Entry))) (name home : ℕ) (sound : AreSo
   not_here place at number x here read differs there =
       differs (read ∙ ap (λ i. name_in (get_or slots i None)) here ∙ ap name_in there)
 
+  -- nothing is past yet, and an empty home is where it would stand
+  none_past : IsPast (length slots) slots name home home
+  none_past = record {
+    low = omega arith;
+    led = λ i low less. absurd (omega (arith, low, less));
+    other = λ i x low less. absurd (omega (arith, low, less));
+  }
+
   pub gap_found : (place at number : ℕ) → IsPast (length slots) slots name home place → at ≡ place % length slots
       → number ≡ name_in (get_or slots at None) → (number ≡ name → ⊥) → (IsBefore (length slots) slots (home + 1) place → ⊥)
       → IsGap slots name place
@@ -228,6 +236,17 @@ module _ (slots : List (Option (ℕ × Entry))) (name home : ℕ) (sound : AreSo
               let has : HasWay (length slots) slots p.place (p.place - home) = record { name = name; value = x; is = there; way = way } in
               let led = sound.order p.place (p.place - home) place has behind (omega (arith, past.low, p.low)) in
               stops (record { way = led.0; has = led.1; before = omega (arith, led.2, p.low) })
+
+  pub gap_at_home : (at number : ℕ) (read : Option ℕ) → at ≡ home_number name % length slots → number ≡ name_in (get_or slots at None) → (number ≡ name → ⊥)
+      → read ≡ option_map (λ (row : ℕ × Entry). row.0) (get_or slots at None) → read ≡ None → IsGap slots name home
+  gap_at_home at number read slot is differs named none =
+      gap_found home at number none_past (slot ∙ sym is_home) is differs
+      (λ before. not_bare (length slots) slots before.way home home before.has (ap (λ i. get_or slots i None) (is_home ∙ sym slot) ∙ by (get_or slots at None) refl) refl)
+    where
+      by : (o : Option (ℕ × Entry)) → get_or slots at None ≡ o → get_or slots at None ≡ None
+      by None empty = empty
+      by (Some row) there =
+          let has = sym none ∙ named ∙ ap (option_map (λ (r : ℕ × Entry). r.0)) there in cc
 
 -- the slot whose number was read has the name
 pub found : (slots : List (Option (ℕ × Entry))) (name at number : ℕ) → at < length slots → number ≡ name_in (get_or slots at None) → number ≡ name

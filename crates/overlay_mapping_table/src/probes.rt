@@ -19,6 +19,10 @@ pub(crate) fn place_of(slots: &Slots, guesses: &Guesses, p: OverlayPage) -> Resu
         return Ok(slot);
     }
     let home = n + slot;
+    match slots.name_at(slot) {
+        None => return Err(home),
+        Some(_) => {}
+    }
     let mut place = beyond(slots, home, home + guesses.steps(slot, home) as usize);
     'probing: loop {
         let at = wrap(place, n);
