@@ -20,7 +20,7 @@ use Rattle.overlay_memory.specs.View.{AreTrue, cached_in, cached_page, view_of}
 use Rattle.overlay_memory.specs.declared.fronts.Fronts.{Fronts}
 use Rattle.overlay_pages.specs.Spots.{FindsPage, IsFoundAt, IsFoundPage, IsFoundPageAt}
 use Rattle.overlay_pages.specs.State.{PageState, State, memory_of, seen_page}
-use Rattle.overlay_pages.specs.View.{MemoryView, page_state, state_of}
+use Rattle.overlay_pages.specs.View.{IsJoined, MemoryView, page_state, state_of}
 use Rattle.overlay_pages.specs.ViewLaws.{state_page_there}
 use Rattle.overlay_pages.specs.declared.spots.FoundLine.{FoundLine}
 use Rattle.overlay_pages.specs.declared.spots.FoundPage.{FoundPage}
@@ -168,16 +168,6 @@ line_bytes view address found line it value long =
     ∙ found_piece view start LINE_BYTES found line
     (record { space_is = refl; page_is = it.page_is ∙ page; line_is = it.line_is ∙ number; is = it.is }) (omega arith) value long
 
--- A page that was found may be used so.
-pub may_be_used : (view : MemoryView) (s address : ℕ) (page : FoundPage) (at : IsFoundPageAt view s (address / PAGE_BYTES) page) (need : ℕ)
-    → permits page.perms.0 need ≡ true → IsPermitted view s need address
-unfolding page_state
-may_be_used view s address page at need may = record {
-  page = page_state view.store at.is.x;
-  there = page_there view s (address / PAGE_BYTES) page at;
-  may = ap (λ (k : Perms). permits k.0 need) at.is.perms ∙ may;
-}
-
 -- The line of an address, of its page that was found.
 
 module _ (view : MemoryView) (s address line : ℕ) (page : FoundPage) (found : FoundLine) (at : IsFoundPageAt view s (address / PAGE_BYTES) page)
@@ -196,6 +186,15 @@ module _ (view : MemoryView) (s address line : ℕ) (page : FoundPage) (found : 
   at_address P holds =
       subst (λ n. P n (address / PAGE_BYTES) (address / LINE_BYTES % PAGE_LINES)) at.space_is
       (subst (λ n. P page.space n (address / LINE_BYTES % PAGE_LINES)) at.page_is (subst (P page.space page.page) line_is holds))
+
+  pub may_be_used : (need : ℕ) → IsJoined view → permits page.perms.0 need ≡ true → IsPermitted view s need address
+  unfolding page_state
+  may_be_used need joined may = record {
+    page = page_state view.store at.is.x;
+    there = page_there view s (address / PAGE_BYTES) page at;
+    may = ap (λ (k : Perms). permits k.0 need) at.is.perms ∙ may;
+    joined = joined;
+  }
 
   -- and may be fetched from
   pub code_there : (held : Translations Cached) (bytes : List ℕ) → permits page.perms.0 executable ≡ true → IsFront page.space page.page (bare held)

@@ -9,7 +9,7 @@ use Rattle.ledger.specs.Units.{units}
 use Rattle.overlay_pages.specs.State.{State, books}
 use Rattle.overlay_pages.specs.Changes.{Fits, is_writable, limit_of, units_of, with_brought}
 use Rattle.overlay_pages.specs.Calls.{RisesBy}
-use Rattle.overlay_pages.specs.View.{IsJoined, MemoryView, state_of}
+use Rattle.overlay_pages.specs.View.{MemoryView, state_of}
 use Rattle.overlay_memory.specs.declared.error.MemoryError.TheVariants.{Full}
 use Rattle.overlay_memory.specs.declared.error.Shortage.{Shortage}
 use Rattle.overlay_memory.specs.Access.{IsAllowed, Stores, stored_books}
@@ -34,12 +34,11 @@ row_of_one v s address n some fits =
     (touched_one address n (address / 4096) (address % 4096) some (omega arith) fits)
 
 -- bytes of a line that can be written where it stands
-pub stored_in_line : (view : MemoryView) (c : State) (s address : ℕ) (bytes : List ℕ) → IsJoined view → IsPermitted view s writable address
-    → 0 < length bytes
+pub stored_in_line : (view : MemoryView) (c : State) (s address : ℕ) (bytes : List ℕ) → IsPermitted view s writable address → 0 < length bytes
     → address % LINE_BYTES + length bytes ≤ LINE_BYTES → is_writable (state_of view) s (address / PAGE_BYTES) (address / LINE_BYTES % PAGE_LINES) ≡ true
     → IsFilled (state_of view) c s (PAGE_BYTES * (address / PAGE_BYTES) + (LINE_BYTES * (address / LINE_BYTES % PAGE_LINES) + address % LINE_BYTES)) bytes
     → IsDone view c s address bytes
-stored_in_line view c s address bytes joined may some fits can filled =
+stored_in_line view c s address bytes may some fits can filled =
     let v = state_of view in
     let p = address / 4096 in
     let line = address / 64 % 64 in
@@ -49,7 +48,7 @@ stored_in_line view c s address bytes joined may some fits can filled =
     row_of_one v s address n some (omega (arith, fits))
     ∙ ap (λ l. ledger_after (Store (space_in v s).speculating s ((p, l) ∷ [])) (books v))
     (one_under (address % 4096) n line some (omega arith) (omega (arith, fits)))
-    ∙ joins_nothing v s p line may.page may.there (own_set view s p may.page joined may.there) can in (
+    ∙ joins_nothing v s p line may.page may.there (own_set view s p may.page may.joined may.there) can in (
       permitted view s writable address n may (omega (arith, fits)),
       stored_by v v c s address bytes (books v) row (brought_none v s) (subst (λ a. IsFilled v c s a bytes) place filled),
     )

@@ -65,11 +65,11 @@ found_perms : (view : MemoryView) (space address need : ℕ) (found : FoundLine)
 found_perms view space address need found b it is =
     ap (λ (k : Perms). permits k.0 need) (found_page view space (address / PAGE_BYTES) (address / LINE_BYTES % PAGE_LINES) found it).2 ∙ is
 
-pub found_permits : (view : MemoryView) (space address need : ℕ) (found : FoundLine) → IsFoundIn view space address found
+pub found_permits : (view : MemoryView) (space address need : ℕ) (found : FoundLine) → IsFoundIn view space address found → IsJoined view
     → permits found.perms.0 need ≡ true → IsPermitted view space need address
-found_permits view space address need found it is =
+found_permits view space address need found it joined is =
     let x = found_page view space (address / PAGE_BYTES) (address / LINE_BYTES % PAGE_LINES) found it in
-    record { page = x.0; there = x.1; may = found_perms view space address need found true it is }
+    record { page = x.0; there = x.1; may = found_perms view space address need found true it is; joined = joined }
 
 pub found_lacks : (view : MemoryView) (space address need : ℕ) (found : FoundLine) → IsFoundIn view space address found
     → permits found.perms.0 need ≡ false → IsLacking view space need address
@@ -77,8 +77,8 @@ found_lacks view space address need found it is =
     let x = found_page view space (address / PAGE_BYTES) (address / LINE_BYTES % PAGE_LINES) found it in
     record { page = x.0; there = x.1; lacks = found_perms view space address need found false it is }
 
-pub low_address : (view : MemoryView) (s need address : ℕ) → IsJoined view → IsPermitted view s need address → address < ADDRESS_END
-low_address view s need address joined may = let low = page_low view s (address / 4096) may.page joined may.there in omega (arith, low)
+pub low_address : (view : MemoryView) (s need address : ℕ) → IsPermitted view s need address → address < ADDRESS_END
+low_address view s need address may = let low = page_low view s (address / 4096) may.page may.joined may.there in omega (arith, low)
 
 -- what stands in a part of a line is what stands there in the memory
 pub read_piece : (v : State) (s q line at n address : ℕ) (x : PageState) (bytes : List ℕ) → page_in v s q ≡ Some x

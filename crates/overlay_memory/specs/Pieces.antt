@@ -7,7 +7,7 @@ use Rattle.overlay_bits.specs.Lines.{lines_between}
 use Rattle.overlay_pages.specs.State.{PageState, State, base_of, books, memory_of, seen_page}
 use Rattle.overlay_pages.specs.Changes.{is_writable}
 use Rattle.overlay_pages.specs.Calls.{entries_in}
-use Rattle.overlay_pages.specs.View.{MemoryView, state_of}
+use Rattle.overlay_pages.specs.View.{IsJoined, MemoryView, state_of}
 use Rattle.overlay_pages.specs.declared.spots.FoundLine.{FoundLine}
 use Rattle.overlay_memory.specs.Access.{IsFoundIn, IsUntouched}
 use Rattle.overlay_memory.specs.declared.error.MemoryError.{MemoryError}
@@ -23,6 +23,7 @@ pub record IsPermitted (view : MemoryView) (space need address : ℕ) : Type 0 w
   pub page : PageState
   pub there : page_in (state_of view) space (address / PAGE_BYTES) ≡ Some page
   pub may : permits (seen_page page).perms need ≡ true
+  pub joined : IsJoined view
 
 pub record IsLacking (view : MemoryView) (space need address : ℕ) : Type 0 where
   pub page : PageState

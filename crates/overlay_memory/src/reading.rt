@@ -53,8 +53,7 @@ pub(crate) fn find(
     address: u64,
     need: Perms,
 ) -> Result<FoundLine, MemoryError>
-    ensures found { Finds pages.now space need.0 address result }
-    ensures joined { IsJoined pages.now }
+    ensures { Finds pages.now space need.0 address result }
 {
     match find_line(pages, space, address) {
         Some(found) => {
@@ -75,8 +74,7 @@ pub(crate) fn permit(
     address: u64,
     need: Perms,
 ) -> Result<(), MemoryError>
-    ensures permits { Permits pages.now space need.0 address result }
-    ensures joined { IsJoined pages.now }
+    ensures { Permits pages.now space need.0 address result }
 {
     match find(pages, space, address, need) {
         Ok(_) => Ok(()),

@@ -9,7 +9,7 @@ ghost use Rattle.overlay_pages.specs.View.{IsJoined, state_of};
 ghost use Rattle.overlay_pages.specs.Spots.{IsFound, IsFoundPageAt};
 ghost use Rattle.overlay_memory.specs.Access.{Stores};
 ghost use Rattle.overlay_memory.specs.Fronts.{AreFronts};
-ghost use Rattle.overlay_memory.specs.Pieces.{AreWritable, IsFilled, IsPermitted, Permits, lines_under, result_at};
+ghost use Rattle.overlay_memory.specs.Pieces.{AreWritable, IsFilled, Permits, lines_under, result_at};
 ghost use Rattle.overlay_memory.specs.View.{AreTrue};
 ghost use Rattle.space_maps.specs.Spaces.{page_in};
 ghost use Rattle.translation_cache.specs.Bare.{bare};
@@ -30,8 +30,7 @@ use translation_cache::Cache;
 /// Whether the byte at an address may be written.
 #[inline]
 fn permit_store(pages: &OverlayPages, space: u16, address: u64) -> Result<(), MemoryError>
-    ensures permits { Permits pages.now space writable address result }
-    ensures joined { IsJoined pages.now }
+    ensures { Permits pages.now space writable address result }
 {
     permit(pages, space, address, Perms::W)
 }
@@ -96,36 +95,7 @@ fn fill_page(pages: &mut OverlayPages, space: u16, page: u64, at: usize, bytes: 
     }
 }
 
-/// Stores bytes, some and all in one page that may be written: units first, then the lines, then the bytes.
-fn write_permitted(
-    pages: &mut OverlayPages,
-    cache: &mut Cache,
-    space: u16,
-    address: u64,
-    bytes: &[u8],
-) -> Result<(), MemoryError>
-    requires may { IsPermitted pages.old space writable address }
-    requires some { 0 < length bytes.now }
-    requires one_page { address % PAGE_BYTES + length bytes.now ≤ PAGE_BYTES }
-    requires held { AreTrue (state_of pages.old) cache.old }
-    ensures stores { Stores pages.old pages.new space address bytes.now result }
-    ensures held { AreTrue (state_of pages.new) cache.new }
-    ensures lists { bare cache.new ≡ bare cache.old }
-    ensures kept { OnErr result (cache.new ≡ cache.old) }
-{
-    let page = address / PAGE_BYTES as u64;
-    let at = (address % PAGE_BYTES as u64) as usize;
-    let touched = lines_at(at, bytes.len());
-    let rise = pages.store_units(space, page, touched);
-    if let Some(shortage) = shortage_by(pages, rise) {
-        return Err(MemoryError::Full(shortage.needed, shortage.limit));
-    }
-    bring_lines(pages, cache, space, page, touched);
-    fill_page(pages, space, page, at, bytes);
-    Ok(())
-}
-
-/// Stores bytes, some and all in one page: permission first, then as `write_permitted`.
+/// Stores bytes, some and all in one page: permission first, then units, then the lines, then the bytes.
 fn write_in_page(
     pages: &mut OverlayPages,
     cache: &mut Cache,
@@ -145,7 +115,16 @@ fn write_in_page(
         Ok(()) => {}
         Err(error) => return Err(error),
     }
-    write_permitted(pages, cache, space, address, bytes)
+    let page = address / PAGE_BYTES as u64;
+    let at = (address % PAGE_BYTES as u64) as usize;
+    let touched = lines_at(at, bytes.len());
+    let rise = pages.store_units(space, page, touched);
+    if let Some(shortage) = shortage_by(pages, rise) {
+        return Err(MemoryError::Full(shortage.needed, shortage.limit));
+    }
+    bring_lines(pages, cache, space, page, touched);
+    fill_page(pages, space, page, at, bytes);
+    Ok(())
 }
 
 /// Stores bytes that lie in two pages, the first of them in as many as `front`.
@@ -242,30 +221,6 @@ fn store_apart(
     came_of(write_in_page(pages, cache, space, address, bytes))
 }
 
-/// As `store_apart`, of a page that may be written.
-#[cold]
-#[inline(never)]
-fn store_permitted(
-    pages: &mut OverlayPages,
-    cache: &mut Cache,
-    fronts: &mut Fronts,
-    space: u16,
-    address: u64,
-    bytes: &[u8],
-) -> Came
-    requires may { IsPermitted pages.old space writable address }
-    requires some { 0 < length bytes.now }
-    requires one_line { address % LINE_BYTES + length bytes.now ≤ LINE_BYTES }
-    requires held { AreTrue (state_of pages.old) cache.old }
-    ensures stores { Stores pages.old pages.new space address bytes.now (result_at address result) }
-    ensures held { AreTrue (state_of pages.new) cache.new }
-    ensures lists { bare cache.new ≡ bare cache.old }
-    ensures fronts { AreFronts pages.new (bare cache.new) fronts.new }
-{
-    fronts.clear();
-    came_of(write_permitted(pages, cache, space, address, bytes))
-}
-
 /// Stores bytes, some and all in one line of a page that was found. Where that can be written it takes no units.
 #[inline(always)]
 fn store_found(
@@ -288,10 +243,7 @@ fn store_found(
     ensures fronts { AreFronts pages.new (bare cache.new) fronts.new }
 {
     let line = line_of(address);
-    if !page.perms.contains(Perms::W) {
-        return store_apart(pages, cache, fronts, space, address, bytes);
-    }
-    if page.is_writable(line) {
+    if page.perms.contains(Perms::W) && page.is_writable(line) {
         put(
             pages,
             page.line(line),
@@ -300,7 +252,7 @@ fn store_found(
         );
         return Came::Done;
     }
-    store_permitted(pages, cache, fronts, space, address, bytes)
+    store_apart(pages, cache, fronts, space, address, bytes)
 }
 
 /// As `store_line`, of a page that isn't known to be at the front of its list.

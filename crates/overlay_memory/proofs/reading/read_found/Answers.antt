@@ -10,7 +10,7 @@ returns-then-contains-clause-access c =
     let found = c.args.found in
     let may : permits found.perms.0 c.args.need.0 ≡ true = sym (c.contains.ensures tt) ∙ c.if-contains.true in
     permitted c.args.pages.now found.space c.args.need.0 c.args.address (length c.args.into.now)
-    (found_permits c.args.pages.now found.space c.args.address c.args.need.0 found c.requires.found may) (omega (arith, c.requires.one_line))
+    (found_permits c.args.pages.now found.space c.args.address c.args.need.0 found c.requires.found c.line_at-bytes.ensures.joined may) (omega (arith, c.requires.one_line))
 
 pub returns-then-contains-clause-bytes : goal.returns-then-contains-clause-bytes
 returns-then-contains-clause-bytes c =
@@ -24,8 +24,8 @@ pub returns-then-contains-clause-low : goal.returns-then-contains-clause-low
 returns-then-contains-clause-low c =
     let found = c.args.found in
     let may : permits found.perms.0 c.args.need.0 ≡ true = sym (c.contains.ensures tt) ∙ c.if-contains.true in
-    low_address c.args.pages.now found.space c.args.need.0 c.args.address c.line_at-bytes.ensures.joined
-    (found_permits c.args.pages.now found.space c.args.address c.args.need.0 found c.requires.found may)
+    low_address c.args.pages.now found.space c.args.need.0 c.args.address
+    (found_permits c.args.pages.now found.space c.args.address c.args.need.0 found c.requires.found c.line_at-bytes.ensures.joined may)
 
 pub returns-else-contains-clause-access : goal.returns-else-contains-clause-access
 returns-else-contains-clause-access c =

@@ -18,9 +18,9 @@ returns-then-is_writable-clause-stores c =
     let it = c.line.ensures view at.is in
     let new = state_of c.put.new.pages in
     let bytes = c.args.bytes.now in
-    stored_in_line view new c.args.space c.args.address bytes c.put.ensures.joined
-    (may_be_used view c.args.space c.args.address c.args.page at writable
-    (sym (c.contains.ensures tt) ∙ c.if-not-contains.false))
+    stored_in_line view new c.args.space c.args.address bytes
+    (may_be_used view c.args.space c.args.address c.line_of-line.result c.args.page c.line.result at line_is it writable c.put.ensures.joined
+    (sym (c.contains.ensures tt) ∙ c.if-contains.true))
     c.requires.some c.requires.one_line
     (at_address view c.args.space c.args.address c.line_of-line.result c.args.page c.line.result at line_is it
     (λ s p l. is_writable (state_of view) s p l ≡ true) (sym (c.is_writable.ensures view at.is) ∙ c.if-is_writable.true))
@@ -39,7 +39,3 @@ returns-then-is_writable-clause-fronts c =
 
 pub put-requires-clause-found : goal.put-requires-clause-found
 put-requires-clause-found c = (c.line.ensures c.args.pages.now c.requires.found.is).is
-
-pub store_permitted-requires-clause-may : goal.store_permitted-requires-clause-may
-store_permitted-requires-clause-may c =
-    may_be_used c.args.pages.now c.args.space c.args.address c.args.page c.requires.found writable (sym (c.contains.ensures tt) ∙ c.if-not-contains.false)
