@@ -6,7 +6,7 @@ use Rattle.std.proofs.lemmas.List.{get_or_past}
 use Rattle.overlay_address.specs.Names.{IsName}
 use Rattle.overlay_mapping_table.specs.declared.entry.Entry.{Entry}
 use Rattle.overlay_mapping_table.specs.Rows.{nothing, ring, slot_of, slots_of, AreSlots, StandOnce}
-use Rattle.overlay_mapping_table.specs.Gaps.{AreBare, AreDown, AreUp}
+use Rattle.overlay_mapping_table.specs.Gaps.{ShowNone, AreDown, AreUp}
 use Rattle.overlay_mapping_table.specs.Shifts.{AreLowered, AreOneUp, AreRaised}
 use Rattle.overlay_mapping_table.proofs.Beside.{none_back, sized, slot_at}
 use Rattle.overlay_mapping_table.proofs.Moving.{IsShift, lowered, raised}
@@ -75,7 +75,7 @@ module _ (names names₂ : List ℕ) (xs xs₂ : List Entry) (kept : AreSlots na
     pub bare_up_slot : get_or (slots_of names₂ xs₂) from None ≡ None
     bare_up_slot = bare_slot names₂ xs₂ from level bare
 
-    pub rows_up : (slots : List (Option (ℕ × Entry))) → slots_of names xs ≡ slots → AreBare names end room → end < length names
+    pub rows_up : (slots : List (Option (ℕ × Entry))) → slots_of names xs ≡ slots → ShowNone names end room → end < length names
         → AreOneUp slots (slots_of names₂ xs₂) from end
     rows_up slots stands free inside =
         subst (λ ss. AreOneUp ss (slots_of names₂ xs₂) from end) stands (

@@ -10,7 +10,7 @@ use Rattle.overlay_mapping_table.specs.declared.entry.Entry.{Entry}
 use Rattle.overlay_mapping_table.specs.declared.full.Full.{Full}
 use Rattle.overlay_mapping_table.specs.Rows.{map_of, ring, AreInOrder, HasWay}
 use Rattle.overlay_mapping_table.specs.Probes.{AreNow, AreSound, IsBefore, IsBeyond, IsGap, IsThere}
-use Rattle.overlay_mapping_table.specs.Shifts.{AreLowered, AreRaised, IsEnd, IsFull, IsLast}
+use Rattle.overlay_mapping_table.specs.Shifts.{AreLowered, AreRaised, IsEnd, HaveRows, IsLast}
 use Rattle.overlay_mapping_table.proofs.Contents.{IsOwn, same_key, apart_put, apart_take, map_put, map_take, same_rows}
 use Rattle.overlay_mapping_table.proofs.Searching.{not_bare, some, spare_from}
 use Rattle.overlay_mapping_table.proofs.Moving.{two_slots}
@@ -157,8 +157,8 @@ module _ (old mid : List (Option (ℕ × Entry))) (name place end at : ℕ) (e :
           }
 
   -- and all those that it was put among
-  pub full_put : (new : List (Option (ℕ × Entry))) → new ≡ put → IsFull new (record { from = place; end = end + 1 })
-  full_put new is = subst (λ ss. IsFull ss (record { from = place; end = end + 1 })) (sym is) full
+  pub full_put : (new : List (Option (ℕ × Entry))) → new ≡ put → HaveRows new (record { from = place; end = end + 1 })
+  full_put new is = subst (λ ss. HaveRows ss (record { from = place; end = end + 1 })) (sym is) full
     where
       at_old : (i : ℕ) → ring (length put) put i ≡ None → ring (length old) put i ≡ None
       at_old i none = ap (λ n. ring n put i) (sym same) ∙ none
@@ -172,13 +172,13 @@ module _ (old mid : List (Option (ℕ × Entry))) (name place end at : ℕ) (e :
           let equal : place ≡ i = omega (arith, low, le) in
           let there = sym now ∙ ap (ring (length old) put) equal ∙ none in cc
 
-      full : IsFull put (record { from = place; end = end + 1 })
+      full : HaveRows put (record { from = place; end = end + 1 })
       full i low less none = by i low less (at_old i none) (cases_lt place i)
 
 -- places that have rows, where another row is put over one
-pub full_over : (slots new : List (Option (ℕ × Entry))) (full : Full) (at : ℕ) (row : ℕ × Entry) → at < length slots → IsFull slots full
-    → new ≡ slice_set slots at (Some row) → IsFull new full
-full_over slots new full at row inside are is = subst (λ ss. IsFull ss full) (sym is) by_place
+pub full_over : (slots new : List (Option (ℕ × Entry))) (full : Full) (at : ℕ) (row : ℕ × Entry) → at < length slots → HaveRows slots full
+    → new ≡ slice_set slots at (Some row) → HaveRows new full
+full_over slots new full at row inside are is = subst (λ ss. HaveRows ss full) (sym is) by_place
   where
     put : List (Option (ℕ × Entry))
     put = slice_set slots at (Some row)
@@ -189,7 +189,7 @@ full_over slots new full at row inside are is = subst (λ ss. IsFull ss full) (s
     by i low less none (inr differ) =
         are i low less (sym (get_or-set_other slots at (i % length slots) (Some row) None differ) ∙ none)
 
-    by_place : IsFull put full
+    by_place : HaveRows put full
     by_place i low less none =
         by i low less (ap (λ n. ring n put i) (sym (length-set slots at (Some row))) ∙ none) (cases_eq (i % length slots) at)
 

@@ -4,7 +4,7 @@ use Rattle.overlay_address.specs.Names.{IsName}
 use Rattle.overlay_mapping_table.specs.declared.entry.Entry.{Entry}
 use Rattle.overlay_mapping_table.specs.declared.gaps.Gap.{Gap}
 use Rattle.overlay_mapping_table.specs.Rows.{nothing, no_rows, slots_of, AreSlots}
-use Rattle.overlay_mapping_table.specs.Gaps.{no_gap, seen, AreBare, AreDown, AreLaid, AreUp, IsGapIn, IsSpot}
+use Rattle.overlay_mapping_table.specs.Gaps.{no_gap, seen, ShowNone, AreDown, AreLaid, AreUp, IsGapIn, IsWrittenAt}
 use Rattle.overlay_mapping_table.specs.Shifts.{AreOneUp}
 use Rattle.overlay_mapping_table.proofs.Beside.{all_empty, kept_clear, kept_new, kept_put, stands_clear, stands_put}
 use Rattle.overlay_mapping_table.proofs.Seen.{seen_whole, size_seen, written}
@@ -65,7 +65,7 @@ module _ (slots : List (Option (ℕ × Entry))) (names : List ℕ) (entries : Li
     pub inside₂ : (n place : ℕ) → n ≡ length names₁ → place < n → place < length entries₁
     inside₂ n place is less = omega (arith, less, is, size₁, size₂, laid.same)
 
-    module _ (place : ℕ) (here : IsSpot gap₁ at place) where
+    module _ (place : ℕ) (here : IsWrittenAt gap₁ at place) where
       named : (m : ℕ) (new : List ℕ) → new ≡ slice_set names₁ place m → seen new 0 gap₁ ≡ slice_set (seen names 0 gap) at m
       named m new is =
           ap (λ (ns : List ℕ). seen ns 0 gap₁) is
@@ -120,7 +120,7 @@ module _ (slots : List (Option (ℕ × Entry))) (names : List ℕ) (entries : Li
         (kept_up (seen names 0 gap) (seen names₂ 0 gap₂) (seen entries nothing gap) (seen entries₂ nothing gap₂) laid.slots up.size up₂.size from end room up
         bare up₂)
 
-    pub rows_raised : AreBare (seen names 0 gap) end room → end < length slots → AreOneUp slots (laid_slots names₂ entries₂ gap₂) from end
+    pub rows_raised : ShowNone (seen names 0 gap) end room → end < length slots → AreOneUp slots (laid_slots names₂ entries₂ gap₂) from end
     rows_raised free inside =
         rows_up (seen names 0 gap) (seen names₂ 0 gap₂) (seen entries nothing gap) (seen entries₂ nothing gap₂) laid.slots up.size up₂.size from end room up
         bare up₂ slots stands free (omega (arith, within_names end inside, size_seen names 0 gap))

@@ -6,7 +6,7 @@ use Rattle.std.proofs.lemmas.List.{get_or_default, get_or-set_same, get_or-set_o
 use Rattle.std.proofs.lemmas.List.FromFn.{length-map-range_with_len, get_or-map-range_with_len}
 use Rattle.overlay_mapping_table.specs.declared.gaps.Gap.{Gap}
 use Rattle.overlay_mapping_table.specs.Shifts.{AreCopied}
-use Rattle.overlay_mapping_table.specs.Gaps.{seen, seen_at, AreDown, AreFilled, AreUp, IsGapIn, IsShifted, IsSpot}
+use Rattle.overlay_mapping_table.specs.Gaps.{seen, seen_at, AreDown, AreFilled, AreUp, IsGapIn, IsShifted, IsWrittenAt}
 
 -- What is seen of lists with a gap.
 
@@ -361,7 +361,7 @@ module _ {X : Type 0} (items : List X) (rest x : X) (gap : Gap) (is : IsGapIn (l
           other k d below differ (cases_lt k gap.at) (cases_lt k gap.end) (cases_lt k (gap.end + gap.len))
           ∙ sym (get_or-set_other (seen items rest gap) i k x d differ)
 
-  pub written : IsSpot gap i place → seen (slice_set items place x) rest gap ≡ slice_set (seen items rest gap) i x
+  pub written : IsWrittenAt gap i place → seen (slice_set items place x) rest gap ≡ slice_set (seen items rest gap) i x
   written (inl (less, same)) =
       written_by (λ ys d size. low ys rest gap i d (omega (arith, inside, size)) less ∙ ap (λ j. get_or ys j rest) (sym same))
       (omega (arith, same, inside)) (λ k differ before equal. let again : k ≡ i = omega (arith, equal, same) in differ again)

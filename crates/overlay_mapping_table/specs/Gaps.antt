@@ -26,8 +26,8 @@ module _ {X : Type 0} where
   seen items rest gap = map (seen_at items rest gap) (range_with_len 0 (length items))
 
 -- an element is written at a place
-abbrev pub IsSpot : Gap → ℕ → ℕ → Type 0
-IsSpot gap i place =
+abbrev pub IsWrittenAt : Gap → ℕ → ℕ → Type 0
+IsWrittenAt gap i place =
     ((i < gap.at) × (place ≡ i))
     ⊎ (((gap.at ≤ i) × ((i < gap.end) × (place ≡ i + gap.len))) ⊎ ((gap.at ≤ i) × ((gap.end + gap.len ≤ i) × (place ≡ i))))
 
@@ -62,8 +62,8 @@ pub record AreDown {X : Type 0} (old new : List X) (rest : X) (to last : ℕ) : 
   pub above : (i : ℕ) (d : X) → last < i → get_or new i d ≡ get_or old i d
 
 -- the names behind another one, so many, are none
-abbrev pub AreBare : List ℕ → ℕ → ℕ → Type 0
-AreBare names end room = (i : ℕ) → end < i → i < end + room → get_or names i 0 ≡ 0
+abbrev pub ShowNone : List ℕ → ℕ → ℕ → Type 0
+ShowNone names end room = (i : ℕ) → end < i → i < end + room → get_or names i 0 ≡ 0
 
 -- names and entries beside each other, with one gap
 pub record AreLaid (names : List ℕ) (entries : List Entry) (gap : Gap) : Type 0 where

@@ -27,8 +27,8 @@ pub record IsEnd (n : ℕ) (slots : List (Option (ℕ × Entry))) (place end : �
   pub bare : ring n slots end ≡ None
 
 -- each of these places has a row
-abbrev pub IsFull : List (Option (ℕ × Entry)) → Full → Type 0
-IsFull slots full = (i : ℕ) → full.from ≤ i → i < full.end → ring (length slots) slots i ≡ None → ⊥
+abbrev pub HaveRows : List (Option (ℕ × Entry)) → Full → Type 0
+HaveRows slots full = (i : ℕ) → full.from ≤ i → i < full.end → ring (length slots) slots i ≡ None → ⊥
 
 -- the rows behind a place up to the last one stand behind their homes, and what comes next doesn't
 pub record IsLast (n : ℕ) (slots : List (Option (ℕ × Entry))) (hole last : ℕ) : Type 0 where

@@ -1,5 +1,5 @@
 ghost use Rattle.std.specs.Prelude.{◌≡◌, ◌<◌, ◌≤◌, ◌+◌, length, get_or};
-ghost use Rattle.overlay_mapping_table.specs.Gaps.{no_gap, seen, AreFilled, IsGapIn, IsShifted, IsSpot};
+ghost use Rattle.overlay_mapping_table.specs.Gaps.{no_gap, seen, AreFilled, IsGapIn, IsShifted, IsWrittenAt};
 
 use crate::filled::Filled;
 
@@ -50,7 +50,7 @@ pub(crate) fn spot(gap: Gap, n: usize, i: usize) -> usize
     requires inside { i < n }
     requires gap { IsGapIn n gap }
     requires full { i < gap.end + gap.len → i < gap.end }
-    ensures same { IsSpot gap i result }
+    ensures same { IsWrittenAt gap i result }
     ensures below { result < n }
 {
     if gap.at <= i && i < gap.end {

@@ -1,6 +1,6 @@
 ghost use Rattle.std.specs.Prelude.{◌≡◌, ◌<◌, ◌≤◌, ◌+◌, length, get_or};
 ghost use Rattle.overlay_mapping_table.specs.Rows.{nothing};
-ghost use Rattle.overlay_mapping_table.specs.Gaps.{seen, AreBare, AreDown, AreUp, IsGapIn};
+ghost use Rattle.overlay_mapping_table.specs.Gaps.{seen, ShowNone, AreDown, AreUp, IsGapIn};
 
 use crate::entry::Entry;
 use crate::filled::Filled;
@@ -30,7 +30,7 @@ pub(crate) fn room_from(names: &Filled<u64>, gap: Gap, from: usize, end: usize) 
     requires end { end < length names.now }
     ensures some { 0 < result }
     ensures inside { end + result ≤ length names.now }
-    ensures bare { AreBare (seen names.now 0 gap) end result }
+    ensures bare { ShowNone (seen names.now 0 gap) end result }
 {
     let is_there = gap.len > 0 && gap.end == end;
     if is_there || end - from < MANY {

@@ -3,7 +3,7 @@ ghost use Rattle.std.specs.Int.{IsPowerOfTwo};
 ghost use Rattle.std.specs.FinMap.{insert};
 ghost use Rattle.overlay_mapping_table.specs.Rows.{map_of, ring, StandOnce};
 ghost use Rattle.overlay_mapping_table.specs.Probes.{AreNow, AreSound, IsBeyond, IsGap, IsTakenOut, IsThere};
-ghost use Rattle.overlay_mapping_table.specs.Shifts.{AreLowered, AreRaised, IsEnd, IsFull, IsLast};
+ghost use Rattle.overlay_mapping_table.specs.Shifts.{AreLowered, AreRaised, IsEnd, HaveRows, IsLast};
 
 use crate::entry::Entry;
 use crate::full::Full;
@@ -24,10 +24,10 @@ pub(crate) fn put_in(
     e: Entry,
 ) -> Full
     requires sound { AreSound slots.old }
-    requires full { IsFull slots.old full }
+    requires full { HaveRows slots.old full }
     requires gap { IsGap slots.old p place }
     ensures now { AreNow slots.old slots.new (insert (map_of slots.old) p e) }
-    ensures full { IsFull slots.new result }
+    ensures full { HaveRows slots.new result }
 {
     let end = end_from(slots, guesses, full, place);
     raise(slots, place, end);
@@ -56,7 +56,7 @@ pub(crate) fn take_out(slots: &mut Slots, guesses: &Guesses, at: usize) -> usize
 // The first place from one on whose slot is empty.
 fn end_from(slots: &Slots, guesses: &Guesses, full: Full, place: usize) -> usize
     requires sound { AreSound slots.now }
-    requires full { IsFull slots.now full }
+    requires full { HaveRows slots.now full }
     requires behind { length slots.now ≤ place }
     requires near { place < 3 * length slots.now }
     ensures { IsEnd (length slots.now) slots.now place result }

@@ -41,9 +41,9 @@ impl Model for MappingTable {
 
     ghost view = { λ t. record { entries = map_of t.slots; room = t.room; slots = names_of t.slots } };
 
-    ghost use Rattle.overlay_mapping_table.specs.Shifts.{IsFull};
+    ghost use Rattle.overlay_mapping_table.specs.Shifts.{HaveRows};
 
-    ghost invariant = { λ t. AreKept t.slots t.count t.room × IsFull t.slots t.full };
+    ghost invariant = { λ t. AreKept t.slots t.count t.room × HaveRows t.slots t.full };
 }
 
 impl MappingTable {
