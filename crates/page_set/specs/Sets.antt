@@ -1,4 +1,4 @@
-use Rattle.std.specs.Prelude.{◌≡◌, ℕ, ◌+◌, ◌/◌, ◌%◌, ◌^◌, ◌<◌, ◌≤◌, ◌⊎◌, Bool, true, false, ◌&&◌, nat_eq, nat_le, nat_lt, if◌then◌else◌, List, [], length, Option, Some, None, IsSome}
+use Rattle.std.specs.Prelude.{◌≡◌, ℕ, ◌+◌, ◌-◌, ◌/◌, ◌%◌, ◌^◌, ◌<◌, ◌≤◌, ◌⊎◌, Bool, true, false, ◌&&◌, nat_eq, nat_le, nat_lt, if◌then◌else◌, List, [], length, Option, Some, None, IsSome}
 use Rattle.std.specs.Ordering.{nat_cmp}
 use Rattle.std.specs.FinMap.{FinMap, get, len}
 use Rattle.overlay_bits.specs.Lines.{AreLines, has_line}
@@ -31,6 +31,19 @@ pub record IsChunk (chunk : ℕ) (places : List ℕ) : Type 0 where
 
 abbrev pub AreChunks : Chunks → Type 0
 AreChunks chunks = (k : ℕ) (places : List ℕ) → get chunks k ≡ Some places → IsChunk k places
+
+-- how many chunks the n pages from one on lie in
+abbrev pub chunks_in : ℕ → ℕ → ℕ
+chunks_in from n = (from % CHUNK_PAGES + n + (CHUNK_PAGES - 1)) / CHUNK_PAGES
+
+-- a chunk is that of a page which is there; and pages lie in at most so many chunks
+pub record IsChunkOf {X : Type 0} (pages : FinMap nat_cmp X) (chunk : ℕ) : Type 0 where
+  pub page : ℕ
+  pub there : IsSome (get pages page)
+  pub is : page / CHUNK_PAGES ≡ chunk
+
+abbrev pub LieInFew : {X : Type 0} → FinMap nat_cmp X → ℕ → Type 0
+LieInFew pages most = (chunks : Chunks) → ((k : ℕ) → IsSome (get chunks k) → IsChunkOf pages k) → len chunks ≤ most
 
 -- a page's chunk has a member, or there is room for one more
 abbrev pub CanInsert : Members → ℕ → Type 0

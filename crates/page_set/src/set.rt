@@ -1,11 +1,19 @@
-ghost use Rattle.std.specs.Prelude.{◌≡◌, ◌+◌, ◌^◌, ◌<◌, ◌≤◌, IfOk, OnOk, true, false};
+ghost use Rattle.std.specs.Prelude.{◌≡◌, ◌+◌, ◌^◌, ◌<◌, ◌≤◌, ◌⊎◌, IfOk, OnOk, true, false};
 ghost use Rattle.std.specs.FinMap as map;
-ghost use Rattle.page_set.specs.Sets.{AreChunks, AreCut, CanInsert, IsNextMember, IsPut, holds};
+ghost use Rattle.page_set.specs.Sets.{AreChunks, AreCut, CanInsert, IsNextMember, IsPut, chunks_in, holds};
 
 use crate::CHUNK_PAGES;
 use crate::rows::{Row, bits_of, next_in, put_in, take_out, take_run};
 use std::alloc::{AllocError, Global};
 use std::marker::Model;
+
+// The fewer of two numbers of chunks.
+fn fewer(room: usize, most: u32) -> usize
+    ensures one { (result ≡ room) ⊎ (result ≡ most) }
+{
+    let most = most as usize;
+    if most < room { most } else { room }
+}
 
 /// A set of pages, by number. Takes memory in `reserve` and `copy` alone.
 #[derive(Debug, Drop)]
@@ -93,26 +101,30 @@ impl PageSet {
         take_run(&mut self.rows, from, n);
     }
 
-    /// Makes room for as many chunks as there may be with that many members, or answers want of memory. The members stay.
-    pub fn reserve(&mut self, most: u32) -> Result<(), AllocError>
+    /// Makes room for the chunks of the `n` pages from `from` on beside as many as there is room for, or for `most` chunks where that is
+    /// fewer, or answers want of memory. The members stay.
+    pub fn reserve(&mut self, from: u64, n: u32, most: u32) -> Result<(), AllocError>
         ensures chunks { self.new.chunks ≡ self.old.chunks }
-        ensures room { OnOk result (most ≤ self.new.room) }
+        ensures room { OnOk result ((most ≤ self.new.room) ⊎ (self.old.room + chunks_in from n ≤ self.new.room)) }
         ensures more { self.old.room ≤ self.new.room }
         ensures are { AreChunks self.new.chunks }
     {
-        self.rows
-            .reserve((most as usize).saturating_sub(self.rows.len()))?;
+        let more = (from % CHUNK_PAGES + u64::from(n) + (CHUNK_PAGES - 1)) / CHUNK_PAGES;
+        let room = fewer(self.rows.capacity().saturating_add(more as usize), most);
+        self.rows.reserve(room.saturating_sub(self.rows.len()))?;
         Ok(())
     }
 
-    /// A set with the same members, and with room as after `reserve`, or want of memory. Costs a copy of 16 bytes for each chunk.
+    /// A set with the same members and as much room, or with room for `most` chunks where that is fewer; or want of memory. Costs a
+    /// copy of 16 bytes for each chunk.
     pub fn copy(&self, most: u32) -> Result<PageSet, AllocError>
         ensures chunks { IfOk result (λ copy. copy.chunks ≡ self.now.chunks) }
-        ensures room { IfOk result (λ copy. most ≤ copy.room) }
+        ensures room { IfOk result (λ copy. (most ≤ copy.room) ⊎ (self.now.room ≤ copy.room)) }
         ensures are { AreChunks self.now.chunks }
     {
+        let room = fewer(self.rows.capacity(), most);
         let mut rows = self.rows.clone()?;
-        rows.reserve((most as usize).saturating_sub(rows.len()))?;
+        rows.reserve(room.saturating_sub(rows.len()))?;
         Ok(PageSet { rows })
     }
 }

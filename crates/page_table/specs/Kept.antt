@@ -2,7 +2,7 @@ use Rattle.std.specs.Prelude.{◌≡◌, ℕ, zero, suc, ◌+◌, ◌-◌, ◌*�
 use Rattle.std.specs.FinMap.{empty, get, insert, len}
 use Rattle.sizes.specs.declared.TheConstants.{TABLE_SLOTS}
 use Rattle.number_maps.specs.Rows.{Rise, key_at, map_of}
-use Rattle.page_set.specs.Sets.{AreChunks, Chunks, Members, holds}
+use Rattle.page_set.specs.Sets.{AreChunks, Chunks, LieInFew, Members, holds}
 use Rattle.page_table.specs.Next.{NoneFrom}
 use Rattle.page_table.specs.Nodes.{Links, Table, look, node_at, slot, slot_of, pages_by, size}
 use Rattle.page_table.specs.declared.entry.PageEntry.{PageEntry}
@@ -180,17 +180,17 @@ pub record AreHeld (links : List (ℕ × ℕ)) (runs : List PageRun) (count room
   pub ends : EndBy (get (pages_of runs)) (TABLE_SLOTS * (length links + 1))
   pub counted : len (pages_by (map_of links) (pages_of runs)) ≡ count
 
--- which pages are overlaid: pages that are there; and there is room for as many chunks of them as there are pages
-pub record AreOverlaid (pages : Pages) (set : Members) (count : ℕ) : Type 0 where
+-- which pages are overlaid: pages that are there; and there is room for the chunks of all that are
+pub record AreOverlaid (pages : Pages) (set : Members) : Type 0 where
   pub are : AreChunks set.chunks
   pub there : (page : ℕ) → holds set.chunks page ≡ true → IsSome (get pages page)
-  pub roomy : count ≤ set.room
+  pub roomy : LieInFew pages set.room
 
 -- and a page below which there is none
 pub record IsTable (links : List (ℕ × ℕ)) (runs : List PageRun) (count room front : ℕ) (set : Members) : Type 0 where
   pub held : AreHeld links runs count room
   pub none : NoneFrom (pages_by (map_of links) (pages_of runs)) 0 front
-  pub overlaid : AreOverlaid (pages_by (map_of links) (pages_of runs)) set count
+  pub overlaid : AreOverlaid (pages_by (map_of links) (pages_of runs)) set
 
 -- links to more nodes, which have no entry, lead to what they led to before
 pub record HaveGrown (old new : List (ℕ × ℕ)) : Type 0 where

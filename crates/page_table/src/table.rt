@@ -32,7 +32,7 @@ pub struct PageTable {
     count: u32,
     // no page is below this one
     front: u64,
-    // of the pages those that are overlaid, with room for as many chunks as there are pages
+    // of the pages those that are overlaid, with room for the chunks of all pages
     overlaid: PageSet,
 }
 
@@ -120,7 +120,7 @@ impl PageTable {
         reserve_leaves(&mut self.links, first, end)?;
         let spare = count as usize - self.runs.len();
         self.runs.reserve(spare + n as usize)?;
-        self.overlaid.reserve(count + n)?;
+        self.overlaid.reserve(from, n, count + n)?;
         self.nodes.make_room(3 * (end - first) as usize)?;
         make_leaves(
             &mut self.links,

@@ -29,10 +29,10 @@ const PAGES: [u64; 20] = [
     u64::MAX,
 ];
 
-// Makes a page a member. There is room for it, or it is made.
+// Makes a page a member, with room for one chunk more, of 20 at most.
 fn insert(rt: &impl Abort, set: &mut PageSet, page: u64) -> Result<(), AllocError> {
     assert!(rt; set.chunks() < 20);
-    set.reserve(20)?;
+    set.reserve(page, 1, 20)?;
     set.insert(page);
     Ok(())
 }

@@ -29,7 +29,8 @@ invariant_of-result c = record {
   none = front_same c.in_ok-links.links.items c.self.inside.links.items c.reserve.new.self.items c.self.inside.runs.items c.self.inside.front
       (same_links c) (same_runs c) c.self.invariant.none;
   overlaid = overlaid_copy c.in_ok-links.links.items c.self.inside.links.items c.reserve.new.self.items c.self.inside.runs.items c.self.inside.overlaid
-      c.in_ok-overlaid.overlaid c.self.inside.count (same_links c) (same_runs c) c.in_ok-overlaid.ensures.chunks c.in_ok-overlaid.ensures.room
+      c.in_ok-overlaid.overlaid c.self.inside.count (same_links c) (same_runs c) c.in_ok-overlaid.ensures.chunks
+      c.self.invariant.held.counted c.in_ok-overlaid.ensures.room
       c.self.invariant.overlaid;
 }
 

@@ -6,7 +6,7 @@ use Rattle.page_table.specs.Nodes.{pages_by}
 use Rattle.page_table.specs.Table.{IsFree}
 use Rattle.page_table.specs.Laws.{one_mapped_at}
 use Rattle.page_table.proofs.Pages.{length_total}
-use Rattle.page_table.proofs.Held.{grown_pages, have_paths, held_mapped, mapped_len, mapped_table}
+use Rattle.page_table.proofs.Held.{grown_pages, have_paths, held_mapped, mapped_len, mapped_table, pages_counted}
 use Rattle.page_table.proofs.Overlaid.{overlaid_mapped, overlaid_seen}
 use Rattle.page_table.proofs.Fronts.{front_mapped, front_seen}
 use Rattle.page_table.proofs.table.PageTable.map_pages.Goals as goal
@@ -73,14 +73,20 @@ invariant_of-self-2 c =
           (made before).grown (filled here))
           c.sooner-self-inside.ensures.page c.sooner-self-inside.ensures.other;
       overlaid = overlaid_mapped c.args.self.now.pages (pages_by (map_of c.make_leaves.new.links.items) (pages_of c.fill_paths.new.runs.items))
-          c.self.inside.overlaid c.reserve-2.new.self c.self.inside.count
-          (overlaid_seen c.args.self.now c.self.inside.links.items c.self.inside.runs.items c.self.inside.overlaid c.self.inside.count c.self.view_is
+          c.self.inside.overlaid c.reserve-2.new.self
+          (overlaid_seen c.args.self.now c.self.inside.links.items c.self.inside.runs.items c.self.inside.overlaid c.self.view_is
           c.self.invariant.overlaid)
-          c.args.from c.args.n (record { perms = c.args.perms; frame = c.args.frame })
+          c.args.from c.args.n (c.self.inside.count + c.args.n) (record { perms = c.args.perms; frame = c.args.frame })
           (mapped_table c.args.self.now c.self.inside.links.items c.make_leaves.new.links.items c.self.inside.runs.items c.fill_paths.new.runs.items
           c.self.inside.count _ c.args.from c.args.n (record { perms = c.args.perms; frame = c.args.frame }) c.self.view_is c.self.invariant.held
           (made before).grown (filled here))
-          c.in_ok-reserve-2.ensures.chunks c.in_ok-reserve-2.ensures.are c.in_ok-reserve-2.ensures.room;
+          c.in_ok-reserve-2.ensures.chunks c.in_ok-reserve-2.ensures.are
+          (mapped_len c.args.self.now c.self.inside.links.items c.make_leaves.new.links.items c.self.inside.runs.items c.fill_paths.new.runs.items
+          c.self.inside.count _ c.args.from c.args.n (record { perms = c.args.perms; frame = c.args.frame }) c.self.view_is c.self.invariant.held
+          (made before).grown (filled here) c.requires.free
+          ∙ ap (λ (k : ℕ). k + c.args.n)
+          (sym (pages_counted c.args.self.now c.self.inside.links.items c.self.inside.runs.items c.self.inside.count _ c.self.view_is c.self.invariant.held)))
+          c.in_ok-reserve-2.ensures.room;
     }
 
 pub returns-clause-mapped : goal.returns-clause-mapped

@@ -8,7 +8,8 @@ pub invariant_of-result : goal.invariant_of-result
 invariant_of-result c = record {
   held = held_none c.new.result.items c.new-2.result.items _ c.new.ensures.items c.new-2.ensures.items;
   none = λ q le lt. absurd (omega (arith, lt));
-  overlaid = overlaid_none _ c.new-4.result c.new-4.ensures;
+  overlaid = overlaid_none _ c.new-4.result
+      (bare_pages c.new.result.items (pages_of c.new-2.result.items) (ap (λ l. length l) c.new.ensures.items)) c.new-4.ensures;
 }
 
 pub returns-clause-pages : goal.returns-clause-pages

@@ -32,9 +32,10 @@ invariant_of-self c =
           (set_table c.args.self.now c.self.inside.links.items c.self.inside.runs.items c.set_page.new.runs.items c.args.page c.in-Some.slot c.args.e
           c.self.view_is c.self.invariant.held.tree (at here) c.set_page.ensures.set);
       overlaid = overlaid_set c.args.self.now.pages (pages_by (map_of c.self.inside.links.items) (pages_of c.set_page.new.runs.items)) c.self.inside.overlaid
-          c.self.inside.count c.args.page c.args.e
-          (overlaid_seen c.args.self.now c.self.inside.links.items c.self.inside.runs.items c.self.inside.overlaid c.self.inside.count c.self.view_is
+          c.args.page c.args.e
+          (overlaid_seen c.args.self.now c.self.inside.links.items c.self.inside.runs.items c.self.inside.overlaid c.self.view_is
           c.self.invariant.overlaid)
+          c.requires
           (set_table c.args.self.now c.self.inside.links.items c.self.inside.runs.items c.set_page.new.runs.items c.args.page c.in-Some.slot c.args.e
           c.self.view_is c.self.invariant.held.tree (at here) c.set_page.ensures.set);
     }

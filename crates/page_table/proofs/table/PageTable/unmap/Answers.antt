@@ -41,8 +41,8 @@ invariant_of-self c =
           c.self.view_is (cleared here))
           c.passed-self-inside.ensures;
       overlaid = overlaid_unmapped c.args.self.now.pages (pages_by (map_of c.self.inside.links.items) (pages_of c.clear_paths.new.runs.items))
-          c.self.inside.overlaid c.remove_run.new.self c.self.inside.count
-          (overlaid_seen c.args.self.now c.self.inside.links.items c.self.inside.runs.items c.self.inside.overlaid c.self.inside.count c.self.view_is
+          c.self.inside.overlaid c.remove_run.new.self
+          (overlaid_seen c.args.self.now c.self.inside.links.items c.self.inside.runs.items c.self.inside.overlaid c.self.view_is
           c.self.invariant.overlaid)
           c.args.from c.args.n
           (unmapped_table c.args.self.now c.self.inside.links.items c.self.inside.runs.items c.clear_paths.new.runs.items c.args.from c.args.n
