@@ -303,6 +303,24 @@ impl SpaceLedger {
         ensures { self.new ≡ with_overlay self.old space page entry }
     {
         let overlay = self.tables.overlay(space, page);
+        self.replace_overlay(space, page, overlay, entry);
+    }
+
+    /// As `set_overlay`, where the overlay that the page has, or that it has none, is known. Takes no memory, and costs a look-up where
+    /// there is one.
+    pub fn replace_overlay(
+        &mut self,
+        space: u16,
+        page: u64,
+        overlay: Option<Entry>,
+        entry: Option<Entry>,
+    )
+        requires there { IsSome (page_in self.old space page) }
+        requires overlay { overlay_at self.old space page ≡ overlay }
+        requires lined { IfSome entry (λ e. 0 < length e.bits) }
+        requires room { HasOverlayRoom self.old space page entry }
+        ensures { self.new ≡ with_overlay self.old space page entry }
+    {
         let before = lines_in(&overlay);
         let after = lines_in(&entry);
         self.tables

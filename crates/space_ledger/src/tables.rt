@@ -235,7 +235,8 @@ impl Tables {
         requires had { had ≡ is_some (option_and_then (λ x. x.overlay) (page_in self.old space page)) }
         requires lined { IfSome overlay IsLined }
         requires room { HasOverlayRoom self.old space page overlay }
-        ensures { self.new ≡ with_overlay self.old space page overlay }
+        ensures overlay { self.new ≡ with_overlay self.old space page overlay }
+        ensures sound { IsSound self.old }
     {
         match self.spaces.get_mut(space) {
             Some(space) => space.set_overlaid(page, had, overlay.is_some()),
