@@ -455,21 +455,29 @@ impl SpaceLedger {
     }
 
     /// Shares the page of a space with another one, where it awaits as the least and has the frame that it has in the first: it
-    /// gets its origin and its own lines there, and keeps the permissions of the table that was adopted. A block is given exactly
-    /// where it has own lines, and fewer than 16 pages for each frame are overlaid then. Takes no memory, and costs a look-up.
-    pub fn share_page(&mut self, from: u16, to: u16, page: u64, block: Option<Block>)
+    /// gets its origin and its own lines there, and keeps the permissions of the table that was adopted. Its overlay there is given,
+    /// and a block exactly where it has one; fewer than 16 pages for each frame are overlaid then. Takes no memory, and costs a look-up.
+    pub fn share_page(
+        &mut self,
+        from: u16,
+        to: u16,
+        page: u64,
+        overlay: Option<Entry>,
+        block: Option<Block>,
+    )
         requires there { IsSome (page_in self.old from page) }
         requires space { holds_space self.old to ≡ true }
         requires least { IsLeast (space_in self.old to).awaiting page }
         requires frame { frame_awaiting self.old to page ≡ frame_at self.old from page }
-        requires block { is_some block ≡ is_some (overlay_at self.old from page) }
+        requires overlay { overlay_at self.old from page ≡ overlay }
+        requires block { is_some block ≡ is_some overlay }
         requires room { IfSome block (λ b. HasSpare self.old) }
         ensures shared { self.new ≡ with_page_shared self.old from to page block }
         ensures same { held_at self.new to page ≡ held_at self.old from page }
         ensures absent { page_in self.old to page ≡ None }
     {
         let zero = self.tables.zero();
-        let overlay = in_block(&self.tables, from, page, block);
+        let overlay = in_block(overlay, block);
         let lines = lines_in(&overlay);
         let entry = self.tables.share(to, page, overlay);
         let added = hold(&mut self.pool, zero, entry.frame);
@@ -521,16 +529,14 @@ impl SpaceLedger {
     }
 }
 
-/// The lines of a page's overlay with another block, where one is given.
+/// The lines of an overlay with another block, where one is given.
 #[inline(always)]
-fn in_block(tables: &Tables, space: u16, page: u64, block: Option<Block>) -> Option<Entry>
-    requires there { IsSome (page_in tables.now space page) }
-    requires block { is_some block ≡ is_some (overlay_at tables.now space page) }
-    ensures { result
-        ≡ option_map (λ b. record { bits = lines_of (overlay_at tables.now space page); block = b }) block }
+fn in_block(overlay: Option<Entry>, block: Option<Block>) -> Option<Entry>
+    requires { is_some block ≡ is_some overlay }
+    ensures { result ≡ option_map (λ b. record { bits = lines_of overlay; block = b }) block }
 {
     match block {
-        Some(block) => match tables.overlay(space, page) {
+        Some(block) => match overlay {
             Some(entry) => {
                 let bits = entry.bits;
                 Some(Entry { bits, block })
