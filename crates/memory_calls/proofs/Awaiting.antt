@@ -18,12 +18,12 @@ use Rattle.overlay_memory.specs.declared.error.SpaceError.TheVariants as refused
 use Rattle.overlay_memory.specs.View.{TranslatedView, state_of}
 use Rattle.space_maps.specs.Laws.{space_absent, space_beside, space_left, space_put}
 use Rattle.space_maps.specs.Options.{by_option}
-use Rattle.space_maps.specs.Spaces.{cut_page, cut_pages, cut_space, bare_space, page_in, put_mark, put_page, put_space, space_in, turned_page, put_pages}
+use Rattle.space_maps.specs.Spaces.{SpaceOf, Spaces, cut_page, cut_pages, cut_space, bare_space, page_in, put_mark, put_page, put_space, space_in, altered_page, put_pages}
 use Rattle.fork_checkpoint.specs.Copied.{Copies}
 
 -- No page of any space awaits, and what calls do leaves it so.
 
-abbrev pub NoneAwaits : State → Type 0
+abbrev pub NoneAwaits : {P : Type 0} → Spaces P → Type 0
 NoneAwaits v = (q : ℕ) → (space_in v q).awaiting ≡ map.empty
 
 pub none_awaits_as : (v w : State) → w ≡ v → NoneAwaits v → NoneAwaits w
@@ -38,18 +38,18 @@ none_awaits_seen v w same = none_awaits_as (seen.state_of v) (seen.state_of w) (
 pub none_awaits_new : (frames : ℕ) (v : State) → IsEmptyState frames v → NoneAwaits v
 none_awaits_new frames v made q = ap (λ (x : SpaceState). x.awaiting) (space_absent v q (ap (λ m. map.get m q) made.spaces ∙ map.get-empty _ q))
 
-pub none_awaits_put : (v : State) (s : ℕ) (x : SpaceState) → NoneAwaits v → x.awaiting ≡ map.empty → NoneAwaits (put_space v s x)
+pub none_awaits_put : {P : Type 0} (v : Spaces P) (s : ℕ) (x : SpaceOf P) → NoneAwaits v → x.awaiting ≡ map.empty → NoneAwaits (put_space v s x)
 none_awaits_put v s x settled none q = by_key q s
-    (λ same. ap (λ (y : SpaceState). y.awaiting) (space_put v s x q same) ∙ none)
-    (λ other. ap (λ (y : SpaceState). y.awaiting) (space_beside v s x q other) ∙ settled q)
+    (λ same. ap (λ y. y.awaiting) (space_put v s x q same) ∙ none)
+    (λ other. ap (λ y. y.awaiting) (space_beside v s x q other) ∙ settled q)
 
-pub none_awaits_page : (v : State) (s p : ℕ) (x : PageState) → NoneAwaits v → NoneAwaits (put_page v s p x)
+pub none_awaits_page : {P : Type 0} (v : Spaces P) (s p : ℕ) (x : P) → NoneAwaits v → NoneAwaits (put_page v s p x)
 unfolding put_page
 none_awaits_page v s p x settled = none_awaits_put v s _ settled (settled s)
 
-pub none_awaits_turned : (f : PageState → PageState) (v : State) (s p : ℕ) → NoneAwaits v → NoneAwaits (turned_page f v s p)
-unfolding turned_page
-none_awaits_turned f v s p settled = by_page (page_in v s p)
+pub none_awaits_altered : (f : PageState → PageState) (v : State) (s p : ℕ) → NoneAwaits v → NoneAwaits (altered_page f v s p)
+unfolding altered_page
+none_awaits_altered f v s p settled = by_page (page_in v s p)
   where
     by_page : (o : Option PageState) → NoneAwaits (option_map_or (λ x. put_page v s p (f x)) o v)
     by_page None = settled
@@ -57,9 +57,9 @@ none_awaits_turned f v s p settled = by_page (page_in v s p)
 
 pub none_awaits_written : (v : State) (s p line : ℕ) (bytes : List ℕ) → NoneAwaits v → NoneAwaits (with_written v s p line bytes)
 unfolding with_written
-none_awaits_written v s p line bytes settled = none_awaits_turned (written line bytes) v s p settled
+none_awaits_written v s p line bytes settled = none_awaits_altered (written line bytes) v s p settled
 
-none_awaits_zeros : (n from : ℕ) (v : State) (s : ℕ) (x : PageState) → NoneAwaits v → NoneAwaits (put_pages v s from n x)
+none_awaits_zeros : {P : Type 0} (n from : ℕ) (v : Spaces P) (s : ℕ) (x : P) → NoneAwaits v → NoneAwaits (put_pages v s from n x)
 unfolding put_pages
 none_awaits_zeros zero from v s x settled = settled
 none_awaits_zeros (suc n) from v s x settled = none_awaits_zeros n (from + 1) (put_page v s from x) s x (none_awaits_page v s from x settled)

@@ -1,107 +1,97 @@
-use Rattle.space_ledger.proofs.Common.{◌≡◌, ℕ, ◌+◌, ◌<◌, ◌⊎◌, Bool, true, false, List, Some, is_some, refl, nat_cmp, sym, ap, subst, ◌∙◌, inl, inr, none-some, same_Some, FinMap, empty, get, get-empty, insert, remove}
+use Rattle.space_ledger.proofs.Common.{◌≡◌, ℕ, ◌+◌, ◌<◌, ◌⊎◌, Bool, true, false, List, Some, refl, nat_cmp, sym, ap, subst, ◌∙◌, arith, inl, inr, nat_tests, none-some, option_map, same_Some, FinMap, empty, get, insert, remove}
 use Rattle.space_ledger.proofs.Pages.{by_key, get_other, get_same, removed_other, removed_same, Pages, PageEntry}
-use Rattle.space_ledger.proofs.Views.{Ledger, all_holdings, with_page, without_page, by_place, same_lines, same_sharers, same_units, books_added, books_awaiting, books_cut_page, books_lost, books_marked, books_put_page, books_put_shared, page_added, page_awaited, page_cut_beside, page_cut_here, page_lost, page_marked, page_of, page_put_beside, page_put_here, page_shared_beside, page_shared_here, space_absent, space_beside, space_left, space_put, bare_space, cut_page, cut_space, holds_space, of_pages, page_in, put_awaiting, put_mark, put_page, put_shared, put_space, space_in, LedgerView, PageView, SpaceView, holding_of, ledger_of, AreBooks, IsApart, IsBooked, NamesOnce}
+use Rattle.space_ledger.proofs.Views.{map_from, Ledger, all_holdings, with_page, without_page, by_place, same_lines, same_sharers, same_units, books_added, books_awaiting, books_cut_page, books_lost, books_marked, books_put_page, books_put_shared, page_added, page_awaited, page_cut_beside, page_cut_here, page_lost, page_marked, page_of, page_put_beside, page_put_here, page_shared_beside, page_shared_here, space_absent, space_beside, space_left, space_put, bare_space, cut_page, cut_space, holds_space, of_pages, page_in, put_awaiting, put_mark, put_page, put_shared, put_space, space_in, LedgerView, PageView, SpaceView, holding_of, ledger_of, AreBooks, IsApart, IsBooked, NamesOnce}
+use Rattle.space_ledger.specs.Calls.{frame_named}
 use Rattle.space_ledger.proofs.Booking.{by_two}
+use Rattle.space_ledger.proofs.Keys.{gone_at, none_at}
 
 -- How what is kept beside the tables is kept.
 
 -- Frames that are named once in a space.
 
-pub nothing_apart : (z : ℕ) → IsApart z bare_space
-nothing_apart z = record {
-  pages = λ p q a b at_p at_q same isnt. let no = ap is_some (sym at_p ∙ get-empty nat_cmp p) in cc;
-  waits = λ p q e f at_p at_q same isnt. let no = ap is_some (sym at_p ∙ get-empty nat_cmp p) in cc;
-  both = λ p q a b at_p at_q same isnt. let no = ap is_some (sym at_p ∙ get-empty nat_cmp p) in cc;
-}
+-- a page that another space names no frame at, or its frame at no other place, and whose other places are those of one
+by_places : (z p g : ℕ) (x y : SpaceView) → IsApart z x
+    → ((a : Bool) (q f : ℕ) → frame_named y a q ≡ Some f → (f ≡ z → ⊥) → ((a ≡ false) × (q ≡ p) × (f ≡ g)) ⊎ ((frame_named x a q ≡ Some f) × (f ≡ g → ⊥))) → IsApart z y
+by_places z p g x y apart from a b q r f at_q at_r isnt = by (from a q f at_q isnt) (from b r f at_r isnt)
+  where
+    by : ((a ≡ false) × (q ≡ p) × (f ≡ g)) ⊎ ((frame_named x a q ≡ Some f) × (f ≡ g → ⊥))
+        → ((b ≡ false) × (r ≡ p) × (f ≡ g)) ⊎ ((frame_named x b r ≡ Some f) × (f ≡ g → ⊥)) → (a ≡ b) × (q ≡ r)
+    by (inl one) (inl two) = (one.0 ∙ sym two.0, one.1 ∙ sym two.1)
+    by (inl one) (inr two) = absurd (two.1 one.2)
+    by (inr one) (inl two) = absurd (one.1 two.2)
+    by (inr one) (inr two) = apart a b q r f one.0 two.0 isnt
 
 -- what another page has to be, for a frame to be named once
 abbrev pub FitsIn : ℕ → SpaceView → ℕ → PageView → Type 0
-FitsIn z x p y =
-    (y.entry.frame ≡ z)
-    ⊎ (((q : ℕ) (b : PageView) → get x.pages q ≡ Some b → b.entry.frame ≡ y.entry.frame → q ≡ p) × ((q : ℕ) (b : PageEntry) → get x.awaiting q ≡ Some b → b.frame ≡ y.entry.frame → ⊥))
+FitsIn z x p y = (y.entry.frame ≡ z) ⊎ ((a : Bool) (q : ℕ) → frame_named x a q ≡ Some y.entry.frame → (a ≡ false) × (q ≡ p))
 
 apart_put : (z : ℕ) (x : SpaceView) (p : ℕ) (y : PageView) → IsApart z x → FitsIn z x p y → IsApart z (of_pages x (insert x.pages p y))
-apart_put z x p y apart fits = record {
-  pages = λ q r a b at_q at_r same isnt. by_key q p
-      (λ qq. by_key r p
-      (λ rr. qq ∙ sym rr)
-      (λ d. let is_y = frame_of q a qq at_q in
-      qq ∙ sym (other fits r b (sym (get_other x.pages p r y d) ∙ at_r) (sym same ∙ is_y) (λ e. isnt (is_y ∙ e)))))
-      (λ c. by_key r p
-      (λ rr. let is_y = frame_of r b rr at_r in
-      other fits q a (sym (get_other x.pages p q y c) ∙ at_q) (same ∙ is_y) (λ e. isnt (same ∙ is_y ∙ e)) ∙ sym rr)
-      (λ d. apart.pages q r a b (sym (get_other x.pages p q y c) ∙ at_q) (sym (get_other x.pages p r y d) ∙ at_r) same isnt));
-  waits = apart.waits;
-  both = λ q r a b at_q at_r same isnt. by_key q p
-      (λ qq. await fits r b at_r (sym same ∙ frame_of q a qq at_q) (λ e. isnt (frame_of q a qq at_q ∙ e)))
-      (λ d. apart.both q r a b (sym (get_other x.pages p q y d) ∙ at_q) at_r same isnt);
-}
+apart_put z x p y apart fits = by_places z p y.entry.frame x (of_pages x (insert x.pages p y)) apart from
   where
-    frame_of : (q : ℕ) (a : PageView) → q ≡ p → get (insert x.pages p y) q ≡ Some a → a.entry.frame ≡ y.entry.frame
-    frame_of q a qq at = ap (λ (w : PageView). w.entry.frame) (same_Some a y (sym at ∙ get_same x.pages p q y qq))
+    other : (a : Bool) (q f : ℕ) → frame_named x a q ≡ Some f → (f ≡ z → ⊥) → ((a ≡ false) × (q ≡ p) → ⊥) → f ≡ y.entry.frame → ⊥
+    other a q f at isnt d same = by fits
+      where
+        by : FitsIn z x p y → ⊥
+        by (inl is) = isnt (same ∙ is)
+        by (inr one) = d (one a q (at ∙ ap Some same))
 
-    other : FitsIn z x p y → (q : ℕ) (b : PageView) → get x.pages q ≡ Some b → b.entry.frame ≡ y.entry.frame → (y.entry.frame ≡ z → ⊥) → q ≡ p
-    other (inl is) q b at same isnt = absurd (isnt is)
-    other (inr f) q b at same isnt = f.0 q b at same
-
-    await : FitsIn z x p y → (q : ℕ) (b : PageEntry) → get x.awaiting q ≡ Some b → b.frame ≡ y.entry.frame → (y.entry.frame ≡ z → ⊥) → ⊥
-    await (inl is) q b at same isnt = isnt is
-    await (inr f) q b at same isnt = f.1 q b at same
+    from : (a : Bool) (q f : ℕ) → frame_named (of_pages x (insert x.pages p y)) a q ≡ Some f → (f ≡ z → ⊥)
+        → ((a ≡ false) × (q ≡ p) × (f ≡ y.entry.frame)) ⊎ ((frame_named x a q ≡ Some f) × (f ≡ y.entry.frame → ⊥))
+    from true q f at isnt = inr (at, other true q f at isnt (λ no. let e = no.0 in cc))
+    from false q f at isnt = by_key q p
+        (λ here. inl (refl, here, (let put = get_same x.pages p q y here in let is = ap (option_map (λ (w : PageView). w.entry.frame)) put in cc)))
+        (λ d. let was = sym (ap (option_map (λ (w : PageView). w.entry.frame)) (get_other x.pages p q y d)) ∙ at in inr (was, other false q f was isnt (λ one. d one.1)))
 
 -- another page of the same frame
 pub fits_same : (z : ℕ) (x : SpaceView) (p : ℕ) (a y : PageView) → IsApart z x → get x.pages p ≡ Some a → y.entry.frame ≡ a.entry.frame → FitsIn z x p y
-fits_same z x p a y apart at same = by_two a.entry.frame z
-    (λ is. inl (same ∙ is))
-    (λ isnt. inr (
-      (λ q b at_q is. sym (apart.pages p q a b at at_q (sym same ∙ sym is) isnt)),
-      (λ q b at_q is. apart.both p q a b at at_q (sym same ∙ sym is) isnt),
-    ))
+fits_same z x p a y apart at same = by_two y.entry.frame z inl
+    (λ isnt. inr (λ b q there. apart b false q p y.entry.frame there (ap (option_map (λ (w : PageView). w.entry.frame)) at ∙ ap Some (sym same)) isnt))
 
 apart_gone : (z : ℕ) (x : SpaceView) (p : ℕ) → IsApart z x → IsApart z (of_pages x (remove x.pages p))
-apart_gone z x p apart = record {
-  pages = λ q r a b at_q at_r same isnt. apart.pages q r a b (was q a at_q) (was r b at_r) same isnt;
-  waits = apart.waits;
-  both = λ q r a b at_q at_r same isnt. apart.both q r a b (was q a at_q) at_r same isnt;
-}
+apart_gone z x p apart a b q r f at_q at_r isnt = apart a b q r f (was a q at_q) (was b r at_r) isnt
   where
-    was : (q : ℕ) (a : PageView) → get (remove x.pages p) q ≡ Some a → get x.pages q ≡ Some a
-    was q a at = by_key q p
-        (λ same. let no = ap is_some (sym at ∙ removed_same x.pages p q same) in cc)
-        (λ d. sym (removed_other x.pages p q d) ∙ at)
+    was : (a : Bool) (q : ℕ) → frame_named (of_pages x (remove x.pages p)) a q ≡ Some f → frame_named x a q ≡ Some f
+    was true q at = at
+    was false q at = grind (arith, nat_tests, gone_at, at)
+
+-- a page that awaits no more
+abbrev shared_in : SpaceView → ℕ → PageView → SpaceView
+shared_in x p y = record { pages = insert x.pages p y; awaiting = remove x.awaiting p; speculating = x.speculating }
 
 apart_shared : (z : ℕ) (x : SpaceView) (p : ℕ) (y : PageView) (e : PageEntry) → IsApart z x → get x.awaiting p ≡ Some e → y.entry.frame ≡ e.frame
-    → IsApart z (record { pages = insert x.pages p y; awaiting = remove x.awaiting p; speculating = x.speculating })
-apart_shared z x p y e apart waiting same_frame = record {
-  pages = λ q r a b at_q at_r same isnt. by_key q p
-      (λ qq. by_key r p (λ rr. qq ∙ sym rr)
-      (λ d. let is_y = same_Some y a (sym (get_same x.pages p q y qq) ∙ at_q) in
-      absurd (apart.both r p b e (sym (get_other x.pages p r y d) ∙ at_r) waiting (sym same ∙ frame_of a is_y) (λ zero_b. isnt (same ∙ zero_b)))))
-      (λ c. by_key r p
-      (λ rr. let is_y = same_Some y b (sym (get_same x.pages p r y rr) ∙ at_r) in
-      absurd (apart.both q p a e (sym (get_other x.pages p q y c) ∙ at_q) waiting (same ∙ frame_of b is_y) isnt))
-      (λ d. apart.pages q r a b (sym (get_other x.pages p q y c) ∙ at_q) (sym (get_other x.pages p r y d) ∙ at_r) same isnt));
-  waits = λ q r a b at_q at_r same isnt. apart.waits q r a b (was q a at_q) (was r b at_r) same isnt;
-  both = λ q r a b at_q at_r same isnt. by_key q p
-      (λ qq. let is_y = same_Some y a (sym (get_same x.pages p q y qq) ∙ at_q) in
-      let one = apart.waits p r e b waiting (was r b at_r) (sym (frame_of a is_y) ∙ same) (λ zero_e. isnt (frame_of a is_y ∙ zero_e)) in
-      let no = ap is_some (sym at_r ∙ removed_same x.awaiting p r (sym one)) in cc)
-      (λ d. apart.both q r a b (sym (get_other x.pages p q y d) ∙ at_q) (was r b at_r) same isnt);
-}
+    → IsApart z (shared_in x p y)
+apart_shared z x p y e apart waiting same = by_places z p e.frame x (shared_in x p y) apart from
   where
-    frame_of : (a : PageView) → y ≡ a → a.entry.frame ≡ e.frame
-    frame_of a is = ap (λ (w : PageView). w.entry.frame) (sym is) ∙ same_frame
+    here : frame_named x true p ≡ Some e.frame
+    here = ap (option_map (λ (k : PageEntry). k.frame)) waiting
 
-    was : (q : ℕ) (b : PageEntry) → get (remove x.awaiting p) q ≡ Some b → get x.awaiting q ≡ Some b
-    was q b at = by_key q p
-        (λ same. let no = ap is_some (sym at ∙ removed_same x.awaiting p q same) in cc)
-        (λ d. sym (removed_other x.awaiting p q d) ∙ at)
+    from : (a : Bool) (q f : ℕ) → frame_named (shared_in x p y) a q ≡ Some f → (f ≡ z → ⊥)
+        → ((a ≡ false) × (q ≡ p) × (f ≡ e.frame)) ⊎ ((frame_named x a q ≡ Some f) × (f ≡ e.frame → ⊥))
+    from true q f at isnt = by_key q p
+        (λ gone. let none = ap (option_map (λ (k : PageEntry). k.frame)) (removed_same x.awaiting p q gone) in cc)
+        (λ d. let was = sym (ap (option_map (λ (k : PageEntry). k.frame)) (removed_other x.awaiting p q d)) ∙ at in
+        inr (was, λ is. d (apart true true q p f was (here ∙ ap Some (sym is)) isnt).1))
+    from false q f at isnt = by_key q p
+        (λ put. inl (refl, put, (let now = ap (option_map (λ (w : PageView). w.entry.frame)) (get_same x.pages p q y put) in cc)))
+        (λ d. let was = sym (ap (option_map (λ (w : PageView). w.entry.frame)) (get_other x.pages p q y d)) ∙ at in
+        inr (was, λ is. d (apart false true q p f was (here ∙ ap Some (sym is)) isnt).1))
 
 apart_adopted : (z : ℕ) (x : SpaceView) (table : Pages) → x.pages ≡ empty → NamesOnce z table → IsApart z (record { pages = x.pages; awaiting = table; speculating = x.speculating })
-apart_adopted z x table none once = record {
-  pages = λ p q a b at_p at_q same isnt. let no = ap is_some (sym at_p ∙ ap (λ m. get m p) none ∙ get-empty nat_cmp p) in cc;
-  waits = once;
-  both = λ p q a b at_p at_q same isnt. let no = ap is_some (sym at_p ∙ ap (λ m. get m p) none ∙ get-empty nat_cmp p) in cc;
-}
+apart_adopted z x table none once a b p q f at_p at_q isnt = by a b at_p at_q
+  where
+    no : (p : ℕ) → option_map (λ (w : PageView). w.entry.frame) (get x.pages p) ≡ Some f → ⊥
+    no p at = let gone = ap (λ m. get m p) none in let nothing = none_at {X = PageView} p in cc
+
+    by : (a b : Bool) → frame_named (record { pages = x.pages; awaiting = table; speculating = x.speculating }) a p ≡ Some f
+        → frame_named (record { pages = x.pages; awaiting = table; speculating = x.speculating }) b q ≡ Some f → (a ≡ b) × (p ≡ q)
+    by false b at_p at_q = absurd (no p at_p)
+    by true false at_p at_q = absurd (no q at_q)
+    by true true at_p at_q = map_from (λ (e : PageEntry). e.frame) (get table p) f at_p (λ e there_p is_p.
+        map_from (λ (e : PageEntry). e.frame) (get table q) f at_q (λ k there_q is_q.
+        (refl, once p q e k there_p there_q (is_p ∙ sym is_q) (λ zero_e. isnt (sym is_p ∙ zero_e)))))
+
+pub nothing_apart : (z : ℕ) → IsApart z bare_space
+nothing_apart z = apart_adopted z bare_space empty refl (λ p q e f at_p at_q same isnt. let none = none_at {X = PageEntry} p in cc)
 
 -- of all spaces, where one is put in
 apart_all : (v : LedgerView) (s : ℕ) (x : SpaceView) → ((q : ℕ) → IsApart v.zero_frame (space_in v q)) → IsApart v.zero_frame x → (q : ℕ) → IsApart v.zero_frame (space_in (put_space v s x) q)
@@ -127,10 +117,9 @@ booked_by {v = v} kept m l is inside apart {new = new} {u' = u'} {n' = n'} books
 }
 
 -- with the same pages
-booked_as : {v : LedgerView} {counts : List ℕ} {u n : ℕ} → IsBooked v counts u n → (m : FinMap nat_cmp SpaceView)
-    → ((s p : ℕ) (x : PageView) → page_in (with_spaces v m) s p ≡ Some x → x.entry.frame < v.frames) → ((s : ℕ) → IsApart v.zero_frame (space_in (with_spaces v m) s))
-    → all_holdings (ledger_of (with_spaces v m)) ≡ all_holdings (ledger_of v) → IsBooked (with_spaces v m) counts u n
-booked_as {v = v} kept m inside apart same = booked_by kept m (ledger_of (with_spaces v m)) refl inside apart (record {
+booked_as : {v : LedgerView} {counts : List ℕ} {u n : ℕ} → IsBooked v counts u n → (m : FinMap nat_cmp SpaceView) → ((s p : ℕ) → page_in (with_spaces v m) s p ≡ page_in v s p)
+    → ((s : ℕ) → IsApart v.zero_frame (space_in (with_spaces v m) s)) → all_holdings (ledger_of (with_spaces v m)) ≡ all_holdings (ledger_of v) → IsBooked (with_spaces v m) counts u n
+booked_as {v = v} kept m pages apart same = booked_by kept m (ledger_of (with_spaces v m)) refl (λ s p x at. kept.inside s p x (sym (pages s p) ∙ at)) apart (record {
   room = kept.books.room;
   counted = λ f low isnt. kept.books.counted f low isnt ∙ sym (same_sharers (ledger_of (with_spaces v m)) (ledger_of v) (f + 1) same);
   units_is = kept.books.units_is ∙ sym (same_units (ledger_of (with_spaces v m)) (ledger_of v) same);
@@ -138,40 +127,35 @@ booked_as {v = v} kept m inside apart same = booked_by kept m (ledger_of (with_s
 })
 
 -- a space made, and one taken away
-pub booked_space : (v : LedgerView) (counts : List ℕ) (u n s : ℕ) → IsBooked v counts u n → holds_space v s ≡ false → IsBooked (put_space v s bare_space) counts u n
-unfolding put_space
-booked_space v counts u n s kept absent = booked_as kept (put_space v s bare_space).spaces
-    (λ q p x at. kept.inside q p x (sym (page_added v s absent q p) ∙ at))
-    (apart_all v s bare_space kept.apart (nothing_apart v.zero_frame)) (books_added holding_of v s absent)
+module _ {v : LedgerView} {counts : List ℕ} {u n : ℕ} (kept : IsBooked v counts u n) (s : ℕ) where
+  pub booked_space : holds_space v s ≡ false → IsBooked (put_space v s bare_space) counts u n
+  unfolding put_space
+  booked_space absent =
+      booked_as kept (put_space v s bare_space).spaces (page_added v s absent) (apart_all v s bare_space kept.apart (nothing_apart v.zero_frame)) (books_added holding_of v s absent)
 
-pub booked_lost : (v : LedgerView) (counts : List ℕ) (u n s : ℕ) → IsBooked v counts u n → holds_space v s ≡ true → (space_in v s).pages ≡ empty → IsBooked (cut_space v s) counts u n
-unfolding cut_space
-booked_lost v counts u n s kept there none = booked_as kept (cut_space v s).spaces
-    (λ q p x at. kept.inside q p x (sym (page_lost v s none q p) ∙ at))
-    (λ q. by_key q s
-    (λ same. subst (IsApart v.zero_frame) (sym (space_absent (cut_space v s) q (removed_same v.spaces s q same))) (nothing_apart v.zero_frame))
-    (λ d. subst (IsApart v.zero_frame) (sym (space_left v s q d)) (kept.apart q)))
-    (books_lost holding_of v s there none)
+  pub booked_lost : holds_space v s ≡ true → (space_in v s).pages ≡ empty → IsBooked (cut_space v s) counts u n
+  unfolding cut_space
+  booked_lost there none = booked_as kept (cut_space v s).spaces (page_lost v s none) (λ q. by_key q s
+      (λ same. subst (IsApart v.zero_frame) (sym (space_absent (cut_space v s) q (removed_same v.spaces s q same))) (nothing_apart v.zero_frame))
+      (λ d. subst (IsApart v.zero_frame) (sym (space_left v s q d)) (kept.apart q))) (books_lost holding_of v s there none)
 
-pub booked_mark : (v : LedgerView) (counts : List ℕ) (u n s : ℕ) (on : Bool) → IsBooked v counts u n → holds_space v s ≡ true → IsBooked (put_mark v s on) counts u n
-unfolding put_mark put_space
-booked_mark v counts u n s on kept there = booked_as kept (put_mark v s on).spaces
-    (λ q p x at. kept.inside q p x (sym (page_marked v s on q p) ∙ at))
-    (apart_all v s _ kept.apart (let h = kept.apart s in record { pages = h.pages; waits = h.waits; both = h.both }))
-    (ap all_holdings (books_marked holding_of v s on there))
+  pub booked_mark : (on : Bool) → holds_space v s ≡ true → IsBooked (put_mark v s on) counts u n
+  unfolding put_mark put_space
+  booked_mark on there = booked_as kept (put_mark v s on).spaces (page_marked v s on) (apart_all v s _ kept.apart (kept.apart s)) (ap all_holdings (books_marked holding_of v s on there))
 
-pub booked_adopted : (v : LedgerView) (counts : List ℕ) (u n s : ℕ) (table : Pages) → IsBooked v counts u n → holds_space v s ≡ true → (space_in v s).pages ≡ empty → NamesOnce v.zero_frame table
-    → IsBooked (put_awaiting v s table) counts u n
-unfolding put_awaiting put_space
-booked_adopted v counts u n s table kept there none once = booked_as kept (put_awaiting v s table).spaces
-    (λ q p x at. kept.inside q p x (sym (page_awaited v s table q p) ∙ at))
-    (apart_all v s _ kept.apart (apart_adopted v.zero_frame (space_in v s) table none once))
-    (ap all_holdings (books_awaiting holding_of v s table there))
+  pub booked_adopted : (table : Pages) → holds_space v s ≡ true → (space_in v s).pages ≡ empty → NamesOnce v.zero_frame table → IsBooked (put_awaiting v s table) counts u n
+  unfolding put_awaiting put_space
+  booked_adopted table there none once = booked_as kept (put_awaiting v s table).spaces (page_awaited v s table)
+      (apart_all v s _ kept.apart (apart_adopted v.zero_frame (space_in v s) table none once)) (ap all_holdings (books_awaiting holding_of v s table there))
 
 -- The books of a view with a page put, taken away or shared.
 
 pub in_pages : (v : LedgerView) (s p : ℕ) (x : PageView) → page_in v s p ≡ Some x → get (space_in v s).pages p ≡ Some x
 in_pages v s p x there = sym (page_of v s p) ∙ there
+
+-- the frame of a page
+pub names : (v : LedgerView) (s p : ℕ) (x : PageView) → page_in v s p ≡ Some x → frame_named (space_in v s) false p ≡ Some x.entry.frame
+names v s p x there = ap (option_map (λ (y : PageView). y.entry.frame)) (in_pages v s p x there)
 
 module _ {v : LedgerView} {counts : List ℕ} {u n : ℕ} (kept : IsBooked v counts u n) (s p : ℕ) {new : List ℕ} {u' n' : ℕ} where
   pub booked_put : (y : PageView) → y.entry.frame < v.frames → FitsIn v.zero_frame (space_in v s) p y

@@ -40,20 +40,18 @@ no_overlays v those =
     let x = held_page v s p h there in
     let none = ap (λ (k : Holding). length k.own) x.2 ∙ ap (λ o. length (lines_of o)) ((those.page s p x.0 x.1).2 ∙ get-empty {X = Entry} nat_cmp (overlay_page s p)) in
     omega (arith, none)) in
-    let most = tally_le has_lines (λ x. length x.own) (ledger_of v) (λ s p h there. one (length h.own)) in
+    let most = tally_le has_lines (λ x. length x.own) (ledger_of v) (λ s p h there. grind (arith, nat_tests)) in
     let same = overlaid_is (ledger_of v) in
     let none = len-empty nat_cmp Entry in
     omega (arith, few, most, same, none)
-  where
-    one : (n : ℕ) → cond (nat_lt 0 n) 1 0 ≤ n
-    one n = grind (arith, nat_tests)
 
 one_more : (m : Overlays) (k : ℕ) (e : Entry) → get m k ≡ None → Counts m → Counts (insert m k e)
 unfolding Counts has_lines
 one_more m k e absent counts v those =
     let changed = overlaid_changed v (space_of k) (page_of k) x bare there in
     let some = those.lined k e here in
-    let one : has_lines (holding_of v.zero_frame x) ≡ 1 = ap (λ o. cond (nat_lt 0 (length (lines_of o))) 1 0) over ∙ lines (length e.bits) some in
+    let one : has_lines (holding_of v.zero_frame x) ≡ 1 = ap (λ o. cond (nat_lt 0 (length (lines_of o))) 1 0) over
+    ∙ (let has : cond (nat_lt 0 (length e.bits)) 1 0 ≡ 1 = grind (arith, nat_tests, some) in has) in
     let rest = counts (put_page v (space_of k) (page_of k) bare) fewer in
     let count = len-insert nat_cmp_total m k e ∙ ap (λ (o : Option Entry). cond (is_some o) (len m) (len m + 1)) absent in
     omega (arith, changed, one, rest, count)
@@ -75,9 +73,6 @@ one_more m k e absent counts v those =
 
     bare : PageView
     bare = record { entry = x.entry; overlay = None }
-
-    lines : (n : ℕ) → 0 < n → ◌≡◌ {A = ℕ} (cond (nat_lt 0 n) 1 0) 1
-    lines n some = grind (arith, nat_tests)
 
     differs : (n : ℕ) → IsSome (get m n) → n ≡ k → ⊥
     differs n some same = let no = sym some ∙ ap (λ j. is_some (get m j)) same ∙ ap is_some absent in cc

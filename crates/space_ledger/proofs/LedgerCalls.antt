@@ -1,22 +1,20 @@
-use Rattle.space_ledger.proofs.Common.{len, LAST_SPACE, ◌≡◌, ℕ, ◌+◌, ◌-◌, ◌^◌, ◌==◌, ◌≤◌, ◌<◌, ◌⊎◌, Bool, true, false, cond, not, ◌&&◌, nat_lt, List, length, Option, Some, None, is_some, IsSome, Result, Ok, Err, IfOk, refl, nat_cmp, inl, inr, sym, ap, subst, subst₂, ◌∙◌, arith, same_Some, option_and_then, option_map, option_map_or, empty, get, get-empty}
+use Rattle.space_ledger.proofs.Common.{len, LAST_SPACE, ◌≡◌, ℕ, ◌+◌, ◌-◌, ◌^◌, ◌==◌, ◌≤◌, ◌<◌, ◌⊎◌, Bool, true, false, cond, not, ◌&&◌, nat_lt, List, length, Option, Some, None, is_some, IsSome, Result, Ok, Err, IfOk, refl, nat_cmp, inl, inr, sym, ap, subst, subst₂, ◌∙◌, arith, nat_tests, same_Some, option_and_then, option_map, option_map_or, empty, get, get-empty}
 use Rattle.space_ledger.proofs.Pages.{get_viewed, Pages, Table, PageEntry, Entry, Block, sharers_of}
-use Rattle.space_ledger.proofs.Views.{map_from, changed_there, page_of, page_shared_here, cut_page, holds_space, page_in, put_page, put_shared, put_space, space_in, holding_at, is_alone, is_unused, with_page, without_page, class, books_cut_page, books_page, books_put_page, books_there, LedgerView, PageView, frame_at, frame_awaiting, holding_of, ledger_of, lines_of, origin_of, overlay_at, with_block, with_entry_at, with_frame, with_overlay, with_page_shared, AreBooks, IsBooked, IsFreeFor, IsSound, NamesOnce, entries_of, given_up, frame_units, held_by, released_by, given_as, by_option, class_none, sharers_at}
+use Rattle.space_ledger.proofs.Views.{map_from, changed_there, page_of, page_shared_here, cut_page, holds_space, page_in, put_page, put_shared, put_space, space_in, holding_at, is_alone, is_unused, without_page, class, books_cut_page, books_page, books_put_page, books_there, LedgerView, PageView, frame_at, frame_awaiting, holding_of, ledger_of, lines_of, origin_of, overlay_at, with_block, with_entry_at, with_frame, with_overlay, with_page_shared, IsBooked, IsFreeFor, IsSound, NamesOnce, entries_of, given_up, frame_units, held_by, released_by, given_as, by_option, class_none, sharers_at}
+use Rattle.space_ledger.specs.Calls.{frame_named}
 use Rattle.space_ledger.proofs.Seen.{some_is}
-use Rattle.space_ledger.proofs.Booking.{HasGone, alone_frame, by_two, length_released, page_come, page_gone, page_over, same_books, some_sharer}
+use Rattle.space_ledger.proofs.Booking.{HasGone, alone_frame, by_two, page_come, page_gone, page_over, same_books, some_sharer}
 use Rattle.space_ledger.proofs.Booked.{FitsIn, booked_gone, booked_put, booked_shared, fits_same, in_pages}
 use Rattle.space_ledger.proofs.Numbers.{books_without, entry_page, sharers_bound, unused_put, unused_tells}
 
 -- What the calls leave, in the words of the calls below them.
 
 pub before_release : (v : LedgerView) (counts : List ℕ) (u n : ℕ) → IsBooked v counts u n → (s p z : ℕ) (e : PageEntry) → z ≡ v.zero_frame
-    → Some e ≡ option_map (λ (x : PageView). x.entry) (page_in v s p) → (e.frame < length counts) × ((e.frame ≡ z) ⊎ (0 < sharers_of counts e.frame))
+    → Some e ≡ option_map (λ (x : PageView). x.entry) (page_in v s p) → (e.frame ≡ z) ⊎ (0 < sharers_of counts e.frame)
 before_release v counts u n kept s p z e zero_is is =
-    let found = entry_page v s p e is in
-    let low = kept.inside s p _ found.1 in
-    subst (λ y. (e.frame < length counts) × ((e.frame ≡ y) ⊎ (0 < sharers_of counts e.frame))) (sym zero_is) (
-      subst (λ k. e.frame < k) (sym kept.books.room) low,
-      some_sharer (ledger_of v) v.zero_frame v.frames s p e.frame _ counts kept.books.counted (books_there holding_of v s p _ found.1) refl low,
-    )
+    let there = (entry_page v s p e is).1 in
+    subst (λ y. (e.frame ≡ y) ⊎ (0 < sharers_of counts e.frame)) (sym zero_is)
+    (some_sharer (ledger_of v) v.zero_frame v.frames s p e.frame _ counts kept.books.counted (books_there holding_of v s p _ there) refl (kept.inside s p _ there))
 
 -- a page that names a frame
 on_frame : (v : LedgerView) (s p f : ℕ) → frame_at v s p ≡ Some f → (x : PageView) × (page_in v s p ≡ Some x) × (f ≡ x.entry.frame)
@@ -41,114 +39,84 @@ pub record Released (v : LedgerView) (less : List ℕ) (u n s p freed frame : �
   pub books : IsBooked (cut_page v s p) less (u - freed) n
   pub answer : cond (nat_lt 0 freed) (Some frame) None ≡ given_up (cut_page v s p) (page_in v s p)
 
-pub record BeforeHold (v : LedgerView) (less : List ℕ) (f z : ℕ) : Type 0 where
-  pub there : f < length less
-  pub few : (f ≡ z) ⊎ (sharers_of less f < 2 ^ 32 - 1)
-
 pub record Framed (v : LedgerView) (more : List ℕ) (u n s p f freed added frame : ℕ) : Type 0 where
   pub fits : freed ≤ u
   pub books : IsBooked (with_frame v s p f) more (u - freed + added) n
   pub answer : option_and_then (λ (k : ℕ). cond (f == k) None (Some k)) (cond (nat_lt 0 freed) (Some frame) None) ≡ given_up (with_frame v s p f) (page_in v s p)
 
-module _ (v : LedgerView) (counts : List ℕ) (u n : ℕ) (kept : IsBooked v counts u n) (s p : ℕ) (e : PageEntry) (o : Option Entry) (there : page_in v s p ≡ Some (record { entry = e; overlay = o })) where
-  abbrev less_x : List ℕ
-  less_x = released_by v.zero_frame counts e.frame
+-- the page of an entry
+abbrev page_by : (v : LedgerView) (s p : ℕ) (e : PageEntry) → Some e ≡ option_map (λ (x : PageView). x.entry) (page_in v s p) → PageView
+page_by v s p e is = record { entry = e; overlay = (entry_page v s p e is).0 }
 
-  abbrev freed_x : ℕ
-  freed_x = frame_units v.zero_frame (released_by v.zero_frame counts e.frame) e.frame
+module _ {v : LedgerView} {counts less : List ℕ} {u n : ℕ} (kept : IsBooked v counts u n) (s p z freed : ℕ) (e : PageEntry) (zero_is : z ≡ v.zero_frame)
+    (is : Some e ≡ option_map (λ (x : PageView). x.entry) (page_in v s p)) (less_is : less ≡ released_by z counts e.frame) (freed_is : freed ≡ frame_units z less e.frame) where
+  there : page_in v s p ≡ Some (page_by v s p e is)
+  there = (entry_page v s p e is).1
 
-  gone : HasGone (ledger_of v) v.zero_frame v.frames s p e.frame (holding_of v.zero_frame (record { entry = e; overlay = o })) counts u n
-  gone = page_gone (ledger_of v) v.zero_frame v.frames s p e.frame (holding_of v.zero_frame (record { entry = e; overlay = o })) refl (kept.inside s p _ there) counts u n kept.books (books_there holding_of v s p _ there)
+  gone : HasGone (ledger_of v) v.zero_frame v.frames s p e.frame (holding_of v.zero_frame (page_by v s p e is)) less freed u n
+  gone = page_gone (ledger_of v) v.zero_frame v.frames s p e.frame (holding_of v.zero_frame (page_by v s p e is)) refl (kept.inside s p _ there) kept.books
+      (books_there holding_of v s p _ there)
+      (less_is ∙ ap (λ k. released_by k counts e.frame) zero_is) (freed_is ∙ ap (λ k. frame_units k less e.frame) zero_is)
 
   -- whether its frame is given up
-  freed_tells : nat_lt 0 freed_x ≡ is_unused (without_page (ledger_of v) s p) (origin_of v.zero_frame e.frame)
-  freed_tells = ap (nat_lt 0) gone.freed ∙ unused_tells (is_unused (without_page (ledger_of v) s p) (origin_of v.zero_frame e.frame))
+  freed_tells : nat_lt 0 freed ≡ is_unused (without_page (ledger_of v) s p) (origin_of v.zero_frame e.frame)
+  freed_tells = ap (nat_lt 0) gone.freed_is ∙ unused_tells (is_unused (without_page (ledger_of v) s p) (origin_of v.zero_frame e.frame))
 
-  released : o ≡ None → Released v less_x u n s p freed_x e.frame
+  pub removed_call : overlay_at v s p ≡ None → Released v less u n s p freed e.frame
   unfolding cut_page put_space
-  released bare =
+  removed_call bare_v =
       let fits = gone.fits in
-      let nothing : class (length (lines_of o)) ≡ 0 = ap (λ k. class (length (lines_of k))) bare ∙ class_none in
-      let none : length (lines_of o) ≡ 0 = ap (λ k. length (lines_of k)) bare in record {
+      let bare = sym (ap (option_and_then (λ (y : PageView). y.overlay)) there) ∙ bare_v in
+      let nothing = ap (λ k. class (length (lines_of k))) bare ∙ class_none in
+      let none = ap (λ k. length (lines_of k)) bare in record {
         fits = omega (arith, fits);
         books = booked_gone kept s p (same_books gone.books (omega (arith, nothing)) (omega (arith, none)));
         answer = ap (λ b. cond b (Some e.frame) None) (freed_tells ∙ ap (λ l. is_unused l (origin_of v.zero_frame e.frame)) (sym (books_cut_page holding_of v s p)))
-            ∙ sym (given_as (cut_page v s p) (record { entry = e; overlay = o })) ∙ ap (given_up (cut_page v s p)) (sym there);
+            ∙ sym (given_as (cut_page v s p) (page_by v s p e is)) ∙ ap (given_up (cut_page v s p)) (sym there);
       }
 
   module _ (sound : IsSound v) (f : ℕ) (low : f < v.frames) where
-    before : BeforeHold v less_x f v.zero_frame
-    before = record {
-      there = subst (λ k. f < k) (sym (length_released v.zero_frame counts e.frame ∙ kept.books.room)) low;
-      few = by_two f v.zero_frame inl (λ isnt.
-          let bound = sharers_bound v counts u n kept sound.few f low isnt in
-          let all = sharers_at (ledger_of v) s p (holding_of v.zero_frame (record { entry = e; overlay = o })) (f + 1) (books_there holding_of v s p _ there) in
-          let count = gone.books.counted f low isnt in
-          inr (omega (arith, bound, all, count)));
-    }
+    pub before_hold : (f ≡ z) ⊎ (sharers_of less f < 2 ^ 32 - 1)
+    before_hold = subst (λ k. (f ≡ k) ⊎ (sharers_of less f < 2 ^ 32 - 1)) (sym zero_is) (by_two f v.zero_frame inl (λ isnt.
+        let bound = sharers_bound v counts u n kept sound.few f low isnt in
+        let all = sharers_at (ledger_of v) s p (holding_of v.zero_frame (page_by v s p e is)) (f + 1) (books_there holding_of v s p _ there) in
+        let count = gone.books.counted f low isnt in
+        inr (omega (arith, bound, all, count))))
 
     abbrev y : PageView
-    y = record { entry = record { perms = e.perms; frame = f }; overlay = o }
+    y = record { entry = record { perms = e.perms; frame = f }; overlay = (entry_page v s p e is).0 }
 
     framed_is : with_frame v s p f ≡ put_page v s p y
     unfolding with_frame
-    framed_is = changed_there _ v s p (record { entry = e; overlay = o }) there
+    framed_is = changed_there _ v s p (page_by v s p e is) there
 
-    framed : (space_in v s).awaiting ≡ empty → IsFreeFor v s p f
-        → Framed v (held_by v.zero_frame less_x f) u n s p f freed_x (frame_units v.zero_frame less_x f) e.frame
+    pub framed_call : {more : List ℕ} {added : ℕ} → more ≡ held_by z less f → added ≡ frame_units z less f → (space_in v s).awaiting ≡ empty → IsFreeFor v s p f
+        → Framed v more u n s p f freed added e.frame
     unfolding put_page put_space
-    framed settled free =
+    framed_call {more = more} {added = added} more_is added_is settled free =
         let fits = gone.fits in
         let lines = gone.lines_fit in record {
           fits = omega (arith, fits);
-          books = subst (λ w. IsBooked w (held_by v.zero_frame less_x f) (u - freed_x + frame_units v.zero_frame less_x f) n) (sym framed_is) (booked_put kept s p y low (fits_in free)
-              (same_books (page_come (ledger_of v) v.zero_frame v.frames s p f (holding_of v.zero_frame y) refl low less_x _ _ gone.books) (omega (arith, fits)) (omega (arith, lines))));
-          answer = joined (nat_lt 0 freed_x) e.frame (f == e.frame) refl
+          books = subst (λ w. IsBooked w more (u - freed + added) n) (sym framed_is) (booked_put kept s p y low (fits_in free)
+              (same_books (page_come (ledger_of v) v.zero_frame v.frames s p f (holding_of v.zero_frame y) refl low gone.books (more_is ∙ ap (λ k. held_by k less f) zero_is)
+              (added_is ∙ ap (λ k. frame_units k less f) zero_is)) (omega (arith, fits)) (omega (arith, lines))));
+          answer = joined (nat_lt 0 freed) e.frame
               ∙ ap (λ b. cond (b && not (f == e.frame)) (Some e.frame) None) freed_tells
               ∙ ap (λ b. cond b (Some e.frame) None) (sym (ap (λ l. is_unused l (origin_of v.zero_frame e.frame)) (books_put_page holding_of v s p y)
               ∙ unused_put (ledger_of v) s p v.zero_frame f e.frame (holding_of v.zero_frame y) refl))
-              ∙ sym (given_as (put_page v s p y) (record { entry = e; overlay = o })) ∙ (λ i. given_up (sym framed_is i) (sym there i));
+              ∙ sym (given_as (put_page v s p y) (page_by v s p e is)) ∙ (λ i. given_up (sym framed_is i) (sym there i));
         }
       where
         fits_in : IsFreeFor v s p f → FitsIn v.zero_frame (space_in v s) p y
         fits_in (inl zero_f) = inl zero_f
-        fits_in (inr alone) = inr (
-          (λ q b at is. alone q b (page_of v s q ∙ at) is),
-          (λ q b at is. let no = ap is_some (sym at ∙ ap (λ m. get m q) settled ∙ get-empty nat_cmp q) in cc),
-        )
+        fits_in (inr alone) = inr by
+          where
+            by : (a : Bool) (q : ℕ) → frame_named (space_in v s) a q ≡ Some f → (a ≡ false) × (q ≡ p)
+            by true q at = let none = ap (λ m. get m q) settled ∙ get-empty {X = PageEntry} nat_cmp q in cc
+            by false q at = map_from (λ (x : PageView). x.entry.frame) (get (space_in v s).pages q) f at (λ x there is. (refl, alone q x (page_of v s q ∙ there) is))
 
-        joined : (b : Bool) (g : ℕ) (c : Bool) → (f == g) ≡ c
-            → ◌≡◌ {A = Option ℕ} (option_and_then (λ (m : ℕ). cond (f == m) None (Some m)) (cond b (Some g) None)) (cond (b && not (f == g)) (Some g) None)
-        joined true g true e = (λ i. cond (e i) None (Some g)) ∙ (λ i. cond (not (sym e i)) (Some g) None)
-        joined true g false e = (λ i. cond (e i) None (Some g)) ∙ (λ i. cond (not (sym e i)) (Some g) None)
-        joined false g c e = refl
-
--- in the words of the calls
-pub removed_call : (v : LedgerView) (counts less : List ℕ) (u n : ℕ) → IsBooked v counts u n → (s p z freed : ℕ) (e : PageEntry) → z ≡ v.zero_frame
-    → Some e ≡ option_map (λ (x : PageView). x.entry) (page_in v s p) → less ≡ released_by z counts e.frame → freed ≡ frame_units z less e.frame
-    → overlay_at v s p ≡ None → Released v less u n s p freed e.frame
-removed_call v counts less u n kept s p z freed e zero_is is less_is freed_is bare =
-    let found = entry_page v s p e is in
-    let less_v = less_is ∙ ap (λ k. released_by k counts e.frame) zero_is in
-    subst₂ (λ c k. Released v c u n s p k e.frame) (sym less_v) (sym (freed_is ∙ (λ i. frame_units (zero_is i) (less_v i) e.frame)))
-    (released v counts u n kept s p e found.0 found.1 (sym (ap (option_and_then (λ (y : PageView). y.overlay)) found.1) ∙ bare))
-
-pub before_hold : (v : LedgerView) (counts less : List ℕ) (u n : ℕ) → IsBooked v counts u n → IsSound v → (s p z f : ℕ) (e : PageEntry) → z ≡ v.zero_frame
-    → Some e ≡ option_map (λ (x : PageView). x.entry) (page_in v s p) → less ≡ released_by z counts e.frame → f < v.frames → BeforeHold v less f z
-before_hold v counts less u n kept sound s p z f e zero_is is less_is low =
-    let found = entry_page v s p e is in
-    subst₂ (λ c k. BeforeHold v c f k) (sym (less_is ∙ ap (λ k. released_by k counts e.frame) zero_is)) (sym zero_is) (before v counts u n kept s p e found.0 found.1 sound f low)
-
-pub framed_call : (v : LedgerView) (counts less more : List ℕ) (u n : ℕ) → IsBooked v counts u n → IsSound v → (s p z f freed added : ℕ) (e : PageEntry) → z ≡ v.zero_frame
-    → Some e ≡ option_map (λ (x : PageView). x.entry) (page_in v s p) → less ≡ released_by z counts e.frame → freed ≡ frame_units z less e.frame
-    → more ≡ held_by z less f → added ≡ frame_units z less f → f < v.frames → (space_in v s).awaiting ≡ empty → IsFreeFor v s p f → Framed v more u n s p f freed added e.frame
-framed_call v counts less more u n kept sound s p z f freed added e zero_is is less_is freed_is more_is added_is low settled free =
-    let found = entry_page v s p e is in
-    let less_v = less_is ∙ ap (λ k. released_by k counts e.frame) zero_is in
-    subst (λ m. Framed v m u n s p f freed added e.frame) (sym (more_is ∙ (λ i. held_by (zero_is i) (less_v i) f)))
-    (subst₂ (λ j k. Framed v (held_by v.zero_frame (released_by v.zero_frame counts e.frame) f) u n s p f j k e.frame)
-    (sym (freed_is ∙ (λ i. frame_units (zero_is i) (less_v i) e.frame))) (sym (added_is ∙ (λ i. frame_units (zero_is i) (less_v i) f)))
-    (framed v counts u n kept s p e found.0 found.1 sound f low settled free))
+        joined : (b : Bool) (g : ℕ) → ◌≡◌ {A = Option ℕ} (option_and_then (λ (m : ℕ). cond (f == m) None (Some m)) (cond b (Some g) None)) (cond (b && not (f == g)) (Some g) None)
+        joined b g = grind (arith, nat_tests)
 
 -- an entry with another frame
 pub entry_is_frame : (v : LedgerView) (s p f : ℕ) (e : PageEntry) → Some e ≡ option_map (λ (x : PageView). x.entry) (page_in v s p)
@@ -158,17 +126,6 @@ entry_is_frame v s p f e is = let found = entry_page v s p e is in changed_there
 
 -- A page with another overlay, or none.
 
-over_books : (v : LedgerView) (counts : List ℕ) (u n : ℕ) → IsBooked v counts u n → (s p : ℕ) (x : PageView) → page_in v s p ≡ Some x → (o : Option Entry)
-    → IsBooked (with_overlay v s p o) counts (u - class (length (lines_of x.overlay)) + class (length (lines_of o))) (n - length (lines_of x.overlay) + length (lines_of o))
-unfolding with_overlay
-over_books v counts u n kept s p x there o =
-    let y : PageView = record { entry = x.entry; overlay = o } in
-    let low = kept.inside s p x there in
-    subst (λ w. IsBooked w counts (u - class (length (lines_of x.overlay)) + class (length (lines_of o))) (n - length (lines_of x.overlay) + length (lines_of o)))
-    (sym (changed_there _ v s p x there))
-    (booked_put kept s p y low (fits_same v.zero_frame (space_in v s) p x y (kept.apart s) (in_pages v s p x there) refl)
-    (page_over (ledger_of v) v.zero_frame v.frames s p x.entry.frame (holding_of v.zero_frame y) refl low counts u n (holding_of v.zero_frame x) kept.books (books_there holding_of v s p x there) refl))
-
 pub record Overlaid (v : LedgerView) (counts : List ℕ) (u n s p before after : ℕ) (o : Option Entry) : Type 0 where
   pub fits : class before ≤ u
   pub lines_fit : before ≤ n
@@ -176,17 +133,25 @@ pub record Overlaid (v : LedgerView) (counts : List ℕ) (u n s p before after :
 
 pub overlaid_call : (v : LedgerView) (counts : List ℕ) (u n : ℕ) → IsBooked v counts u n → (s p before after : ℕ) (had o : Option Entry) → IsSome (page_in v s p)
     → had ≡ overlay_at v s p → before ≡ length (lines_of had) → after ≡ length (lines_of o) → Overlaid v counts u n s p before after o
+unfolding with_overlay
 overlaid_call v counts u n kept s p before after had o there had_is before_is after_is =
     let x = some_is (page_in v s p) there in
-    let before_x : before ≡ length (lines_of x.0.overlay) = before_is ∙ ap (λ k. length (lines_of k)) (had_is ∙ ap (option_and_then (λ (y : PageView). y.overlay)) x.1) in
-    let gone = gone v counts u n kept s p x.0.entry x.0.overlay x.1 in
+    let y : PageView = record { entry = x.0.entry; overlay = o } in
+    let low = kept.inside s p x.0 x.1 in
+    let at = books_there holding_of v s p x.0 x.1 in
+    let was : before ≡ length (lines_of x.0.overlay) = before_is ∙ ap (λ k. length (lines_of k)) (had_is ∙ ap (option_and_then (λ (y : PageView). y.overlay)) x.1) in
+    let gone = page_gone (ledger_of v) v.zero_frame v.frames s p x.0.entry.frame (holding_of v.zero_frame x.0) refl low kept.books at refl refl in
     let fits = gone.fits in
-    subst (λ k. Overlaid v counts u n s p k after o) (sym before_x) (record {
-      fits = omega (arith, fits);
-      lines_fit = gone.lines_fit;
-      books = subst (λ k. IsBooked (with_overlay v s p o) counts (u - class (length (lines_of x.0.overlay)) + class k) (n - length (lines_of x.0.overlay) + k)) (sym after_is)
-          (over_books v counts u n kept s p x.0 x.1 o);
-    })
+    let few = gone.lines_fit in
+    let less = ap class was in
+    let more = ap class after_is in record {
+      fits = omega (arith, fits, less);
+      lines_fit = omega (arith, few, was);
+      books = subst (λ w. IsBooked w counts (u - class before + class after) (n - before + after)) (sym (changed_there _ v s p x.0 x.1))
+          (booked_put kept s p y low (fits_same v.zero_frame (space_in v s) p x.0 y (kept.apart s) (in_pages v s p x.0 x.1) refl)
+          (same_books (page_over (ledger_of v) v.zero_frame v.frames s p x.0.entry.frame (holding_of v.zero_frame y) refl low counts u n (holding_of v.zero_frame x.0) kept.books at refl)
+          (omega (arith, less, more)) (omega (arith, was, after_is))));
+    }
 
 -- another block alone
 pub record Moved (v : LedgerView) (counts : List ℕ) (u n s p : ℕ) (e : Entry) (to : Block) : Type 0 where
@@ -199,14 +164,11 @@ moved_call v counts u n kept s p e to is = by_option (page_in v s p)
     (λ none. let no = ap is_some (is ∙ ap (option_and_then (λ (y : PageView). y.overlay)) none) in cc)
     (λ x there.
     let over : x.overlay ≡ Some e = sym (is ∙ ap (option_and_then (λ (y : PageView). y.overlay)) there) in
-    let lines : length (lines_of x.overlay) ≡ length e.bits = ap (λ o. length (lines_of o)) over in
-    let classes = ap class lines in
-    let gone = gone v counts u n kept s p x.entry x.overlay there in
-    let fits = gone.fits in
-    let few = gone.lines_fit in
     let new : Option Entry = Some (record { bits = e.bits; block = to }) in
-    let books = over_books v counts u n kept s p x there new in record {
-      books = subst₂ (λ j k. IsBooked (with_overlay v s p new) counts j k) (omega (arith, fits, classes)) (omega (arith, few, lines)) books;
+    let made = overlaid_call v counts u n kept s p (length e.bits) (length e.bits) (Some e) new (ap is_some there) is refl refl in
+    let fits = made.fits in
+    let few = made.lines_fit in record {
+      books = subst₂ (λ j k. IsBooked (with_overlay v s p new) counts j k) (omega (arith, fits)) (omega (arith, few)) made.books;
       is = changed_there _ v s p x there ∙ ap (λ o. put_page v s p (record { entry = x.entry; overlay = option_map (λ (k : Entry). record { bits = k.bits; block = to }) o })) (sym over)
           ∙ sym (changed_there _ v s p x there);
     })
@@ -224,15 +186,12 @@ shared_frame v counts u n kept from to p entry there waiting same =
     some_frame {a = a} e = same_Some _ _ e
 
 pub before_share : (v : LedgerView) (counts : List ℕ) (u n : ℕ) → IsBooked v counts u n → len v.spaces ≤ LAST_SPACE + 1 → (z : ℕ) (entry : PageEntry) → entry.frame < v.frames → z ≡ v.zero_frame
-    → (entry.frame < length counts) × ((entry.frame ≡ z) ⊎ (sharers_of counts entry.frame < 2 ^ 32 - 1))
+    → (entry.frame ≡ z) ⊎ (sharers_of counts entry.frame < 2 ^ 32 - 1)
 before_share v counts u n kept few z entry low zero_is =
-    subst (λ k. (entry.frame < length counts) × ((entry.frame ≡ k) ⊎ (sharers_of counts entry.frame < 2 ^ 32 - 1))) (sym zero_is) (
-      subst (λ k. entry.frame < k) (sym kept.books.room) low,
-      by_two entry.frame v.zero_frame inl (λ isnt.
-          let bound = sharers_bound v counts u n kept few entry.frame low isnt in
-          let count = kept.books.counted entry.frame low isnt in
-          inr (omega (arith, bound, count))),
-    )
+    subst (λ k. (entry.frame ≡ k) ⊎ (sharers_of counts entry.frame < 2 ^ 32 - 1)) (sym zero_is) (by_two entry.frame v.zero_frame inl (λ isnt.
+    let bound = sharers_bound v counts u n kept few entry.frame low isnt in
+    let count = kept.books.counted entry.frame low isnt in
+    inr (omega (arith, bound, count))))
 
 pub shared_call : (v : LedgerView) (counts more : List ℕ) (u n : ℕ) → IsBooked v counts u n → (s p z added lines : ℕ) (entry : PageEntry) (o : Option Entry) → holds_space v s ≡ true
     → page_in v s p ≡ None → get (space_in v s).awaiting p ≡ Some entry → entry.frame < v.frames → z ≡ v.zero_frame → more ≡ held_by z counts entry.frame → added ≡ frame_units z counts entry.frame
@@ -241,10 +200,9 @@ shared_call v counts more u n kept s p z added lines entry o has absent waiting 
     let y : PageView = record { entry = entry; overlay = o } in
     let added_v : added ≡ frame_units v.zero_frame counts entry.frame = added_is ∙ ap (λ k. frame_units k counts entry.frame) zero_is in
     let classes = ap class lines_is in
-    booked_shared kept s p y entry low waiting refl (subst (λ c. AreBooks (with_page (ledger_of v) s p (holding_of v.zero_frame y)) v.zero_frame v.frames c (u + added + class lines) (n + lines))
-    (sym (more_is ∙ ap (λ k. held_by k counts entry.frame) zero_is))
-    (same_books (page_come (ledger_of v) v.zero_frame v.frames s p entry.frame (holding_of v.zero_frame y) refl low counts u n (books_without v counts u n kept s p has absent))
-    (omega (arith, added_v, classes)) (omega (arith, lines_is))))
+    booked_shared kept s p y entry low waiting refl
+    (same_books (page_come (ledger_of v) v.zero_frame v.frames s p entry.frame (holding_of v.zero_frame y) refl low (books_without v counts u n kept s p has absent)
+    (more_is ∙ ap (λ k. held_by k counts entry.frame) zero_is) added_v) (omega (arith, classes)) (omega (arith, lines_is)))
 
 -- the view of a page shared, and that it has the origin and the own lines of the other
 pub shared_view : (v : LedgerView) (from to p : ℕ) (entry : PageEntry) (own o : Option Entry) (block : Option Block) → get (space_in v to).awaiting p ≡ Some entry → own ≡ overlay_at v from p
@@ -279,17 +237,12 @@ pub named_once : (v w : LedgerView) (counts : List ℕ) (u n : ℕ) → IsBooked
 unfolding entries_of
 named_once v w counts u n kept s pages same is =
     subst (λ (k : LedgerView). NamesOnce k.zero_frame pages) same
-    (λ p q a b at_p at_q frames isnt.
-    let x = entry_of p a at_p in
-    let y = entry_of q b at_q in
-    (kept.apart s).pages p q x.0 y.0 x.1 y.1
-    (ap (λ (e : PageEntry). e.frame) x.2 ∙ frames ∙ sym (ap (λ (e : PageEntry). e.frame) y.2))
-    (λ zero_x. isnt (sym (ap (λ (e : PageEntry). e.frame) x.2) ∙ zero_x)))
+    (λ p q a b at_p at_q frames isnt. (kept.apart s false false p q a.frame (frame_of p a at_p) (frame_of q b at_q ∙ ap Some (sym frames)) isnt).1)
   where
-    entry_of : (p : ℕ) (a : PageEntry) → get pages p ≡ Some a → (x : PageView) × (get (space_in v s).pages p ≡ Some x) × (x.entry ≡ a)
-    entry_of p a at =
+    frame_of : (p : ℕ) (a : PageEntry) → get pages p ≡ Some a → frame_named (space_in v s) false p ≡ Some a.frame
+    frame_of p a at =
         map_from (λ (y : PageView). y.entry) (get (space_in v s).pages p) a (sym (ap (λ (m : Pages). get m p) is ∙ get_viewed (λ page (y : PageView). y.entry) (space_in v s).pages p) ∙ at)
-        (λ x there same. (x, there, same))
+        (λ x there same. ap (option_map (λ (y : PageView). y.entry.frame)) there ∙ ap (λ (e : PageEntry). Some e.frame) same)
 
 -- and so does a table that was copied
 pub copied_once : {E : Type 0} (v w : LedgerView) (counts : List ℕ) (u n : ℕ) → IsBooked v counts u n → (s : ℕ) (r : Result Table E) → v ≡ w

@@ -1,13 +1,13 @@
 pub mod Common
 pub mod Pages
 pub mod Views
+pub mod Keys
 pub mod Parts
 pub mod RunParts
 pub mod Seen
 pub mod Answered
 pub mod Counting
 pub mod Changing
-pub mod RunViews
 pub mod TableOps
 pub mod Booking
 pub mod Booked
@@ -17,6 +17,5 @@ pub mod Rises
 pub mod LedgerCalls
 pub mod Removing
 pub mod RunRemoved
-pub mod RunBooks
 pub mod Sharing
 pub mod Laws

@@ -1,18 +1,14 @@
-use Rattle.space_ledger.proofs.Common.{◌≡◌, ℕ, zero, suc, ◌+◌, ◌*◌, ◌^◌, ◌==◌, ◌≤◌, ◌<◌, Bool, true, false, cond, not, ◌&&◌, ◌||◌, nat_eq, nat_lt, List, [], length, Option, Some, None, is_some, Result, Ok, Err, OnOk, OnErr, refl, nat_cmp, sym, ap, subst, ◌∙◌, arith, inl, nat_tests, option_and_then, option_map, option_map_or, empty, get, get-empty, len, FRAME_UNITS, LAST_SPACE, MOST_FRAMES, PAGE_LINES}
+use Rattle.space_ledger.proofs.Common.{◌≡◌, ℕ, zero, suc, ◌+◌, ◌*◌, ◌^◌, ◌==◌, ◌≤◌, ◌<◌, Bool, true, false, cond, not, ◌&&◌, nat_eq, nat_lt, List, [], length, Option, Some, None, is_some, Result, Ok, Err, OnOk, OnErr, refl, nat_cmp, sym, ap, subst, ◌∙◌, arith, inl, nat_tests, option_map, empty, get, get-empty, len, FRAME_UNITS, LAST_SPACE, MOST_FRAMES, PAGE_LINES}
 use Rattle.space_ledger.proofs.Pages.{is_within, PageEntry, Entry, none_shared, sharers_of, none_at}
-use Rattle.space_ledger.proofs.Views.{Holding, Ledger, all_holdings, has_origin, holding_at, is_unused, with_page, without_page, class, own_lines, sharers, units, units_of, has_own, class_none, frame_for, are, arent, origin_with, without_absent, no_holdings, tally_none, lines_tally, sharers_few, units_few, map_from, keeps_page_put, page_of, page_put_beside, space_absent, bare_space, holds_space, page_in, put_page, put_pages, put_space, space_in, books_absent, books_empty, books_len, books_page, books_spaces, LedgerView, PageView, SpaceView, holding_of, ledger_of, lines_of, origin_of, overlay_at, with_zero_pages, unused_is, AreBooks, AreFree, IsApart, IsBooked, IsNextOverlaid, IsNextOwn, IsSound}
+use Rattle.space_ledger.proofs.Views.{by_option, Holding, Ledger, all_holdings, holding_at, is_unused, with_page, without_page, class, own_lines, sharers, units, units_of, has_own, class_none, frame_for, origin_with, without_absent, no_holdings, tally_none, lines_tally, sharers_few, units_few, map_from, keeps_page_put, page_of, page_put_beside, space_absent, bare_space, holds_space, page_in, put_page, put_pages, put_space, space_in, books_absent, books_empty, books_len, books_page, books_spaces, LedgerView, PageView, SpaceView, holding_of, ledger_of, lines_of, origin_of, overlay_at, with_zero_pages, unused_is, AreBooks, AreFree, IsApart, IsBooked, IsNextOverlaid, IsNextOwn, IsSound}
 use Rattle.ledger.specs.UnitLaws.{no_units as no_page_units}
-use Rattle.space_ledger.proofs.Booking.{by_two, has_frame, held_zero, no_units, page_come, same_books}
-use Rattle.space_ledger.proofs.Booked.{nothing_apart, booked_put, in_pages}
+use Rattle.space_ledger.proofs.Booking.{held_zero, no_units, page_come, same_books}
+use Rattle.space_ledger.proofs.Booked.{nothing_apart, booked_put, names}
 
 -- The numbers that each call leaves.
 
 origin_low : (z frame frames : ℕ) → frame < frames → origin_of z frame ≤ frames
-origin_low z frame frames low = at (frame == z)
-  where
-    at : (b : Bool) → cond b 0 (frame + 1) ≤ frames
-    at true = omega arith
-    at false = omega (arith, low)
+origin_low z frame frames low = grind (arith, nat_tests)
 
 -- what a holding in the ledger is of
 pub held_page : (v : LedgerView) (s p : ℕ) (h : Holding) → holding_at (ledger_of v) s p ≡ Some h → (x : PageView) × (page_in v s p ≡ Some x) × (h ≡ holding_of v.zero_frame x)
@@ -52,21 +48,13 @@ sharers_bound v counts u n kept few f low isnt =
     let most = sharers_few (ledger_of v) (f + 1) (λ s p q a b at_p at_q is_a is_b.
     let x = held_page v s p a at_p in
     let y = held_page v s q b at_q in
-    let fx = frame_is x.0.entry.frame (ap (λ (h : Holding). h.origin) (sym x.2) ∙ is_a) in
-    let fy = frame_is y.0.entry.frame (ap (λ (h : Holding). h.origin) (sym y.2) ∙ is_b) in
-    (kept.apart s).pages p q x.0 y.0 (in_pages v s p x.0 x.1) (in_pages v s q y.0 y.1) (fx ∙ sym fy) (λ zero_x. isnt (sym fx ∙ zero_x))) in
-    let spaces = spaces_len in
+    let ox = ap (λ (h : Holding). h.origin) x.2 in
+    let oy = ap (λ (h : Holding). h.origin) y.2 in
+    let fx : x.0.entry.frame ≡ f = grind (arith, nat_tests, ox, is_a) in
+    let fy : y.0.entry.frame ≡ f = grind (arith, nat_tests, oy, is_b) in
+    (kept.apart s false false p q f (names v s p x.0 x.1 ∙ ap Some fx) (names v s q y.0 y.1 ∙ ap Some fy) isnt).1) in
+    let spaces = books_len holding_of v in
     omega (arith, most, spaces, few)
-  where
-    frame_is : (g : ℕ) → origin_of v.zero_frame g ≡ f + 1 → g ≡ f
-    frame_is g is = at (nat_eq g v.zero_frame) refl is
-      where
-        at : (b : Bool) → nat_eq g v.zero_frame ≡ b → cond b 0 (g + 1) ≡ f + 1 → g ≡ f
-        at true e h = absurd (omega (arith, h))
-        at false e h = omega (arith, h)
-
-    spaces_len : len (ledger_of v) ≡ len v.spaces
-    spaces_len = books_len holding_of v
 
 -- A frame that is unused costs units, and one that a page is put on isn't unused.
 pub unused_tells : (b : Bool) → nat_lt 0 (frame_for b) ≡ b
@@ -76,18 +64,9 @@ unused_tells false = refl
 
 pub unused_put : (l : Ledger) (s p z f g : ℕ) (h : Holding) → h.origin ≡ origin_of z f
     → is_unused (with_page l s p h) (origin_of z g) ≡ (is_unused (without_page l s p) (origin_of z g) && not (nat_eq f g))
-unused_put l s p z f g h origin = by_two g z
-    (λ zero_g. unused_is (with_page l s p h) z g ∙ ap (λ b. not (b || has_origin (with_page l s p h) (g + 1))) (are g z zero_g)
-    ∙ sym (ap (λ b. b && not (nat_eq f g)) (unused_is (without_page l s p) z g ∙ ap (λ b. not (b || has_origin (without_page l s p) (g + 1))) (are g z zero_g))))
-    (λ other. unused_is (with_page l s p h) z g ∙ (λ i. not (arent g z other i || origin_with l s p h (g + 1) i))
-    ∙ ap (λ b. not (b || has_origin (without_page l s p) (g + 1))) (ap (λ o. nat_eq o (g + 1)) origin ∙ has_frame z g f other) ∙ turned (nat_eq f g) (has_origin (without_page l s p) (g + 1))
-    ∙ sym (ap (λ b. b && not (nat_eq f g)) (unused_is (without_page l s p) z g ∙ ap (λ b. not (b || has_origin (without_page l s p) (g + 1))) (arent g z other))))
-  where
-    turned : (a b : Bool) → not (a || b) ≡ (not b && not a)
-    turned true true = refl
-    turned true false = refl
-    turned false true = refl
-    turned false false = refl
+unused_put l s p z f g h origin =
+    let now = unused_is (with_page l s p h) z g in let was = unused_is (without_page l s p) z g in let origins = origin_with l s p h (g + 1) in
+    grind (arith, nat_tests, now, was, origins, origin)
 
 -- where a page isn't there, the ledger without it is the same
 pub books_without : (v : LedgerView) (counts : List ℕ) (u n : ℕ) → IsBooked v counts u n → (s p : ℕ) → holds_space v s ≡ true → page_in v s p ≡ None
@@ -105,9 +84,9 @@ zero_books v counts u n kept s p y has absent zero_y bare =
     let nothing : class (length (lines_of y.overlay)) ≡ 0 = ap (λ o. class (length (lines_of o))) bare ∙ class_none in
     let none : length (lines_of y.overlay) ≡ 0 = ap (λ o. length (lines_of o)) bare in
     booked_put kept s p y low (inl zero_y)
-    (subst (λ c. AreBooks (with_page (ledger_of v) s p (holding_of v.zero_frame y)) v.zero_frame v.frames c u n) (held_zero v.zero_frame counts y.entry.frame zero_y)
-    (same_books (page_come (ledger_of v) v.zero_frame v.frames s p y.entry.frame (holding_of v.zero_frame y) refl low counts u n (books_without v counts u n kept s p has absent))
-    (omega (arith, free, nothing)) (omega (arith, none))))
+    (same_books (page_come (ledger_of v) v.zero_frame v.frames s p y.entry.frame (holding_of v.zero_frame y) refl low (books_without v counts u n kept s p has absent)
+    (sym (held_zero v.zero_frame counts y.entry.frame zero_y)) refl)
+    (omega (arith, free, nothing)) (omega (arith, none)))
 
 mapped_books : (k from : ℕ) (v : LedgerView) (counts : List ℕ) (u n s : ℕ) (y : PageView) → IsBooked v counts u n → holds_space v s ≡ true → AreFree v s from k → y.entry.frame ≡ v.zero_frame → y.overlay ≡ None
     → IsBooked (put_pages v s from k y) counts u n
@@ -118,13 +97,8 @@ mapped_books (suc k) from v counts u n s y kept has free zero_y bare =
     mapped_books k (from + 1) (put_page v s from y) counts u n s y
     (zero_books v counts u n kept s from y has (free from here) zero_y bare)
     ((keeps_page_put v s from y has).there s ∙ has)
-    (λ q within. page_put_beside v s from y s q (λ ss pp. differs q within pp) ∙ free q (wider q within)) zero_y bare
-  where
-    differs : (q : ℕ) → is_within (from + 1) k q ≡ true → q ≡ from → ⊥
-    differs q within same = let no : is_within (from + 1) k q ≡ false = grind (arith, nat_tests) in let e = sym within ∙ no in cc
-
-    wider : (q : ℕ) → is_within (from + 1) k q ≡ true → is_within from (suc k) q ≡ true
-    wider q within = grind (arith, nat_tests)
+    (λ q within. page_put_beside v s from y s q (λ ss pp. let e : is_within (from + 1) k q ≡ false = grind (arith, nat_tests) in let no = sym within ∙ e in cc)
+    ∙ free q (grind (arith, nat_tests, within))) zero_y bare
 
 -- the books after a call that may want memory
 pub on_either : {E : Type 0} (r : Result (Unit {0}) E) (old new made : LedgerView) (counts : List ℕ) (u n : ℕ) → IsBooked old counts u n → IsBooked made counts u n → OnOk r (new ≡ made) → OnErr r (new ≡ old)
@@ -171,16 +145,10 @@ new_books v counts frames z none frames_is zero_is counts_is room some few insid
 pub own_is : (v : LedgerView) → IsSound v → (s p : ℕ) → is_some (overlay_at v s p) ≡ has_own (ledger_of v) s p
 unfolding has_own
 own_is v sound s p =
-    at (page_in v s p) refl ∙ sym (ap (λ (o : Option Holding). option_map_or (λ holding. nat_lt 0 (length holding.own)) o false) (books_page holding_of v s p))
-  where
-    lines : (o : Option Entry) → ((e : Entry) → o ≡ Some e → 0 < length e.bits) → is_some o ≡ nat_lt 0 (length (lines_of o))
-    lines None h = refl
-    lines (Some e) h = let some = h e refl in let yes : nat_lt 0 (length e.bits) ≡ true = grind (arith, nat_tests) in sym yes
-
-    at : (o : Option PageView) → page_in v s p ≡ o
-        → is_some (option_and_then (λ (x : PageView). x.overlay) o) ≡ option_map_or (λ (holding : Holding). nat_lt 0 (length holding.own)) (option_map (holding_of v.zero_frame) o) false
-    at None is = refl
-    at (Some x) is = lines x.overlay (λ e o. (sound.lines s p x e is o).0)
+    let held = books_page holding_of v s p in by_option (page_in v s p)
+    (λ none. grind (arith, nat_tests, held, none))
+    (λ x is. by_option x.overlay (λ none. grind (arith, nat_tests, held, is, none))
+    (λ e over. let some = sound.lines s p x e is over in grind (arith, nat_tests, held, is, over, some)))
 
 -- and which page is the next one that has
 pub next_own : (v w : LedgerView) → v ≡ w → IsSound v → (s p : ℕ) (r : Option ℕ) → IsNextOverlaid v s p r → IsNextOwn (ledger_of w) s p r

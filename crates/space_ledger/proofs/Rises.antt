@@ -1,6 +1,6 @@
-use Rattle.space_ledger.proofs.Common.{◌≡◌, ℕ, ◌+◌, ◌-◌, ◌≤◌, Bool, true, false, cond, not, ◌&&◌, List, [], ◌∷◌, length, Some, IsSome, refl, option_and_then, sym, ap, subst, ◌∙◌, arith}
+use Rattle.space_ledger.proofs.Common.{◌≡◌, ℕ, ◌+◌, ◌-◌, ◌≤◌, Bool, cond, not, ◌&&◌, List, [], ◌∷◌, length, Some, IsSome, option_and_then, sym, ap, subst, ◌∙◌, arith}
 use Rattle.space_ledger.proofs.Pages.{AreLines}
-use Rattle.space_ledger.proofs.Views.{is_alone, class, units, with_lines, page_in, joined_same, Store, ledger_after, class_rises, store_joins, store_nothing, two_rises, units_joined, books_there, LedgerView, PageView, holding_of, ledger_of, lines_of, overlay_at}
+use Rattle.space_ledger.proofs.Views.{by_test, is_alone, class, units, with_lines, page_in, joined_same, Store, ledger_after, class_rises, store_joins, store_nothing, two_rises, units_joined, books_there, LedgerView, PageView, holding_of, ledger_of, lines_of, overlay_at}
 use Rattle.overlay_bits.specs.Lines as bits
 use Rattle.space_ledger.proofs.Seen.{some_is}
 
@@ -31,18 +31,17 @@ rises v s p lines own mark alone rise there own_is alone_is are_own are_lines ri
     own_x : own ≡ (holding_of v.zero_frame x.0).own
     own_x = own_is ∙ ap (λ o. lines_of (option_and_then (λ (y : PageView). y.overlay) o)) x.1
 
-    at : (b : Bool) → (not mark && is_alone (ledger_of v) s p) ≡ b → rise ≡ cond b 0 (class (length (with_lines own lines)) - class (length own))
-        → units (ledger_after (Store mark s ((p, lines) ∷ [])) (ledger_of v)) ≡ units (ledger_of v) + rise
-    at true e is = let same = ap units (store_nothing mark (ledger_of v) s p lines e) in omega (arith, same, is)
-    at false e is =
-        let joins = ap units (store_joins mark (ledger_of v) s p lines e) in
+    one : units (ledger_after (Store mark s ((p, lines) ∷ [])) (ledger_of v)) ≡ units (ledger_of v) + rise
+    one = let rise_l : rise ≡ cond (not mark && is_alone (ledger_of v) s p) 0 (class (length (with_lines own lines)) - class (length own)) =
+        rise_is ∙ ap (λ b. cond (not mark && b) 0 (class (length (bits.with_lines own lines)) - class (length own))) alone_is
+        ∙ ap (λ (l : List ℕ). cond (not mark && is_alone (ledger_of v) s p) 0 (class (length l) - class (length own))) (joined_same own lines are_own are_lines) in
+        by_test (not mark && is_alone (ledger_of v) s p)
+        (λ yes. let same = ap units (store_nothing mark (ledger_of v) s p lines yes) in grind (arith, same, rise_l, yes))
+        (λ no.
+        let joins = ap units (store_joins mark (ledger_of v) s p lines no) in
         let risen = units_joined (ledger_of v) s p lines (holding_of v.zero_frame x.0) (books_there holding_of v s p x.0 x.1) in
         let grows = class_rises own lines in
         let was = ap (λ (l : List ℕ). class (length l)) own_x in
         let now = ap (λ (l : List ℕ). class (length (with_lines l lines))) own_x in
-        omega (arith, joins, risen, grows, was, now, is)
-
-    one : units (ledger_after (Store mark s ((p, lines) ∷ [])) (ledger_of v)) ≡ units (ledger_of v) + rise
-    one = at (not mark && is_alone (ledger_of v) s p) refl
-        (rise_is ∙ ap (λ b. cond (not mark && b) 0 (class (length (bits.with_lines own lines)) - class (length own))) alone_is
-        ∙ ap (λ (l : List ℕ). cond (not mark && is_alone (ledger_of v) s p) 0 (class (length l) - class (length own))) (joined_same own lines are_own are_lines))
+        let by : rise ≡ class (length (with_lines own lines)) - class (length own) = grind (arith, rise_l, no) in
+        omega (arith, joins, risen, grows, was, now, by))

@@ -1,6 +1,6 @@
-use Rattle.space_ledger.proofs.Common.{◌⊎◌, ◌≡◌, ℕ, zero, suc, ◌+◌, ◌*◌, ◌≤◌, ◌<◌, ◌^◌, Bool, false, cond, List, length, refl, sym, ap, subst, ◌∙◌, arith, PAGE_END}
-use Rattle.space_ledger.proofs.Pages.{sharers_of, entry_at, PageEntry, PageRun}
-use Rattle.space_ledger.proofs.Views.{released_run, counted_run, counted_units, frame_units, held_by, released_by}
+use Rattle.space_ledger.proofs.Common.{◌≡◌, ℕ, zero, suc, ◌+◌, ◌*◌, ◌≤◌, ◌<◌, ◌^◌, Bool, false, cond, List, length, refl, sym, ap, subst, ◌∙◌, arith, PAGE_END}
+use Rattle.space_ledger.proofs.Pages.{entry_at, PageEntry, PageRun}
+use Rattle.space_ledger.proofs.Views.{counted_run, counted_units, frame_units, held_by, released_by}
 use Rattle.space_ledger.proofs.Booking.{few_units, held_zero, length_held, length_released, no_units, released_zero}
 
 -- The counts of a run, page by page, whether its pages come or go.
@@ -89,11 +89,3 @@ module _ {z : ℕ} {step : List ℕ → ℕ → List ℕ} {cost : List ℕ → L
         let most = units_most old run k in
         let few = is.few now new f in
         omega (arith, so_far, most, more_is, few, low)
-
--- the frame of the next one is one that some page names
-pub named_left : (z : ℕ) (old now : List ℕ) (units : ℕ) (run : PageRun) (k : ℕ) (entry : PageEntry) → HasCounted (released_by z) (units_released z) old now units run k
-    → entry ≡ entry_at run k → ((entry_at run k).frame ≡ z) ⊎ (0 < sharers_of (released_run z old run k) (entry_at run k).frame)
-    → (entry.frame ≡ z) ⊎ (0 < sharers_of now entry.frame)
-named_left z old now units run k entry h is named =
-    subst (λ (c : List ℕ). (entry.frame ≡ z) ⊎ (0 < sharers_of c entry.frame)) (sym h.counts)
-    (subst (λ (e : PageEntry). (e.frame ≡ z) ⊎ (0 < sharers_of (released_run z old run k) e.frame)) (sym is) named)

@@ -1,105 +1,55 @@
-use Rattle.space_ledger.proofs.Common.{◌≡◌, ℕ, zero, suc, ◌+◌, ◌≤◌, ◌<◌, Bool, Option, Some, None, is_some, IsSome, refl, sym, ap, subst, ◌∙◌, arith, get}
-use Rattle.space_ledger.proofs.Pages.{Pages, IsNextRun, IsRunFrom, entry_at, PageRun}
-use Rattle.space_ledger.proofs.Views.{SpaceTable, AwaitsRun, IsCounted, IsRunBelow, IsLeast, awaited, first_of, pages_below, pages_from, run_awaited}
-use Rattle.space_ledger.proofs.Parts.{by_end, outside, share_counted, share_entry, waits, waits_not}
+use Rattle.space_ledger.proofs.Common.{◌≡◌, ℕ, zero, suc, ◌+◌, ◌-◌, ◌≤◌, ◌<◌, Bool, cond, Some, None, refl, nat_tests, sym, ap, subst, ◌∙◌, arith, get, len}
+use Rattle.space_ledger.proofs.Pages.{alike, is_within, Pages, IsRunFrom, entry_at, PageRun}
+use Rattle.space_ledger.proofs.Views.{SpaceTable, IsCounted, run_awaited}
+use Rattle.space_ledger.proofs.Keys.{gone_at, put_at}
+use Rattle.space_ledger.proofs.Parts.{count_put, places, same_space, split}
 
--- Runs in a table of two parts: the pages below one, and those from it on.
+-- A run of pages that await no more.
 
--- the first run from the end on awaits, as far as it lies below a page
-run_waits : (t : Pages) (end : ℕ) (run : PageRun) → IsRunFrom t end run → IsRunFrom (pages_from t end) 0 run
-run_waits t end run r = record {
-  from = omega arith;
-  some = r.some;
-  none = λ q from before. by_end q end (λ low. waits_not t end q low) (λ high. waits t end q high ∙ r.none q high before);
-  has = λ i low. let from = r.from in waits t end (run.page + i) (omega (arith, from)) ∙ r.has i low;
-  low = r.low;
-  fits = r.fits;
-}
+-- what is at a page of a space then, and what awaits
+pub pages_run : (x : SpaceTable) (run : PageRun) (k q : ℕ) → get (run_awaited x run k).pages q ≡ cond (is_within run.page k q) (Some (entry_at run (q - run.page))) (get x.pages q)
+unfolding run_awaited
+pages_run x run zero q = grind (arith, nat_tests)
+pages_run x run (suc k) q = let before = pages_run x run k q in grind (arith, nat_tests, put_at, before)
 
-part_waits : (m : Pages) (run : PageRun) (n : ℕ) → IsRunFrom m 0 run → 0 < n → n ≤ run.n → IsRunFrom m 0 (first_of run n)
-part_waits m run n r some few = record {
-  from = r.from;
-  some = some;
-  none = r.none;
-  has = λ i low. r.has i (omega (arith, low, few));
-  low = let low = r.low in omega (arith, low, few);
-  fits = λ rises. let fits = r.fits rises in omega (arith, fits, few);
-}
+pub awaiting_run : (x : SpaceTable) (run : PageRun) (k q : ℕ) → get (run_awaited x run k).awaiting q ≡ cond (is_within run.page k q) None (get x.awaiting q)
+unfolding run_awaited
+awaiting_run x run zero q = grind (arith, nat_tests)
+awaiting_run x run (suc k) q = let before = awaiting_run x run k q in grind (arith, nat_tests, gone_at, before)
 
-pub cut_waits : (t : Pages) (end until : ℕ) (run : PageRun) → IsRunFrom t end run → (o : Option PageRun) → IsRunBelow run until o → AwaitsRun (pages_from t end) until o
-cut_waits t end until run r None high =
-    λ q low. by_end q end (λ before. waits_not t end q before) (λ from. waits t end q from ∙ r.none q from (omega (arith, low, high)))
-cut_waits t end until run r (Some part) is =
-    subst (λ (k : PageRun). IsRunFrom (pages_from t end) 0 k × (k.page + k.n ≤ until)) (sym is.0)
-    (part_waits (pages_from t end) run part.n (run_waits t end run r) is.1 is.2, is.3)
+mark_run : (x : SpaceTable) (run : PageRun) (k : ℕ) → (run_awaited x run k).speculating ≡ x.speculating
+unfolding run_awaited
+mark_run x run zero = refl
+mark_run x run (suc k) = mark_run x run k
 
-pub no_run : (t : Pages) (end until : ℕ) → IsNextRun t end None → AwaitsRun (pages_from t end) until None
-no_run t end until next q low = by_end q end (λ before. waits_not t end q before) (λ from. waits t end q from ∙ next q from)
+-- how many there are
+count_run : (x : SpaceTable) (run : PageRun) (k : ℕ) → ((i : ℕ) → i < k → get x.pages (run.page + i) ≡ None) → len (run_awaited x run k).pages ≡ len x.pages + k
+unfolding run_awaited
+count_run x run zero absent = omega arith
+count_run x run (suc k) absent =
+    let before = count_run x run k (λ i low. absent i (omega (arith, low))) in
+    let none = absent k (omega arith) in
+    grind (arith, nat_tests, count_put, pages_run, before, none)
 
--- The first pages that await become the space's.
-module _ (t : Pages) (end : ℕ) (run : PageRun) (first : IsRunFrom (pages_from t end) 0 run) where
-  -- where the space's pages end once so many of the run are among them
-  abbrev end_after : ℕ → ℕ
-  end_after zero = end
-  end_after (suc k) = run.page + k + 1
-
-  in_place : (i : ℕ) → i < run.n → end ≤ run.page + i
-  in_place i low = by_end (run.page + i) end
-      (λ before. let no = ap is_some (sym (first.has i low) ∙ waits_not t end (run.page + i) before) in cc)
-      (λ high. high)
-
-  has_at : (i : ℕ) → i < run.n → get t (run.page + i) ≡ Some (entry_at run i)
-  has_at i low = sym (waits t end (run.page + i) (in_place i low)) ∙ first.has i low
-
-  not_before : (q : ℕ) → IsSome (get (pages_from t end) q) → run.page ≤ q
-  not_before q some = by_end q run.page
-      (λ before. let no = sym some ∙ ap is_some (first.none q (omega arith) before) in cc)
-      (λ high. high)
-
-  least_at : (k : ℕ) → k < run.n → IsLeast (pages_from t (end_after k)) (run.page + k)
-  least_at zero low = record {
-    there = ap is_some (first.has 0 low);
-    least = λ q some. let from = not_before q some in omega (arith, from);
-  }
-  least_at (suc k) low = record {
-    there = ap is_some (waits t (run.page + k + 1) (run.page + suc k) (omega arith) ∙ has_at (suc k) low);
-    least = λ q some. by_end q (run.page + k + 1)
-        (λ before. let no = sym some ∙ ap is_some (waits_not t (run.page + k + 1) q before) in cc)
-        (λ high. omega (arith, high));
-  }
-
-  run_is : (mark : Bool) (k : ℕ) → k ≤ run.n
-      → ◌≡◌ {A = SpaceTable} (record { pages = pages_below t (end_after k); awaiting = pages_from t (end_after k); speculating = mark })
-      (run_awaited (record { pages = pages_below t end; awaiting = pages_from t end; speculating = mark }) run k)
-  unfolding run_awaited
-  run_is mark zero few = refl
-  run_is mark (suc k) few =
-      share_entry t (end_after k) (run.page + k) (entry_at run k) mark (least_at k (omega (arith, few))) (has_at k (omega (arith, few)))
-      ∙ ap (λ (s : SpaceTable). awaited s (run.page + k) (entry_at run k)) (run_is mark k (omega (arith, few)))
-
-  count_is : (count k : ℕ) → k ≤ run.n → IsCounted t end count → IsCounted t (end_after k) (count + k)
-  count_is count zero few kept = let same : count ≡ count + zero = omega arith in subst (IsCounted t end) same kept
-  count_is count (suc k) few kept =
-      let low = first.low in
-      let same : count + k + 1 ≡ count + suc k = omega arith in
-      subst (IsCounted t (run.page + k + 1)) same
-      (share_counted t (end_after k) (run.page + k) (count + k) (entry_at run k) (least_at k (omega (arith, few))) (has_at k (omega (arith, few))) (omega (arith, low, few))
-      (count_is count k (omega (arith, few)) kept))
-
-  ends : (n : ℕ) → 0 < n → end_after n ≡ run.page + n
-  ends zero some = absurd (omega (arith, some))
-  ends (suc k) some = omega arith
-
-  pub run_entry : (mark : Bool) (n : ℕ) → n ≡ run.n
-      → ◌≡◌ {A = SpaceTable} (record { pages = pages_below t (run.page + n); awaiting = pages_from t (run.page + n); speculating = mark })
-      (run_awaited (record { pages = pages_below t end; awaiting = pages_from t end; speculating = mark }) run run.n)
-  run_entry mark n is =
-      let last = ap (λ k. run.page + k) is ∙ sym (ends run.n first.some) in
-      (λ i. record { pages = pages_below t (last i); awaiting = pages_from t (last i); speculating = mark }) ∙ run_is mark run.n (omega arith)
-
-  pub run_counted : (count n : ℕ) → n ≡ run.n → IsCounted t end count → IsCounted t (run.page + n) (count + run.n)
-  run_counted count n is kept =
-      subst (λ k. IsCounted t k (count + run.n)) (ends run.n first.some ∙ ap (λ k. run.page + k) (sym is)) (count_is count run.n (omega arith) kept)
-
-  pub run_apart : (i : ℕ) → i < run.n → get (pages_below t end) (run.page + i) ≡ None
-  run_apart i low = outside t end (run.page + i) (in_place i low)
+-- the first run that awaits becomes the space's
+pub run_shared : (t now : Pages) (end count n : ℕ) (mark : Bool) (run : PageRun) (s : SpaceTable) → split t end mark ≡ s → IsRunFrom s.awaiting 0 run → n ≡ run.n → now ≡ t → IsCounted t end count
+    → (split now (run.page + n) mark ≡ run_awaited s run run.n) × IsCounted now (run.page + n) (count + run.n)
+run_shared t now end count n mark run s is first_s n_is now_is kept =
+    let first = subst (λ (k : SpaceTable). IsRunFrom k.awaiting 0 run) (sym is) first_s in
+    let whole : split t (run.page + run.n) mark ≡ run_awaited (split t end mark) run run.n = same_space
+    (alike _ _ (λ q.
+    let start = first.has 0 first.some in let has = first.has (q - run.page) in let none = first.none q in let back : run.page ≤ q → run.page + (q - run.page) ≡ q = λ le. omega (arith, le) in
+    grind (arith, nat_tests, places, pages_run, start, has, none, back)))
+    (alike _ _ (λ q.
+    let start = first.has 0 first.some in let none = first.none q in
+    grind (arith, nat_tests, places, awaiting_run, start, none)))
+    (sym (mark_run (split t end mark) run run.n)) in
+    let low = first.low in
+    let counted = count_run (split t end mark) run run.n (λ i less. let has = first.has i less in grind (arith, nat_tests, places, has)) in
+    let pages = kept.pages in (
+      (λ i. split (now_is i) (run.page + n_is i) mark) ∙ whole ∙ ap (λ k. run_awaited k run run.n) is,
+      subst (λ (m : Pages). IsCounted m (run.page + n) (count + run.n)) (sym now_is) (subst (λ k. IsCounted t (run.page + k) (count + run.n)) (sym n_is) (record {
+        pages = ap (λ k. k + run.n) pages ∙ sym counted ∙ sym (ap (λ (k : SpaceTable). len k.pages) whole);
+        reach = omega (arith, low);
+      })),
+    )

@@ -1,8 +1,8 @@
-use Rattle.space_ledger.proofs.Common.{◌≡◌, ℕ, zero, suc, ◌+◌, ◌-◌, ◌≤◌, ◌<◌, ◌⊎◌, ◌||◌, ◌&&◌, Bool, true, cond, not, nat_eq, nat_lt, List, length, Option, Some, None, refl, option_and_then, option_map, sym, ap, subst, ◌∙◌, arith}
+use Rattle.space_ledger.proofs.Common.{◌≡◌, ℕ, zero, suc, ◌+◌, ◌-◌, ◌≤◌, ◌<◌, ◌⊎◌, ◌&&◌, true, false, cond, not, nat_eq, nat_lt, List, Option, Some, None, refl, option_and_then, option_map, sym, ap, subst, ◌∙◌, arith, nat_tests}
 use Rattle.space_ledger.proofs.Pages.{sharers_of, IsRunFrom, entry_at, PageRun, Entry}
-use Rattle.space_ledger.proofs.Views.{has_origin, is_unused, after_cut, are_cut, cut_page, cut_pages, holds_space, page_in, counted_run, counted_units, frame_units, released_run, run_freed, LedgerView, PageView, ledger_of, origin_of, overlay_at, given_as, unused_is, GivesNothingUp, GivesUpAtLast, IsBareFrom, IsBareRun, IsBooked, entries_of, given_up, IsStartOf, are, arent}
+use Rattle.space_ledger.proofs.Views.{is_unused, after_cut, are_cut, cut_page, cut_pages, holds_space, page_in, counted_run, counted_units, frame_units, released_run, run_freed, LedgerView, PageView, ledger_of, origin_of, overlay_at, given_as, unused_is, GivesNothingUp, GivesUpAtLast, IsBareFrom, IsBareRun, IsBooked, entries_of, given_up, IsStartOf}
 use Rattle.ledger.specs.Units.{units as units_of}
-use Rattle.space_ledger.proofs.Booked.{in_pages}
+use Rattle.space_ledger.proofs.Booked.{names}
 use Rattle.space_ledger.proofs.Booking.{released_beside, by_two, unused_by_count}
 use Rattle.space_ledger.proofs.LedgerCalls.{Released, before_release, removed_call}
 use Rattle.space_ledger.proofs.Numbers.{entry_page}
@@ -14,12 +14,10 @@ use Rattle.space_ledger.proofs.Removing.{entry_of}
 pub unused_call : (v : LedgerView) (counts : List ℕ) (u n : ℕ) → IsBooked v counts u n → (f z count : ℕ) → f < v.frames → z ≡ v.zero_frame → (f ≡ z → ⊥)
     → count ≡ sharers_of counts f → nat_eq count 0 ≡ is_unused (ledger_of v) (origin_of v.zero_frame f)
 unused_call v counts u n kept f z count low zero_is other is =
-    ap (λ k. nat_eq k 0) is ∙ ap (λ (b : Bool). not b && nat_eq (sharers_of counts f) 0) (sym (arent f v.zero_frame (λ e. other (e ∙ sym zero_is))))
-    ∙ unused_by_count (ledger_of v) v.zero_frame v.frames f counts kept.books.counted low
+    let unused = unused_by_count (ledger_of v) v.zero_frame v.frames f counts kept.books.counted low in grind (arith, nat_tests, unused, zero_is, other, is)
 
-pub zero_used : (v : LedgerView) (f z : ℕ) → z ≡ v.zero_frame → f ≡ z → not (nat_eq f z) ≡ is_unused (ledger_of v) (origin_of v.zero_frame f)
-zero_used v f z zero_is same =
-    ap not (are f z same) ∙ ap (λ (b : Bool). not (b || has_origin (ledger_of v) (f + 1))) (sym (are f v.zero_frame (same ∙ zero_is))) ∙ sym (unused_is (ledger_of v) v.zero_frame f)
+pub zero_used : (v : LedgerView) (f z : ℕ) → z ≡ v.zero_frame → f ≡ z → false ≡ is_unused (ledger_of v) (origin_of v.zero_frame f)
+zero_used v f z zero_is same = let unused = unused_is (ledger_of v) v.zero_frame f in grind (arith, nat_tests, unused)
 
 -- so what is given up of a page is told by the count of its frame
 given_by : ℕ → List ℕ → ℕ → Option ℕ
@@ -33,9 +31,7 @@ given_by_count v counts u n kept x low =
 
 given_still : (z f : ℕ) (a b : List ℕ) → ((f ≡ z → ⊥) → sharers_of a f ≡ sharers_of b f) → given_by z a f ≡ given_by z b f
 unfolding given_by
-given_still z f a b same = by_two f z
-    (λ e. (λ i. cond (not (are f z e i) && nat_eq (sharers_of a f) 0) (Some f) None) ∙ (λ i. cond (not (sym (are f z e) i) && nat_eq (sharers_of b f) 0) (Some f) None))
-    (λ d. ap (λ c. cond (not (nat_eq f z) && nat_eq c 0) (Some f) None) (same d))
+given_still z f a b same = grind (arith, nat_tests, same)
 
 -- The first pages of a run that come before one with own lines.
 pub bare_of_run : (v : LedgerView) (s page most few : ℕ) (run : PageRun) (part : Option PageRun) → IsRunFrom (entries_of v s) page run → few ≤ run.n → few ≤ most
@@ -81,6 +77,14 @@ unfolding counted_run
 count_stays z counts run f n i low differ = after (λ m. sharers_of (released_run z counts run m) f ≡ sharers_of (released_run z counts run (suc i)) f) n i low refl
     (λ j later low_j so_far. released_beside z (released_run z counts run j) (entry_at run j).frame f (λ e. differ j later low_j (sym e)) ∙ so_far)
 
+-- what is so once all pages of a run went
+pub record AreFreed (v : LedgerView) (u n s : ℕ) (run : PageRun) (now : List ℕ) (units : ℕ) : Type 0 where
+  pub fits : units ≤ u
+  pub booked : IsBooked (cut_pages v s run.page run.n) now (u - units) n
+  pub count : units_of (ledger_of v) ≡ units_of (ledger_of (cut_pages v s run.page run.n)) + units
+  pub given : GivesUpAtLast v (cut_pages v s run.page run.n) s run
+  pub nothing : units ≡ 0 → GivesNothingUp v (cut_pages v s run.page run.n) s run
+
 -- What is left once so many pages of a run went.
 module _ (v : LedgerView) (counts : List ℕ) (u n : ℕ) (kept : IsBooked v counts u n) (s : ℕ) (run : PageRun) (has : holds_space v s ≡ true) (is : IsBareRun v s run) where
   abbrev left : ℕ → LedgerView
@@ -114,8 +118,7 @@ module _ (v : LedgerView) (counts : List ℕ) (u n : ℕ) (kept : IsBooked v cou
   step : (k : ℕ) → k < run.n → IsFreedAt k → Released (left k) (counts_left (suc k)) (u - freed k) n s (run.page + k) (freed_next k) (frame_of k)
   unfolding counted_run
   step k low so_far =
-      removed_call (left k) (counts_left k) (counts_left (suc k)) (u - freed k) n so_far.booked
-      s (run.page + k) v.zero_frame (freed_next k) (entry_at run k) (zero_is k) (entry_is k low) refl refl
+      removed_call so_far.booked s (run.page + k) v.zero_frame (freed_next k) (entry_at run k) (zero_is k) (entry_is k low) refl refl
       (ap (option_and_then (λ (x : PageView). x.overlay)) (after_cut k run.page v s has) ∙ is.bare k low)
 
   freed_at : (k : ℕ) → k ≤ run.n → IsFreedAt k
@@ -132,7 +135,7 @@ module _ (v : LedgerView) (counts : List ℕ) (u n : ℕ) (kept : IsBooked v cou
       }
 
   -- what is asked before the next frame is let go
-  pub before_at : (k : ℕ) → k < run.n → (frame_of k < length (counts_left k)) × ((frame_of k ≡ v.zero_frame) ⊎ (0 < sharers_of (counts_left k) (frame_of k)))
+  pub before_at : (k : ℕ) → k < run.n → (frame_of k ≡ v.zero_frame) ⊎ (0 < sharers_of (counts_left k) (frame_of k))
   before_at k low =
       before_release (left k) (counts_left k) (u - freed k) n (freed_at k (omega (arith, low))).booked
       s (run.page + k) v.zero_frame (entry_at run k) (zero_is k) (entry_is k low)
@@ -145,7 +148,7 @@ module _ (v : LedgerView) (counts : List ℕ) (u n : ℕ) (kept : IsBooked v cou
   frames_differ i j low_i low_j other isnt same =
       let one = page_is i low_i in
       let two = page_is j low_j in
-      let at = (kept.apart s).pages (run.page + j) (run.page + i) _ _ (in_pages v s (run.page + j) _ two.1) (in_pages v s (run.page + i) _ one.1) same (λ z. isnt (sym same ∙ z)) in
+      let at = (kept.apart s false false (run.page + j) (run.page + i) _ (names v s (run.page + j) _ two.1 ∙ ap Some same) (names v s (run.page + i) _ one.1) isnt).1 in
       other (omega (arith, at))
 
   -- So no later page changes the count of its frame.
@@ -177,14 +180,7 @@ module _ (v : LedgerView) (counts : List ℕ) (u n : ℕ) (kept : IsBooked v cou
       ∙ ap (λ k. cond (nat_lt 0 k) (Some (frame_of i)) None) (nothing_freed v.zero_frame counts run run.n i none low)
 
   -- The same of what the call has.
-  pub record AreFreed (now : List ℕ) (units : ℕ) : Type 0 where
-    pub fits : units ≤ u
-    pub booked : IsBooked (left run.n) now (u - units) n
-    pub count : units_of (ledger_of v) ≡ units_of (ledger_of (left run.n)) + units
-    pub given : GivesUpAtLast v (left run.n) s run
-    pub nothing : units ≡ 0 → GivesNothingUp v (left run.n) s run
-
-  pub run_removed : (z : ℕ) (now : List ℕ) (units : ℕ) → z ≡ v.zero_frame → now ≡ released_run z counts run run.n → units ≡ run_freed z counts run run.n → AreFreed now units
+  pub run_removed : (z : ℕ) (now : List ℕ) (units : ℕ) → z ≡ v.zero_frame → now ≡ released_run z counts run run.n → units ≡ run_freed z counts run run.n → AreFreed v u n s run now units
   run_removed z now units zero_same now_is units_is =
       let all = freed_at run.n (omega arith) in
       let now_here : counts_left run.n ≡ now = sym (now_is ∙ ap (λ k. released_run k counts run run.n) zero_same) in

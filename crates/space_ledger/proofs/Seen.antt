@@ -76,11 +76,7 @@ module _ {t : Inside} {v : LedgerView} (is : seen t ≡ v) (own : AreTables t) w
 
   -- an overlay stands under the name of its page
   pub overlay_is : (q p : ℕ) → IsSome (page_in v q p) → get t.overlays.entries (overlay_page q p) ≡ option_and_then (λ (x : PageView). x.overlay) (page_in v q p)
-  overlay_is q p there = at (page_in (plain t) q p) (sym (plain_some q p) ∙ there) ∙ sym (ap (option_and_then (λ (x : PageView). x.overlay)) (page_is q p))
-    where
-      at : (o : Option PageEntry) → IsSome o → get t.overlays.entries (overlay_page q p) ≡ option_and_then (λ (x : PageView). x.overlay) (option_map (seen_page t.overlays.entries q p) o)
-      at None h = cc
-      at (Some e) h = refl
+  overlay_is q p there = let page = page_is q p in grind (arith, page, there)
 
   -- a page that is there is in range; one that isn't has no overlay
   pub number_is : (q p : ℕ) → IsSome (page_in v q p) → q ≤ LAST_SPACE

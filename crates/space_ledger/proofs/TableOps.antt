@@ -1,10 +1,12 @@
-use Rattle.space_ledger.proofs.Common.{◌≡◌, ℕ, zero, suc, ◌+◌, ◌-◌, ◌*◌, ◌^◌, ◌≤◌, ◌<◌, ◌⊎◌, Bool, true, false, cond, Option, Some, None, is_some, IfSome, IsSome, Result, Ok, Err, OnOk, OnErr, refl, option_map, option_and_then, nat_cmp, sym, ap, subst, ◌∙◌, arith, inl, inr, nat_tests, nat_cmp_total, FinMap, empty, get, get-empty, insert, len, len-empty, len-insert, len-remove, remove, FRAME_UNITS, LAST_SPACE, PAGE_END, same_Some}
-use Rattle.space_ledger.proofs.Pages.{alike, by_key, get_other, get_same, insert_kept, removed_other, removed_same, get_viewed, viewed, viewed_empty, viewed_gone, viewed_put, AreCut, IsPut, holds, Pages, is_within, entry_at, PageEntry, PageRun, overlay_page, space_of, same_page, Entry, HasRoomFor}
+use Rattle.space_ledger.proofs.Common.{◌≡◌, ℕ, zero, suc, ◌+◌, ◌-◌, ◌*◌, ◌^◌, ◌≤◌, ◌<◌, ◌⊎◌, Bool, true, false, cond, Option, Some, None, is_some, IfSome, IsSome, Result, Ok, Err, OnOk, OnErr, refl, option_map, option_and_then, nat_cmp, sym, ap, subst, ◌∙◌, arith, inl, inr, nat_tests, nat_eq, nat_cmp_total, FinMap, empty, get, get-empty, insert, len, len-empty, len-insert, len-remove, remove, FRAME_UNITS, LAST_SPACE, PAGE_END, same_Some}
+use Rattle.space_ledger.proofs.Pages.{alike, by_key, get_other, get_same, insert_kept, removed_other, get_viewed, viewed, viewed_empty, viewed_gone, viewed_put, AreCut, IsPut, holds, Pages, is_within, entry_at, PageEntry, PageRun, overlay_page, space_of, same_page, Entry, HasRoomFor}
 use Rattle.space_ledger.proofs.Views.{are, arent, by_test, map_alike, none_by, Spaces, bare_space, cut_page, cut_pages, cut_space, holds_space, page_in, put_awaiting, put_mark, put_page, put_pages, put_shared, put_space, space_in, ArePut, are_put, beside_space, changed_there, in_space, keeps_put, page_absent, page_of, same_spaces, space_over, space_put, space_there, spaces_alike, mapped, mapped_bare, mapped_cut, mapped_cut_pages, mapped_none, mapped_put, mapped_space, Inside, AreNotOverlaid, HasMapped, OverlaidSpace, SpaceTable, adopted, awaited, marked, run_awaited, with_entry, without_pages, LedgerView, PageView, SpaceView, with_entry_at, with_overlay, with_run_shared, with_zero_pages, AreBare, AreFree, IsLined, AreTables, Overlays, plain, put_over, seen, seen_page, tables_of}
 use Rattle.overlay_address.specs.Names.{page_of as page_named}
 use Rattle.overlay_mapping_table.specs.Table.{Table}
 use Rattle.space_ledger.specs.Space.{without_page}
 use Rattle.space_ledger.proofs.Seen.{Shows, absent_is, awaiting_is, bare_at, empty_in, entry_at as entry_is, entry_there, found, held_at, low_is, mark_is, none_placed, overlay_is, page_at, plain_at, plain_some, some_is, space_is, there_is}
+use Rattle.space_ledger.proofs.Keys.{gone_at, put_at}
+use Rattle.space_ledger.proofs.RunParts.{pages_run}
 use Rattle.space_ledger.proofs.Removing.{without_at}
 use Rattle.space_ledger.proofs.Changing.{AreBeside, IsChange, WasAt, changed, made}
 
@@ -15,34 +17,18 @@ use Rattle.space_ledger.proofs.Changing.{AreBeside, IsChange, WasAt, changed, ma
 within_one : (p q : ℕ) → is_within p 1 q ≡ true → q ≡ p
 within_one p q within = grind (arith, nat_tests)
 
-one_within : (p : ℕ) → is_within p 1 p ≡ true
-one_within p = grind (arith, nat_tests)
-
 beside_one : (p q : ℕ) → is_within p 1 q ≡ false → q ≡ p → ⊥
-beside_one p q out same = let no : is_within p 1 q ≡ true = grind (arith, nat_tests) in let e = sym no ∙ out in cc
+beside_one p q out same = grind (arith, nat_tests)
 
 -- An overlay put in the place of that of a name, or taken away.
 
-over_other : (old : Overlays) (n : ℕ) (o : Option Entry) (m : ℕ) → (m ≡ n → ⊥) → get (put_over old n o) m ≡ get old m
-over_other old n None m d = removed_other old n m d
-over_other old n (Some e) m d = get_other old n m e d
-
-over_here : (old : Overlays) (n : ℕ) (o : Option Entry) → get (put_over old n o) n ≡ o
-over_here old n None = removed_same old n n refl
-over_here old n (Some e) = get_same old n n e refl
+over_at : (old : Overlays) (n : ℕ) (o : Option Entry) (m : ℕ) → get (put_over old n o) m ≡ cond (nat_eq m n) o (get old m)
+over_at old n None m = gone_at old n m
+over_at old n (Some e) m = put_at old n e m
 
 over_most : (old : Overlays) (n most : ℕ) (o : Option Entry) → len old ≤ most → IfSome o (λ e. IsSome (get old n) ⊎ (len old < most)) → len (put_over old n o) ≤ most
-over_most old n most None le room = at (is_some (get old n)) (len-remove nat_cmp_total old n)
-  where
-    at : (b : Bool) → len (remove old n) ≡ cond b (len old - 1) (len old) → len (remove old n) ≤ most
-    at true h = omega (arith, h, le)
-    at false h = omega (arith, h, le)
-over_most old n most (Some e) le room = at (get old n) (len-insert nat_cmp_total old n e) room
-  where
-    at : (o : Option Entry) → len (insert old n e) ≡ cond (is_some o) (len old) (len old + 1) → IsSome o ⊎ (len old < most) → len (insert old n e) ≤ most
-    at None h (inl some) = cc
-    at None h (inr less) = omega (arith, h, less)
-    at (Some x) h r = omega (arith, h, le)
+over_most old n most None le room = let less = len-remove nat_cmp_total old n in grind (arith, nat_tests, less)
+over_most old n most (Some e) le room = let more = len-insert nat_cmp_total old n e in grind (arith, nat_tests, more, room)
 
 -- Runs of pages that go, and that await no more, as a space put in.
 
@@ -69,17 +55,6 @@ shared_as f v s x run has is (suc k) bare entry =
     ∙ space_over v s mid _
     ∙ ap (λ (m : FinMap nat_cmp PageView). put_space v s (record { pages = m; awaiting = remove mid.awaiting p; speculating = mid.speculating }))
     (ap (insert mid.pages p) page ∙ sym (viewed_put f (run_awaited x run k).pages p e))
-
-run_beside : (x : SpaceTable) (run : PageRun) (n q : ℕ) → is_within run.page n q ≡ false → get (run_awaited x run n).pages q ≡ get x.pages q
-unfolding run_awaited
-run_beside x run zero q out = refl
-run_beside x run (suc n) q out = get_other (run_awaited x run n).pages (run.page + n) q (entry_at run n) (λ same. last q same out) ∙ run_beside x run n q (fewer q out)
-  where
-    last : (q : ℕ) → q ≡ run.page + n → is_within run.page (suc n) q ≡ false → ⊥
-    last q same out = let within : is_within run.page (suc n) q ≡ true = grind (arith, nat_tests) in let no = sym within ∙ out in cc
-
-    fewer : (q : ℕ) → is_within run.page (suc n) q ≡ false → is_within run.page n q ≡ false
-    fewer q out = grind (arith, nat_tests)
 
 -- no page is in a range of none
 no_range : (q : ℕ) → is_within 0 0 q ≡ false
@@ -119,10 +94,8 @@ module _ {t : Inside} {v : LedgerView} (show : Shows t v) (s : ℕ) where
     is = ap (λ m. mapped (seen_page t.overlays.entries) (record { spaces = m; frames = t.frames; zero_frame = t.zero })) (viewed_gone (λ (k : ℕ) (x : OverlaidSpace). x.table) t.spaces s)
         ∙ mapped_cut (seen_page t.overlays.entries) (plain t) s ∙ ap (λ (w : LedgerView). cut_space w s) show.is;
     own = record {
-      numbers = λ r some. by_key r s (λ same. let no = sym some ∙ ap is_some (removed_same t.spaces s r same) in cc) (λ d. show.own.numbers r (sym (ap is_some (removed_other t.spaces s r d)) ∙ some));
-      pages = λ r q z there some. by_key r s
-          (λ same. let no = ap is_some (sym there ∙ removed_same t.spaces s r same) in cc)
-          (λ d. show.own.pages r q z (sym (removed_other t.spaces s r d) ∙ there) some);
+      numbers = λ r some. let own = show.own.numbers r in grind (arith, nat_tests, gone_at, own, some);
+      pages = λ r q z there some. let own = show.own.pages r q z in grind (arith, nat_tests, gone_at, own, there, some);
       placed = λ m some.
           let old = show.own.placed m some in
           let z = found t (space_of m) (page_named m) old.1 in (
@@ -265,7 +238,7 @@ module _ {t : Inside} {v : LedgerView} (show : Shows t v) (s : ℕ) (x y : Overl
   run_made run is absent low cut = bare run.page run.n (with_run_shared v s run run.n)
       (shared_as seen_by v s x.table run has (space_is show.is show.own s x at) run.n (λ i few. nothing i few) (λ p e. refl) ∙ ap (λ k. put_space v s (mapped_space (seen_page t.overlays.entries s) k)) (sym is))
       (λ q within. let i = place q within in (i.2, ap (λ k. get t.overlays.entries (overlay_page s k)) (sym i.1) ∙ nothing (q - run.page) i.0))
-      (λ q out. ap (λ (k : SpaceTable). get k.pages q) is ∙ run_beside x.table run run.n q out) cut
+      (λ q out. ap (λ (k : SpaceTable). get k.pages q) is ∙ (let made = pages_run x.table run run.n q in grind (arith, made, out))) cut
     where
       nothing : (i : ℕ) → i < run.n → get t.overlays.entries (overlay_page s (run.page + i)) ≡ None
       nothing i few = none_placed show.is show.own s (run.page + i) has (omega (arith, few, low)) (absent_is show.is show.own s x at (run.page + i) (absent i few))
@@ -281,15 +254,18 @@ module _ {t : Inside} {v : LedgerView} (show : Shows t v) (s : ℕ) (x y : Overl
   -- its overlay put in or taken away
   module _ (p : ℕ) (o : Option Entry) (new : Table) (low : p < PAGE_END) (lined : IfSome o IsLined) (room : IfSome o (λ e. HasRoomFor t.overlays (overlay_page s p)))
       (entries : new.entries ≡ put_over t.overlays.entries (overlay_page s p) o) (same_room : new.room ≡ t.overlays.room) (put : IsPut x.overlaid p (is_some o) y.overlaid) where
+    new_at : (m : ℕ) → get new.entries m ≡ cond (nat_eq m (overlay_page s p)) o (get t.overlays.entries m)
+    new_at m = ap (λ k. get k m) entries ∙ over_at t.overlays.entries (overlay_page s p) o m
+
     now : get new.entries (overlay_page s p) ≡ o
-    now = ap (λ m. get m (overlay_page s p)) entries ∙ over_here t.overlays.entries (overlay_page s p) o
+    now = grind (arith, nat_tests, new_at)
 
     others : (m : ℕ) → (m ≡ overlay_page s p → ⊥) → get new.entries m ≡ get t.overlays.entries m
-    others m d = ap (λ k. get k m) entries ∙ over_other t.overlays.entries (overlay_page s p) o m d
+    others m d = grind (arith, nat_tests, new_at, d)
 
     over_beside : AreBeside t s p 1 new
     over_beside = record {
-      others = λ m. by_key m (overlay_page s p) (λ same. inr (p, one_within p, same)) (λ d. inl (others m d));
+      others = λ m. by_key m (overlay_page s p) (λ same. inr (p, grind (arith, nat_tests), same)) (λ d. inl (others m d));
       lined = λ m e is. by_key m (overlay_page s p)
           (λ same. subst (λ k. IfSome k IsLined) (sym now ∙ ap (get new.entries) (sym same) ∙ is) lined)
           (λ d. show.own.lined m e (sym (others m d) ∙ is));

@@ -1,4 +1,4 @@
-use Rattle.std.specs.Prelude.{◌≡◌, ℕ, suc, ◌+◌, ◌*◌, ◌^◌, ◌==◌, ◌≤◌, ◌<◌, ◌⊎◌, ◌||◌, if◌then◌else◌, true, false, List, [], ◌∷◌, length, IsTrue, Option, Some, None, IsSome}
+use Rattle.std.specs.Prelude.{◌≡◌, ℕ, suc, ◌+◌, ◌*◌, ◌^◌, ◌==◌, ◌≤◌, ◌<◌, ◌⊎◌, ◌||◌, if◌then◌else◌, Bool, true, false, List, [], ◌∷◌, length, IsTrue, Option, Some, None, IsSome}
 use Rattle.std.specs.Option.{option_and_then, option_map}
 use Rattle.std.specs.FinMap.{get, len}
 use Rattle.sizes.specs.declared.TheConstants.{FRAME_UNITS, LAST_SPACE, MOST_FRAMES, PAGE_END, PAGE_LINES}
@@ -99,11 +99,15 @@ abbrev pub NamesOnce : ℕ → Pages → Type 0
 NamesOnce zero_frame table =
     (p q : ℕ) (e f : PageEntry) → get table p ≡ Some e → get table q ≡ Some f → e.frame ≡ f.frame → (e.frame ≡ zero_frame → ⊥) → p ≡ q
 
--- nor in a space: by two of its pages, by two that await, or by one of either
-pub record IsApart (zero_frame : ℕ) (x : SpaceView) : Type 0 where
-  pub pages : (p q : ℕ) (a b : PageView) → get x.pages p ≡ Some a → get x.pages q ≡ Some b → a.entry.frame ≡ b.entry.frame → (a.entry.frame ≡ zero_frame → ⊥) → p ≡ q
-  pub waits : NamesOnce zero_frame x.awaiting
-  pub both : (p q : ℕ) (a : PageView) (b : PageEntry) → get x.pages p ≡ Some a → get x.awaiting q ≡ Some b → a.entry.frame ≡ b.frame → (a.entry.frame ≡ zero_frame → ⊥) → ⊥
+-- the frame that a space names at one of its pages, or at one that awaits
+abbrev pub frame_named : SpaceView → Bool → ℕ → Option ℕ
+frame_named x awaits page =
+    if awaits then option_map (λ (e : PageEntry). e.frame) (get x.awaiting page) else option_map (λ (y : PageView). y.entry.frame) (get x.pages page)
+
+-- nor by two of its pages, by two that await, or by one of either
+abbrev pub IsApart : ℕ → SpaceView → Type 0
+IsApart zero_frame x =
+    (a b : Bool) (p q f : ℕ) → frame_named x a p ≡ Some f → frame_named x b q ≡ Some f → (f ≡ zero_frame → ⊥) → (a ≡ b) × (p ≡ q)
 
 -- a frame is the zero frame, or no other page of the space names it
 abbrev pub IsFreeFor : LedgerView → ℕ → ℕ → ℕ → Type 0

@@ -12,11 +12,6 @@ use Rattle.ledger.specs.Changes.{with_line, with_lines}
 
 -- A line put among ascending ones.
 
-swap : (a b c : Bool) → (a || (b || c)) ≡ (b || (a || c))
-swap true true c = refl
-swap true false c = refl
-swap false b c = refl
-
 pub has_put : (lines : List ℕ) (line q : ℕ) → has_line (with_line lines line) q ≡ (nat_eq line q || has_line lines q)
 has_put [] line q = refl
 has_put (x ∷ lines) line q = at (nat_lt line x) (line == x) refl (has_put lines line q)
@@ -24,12 +19,8 @@ has_put (x ∷ lines) line q = at (nat_lt line x) (line == x) refl (has_put line
     at : (a b : Bool) → (line == x) ≡ b → has_line (with_line lines line) q ≡ (nat_eq line q || has_line lines q)
         → has_line (cond a (line ∷ (x ∷ lines)) (cond b (x ∷ lines) (x ∷ with_line lines line))) q ≡ (nat_eq line q || (nat_eq x q || has_line lines q))
     at true b e rest = refl
-    at false true e rest = let same : line ≡ x = grind (arith, nat_tests) in absorb (nat_eq line q) (nat_eq x q) (has_line lines q) (ap (λ n. nat_eq n q) same)
-      where
-        absorb : (a b c : Bool) → a ≡ b → (b || c) ≡ (a || (b || c))
-        absorb a true c h = ap (λ t. t || true) (sym h)
-        absorb a false c h = ap (λ t. t || c) (sym h)
-    at false false e rest = ap (λ b. nat_eq x q || b) rest ∙ swap (nat_eq x q) (nat_eq line q) (has_line lines q)
+    at false true e rest = grind (arith, nat_tests)
+    at false false e rest = grind (arith, nat_tests, rest)
 
 pub rise_put : (from : ℕ) (lines : List ℕ) (line end : ℕ) → Rise from lines end → from ≤ line → line < end → Rise from (with_line lines line) end
 rise_put from [] line end rise low inside = (low, omega (arith, inside))
@@ -48,26 +39,12 @@ unfolding with_lines
 joined_are [] lines rise inside = rise
 joined_are (line ∷ more) lines rise inside =
     joined_are more (with_line lines line) (rise_put 0 lines line PAGE_LINES rise (omega arith) (inside line (ap (λ b. b || has_line more line) (are line line refl))))
-    (λ q has. inside q (or_right (nat_eq line q) (has_line more q) has))
-  where
-    or_right : (a b : Bool) → b ≡ true → (a || b) ≡ true
-    or_right true b h = refl
-    or_right false b h = h
+    (λ q has. inside q (grind (arith, nat_tests, has)))
 
 pub joined_has : (more lines : List ℕ) (q : ℕ) → has_line (with_lines lines more) q ≡ (has_line lines q || has_line more q)
 unfolding with_lines
-joined_has [] lines q = none (has_line lines q)
-  where
-    none : (b : Bool) → b ≡ (b || false)
-    none true = refl
-    none false = refl
-joined_has (line ∷ more) lines q =
-    joined_has more (with_line lines line) q ∙ ap (λ b. b || has_line more q) (has_put lines line q) ∙ turn (nat_eq line q) (has_line lines q) (has_line more q)
-  where
-    turn : (a b c : Bool) → ((a || b) || c) ≡ (b || (a || c))
-    turn true true c = refl
-    turn true false c = refl
-    turn false b c = refl
+joined_has [] lines q = grind (arith, nat_tests)
+joined_has (line ∷ more) lines q = let rest = joined_has more (with_line lines line) q in let put = has_put lines line q in grind (arith, nat_tests, rest, put)
 
 are_both : (own lines : List ℕ) → AreLines (bits.with_lines own lines)
 are_both own lines = are_where (λ line. has_line own line || has_line lines line)

@@ -86,11 +86,6 @@ run_awaited space run (suc k) = awaited (run_awaited space run k) (run.page + k)
 abbrev pub marked : SpaceTable → Bool → SpaceTable
 marked space on = record { pages = space.pages; awaiting = space.awaiting; speculating = on }
 
--- the least page that awaits, with its entry, or that none does
-abbrev pub AwaitsFirst : Pages → Option (ℕ × PageEntry) → Type 0
-AwaitsFirst awaiting None = awaiting ≡ empty
-AwaitsFirst awaiting (Some found) = (get awaiting found.0 ≡ Some found.1) × IsLeast awaiting found.0
-
 -- the first pages that await, as many as lie in one run and below a page, or that none below it awaits
 abbrev pub AwaitsRun : Pages → ℕ → Option PageRun → Type 0
 AwaitsRun awaiting until None = (page : ℕ) → page < until → get awaiting page ≡ None

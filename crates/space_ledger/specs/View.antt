@@ -7,7 +7,7 @@ use Rattle.page_table.specs.declared.run.PageRun.{PageRun}
 use Rattle.overlay_mapping_table.specs.declared.entry.Entry.{Entry}
 use Rattle.unit_map.specs.declared.block.Block.{Block}
 use Rattle.ledger.specs.Ledger.{Holding, Ledger}
-use Rattle.space_maps.specs.Spaces.{SpaceOf, Spaces, page_in, put_pages, put_shared, space_in, turned_page}
+use Rattle.space_maps.specs.Spaces.{SpaceOf, Spaces, page_in, put_pages, put_shared, space_in, altered_page}
 use Rattle.space_maps.specs.Books.{books_of}
 
 -- What a space ledger is seen as.
@@ -44,19 +44,19 @@ ledger_of view = books_of holding_of view
 
 -- a page with another entry, with another frame, and with another overlay or none
 unfoldable pub with_entry_at : LedgerView → ℕ → ℕ → PageEntry → LedgerView
-with_entry_at view space page entry = turned_page (λ x. record { entry = entry; overlay = x.overlay }) view space page
+with_entry_at view space page entry = altered_page (λ x. record { entry = entry; overlay = x.overlay }) view space page
 
 unfoldable pub with_frame : LedgerView → ℕ → ℕ → ℕ → LedgerView
 with_frame view space page frame =
-    turned_page (λ x. record { entry = record { perms = x.entry.perms; frame = frame }; overlay = x.overlay }) view space page
+    altered_page (λ x. record { entry = record { perms = x.entry.perms; frame = frame }; overlay = x.overlay }) view space page
 
 unfoldable pub with_overlay : LedgerView → ℕ → ℕ → Option Entry → LedgerView
-with_overlay view space page overlay = turned_page (λ x. record { entry = x.entry; overlay = overlay }) view space page
+with_overlay view space page overlay = altered_page (λ x. record { entry = x.entry; overlay = overlay }) view space page
 
 -- a page with another block
 unfoldable pub with_block : LedgerView → ℕ → ℕ → Block → LedgerView
 with_block view space page block =
-    turned_page (λ x. record { entry = x.entry; overlay = option_map (λ (e : Entry). record { bits = e.bits; block = block }) x.overlay }) view space page
+    altered_page (λ x. record { entry = x.entry; overlay = option_map (λ (e : Entry). record { bits = e.bits; block = block }) x.overlay }) view space page
 
 -- pages on the zero frame, without own lines
 unfoldable pub with_zero_pages : LedgerView → ℕ → ℕ → ℕ → PageEntry → LedgerView

@@ -27,9 +27,9 @@ unused_is l z f = at (nat_eq f z)
 -- what is given up of a page is its frame, where that is unused
 pub given_as : (v : LedgerView) (x : PageView) → given_up v (Some x) ≡ cond (is_unused (ledger_of v) (origin_of v.zero_frame x.entry.frame)) (Some x.entry.frame) None
 given_as v x =
-    turned (nat_eq x.entry.frame v.zero_frame || has_origin (ledger_of v) (x.entry.frame + 1))
+    altered (nat_eq x.entry.frame v.zero_frame || has_origin (ledger_of v) (x.entry.frame + 1))
     ∙ ap (λ b. cond b (Some x.entry.frame) None) (sym (unused_is (ledger_of v) v.zero_frame x.entry.frame))
   where
-    turned : (b : Bool) → ◌≡◌ {A = Option ℕ} (cond b None (Some x.entry.frame)) (cond (not b) (Some x.entry.frame) None)
-    turned true = refl
-    turned false = refl
+    altered : (b : Bool) → ◌≡◌ {A = Option ℕ} (cond b None (Some x.entry.frame)) (cond (not b) (Some x.entry.frame) None)
+    altered true = refl
+    altered false = refl

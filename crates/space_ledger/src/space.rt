@@ -5,7 +5,7 @@ ghost use Rattle.std.specs.FinMap as map;
 ghost use Rattle.page_set.specs.Sets.{AreCut, IsPut, holds};
 ghost use Rattle.page_table.specs.Run.{IsNextRun, IsRunFrom};
 ghost use Rattle.page_table.specs.Table.{AreThere, IsFree};
-ghost use Rattle.space_ledger.specs.Space.{AreNotOverlaid, HasMapped, IsLeast, IsLeastFrom, IsLeastOverlaid, AwaitsFirst, AwaitsRun, adopted, awaited, marked, run_awaited, with_entry, without_pages};
+ghost use Rattle.space_ledger.specs.Space.{AreNotOverlaid, HasMapped, IsLeast, IsLeastFrom, IsLeastOverlaid, AwaitsRun, adopted, awaited, marked, run_awaited, with_entry, without_pages};
 
 use crate::runs::cut;
 use ovl_io::Perms;
@@ -44,6 +44,7 @@ impl Model for Space {
     ghost invariant = { λ s. IsCounted s.table.pages s.end s.count };
 }
 
+#[tactic(auto, using(crate::proofs::Parts::parts))]
 impl Space {
     /// A space without a page.
     pub(crate) fn new(alloc: Global) -> Space
@@ -114,7 +115,7 @@ impl Space {
         perms: Perms,
         frame: u32,
     ) -> Result<(), AllocError>
-        requires settled { self.old.table.awaiting ≡ map.empty }
+        requires none_awaits { self.old.table.awaiting ≡ map.empty }
         requires free { IsFree self.old.table.pages from n }
         requires low { from + n ≤ 2 ^ 36 }
         requires few { map.len self.old.table.pages + n < 2 ^ 32 }
@@ -144,16 +145,6 @@ impl Space {
         self.count -= n;
     }
 
-    /// The least page that awaits, with its entry. None exactly where none does.
-    pub(crate) fn first_awaiting(&self) -> Option<(u64, PageEntry)>
-        ensures { AwaitsFirst self.now.table.awaiting result }
-    {
-        match self.table.next_from(self.end) {
-            Some((page, entry)) => Some((page, entry)),
-            None => None,
-        }
-    }
-
     /// The first pages that await: as many as lie in one run and below `until`. None exactly where none below it awaits.
     pub(crate) fn next_run_awaiting(&self, until: u64) -> Option<PageRun>
         ensures { AwaitsRun self.now.table.awaiting until result }
@@ -175,7 +166,7 @@ impl Space {
     /// Takes a table in the place of that of a space that has no page: its pages await.
     pub(crate) fn adopt(&mut self, table: PageTable)
         requires empty { self.old.table.pages ≡ map.empty }
-        requires settled { self.old.table.awaiting ≡ map.empty }
+        requires none_awaits { self.old.table.awaiting ≡ map.empty }
         ensures { self.new.table ≡ adopted self.old.table table.pages }
     {
         self.table = table;

@@ -13,7 +13,7 @@ ghost use Rattle.ledger.specs.Events.{Store, ledger_after};
 ghost use Rattle.overlay_address.specs.Names.{page_of, space_of};
 ghost use Rattle.page_table.specs.Run.{IsRunFrom};
 ghost use Rattle.space_maps.specs.Spaces.{AreMapped, bare_space, cut_page, cut_pages, cut_space, holds_space, page_in, put_awaiting, put_mark, put_space, space_in};
-ghost use Rattle.space_ledger.specs.Space.{AwaitsFirst, IsLeast};
+ghost use Rattle.space_ledger.specs.Space.{IsLeast};
 ghost use Rattle.space_ledger.specs.View.{frame_at, frame_awaiting, ledger_of, lines_of, origin_of, overlay_at, with_block, with_frame, with_overlay, with_page_shared, with_run_shared, with_zero_pages};
 ghost use Rattle.space_ledger.specs.Calls.{AreBareBelow, AreBareOnZero, AreFree, AreSharedBare, GivesNothingUp, GivesUpAtLast, HasOverlayRoom, HasSpare, IsBareFrom, IsBareRun, IsFreeFor, IsNextOf, IsNextOwn, NamesOnce, RisesBeside, RisesBy, entries_of, given_up, held_at};
 
@@ -105,7 +105,7 @@ impl SpaceLedger {
     pub fn end_space(&mut self, space: u16)
         requires there { holds_space self.old space ≡ true }
         requires empty { (space_in self.old space).pages ≡ map.empty }
-        requires settled { (space_in self.old space).awaiting ≡ map.empty }
+        requires none_awaits { (space_in self.old space).awaiting ≡ map.empty }
         ensures { self.new ≡ cut_space self.old space }
     {
         self.tables.end(space);
@@ -122,7 +122,7 @@ impl SpaceLedger {
         perms: Perms,
     ) -> Result<(), AllocError>
         requires there { holds_space self.old space ≡ true }
-        requires settled { (space_in self.old space).awaiting ≡ map.empty }
+        requires none_awaits { (space_in self.old space).awaiting ≡ map.empty }
         requires free { AreFree self.old space page n }
         requires low { page + n ≤ PAGE_END }
         requires few { map.len (space_in self.old space).pages + n ≤ MOST_SPACE_PAGES }
@@ -199,13 +199,6 @@ impl SpaceLedger {
         is_only(&self.pool, self.tables.zero(), frame)
     }
 
-    /// The least page of a space that awaits `share_page`, with its entry. None exactly where none does. Costs a look-up.
-    pub fn first_awaiting(&self, space: u16) -> Option<(u64, PageEntry)>
-        ensures { AwaitsFirst (space_in self.now space).awaiting result }
-    {
-        self.tables.first_awaiting(space)
-    }
-
     /// How many frames there are.
     pub fn frames(&self) -> u32
         ensures { result ≡ self.now.frames }
@@ -232,7 +225,7 @@ impl SpaceLedger {
     /// A table with the entries of a space's pages, of which none awaits, or want of memory. Costs a step for each page.
     pub fn copy_table(&self, space: u16) -> Result<PageTable, AllocError>
         requires there { holds_space self.now space ≡ true }
-        requires settled { (space_in self.now space).awaiting ≡ map.empty }
+        requires none_awaits { (space_in self.now space).awaiting ≡ map.empty }
         ensures table { IfOk result (λ table. table.pages ≡ entries_of self.now space) }
         ensures once { IfOk result (λ table. NamesOnce self.now.zero_frame table.pages) }
     {
@@ -244,7 +237,7 @@ impl SpaceLedger {
     pub fn adopt_table(&mut self, to: u16, table: PageTable)
         requires there { holds_space self.old to ≡ true }
         requires empty { (space_in self.old to).pages ≡ map.empty }
-        requires settled { (space_in self.old to).awaiting ≡ map.empty }
+        requires none_awaits { (space_in self.old to).awaiting ≡ map.empty }
         requires once { NamesOnce self.old.zero_frame table.pages }
         ensures { self.new ≡ put_awaiting self.old to table.pages }
     {
@@ -273,7 +266,7 @@ impl SpaceLedger {
     /// page names it now. Takes no memory, and costs a look-up.
     pub fn set_frame(&mut self, space: u16, page: u64, frame: u32) -> Option<u32>
         requires there { IsSome (page_in self.old space page) }
-        requires settled { (space_in self.old space).awaiting ≡ map.empty }
+        requires none_awaits { (space_in self.old space).awaiting ≡ map.empty }
         requires inside { frame < self.old.frames }
         requires free { IsFreeFor self.old space page frame }
         ensures framed { self.new ≡ with_frame self.old space page frame }
@@ -383,7 +376,7 @@ impl SpaceLedger {
     /// space awaits. Costs two look-ups.
     pub fn zeros_from(&self, space: u16, page: u64) -> u32
         requires there { holds_space self.now space ≡ true }
-        requires settled { (space_in self.now space).awaiting ≡ map.empty }
+        requires none_awaits { (space_in self.now space).awaiting ≡ map.empty }
         ensures { AreBareOnZero self.now space page result }
     {
         match self.tables.next_run(space, page) {
@@ -414,7 +407,7 @@ impl SpaceLedger {
     /// lines. No page of the space awaits. Costs two look-ups.
     pub fn bare_run(&self, space: u16, page: u64, most: u32) -> Option<PageRun>
         requires there { holds_space self.now space ≡ true }
-        requires settled { (space_in self.now space).awaiting ≡ map.empty }
+        requires none_awaits { (space_in self.now space).awaiting ≡ map.empty }
         ensures { IsBareFrom self.now space page most result }
     {
         match self.tables.next_run(space, page) {
@@ -431,7 +424,7 @@ impl SpaceLedger {
     /// that they lie in, and a step for each of them where they aren't on the zero frame.
     pub fn remove_run(&mut self, space: u16, run: &PageRun) -> u32
         requires there { holds_space self.old space ≡ true }
-        requires settled { (space_in self.old space).awaiting ≡ map.empty }
+        requires none_awaits { (space_in self.old space).awaiting ≡ map.empty }
         requires bare { IsBareRun self.old space run.now }
         ensures gone { self.new ≡ cut_pages self.old space run.now.page run.now.n }
         ensures given { GivesUpAtLast self.old self.new space run.now }

@@ -8,9 +8,9 @@ ghost use Rattle.ledger.specs.Units.{overlaid_pages};
 ghost use Rattle.overlay_bits.specs.Lines.{AreLines};
 ghost use Rattle.overlay_mapping_table.specs.Table.{HasRoomFor};
 ghost use Rattle.page_table.specs.Run.{IsNextRun, IsRunFrom};
-ghost use Rattle.space_maps.specs.Spaces.{bare_space, cut_page, cut_pages, cut_space, holds_space, page_in, put_awaiting, put_mark, put_shared, put_space, space_in, turned_page};
+ghost use Rattle.space_maps.specs.Spaces.{bare_space, cut_page, cut_pages, cut_space, holds_space, page_in, put_awaiting, put_mark, put_shared, put_space, space_in, altered_page};
 ghost use Rattle.space_ledger.specs.Kept.{put_over};
-ghost use Rattle.space_ledger.specs.Space.{AwaitsFirst, AwaitsRun, IsLeast};
+ghost use Rattle.space_ledger.specs.Space.{AwaitsRun, IsLeast};
 ghost use Rattle.space_ledger.specs.View.{ledger_of, with_entry_at, with_overlay, with_run_shared, with_zero_pages};
 ghost use Rattle.space_ledger.specs.Calls.{AreBare, AreFree, HasOverlayRoom, HasSpare, IsLined, IsNextOf, IsNextOverlaid, IsSound, entries_of};
 
@@ -162,16 +162,6 @@ impl Tables {
         }
     }
 
-    /// The least page of a space that awaits, with its entry. None exactly where none does.
-    pub(crate) fn first_awaiting(&self, space: u16) -> Option<(u64, PageEntry)>
-        ensures { AwaitsFirst (space_in self.now space).awaiting result }
-    {
-        match self.spaces.get(space) {
-            Some(space) => space.first_awaiting(),
-            None => None,
-        }
-    }
-
     /// The first pages of a space that await: as many as lie in one run and below `until`. None exactly where none below it awaits.
     pub(crate) fn next_run_awaiting(&self, space: u16, until: u64) -> Option<PageRun>
         ensures { AwaitsRun (space_in self.now space).awaiting until result }
@@ -260,7 +250,7 @@ impl Tables {
         frame: u32,
     ) -> Result<(), AllocError>
         requires there { holds_space self.old space ≡ true }
-        requires settled { (space_in self.old space).awaiting ≡ map.empty }
+        requires none_awaits { (space_in self.old space).awaiting ≡ map.empty }
         requires free { AreFree self.old space from n }
         requires low { from + n ≤ PAGE_END }
         requires few { map.len (space_in self.old space).pages + n < 2 ^ 32 }
@@ -289,7 +279,7 @@ impl Tables {
     /// The table of a space of which no page awaits, or want of memory.
     pub(crate) fn copy(&self, space: u16) -> Result<PageTable, AllocError>
         requires there { holds_space self.now space ≡ true }
-        requires settled { (space_in self.now space).awaiting ≡ map.empty }
+        requires none_awaits { (space_in self.now space).awaiting ≡ map.empty }
         ensures { IfOk result (λ table. table.pages ≡ entries_of self.now space) }
     {
         match self.spaces.get(space) {
@@ -302,7 +292,7 @@ impl Tables {
     pub(crate) fn adopt(&mut self, space: u16, table: PageTable)
         requires there { holds_space self.old space ≡ true }
         requires empty { (space_in self.old space).pages ≡ map.empty }
-        requires settled { (space_in self.old space).awaiting ≡ map.empty }
+        requires none_awaits { (space_in self.old space).awaiting ≡ map.empty }
         ensures { self.new ≡ put_awaiting self.old space table.pages }
     {
         match self.spaces.get_mut(space) {

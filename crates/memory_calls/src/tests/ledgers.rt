@@ -1,6 +1,7 @@
-ghost use Rattle.std.specs.Prelude.{◌+◌, ◌≤◌, IsTrue};
+ghost use Rattle.std.specs.Prelude.{◌+◌, ◌≤◌, IsTrue, OnOk};
 ghost use Rattle.sizes.specs.declared.TheConstants.{PAGE_END};
 ghost use Rattle.space_ledger.specs.Calls.{AreFree};
+ghost use Rattle.memory_calls.proofs.Awaiting.{NoneAwaits};
 
 use ovl_io::Perms;
 use space_ledger::{SpaceLedger, class_of};
@@ -18,17 +19,22 @@ fn is_free(ledger: &SpaceLedger, space: u16, from: u64, n: u32) -> bool
     }
 }
 
-// Maps 16 pages of space 1 on the zero frame.
-fn map_zeros(rt: &impl Abort, ledger: &mut SpaceLedger) -> Result<(), Fail> {
-    assert!(rt; ledger.has_space(1) && ledger.first_awaiting(1).is_none());
+// Maps 16 pages of space 1, of which no page awaits, on the zero frame.
+fn map_zeros(rt: &impl Abort, ledger: &mut SpaceLedger) -> Result<(), Fail>
+    requires { NoneAwaits ledger.old }
+    ensures { OnOk result (NoneAwaits ledger.new) }
+{
+    assert!(rt; ledger.has_space(1));
     assert!(rt; ledger.pages(1) < 1000 && is_free(ledger, 1, 100, 16));
     ledger.map_zero(1, 100, 16, Perms::W)?;
     Ok(())
 }
 
 // They are there, and a copy of the table has as many.
-fn assert_zeros(rt: &impl Abort, ledger: &mut SpaceLedger) -> Result<(), Fail> {
-    assert!(rt; ledger.has_space(1) && ledger.first_awaiting(1).is_none());
+fn assert_zeros(rt: &impl Abort, ledger: &SpaceLedger) -> Result<(), Fail>
+    requires { NoneAwaits ledger.now }
+{
+    assert!(rt; ledger.has_space(1));
     assert_eq!(rt; ledger.zeros_from(1, 100), 16);
     assert!(rt; matches!(ledger.bare_run(1, 104, 7), Some(run) if run.page == 104 && run.n == 7));
     assert_eq!(rt; ledger.copy_table(1)?.len(), 16);
@@ -41,7 +47,7 @@ fn what_takes_memory_is_done_where_there_is_memory(rt: HostRuntime) -> Result<()
     assert!(rt; !ledger.has_space(1));
     ledger.add_space(1)?;
     map_zeros(&rt, &mut ledger)?;
-    assert_zeros(&rt, &mut ledger)
+    assert_zeros(&rt, &ledger)
 }
 
 #[test]

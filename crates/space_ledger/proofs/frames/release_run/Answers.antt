@@ -1,5 +1,5 @@
 use Rattle.space_ledger.proofs.Common.{sym, arith}
-use Rattle.space_ledger.proofs.RunCounts.{named_left, going, frame_there, none_counted, one_counted, units_small, zero_counted, zero_units}
+use Rattle.space_ledger.proofs.RunCounts.{going, frame_there, none_counted, one_counted, units_small, zero_counted, zero_units}
 use Rattle.space_ledger.proofs.frames.release_run.Goals as goal
 
 pub returns-then-run-zero-clause-released : goal.returns-then-run-zero-clause-released
@@ -15,11 +15,6 @@ pub release-units-requires-clause-there : goal.release-units-requires-clause-the
 release-units-requires-clause-there c =
     frame_there (going c.args.zero) c.args.pool.now c.releasing.pool c.releasing.units c.args.run.now c.releasing.i c.entry_at-entry.result c.releasing.invariant
     c.entry_at-entry.ensures (c.requires.there c.releasing.i c.releasing-test.true)
-
-pub release-units-requires-clause-some : goal.release-units-requires-clause-some
-release-units-requires-clause-some c =
-    named_left c.args.zero c.args.pool.now c.releasing.pool c.releasing.units c.args.run.now c.releasing.i c.entry_at-entry.result c.releasing.invariant
-    c.entry_at-entry.ensures (c.requires.some c.releasing.i c.releasing-test.true)
 
 pub overflow_add-units : goal.overflow_add-units
 overflow_add-units c =

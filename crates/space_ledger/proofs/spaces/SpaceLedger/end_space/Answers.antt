@@ -6,5 +6,5 @@ use Rattle.space_ledger.proofs.spaces.SpaceLedger.end_space.Goals as goal
 pub invariant_of-self : goal.invariant_of-self
 invariant_of-self c =
     subst (λ v. IsBooked v c.self.inside.pool c.self.inside.units c.self.inside.lines) (sym c.end.ensures)
-    (booked_lost c.self.inside.tables c.self.inside.pool c.self.inside.units c.self.inside.lines c.args.space c.self.invariant (ap (λ (v : LedgerView). holds_space v c.args.space) c.self.view_is ∙ c.requires.there)
+    (booked_lost c.self.invariant c.args.space (ap (λ (v : LedgerView). holds_space v c.args.space) c.self.view_is ∙ c.requires.there)
     (ap (λ (v : LedgerView). (space_in v c.args.space).pages) c.self.view_is ∙ c.requires.empty))

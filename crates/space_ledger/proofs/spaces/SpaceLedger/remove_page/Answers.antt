@@ -1,19 +1,12 @@
 use Rattle.space_ledger.proofs.Common.{◌≡◌, sym, ap, subst, ◌∙◌, ◌-◌}
-use Rattle.space_ledger.proofs.Views.{cut_one, there_space, cut_page, page_in, LedgerView, overlay_at, AreBare, IsBooked, given_up}
-use Rattle.space_ledger.proofs.Numbers.{entry_page}
-use Rattle.space_ledger.proofs.LedgerCalls.{Released, before_release, removed_call}
+use Rattle.space_ledger.proofs.Views.{cut_one, cut_page, page_in, LedgerView, overlay_at, AreBare, IsBooked, given_up}
+use Rattle.space_ledger.proofs.LedgerCalls.{Released, removed_call}
 use Rattle.space_ledger.proofs.Removing.{bare_one}
 use Rattle.space_ledger.proofs.spaces.SpaceLedger.remove_page.Goals as goal
 use Rattle.space_ledger.proofs.spaces.SpaceLedger.remove_page.Goals.{After-release-freed}
 
-pub remove_pages-requires-clause-there : goal.remove_pages-requires-clause-there
-remove_pages-requires-clause-there c = there_space c.self.inside.tables c.args.space c.args.page _ (entry_page c.self.inside.tables c.args.space c.args.page c.in-Some.old c.in-Some.ensures).1
-
 pub remove_pages-requires-clause-bare : goal.remove_pages-requires-clause-bare
 remove_pages-requires-clause-bare c = subst (λ (v : LedgerView). AreBare v c.args.space c.args.page 1) (sym c.self.view_is) (bare_one c.args.self.now c.args.space c.args.page c.requires.there c.requires.bare)
-
-pub release-freed-requires-clause-some : goal.release-freed-requires-clause-some
-release-freed-requires-clause-some c = (before_release c.self.inside.tables c.self.inside.pool c.self.inside.units c.self.inside.lines c.self.invariant c.args.space c.args.page c.zero-zero.result c.in-Some.old c.zero-zero.ensures.zero c.in-Some.ensures).1
 
 -- the view without the page, and what is kept beside the tables
 gone : (c : After-release-freed) → c.remove_pages.new.self ≡ cut_page c.self.inside.tables c.args.space c.args.page
@@ -21,7 +14,7 @@ gone c = c.remove_pages.ensures ∙ sym (cut_one c.self.inside.tables c.args.spa
 
 released : (c : After-release-freed) → Released c.self.inside.tables c.release-freed.new.pool c.self.inside.units c.self.inside.lines c.args.space c.args.page c.release-freed.result c.in-Some.old.frame
 released c =
-    removed_call c.self.inside.tables c.self.inside.pool c.release-freed.new.pool c.self.inside.units c.self.inside.lines c.self.invariant c.args.space c.args.page c.zero-zero.result c.release-freed.result c.in-Some.old c.zero-zero.ensures.zero c.in-Some.ensures
+    removed_call c.self.invariant c.args.space c.args.page c.zero-zero.result c.release-freed.result c.in-Some.old c.zero-zero.ensures.zero c.in-Some.ensures
     c.release-freed.ensures.released c.release-freed.ensures.units (ap (λ (v : LedgerView). overlay_at v c.args.space c.args.page) c.self.view_is ∙ c.requires.bare)
 
 pub overflow_sub-self : goal.overflow_sub-self

@@ -1,23 +1,12 @@
-use Rattle.space_ledger.proofs.Common.{◌≡◌, ◌+◌, ◌-◌, ◌<◌, ◌⊎◌, sym, ap, subst, ◌∙◌}
-use Rattle.space_ledger.proofs.Pages.{sharers_of, entry_at}
-use Rattle.space_ledger.proofs.Views.{holds_space, units, LedgerView, ledger_of, GivesNothingUp, GivesUpAtLast, IsBareRun, IsBooked, released_run}
-use Rattle.space_ledger.proofs.RunRemoved.{AreFreed, before_at, run_removed}
+use Rattle.space_ledger.proofs.Common.{◌+◌, ◌-◌, sym, ap, subst, ◌∙◌}
+use Rattle.space_ledger.proofs.Views.{holds_space, units, LedgerView, ledger_of, GivesNothingUp, GivesUpAtLast, IsBareRun, IsBooked}
+use Rattle.space_ledger.proofs.RunRemoved.{AreFreed, run_removed}
 use Rattle.space_ledger.proofs.spaces.SpaceLedger.remove_run.Goals as goal
 use Rattle.space_ledger.proofs.spaces.SpaceLedger.remove_run.Goals.{After-release_run-freed}
 
-pub release_run-freed-requires-clause-some : goal.release_run-freed-requires-clause-some
-release_run-freed-requires-clause-some c i low =
-    subst (λ z. ((entry_at c.args.run.now i).frame ≡ z) ⊎ (0 < sharers_of (released_run z c.self.inside.pool c.args.run.now i) (entry_at c.args.run.now i).frame))
-    (sym c.zero-zero.ensures.zero)
-    (before_at c.self.inside.tables c.self.inside.pool c.self.inside.units c.self.inside.lines c.self.invariant
-    c.args.space c.args.run.now
-    (ap (λ (v : LedgerView). holds_space v c.args.space) c.self.view_is ∙ c.requires.there)
-    (subst (λ (v : LedgerView). IsBareRun v c.args.space c.args.run.now) (sym c.self.view_is) c.requires.bare) i low).1
-
 -- what is kept beside the tables once the pages of the run went
-freed : (c : After-release_run-freed) → AreFreed c.self.inside.tables c.self.inside.pool c.self.inside.units c.self.inside.lines c.self.invariant c.args.space c.args.run.now
-    (ap (λ (v : LedgerView). holds_space v c.args.space) c.self.view_is ∙ c.requires.there)
-    (subst (λ (v : LedgerView). IsBareRun v c.args.space c.args.run.now) (sym c.self.view_is) c.requires.bare) c.release_run-freed.new.pool c.release_run-freed.result
+freed : (c : After-release_run-freed)
+    → AreFreed c.self.inside.tables c.self.inside.units c.self.inside.lines c.args.space c.args.run.now c.release_run-freed.new.pool c.release_run-freed.result
 freed c =
     run_removed c.self.inside.tables c.self.inside.pool c.self.inside.units c.self.inside.lines c.self.invariant c.args.space c.args.run.now
     (ap (λ (v : LedgerView). holds_space v c.args.space) c.self.view_is ∙ c.requires.there)

@@ -8,7 +8,7 @@ use Rattle.space_ledger.proofs.spaces.SpaceLedger.replace_overlay.Goals.{After-s
 overlaid : (c : After-set_overlay) → Overlaid c.self.inside.tables c.self.inside.pool c.self.inside.units c.self.inside.lines c.args.space c.args.page c.lines_in-before.result c.lines_in-after.result c.args.entry
 overlaid c =
     overlaid_call c.self.inside.tables c.self.inside.pool c.self.inside.units c.self.inside.lines c.self.invariant c.args.space c.args.page c.lines_in-before.result c.lines_in-after.result
-    c.args.overlay c.args.entry (ap (λ (v : LedgerView). is_some (page_in v c.args.space c.args.page)) c.self.view_is ∙ c.requires.there) 
+    c.args.overlay c.args.entry (ap (λ (v : LedgerView). is_some (page_in v c.args.space c.args.page)) c.self.view_is ∙ c.requires.there)
     (sym (ap (λ (v : LedgerView). overlay_at v c.args.space c.args.page) c.self.view_is ∙ c.requires.overlay))
     c.lines_in-before.ensures.count c.lines_in-after.ensures.count
 

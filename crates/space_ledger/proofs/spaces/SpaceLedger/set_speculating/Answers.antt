@@ -6,4 +6,4 @@ use Rattle.space_ledger.proofs.spaces.SpaceLedger.set_speculating.Goals as goal
 pub invariant_of-self : goal.invariant_of-self
 invariant_of-self c =
     subst (λ v. IsBooked v c.self.inside.pool c.self.inside.units c.self.inside.lines) (sym c.set_speculating.ensures)
-    (booked_mark c.self.inside.tables c.self.inside.pool c.self.inside.units c.self.inside.lines c.args.space c.args.on c.self.invariant (ap (λ (v : LedgerView). holds_space v c.args.space) c.self.view_is ∙ c.requires))
+    (booked_mark c.self.invariant c.args.space c.args.on (ap (λ (v : LedgerView). holds_space v c.args.space) c.self.view_is ∙ c.requires))

@@ -1,16 +1,11 @@
 use Rattle.space_ledger.proofs.Common.{◌<◌, sym, subst, len}
 use Rattle.space_ledger.proofs.Pages.{IsRunFrom}
 use Rattle.space_ledger.proofs.Views.{space_in, LedgerView, Still}
-use Rattle.space_ledger.proofs.Sharing.{IsSharing, bare_run, fewer, one_more}
+use Rattle.space_ledger.proofs.Sharing.{IsSharing, fewer, one_more}
 use Rattle.space_ledger.proofs.spaces.SpaceLedger.share_bare.Goals as goal
 
 pub sharing-init : goal.sharing-init
 sharing-init c = record { space = c.requires.space; bare = c.requires.bare; run = Still _ }
-
-pub share_run-requires-clause-bare : goal.share_run-requires-clause-bare
-share_run-requires-clause-bare c =
-    bare_run c.args.self.now c.sharing.self c.args.from c.args.to c.args.until c.in-Some.found c.requires.differ c.sharing.invariant
-    (subst (λ (v : LedgerView). IsRunFrom (space_in v c.args.to).awaiting 0 c.in-Some.found) c.self.view_is c.in-Some.ensures.0) c.in-Some.ensures.1
 
 pub sharing-smaller : goal.sharing-smaller
 sharing-smaller c =

@@ -1,7 +1,6 @@
-use Rattle.space_ledger.proofs.Common.{◌≡◌, ◌+◌, ◌-◌, ◌^◌, ◌<◌, ◌⊎◌, length, Some, sym, ap, subst, subst₂, ◌∙◌, is_some}
-use Rattle.space_ledger.proofs.Pages.{sharers_of}
+use Rattle.space_ledger.proofs.Common.{◌≡◌, ◌+◌, ◌<◌, Some, sym, ap, subst, subst₂, ◌∙◌, is_some}
 use Rattle.space_ledger.proofs.Views.{holding_at, holds_space, page_in, LedgerView, PageView, frame_at, frame_awaiting, ledger_of, overlay_at, with_page_shared, IsBooked}
-use Rattle.space_ledger.proofs.LedgerCalls.{before_share, shared_call, shared_frame, shared_holding, shared_view}
+use Rattle.space_ledger.proofs.LedgerCalls.{shared_call, shared_frame, shared_holding, shared_view}
 use Rattle.space_ledger.proofs.spaces.SpaceLedger.share_page.Goals as goal
 use Rattle.space_ledger.proofs.spaces.SpaceLedger.share_page.Goals.{After-share-entry}
 
@@ -12,19 +11,6 @@ from_page c =
     shared_frame c.self.inside.tables c.self.inside.pool c.self.inside.units c.self.inside.lines c.self.invariant c.args.from c.args.to c.args.page c.share-entry.result
     (ap (λ (v : LedgerView). is_some (page_in v c.args.from c.args.page)) c.self.view_is ∙ c.requires.there) c.share-entry.ensures.entry
     (subst (λ (v : LedgerView). frame_awaiting v c.args.to c.args.page ≡ frame_at v c.args.from c.args.page) (sym c.self.view_is) c.requires.frame)
-
--- what holding its frame asks, and what it leaves
-before : (c : After-share-entry) → (c.share-entry.result.frame < length c.self.inside.pool)
-    × ((c.share-entry.result.frame ≡ c.zero-zero.result) ⊎ (sharers_of c.self.inside.pool c.share-entry.result.frame < 2 ^ 32 - 1))
-before c =
-    before_share c.self.inside.tables c.self.inside.pool c.self.inside.units c.self.inside.lines c.self.invariant c.zero-zero.ensures.sound.few c.zero-zero.result
-    c.share-entry.result (from_page c).3 c.zero-zero.ensures.zero
-
-pub hold-added-requires-clause-there : goal.hold-added-requires-clause-there
-hold-added-requires-clause-there c = (before (goal.at.hold-added-requires-clause-there c).After-share-entry).0
-
-pub hold-added-requires-clause-few : goal.hold-added-requires-clause-few
-hold-added-requires-clause-few c = (before (goal.at.hold-added-requires-clause-few c).After-share-entry).1
 
 pub invariant_of-self : goal.invariant_of-self
 invariant_of-self c =

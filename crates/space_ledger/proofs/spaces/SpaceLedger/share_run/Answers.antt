@@ -1,7 +1,7 @@
 use Rattle.space_ledger.proofs.Common.{◌+◌, sym, ap, subst, ◌∙◌, arith}
 use Rattle.space_ledger.proofs.Pages.{IsRunFrom}
-use Rattle.space_ledger.proofs.Views.{AreBareBelow, IsBooked, LedgerView, holds_space, page_in, space_in, with_run_shared}
-use Rattle.space_ledger.proofs.RunBooks.{SharesRun, few_at, frame_low, pages_low, run_books, run_fits}
+use Rattle.space_ledger.proofs.Views.{AreBareBelow, IsBooked, LedgerView, holds_space, space_in}
+use Rattle.space_ledger.proofs.Sharing.{SharesRun, few_at, run_books, run_fits}
 use Rattle.space_ledger.proofs.spaces.SpaceLedger.share_run.Goals as goal
 use Rattle.space_ledger.proofs.spaces.SpaceLedger.share_run.Goals.{After-zero-zero}
 
@@ -14,17 +14,8 @@ known c = record {
   bare = subst (λ (v : LedgerView). AreBareBelow v c.args.from c.args.to (c.args.run.now.page + c.args.run.now.n)) (sym c.self.view_is) c.requires.bare;
 }
 
-pub share_run-requires-clause-low : goal.share_run-requires-clause-low
-share_run-requires-clause-low c = pages_low (known (goal.at.share_run-requires-clause-low c).After-zero-zero)
-
-pub hold_run-requires-clause-there : goal.hold_run-requires-clause-there
-hold_run-requires-clause-there c = frame_low (known (goal.at.hold_run-requires-clause-there c).After-zero-zero)
-
 pub hold_run-requires-clause-few : goal.hold_run-requires-clause-few
 hold_run-requires-clause-few c = few_at (known (goal.at.hold_run-requires-clause-few c).After-zero-zero) c.share_run.ensures.apart c.zero-zero.result c.zero-zero.ensures.zero
-
-pub hold_run-requires-clause-short : goal.hold_run-requires-clause-short
-hold_run-requires-clause-short c = let low = pages_low (known (goal.at.hold_run-requires-clause-short c).After-zero-zero) in omega (arith, low)
 
 pub overflow_add-self : goal.overflow_add-self
 overflow_add-self c =
@@ -34,10 +25,3 @@ pub invariant_of-self : goal.invariant_of-self
 invariant_of-self c =
     subst (λ (v : LedgerView). IsBooked v c.hold_run.new.pool (c.self.inside.units + c.hold_run.result) c.self.inside.lines) (sym c.share_run.ensures.shared)
     (run_books (known (goal.at.invariant_of-self c).After-zero-zero) c.share_run.ensures.apart c.zero-zero.result c.zero-zero.ensures.zero c.hold_run.new.pool c.hold_run.result c.hold_run.ensures.held c.hold_run.ensures.units)
-
-pub returns-clause-shared : goal.returns-clause-shared
-returns-clause-shared c = c.share_run.ensures.shared ∙ ap (λ (v : LedgerView). with_run_shared v c.args.to c.args.run.now c.args.run.now.n) c.self.view_is
-
-pub returns-clause-apart : goal.returns-clause-apart
-returns-clause-apart c i low =
-    ap (λ (v : LedgerView). page_in v c.args.to (c.args.run.now.page + i)) (sym c.self.view_is) ∙ c.share_run.ensures.apart i low

@@ -2,7 +2,7 @@ use Rattle.space_ledger.proofs.Common.{◌≡◌, false, nat_cmp, sym, ap, subst
 use Rattle.space_ledger.proofs.Views.{bare_space, put_space, AreTables, seen, OverlaidSpace, SpaceTable}
 use Rattle.space_ledger.proofs.Seen.{Shows, shows}
 use Rattle.space_ledger.proofs.Changing.{made}
-use Rattle.space_ledger.proofs.TableOps.{added_made, either, on_ok, on_err}
+use Rattle.space_ledger.proofs.TableOps.{added_made, either, on_ok}
 use Rattle.space_ledger.proofs.tables.Tables.add.Goals as goal
 use Rattle.space_ledger.proofs.tables.Tables.add.Goals.{After-insert}
 
@@ -21,7 +21,3 @@ invariant_of-self c = either c.insert.result c.insert.ensures.inserted c.insert.
 pub returns-clause-added : goal.returns-clause-added
 returns-clause-added c = on_ok c.insert.result c.insert.ensures.inserted
     (λ added. ap (λ (m : FinMap nat_cmp OverlaidSpace). seen (record c.self.inside { spaces = m })) added ∙ (done c).is)
-
-pub returns-clause-kept : goal.returns-clause-kept
-returns-clause-kept c = on_err c.insert.result c.insert.ensures.kept
-    (λ kept. ap (λ (m : FinMap nat_cmp OverlaidSpace). seen (record c.self.inside { spaces = m })) kept ∙ c.self.view_is)

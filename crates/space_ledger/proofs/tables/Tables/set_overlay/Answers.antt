@@ -2,7 +2,7 @@ use Rattle.space_ledger.proofs.Common.{IfSome, sym, ap, subst, ◌∙◌}
 use Rattle.space_ledger.proofs.Pages.{IsPut, HasRoomFor}
 use Rattle.space_ledger.proofs.Views.{with_overlay, put_over}
 use Rattle.space_ledger.proofs.Seen.{Shows, low_is, shows}
-use Rattle.space_ledger.proofs.Counting.{is_sound, room_for}
+use Rattle.space_ledger.proofs.Counting.{room_for}
 use Rattle.space_ledger.proofs.Changing.{made}
 use Rattle.space_ledger.proofs.TableOps.{over_made}
 use Rattle.space_ledger.proofs.tables.Tables.set_overlay.Goals as goal
@@ -25,6 +25,3 @@ invariant_of-self c = (done c).own
 
 pub returns-clause-overlay : goal.returns-clause-overlay
 returns-clause-overlay c = (done c).is
-
-pub returns-clause-sound : goal.returns-clause-sound
-returns-clause-sound c = is_sound (shows c.self.view_is c.self.invariant)

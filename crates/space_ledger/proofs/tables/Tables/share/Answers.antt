@@ -1,15 +1,12 @@
-use Rattle.space_ledger.proofs.Common.{is_some, sym, ap, subst, arith, ◌∙◌, get}
+use Rattle.space_ledger.proofs.Common.{ap, subst, ◌∙◌}
 use Rattle.space_ledger.proofs.Pages.{IsPut}
 use Rattle.space_ledger.proofs.Views.{put_shared, put_over}
-use Rattle.space_ledger.proofs.Seen.{Shows, absent_is, none_placed, room_in, shows}
+use Rattle.space_ledger.proofs.Seen.{Shows, shows}
 use Rattle.space_ledger.proofs.Counting.{room_spare}
 use Rattle.space_ledger.proofs.Changing.{made}
 use Rattle.space_ledger.proofs.TableOps.{shared_made}
 use Rattle.space_ledger.proofs.tables.Tables.share.Goals as goal
 use Rattle.space_ledger.proofs.tables.Tables.share.Goals.{After-put}
-
-pub share-entry-requires-clause-few : goal.share-entry-requires-clause-few
-share-entry-requires-clause-few c = room_in c.self.view_is c.self.invariant c.args.space c.in-Some.space.now c.in-Some.ensures.value 1 (omega arith)
 
 pub put-requires-clause-room : goal.put-requires-clause-room
 put-requires-clause-room c = room_spare (shows c.self.view_is c.self.invariant) c.of.result c.args.overlay c.requires.room
@@ -28,8 +25,3 @@ invariant_of-self c = (done c).own
 
 pub returns-clause-shared : goal.returns-clause-shared
 returns-clause-shared c = (done c).is
-
-pub put-requires-clause-had : goal.put-requires-clause-had
-put-requires-clause-had c =
-    sym (ap is_some (ap (get c.self.inside.overlays.entries) c.of.ensures.name
-    ∙ none_placed c.self.view_is c.self.invariant c.args.space c.args.page c.requires.there c.requires.low (absent_is c.self.view_is c.self.invariant c.args.space c.in-Some.space.now c.in-Some.ensures.value c.args.page c.share-entry.ensures.apart)))

@@ -1,10 +1,7 @@
-use Rattle.space_ledger.proofs.Common.{◌+◌, arith}
-use Rattle.space_ledger.proofs.Seen.{absent_is, room_in, shows}
+use Rattle.space_ledger.proofs.Common.{◌+◌}
+use Rattle.space_ledger.proofs.Seen.{absent_is, shows}
 use Rattle.space_ledger.proofs.TableOps.{run_made}
 use Rattle.space_ledger.proofs.tables.Tables.share_run.Goals as goal
-
-pub share_run-requires-clause-few : goal.share_run-requires-clause-few
-share_run-requires-clause-few c = let low = c.requires.low in room_in c.self.view_is c.self.invariant c.args.space c.in-Some.space.now c.in-Some.ensures.value c.args.run.now.n (omega (arith, low))
 
 pub invariant_of-self : goal.invariant_of-self
 invariant_of-self c = (run_made (shows c.self.view_is c.self.invariant) c.args.space c.in-Some.space.now c.share_run.new.self c.in-Some.ensures.value c.args.run.now c.share_run.ensures.shared c.share_run.ensures.apart c.requires.low c.share_run.ensures.overlaid).own
