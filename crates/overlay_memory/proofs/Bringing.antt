@@ -13,7 +13,7 @@ use Rattle.overlay_memory.proofs.Joining.{joined_has, with_own_line}
 use Rattle.overlay_memory.specs.StateMemory.{alone_kept, base_kept, beside_both, beside_put, beside_same, memory_kept, writable_at, writable_same, writes_same}
 use Rattle.space_maps.specs.Books.{books_put_page}
 use Rattle.space_maps.specs.Laws.{changed_there, page_put_beside, page_put_here}
-use Rattle.space_maps.specs.Spaces.{page_in, put_page, space_in, turned_page}
+use Rattle.space_maps.specs.Spaces.{page_in, put_page, space_in, altered_page}
 
 -- Lines that join a page's own before they are written.
 
@@ -30,12 +30,12 @@ brought_none v s = record { memory = refl; base = refl; ledger = refl; beside = 
 -- what is brought, where the frame is written and where it isn't
 brings_nothing : (v : State) (s p : ℕ) (lines : List ℕ) → writes_frame v s p ≡ true → with_brought v s p lines ≡ v
 unfolding with_brought
-brings_nothing v s p lines frame = ap (λ b. cond b v (turned_page (brought lines) v s p)) frame
+brings_nothing v s p lines frame = ap (λ b. cond b v (altered_page (brought lines) v s p)) frame
 
 brings : (v : State) (s p : ℕ) (lines : List ℕ) (x : PageState) → page_in v s p ≡ Some x → writes_frame v s p ≡ false
     → with_brought v s p lines ≡ put_page v s p (brought lines x)
 unfolding with_brought
-brings v s p lines x there frame = ap (λ b. cond b v (turned_page (brought lines) v s p)) frame ∙ changed_there (brought lines) v s p x there
+brings v s p lines x there frame = ap (λ b. cond b v (altered_page (brought lines) v s p)) frame ∙ changed_there (brought lines) v s p x there
 
 -- a page that is there, in a space of a mark
 module _ (v : State) (s p : ℕ) (lines : List ℕ) (x : PageState) (there : page_in v s p ≡ Some x) where

@@ -15,7 +15,7 @@ use Rattle.space_maps.specs.Spaces.{cut_page, cut_pages, cut_space, holds_space,
 -- what holds while pages go
 pub record IsEmptying (old now : State) (space : ℕ) : Type 0 where
   pub there : holds_space now space ≡ true
-  pub settled : (space_in now space).awaiting ≡ empty
+  pub none_awaits : (space_in now space).awaiting ≡ empty
   pub cut : cut_space now space ≡ cut_space old space
   pub rest : emptied_space now space ≡ emptied_space old space
 
@@ -61,7 +61,7 @@ no_pages_left v s there none = sym (λ i. record { spaces = kept i; frames = v.f
 emptying_page : (old now : State) (s p : ℕ) → IsEmptying old now s → IsEmptying old (cut_page now s p) s
 emptying_page old now s p so_far = record {
   there = there_of now s p;
-  settled = ap (λ (x : SpaceState). x.awaiting) (pages_left now s p) ∙ so_far.settled;
+  none_awaits = ap (λ (x : SpaceState). x.awaiting) (pages_left now s p) ∙ so_far.none_awaits;
   cut = cut_of now s p ∙ so_far.cut;
   rest = rest_of now s p ∙ so_far.rest;
 }
@@ -117,6 +117,6 @@ emptied old now s so_far none = record {
   state = no_pages_left now s so_far.there (none_left now s none) ∙ so_far.rest;
   there = so_far.there;
   empty = none_left now s none;
-  settled = so_far.settled;
+  none_awaits = so_far.none_awaits;
   cut = so_far.cut;
 }

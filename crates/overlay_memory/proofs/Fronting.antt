@@ -1,6 +1,7 @@
 use Rattle.std.proofs.Common.{◌≡◌, ℕ, zero, suc, ◌*◌, ◌/◌, ◌%◌, true, List, take, drop, length, get_or, replicate, Option, Some, None, is_some, sym, ap, subst, ◌∙◌, refl, arith}
 use Rattle.std.proofs.lemmas.Option.{none-some}
 use Rattle.sizes.specs.declared.TheConstants.{LINE_BYTES, PAGE_BYTES, PAGE_LINES}
+use Rattle.std.specs.Prelude.{slice_set, false}
 use Rattle.std.specs.Option.{option_map}
 use Rattle.std.specs.FinMap.{get}
 use Rattle.std.proofs.lemmas.List.{get_or-set_other, get_or-set_same, length-set, take_all}
@@ -11,14 +12,15 @@ use Rattle.ovl_io.specs.Memory.{bytes_at}
 use Rattle.overlay_memory.specs.Access.{IsFoundIn}
 use Rattle.overlay_memory.specs.Code.{IsCodeLine}
 use Rattle.overlay_memory.specs.Fronts.{AreFronts, IsClear, IsHead, head_of, held_of, with_head}
-use Rattle.overlay_memory.specs.Pieces.{IsPermitted}
+use Rattle.overlay_memory.specs.Pieces.{IsLacking, IsPermitted}
 use Rattle.overlay_memory.proofs.Counting.{allows_is}
 use Rattle.overlay_memory.proofs.Pieced.{found_piece}
 use Rattle.overlay_pages.specs.Lines.{line_in_page}
+use Rattle.overlay_memory.specs.PageLaws.{some_is}
 use Rattle.overlay_memory.specs.StateMemory.{memory_at}
 use Rattle.overlay_memory.specs.View.{AreTrue, cached_in, cached_page, view_of}
 use Rattle.overlay_memory.specs.declared.fronts.Fronts.{Fronts}
-use Rattle.overlay_pages.specs.Spots.{FindsPage, IsFoundAt, IsFoundPage, IsFoundPageAt}
+use Rattle.overlay_pages.specs.Spots.{FindsPage, IsBroughtTo, IsFoundAt, IsFoundPage, IsFoundPageAt}
 use Rattle.overlay_pages.specs.State.{PageState, State, memory_of, seen_page}
 use Rattle.overlay_pages.specs.View.{IsJoined, MemoryView, page_state, state_of}
 use Rattle.overlay_pages.specs.ViewLaws.{state_page_there}
@@ -155,6 +157,58 @@ module _ (view : MemoryView) (s p : ℕ) (result : Option FoundPage) (t u : Bare
         (λ other. beside set found other (sym (get_or-set_other fronts.heads (p % SETS) set result None other) ∙ at));
   }
 
+-- A page that was found: what holds of a line of it holds of that of the address, and whether it may be used so.
+module _ (view : MemoryView) (s address : ℕ) (page : FoundPage) (at : IsFoundPageAt view s (address / PAGE_BYTES) page) where
+  pub at_address : (line : ℕ) → line ≡ address / LINE_BYTES % PAGE_LINES → (P : ℕ → ℕ → ℕ → Type 0) → P page.space page.page line
+      → P s (address / PAGE_BYTES) (address / LINE_BYTES % PAGE_LINES)
+  at_address line line_is P holds =
+      subst (λ n. P n (address / PAGE_BYTES) (address / LINE_BYTES % PAGE_LINES)) at.space_is
+      (subst (λ n. P page.space n (address / LINE_BYTES % PAGE_LINES)) at.page_is (subst (P page.space page.page) line_is holds))
+
+  pub of_address : (line : ℕ) → line ≡ address / LINE_BYTES % PAGE_LINES → (P : ℕ → ℕ → ℕ → Type 0)
+      → P s (address / PAGE_BYTES) (address / LINE_BYTES % PAGE_LINES) → P page.space page.page line
+  of_address line line_is P holds =
+      subst (P page.space page.page) (sym line_is) (subst (λ n. P page.space n (address / LINE_BYTES % PAGE_LINES)) (sym at.page_is)
+      (subst (λ n. P n (address / PAGE_BYTES) (address / LINE_BYTES % PAGE_LINES)) (sym at.space_is) holds))
+
+  pub may_be_used : (need : ℕ) → IsJoined view → permits page.perms.0 need ≡ true → IsPermitted view s need address
+  unfolding page_state
+  may_be_used need joined may = record {
+    page = page_state view.store at.is.x;
+    there = page_there view s (address / PAGE_BYTES) page at;
+    may = ap (λ (k : Perms). permits k.0 need) at.is.perms ∙ may;
+    joined = joined;
+  }
+
+  pub mayn_be_used : (need : ℕ) → permits page.perms.0 need ≡ false → IsLacking view s need address
+  unfolding page_state
+  mayn_be_used need mayn = record {
+    page = page_state view.store at.is.x;
+    there = page_there view s (address / PAGE_BYTES) page at;
+    lacks = ap (λ (k : Perms). permits k.0 need) at.is.perms ∙ mayn;
+  }
+
+-- A line of it was brought: it stays at the front of its list.
+pub brought_fronts : (old new : MemoryView) (t : BareTranslations) (fronts : Fronts) (page found : FoundPage) (line p : ℕ) → AreFronts old t fronts → IsFront page.space page.page t
+    → IsBroughtTo old.table new.table page line found → found.page ≡ p → AreFronts new t (with_head p (Some found) fronts)
+brought_fronts old new t fronts page found line p are front to p_is = record {
+  count = length-set fronts.heads (p % SETS) (Some found) ∙ are.count;
+  heads = λ set other at. by_key set (p % SETS)
+      (λ same.
+      let is : found ≡ other = some_is found other
+      (sym (get_or-set_same fronts.heads (p % SETS) (Some found) None (omega (arith, are.count))) ∙ ap (λ n. get_or (slice_set fronts.heads (p % SETS) (Some found)) n None) (sym same) ∙ at) in
+      subst (λ (f : FoundPage). (f.page % SETS ≡ set) × IsHead new.table t f) is
+      (ap (λ n. n % SETS) p_is ∙ sym same, record { is = to.is; front = subst (λ n. IsFront n found.page t) (sym to.space_is) (subst (λ n. IsFront page.space n t) (sym to.page_is) front) }))
+      (λ apart.
+      let head = are.heads set other (sym (get_or-set_other fronts.heads (p % SETS) set (Some found) None apart) ∙ at) in (
+        head.0,
+        record {
+          is = to.others other (λ ss pp. apart (sym head.0 ∙ ap (λ n. n % SETS) (pp ∙ sym to.page_is ∙ p_is))) head.1.is;
+          front = head.1.front;
+        },
+      ));
+}
+
 -- The line of an address, whole.
 pub line_bytes : (view : MemoryView) (address : ℕ) (found : FoundLine) (line : List ℕ) → IsFoundIn view found.space address found
     → option_map (λ (x : PageState). line_in_page x.lines found.line) (page_in (state_of view) found.space found.page) ≡ Some line → length line ≡ LINE_BYTES
@@ -181,20 +235,10 @@ module _ (view : MemoryView) (s address line : ℕ) (page : FoundPage) (found : 
   pub line_there : IsFoundIn view s address found
   line_there = record { space_is = line_space; page_is = it.page_is ∙ at.page_is; line_is = it.line_is ∙ line_is; is = it.is }
 
-  -- what holds of the line of the page holds of that of the address
-  pub at_address : (P : ℕ → ℕ → ℕ → Type 0) → P page.space page.page line → P s (address / PAGE_BYTES) (address / LINE_BYTES % PAGE_LINES)
-  at_address P holds =
-      subst (λ n. P n (address / PAGE_BYTES) (address / LINE_BYTES % PAGE_LINES)) at.space_is
-      (subst (λ n. P page.space n (address / LINE_BYTES % PAGE_LINES)) at.page_is (subst (P page.space page.page) line_is holds))
-
-  pub may_be_used : (need : ℕ) → IsJoined view → permits page.perms.0 need ≡ true → IsPermitted view s need address
-  unfolding page_state
-  may_be_used need joined may = record {
-    page = page_state view.store at.is.x;
-    there = page_there view s (address / PAGE_BYTES) page at;
-    may = ap (λ (k : Perms). permits k.0 need) at.is.perms ∙ may;
-    joined = joined;
-  }
+  -- what holds of the line of the address holds of the one that was found
+  pub of_line : (P : ℕ → ℕ → ℕ → Type 0) → P s (address / PAGE_BYTES) (address / LINE_BYTES % PAGE_LINES) → P found.space found.page found.line
+  of_line P holds =
+      subst (λ n. P n found.page found.line) (sym line_there.space_is) (subst (λ n. P s n found.line) (sym line_there.page_is) (subst (P s (address / PAGE_BYTES)) (sym line_there.line_is) holds))
 
   -- and may be fetched from
   pub code_there : (held : Translations Cached) (bytes : List ℕ) → permits page.perms.0 executable ≡ true → IsFront page.space page.page (bare held)

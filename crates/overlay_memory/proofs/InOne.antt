@@ -1,15 +1,16 @@
-use Rattle.std.proofs.Common.{◌≡◌, ℕ, ◌+◌, ◌*◌, ◌/◌, ◌%◌, ◌<◌, ◌≤◌, true, List, [], ◌∷◌, length, sym, ap, subst, ◌∙◌, arith}
+use Rattle.std.proofs.Common.{◌≡◌, ℕ, ◌+◌, ◌*◌, ◌/◌, ◌%◌, ◌<◌, ◌≤◌, true, false, List, [], ◌∷◌, length, refl, sym, ap, subst, ◌∙◌, arith}
 use Rattle.std.specs.Prelude.{Err, IsSome, is_some}
 use Rattle.sizes.specs.declared.TheConstants.{LINE_BYTES, PAGE_BYTES, PAGE_LINES}
-use Rattle.ovl_io.specs.Permissions.{writable}
+use Rattle.ovl_io.specs.Permissions.{permits, writable}
 use Rattle.overlay_bits.specs.Lines.{has_line}
 use Rattle.ledger.specs.Events.{Store, ledger_after}
 use Rattle.ledger.specs.Ledger.{Ledger}
 use Rattle.ledger.specs.Units.{units}
 use Rattle.overlay_pages.specs.State.{State, books}
 use Rattle.overlay_pages.specs.Changes.{Fits, is_writable, limit_of, units_of, with_brought}
-use Rattle.overlay_pages.specs.Calls.{RisesBy}
-use Rattle.overlay_pages.specs.View.{MemoryView, state_of}
+use Rattle.overlay_pages.specs.Spots.{IsBroughtTo, IsFoundPageAt}
+use Rattle.overlay_pages.specs.View.{IsJoined, MemoryView, state_of}
+use Rattle.overlay_pages.specs.declared.spots.FoundPage.{FoundPage}
 use Rattle.overlay_memory.specs.declared.error.MemoryError.TheVariants.{Full}
 use Rattle.overlay_memory.specs.declared.error.Shortage.{Shortage}
 use Rattle.overlay_memory.specs.Access.{IsAllowed, Stores, stored_books}
@@ -17,6 +18,7 @@ use Rattle.overlay_memory.specs.Pieces.{AreWritable, IsFilled, IsPermitted, line
 use Rattle.overlay_memory.specs.Room.{IsShort}
 use Rattle.overlay_memory.specs.StateMemory.{still_there}
 use Rattle.overlay_memory.proofs.Bringing.{HasBrought, brought_none, brought_one, brought_writable, joins_nothing}
+use Rattle.overlay_memory.proofs.Fronting.{at_address, may_be_used, of_address}
 use Rattle.overlay_memory.proofs.Joining.{has_under, one_under}
 use Rattle.overlay_memory.proofs.Pieced.{permitted}
 use Rattle.overlay_memory.proofs.Stored.{IsDone, full_store, stored_by}
@@ -89,13 +91,17 @@ module _ {view : MemoryView} {s address : ℕ} {lines bytes : List ℕ} (it : Is
   brought_is : HasBrought v brought s row
   brought_is = brought_one v s page lines it.may.page it.may.there
 
-  pub one_full : (rise : ℕ) (shortage : Shortage) → RisesBy v s page lines rise → IsShort (units_of v + rise) (limit_of v) shortage
+  pub one_full : (needed : ℕ) (shortage : Shortage) → units row ≡ needed → IsShort needed (limit_of v) shortage
       → Stores view view s address bytes (Err (Full shortage.needed shortage.limit))
-  one_full rise shortage rises short = full_store view s address rise bytes shortage allowed (ap units row_is ∙ rises.one) short
+  one_full needed shortage is short = full_store view s address needed bytes shortage allowed (ap units row_is ∙ is) short
 
-  pub one_fits : (rise : ℕ) → RisesBy v s page lines rise → units_of v + rise ≤ limit_of v → Fits brought
-  one_fits rise rises room =
-      let after = ap units brought_is.ledger ∙ rises.one in
+  -- the units of the row, told by the state with the lines brought
+  pub one_needs : (needed : ℕ) → units_of brought ≡ needed → units row ≡ needed
+  one_needs needed is = sym (ap units brought_is.ledger) ∙ is
+
+  pub one_fits : (needed : ℕ) → units row ≡ needed → needed ≤ limit_of v → Fits brought
+  one_fits needed is room =
+      let after = ap units brought_is.ledger ∙ is in
       omega (arith, after, room, brought_is.beside.frames)
 
   pub one_there : (b : State) → b ≡ brought → IsSome (page_in b s page)
@@ -113,3 +119,61 @@ module _ {view : MemoryView} {s address : ℕ} {lines bytes : List ℕ} (it : Is
         allowed,
         stored_by v b c s address bytes row row_is (subst (λ w. HasBrought v w s row) (sym is) brought_is) (subst (λ a. IsFilled b c s a bytes) place filled),
       )
+
+-- Bytes of one line of a page that was found, where the line is brought before they are put.
+pub record IsApart (view : MemoryView) (s address line : ℕ) (page : FoundPage) (bytes : List ℕ) : Type 0 where
+  pub at : IsFoundPageAt view s (address / PAGE_BYTES) page
+  pub line_is : line ≡ address / LINE_BYTES % PAGE_LINES
+  pub one : IsInOne view s address (address / LINE_BYTES % PAGE_LINES ∷ []) bytes
+  pub apart : is_writable (state_of view) page.space page.page (address / LINE_BYTES % PAGE_LINES) ≡ false
+
+pub is_apart : {view : MemoryView} {s address line : ℕ} {page : FoundPage} {bytes : List ℕ} → IsFoundPageAt view s (address / PAGE_BYTES) page
+    → line ≡ address / LINE_BYTES % PAGE_LINES → IsJoined view → permits page.perms.0 writable ≡ true
+    → is_writable (state_of view) page.space page.page (address / LINE_BYTES % PAGE_LINES) ≡ false → 0 < length bytes → address % LINE_BYTES + length bytes ≤ LINE_BYTES
+    → IsApart view s address line page bytes
+is_apart {view = view} {s = s} {address = address} {page = page} {bytes = bytes} at line_is joined may apart some fits = record {
+  at = at;
+  line_is = line_is;
+  one = in_one (may_be_used view s address page at writable joined may) some (omega (arith, fits))
+      (sym (one_under (address % 4096) (length bytes) (address / 64 % 64) some (omega arith) (omega (arith, fits))));
+  apart = apart;
+}
+
+module _ {view : MemoryView} {s address line : ℕ} {page : FoundPage} {bytes : List ℕ} (it : IsApart view s address line page bytes) where
+  -- what the units are with a line that is brought
+  abbrev AreUnits : ℕ → Type 0
+  AreUnits needed = (i : ℕ) → i < PAGE_LINES → is_writable (state_of view) page.space page.page i ≡ false
+      → units_of (with_brought (state_of view) page.space page.page (i ∷ [])) ≡ needed
+
+  needs : (needed : ℕ) → AreUnits needed → units (row it.one) ≡ needed
+  needs needed are = one_needs it.one needed
+      (at_address view s address page it.at (address / 64 % 64) refl (λ q r i. units_of (with_brought (state_of view) q r (i ∷ [])) ≡ needed) (are (address / 64 % 64) (omega arith) it.apart))
+
+  pub line_full : (needed limit : ℕ) (shortage : Shortage) → AreUnits needed → limit ≡ limit_of (state_of view) → IsShort needed limit shortage
+      → Stores view view s address bytes (Err (Full shortage.needed shortage.limit))
+  line_full needed limit shortage are limit_is short = one_full it.one needed shortage (needs needed are) (subst (λ n. IsShort needed n shortage) limit_is short)
+
+  pub line_fits : (needed limit : ℕ) → AreUnits needed → limit ≡ limit_of (state_of view) → needed ≤ limit → Fits (with_brought (state_of view) page.space page.page (line ∷ []))
+  line_fits needed limit are limit_is room =
+      of_address view s address page it.at line it.line_is (λ q r i. Fits (with_brought (state_of view) q r (i ∷ [])))
+      (one_fits it.one needed (needs needed are) (omega (arith, room, limit_is)))
+
+  module _ (mid : State) (mid_is : mid ≡ with_brought (state_of view) page.space page.page (line ∷ [])) where
+    here : mid ≡ with_brought (state_of view) s (address / PAGE_BYTES) (address / LINE_BYTES % PAGE_LINES ∷ [])
+    here = at_address view s address page it.at line it.line_is (λ q r i. mid ≡ with_brought (state_of view) q r (i ∷ [])) mid_is
+
+    pub line_there : IsSome (page_in mid s (address / PAGE_BYTES))
+    line_there = one_there it.one mid here
+
+    pub line_writable : is_writable mid s (address / PAGE_BYTES) (address / LINE_BYTES % PAGE_LINES) ≡ true
+    line_writable = one_writable it.one mid here (address / 64 % 64) (omega (arith, it.one.some)) (omega arith)
+
+    pub line_stored : (after : State) → IsFilled mid after s (PAGE_BYTES * (address / PAGE_BYTES) + (LINE_BYTES * (address / LINE_BYTES % PAGE_LINES) + address % LINE_BYTES)) bytes
+        → IsDone view after s address bytes
+    line_stored after filled =
+        let place : 4096 * (address / 4096) + (64 * (address / 64 % 64) + address % 64) ≡ 4096 * (address / 4096) + address % 4096 = omega arith in
+        one_stored it.one mid after here (subst (λ a. IsFilled mid after s a bytes) place filled)
+
+  -- the page as it is found then
+  pub brought_at : (mid : MemoryView) (found : FoundPage) → IsBroughtTo view.table mid.table page line found → IsFoundPageAt mid s (address / PAGE_BYTES) found
+  brought_at mid found to = record { space_is = to.space_is ∙ it.at.space_is; page_is = to.page_is ∙ it.at.page_is; is = to.is }

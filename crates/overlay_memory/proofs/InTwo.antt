@@ -101,7 +101,7 @@ module _ {view : MemoryView} {s address front : ℕ} {lines more bytes : List �
       → IsShort (units_of v + (one + two)) (limit_of v) shortage
       → Stores view view s address bytes (Err (Full shortage.needed shortage.limit))
   two_full one two shortage first second short =
-      full_store view s address (one + two) bytes shortage allowed (ap units row_is ∙ rises one two first second) short
+      full_store view s address (units_of v + (one + two)) bytes shortage allowed (ap units row_is ∙ rises one two first second) short
 
   pub first_fits : (one two : ℕ) → RisesBy v s page lines one → units_of v + (one + two) ≤ limit_of v → Fits brought
   first_fits one two first room =

@@ -4,18 +4,19 @@ use Rattle.std.specs.List.{fold}
 use Rattle.std.specs.Option.{option_map}
 use Rattle.sizes.specs.declared.TheConstants.{PAGE_LINES}
 use Rattle.overlay_bits.specs.Lines.{AreLines, has_line, with_line}
-use Rattle.overlay_bits.specs.Laws.{are_with, next_inside}
+use Rattle.overlay_bits.specs.Laws.{are_none, are_with, next_inside}
 use Rattle.ledger.specs.Changes as ledger
 use Rattle.ovl_io.specs.declared.perms.Perms.{Perms}
-use Rattle.overlay_pages.specs.Changes.{brought, with_brought, writes_frame}
+use Rattle.overlay_pages.specs.Changes.{brought, is_writable, with_brought, writes_frame}
 use Rattle.overlay_pages.specs.State.{PageState, State}
 use Rattle.overlay_pages.specs.View.{IsJoined, MemoryView, state_of}
 use Rattle.overlay_memory.specs.PageLaws.{has_page, some_is}
+use Rattle.overlay_memory.specs.StateMemory.{writable_at}
 use Rattle.overlay_memory.specs.View.{AreTrue, cached_in, cached_page}
 use Rattle.overlay_memory.proofs.Views.{own_set}
 use Rattle.space_ledger.specs.Joined.{put_same}
 use Rattle.space_maps.specs.Laws.{changed_there, page_put_beside, page_put_here}
-use Rattle.space_maps.specs.Spaces.{page_in, put_page, turned_page}
+use Rattle.space_maps.specs.Spaces.{page_in, put_page, altered_page}
 use Rattle.translation_cache.specs.Bare.{bare, bare_updated}
 use Rattle.translation_cache.specs.Finding.{by_page, found_beside, found_updated}
 use Rattle.translation_cache.specs.Formed.{IsFormed}
@@ -146,11 +147,23 @@ unfolding with_brought
 brought_true m s p lines new t u joined there brings are is formed now entries =
     let at = has_page (state_of m) s p there in
     noted_true m s p lines new t u at.x joined at.there are
-    (is ∙ ap (λ (b : Bool). cond b (state_of m) (turned_page (brought lines) (state_of m) s p)) brings ∙ changed_there (brought lines) (state_of m) s p at.x at.there)
+    (is ∙ ap (λ (b : Bool). cond b (state_of m) (altered_page (brought lines) (state_of m) s p)) brings ∙ changed_there (brought lines) (state_of m) s p at.x at.there)
     formed now entries
+
+-- A line was brought that couldn't be written where it stands.
+second_false : (a b : Bool) → cond a true b ≡ false → b ≡ false
+second_false true b h = cc
+second_false false b h = h
+
+pub line_true : (m : MemoryView) (s p line : ℕ) (new : State) (t u : Translations Cached) → IsJoined m → is_some (page_in (state_of m) s p) ≡ true → line < PAGE_LINES
+    → is_writable (state_of m) s p line ≡ false → new ≡ with_brought (state_of m) s p (line ∷ []) → IsFormed t → u ≡ with_bit s p line t → AreTrue (state_of m) t → AreTrue new u
+line_true m s p line new t u joined there low apart is formed now entries =
+    let at = has_page (state_of m) s p there in
+    brought_true m s p (line ∷ []) new t u joined there (second_false (has_line at.x.own line) (writes_frame (state_of m) s p) (sym (writable_at (state_of m) s p line at.x at.there) ∙ apart))
+    (are_with [] line are_none low) is formed now entries
 
 -- Nothing was brought, since the frame is written.
 pub unbrought_true : (v new : State) (s p : ℕ) (lines : List ℕ) (t : Translations Cached) → writes_frame v s p ≡ true → new ≡ with_brought v s p lines → AreTrue v t → AreTrue new t
 unfolding with_brought
 unbrought_true v new s p lines t written is entries =
-    subst (λ w. AreTrue w t) (sym (is ∙ ap (λ (b : Bool). cond b v (turned_page (brought lines) v s p)) written)) entries
+    subst (λ w. AreTrue w t) (sym (is ∙ ap (λ (b : Bool). cond b v (altered_page (brought lines) v s p)) written)) entries

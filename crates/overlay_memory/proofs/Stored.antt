@@ -10,7 +10,7 @@ use Rattle.ledger.specs.Ledger.{Ledger}
 use Rattle.ledger.specs.Touched.{touched}
 use Rattle.ledger.specs.Units.{units}
 use Rattle.overlay_pages.specs.State.{State, memory_of}
-use Rattle.overlay_pages.specs.Changes.{limit_of, units_of}
+use Rattle.overlay_pages.specs.Changes.{limit_of}
 use Rattle.overlay_pages.specs.View.{MemoryView, state_of}
 use Rattle.overlay_memory.specs.declared.error.MemoryError.{MemoryError}
 use Rattle.overlay_memory.specs.declared.error.MemoryError.TheVariants.{Unmapped, Forbidden, Full}
@@ -85,11 +85,10 @@ front_refused v s need address front n (Forbidden at) fits h =
 front_refused v s need address front n (Full needed limit) fits h = absurd h
 
 -- a store that needs more units than there are
-pub full_store : (view : MemoryView) (s address rise : ℕ) (bytes : List ℕ) (shortage : Shortage) → IsAllowed (state_of view) s writable address (length bytes)
-    → units (stored_books (state_of view) s address (length bytes)) ≡ units_of (state_of view) + rise
-    → IsShort (units_of (state_of view) + rise) (limit_of (state_of view)) shortage
+pub full_store : (view : MemoryView) (s address needed : ℕ) (bytes : List ℕ) (shortage : Shortage) → IsAllowed (state_of view) s writable address (length bytes)
+    → units (stored_books (state_of view) s address (length bytes)) ≡ needed → IsShort needed (limit_of (state_of view)) shortage
     → Stores view view s address bytes (Err (Full shortage.needed shortage.limit))
-full_store view s address rise bytes shortage may is short =
+full_store view s address needed bytes shortage may is short =
     (may, record { needed_is = short.needed_is ∙ sym is; limit_is = short.limit_is; over = short.over; kept = refl })
 
 -- An access in one page fails at its first byte.

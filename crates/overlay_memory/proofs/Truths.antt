@@ -25,7 +25,7 @@ use Rattle.overlay_memory.specs.View.{AreTranslated, AreTrue, AwaitApart, Transl
 use Rattle.space_ledger.specs.View.{PageView}
 use Rattle.space_maps.specs.Laws.{KeepsSpaces, are_cut, are_put, changed_there, in_space, keeps_page_put, page_absent, page_added, page_awaited, page_marked, page_of, page_put_beside, page_shared_beside, space_beside, space_left, space_put, there_space}
 use Rattle.space_maps.specs.Options.{none_by}
-use Rattle.space_maps.specs.Spaces.{bare_space, cut_pages, cut_space, holds_space, of_pages, page_in, put_awaiting, put_mark, put_page, put_shared, put_space, space_in, turned_page}
+use Rattle.space_maps.specs.Spaces.{bare_space, cut_pages, cut_space, holds_space, of_pages, page_in, put_awaiting, put_mark, put_page, put_shared, put_space, space_in, altered_page}
 use Rattle.translation_cache.specs.Bare.{bare, bare_flushed}
 use Rattle.translation_cache.specs.Finding.{flushed_none, found_flushed, found_none, found_unflushed}
 use Rattle.translation_cache.specs.Formed.{IsFormed}
@@ -237,9 +237,9 @@ placed_translated old new s p at t placed absent holds settled all =
     elsewhere q r x there one two = let none = ap is_some (sym there ∙ ap (λ n. page_in old n r) one ∙ ap (page_in old s) two ∙ absent) in cc
 
 -- a page changed
-pub turned_translated : (f : PageState → PageState) (old new : State) (s p : ℕ) (t : Translations Cached) → new ≡ turned_page f old s p → IsSome (page_in old s p)
+pub altered_translated : (f : PageState → PageState) (old new : State) (s p : ℕ) (t : Translations Cached) → new ≡ altered_page f old s p → IsSome (page_in old s p)
     → AreTranslated old t → AreTranslated new (flushed s t)
-turned_translated f old new s p t is there all =
+altered_translated f old new s p t is there all =
     same_translated (put_page old s p (f at.x)) new (flushed s t) (is ∙ changed_there f old s p at.x at.there) (record {
       entries = true_flushed old (put_page old s p (f at.x)) s t (λ q r other. page_put_beside old s p (f at.x) q r (λ same within. other same)) all.entries;
       apart = apart_same old (put_page old s p (f at.x)) all.apart (keeps_page_put old s p (f at.x) (there_space old s p at.x at.there)).awaiting was_there;

@@ -96,5 +96,5 @@ pub record IsEmptied (old new : State) (space : ℕ) : Type 0 where
   pub state : new ≡ emptied_space old space
   pub there : holds_space new space ≡ true
   pub empty : (space_in new space).pages ≡ map.empty
-  pub settled : (space_in new space).awaiting ≡ map.empty
+  pub none_awaits : (space_in new space).awaiting ≡ map.empty
   pub cut : cut_space new space ≡ cut_space old space

@@ -9,7 +9,7 @@ ghost use Rattle.ovl_io.specs.Memory.{bytes_at};
 ghost use Rattle.ovl_io.specs.Permissions.{writable};
 ghost use Rattle.ledger.specs.Ledger.{is_alone};
 ghost use Rattle.ledger.specs.Units.{own_lines};
-ghost use Rattle.space_maps.specs.Spaces.{bare_space, cut_pages, cut_space, holds_space, page_in, put_awaiting, put_mark, put_space, space_in, turned_page};
+ghost use Rattle.space_maps.specs.Spaces.{bare_space, cut_pages, cut_space, holds_space, page_in, put_awaiting, put_mark, put_space, space_in, altered_page};
 ghost use Rattle.space_ledger.specs.Space.{IsLeast};
 ghost use Rattle.space_ledger.specs.Calls.{IsNextOwn, NamesOnce};
 ghost use Rattle.overlay_pages.specs.Lines.{line_in_page};
@@ -126,7 +126,7 @@ impl OverlayMemory {
     /// that back costs.
     pub fn drop_space(&mut self, space: u16)
         requires there { holds_space (state_of self.old) space ≡ true }
-        requires settled { (space_in (state_of self.old) space).awaiting ≡ map.empty }
+        requires none_awaits { (space_in (state_of self.old) space).awaiting ≡ map.empty }
         ensures state { state_of self.new ≡ cut_space (state_of self.old) space }
         ensures translations { translations_of self.new ≡ flushed space (translations_of self.old) }
         ensures none { (space_in (state_of self.old) space).pages ≡ map.empty
@@ -141,7 +141,7 @@ impl OverlayMemory {
     /// Gives the pages of a space up, and not the space, whose mark stays. Takes no memory. Costs as much as `drop_space`.
     pub fn clear_space(&mut self, space: u16)
         requires there { holds_space (state_of self.old) space ≡ true }
-        requires settled { (space_in (state_of self.old) space).awaiting ≡ map.empty }
+        requires none_awaits { (space_in (state_of self.old) space).awaiting ≡ map.empty }
         ensures state { state_of self.new ≡ emptied_space (state_of self.old) space }
         ensures translations { translations_of self.new ≡ flushed space (translations_of self.old) }
     {
@@ -154,7 +154,7 @@ impl OverlayMemory {
     /// Costs for these pages what `drop_space` costs.
     pub fn unmap(&mut self, space: u16, page: u64, n: u32)
         requires there { AreMapped (state_of self.old) space page n }
-        requires settled { (space_in (state_of self.old) space).awaiting ≡ map.empty }
+        requires none_awaits { (space_in (state_of self.old) space).awaiting ≡ map.empty }
         ensures state { state_of self.new ≡ cut_pages (state_of self.old) space page n }
         ensures translations { translations_of self.new ≡ flushed space (translations_of self.old) }
     {
@@ -173,7 +173,7 @@ impl OverlayMemory {
         perms: Perms,
     ) -> Result<(), AllocError>
         requires there { holds_space (state_of self.old) space ≡ true }
-        requires settled { (space_in (state_of self.old) space).awaiting ≡ map.empty }
+        requires none_awaits { (space_in (state_of self.old) space).awaiting ≡ map.empty }
         requires absent { AreAbsent (state_of self.old) space page n }
         requires low { page + n ≤ PAGE_END }
         requires few { map.len (space_in (state_of self.old) space).pages + n ≤ MOST_SPACE_PAGES }
@@ -204,7 +204,7 @@ impl OverlayMemory {
         bytes: &[u8; PAGE_BYTES],
     ) -> Result<(), SpaceError>
         requires there { holds_space (state_of self.old) space ≡ true }
-        requires settled { (space_in (state_of self.old) space).awaiting ≡ map.empty }
+        requires none_awaits { (space_in (state_of self.old) space).awaiting ≡ map.empty }
         requires absent { page_in (state_of self.old) space page ≡ None }
         requires low { page < PAGE_END }
         requires few { map.len (space_in (state_of self.old) space).pages < MOST_SPACE_PAGES }
@@ -377,7 +377,7 @@ impl OverlayMemory {
     pub fn commit_page(&mut self, space: u16, page: u64)
         requires there { IsSome (page_in (state_of self.old) space page) }
         requires alone { is_alone (books (state_of self.old)) space page ≡ true }
-        ensures state { state_of self.new ≡ turned_page committed (state_of self.old) space page }
+        ensures state { state_of self.new ≡ altered_page committed (state_of self.old) space page }
         ensures few { MovesFewBeside space page self.old.pages.table self.new.pages.table }
         ensures translations { translations_of self.new ≡ flushed space (translations_of self.old) }
     {
@@ -393,7 +393,7 @@ impl OverlayMemory {
             (λ x. 0 < length x.own) }
         requires there { IsSome (page_in (state_of self.old) space page) }
         requires shared { is_alone (books (state_of self.old)) space page ≡ false }
-        requires settled { (space_in (state_of self.old) space).awaiting ≡ map.empty }
+        requires none_awaits { (space_in (state_of self.old) space).awaiting ≡ map.empty }
         requires room { HasCopyRoom (state_of self.old) space page }
         ensures copied { IfSome (page_in (state_of self.old) space page)
             (λ x. IsPlaced (state_of self.old) (state_of self.new) space page
@@ -409,7 +409,7 @@ impl OverlayMemory {
     /// The overlay of a page that is there is given up. Takes no memory. Costs moves that copy 60 lines at most.
     pub fn discard_page(&mut self, space: u16, page: u64)
         requires there { IsSome (page_in (state_of self.old) space page) }
-        ensures state { state_of self.new ≡ turned_page discarded (state_of self.old) space page }
+        ensures state { state_of self.new ≡ altered_page discarded (state_of self.old) space page }
         ensures few { MovesFewBeside space page self.old.pages.table self.new.pages.table }
         ensures translations { translations_of self.new ≡ flushed space (translations_of self.old) }
     {
@@ -462,7 +462,7 @@ impl OverlayMemory {
     /// A table with the entries of a space's pages, of which none awaits, or want of memory. Costs a step for each page.
     pub fn copy_table(&mut self, from: u16, to: u16) -> Result<PageTable, AllocError>
         requires there { holds_space (state_of self.old) from ≡ true }
-        requires settled { (space_in (state_of self.old) from).awaiting ≡ map.empty }
+        requires none_awaits { (space_in (state_of self.old) from).awaiting ≡ map.empty }
         requires space { holds_space (state_of self.old) to ≡ true }
         ensures table { IfOk result (λ table. table.pages ≡ entries_in (state_of self.old) from) }
         ensures once { IfOk result (λ table. NamesOnce (state_of self.old).zero_frame table.pages) }
@@ -476,7 +476,7 @@ impl OverlayMemory {
     pub fn adopt_table(&mut self, to: u16, table: PageTable)
         requires there { holds_space (state_of self.old) to ≡ true }
         requires empty { (space_in (state_of self.old) to).pages ≡ map.empty }
-        requires settled { (space_in (state_of self.old) to).awaiting ≡ map.empty }
+        requires none_awaits { (space_in (state_of self.old) to).awaiting ≡ map.empty }
         requires once { NamesOnce (state_of self.old).zero_frame table.pages }
         ensures state { state_of self.new ≡ put_awaiting (state_of self.old) to table.pages }
         ensures translations { translations_of self.new ≡ translations_of self.old }
@@ -504,7 +504,7 @@ impl OverlayMemory {
     /// The least of the `n` pages from one on that isn't there. None exactly where all are. Pages end at 2^26, and no page of the space
     /// awaits. Costs a look-up for each run of pages.
     pub fn first_absent(&self, space: u16, page: u64, n: u32) -> Option<u64>
-        requires settled { (space_in (state_of self.now) space).awaiting ≡ map.empty }
+        requires none_awaits { (space_in (state_of self.now) space).awaiting ≡ map.empty }
         requires low { page + n ≤ PAGE_END }
         ensures { IsFirstAbsent (state_of self.now) space page n result }
     {
@@ -524,7 +524,7 @@ impl OverlayMemory {
     /// space awaits. Costs two look-ups.
     pub fn zeros_from(&self, space: u16, page: u64) -> u32
         requires there { holds_space (state_of self.now) space ≡ true }
-        requires settled { (space_in (state_of self.now) space).awaiting ≡ map.empty }
+        requires none_awaits { (space_in (state_of self.now) space).awaiting ≡ map.empty }
         ensures zeros { AreZeros (state_of self.now) space page result }
         ensures low { 0 < result → page + result ≤ PAGE_END }
     {

@@ -1,8 +1,8 @@
 //! Bytes into the lines of pages, and what a store needs first.
 
-ghost use Rattle.std.specs.Prelude.{◌≡◌, ◌+◌, ◌-◌, ◌*◌, ◌/◌, ◌%◌, ◌<◌, ◌≤◌, IsSome, OnErr, length, true};
+ghost use Rattle.std.specs.Prelude.{◌≡◌, ◌+◌, ◌-◌, ◌*◌, ◌/◌, ◌%◌, ◌<◌, ◌≤◌, IsSome, OnErr, length, true, false};
 ghost use Rattle.sizes.specs.declared.TheConstants.{LINE_BYTES, PAGE_BYTES, PAGE_LINES};
-ghost use Rattle.ovl_io.specs.Permissions.{writable};
+ghost use Rattle.ovl_io.specs.Permissions.{permits, writable};
 ghost use Rattle.overlay_pages.specs.Changes.{is_writable};
 ghost use Rattle.overlay_pages.specs.State.{memory_of};
 ghost use Rattle.overlay_pages.specs.View.{IsJoined, state_of};
@@ -14,12 +14,13 @@ ghost use Rattle.overlay_memory.specs.View.{AreTrue};
 ghost use Rattle.space_maps.specs.Spaces.{page_in};
 ghost use Rattle.translation_cache.specs.Bare.{bare};
 ghost use Rattle.translation_cache.specs.Counted.{translated};
+ghost use Rattle.translation_cache.specs.CountedLaws.{IsFront};
 
 use crate::error::{Came, MemoryError, came_of};
 use crate::fronts::Fronts;
 use crate::reading::{line_of, permit};
-use crate::room::shortage_by;
-use crate::translating::{bring_lines, translate_anew};
+use crate::room::{shortage_by, shortage_of};
+use crate::translating::{bring_line, bring_lines, translate_anew};
 use bitflags::Flags;
 use overlay_bits::Bits;
 use overlay_pages::{FoundLine, FoundPage, OverlayPages};
@@ -198,7 +199,52 @@ pub(crate) fn write_pages(
     }
 }
 
-/// Stores bytes, some and all in one line, of a page of which nothing need be known. Nothing is known of any list then.
+/// Stores bytes, some and all in one line, of a page that was found, may be written and is at the front of its list, where the line
+/// can't be written where it stands: units first, then the line, then the bytes. No page is looked up unless the overlay grew.
+fn store_brought(
+    pages: &mut OverlayPages,
+    cache: &mut Cache,
+    fronts: &mut Fronts,
+    space: u16,
+    page: FoundPage,
+    address: u64,
+    bytes: &[u8],
+) -> Came
+    requires found { IsFoundPageAt pages.old space (address / PAGE_BYTES) page }
+    requires front { IsFront page.space page.page (bare cache.old) }
+    requires may { permits page.perms.0 writable ≡ true }
+    requires apart { is_writable (state_of pages.old) page.space page.page
+        (address / LINE_BYTES % PAGE_LINES) ≡ false }
+    requires some { 0 < length bytes.now }
+    requires one_line { address % LINE_BYTES + length bytes.now ≤ LINE_BYTES }
+    requires held { AreTrue (state_of pages.old) cache.old }
+    requires fronts { AreFronts pages.old (bare cache.old) fronts.old }
+    ensures stores { Stores pages.old pages.new space address bytes.now (result_at address result) }
+    ensures held { AreTrue (state_of pages.new) cache.new }
+    ensures lists { bare cache.new ≡ bare cache.old }
+    ensures fronts { AreFronts pages.new (bare cache.new) fronts.new }
+{
+    let line = line_of(address);
+    if let Some(shortage) = shortage_of(pages.units_with(&page), pages.limit()) {
+        return Came::Full(shortage.needed, shortage.limit);
+    }
+    let number = address / PAGE_BYTES as u64;
+    let at = (address % LINE_BYTES as u64) as usize;
+    match &bring_line(pages, cache, page, line) {
+        Some(found) => {
+            fronts.put(number, Some(*found));
+            put(pages, found.line(line), at, bytes);
+        }
+        None => {
+            fronts.clear();
+            fill_line(pages, space, number, line, at, bytes);
+        }
+    }
+    Came::Done
+}
+
+/// Stores bytes, some and all in one line, that aren't written where they stand. A page that isn't known to be at the front of its list is
+/// looked up anew, and nothing is known of any list then.
 #[cold]
 #[inline(never)]
 fn store_apart(
@@ -212,11 +258,24 @@ fn store_apart(
     requires some { 0 < length bytes.now }
     requires one_line { address % LINE_BYTES + length bytes.now ≤ LINE_BYTES }
     requires held { AreTrue (state_of pages.old) cache.old }
+    requires fronts { AreFronts pages.old (bare cache.old) fronts.old }
     ensures stores { Stores pages.old pages.new space address bytes.now (result_at address result) }
     ensures held { AreTrue (state_of pages.new) cache.new }
     ensures lists { bare cache.new ≡ bare cache.old }
     ensures fronts { AreFronts pages.new (bare cache.new) fronts.new }
 {
+    match fronts.page(space, address / PAGE_BYTES as u64) {
+        Some(page) => {
+            let page = *page;
+            if !page.perms.contains(Perms::W) {
+                return Came::Forbidden;
+            }
+            if !page.is_writable(line_of(address)) {
+                return store_brought(pages, cache, fronts, space, page, address, bytes);
+            }
+        }
+        None => {}
+    }
     fronts.clear();
     came_of(write_in_page(pages, cache, space, address, bytes))
 }

@@ -1,13 +1,13 @@
 //! Translations: pages that accesses go through, and what entries hold of them.
 
-ghost use Rattle.std.specs.Prelude.{◌≡◌, ℕ, ◌/◌, ◌<◌, IfSome, IsSome, List, None, Some, length};
+ghost use Rattle.std.specs.Prelude.{◌≡◌, ℕ, ◌/◌, ◌<◌, IfSome, IsSome, List, None, Some, [], ◌∷◌, false, length};
 ghost use Rattle.std.specs.List.{fold};
 ghost use Rattle.sizes.specs.declared.TheConstants.{PAGE_BYTES, PAGE_LINES};
 ghost use Rattle.ovl_io.specs.PageBytes.{page_allows};
 ghost use Rattle.overlay_bits.specs.Lines.{AreLines};
-ghost use Rattle.overlay_pages.specs.Changes.{Fits, with_brought, writes_frame};
+ghost use Rattle.overlay_pages.specs.Changes.{Fits, is_writable, with_brought, writes_frame};
 ghost use Rattle.overlay_pages.specs.State.{memory_of};
-ghost use Rattle.overlay_pages.specs.Spots.{FindsPage};
+ghost use Rattle.overlay_pages.specs.Spots.{FindsPage, IsBroughtTo, IsFoundPage};
 ghost use Rattle.overlay_pages.specs.View.{IsJoined, state_of};
 ghost use Rattle.overlay_memory.specs.Translated.{access_at};
 ghost use Rattle.overlay_memory.specs.Fronts.{AreFronts, held_of};
@@ -199,6 +199,28 @@ fn writes_frame(pages: &OverlayPages, space: u16, page: u64) -> bool
     ensures joined { IsJoined pages.now }
 {
     !pages.is_speculating(space) && pages.is_alone(space, page)
+}
+
+/// Brings a line of a page that was found, which can't be written where it stands, as `bring_found` of pages does, and adds it to what
+/// the entry of the page holds.
+pub(crate) fn bring_line(
+    pages: &mut OverlayPages,
+    cache: &mut Cache,
+    page: FoundPage,
+    line: u8,
+) -> Option<FoundPage>
+    requires found { IsFoundPage pages.old.table page }
+    requires line { line < PAGE_LINES }
+    requires apart { is_writable (state_of pages.old) page.space page.page line ≡ false }
+    requires fits { Fits (with_brought (state_of pages.old) page.space page.page (line ∷ [])) }
+    requires held { AreTrue (state_of pages.old) cache.old }
+    ensures brought { state_of pages.new ≡ with_brought (state_of pages.old) page.space page.page (line ∷ []) }
+    ensures found { IfSome result (IsBroughtTo pages.old.table pages.new.table page line) }
+    ensures held { AreTrue (state_of pages.new) cache.new }
+    ensures lists { bare cache.new ≡ bare cache.old }
+{
+    cache.set_bit(page.space, page.page, line);
+    pages.bring_found(page, line)
 }
 
 /// Makes lines of a page that is there such as can be written where they stand, as `bring` of pages does, and adds them to what the

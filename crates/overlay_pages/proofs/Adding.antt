@@ -16,7 +16,7 @@ pub record IsReady (v : MemoryView) (table : LedgerView) (s p : ℕ) (entry : Pa
   pub there : IsSome (page_in table s p)
   pub bare : overlay_at table s p ≡ None
   pub shared : is_alone (ledger_of table) s p ≡ false
-  pub settled : (space_in table s).awaiting ≡ empty
+  pub none_awaits : (space_in table s).awaiting ≡ empty
   pub state : state_of (view_of v.store table) ≡ put_page (state_of v) s p (whole_page entry zero_page)
   pub space : holds_space (state_of v) s ≡ true
   pub absent : page_in (state_of v) s p ≡ None
@@ -39,7 +39,7 @@ ready v now table s p entry same is space settled low absent zero_is table_is =
       shared = ap (λ (l : Ledger). is_alone l s p) (sym (state_books (view_of v.store table)))
           ∙ zero_shared (state_of (view_of v.store table)) s p (whole_page entry zero_page) (ap (λ st. page_in st s p) state ∙ page_put_here (state_of v) s p (whole_page entry zero_page) s p refl refl)
           (zero_is ∙ sym (state_zero v) ∙ sym (ap (λ (st : State). st.zero_frame) state));
-      settled = sym (state_awaiting (view_of v.store table) s) ∙ ap (λ (st : State). (space_in st s).awaiting) state ∙ (keeps_page_put (state_of v) s p (whole_page entry zero_page) there).awaiting s
+      none_awaits = sym (state_awaiting (view_of v.store table) s) ∙ ap (λ (st : State). (space_in st s).awaiting) state ∙ (keeps_page_put (state_of v) s p (whole_page entry zero_page) there).awaiting s
           ∙ ap (λ (m : MemoryView). (space_in (state_of m) s).awaiting) same ∙ settled;
       state = state;
       space = there;

@@ -1,4 +1,4 @@
-pub use Rattle.ledger.specs.AloneLaws.{alone_apart, are, arent, holder, not_true, origin_with, unused_from, unused_parts, unused_without, without_absent}
+pub use Rattle.ledger.specs.AloneLaws.{alone_apart, are, arent, holder, not_true, origin_with, unused_from, unused_parts, unused_without, without_absent, alone_same}
 pub use Rattle.ledger.specs.Changes.{with_line}
 unfoldable pub use Rattle.ledger.specs.Changes.{has_own, with_lines}
 pub use Rattle.ledger.specs.ClassLaws.{class_le, class_most, class_none, class_one}
@@ -30,8 +30,8 @@ pub use Rattle.space_maps.specs.Books.{books_added, books_awaiting, books_cut_pa
 pub use Rattle.space_maps.specs.Laws.{KeepsSpaces, after_cut, are_cut, changed_there, cut_over, keeps_page_cut, keeps_page_put, keeps_page_set, keeps_still, keeps_twice, page_absent, page_added, page_again, page_awaited, page_lost, page_marked, page_put_beside, page_put_here, page_set_beside, page_set_here, page_shared_beside, put_shared_as, put_there, set_some, space_put, spaces_alike, there_cut, there_put, there_space, page_over}
 pub use Rattle.space_maps.specs.Mapped.{mapped_none}
 unfoldable pub use Rattle.space_maps.specs.Mapped.{mapped}
-pub use Rattle.space_maps.specs.Options.{by_option, by_test, map_alike, map_from, map_twice}
-pub use Rattle.space_maps.specs.Spaces.{AreMapped, bare_space, cut_page, holds_space, space_in, turned_page}
+pub use Rattle.space_maps.specs.Options.{by_option, by_test, map_alike, map_from, map_twice, map_some}
+pub use Rattle.space_maps.specs.Spaces.{AreMapped, bare_space, cut_page, holds_space, space_in, altered_page}
 unfoldable pub use Rattle.space_maps.specs.Spaces.{cut_pages, cut_space, page_in, put_awaiting, put_mark, put_page, put_pages, put_shared, put_space, set_page}
 
 -- What proofs here use of tables and ledgers.

@@ -1,22 +1,10 @@
-use Rattle.overlay_pages.proofs.Common.{◌≡◌, ℕ, ◌<◌, Bool, true, false, ◌||◌, ◌&&◌, not, List, Option, Some, refl, option_map, sym, ap, subst, ◌∙◌, arith, option_and_then, PAGE_LINES}
+use Rattle.overlay_pages.proofs.Common.{◌≡◌, ℕ, ◌<◌, Bool, true, false, ◌||◌, ◌&&◌, not, List, Option, Some, refl, option_map, sym, ap, ◌∙◌, arith, option_and_then, PAGE_LINES}
 use Rattle.overlay_pages.proofs.Stores.{has_line, Entry, frame_inside, Block}
 use Rattle.overlay_pages.proofs.Books.{by_option, by_test, PageEntry, is_alone, map_from, page_in, space_in, PageView, frame_at, ledger_of, lines_of, overlay_at}
-use Rattle.overlay_pages.proofs.Views.{FoundLine, FoundPage, Spot, Frame, Segment, is_writable, IsFound, IsFoundAt, IsFoundPage, IsFoundPageAt, IsSpot, found_at, PageState, IsJoined, MemoryView, page_state, state_of, state_page_there}
+use Rattle.overlay_pages.proofs.Views.{FoundLine, FoundPage, Spot, Frame, Segment, is_writable, IsFoundAt, IsFoundPage, IsFoundPageAt, IsSpot, PageState, IsJoined, MemoryView, page_state, state_of, state_page_there}
 use Rattle.overlay_pages.proofs.Lending.{writable_outside, writable_segment}
 
 -- Pages and lines that were found, in the tables that they were found in.
-
--- where a line that was found stands
-pub found_spot : (v now : MemoryView) (found : FoundLine) (spot : Spot) → v ≡ now → IsFound now found → found.spot ≡ spot
-    → IsSpot v.table found.space found.page found.line spot
-found_spot v now found spot same is at =
-    subst (IsSpot v.table found.space found.page found.line) at
-    (subst (λ (m : MemoryView). IsSpot m.table found.space found.page found.line found.spot) (sym same) is.spot)
-
-pub spot_at : (v now : MemoryView) (s p line : ℕ) (found : FoundLine) (spot : Spot) → v ≡ now → IsFoundAt now s p line found → found.spot ≡ spot
-    → IsSpot v.table s p line spot
-spot_at v now s p line found spot same it at =
-    found_at now s p line found it (λ s p l. IsSpot v.table s p l spot) (found_spot v now found spot same it.is at)
 
 -- Lines of a page that was found.
 

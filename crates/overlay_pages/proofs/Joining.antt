@@ -1,9 +1,9 @@
 use Rattle.overlay_pages.proofs.Common.{is_some, option_and_then, ◌≡◌, ℕ, ◌+◌, ◌*◌, ◌^◌, ◌<◌, ◌≤◌, ◌||◌, Bool, true, false, cond, nat_eq, List, [], Option, Some, None, IsSome, length, get_or, slice_index_or, slice_set, refl, true≢false, sym, ap, ap₂, subst, ◌∙◌, arith, inl, inr, pow_pos, nat_tests, none-some, same_Some, get_or-set_other, get_or-set_same, cases_eq}
 use Rattle.overlay_pages.proofs.Stores.{AreSettled, CanSettle, free_units, units_in, Block, AreLines, has_line, with_line, count_with, has_with, overlay_page, Entry, Segment, IsStore, capacity_of, Store, IsSegment, frame_line, line_in, lines_at, lines_with, scratch_line, segment_at, BeginsSegment, Copies, Ends, HasLinesNow, Inserts, KeepsFrame, KeepsFrames, KeepsOtherSegments, Lays, block_of, inside_of, lines_there, order_of, refilled, stays_twice}
-use Rattle.overlay_pages.proofs.Books.{by_option, are, class, overlaid_pages, overlaid_few, class_none, changed_there, page_again, page_in, put_page, turned_page, LedgerView, PageView, ledger_of, lines_of, overlay_at, with_overlay}
+use Rattle.overlay_pages.proofs.Books.{by_option, are, class, overlaid_pages, overlaid_few, class_none, changed_there, page_again, page_in, put_page, altered_page, LedgerView, PageView, ledger_of, lines_of, overlay_at, with_overlay}
 use Rattle.overlay_pages.proofs.Views.{page_lines, lines_same, set_line, state_page_there, discarded, joins, laid, laid_line, IsHeld, IsJoined, MemoryView, line_seen, page_state, segment_of, state_of, view_of, PageState, State}
 use Rattle.overlay_pages.proofs.Sizes.{still_fits}
-use Rattle.overlay_pages.proofs.Steps.{overlay_lines, overlay_there, seen_bare, seen_inside, seen_outside}
+use Rattle.overlay_pages.proofs.Steps.{overlay_lines, overlay_there, seen_bare, seen_inside, seen_outside, seen_overlaid}
 use Rattle.overlay_pages.proofs.Overlaying.{Overlays, overlays, segments_some}
 
 -- An overlay that ends, one that begins, and one that gets a line.
@@ -113,21 +113,17 @@ unfolding page_state
 joined_page old new e line bytes x over low fills frame =
     let own : with_line e.bits line ≡ with_line (lines_of x.overlay) line = ap (λ (o : Option Entry). with_line (lines_of o) line) (sym over) in
     let lines = lines_same _ (λ i. cond (nat_eq line i) bytes (line_seen old x i))
-    (λ i below. filled_line old new e.block e.bits line bytes (line_in old e.block) x fills frame i below ∙ ap (λ l. cond (nat_eq line i) bytes l) (pulled (has_line e.bits i) i refl))
+    (λ i below. filled_line old new e.block e.bits line bytes (line_in old e.block) x fills frame i below ∙ ap (λ l. cond (nat_eq line i) bytes l) (seen_overlaid old x e i over))
     ∙ sym (set_line (line_seen old x) line bytes low) in
     let base = lines_same (frame_line new x.entry.frame) (frame_line old x.entry.frame) frame.lines in
     λ i. record { entry = x.entry; own = own i; lines = lines i; base = base i }
-  where
-    pulled : (b : Bool) (i : ℕ) → has_line e.bits i ≡ b → cond b (line_in old e.block i) (frame_line old x.entry.frame i) ≡ line_seen old x i
-    pulled true i has = sym (seen_inside old x e i over has)
-    pulled false i lacks = sym (seen_outside old x i (ap (λ (o : Option Entry). has_line (lines_of o) i) over ∙ lacks))
 
 -- a page that is turned into itself
-pub turned_still : (turn : PageState → PageState) (st : State) (s p : ℕ) (y : PageState) → page_in st s p ≡ Some y → turn y ≡ y → st ≡ turned_page turn st s p
-turned_still turn st s p y there same = sym (changed_there turn st s p y there ∙ ap (put_page st s p) same ∙ page_again st s p y there)
+pub altered_still : (turn : PageState → PageState) (st : State) (s p : ℕ) (y : PageState) → page_in st s p ≡ Some y → turn y ≡ y → st ≡ altered_page turn st s p
+altered_still turn st s p y there same = sym (changed_there turn st s p y there ∙ ap (put_page st s p) same ∙ page_again st s p y there)
 
-pub bare_state : (v : MemoryView) (s p : ℕ) → Has v.table s p None → state_of v ≡ turned_page discarded (state_of v) s p
-bare_state v s p has = turned_still discarded (state_of v) s p (page_state v.store has.x) (state_page_there v s p has.x has.there) (bare_discarded v.store has.x has.is)
+pub bare_state : (v : MemoryView) (s p : ℕ) → Has v.table s p None → state_of v ≡ altered_page discarded (state_of v) s p
+bare_state v s p has = altered_still discarded (state_of v) s p (page_state v.store has.x) (state_page_there v s p has.x has.there) (bare_discarded v.store has.x has.is)
 
 -- A line comes into an overlay.
 
@@ -236,7 +232,7 @@ pub begun : (old : MemoryView) (began store : Store) (table : LedgerView) (s p :
     → AreLines bits → line < 64 → has_line bits line ≡ false → 2 ^ block.order ≡ class (length bits + 1) → IsLaid old.store began (overlay_page s p) block bits (scratch_line old.store) → Inserts began store block line bytes
     → HasLinesNow began store block (lines_with began block line) → KeepsOtherSegments began block.unit store → KeepsFrames began store → IsStore store
     → table ≡ with_overlay old.table s p (Some (record { bits = with_line bits line; block = block }))
-    → IsJoined (view_of store table) × (state_of (view_of store table) ≡ turned_page (laid old.store bits line bytes) (state_of old) s p)
+    → IsJoined (view_of store table) × (state_of (view_of store table) ≡ altered_page (laid old.store bits line bytes) (state_of old) s p)
 begun old began store table s p x block bits line bytes is there bare are low absent size so inserts now kept frames store_is table_is =
     overlays old (view_of store table) s p x (Some (record { bits = with_line bits line; block = block })) is (record {
       there = there;

@@ -1,8 +1,7 @@
-use Rattle.overlay_pages.proofs.Common.{◌≡◌, ℕ, ◌+◌, Bool, true, false, cond, Option, Some, None, is_some, length, refl, sym, ap, subst, ◌∙◌, arith, none-some}
+use Rattle.overlay_pages.proofs.Common.{◌≡◌, ℕ, ◌+◌, Bool, true, false, cond, Option, Some, None, is_some, length, refl, sym, ap, subst, ◌∙◌, arith, none-some, cases_cond, inl, inr, same_Some}
 use Rattle.overlay_pages.proofs.Stores.{AreSettled, free_units, units_in, Entry, IsStore, Store, IsFrame, KeepsFrame, KeepsOtherFrames, KeepsSegments, block_of}
-use Rattle.overlay_pages.proofs.Books.{holding_at, is_alone, is_unused, without_page, class, units, class_none, alone_is, frame_for, units_at, books_cut_page, books_there, keeps_page_cut, there_space, cut_page, holds_space, page_in, set_page, LedgerView, PageView, holding_of, ledger_of, lines_of, given_as, given_up}
+use Rattle.overlay_pages.proofs.Books.{holding_at, is_alone, is_unused, without_page, class, units, class_none, alone_is, frame_for, units_at, books_cut_page, books_there, keeps_page_cut, there_space, cut_page, holds_space, page_in, set_page, LedgerView, PageView, holding_of, ledger_of, lines_of, given_as, given_up, origin_of, by_test}
 use Rattle.overlay_pages.proofs.Views.{IsJoined, MemoryView, state_of, view_of}
-use Rattle.space_ledger.specs.View as view
 use Rattle.overlay_pages.proofs.Steps.{alone_other, frame_still, segment_still, segments_bare, stepped}
 use Rattle.overlay_pages.proofs.Joining.{Has}
 
@@ -10,21 +9,18 @@ use Rattle.overlay_pages.proofs.Joining.{Has}
 
 -- whether a page's frame is one that nothing names: then it is what is given up of the page
 abbrev pub is_left : LedgerView → PageView → Bool
-is_left table x = is_unused (ledger_of table) (view.origin_of table.zero_frame x.entry.frame)
+is_left table x = is_unused (ledger_of table) (origin_of table.zero_frame x.entry.frame)
 
 pub is_given : (table : LedgerView) (x : PageView) → is_some (given_up table (Some x)) ≡ is_left table x
-is_given table x = ap is_some (given_as table x) ∙ by (is_left table x)
-  where
-    by : (b : Bool) → is_some (cond b (Some x.entry.frame) None) ≡ b
-    by true = refl
-    by false = refl
+is_given table x = ap is_some (given_as table x) ∙ by_test (is_left table x)
+    (λ is. ap (λ b. is_some (cond b (Some x.entry.frame) None)) is ∙ sym is)
+    (λ is. ap (λ b. is_some (cond b (Some x.entry.frame) None)) is ∙ sym is)
 
 pub which_given : (table : LedgerView) (x : PageView) (frame : ℕ) → given_up table (Some x) ≡ Some frame → x.entry.frame ≡ frame
-which_given table x frame gone = by (is_left table x) (sym (given_as table x) ∙ gone)
-  where
-    by : (b : Bool) → cond b (Some x.entry.frame) None ≡ Some frame → x.entry.frame ≡ frame
-    by true h = cc
-    by false h = cc
+which_given table x frame gone = elim (cases_cond (is_left table x) (Some x.entry.frame) None (Some frame) (sym gone ∙ given_as table x)) [
+  | inl is ↦ sym (same_Some _ _ is)
+  | inr none ↦ absurd (none-some frame (sym none))
+]
 
 -- what the store keeps, and how many units are free: those of the frame, if it was given up
 pub record LeavesStore (old new : Store) (frame : ℕ) (given : Bool) : Type 0 where
@@ -102,7 +98,7 @@ left_out a store table s p x given is there bare table_is given_is leaves =
     -- a frame that nothing names then was the page's alone
     alone : is_alone (ledger_of a.table) s p ≡ given
     alone =
-        alone_is (ledger_of a.table) s p (holding_of a.table.zero_frame x) held ∙ (λ i. is_unused (sym gone i) (view.origin_of (sym zero_same i) x.entry.frame)) ∙ sym given_is
+        alone_is (ledger_of a.table) s p (holding_of a.table.zero_frame x) held ∙ (λ i. is_unused (sym gone i) (origin_of (sym zero_same i) x.entry.frame)) ∙ sym given_is
 
 -- The ledger tells which frame was given up.
 module _ (a : MemoryView) (table : LedgerView) (s p : ℕ) (freed : Option ℕ) (is : IsJoined a) (has : Has a.table s p None) (table_is : table ≡ cut_page a.table s p)

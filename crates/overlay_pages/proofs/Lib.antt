@@ -16,6 +16,7 @@ pub mod Coming
 pub mod Zeros
 pub mod Lending
 pub mod Found
+pub mod FoundLines
 pub mod NewFrames
 pub mod Leaving
 pub mod Removing

@@ -1,5 +1,7 @@
 use Rattle.overlay_pages.specs.ViewLaws.{state_awaiting}
-use Rattle.overlay_pages.proofs.Growing.{grows_enough, grows_fits, grows_low, grows_size}
+use Rattle.overlay_pages.proofs.Bringing.{all_brought, brought_already, frame_in, joins_fits, joins_state}
+use Rattle.overlay_pages.proofs.FoundLines.{brings_fits, brings_state, found_frame, found_there}
+use Rattle.overlay_pages.proofs.Growing.{begins_room, begun_first, grows_enough, grows_fits, grows_low, grows_size}
 use Rattle.overlay_pages.proofs.Sizes.{first_size}
 use Rattle.overlay_pages.proofs.Joining.{page_with, overlay_order, overlay_room, overlay_segment, overlay_set}
 use Rattle.overlay_pages.proofs.Shifts.{few_framed, few_none}
@@ -18,4 +20,4 @@ pub low_is : (store : Store) (table : LedgerView) (s p : ℕ) → IsJoined (view
 low_is store table s p is there = let f = page_with table s p there (overlay_at table s p) refl in (is.held s p f.x f.there).low
 
 -- What steps of calls need.
-pub ruleset needs = (few_framed, few_none, first_size, frame_inside_of, grows_enough, grows_fits, grows_low, grows_size, low_is, number_is, overlay_order, overlay_room, overlay_segment, overlay_set, state_awaiting)
+pub ruleset needs = (all_brought, begins_room, begun_first, brings_fits, brings_state, brought_already, few_framed, few_none, first_size, found_frame, found_there, frame_in, frame_inside_of, grows_enough, grows_fits, grows_low, grows_size, joins_fits, joins_state, low_is, number_is, overlay_order, overlay_room, overlay_segment, overlay_set, state_awaiting)

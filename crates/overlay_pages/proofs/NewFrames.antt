@@ -1,22 +1,15 @@
-use Rattle.overlay_pages.proofs.Common.{◌≡◌, ℕ, ◌+◌, ◌<◌, Bool, true, false, cond, nat_eq, List, [], Option, Some, None, IfSome, length, refl, true≢false, sym, ap, subst, ◌∙◌, arith, same_Some, nat_tests, option_map, FRAME_UNITS}
+use Rattle.overlay_pages.proofs.Common.{◌≡◌, ℕ, ◌+◌, ◌<◌, true, false, cond, nat_eq, List, [], Option, Some, None, IfSome, length, sym, ap, subst, ◌∙◌, arith, same_Some, nat_tests, option_map, FRAME_UNITS}
 use Rattle.overlay_pages.proofs.Stores.{FillsFrame, AreSettled, free_units, units_in, Entry, IsStore, Store, IsFrame, frame_line, KeepsFrame, KeepsFrames, KeepsSegments, frame_inside}
-use Rattle.overlay_pages.proofs.Books.{Holding, Ledger, has_origin, holding_at, is_alone, is_unused, with_page, without_page, class, units, class_none, frame_for, units_changed, arent, holder, not_true, unused_from, unused_parts, unused_without, map_from, books_page, books_put_page, changed_there, set_some, there_space, page_in, put_page, put_space, set_page, LedgerView, PageView, holding_of, ledger_of, lines_of, overlay_at, with_frame}
+use Rattle.overlay_pages.proofs.Books.{Holding, Ledger, has_origin, holding_at, is_alone, is_unused, with_page, without_page, class, units, class_none, frame_for, units_changed, arent, holder, not_true, unused_from, unused_parts, unused_without, map_from, books_page, books_put_page, changed_there, set_some, there_space, page_in, put_page, put_space, set_page, LedgerView, PageView, holding_of, ledger_of, lines_of, overlay_at, with_frame, origin_of}
 use Rattle.overlay_pages.proofs.Views.{page_lines, lines_same, PageState, State, books, IsNewFrame, IsPlaced, moved_to, KeepsOtherOverlays, IsJoined, MemoryView, page_state, state_of, view_of, state_books, state_frames, state_page_there, state_zero}
-use Rattle.space_ledger.specs.View as view
 use Rattle.overlay_pages.proofs.Steps.{segments_bare, stepped}
 use Rattle.overlay_pages.proofs.Filling.{segments_twice}
 use Rattle.overlay_pages.proofs.Overlaying.{overlay_beside}
 
 -- A frame that wasn't taken is named by no page.
 
-origin_named : (z f g : ℕ) → nat_eq (view.origin_of z g) (f + 1) ≡ true → g ≡ f
-origin_named z f g h = at (nat_eq g z) refl
-  where
-    at : (b : Bool) → nat_eq g z ≡ b → g ≡ f
-    at true e = absurd (true≢false (sym h ∙ ap (λ b. nat_eq (cond b 0 (g + 1)) (f + 1)) e ∙ arent 0 (f + 1) (λ n. omega (arith, n))))
-    at false e =
-        let same : nat_eq (g + 1) (f + 1) ≡ true = sym (ap (λ b. nat_eq (cond b 0 (g + 1)) (f + 1)) e) ∙ h in
-        grind (arith, nat_tests, same)
+origin_named : (z f g : ℕ) → nat_eq (origin_of z g) (f + 1) ≡ true → g ≡ f
+origin_named z f g h = grind (arith, nat_tests)
 
 pub nobody_has : (v : LedgerView) (frame : ℕ) → ((q r : ℕ) (y : PageView) → page_in v q r ≡ Some y → y.entry.frame ≡ frame → ⊥) → has_origin (ledger_of v) (frame + 1) ≡ false
 nobody_has v frame none = not_true (has_origin (ledger_of v) (frame + 1)) (λ had.
@@ -92,9 +85,9 @@ module _ (a : MemoryView) (taken filled : Store) (table : LedgerView) (s p : ℕ
       let none : class (length (lines_of x.overlay)) ≡ 0 = ap (λ (o : Option Entry). class (length (lines_of o))) bare ∙ class_none in
       let before : frame_for (is_alone l s p) ≡ 0 = ap frame_for shared in
       let zero_no : nat_eq frame a.table.zero_frame ≡ false = arent frame a.table.zero_frame (λ e. takes.fresh (subst (IsFrame a.store) (sym e) is.zero)) in
-      let origin : view.origin_of a.table.zero_frame frame ≡ frame + 1 = ap (λ b. cond b 0 (frame + 1)) zero_no in
+      let origin : origin_of a.table.zero_frame frame ≡ frame + 1 = ap (λ b. cond b 0 (frame + 1)) zero_no in
       let unused = unused_without l s p (frame + 1) (sym (ap (λ (k : Ledger). is_unused k (frame + 1)) (state_books a)) ∙ frame_new.unused) in
-      let after : frame_for (is_unused (without_page l s p) (view.origin_of a.table.zero_frame frame)) ≡ 16 = ap (λ o. frame_for (is_unused (without_page l s p) o)) origin ∙ ap frame_for unused in
+      let after : frame_for (is_unused (without_page l s p) (origin_of a.table.zero_frame frame)) ≡ 16 = ap (λ o. frame_for (is_unused (without_page l s p) o)) origin ∙ ap frame_for unused in
       omega (arith, ap units now, changes, none, before, after, class_none)
 
   placed_both : IsJoined (view_of filled table) × (state_of (view_of filled table) ≡ put_page (state_of a) s p (page_state filled placed))

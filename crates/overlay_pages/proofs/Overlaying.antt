@@ -1,6 +1,6 @@
 use Rattle.overlay_pages.proofs.Common.{option_map, ◌≡◌, ℕ, ◌+◌, ◌^◌, ◌<◌, List, Option, Some, None, length, refl, sym, ap, subst, ◌∙◌, arith, inl, inr, option_and_then, none-some, same_Some, cases_eq}
 use Rattle.overlay_pages.proofs.Stores.{Store, Piece, free_units, units_in, Entry, IsStore, segment_at, KeepsFrames, KeepsOtherSegments, IsFrame}
-use Rattle.overlay_pages.proofs.Books.{Ledger, class, units, units_own, books_page, books_put_page, changed_there, page_set_beside, set_some, there_space, page_in, put_page, set_page, turned_page, LedgerView, PageView, holding_of, ledger_of, lines_of, overlay_at, with_overlay, by_option}
+use Rattle.overlay_pages.proofs.Books.{Ledger, class, units, units_own, books_page, books_put_page, changed_there, page_set_beside, set_some, there_space, page_in, put_page, set_page, altered_page, LedgerView, PageView, holding_of, ledger_of, lines_of, overlay_at, with_overlay, by_option}
 use Rattle.overlay_pages.proofs.Views.{PageState, IsJoined, IsJoinedWith, MemoryView, page_state, segment_of, state_of, state_page_there}
 use Rattle.overlay_pages.proofs.Steps.{Step, stepped, Segments}
 
@@ -34,9 +34,9 @@ pub record Overlays (P : List Piece → Type 0) (old new : MemoryView) (s p : �
   pub frames : KeepsFrames old.store new.store
   pub free : free_units new.store.blocks + class (length (lines_of o)) ≡ free_units old.store.blocks + class (length (lines_of x.overlay))
 
--- So the view is that of a memory still, in which the page is turned.
+-- So the view is that of a memory still, in which the page is altered.
 pub overlays : {P : List Piece → Type 0} (old new : MemoryView) (s p : ℕ) (x : PageView) (o : Option Entry) → IsJoined old → Overlays P old new s p x o → (turn : PageState → PageState)
-    → page_state new.store (record { entry = x.entry; overlay = o }) ≡ turn (page_state old.store x) → IsJoinedWith P new × (state_of new ≡ turned_page turn (state_of old) s p)
+    → page_state new.store (record { entry = x.entry; overlay = o }) ≡ turn (page_state old.store x) → IsJoinedWith P new × (state_of new ≡ altered_page turn (state_of old) s p)
 unfolding with_overlay set_page
 overlays {P = P} old new s p x o is so turn same = (
   all.0,
@@ -71,6 +71,6 @@ overlays {P = P} old new s p x o is so turn same = (
     all = stepped old new s p (Some x) (Some y) is step
 
 -- The overlay of another page stays.
-pub overlay_beside : (turn : PageView → PageView) (v : LedgerView) (s p : ℕ) (x : PageView) → page_in v s p ≡ Some x → (q r : ℕ) → (q ≡ s → r ≡ p → ⊥) → overlay_at (turned_page turn v s p) q r ≡ overlay_at v q r
+pub overlay_beside : (turn : PageView → PageView) (v : LedgerView) (s p : ℕ) (x : PageView) → page_in v s p ≡ Some x → (q r : ℕ) → (q ≡ s → r ≡ p → ⊥) → overlay_at (altered_page turn v s p) q r ≡ overlay_at v q r
 overlay_beside turn v s p x there q r d =
     ap (λ (t : LedgerView). overlay_at t q r) (changed_there turn v s p x there ∙ sym (set_some v s p (turn x))) ∙ ap (option_and_then (λ (z : PageView). z.overlay)) (page_set_beside v s p (Some (turn x)) q r d)

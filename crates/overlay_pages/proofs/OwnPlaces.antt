@@ -1,5 +1,5 @@
-use Rattle.overlay_pages.proofs.Common.{◌≡◌, ℕ, ◌+◌, ◌*◌, ◌^◌, ◌<◌, ◌≤◌, ◌⊎◌, true, false, Option, Some, IsSome, refl, sym, ap, ◌∙◌, arith, inl, inr, cases_eq, none-some, same_Some, option_map, option_map_or}
-use Rattle.overlay_pages.proofs.Stores.{has_line, Entry, Segment, IsFrame, IsSegment, frame_place, place_of, scratch_place, segment_at, LiesIn, frame_inside, inside_of, line_lies, places_differ, segment_range, order_of}
+use Rattle.overlay_pages.proofs.Common.{◌≡◌, ℕ, ◌*◌, ◌<◌, ◌⊎◌, true, false, Option, Some, IsSome, refl, sym, ap, ◌∙◌, arith, inl, inr, cases_eq, none-some, same_Some, option_map, option_map_or}
+use Rattle.overlay_pages.proofs.Stores.{has_line, Entry, Segment, IsSegment, frame_place, place_of, scratch_place, segment_at, LiesIn, frame_inside, inside_of, line_lies, places_differ, segment_range, order_of}
 use Rattle.overlay_pages.proofs.Books.{page_in, PageView, lines_of, overlay_at}
 use Rattle.overlay_pages.proofs.Views.{HasOwnPlace, IsJoined, MemoryView, ShareFrameLine, place_at, place_in_page, segment_of}
 use Rattle.overlay_pages.proofs.Steps.{by_spot, names_apart, place_inside, place_outside}
@@ -45,20 +45,13 @@ lies m is q r i o = line_lies m.store is.store o.overlay.block.unit (segment_of 
 -- A line in an overlay, and one in a frame.
 overlay_frame : (m : MemoryView) → IsJoined m → (q r i s p j : ℕ) → (o : InOverlay m q r i) → (f : InFrame m s p j) → j < 64 → place_at m q r i ≡ place_at m s p j → ⊥
 overlay_frame m is q r i s p j o f low same =
-    at (segment_range m.store is.store o.overlay.block (is_segment m is q r i o) (16 * f.x.entry.frame) 4 taken.taken apart)
-  where
-    taken : IsFrame m.store f.x.entry.frame
-    taken = (is.held s p f.x f.there).frame
-
-    apart : 16 * f.x.entry.frame ≡ o.overlay.block.unit → ⊥
-    apart e = none-some (segment_of q r o.overlay) (sym taken.alone ∙ ap (segment_at m.store) e ∙ held_segment m is q r i o)
-
-    inside : LiesIn m.store.lines o.overlay.block.unit o.overlay.block.order i
-    inside = lies m is q r i o
-
-    at : (4 * (16 * f.x.entry.frame + 2 ^ 4) ≤ 4 * o.overlay.block.unit) ⊎ (4 * o.overlay.block.unit + 4 * 2 ^ o.overlay.block.order ≤ 4 * (16 * f.x.entry.frame)) → ⊥
-    at (inl h) = omega (arith, h, inside.from, o.place, f.place, same, low)
-    at (inr h) = omega (arith, h, inside.to, o.place, f.place, same, low)
+    let taken = (is.held s p f.x f.there).frame in
+    let inside = lies m is q r i o in
+    let apart : 16 * f.x.entry.frame ≡ o.overlay.block.unit → ⊥ = λ e. none-some (segment_of q r o.overlay) (sym taken.alone ∙ ap (segment_at m.store) e ∙ held_segment m is q r i o) in
+    elim (segment_range m.store is.store o.overlay.block (is_segment m is q r i o) (16 * f.x.entry.frame) 4 taken.taken apart) [
+      | inl h ↦ omega (arith, h, inside.from, o.place, f.place, same, low)
+      | inr h ↦ omega (arith, h, inside.to, o.place, f.place, same, low)
+    ]
 
 -- Two lines in overlays.
 module _ (m : MemoryView) (is : IsJoined m) (q r i s p j : ℕ) (one : InOverlay m q r i) (two : InOverlay m s p j) (same : place_at m q r i ≡ place_at m s p j) where
@@ -66,23 +59,17 @@ module _ (m : MemoryView) (is : IsJoined m) (q r i s p j : ℕ) (one : InOverlay
   places = sym one.place ∙ same ∙ two.place
 
   one_unit : one.overlay.block.unit ≡ two.overlay.block.unit
-  one_unit = at (cases_eq two.overlay.block.unit one.overlay.block.unit)
-    where
-      first : LiesIn m.store.lines one.overlay.block.unit one.overlay.block.order i
-      first = lies m is q r i one
-
-      second : LiesIn m.store.lines two.overlay.block.unit two.overlay.block.order j
-      second = lies m is s p j two
-
-      apart : (4 * (two.overlay.block.unit + 2 ^ two.overlay.block.order) ≤ 4 * one.overlay.block.unit) ⊎ (4 * one.overlay.block.unit + 4 * 2 ^ one.overlay.block.order ≤ 4 * two.overlay.block.unit)
-          → one.overlay.block.unit ≡ two.overlay.block.unit
-      apart (inl h) = absurd (omega (arith, h, first.from, second.to, places))
-      apart (inr h) = absurd (omega (arith, h, first.to, second.from, places))
-
-      at : (two.overlay.block.unit ≡ one.overlay.block.unit) ⊎ (two.overlay.block.unit ≡ one.overlay.block.unit → ⊥) → one.overlay.block.unit ≡ two.overlay.block.unit
-      at (inl e) = sym e
-      at (inr n) = apart (segment_range m.store is.store one.overlay.block (is_segment m is q r i one) two.overlay.block.unit two.overlay.block.order
-          (is.store.taken two.overlay.block.unit (segment_of s p two.overlay) (held_segment m is s p j two)) n)
+  one_unit =
+      let first = lies m is q r i one in
+      let second = lies m is s p j two in
+      let taken = is.store.taken two.overlay.block.unit (segment_of s p two.overlay) (held_segment m is s p j two) in
+      elim (cases_eq two.overlay.block.unit one.overlay.block.unit) [
+        | inl e ↦ sym e
+        | inr n ↦ elim (segment_range m.store is.store one.overlay.block (is_segment m is q r i one) two.overlay.block.unit two.overlay.block.order taken n) [
+          | inl h ↦ absurd (omega (arith, h, first.from, second.to, places))
+          | inr h ↦ absurd (omega (arith, h, first.to, second.from, places))
+        ]
+      ]
 
   one_segment : segment_of q r one.overlay ≡ segment_of s p two.overlay
   one_segment = same_Some _ _ (sym (held_segment m is q r i one) ∙ ap (segment_at m.store) one_unit ∙ held_segment m is s p j two)
@@ -107,13 +94,10 @@ module _ (m : MemoryView) (is : IsJoined m) (q r i s p j : ℕ) (one : InOverlay
 frames_same : (m : MemoryView) (q r i s p j : ℕ) → (one : InFrame m q r i) → (two : InFrame m s p j) → i < 64 → j < 64 → place_at m q r i ≡ place_at m s p j → ShareFrameLine m q r i s p j
 frames_same m q r i s p j one two low below same = record {
   number = omega (arith, one.place, two.place, same, low, below);
-  frame = ap (option_map (λ (x : PageView). x.entry.frame)) one.there ∙ ap Some frame ∙ sym (ap (option_map (λ (x : PageView). x.entry.frame)) two.there);
+  frame = let frame : one.x.entry.frame ≡ two.x.entry.frame = omega (arith, one.place, two.place, same, low, below) in ap (option_map (λ (x : PageView). x.entry.frame)) one.there ∙ ap Some frame ∙ sym (ap (option_map (λ (x : PageView). x.entry.frame)) two.there);
   one = ap (λ (o : Option PageView). has_line (lines_of (Rattle.std.specs.Option.option_and_then (λ (x : PageView). x.overlay) o)) i) one.there ∙ one.lacks;
   two = ap (λ (o : Option PageView). has_line (lines_of (Rattle.std.specs.Option.option_and_then (λ (x : PageView). x.overlay) o)) j) two.there ∙ two.lacks;
 }
-  where
-    frame : one.x.entry.frame ≡ two.x.entry.frame
-    frame = omega (arith, one.place, two.place, same, low, below)
 
 -- a line outside the overlay stands in the frame
 outside : (m : MemoryView) (q r i : ℕ) → IsSome (page_in m.table q r) → has_line (lines_of (overlay_at m.table q r)) i ≡ false → InFrame m q r i

@@ -1,18 +1,16 @@
-use Rattle.overlay_pages.proofs.Common.{◌≡◌, ℕ, zero, suc, ◌+◌, ◌*◌, ◌<◌, ◌||◌, Bool, true, false, cond, nat_eq, IsSome, List, [], Option, Some, None, is_some, replicate, slice_index_or, refl, true≢false, option_map, nat_cmp, sym, ap, subst, ◌∙◌, arith, inl, nat_tests, get_or-replicate, FinMap, empty, get, get-empty, FRAME_UNITS, PAGE_LINES}
+use Rattle.overlay_pages.proofs.Common.{◌≡◌, ℕ, zero, suc, ◌+◌, ◌*◌, ◌<◌, ◌||◌, true, false, cond, nat_eq, IsSome, List, [], Option, Some, None, is_some, replicate, slice_index_or, refl, true≢false, option_map, nat_cmp, sym, ap, subst, ◌∙◌, arith, inl, nat_tests, get_or-replicate, FinMap, empty, get, get-empty, FRAME_UNITS, PAGE_LINES, or_parts, none-some}
 use Rattle.overlay_pages.proofs.Stores.{AreSettled, free_at, free_frames, free_units, units_in, HasRoom, line_of, zero_lines, Segment, IsStore, Store, IsFrame, frame_line, segment_at, IsEmptyStore, frame_inside}
-use Rattle.overlay_pages.proofs.Books.{PageEntry, Ledger, all_holdings, has_origin, holding_at, is_alone, is_unused, without_page, units, units_of, class_none, no_holdings, alone_is, frame_for, no_units, units_new, origin_with, without_absent, books_empty, books_page, books_put_page, books_spaces, cut_over, page_absent, page_over, cut_page, holds_space, page_in, put_page, put_pages, turned_page, mapped, mapped_none, LedgerView, PageView, SpaceView, holding_of, ledger_of, overlay_at, with_zero_pages, changed_there}
-use Rattle.overlay_pages.proofs.Views.{bytes_of_line, zero_line, zero_page, PageState, State, books, held_page, IsNewFrame, IsPlaced, whole_page, with_zeros, IsEmptyState, IsJoined, MemoryView, page_state, state_of, view_of, state_page_there}
-use Rattle.space_ledger.specs.View as view
+use Rattle.overlay_pages.proofs.Books.{PageEntry, Ledger, all_holdings, has_origin, holding_at, is_alone, is_unused, without_page, units, units_of, class_none, no_holdings, alone_is, frame_for, no_units, units_new, origin_with, without_absent, books_empty, books_page, books_put_page, books_spaces, cut_over, page_absent, page_over, cut_page, holds_space, page_in, put_page, put_pages, altered_page, mapped, mapped_none, LedgerView, SpaceView, holding_of, ledger_of, with_zero_pages, changed_there, origin_of, by_option}
+use Rattle.overlay_pages.proofs.Views.{bytes_of_line, zero_line, zero_page, PageState, State, books, held_page, IsNewFrame, IsPlaced, whole_page, with_zeros, IsEmptyState, IsJoined, MemoryView, page_state, state_of, view_of, discarded}
 use Rattle.overlay_pages.proofs.NewFrames.{new_still}
-use Rattle.overlay_pages.proofs.Joining.{page_with}
 
 -- A page that was dropped and goes.
 
-pub cut_turned : (turn : PageState → PageState) (v : MemoryView) (s p : ℕ) → IsSome (page_in v.table s p) → cut_page (turned_page turn (state_of v) s p) s p ≡ cut_page (state_of v) s p
-cut_turned turn v s p there =
-    let found = page_with v.table s p there (overlay_at v.table s p) refl in
-    let y = page_state v.store found.x in
-    ap (λ st. cut_page st s p) (changed_there turn (state_of v) s p y (state_page_there v s p found.x found.there)) ∙ cut_over (state_of v) s p (turn y)
+pub cut_altered : (v now : MemoryView) (s p : ℕ) (mid last : State) → v ≡ now → IsSome (page_in (state_of now) s p) → mid ≡ altered_page discarded (state_of v) s p → last ≡ cut_page mid s p
+    → last ≡ cut_page (state_of now) s p
+cut_altered v now s p mid last same there mid_is last_is = by_option (page_in (state_of now) s p)
+    (λ none. absurd (true≢false (sym there ∙ ap is_some none)))
+    (λ y found. last_is ∙ ap (λ st. cut_page st s p) (mid_is ∙ ap (λ (m : MemoryView). altered_page discarded (state_of m) s p) same ∙ changed_there discarded (state_of now) s p y found) ∙ cut_over (state_of now) s p (discarded y))
 
 -- A page that was mapped and gets a frame.
 
@@ -24,10 +22,10 @@ pub one_zero_state : (st : State) (s p : ℕ) (entry : PageEntry) → with_zeros
 unfolding with_zeros put_pages
 one_zero_state st s p entry = refl
 
-pub origin_none : (z f : ℕ) → f ≡ z → view.origin_of z f ≡ 0
+pub origin_none : (z f : ℕ) → f ≡ z → origin_of z f ≡ 0
 origin_none z f same = let yes_ : nat_eq f z ≡ true = grind (arith, nat_tests, same) in ap (λ b. cond b 0 (f + 1)) yes_
 
-origin_some : (z f : ℕ) → (f ≡ z → ⊥) → view.origin_of z f ≡ f + 1
+origin_some : (z f : ℕ) → (f ≡ z → ⊥) → origin_of z f ≡ f + 1
 origin_some z f other = let no_ : nat_eq f z ≡ false = grind (arith, nat_tests, other) in ap (λ b. cond b 0 (f + 1)) no_
 
 -- a page on the zero frame isn't alone
@@ -49,14 +47,10 @@ module _ (st : State) (s p : ℕ) (entry : PageEntry) (there : holds_space st s 
 
   new_before : (frame : ℕ) → IsNewFrame with_zero_page frame → IsNewFrame st frame
   new_before frame fresh = new_still st s p (whole_page entry zero_page) frame (λ none.
-      right (nat_eq (view.origin_of st.zero_frame entry.frame) (frame + 1)) (has_origin (books st) (frame + 1))
-      (ap (λ (l : Ledger). nat_eq (view.origin_of st.zero_frame entry.frame) (frame + 1) || has_origin l (frame + 1)) (sym without)
+      (or_parts (nat_eq (origin_of st.zero_frame entry.frame) (frame + 1)) (has_origin (books st) (frame + 1))
+      (ap (λ (l : Ledger). nat_eq (origin_of st.zero_frame entry.frame) (frame + 1) || has_origin l (frame + 1)) (sym without)
       ∙ sym (origin_with (books st) s p (held_page st.zero_frame (whole_page entry zero_page)) (frame + 1))
-      ∙ ap (λ (l : Ledger). has_origin l (frame + 1)) (sym (books_put_page held_page st s p (whole_page entry zero_page))) ∙ none)) fresh
-    where
-      right : (a b : Bool) → (a || b) ≡ false → b ≡ false
-      right true b h = cc
-      right false b h = h
+      ∙ ap (λ (l : Ledger). has_origin l (frame + 1)) (sym (books_put_page held_page st s p (whole_page entry zero_page))) ∙ none)).1) fresh
 
   pub placed_before : (new : State) (at : ℕ → PageState) → IsPlaced with_zero_page new s p at → IsPlaced st new s p at
   placed_before new at is = record { frame = is.frame; fresh = new_before is.frame is.fresh; placed = is.placed ∙ page_over st s p (whole_page entry zero_page) (at is.frame) }
@@ -68,7 +62,7 @@ module _ (st : State) (s p : ℕ) (entry : PageEntry) (there : holds_space st s 
       let x = whole_page (record { perms = perms.perms; frame = is.frame }) lines in
       let now = ap books is.placed ∙ books_put_page held_page st s p x in
       let more = units_new (books st) s p (held_page st.zero_frame x) without in
-      let one : frame_for (is_unused (books st) (view.origin_of st.zero_frame is.frame)) ≡ 16 = ap (λ o. frame_for (is_unused (books st) o)) (origin_some st.zero_frame is.frame is.fresh.other) ∙ ap frame_for is.fresh.unused in
+      let one : frame_for (is_unused (books st) (origin_of st.zero_frame is.frame)) ≡ 16 = ap (λ o. frame_for (is_unused (books st) o)) (origin_some st.zero_frame is.frame is.fresh.other) ∙ ap frame_for is.fresh.unused in
       omega (arith, ap units now, more, one, class_none)
 
 -- A new memory.
@@ -102,11 +96,8 @@ module _ (empty_store taken : Store) (table : LedgerView) (frames frame : ℕ) (
   no_page s p = page_absent table s p (no_space s)
 
   no_segment : (unit : ℕ) (segment : Segment) → segment_at taken unit ≡ Some segment → ⊥
-  no_segment unit segment there = nothing (sym (ap (λ l. slice_index_or l unit None) (same ∙ is.segments) ∙ none (FRAME_UNITS * frames) unit) ∙ there)
+  no_segment unit segment there = none-some segment (sym (ap (λ l. slice_index_or l unit None) (same ∙ is.segments) ∙ none (FRAME_UNITS * frames) unit) ∙ there)
     where
-      nothing : None ≡ Some segment → ⊥
-      nothing h = cc
-
       no_one : Option Segment
       no_one = None
 
@@ -128,12 +119,9 @@ module _ (empty_store taken : Store) (table : LedgerView) (frames frame : ℕ) (
     numbers = λ s there. let no_ = sym there ∙ ap is_some (no_space s) in absurd (true≢false no_);
     zero = subst (IsFrame taken) (sym zero_is) frame_is;
     zeros = λ i low. ap (λ f. frame_line taken f i) zero_is ∙ ap (λ l. line_of l (64 * frame + i)) (lines ∙ is.lines) ∙ zeros_at (PAGE_LINES * (frames + 1)) (64 * frame + i) (omega (arith, low, whole_is, frame_inside taken store frame frame_is)) ∙ sym line_is;
-    held = λ s p x there. absurd (nothing x (sym (no_page s p) ∙ there));
+    held = λ s p x there. absurd (none-some x (sym (no_page s p) ∙ there));
     owned = λ unit segment there. absurd (no_segment unit segment there);
   }
-    where
-      nothing : (x : PageView) → None ≡ Some x → ⊥
-      nothing x h = cc
 
   pub made_state : IsEmptyState frames (state_of (view_of taken table))
   unfolding state_of mapped

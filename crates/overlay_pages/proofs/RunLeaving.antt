@@ -1,4 +1,4 @@
-use Rattle.overlay_pages.proofs.Common.{option_and_then, option_map, ◌≡◌, ℕ, zero, suc, ◌+◌, ◌≤◌, ◌<◌, Bool, true, false, Some, None, is_some, refl, sym, ap, subst, ◌∙◌, arith}
+use Rattle.overlay_pages.proofs.Common.{option_and_then, ◌≡◌, ℕ, zero, suc, ◌+◌, ◌≤◌, ◌<◌, Bool, true, false, Some, None, is_some, refl, sym, ap, subst, ◌∙◌, arith}
 use Rattle.overlay_pages.proofs.Stores.{Store, IsFrame, frame_inside}
 use Rattle.overlay_pages.proofs.Books.{entry_at, PageEntry, PageRun, is_unused, after_cut, are_cut, cut_page, cut_pages, holds_space, page_in, LedgerView, PageView, ledger_of, origin_of, GivesNothingUp, GivesUpAtLast, IsBareRun, given_up, map_from}
 use Rattle.overlay_pages.proofs.Views.{State, IsJoined, state_of, view_of}
@@ -16,16 +16,13 @@ record IsOne (v : LedgerView) (s p : ℕ) (entry : PageEntry) : Type 0 where
   pub there : page_in v s p ≡ Some x
   pub is : entry ≡ x.entry
 
-one_of : (v : LedgerView) (s p : ℕ) (entry : PageEntry) → option_map (λ (x : PageView). x.entry) (page_in v s p) ≡ Some entry → IsOne v s p entry
-one_of v s p entry has = map_from (λ (x : PageView). x.entry) (page_in v s p) entry has (λ x there same. record { x = x; there = there; is = sym same })
-
 module _ (old : Store) (v : LedgerView) (s : ℕ) (run : PageRun) (is : IsJoined (view_of old v)) (has : holds_space v s ≡ true) (bare : IsBareRun v s run) where
   pub none_left : HasLeft old old v s run 0
   unfolding cut_pages
   none_left = record { joined = is; state = refl }
 
   page : (k : ℕ) → k < run.n → IsOne v s (run.page + k) (entry_at run k)
-  page k low = one_of v s (run.page + k) (entry_at run k) (bare.has k low)
+  page k low = map_from (λ (x : PageView). x.entry) (page_in v s (run.page + k)) (entry_at run k) (bare.has k low) (λ x there same. record { x = x; there = there; is = sym same })
 
   pub frame_taken : (now : Store) (k : ℕ) → k < run.n → HasLeft old now v s run k → (entry : PageEntry) → entry ≡ entry_at run k → IsFrame now entry.frame
   frame_taken now k low so_far entry entry_is =
@@ -84,5 +81,6 @@ module _ (old : Store) (v : LedgerView) (s : ℕ) (run : PageRun) (is : IsJoined
         let none = ap is_some (sym (nothing k below) ∙ ap (given_up new) (page k below).there) ∙ is_given new x in
         one_more k below old old (some_left nothing k (omega (arith, low))) false none (leaves_none old x.entry.frame is.store)
 
-    pub all_left : GivesNothingUp v new s run → HasLeft old old v s run run.n
-    all_left nothing = some_left nothing run.n (omega arith)
+    pub all_left : GivesNothingUp v new s run → new ≡ cut_pages v s run.page run.n → IsJoined (view_of old new) × (state_of (view_of old new) ≡ cut_pages (state_of (view_of old v)) s run.page run.n)
+    all_left nothing gone =
+        let all = some_left nothing run.n (omega arith) in (subst (λ (t : LedgerView). IsJoined (view_of old t)) (sym gone) all.joined, ap (λ (t : LedgerView). state_of (view_of old t)) gone ∙ all.state)

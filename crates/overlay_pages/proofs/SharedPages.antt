@@ -1,10 +1,7 @@
-use Rattle.overlay_pages.proofs.Common.{◌≡◌, ℕ, ◌^◌, ◌<◌, ◌&&◌, not, Bool, true, false, cond, nat_eq, List, Option, Some, None, IsSome, length, refl, sym, ap, subst, ◌∙◌, arith, none-some, option_map, option_map_or, get, remove}
+use Rattle.overlay_pages.proofs.Common.{◌≡◌, ℕ, ◌^◌, ◌<◌, not, Bool, true, false, cond, nat_eq, List, Option, Some, None, IsSome, length, refl, sym, ap, subst, ◌∙◌, arith, none-some, option_map, option_map_or, get, remove, and_right}
 use Rattle.overlay_pages.proofs.Stores.{HasRoom, Block, has_line, overlay_page, Entry, Store, IsFrame, frame_line, line_in}
-use Rattle.overlay_pages.proofs.Books.{keeps_page_put, Pages, PageEntry, has_origin, is_unused, class, frame_for, map_from, books_page, put_shared_as, holds_space, page_in, put_awaiting, put_page, put_shared, space_in, LedgerView, PageView, frame_at, frame_awaiting, holding_of, ledger_of, lines_of, overlay_at, with_page_shared}
-use Rattle.overlay_pages.proofs.Views.{page_lines, lines_same, PageState, HasShareRoom, shared_page, state_awaiting_put, IsHeld, IsJoined, MemoryView, line_seen, page_state, state_of, view_of, state_awaiting, state_page_there}
-use Rattle.ledger.specs.AloneLaws.{origin_of}
-use Rattle.space_ledger.specs.View as view
-use Rattle.overlay_pages.specs.Changes as changes
+use Rattle.overlay_pages.proofs.Books.{keeps_page_put, Pages, PageEntry, has_origin, is_unused, class, frame_for, map_from, books_page, put_shared_as, holds_space, page_in, put_awaiting, put_page, put_shared, space_in, LedgerView, PageView, frame_at, frame_awaiting, holding_of, ledger_of, lines_of, overlay_at, with_page_shared, origin_of}
+use Rattle.overlay_pages.proofs.Views.{page_lines, lines_same, PageState, HasShareRoom, shared_page, state_awaiting_put, IsHeld, IsJoined, MemoryView, line_seen, page_state, state_of, view_of, state_awaiting, state_page_there, with_shared}
 use Rattle.overlay_pages.proofs.Steps.{seen_bare, seen_inside, seen_outside}
 use Rattle.overlay_pages.proofs.Coming.{HasPlaceFor, came}
 use Rattle.overlay_pages.proofs.Overlaying.{segments_some}
@@ -37,8 +34,8 @@ shared_table v from to p o block w =
 
 -- and in the state
 pub shared_state : (m : MemoryView) (from to p : ℕ) (o : Option Entry) (w : Awaits m.table from to p o)
-    → changes.with_shared (state_of m) from to p ≡ put_awaiting (put_page (state_of m) to p (shared_page w.entry (page_state m.store w.x))) to (remove (space_in (state_of m) to).awaiting p)
-unfolding changes.with_shared
+    → with_shared (state_of m) from to p ≡ put_awaiting (put_page (state_of m) to p (shared_page w.entry (page_state m.store w.x))) to (remove (space_in (state_of m) to).awaiting p)
+unfolding with_shared
 shared_state m from to p o w =
     ap (λ (f : Option PageEntry). option_map_or (λ (e : PageEntry). option_map_or (λ x. put_shared (state_of m) to p (shared_page e x)) (page_in (state_of m) from p) (state_of m)) f (state_of m))
     (ap (λ (t : Pages). get t p) (state_awaiting m to) ∙ w.waits)
@@ -54,23 +51,19 @@ module _ (m : MemoryView) (new : Store) (from to p : ℕ) (was now : Option Entr
   theirs = is.held from p w.x w.there
 
   -- its frame is one that a page has already
-  no_frame : frame_for (is_unused (ledger_of m.table) (view.origin_of m.table.zero_frame w.entry.frame)) ≡ 0
+  no_frame : frame_for (is_unused (ledger_of m.table) (origin_of m.table.zero_frame w.entry.frame)) ≡ 0
   unfolding frame_for is_unused
-  no_frame = by (nat_eq (view.origin_of m.table.zero_frame w.entry.frame) 0)
-      (ap (λ f. has_origin (ledger_of m.table) (view.origin_of m.table.zero_frame f)) w.frame_is
-      ∙ origin_of (ledger_of m.table) from p (holding_of m.table.zero_frame w.x) (books_page holding_of m.table from p ∙ ap (option_map (holding_of m.table.zero_frame)) w.there))
-    where
-      by : (b : Bool) → has_origin (ledger_of m.table) (view.origin_of m.table.zero_frame w.entry.frame) ≡ true
-          → ◌≡◌ {A = ℕ} (cond (not b && not (has_origin (ledger_of m.table) (view.origin_of m.table.zero_frame w.entry.frame))) 16 0) 0
-      by true had = refl
-      by false had = ap (λ t. cond {A = ℕ} (not t) 16 0) had
+  no_frame =
+      let had = ap (λ f. has_origin (ledger_of m.table) (origin_of m.table.zero_frame f)) w.frame_is
+      ∙ Rattle.ledger.specs.AloneLaws.origin_of (ledger_of m.table) from p (holding_of m.table.zero_frame w.x) (books_page holding_of m.table from p ∙ ap (option_map (holding_of m.table.zero_frame)) w.there) in
+      ap (λ b. cond {A = ℕ} b 16 0) (and_right (not (nat_eq (origin_of m.table.zero_frame w.entry.frame) 0)) (not (has_origin (ledger_of m.table) (origin_of m.table.zero_frame w.entry.frame))) (ap not had))
 
   taken : IsFrame m.store w.entry.frame
   taken = subst (IsFrame m.store) (sym w.frame_is) theirs.frame
 
   pub shares : page_state new page ≡ shared_page w.entry (page_state m.store w.x)
       → IsJoined (view_of new (put_awaiting (put_page m.table to p page) to (remove (space_in m.table to).awaiting p)))
-      × (state_of (view_of new (put_awaiting (put_page m.table to p page) to (remove (space_in m.table to).awaiting p))) ≡ changes.with_shared (state_of m) from to p)
+      × (state_of (view_of new (put_awaiting (put_page m.table to p page) to (remove (space_in m.table to).awaiting p))) ≡ with_shared (state_of m) from to p)
   shares same =
       let one = came m new to p page is there theirs.low absent taken no_frame so in (
         awaiting_joined new (put_page m.table to p page) to (remove (space_in m.table to).awaiting p) one.0 ((keeps_page_put m.table to p page there).there to ∙ there),
@@ -155,7 +148,7 @@ module _ (a : MemoryView) (new : Store) (from to p : ℕ) (e : Entry) (block : B
       ∙ ap (λ bits. put_awaiting (put_page a.table to p (record { entry = waits.entry; overlay = Some (record { bits = bits; block = block }) })) to (remove (space_in a.table to).awaiting p)) (ap lines_of over)
 
   pub overlaid : (table : LedgerView) → table ≡ with_page_shared a.table from to p (Some block)
-      → IsJoined (view_of new table) × (state_of (view_of new table) ≡ changes.with_shared (state_of a) from to p)
+      → IsJoined (view_of new table) × (state_of (view_of new table) ≡ with_shared (state_of a) from to p)
   overlaid table is_table =
       let page = copied_page a.store new (overlay_page to p) waits.x e waits.entry block waits.is (is.held from p waits.x waits.there).frame so waits.frame_is in
       let all = shares a new from to p (Some e) (Some (record { bits = e.bits; block = block })) is waits space absent now_shares page in (

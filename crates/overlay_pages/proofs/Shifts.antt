@@ -1,10 +1,9 @@
-use Rattle.overlay_pages.proofs.Common.{◌≡◌, ℕ, ◌+◌, ◌^◌, ◌<◌, ◌≤◌, ◌⊎◌, true, List, [], Option, Some, None, IsSome, is_some, length, refl, sym, ap, subst, ◌∙◌, arith, inl, inr, cases_lt, none-some, same_Some, option_and_then, option_map}
-use Rattle.overlay_pages.proofs.Stores.{AreSettled, CanSettle, Piece, free_units, units_in, Block, Move, Ascend, has_line, overlay_page, page_of, space_of, page_back, space_back, Entry, Segment, IsStore, Store, IsFrame, frame_line, segment_at, AreCarried, IsKept, IsOutside, IsTarget, KeepsFrames, MakesMoves, units_after, lands, made_carries, outside_fixed}
+use Rattle.overlay_pages.proofs.Common.{◌≡◌, ℕ, ◌+◌, ◌^◌, ◌<◌, true, List, [], Option, Some, None, IsSome, is_some, length, refl, sym, ap, subst, ◌∙◌, arith, inl, inr, cases_lt, none-some, same_Some, option_and_then, option_map}
+use Rattle.overlay_pages.proofs.Stores.{AreSettled, CanSettle, Piece, free_units, units_in, Block, Move, Ascend, has_line, overlay_page, page_of, space_of, page_back, space_back, Entry, Segment, IsStore, Store, IsFrame, frame_line, segment_at, AreCarried, IsKept, IsOutside, IsTarget, KeepsFrames, MakesMoves, units_after, lands, made_carries, outside_fixed, made_low}
 use Rattle.overlay_pages.proofs.Books.{by_option, by_place, class, units, map_twice, map_from, KeepsSpaces, changed_there, keeps_page_set, keeps_still, keeps_twice, page_set_beside, page_set_here, set_some, spaces_alike, there_space, page_in, set_page, LedgerView, PageView, ledger_of, lines_of, overlay_at, with_block, with_overlay}
 use Rattle.overlay_pages.proofs.Views.{lines_same, books, MovesFewBeside, FollowsAll, IsAhead, IsBehind, IsOfPage, FollowsAt, Moved, MovesFew, Tells, relocated, went_overlay, went_page, IsHeld, IsJoinedWith, IsOwned, line_seen, page_state, segment_of, state_of, view_of, state_books, state_page}
 use Rattle.overlay_pages.proofs.Overlaying.{overlay_beside}
 use Rattle.overlay_pages.proofs.Steps.{by_spot, names_apart, seen_inside, seen_outside, state_keeps}
-use Rattle.segment_store.specs.Runs.{made_low}
 use Rattle.overlay_pages.proofs.Sizes.{shifted_count}
 
 -- Segments went where a function tells, and the tables come after it.
@@ -77,29 +76,15 @@ module _ (was new : Store) (old now : LedgerView) (by : ℕ → ℕ) (behind : I
   -- what it becomes, whether it was told before or not
   put_is : put own.x ≡ went_page by own.x
   unfolding went_page went_overlay page_over entry_in
-  put_is = ap (page_over own.x) (over own.is)
-    where
-      order_is : segment.order ≡ own.overlay.block.order
-      order_is = ap (λ (t : Segment). t.order) segment_is
-
-      to_is : unit ≡ by own.overlay.block.unit
-      to_is = sym comes ∙ ap by (sym own.unit_is)
-
-      over : own.x.overlay ≡ Some own.overlay
-          → option_map (put_block unit segment.order) own.x.overlay ≡ option_map (went_overlay by) own.x.overlay
-      over is =
-          ap (option_map (put_block unit segment.order)) is
-          ∙ (λ j. Some (entry_in own.overlay.bits (record { unit = to_is j; order = order_is j })))
-          ∙ sym (ap (option_map (went_overlay by)) is)
+  put_is =
+      let to_is = sym comes ∙ ap by (sym own.unit_is) in
+      let order_is = ap (λ (t : Segment). t.order) segment_is in
+      ap (page_over own.x)
+      (ap (option_map (put_block unit segment.order)) own.is ∙ (λ j. Some (entry_in own.overlay.bits (record { unit = to_is j; order = order_is j }))) ∙ sym (ap (option_map (went_overlay by)) own.is))
 
   put_twice : put (went_page by own.x) ≡ put own.x
   unfolding went_page went_overlay page_over
-  put_twice = ap (page_over own.x) (at own.x.overlay)
-    where
-      at : (o : Option Entry) → option_map (put_block unit segment.order) (option_map (went_overlay by) o)
-          ≡ option_map (put_block unit segment.order) o
-      at None = refl
-      at (Some e) = refl
+  put_twice = ap (page_over own.x) (map_twice (put_block unit segment.order) (went_overlay by) (put_block unit segment.order) own.x.overlay (λ e is. refl))
 
   abbrev next : LedgerView
   next = relocated now unit (Some segment)
@@ -160,9 +145,6 @@ before_relocate was new old now by unit behind = by_option (segment_at new unit)
 pub after_relocate : (was new : Store) (old now later : LedgerView) (by : ℕ → ℕ) (unit : ℕ) → IsBehind was new old now by → later ≡ relocated now unit (segment_at new unit) → Tells was new old now later by unit (unit + 1)
 after_relocate was new old now later by unit behind is_later = subst (λ v. Tells was new old now v by unit (unit + 1)) (sym is_later) (at (segment_at new unit) refl)
   where
-    same : (P : ℕ → Type 0) (v : ℕ) → unit ≤ v → v < unit + 1 → P unit → P v
-    same P v low high h = let e : unit ≡ v = omega (arith, low, high) in subst P e h
-
     at : (o : Option Segment) → segment_at new unit ≡ o → Tells was new old now (relocated now unit o) by unit (unit + 1)
     at None e = record {
       behind = behind;
@@ -176,7 +158,7 @@ after_relocate was new old now later by unit behind is_later = subst (λ v. Tell
     at (Some segment) e = record {
       behind = some_behind was new old now by behind unit segment e;
       kept = some_kept was new old now by behind unit segment e;
-      told = λ v low high. same (FollowsAt by old (relocated now unit (Some segment))) v low high (some_told was new old now by behind unit segment e);
+      told = λ v low high. let same : unit ≡ v = omega (arith, low, high) in subst (FollowsAt by old (relocated now unit (Some segment))) same (some_told was new old now by behind unit segment e);
     }
 
 -- further units
@@ -187,12 +169,8 @@ pub tells_more : (was new : Store) (old table now later : LedgerView) (by : ℕ 
 tells_more was new old table now later by from i one two = record {
   behind = two.behind;
   kept = λ v told. two.kept v (one.kept v told);
-  told = λ v low high. at v low high (cases_lt v (from + i));
+  told = λ v low high. elim (cases_lt v (from + i)) [ inl h ↦ two.kept v (one.told v low h) | inr h ↦ two.told v h (omega (arith, high)) ];
 }
-  where
-    at : (v : ℕ) → from ≤ v → v < from + (i + 1) → (v < from + i) ⊎ (from + i ≤ v) → FollowsAt by old later v
-    at v low high (inl h) = two.kept v (one.told v low h)
-    at v low high (inr h) = two.told v h (omega (arith, high))
 
 -- All is told.
 

@@ -1,4 +1,4 @@
-use Rattle.overlay_pages.proofs.Common.{◌≡◌, ℕ, ◌+◌, ◌*◌, ◌%◌, ◌^◌, ◌<◌, ◌≤◌, false, List, length, refl, sym, ap, ◌∙◌, arith}
+use Rattle.overlay_pages.proofs.Common.{◌≡◌, ℕ, ◌+◌, ◌*◌, ◌%◌, ◌^◌, ◌<◌, ◌≤◌, false, List, length, refl, sym, ap, ◌∙◌, arith, cond}
 use Rattle.overlay_pages.proofs.Stores.{by_order, AreLines, has_line, with_line, are_with, count_with, capacity_of}
 use Rattle.overlay_pages.proofs.Books.{class, class_le}
 
@@ -33,7 +33,7 @@ pub lacks_one : (bits : List ℕ) (line : ℕ) → AreLines bits → line < 64 �
 lacks_one bits line are low absent = omega (arith, with_one, (are_with bits line are low).few)
   where
     with_one : length (with_line bits line) ≡ length bits + 1
-    with_one = count_with bits line are low ∙ ap (λ b. length bits + Rattle.std.specs.Prelude.cond b 0 1) absent
+    with_one = count_with bits line are low ∙ ap (λ b. length bits + cond b 0 1) absent
 
 -- so a full segment that lacks one can grow
 pub can_grow : (order : ℕ) (bits : List ℕ) (line : ℕ) → order ≤ 4 → AreLines bits → line < 64 → has_line bits line ≡ false → capacity_of order ≤ length bits → order < 4

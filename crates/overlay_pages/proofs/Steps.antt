@@ -1,5 +1,5 @@
-use Rattle.overlay_pages.proofs.Common.{cases_eq, none-some, same_Some, ◌≡◌, ℕ, ◌+◌, ◌*◌, ◌^◌, ◌<◌, ◌≤◌, ◌⊎◌, true, false, cond, nat_eq, List, Option, Some, None, length, slice_index_or, slice_set, refl, true≢false, option_and_then, option_map, sym, ap, subst, ◌∙◌, arith, inl, inr, FRAME_UNITS, LAST_SPACE, PAGE_END}
-use Rattle.overlay_pages.proofs.Stores.{Block, AreSettled, IsPiece, Piece, free_units, taken_at, units_in, has_line, overlay_page, same_page, same_space, Entry, line_of, Segment, IsStore, Store, IsFrame, IsSegment, frame_line, frame_place, line_in, lines_at, place_of, segment_at, KeepsFrame, KeepsSegment, KeepsSegments, block_of, lines_there}
+use Rattle.overlay_pages.proofs.Common.{cases_eq, none-some, same_Some, ◌≡◌, ℕ, ◌+◌, ◌*◌, ◌^◌, ◌<◌, ◌≤◌, ◌⊎◌, true, false, cond, nat_eq, List, Option, Some, None, length, slice_index_or, slice_set, refl, true≢false, option_and_then, option_map, sym, ap, subst, ◌∙◌, arith, inl, inr, FRAME_UNITS, LAST_SPACE, PAGE_END, Bool}
+use Rattle.overlay_pages.proofs.Stores.{Block, AreSettled, IsPiece, Piece, free_units, taken_at, units_in, has_line, overlay_page, same_page, same_space, Entry, line_of, Segment, IsStore, Store, IsFrame, IsSegment, frame_line, frame_place, line_in, lines_at, place_of, segment_at, KeepsFrame, KeepsSegment, KeepsSegments, block_of, lines_there, composed_line, scratch_line}
 use Rattle.overlay_pages.proofs.Books.{by_test, alone_apart, are, arent, Holding, is_alone, books_there, by_place, class, units, map_alike, by_option, KeepsSpaces, keeps_page_set, page_again, page_set_beside, page_set_here, set_some, spaces_alike, there_space, holds_space, page_in, put_page, set_page, LedgerView, PageView, holding_of, ledger_of, lines_of, origin_of}
 use Rattle.overlay_pages.proofs.Views.{lines_same, set_line, page_lines, PageState, IsHeld, IsJoined, IsJoinedWith, IsOwned, MemoryView, line_seen, page_state, place_in_page, segment_of, state_of, view_of, state_awaiting, state_frames, state_holds, state_mark, state_page, state_zero}
 
@@ -26,6 +26,21 @@ seen_inside store x e i over has = ap (line_of store.lines) (place_inside store 
 
 pub seen_outside : (store : Store) (x : PageView) (i : ℕ) → has_line (lines_of x.overlay) i ≡ false → line_seen store x i ≡ frame_line store x.entry.frame i
 seen_outside store x i lacks = ap (line_of store.lines) (place_outside store x i lacks)
+
+-- so a line of a page with an overlay is told by whether that has it
+pub seen_overlaid : (store : Store) (x : PageView) (e : Entry) (i : ℕ) → x.overlay ≡ Some e → cond (has_line e.bits i) (line_in store e.block i) (frame_line store x.entry.frame i) ≡ line_seen store x i
+seen_overlaid store x e i over = by_test (has_line e.bits i)
+    (λ has. ap (λ b. cond b (line_in store e.block i) (frame_line store x.entry.frame i)) has ∙ sym (seen_inside store x e i over has))
+    (λ lacks. ap (λ b. cond b (line_in store e.block i) (frame_line store x.entry.frame i)) lacks ∙ sym (seen_outside store x i (ap (λ (o : Option Entry). has_line (lines_of o) i) over ∙ lacks)))
+
+-- and so it is where those of the overlay went to scratch
+pub composed_seen : (old new : Store) (x : PageView) (e : Entry) → x.overlay ≡ Some e → ((i : ℕ) → i < 64 → has_line e.bits i ≡ true → scratch_line new i ≡ line_in old e.block i)
+    → KeepsFrame old new x.entry.frame → (i : ℕ) → i < 64 → composed_line new x.entry.frame e.bits i ≡ line_seen old x i
+composed_seen old new x e over lifted frame i low = pulled (has_line e.bits i) refl ∙ seen_overlaid old x e i over
+  where
+    pulled : (b : Bool) → has_line e.bits i ≡ b → cond b (scratch_line new i) (frame_line new x.entry.frame i) ≡ cond b (line_in old e.block i) (frame_line old x.entry.frame i)
+    pulled true has = lifted i low has
+    pulled false lacks = frame.lines i low
 
 -- a page without an overlay has the lines of its frame
 pub seen_bare : (store : Store) (x : PageView) → x.overlay ≡ None → page_lines (line_seen store x) ≡ page_lines (frame_line store x.entry.frame)

@@ -11,7 +11,7 @@ pub use Rattle.segment_store.specs.Kept.{IsStore}
 pub use Rattle.segment_store.specs.Laws.{Alters, count_fits, filled_there, frame_alters, frame_inside, frame_set_here, frame_set_store, frame_stays, frames_stay, inside_of, lies_at, line_alters, line_lies, line_set_store, lines_there, order_of, others_stay, places_differ, refilled, scratch_stays, segment_range, segments_stay, set_beside, set_here, stays_twice}
 pub use Rattle.segment_store.specs.Places.{LiesIn}
 pub use Rattle.segment_store.specs.Pointers.{capacity_of}
-pub use Rattle.segment_store.specs.Runs.{lands, low_last, made_carries, outside_fixed, target_last}
+pub use Rattle.segment_store.specs.Runs.{lands, low_last, made_carries, outside_fixed, target_last, made_low}
 pub use Rattle.segment_store.specs.Store.{IsFrame, IsSegment, Store, composed_line, frame_line, frame_place, line_in, lines_at, lines_with, place_of, scratch_line, scratch_place, segment_at, with_frame_line, with_segment_line}
 pub use Rattle.segment_store.specs.declared.segment.Segment.{Segment}
 pub use Rattle.store_compaction.specs.Next.{Ascend}

@@ -1,7 +1,8 @@
-use Rattle.overlay_pages.proofs.Common.{true≢false, ◌≡◌, ℕ, ◌+◌, ◌*◌, ◌≤◌, ◌<◌, ◌&&◌, Bool, true, false, cond, not, List, [], ◌∷◌, Option, Some, None, IfSome, IsSome, is_some, length, refl, nat_cmp, sym, ap, subst, ◌∙◌, arith, none-some, option_and_then, option_map, option_map_or, FinMap, empty, get, get-empty, len, FRAME_UNITS, LAST_SPACE, PAGE_END}
+use Rattle.overlay_pages.proofs.Common.{true≢false, ◌≡◌, ℕ, ◌+◌, ◌*◌, ◌≤◌, ◌<◌, ◌&&◌, Bool, true, false, cond, not, List, [], ◌∷◌, Option, Some, None, IfSome, IsSome, is_some, length, refl, nat_cmp, sym, ap, subst, ◌∙◌, arith, none-some, option_and_then, option_map, option_map_or, FinMap, empty, get, get-empty, len, FRAME_UNITS, LAST_SPACE, PAGE_END, Result, OnOk, OnErr}
 use Rattle.overlay_pages.proofs.Stores.{free_units}
-use Rattle.overlay_pages.proofs.Books.{alike, len_low, get_viewed, Pages, Ledger, is_alone, units, class_most, same_units, Store, ledger_after, store_joins, store_nothing, units_joined, with_lines, map_twice, by_option, by_test, books_added, books_awaiting, books_lost, books_marked, books_page, page_added, page_awaited, page_lost, page_marked, there_cut, there_put, bare_space, cut_space, holds_space, page_in, put_awaiting, put_mark, put_space, space_in, turned_page, LedgerView, PageView, frame_at, holding_of, ledger_of, lines_of, overlay_at}
-use Rattle.overlay_pages.proofs.Views.{PageState, brought, with_brought, writes_frame, IsNextPage, RisesBy, entries_in, IsJoined, MemoryView, page_state, state_of, view_of, state_books, state_mark, state_page, state_page_some, state_pages}
+use Rattle.overlay_pages.proofs.Books.{alike, len_low, get_viewed, Pages, Ledger, is_alone, units, class_most, same_units, Store, ledger_after, store_joins, store_nothing, units_joined, with_lines, map_twice, by_option, by_test, books_added, books_awaiting, books_lost, books_marked, books_page, page_added, page_awaited, page_lost, page_marked, there_cut, there_put, bare_space, cut_space, holds_space, page_in, put_awaiting, put_mark, put_space, space_in, altered_page, LedgerView, PageView, frame_at, holding_of, ledger_of, lines_of, overlay_at, NamesOnce}
+use Rattle.overlay_pages.proofs.Views.{PageState, brought, with_brought, writes_frame, IsNextPage, RisesBy, entries_in, IsJoined, MemoryView, page_state, state_of, view_of, state_books, state_mark, state_page, state_page_some, state_pages, state_holds, state_zero, state_added, state_awaiting_put, state_cut_space, state_mark_put}
+use Rattle.overlay_pages.proofs.Results.{either, on_ok}
 use Rattle.segment_store.specs.Store as store
 use Rattle.space_ledger.specs.Calls as calls
 
@@ -18,11 +19,9 @@ absent_state v q r is = by_option (page_in (state_of v) q r)
 
 pub own_state : (v : MemoryView) (q r : ℕ) → IsSome (page_in v.table q r) → option_map (λ (x : PageState). x.own) (page_in (state_of v) q r) ≡ Some (lines_of (overlay_at v.table q r))
 unfolding page_state
-own_state v q r there = ap (option_map (λ (x : PageState). x.own)) (state_page v q r) ∙ at (page_in v.table q r) there
-  where
-    at : (o : Option PageView) → IsSome o → option_map (λ (x : PageState). x.own) (option_map (page_state v.store) o) ≡ Some (lines_of (option_and_then (λ (x : PageView). x.overlay) o))
-    at None h = cc
-    at (Some x) h = refl
+own_state v q r there = by_option (page_in v.table q r)
+    (λ none. absurd (true≢false (sym there ∙ ap is_some none)))
+    (λ x found. ap (option_map (λ (y : PageState). y.own)) (state_page v q r ∙ ap (option_map (page_state v.store)) found) ∙ ap (λ (o : Option PageView). Some (lines_of (option_and_then (λ (y : PageView). y.overlay) o))) (sym found))
 
 pub frame_of_page : (v : MemoryView) (q r : ℕ) → option_map (λ (x : PageState). x.entry.frame) (page_in (state_of v) q r) ≡ frame_at v.table q r
 unfolding page_state
@@ -40,21 +39,12 @@ overlaid_bare v q r there bare has = by_option (page_in (state_of v) q r)
       ap (λ (o : Option (List ℕ)). length (option_map_or (λ (l : List ℕ). l) o [])) (sym (ap (option_map (λ (x : PageState). x.own)) e) ∙ own_state v q r there ∙ ap (λ o. Some (lines_of o)) bare),
     ))
 
-pub page_some : (v : MemoryView) (q r : ℕ) → IsSome (page_in (state_of v) q r) → IsSome (page_in v.table q r)
-page_some v q r there = sym (state_page_some v q r) ∙ there
-
 pub none_state : (v : MemoryView) (q r : ℕ) → page_in v.table q r ≡ None → page_in (state_of v) q r ≡ None
 none_state v q r none = state_page v q r ∙ ap (option_map (page_state v.store)) none
 
 pub next_state : (v : MemoryView) (q r : ℕ) (found : Option ℕ) → calls.IsNextOf v.table q r found → IsNextPage (state_of v) q r found
 next_state v q r None is = λ p low. none_state v q p (is p low)
 next_state v q r (Some p) is = (is.0, state_page_some v q p ∙ is.1, λ n low below. none_state v q n (is.2 n low below))
-
-pub pages_few : (v : MemoryView) (s : ℕ) → IsJoined v → len (space_in v.table s).pages ≤ PAGE_END
-unfolding page_in
-pages_few v s is = len_low PAGE_END (space_in v.table s).pages (λ q there. by_option (get (space_in v.table s).pages q)
-    (λ none. absurd (true≢false (sym there ∙ ap is_some none)))
-    (λ x e. (is.held s q x e).low))
 
 -- how a store rises
 pub rises_state : (v : MemoryView) (s p : ℕ) (lines : List ℕ) (rise : ℕ) → calls.RisesBy v.table s p lines rise → calls.RisesBeside v.table s p lines rise → RisesBy (state_of v) s p lines rise
@@ -64,17 +54,6 @@ rises_state v s p lines rise one both = record {
       (λ i. units (ledger_after (Store (state_mark v s i) s ((p, lines) ∷ ((other, more) ∷ []))) (state_books v i))) ∙ both other more differs
       ∙ sym (λ i. units (ledger_after (Store (state_mark v s i) s ((other, more) ∷ [])) (state_books v i)) + rise);
 }
-
-pub rise_few : (v : MemoryView) (s p : ℕ) (lines : List ℕ) (rise : ℕ) → IsSome (page_in v.table s p) → calls.RisesBy v.table s p lines rise → rise ≤ 16
-rise_few v s p lines rise there one = by_test (not (space_in v.table s).speculating && is_alone (ledger_of v.table) s p)
-    (λ frame. let same = ap units (store_nothing (space_in v.table s).speculating (ledger_of v.table) s p lines frame) in omega (arith, one, same))
-    (λ frame. by_option (page_in v.table s p)
-    (λ none. absurd (true≢false (sym there ∙ ap is_some none)))
-    (λ x is.
-    let held = books_page holding_of v.table s p ∙ ap (option_map (holding_of v.table.zero_frame)) is in
-    let more = units_joined (ledger_of v.table) s p lines (holding_of v.table.zero_frame x) held in
-    let after = ap units (store_joins (space_in v.table s).speculating (ledger_of v.table) s p lines frame) in
-    omega (arith, one, after, more, class_most (length (with_lines (lines_of x.overlay) lines)))))
 
 -- Tables that have the same pages.
 
@@ -94,14 +73,6 @@ same_joined st a b is frames zero pages numbers same = record {
       record { space = own.space; page = own.page; x = own.x; overlay = own.overlay; there = pages own.space own.page ∙ own.there; is = own.is; unit_is = own.unit_is; owner = own.owner };
 }
 
--- an empty space more
-pub space_added : (st : store.Store) (v : LedgerView) (s : ℕ) → IsJoined (view_of st v) → s ≤ LAST_SPACE → holds_space v s ≡ false → IsJoined (view_of st (put_space v s bare_space))
-unfolding put_space
-space_added st v s is few absent =
-    same_joined st v (put_space v s bare_space) is refl refl (page_added v s absent)
-    (λ q there. there_put v s bare_space q there (λ same. subst (λ n. n ≤ LAST_SPACE) (sym same) few) (is.numbers q))
-    (same_units (ledger_of (put_space v s bare_space)) (ledger_of v) (books_added holding_of v s absent))
-
 -- What is brought: nothing where the frame is written, else lines of the overlay.
 
 pub frame_state : (v : MemoryView) (s p : ℕ) → writes_frame (state_of v) s p ≡ (not (space_in v.table s).speculating && is_alone (ledger_of v.table) s p)
@@ -109,26 +80,14 @@ frame_state v s p = λ i. not (state_mark v s i) && is_alone (state_books v i) s
 
 pub brought_frame : (v : MemoryView) (s p : ℕ) (lines : List ℕ) → (not (space_in v.table s).speculating && is_alone (ledger_of v.table) s p) ≡ true → state_of v ≡ with_brought (state_of v) s p lines
 unfolding with_brought
-brought_frame v s p lines frame = sym (ap (λ b. cond b (state_of v) (turned_page (brought lines) (state_of v) s p)) (frame_state v s p ∙ frame))
+brought_frame v s p lines frame = sym (ap (λ b. cond b (state_of v) (altered_page (brought lines) (state_of v) s p)) (frame_state v s p ∙ frame))
 
 pub brought_overlay : (v : MemoryView) (s p : ℕ) (lines : List ℕ) → (not (space_in v.table s).speculating && is_alone (ledger_of v.table) s p) ≡ false
-    → with_brought (state_of v) s p lines ≡ turned_page (brought lines) (state_of v) s p
+    → with_brought (state_of v) s p lines ≡ altered_page (brought lines) (state_of v) s p
 unfolding with_brought
-brought_overlay v s p lines frame = ap (λ b. cond b (state_of v) (turned_page (brought lines) (state_of v) s p)) (frame_state v s p ∙ frame)
+brought_overlay v s p lines frame = ap (λ b. cond b (state_of v) (altered_page (brought lines) (state_of v) s p)) (frame_state v s p ∙ frame)
 
--- Spaces that go, marks, and tables that are copied and adopted.
-
-pub space_gone : (st : store.Store) (v : LedgerView) (s : ℕ) → IsJoined (view_of st v) → holds_space v s ≡ true → (space_in v s).pages ≡ empty → IsJoined (view_of st (cut_space v s))
-unfolding cut_space
-space_gone st v s is there none =
-    same_joined st v (cut_space v s) is refl refl (page_lost v s none) (λ q here. is.numbers q (there_cut v s q here))
-    (same_units (ledger_of (cut_space v s)) (ledger_of v) (books_lost holding_of v s there none))
-
-pub mark_joined : (st : store.Store) (v : LedgerView) (s : ℕ) (on : Bool) → IsJoined (view_of st v) → holds_space v s ≡ true → IsJoined (view_of st (put_mark v s on))
-unfolding put_mark put_space
-mark_joined st v s on is there =
-    same_joined st v (put_mark v s on) is refl refl (page_marked v s on) (λ q here. there_put v s _ q here (λ same. subst (λ n. n ≤ LAST_SPACE) (sym same) (is.numbers s there)) (is.numbers q))
-    (ap units (books_marked holding_of v s on there))
+-- Spaces that come and go, marks, and tables that are copied and adopted.
 
 pub awaiting_joined : (st : store.Store) (v : LedgerView) (s : ℕ) (awaiting : Pages) → IsJoined (view_of st v) → holds_space v s ≡ true → IsJoined (view_of st (put_awaiting v s awaiting))
 unfolding put_awaiting put_space
@@ -155,3 +114,81 @@ pub none_back : (v : MemoryView) (q r : ℕ) → page_in (state_of v) q r ≡ No
 none_back v q r none = by_option (page_in v.table q r)
     (λ e. e)
     (λ x e. let no = sym (state_page_some v q r ∙ ap is_some e) ∙ ap is_some none in cc)
+
+-- What of the tables alone changes, as the owner has it: `now` is what was seen before.
+
+module _ (st : store.Store) (v new : LedgerView) (now : MemoryView) (s : ℕ) (same : view_of st v ≡ now) (is : IsJoined (view_of st v)) where
+  held_still : (b : Bool) → holds_space (state_of now) s ≡ b → holds_space v s ≡ b
+  held_still b here = sym (state_holds (view_of st v) s) ∙ ap (λ (m : MemoryView). holds_space (state_of m) s) same ∙ here
+
+  pub marked_joined : (on : Bool) → new ≡ put_mark v s on → holds_space (state_of now) s ≡ true → IsJoined (view_of st new)
+  unfolding put_mark put_space
+  marked_joined on is_new here =
+      let there = held_still true here in
+      subst (λ t. IsJoined (view_of st t)) (sym is_new)
+      (same_joined st v (put_mark v s on) is refl refl (page_marked v s on) (λ q has. there_put v s _ q has (λ e. subst (λ n. n ≤ LAST_SPACE) (sym e) (is.numbers s there)) (is.numbers q))
+      (ap units (books_marked holding_of v s on there)))
+
+  pub marked_state : (on : Bool) → new ≡ put_mark v s on → state_of (view_of st new) ≡ put_mark (state_of now) s on
+  marked_state on is_new = ap (λ t. state_of (view_of st t)) is_new ∙ state_mark_put st v s on ∙ ap (λ (m : MemoryView). put_mark (state_of m) s on) same
+
+  pub adopted_joined : (pages : Pages) → new ≡ put_awaiting v s pages → holds_space (state_of now) s ≡ true → IsJoined (view_of st new)
+  adopted_joined pages is_new here = subst (λ t. IsJoined (view_of st t)) (sym is_new) (awaiting_joined st v s pages is (held_still true here))
+
+  pub adopted_state : (pages : Pages) → new ≡ put_awaiting v s pages → state_of (view_of st new) ≡ put_awaiting (state_of now) s pages
+  adopted_state pages is_new = ap (λ t. state_of (view_of st t)) is_new ∙ state_awaiting_put st v s pages ∙ ap (λ (m : MemoryView). put_awaiting (state_of m) s pages) same
+
+  pub ended_joined : new ≡ cut_space v s → holds_space (state_of now) s ≡ true → (space_in (state_of now) s).pages ≡ empty → IsJoined (view_of st new)
+  unfolding cut_space
+  ended_joined is_new here empty_now =
+      let none = no_pages_state (view_of st v) s (ap (λ (m : MemoryView). (space_in (state_of m) s).pages) same ∙ empty_now) in
+      subst (λ t. IsJoined (view_of st t)) (sym is_new)
+      (same_joined st v (cut_space v s) is refl refl (page_lost v s none) (λ q has. is.numbers q (there_cut v s q has))
+      (same_units (ledger_of (cut_space v s)) (ledger_of v) (books_lost holding_of v s (held_still true here) none)))
+
+  pub ended_state : new ≡ cut_space v s → state_of (view_of st new) ≡ cut_space (state_of now) s
+  ended_state is_new = ap (λ t. state_of (view_of st t)) is_new ∙ state_cut_space st v s ∙ ap (λ (m : MemoryView). cut_space (state_of m) s) same
+
+  -- an empty space more, or want of memory
+  pub added_joined : {X E : Type 0} (r : Result X E) → OnOk r (new ≡ put_space v s bare_space) → OnErr r (new ≡ v) → s ≤ LAST_SPACE → holds_space (state_of now) s ≡ false → IsJoined (view_of st new)
+  unfolding put_space
+  added_joined r put kept few none =
+      let absent = held_still false none in
+      either (IsJoined (view_of st new)) (new ≡ put_space v s bare_space) (new ≡ v) r put kept
+      (λ is_new. subst (λ t. IsJoined (view_of st t)) (sym is_new)
+      (same_joined st v (put_space v s bare_space) is refl refl (page_added v s absent) (λ q has. there_put v s bare_space q has (λ e. subst (λ n. n ≤ LAST_SPACE) (sym e) few) (is.numbers q))
+      (same_units (ledger_of (put_space v s bare_space)) (ledger_of v) (books_added holding_of v s absent))))
+      (λ is_new. subst (λ t. IsJoined (view_of st t)) (sym is_new) is)
+
+  pub added_state : {X E : Type 0} (r : Result X E) → OnOk r (new ≡ put_space v s bare_space) → OnOk r (state_of (view_of st new) ≡ put_space (state_of now) s bare_space)
+  added_state r put = on_ok r put (λ is_new. ap (λ t. state_of (view_of st t)) is_new ∙ state_added st v s ∙ ap (λ (m : MemoryView). put_space (state_of m) s bare_space) same)
+
+  -- the entries of a space
+  pub entries_few : (n : ℕ) → n ≡ len (space_in v s).pages → n ≤ PAGE_END
+  unfolding page_in
+  entries_few n count =
+      let low = len_low PAGE_END (space_in v s).pages (λ q there. by_option (get (space_in v s).pages q) (λ none. absurd (true≢false (sym there ∙ ap is_some none))) (λ x e. (is.held s q x e).low)) in
+      omega (arith, count, low)
+
+  pub entries_once : NamesOnce v.zero_frame (calls.entries_of v s) → NamesOnce (state_of now).zero_frame (entries_in (state_of now) s)
+  entries_once once = subst (λ (m : MemoryView). NamesOnce (state_of m).zero_frame (entries_in (state_of m) s)) same
+      (subst (λ z. NamesOnce z (entries_in (state_of (view_of st v)) s)) (sym (state_zero (view_of st v))) (subst (NamesOnce v.zero_frame) (entries_state (view_of st v) s) once))
+
+  -- a page that is there
+  pub seen_there : (p : ℕ) → IsSome (page_in (state_of now) s p) → IsSome (page_in v s p)
+  seen_there p there = sym (state_page_some (view_of st v) s p) ∙ ap (λ (m : MemoryView). is_some (page_in (state_of m) s p)) same ∙ there
+
+  pub seen_few : (p : ℕ) (lines : List ℕ) (rise : ℕ) → IsSome (page_in (state_of now) s p) → calls.RisesBy v s p lines rise → rise ≤ 16
+  seen_few p lines rise there one = by_test (not (space_in v s).speculating && is_alone (ledger_of v) s p)
+      (λ frame. let nothing = ap units (store_nothing (space_in v s).speculating (ledger_of v) s p lines frame) in omega (arith, one, nothing))
+      (λ frame. by_option (page_in v s p)
+      (λ none. absurd (true≢false (sym (seen_there p there) ∙ ap is_some none)))
+      (λ x found.
+      let more = units_joined (ledger_of v) s p lines (holding_of v.zero_frame x) (books_page holding_of v s p ∙ ap (option_map (holding_of v.zero_frame)) found) in
+      let after = ap units (store_joins (space_in v s).speculating (ledger_of v) s p lines frame) in
+      omega (arith, one, after, more, class_most (length (with_lines (lines_of x.overlay) lines)))))
+
+  pub seen_low : (p : ℕ) → IsSome (page_in (state_of now) s p) → p < PAGE_END
+  seen_low p there = by_option (page_in v s p)
+      (λ none. absurd (true≢false (sym (seen_there p there) ∙ ap is_some none)))
+      (λ x found. (is.held s p x found).low)

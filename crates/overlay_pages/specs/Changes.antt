@@ -10,7 +10,7 @@ use Rattle.ledger.specs.Changes.{with_lines}
 use Rattle.ledger.specs.Units.{class, units}
 use Rattle.overlay_pages.specs.Lines.{zero_page}
 use Rattle.overlay_pages.specs.State.{PageState, State, books}
-use Rattle.space_maps.specs.Spaces.{page_in, put_page, put_pages, put_shared, space_in, turned_page}
+use Rattle.space_maps.specs.Spaces.{page_in, put_page, put_pages, put_shared, space_in, altered_page}
 
 -- What is done to a page.
 
@@ -64,11 +64,11 @@ is_writable state space page line =
 
 -- lines of a page that are to be written join its own, unless its frame is written
 unfoldable pub with_brought : State → ℕ → ℕ → List ℕ → State
-with_brought state space page lines = cond (writes_frame state space page) state (turned_page (brought lines) state space page)
+with_brought state space page lines = cond (writes_frame state space page) state (altered_page (brought lines) state space page)
 
 -- a line of a page was written
 unfoldable pub with_written : State → ℕ → ℕ → ℕ → List ℕ → State
-with_written state space page line bytes = turned_page (written line bytes) state space page
+with_written state space page line bytes = altered_page (written line bytes) state space page
 
 -- pages on the zero frame, one after the other
 unfoldable pub with_zeros : State → ℕ → ℕ → ℕ → PageEntry → State

@@ -2,7 +2,7 @@ use Rattle.std.specs.Prelude.{◌≡◌, ℕ, ◌<◌, ◌&&◌, not, true, fals
 use Rattle.std.specs.Option.{option_map}
 use Rattle.sizes.specs.declared.TheConstants.{PAGE_LINES}
 use Rattle.unit_map.specs.declared.block.Block.{Block}
-use Rattle.overlay_bits.specs.Lines.{has_line}
+use Rattle.overlay_bits.specs.Lines.{has_line, with_line}
 use Rattle.overlay_mapping_table.specs.declared.entry.Entry.{Entry}
 use Rattle.ledger.specs.Ledger.{is_alone}
 use Rattle.space_maps.specs.Spaces.{page_in, space_in}
@@ -63,6 +63,14 @@ pub record IsFoundPage (table : LedgerView) (found : FoundPage) : Type 0 where
   pub own : lines_of x.overlay ≡ found.own
   pub block : (overlay : Entry) → x.overlay ≡ Some overlay → overlay.block ≡ found.block
   pub in_frame : found.in_frame ≡ (not (space_in table found.space).speculating && is_alone (ledger_of table) found.space found.page)
+
+-- It is found so once a line of it was brought: that line is one of its own. Every other page is found as before.
+pub record IsBroughtTo (old new : LedgerView) (page : FoundPage) (line : ℕ) (found : FoundPage) : Type 0 where
+  pub space_is : found.space ≡ page.space
+  pub page_is : found.page ≡ page.page
+  pub own : found.own ≡ with_line page.own line
+  pub is : IsFoundPage new found
+  pub others : (other : FoundPage) → (other.space ≡ page.space → other.page ≡ page.page → ⊥) → IsFoundPage old other → IsFoundPage new other
 
 -- this page was found
 pub record IsFoundPageAt (view : MemoryView) (space page : ℕ) (found : FoundPage) : Type 0 where

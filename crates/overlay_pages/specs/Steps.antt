@@ -11,7 +11,7 @@ use Rattle.segment_store.specs.Store.{Store, composed_line, frame_line}
 use Rattle.segment_store.specs.Changes.{AreCarried, FillsFrame, IsOutside, IsTarget, KeepsFrames, KeepsScratch, WholeSegmentsStay}
 use Rattle.space_maps.specs.Laws.{KeepsSpaces}
 use Rattle.space_maps.specs.Spaces.{page_in}
-use Rattle.space_ledger.specs.View.{LedgerView, PageView, overlay_at, with_block}
+use Rattle.space_ledger.specs.View.{LedgerView, PageView, overlay_at, with_block, with_overlay}
 use Rattle.overlay_pages.specs.Lines.{page_lines}
 use Rattle.overlay_pages.specs.State.{PageState}
 use Rattle.overlay_pages.specs.View.{IsJoined, IsJoinedWith, MemoryView, state_of, view_of}
@@ -95,6 +95,11 @@ KeepsOtherOverlays space page old new = (q r : ℕ) → (q ≡ space → r ≡ p
 -- a page whose overlay gets one more line
 abbrev pub joins : ℕ → List ℕ → PageState → PageState
 joins line bytes x = record { entry = x.entry; own = with_line x.own line; lines = slice_set x.lines line bytes; base = x.base }
+
+-- the tables as they were, but that the overlay of a page has these lines and one more, at a block
+abbrev pub HasJoined : LedgerView → LedgerView → ℕ → ℕ → List ℕ → ℕ → Block → Type 0
+HasJoined old new space page bits line block =
+    new ≡ with_overlay old space page (Some (record { bits = with_line bits line; block = block }))
 
 -- a page whose overlay has lines of scratch, and one line more
 abbrev pub laid_line : Store → List ℕ → ℕ → List ℕ → ℕ → ℕ → List ℕ

@@ -2,7 +2,7 @@
 
 #![tactic(auto, using(crate::proofs::Needs::needs))]
 
-ghost use Rattle.std.specs.Prelude.{◌≡◌, ℕ, ◌+◌, ◌^◌, ◌<◌, ◌≤◌, IsSome, Some, None, [], ◌∷◌, true, false, length};
+ghost use Rattle.std.specs.Prelude.{◌≡◌, ℕ, ◌+◌, ◌^◌, ◌<◌, ◌≤◌, IfSome, IsSome, Some, None, [], ◌∷◌, true, false, length};
 ghost use Rattle.sizes.specs.declared.TheConstants.{PAGE_LINES};
 ghost use Rattle.unit_map.specs.Changes.{HasRoom};
 ghost use Rattle.overlay_bits.specs.Lines.{has_line};
@@ -10,19 +10,22 @@ ghost use Rattle.ledger.specs.Units.{class};
 ghost use Rattle.segment_store.specs.Pointers.{capacity_of};
 ghost use Rattle.segment_store.specs.Store.{line_in, scratch_line};
 ghost use Rattle.segment_store.specs.Changes.{KeepsFrames, KeepsScratch};
-ghost use Rattle.space_maps.specs.Spaces.{page_in, turned_page};
+ghost use Rattle.space_maps.specs.Spaces.{page_in, altered_page};
 ghost use Rattle.space_ledger.specs.View.{frame_at, lines_of, overlay_at};
-ghost use Rattle.overlay_pages.specs.Changes.{Fits, brought, discarded, limit_of, units_of};
+ghost use Rattle.overlay_pages.specs.Changes.{Fits, brought, discarded, is_writable, limit_of, units_of, with_brought};
 ghost use Rattle.overlay_pages.specs.Calls.{MovesFewBeside};
+ghost use Rattle.overlay_pages.specs.Spots.{IsBroughtTo, IsFoundPage};
 ghost use Rattle.overlay_pages.specs.View.{IsJoined, state_of, view_of};
-ghost use Rattle.overlay_pages.specs.Steps.{joins, laid};
+ghost use Rattle.overlay_pages.specs.Steps.{HasJoined, joins, laid};
 
 use crate::moving::settle;
+use crate::spots::FoundPage;
 use overlay_address::OverlayPage;
 use overlay_bits::Bits;
 use overlay_mapping_table::Entry;
 use segment_store::SegmentStore;
 use space_ledger::SpaceLedger;
+use unit_map::Block;
 
 /// The most lines of a segment of an order.
 fn capacity(order: u8) -> u32
@@ -52,7 +55,7 @@ pub(crate) fn end_overlay(
     requires overlaid { overlay_at ledger.old space page ≡ Some overlay.now }
     ensures joined { IsJoined (view_of store.new ledger.new) }
     ensures state { state_of (view_of store.new ledger.new)
-        ≡ turned_page discarded (state_of (view_of store.old ledger.old)) space page }
+        ≡ altered_page discarded (state_of (view_of store.old ledger.old)) space page }
     ensures there { IsSome (page_in ledger.new space page) }
     ensures bare { overlay_at ledger.new space page ≡ None }
     ensures scratch { KeepsScratch store.old store.new }
@@ -75,7 +78,7 @@ pub(crate) fn drop_overlay(
     requires there { IsSome (page_in ledger.old space page) }
     ensures joined { IsJoined (view_of store.new ledger.new) }
     ensures state { state_of (view_of store.new ledger.new)
-        ≡ turned_page discarded (state_of (view_of store.old ledger.old)) space page }
+        ≡ altered_page discarded (state_of (view_of store.old ledger.old)) space page }
     ensures there { IsSome (page_in ledger.new space page) }
     ensures bare { overlay_at ledger.new space page ≡ None }
     ensures scratch { KeepsScratch store.old store.new }
@@ -101,11 +104,11 @@ pub(crate) fn take_up(
     requires there { IsSome (page_in ledger.old space page) }
     requires overlaid { overlay_at ledger.old space page ≡ Some overlay.now }
     requires order { order ≤ 4 }
-    requires enough { 2 ^ order + units_of (turned_page discarded (state_of (view_of store.old ledger.old)) space page)
+    requires enough { 2 ^ order + units_of (altered_page discarded (state_of (view_of store.old ledger.old)) space page)
         ≤ limit_of (state_of (view_of store.old ledger.old)) }
     ensures joined { IsJoined (view_of store.new ledger.new) }
     ensures state { state_of (view_of store.new ledger.new)
-        ≡ turned_page discarded (state_of (view_of store.old ledger.old)) space page }
+        ≡ altered_page discarded (state_of (view_of store.old ledger.old)) space page }
     ensures there { IsSome (page_in ledger.new space page) }
     ensures bare { overlay_at ledger.new space page ≡ None }
     ensures frames { KeepsFrames store.old store.new }
@@ -119,6 +122,7 @@ pub(crate) fn take_up(
 }
 
 /// A page that is there and has no overlay gets one, for which there is room: with these lines of scratch, and with one line more.
+/// Answers its block.
 fn begin_overlay(
     store: &mut SegmentStore,
     ledger: &mut SpaceLedger,
@@ -128,7 +132,7 @@ fn begin_overlay(
     bits: Bits,
     line: u8,
     bytes: &[u8; 64],
-)
+) -> Block
     requires joined { IsJoined (view_of store.old ledger.old) }
     requires there { IsSome (page_in ledger.old space page) }
     requires bare { overlay_at ledger.old space page ≡ None }
@@ -140,17 +144,19 @@ fn begin_overlay(
     requires size { 2 ^ order ≡ class (length bits + 1) }
     ensures joined { IsJoined (view_of store.new ledger.new) }
     ensures state { state_of (view_of store.new ledger.new)
-        ≡ turned_page (laid store.old bits line bytes.now)
+        ≡ altered_page (laid store.old bits line bytes.now)
         (state_of (view_of store.old ledger.old)) space page }
+    ensures table { HasJoined ledger.old ledger.new space page bits line result }
 {
     let block = store.begin_segment(OverlayPage::of(space, page), order);
     store.lay(block, bits);
     store.insert(block, line, bytes);
     let bits = bits.with(line);
-    ledger.set_overlay(space, page, Some(Entry { bits, block }));
+    ledger.replace_overlay(space, page, None, Some(Entry { bits, block }));
+    block
 }
 
-/// A line comes into the overlay of a page, where there is a place for it.
+/// A line comes into the overlay of a page, where there is a place for it. Answers its block.
 fn insert_line(
     store: &mut SegmentStore,
     ledger: &mut SpaceLedger,
@@ -159,7 +165,7 @@ fn insert_line(
     entry: Entry,
     line: u8,
     bytes: &[u8; 64],
-)
+) -> Block
     requires joined { IsJoined (view_of store.old ledger.old) }
     requires there { IsSome (page_in ledger.old space page) }
     requires overlaid { overlay_at ledger.old space page ≡ Some entry }
@@ -168,12 +174,14 @@ fn insert_line(
     requires fits { length entry.bits < capacity_of entry.block.order }
     ensures joined { IsJoined (view_of store.new ledger.new) }
     ensures state { state_of (view_of store.new ledger.new)
-        ≡ turned_page (joins line bytes.now) (state_of (view_of store.old ledger.old)) space page }
+        ≡ altered_page (joins line bytes.now) (state_of (view_of store.old ledger.old)) space page }
+    ensures table { HasJoined ledger.old ledger.new space page entry.bits line result }
 {
     store.insert(entry.block, line, bytes);
     let bits = entry.bits.with(line);
     let block = entry.block;
-    ledger.set_overlay(space, page, Some(Entry { bits, block }));
+    ledger.replace_overlay(space, page, Some(entry), Some(Entry { bits, block }));
+    block
 }
 
 /// A line comes into the overlay of a page, which grows for it: its old segment ends before the new one begins.
@@ -192,18 +200,18 @@ fn grow(
     requires line { line < PAGE_LINES }
     requires absent { has_line entry.bits line ≡ false }
     requires full { capacity_of entry.block.order ≤ length entry.bits }
-    requires fits { Fits (turned_page (joins line bytes.now)
+    requires fits { Fits (altered_page (joins line bytes.now)
         (state_of (view_of store.old ledger.old)) space page) }
     ensures joined { IsJoined (view_of store.new ledger.new) }
     ensures state { state_of (view_of store.new ledger.new)
-        ≡ turned_page (joins line bytes.now) (state_of (view_of store.old ledger.old)) space page }
+        ≡ altered_page (joins line bytes.now) (state_of (view_of store.old ledger.old)) space page }
 {
     let order = entry.block.order + 1;
     take_up(store, ledger, space, page, &entry, order);
     begin_overlay(store, ledger, space, page, order, entry.bits, line, bytes);
 }
 
-/// The first line comes into the overlay of a page that has none.
+/// The first line comes into the overlay of a page that has none. Answers its block.
 fn begin_with(
     store: &mut SegmentStore,
     ledger: &mut SpaceLedger,
@@ -211,45 +219,54 @@ fn begin_with(
     page: u64,
     line: u8,
     bytes: &[u8; 64],
-)
+) -> Block
     requires joined { IsJoined (view_of store.old ledger.old) }
     requires there { IsSome (page_in ledger.old space page) }
     requires bare { overlay_at ledger.old space page ≡ None }
     requires line { line < PAGE_LINES }
-    requires fits { Fits (turned_page (joins line bytes.now)
+    requires fits { Fits (altered_page (joins line bytes.now)
         (state_of (view_of store.old ledger.old)) space page) }
     ensures joined { IsJoined (view_of store.new ledger.new) }
     ensures state { state_of (view_of store.new ledger.new)
-        ≡ turned_page (joins line bytes.now) (state_of (view_of store.old ledger.old)) space page }
+        ≡ altered_page (joins line bytes.now) (state_of (view_of store.old ledger.old)) space page }
+    ensures table { HasJoined ledger.old ledger.new space page [] line result }
 {
-    begin_overlay(store, ledger, space, page, 0, Bits::empty(), line, bytes);
+    begin_overlay(store, ledger, space, page, 0, Bits::empty(), line, bytes)
 }
 
-/// A line comes into the overlay of a page, which grows where it has no place for it.
+/// A line comes into the overlay of a page, which begins where there is none, and grows where it has no place for it. Answers its block
+/// where it doesn't grow.
 fn join(
     store: &mut SegmentStore,
     ledger: &mut SpaceLedger,
     space: u16,
     page: u64,
-    entry: Entry,
+    overlay: Option<Entry>,
     line: u8,
     bytes: &[u8; 64],
-)
+) -> Option<Block>
     requires joined { IsJoined (view_of store.old ledger.old) }
     requires there { IsSome (page_in ledger.old space page) }
-    requires overlaid { overlay_at ledger.old space page ≡ Some entry }
+    requires overlay { overlay_at ledger.old space page ≡ overlay }
     requires line { line < PAGE_LINES }
-    requires absent { has_line entry.bits line ≡ false }
-    requires fits { Fits (turned_page (joins line bytes.now)
+    requires absent { has_line (lines_of overlay) line ≡ false }
+    requires fits { Fits (altered_page (joins line bytes.now)
         (state_of (view_of store.old ledger.old)) space page) }
     ensures joined { IsJoined (view_of store.new ledger.new) }
     ensures state { state_of (view_of store.new ledger.new)
-        ≡ turned_page (joins line bytes.now) (state_of (view_of store.old ledger.old)) space page }
+        ≡ altered_page (joins line bytes.now) (state_of (view_of store.old ledger.old)) space page }
+    ensures stays { IfSome result (HasJoined ledger.old ledger.new space page (lines_of overlay) line) }
 {
-    if entry.bits.len() < capacity(entry.block.order) {
-        insert_line(store, ledger, space, page, entry, line, bytes);
-    } else {
-        grow(store, ledger, space, page, entry, line, bytes);
+    match overlay {
+        Some(entry) => {
+            if entry.bits.len() < capacity(entry.block.order) {
+                Some(insert_line(store, ledger, space, page, entry, line, bytes))
+            } else {
+                grow(store, ledger, space, page, entry, line, bytes);
+                None
+            }
+        }
+        None => Some(begin_with(store, ledger, space, page, line, bytes)),
     }
 }
 
@@ -264,33 +281,62 @@ fn has_own(overlay: &Option<Entry>, line: u8) -> bool
     }
 }
 
-/// A line of a page that is to be written in its overlay is there: as the page's frame has it, where it wasn't there.
+/// A line of a page that is to be written in its overlay is there: as the page's frame has it, where it wasn't there. Answers the block
+/// where it came and no other overlay moved.
 fn bring_line(
     store: &mut SegmentStore,
     ledger: &mut SpaceLedger,
     space: u16,
     page: u64,
     frame: u32,
+    overlay: Option<Entry>,
     line: u8,
-)
+) -> Option<Block>
     requires joined { IsJoined (view_of store.old ledger.old) }
     requires there { IsSome (page_in ledger.old space page) }
     requires frame { frame_at ledger.old space page ≡ Some frame }
+    requires overlay { overlay_at ledger.old space page ≡ overlay }
     requires line { line < PAGE_LINES }
-    requires fits { Fits (turned_page (brought (line ∷ []))
+    requires fits { Fits (altered_page (brought (line ∷ []))
         (state_of (view_of store.old ledger.old)) space page) }
     ensures joined { IsJoined (view_of store.new ledger.new) }
     ensures state { state_of (view_of store.new ledger.new)
-        ≡ turned_page (brought (line ∷ [])) (state_of (view_of store.old ledger.old)) space page }
+        ≡ altered_page (brought (line ∷ [])) (state_of (view_of store.old ledger.old)) space page }
+    ensures stays { IfSome result (HasJoined ledger.old ledger.new space page (lines_of overlay) line) }
 {
-    let overlay = ledger.overlay(space, page);
     if has_own(&overlay, line) {
-        return;
+        return None;
     }
     let bytes = *store.frame_line(frame, line);
-    match overlay {
-        Some(entry) => join(store, ledger, space, page, entry, line, &bytes),
-        None => begin_with(store, ledger, space, page, line, &bytes),
+    join(store, ledger, space, page, overlay, line, &bytes)
+}
+
+/// A line of a page that was found, which can't be written where it stands, comes into its overlay, as the page's frame has it. Answers
+/// the page as it is found then, where no other overlay moved.
+pub(crate) fn bring_found(
+    store: &mut SegmentStore,
+    ledger: &mut SpaceLedger,
+    page: FoundPage,
+    line: u8,
+) -> Option<FoundPage>
+    requires joined { IsJoined (view_of store.old ledger.old) }
+    requires found { IsFoundPage ledger.old page }
+    requires line { line < PAGE_LINES }
+    requires apart { is_writable (state_of (view_of store.old ledger.old)) page.space page.page line ≡ false }
+    requires fits { Fits (with_brought (state_of (view_of store.old ledger.old))
+        page.space page.page (line ∷ [])) }
+    ensures joined { IsJoined (view_of store.new ledger.new) }
+    ensures state { state_of (view_of store.new ledger.new)
+        ≡ with_brought (state_of (view_of store.old ledger.old)) page.space page.page (line ∷ []) }
+    ensures found { IfSome result (IsBroughtTo ledger.old ledger.new page line) }
+{
+    let space = page.space;
+    let number = page.page;
+    let frame = page.frame;
+    let overlay = page.overlay();
+    match bring_line(store, ledger, space, number, frame, overlay, line) {
+        Some(block) => Some(page.with(line, block)),
+        None => None,
     }
 }
 
@@ -306,13 +352,14 @@ pub(crate) fn bring_lines(
     requires joined { IsJoined (view_of store.old ledger.old) }
     requires there { IsSome (page_in ledger.old space page) }
     requires frame { frame_at ledger.old space page ≡ Some frame }
-    requires fits { Fits (turned_page (brought lines)
+    requires fits { Fits (altered_page (brought lines)
         (state_of (view_of store.old ledger.old)) space page) }
     ensures joined { IsJoined (view_of store.new ledger.new) }
     ensures state { state_of (view_of store.new ledger.new)
-        ≡ turned_page (brought lines) (state_of (view_of store.old ledger.old)) space page }
+        ≡ altered_page (brought lines) (state_of (view_of store.old ledger.old)) space page }
 {
     'bringing: for line in lines.iter() {
-        bring_line(store, ledger, space, page, frame, line);
+        let overlay = ledger.overlay(space, page);
+        bring_line(store, ledger, space, page, frame, overlay, line);
     }
 }

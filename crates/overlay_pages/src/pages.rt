@@ -1,6 +1,6 @@
 //! The pages of all spaces.
 
-ghost use Rattle.std.specs.Prelude.{◌≡◌, ◌≢◌, ℕ, ◌+◌, ◌*◌, ◌<◌, ◌≤◌, ◌&&◌, not, List, IfOk, IfSome, IsSome, OnOk, OnErr, None, true, false, length, slice_index_or, unwrap_or};
+ghost use Rattle.std.specs.Prelude.{◌≡◌, ◌≢◌, ℕ, ◌+◌, ◌*◌, ◌<◌, ◌≤◌, ◌&&◌, not, List, [], ◌∷◌, IfOk, IfSome, IsSome, OnOk, OnErr, None, true, false, length, slice_index_or, unwrap_or};
 ghost use Rattle.std.specs.Borrow.{Lends, sem, Array, u8 as byte};
 ghost use Rattle.std.specs.FinMap as map;
 ghost use Rattle.std.specs.Option.{is_some, option_and_then, option_map, option_map_or};
@@ -10,7 +10,7 @@ ghost use Rattle.page_table.specs.Table.{Pages};
 ghost use Rattle.ledger.specs.Ledger.{is_alone};
 ghost use Rattle.ledger.specs.Units.{own_lines, units};
 ghost use Rattle.ledger.specs.Ledger as book;
-ghost use Rattle.space_maps.specs.Spaces.{bare_space, cut_page, cut_pages, cut_space, holds_space, page_in, put_awaiting, put_mark, put_space, space_in, turned_page};
+ghost use Rattle.space_maps.specs.Spaces.{bare_space, cut_page, cut_pages, cut_space, holds_space, page_in, put_awaiting, put_mark, put_space, space_in, altered_page};
 ghost use Rattle.space_ledger.specs.View.{frame_at, ledger_of};
 ghost use Rattle.space_ledger.specs.Space.{IsLeast};
 ghost use Rattle.space_ledger.specs.Calls.{IsNextOwn, NamesOnce};
@@ -18,11 +18,11 @@ ghost use Rattle.overlay_pages.specs.Lines.{line_in_page, lines_of_bytes};
 ghost use Rattle.overlay_pages.specs.State.{base_of, books, memory_of};
 ghost use Rattle.overlay_pages.specs.Changes.{AreAbsent, Fits, HasCopyRoom, HasShareRoom, IsPlaced, brought, committed, copied, discarded, is_writable, limit_of, units_of, whole_page, with_brought, with_shared, with_written, with_zeros};
 ghost use Rattle.overlay_pages.specs.View.{HasOwnPlace, IsJoined, place_at, state_of};
-ghost use Rattle.overlay_pages.specs.Spots.{FindsLine, FindsPage, IsFound};
+ghost use Rattle.overlay_pages.specs.Spots.{FindsLine, FindsPage, IsBroughtTo, IsFound, IsFoundPage};
 ghost use Rattle.overlay_pages.specs.Calls.{AreMapped, AreShared, AreZeros, AwaitBare, AwaitsLike, HasSettledBlocks, IsEmptyState, IsNextPage, KeepsWholeBlocks, MovesFewBeside, NoneAwaitsBelow, RisesBy, entries_in, with_line_at_place};
 ghost use Rattle.overlay_pages.specs.contracts.pages.OverlayPages.{the_row};
 
-use crate::overlays::{bring_lines, drop_overlay};
+use crate::overlays::{bring_found, bring_lines, drop_overlay};
 use crate::placing::{place_bytes, take_out, take_run_out};
 use crate::settling::{commit, copy_commit};
 use crate::sharing::{share, share_below};
@@ -96,7 +96,7 @@ impl OverlayPages {
     pub fn end_space(&mut self, space: u16)
         requires there { holds_space (state_of self.old) space ≡ true }
         requires empty { (space_in (state_of self.old) space).pages ≡ map.empty }
-        requires settled { (space_in (state_of self.old) space).awaiting ≡ map.empty }
+        requires none_awaits { (space_in (state_of self.old) space).awaiting ≡ map.empty }
         ensures { state_of self.new ≡ cut_space (state_of self.old) space }
     {
         self.ledger.end_space(space);
@@ -112,7 +112,7 @@ impl OverlayPages {
         perms: Perms,
     ) -> Result<(), AllocError>
         requires there { holds_space (state_of self.old) space ≡ true }
-        requires settled { (space_in (state_of self.old) space).awaiting ≡ map.empty }
+        requires none_awaits { (space_in (state_of self.old) space).awaiting ≡ map.empty }
         requires absent { AreAbsent (state_of self.old) space page n }
         requires low { page + n ≤ PAGE_END }
         requires few { map.len (space_in (state_of self.old) space).pages + n ≤ MOST_SPACE_PAGES }
@@ -133,7 +133,7 @@ impl OverlayPages {
         bytes: &[u8; PAGE_BYTES],
     ) -> Result<(), AllocError>
         requires there { holds_space (state_of self.old) space ≡ true }
-        requires settled { (space_in (state_of self.old) space).awaiting ≡ map.empty }
+        requires none_awaits { (space_in (state_of self.old) space).awaiting ≡ map.empty }
         requires absent { page_in (state_of self.old) space page ≡ None }
         requires low { page < PAGE_END }
         requires few { map.len (space_in (state_of self.old) space).pages < MOST_SPACE_PAGES }
@@ -156,7 +156,7 @@ impl OverlayPages {
     // Takes away a page that is there, with its overlay.
     fn remove_page(&mut self, space: u16, page: u64)
         requires there { IsSome (page_in (state_of self.old) space page) }
-        requires settled { (space_in (state_of self.old) space).awaiting ≡ map.empty }
+        requires none_awaits { (space_in (state_of self.old) space).awaiting ≡ map.empty }
         ensures gone { state_of self.new ≡ cut_page (state_of self.old) space page }
         ensures low { page < PAGE_END }
     {
@@ -179,7 +179,7 @@ impl OverlayPages {
     /// space awaits. Costs two look-ups.
     pub fn zeros_from(&self, space: u16, page: u64) -> u32
         requires there { holds_space (state_of self.now) space ≡ true }
-        requires settled { (space_in (state_of self.now) space).awaiting ≡ map.empty }
+        requires none_awaits { (space_in (state_of self.now) space).awaiting ≡ map.empty }
         ensures zeros { AreZeros (state_of self.now) space page result }
         ensures low { 0 < result → page + result ≤ PAGE_END }
     {
@@ -192,7 +192,7 @@ impl OverlayPages {
     /// giving a block costs where no other page names its frame.
     pub fn remove_run(&mut self, space: u16, page: u64, most: u32) -> u32
         requires space { holds_space (state_of self.old) space ≡ true }
-        requires settled { (space_in (state_of self.old) space).awaiting ≡ map.empty }
+        requires none_awaits { (space_in (state_of self.old) space).awaiting ≡ map.empty }
         requires there { IsSome (page_in (state_of self.old) space page) }
         requires room { 0 < most }
         ensures gone { state_of self.new ≡ cut_pages (state_of self.old) space page result }
@@ -463,12 +463,40 @@ impl OverlayPages {
         }
     }
 
+    /// How many units there are once a line of a page that was found is brought, which can't be written where it stands. Costs a few
+    /// steps.
+    pub fn units_with(&self, page: &FoundPage) -> u32
+        requires found { IsFoundPage self.now.table page.now }
+        ensures units { (line : ℕ) → line < PAGE_LINES
+            → is_writable (state_of self.now) page.now.space page.now.page line ≡ false
+            → units_of (with_brought (state_of self.now) page.now.space page.now.page (line ∷ [])) ≡ result }
+        ensures joined { IsJoined self.now }
+    {
+        self.ledger.units() + page.rise()
+    }
+
+    /// Brings a line, below 64, of a page that was found, as `bring` does: one that can't be written where it stands. The units that this
+    /// needs are there. Answers the page as it is found then, and all other pages are found as before; or none where the overlay grew, so
+    /// that others may have moved. Takes no memory. Costs an insertion and a copy of the line, and what `bring` costs where the overlay
+    /// grows.
+    pub fn bring_found(&mut self, page: FoundPage, line: u8) -> Option<FoundPage>
+        requires found { IsFoundPage self.old.table page }
+        requires line { line < PAGE_LINES }
+        requires apart { is_writable (state_of self.old) page.space page.page line ≡ false }
+        requires fits { Fits (with_brought (state_of self.old) page.space page.page (line ∷ [])) }
+        ensures state { state_of self.new ≡ with_brought (state_of self.old) page.space page.page (line ∷ []) }
+        ensures found { IfSome result (IsBroughtTo self.old.table self.new.table page line) }
+        ensures joined { IsJoined self.old }
+    {
+        bring_found(&mut self.store, &mut self.ledger, page, line)
+    }
+
     /// The own lines of a page that is there and alone go into its frame. Takes no memory. Costs a copy of each own line, and
     /// moves that copy 60 lines at most.
     pub fn commit_page(&mut self, space: u16, page: u64)
         requires there { IsSome (page_in (state_of self.old) space page) }
         requires alone { is_alone (books (state_of self.old)) space page ≡ true }
-        ensures state { state_of self.new ≡ turned_page committed (state_of self.old) space page }
+        ensures state { state_of self.new ≡ altered_page committed (state_of self.old) space page }
         ensures few { MovesFewBeside space page self.old.table self.new.table }
     {
         commit(&mut self.store, &mut self.ledger, space, page);
@@ -480,7 +508,7 @@ impl OverlayPages {
         requires overlaid { IfSome (page_in (state_of self.old) space page) (λ x. 0 < length x.own) }
         requires there { IsSome (page_in (state_of self.old) space page) }
         requires shared { is_alone (books (state_of self.old)) space page ≡ false }
-        requires settled { (space_in (state_of self.old) space).awaiting ≡ map.empty }
+        requires none_awaits { (space_in (state_of self.old) space).awaiting ≡ map.empty }
         requires room { HasCopyRoom (state_of self.old) space page }
         ensures placed { IfSome (page_in (state_of self.old) space page)
             (λ x. IsPlaced (state_of self.old) (state_of self.new) space page (λ frame. copied frame x)) }
@@ -496,7 +524,7 @@ impl OverlayPages {
     /// The overlay of a page that is there is given up. Takes no memory. Costs moves that copy 60 lines at most.
     pub fn discard_page(&mut self, space: u16, page: u64)
         requires there { IsSome (page_in (state_of self.old) space page) }
-        ensures state { state_of self.new ≡ turned_page discarded (state_of self.old) space page }
+        ensures state { state_of self.new ≡ altered_page discarded (state_of self.old) space page }
         ensures few { MovesFewBeside space page self.old.table self.new.table }
     {
         let store = &mut self.store;
@@ -519,7 +547,7 @@ impl OverlayPages {
     /// A table with the entries of a space's pages, of which none awaits, or want of memory. Costs a step for each page.
     pub fn copy_table(&self, space: u16) -> Result<PageTable, AllocError>
         requires there { holds_space (state_of self.now) space ≡ true }
-        requires settled { (space_in (state_of self.now) space).awaiting ≡ map.empty }
+        requires none_awaits { (space_in (state_of self.now) space).awaiting ≡ map.empty }
         ensures table { IfOk result (λ table. table.pages ≡ entries_in (state_of self.now) space) }
         ensures once { IfOk result (λ table. NamesOnce (state_of self.now).zero_frame table.pages) }
     {
@@ -531,7 +559,7 @@ impl OverlayPages {
     pub fn adopt_table(&mut self, to: u16, table: PageTable)
         requires there { holds_space (state_of self.old) to ≡ true }
         requires empty { (space_in (state_of self.old) to).pages ≡ map.empty }
-        requires settled { (space_in (state_of self.old) to).awaiting ≡ map.empty }
+        requires none_awaits { (space_in (state_of self.old) to).awaiting ≡ map.empty }
         requires once { NamesOnce (state_of self.old).zero_frame table.pages }
         ensures { state_of self.new ≡ put_awaiting (state_of self.old) to table.pages }
     {

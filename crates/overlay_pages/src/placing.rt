@@ -47,7 +47,7 @@ pub(crate) fn take_run_out(
 )
     requires joined { IsJoined (view_of store.old ledger.old) }
     requires there { holds_space ledger.old space ≡ true }
-    requires settled { (space_in ledger.old space).awaiting ≡ map.empty }
+    requires none_awaits { (space_in ledger.old space).awaiting ≡ map.empty }
     requires bare { IsBareRun ledger.old space run.now }
     ensures joined { IsJoined (view_of store.new ledger.new) }
     ensures state { state_of (view_of store.new ledger.new)
@@ -76,7 +76,7 @@ pub(crate) fn place_bytes(
     requires there { IsSome (page_in ledger.old space page) }
     requires bare { overlay_at ledger.old space page ≡ None }
     requires shared { is_alone (ledger_of ledger.old) space page ≡ false }
-    requires settled { (space_in ledger.old space).awaiting ≡ map.empty }
+    requires none_awaits { (space_in ledger.old space).awaiting ≡ map.empty }
     requires room { HasRoom store.old.blocks 4 }
     ensures joined { IsJoined (view_of store.new ledger.new) }
     ensures placed { IfSome (page_in (state_of (view_of store.old ledger.old)) space page)
@@ -102,7 +102,7 @@ pub(crate) fn place_composed(
     requires there { IsSome (page_in ledger.old space page) }
     requires bare { overlay_at ledger.old space page ≡ None }
     requires shared { is_alone (ledger_of ledger.old) space page ≡ false }
-    requires settled { (space_in ledger.old space).awaiting ≡ map.empty }
+    requires none_awaits { (space_in ledger.old space).awaiting ≡ map.empty }
     requires room { HasRoom store.old.blocks 4 }
     requires from { IsFrame store.old from }
     ensures joined { IsJoined (view_of store.new ledger.new) }

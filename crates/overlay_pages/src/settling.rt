@@ -6,7 +6,7 @@ ghost use Rattle.std.specs.Prelude.{◌≡◌, ℕ, IfSome, IsSome, Some, None, 
 ghost use Rattle.std.specs.FinMap as map;
 ghost use Rattle.std.specs.Option.{option_map};
 ghost use Rattle.ledger.specs.Ledger.{is_alone};
-ghost use Rattle.space_maps.specs.Spaces.{page_in, space_in, turned_page};
+ghost use Rattle.space_maps.specs.Spaces.{page_in, space_in, altered_page};
 ghost use Rattle.space_ledger.specs.View.{ledger_of, overlay_at};
 ghost use Rattle.overlay_pages.specs.Changes.{HasCopyRoom, IsPlaced, committed, copied};
 ghost use Rattle.overlay_pages.specs.Calls.{MovesFewBeside};
@@ -36,7 +36,7 @@ pub(crate) fn commit(store: &mut SegmentStore, ledger: &mut SpaceLedger, space: 
     requires alone { is_alone (ledger_of ledger.old) space page ≡ true }
     ensures joined { IsJoined (view_of store.new ledger.new) }
     ensures state { state_of (view_of store.new ledger.new)
-        ≡ turned_page committed (state_of (view_of store.old ledger.old)) space page }
+        ≡ altered_page committed (state_of (view_of store.old ledger.old)) space page }
     ensures few { MovesFewBeside space page ledger.old ledger.new }
 {
     if let Some(overlay) = ledger.overlay(space, page) {
@@ -58,7 +58,7 @@ pub(crate) fn copy_commit(
     requires there { IsSome (page_in ledger.old space page) }
     requires overlaid { overlay_at ledger.old space page ≡ Some overlay }
     requires shared { is_alone (ledger_of ledger.old) space page ≡ false }
-    requires settled { (space_in ledger.old space).awaiting ≡ map.empty }
+    requires none_awaits { (space_in ledger.old space).awaiting ≡ map.empty }
     requires room { HasCopyRoom (state_of (view_of store.old ledger.old)) space page }
     ensures joined { IsJoined (view_of store.new ledger.new) }
     ensures placed { IfSome (page_in (state_of (view_of store.old ledger.old)) space page)

@@ -1,18 +1,20 @@
 //! Pages and their lines as they were found, and where lines stand.
 
-#![tactic(auto, using(crate::proofs::Found::writable_found))]
+#![tactic(auto, using(crate::proofs::FoundLines::finds))]
 
-ghost use Rattle.std.specs.Prelude.{◌≡◌, ◌<◌, Some};
-ghost use Rattle.sizes.specs.declared.TheConstants.{PAGE_LINES};
+ghost use Rattle.std.specs.Prelude.{◌≡◌, ℕ, ◌+◌, ◌<◌, ◌≤◌, Some, [], ◌∷◌, false};
+ghost use Rattle.sizes.specs.declared.TheConstants.{FRAME_UNITS, PAGE_LINES};
+ghost use Rattle.overlay_bits.specs.Lines.{with_line};
 ghost use Rattle.overlay_mapping_table.specs.declared.entry.Entry.{Entry};
-ghost use Rattle.space_ledger.specs.View.{lines_of};
-ghost use Rattle.overlay_pages.specs.Changes.{is_writable};
+ghost use Rattle.space_ledger.specs.View.{lines_of, overlay_at};
+ghost use Rattle.overlay_pages.specs.Changes.{is_writable, units_of, with_brought};
 ghost use Rattle.overlay_pages.specs.Spots.{IsFoundAt, IsFoundPage};
-ghost use Rattle.overlay_pages.specs.View.{MemoryView, state_of};
+ghost use Rattle.overlay_pages.specs.View.{IsJoined, MemoryView, state_of};
 
 use overlay_bits::Bits;
 use overlay_mapping_table::Entry;
 use ovl_io::Perms;
+use space_ledger::class_of;
 use unit_map::Block;
 
 /// Where a line of a page stands.
@@ -80,6 +82,57 @@ impl FoundPage {
             → result ≡ is_writable (state_of view) self.space self.page line }
     {
         self.own.has(line) || self.in_frame
+    }
+
+    /// By how many units all pages rise where a line of it that can't be written where it stands is brought. Costs a step.
+    pub(crate) fn rise(&self) -> u32
+        ensures rise { (view : MemoryView) (line : ℕ) → IsFoundPage view.table self.now → line < PAGE_LINES
+            → is_writable (state_of view) self.now.space self.now.page line ≡ false
+            → units_of (with_brought (state_of view) self.now.space self.now.page (line ∷ []))
+            ≡ units_of (state_of view) + result }
+        ensures few { result ≤ FRAME_UNITS }
+    {
+        let own = self.own.len();
+        class_of(own + 1) - class_of(own)
+    }
+
+    /// Its overlay: none where it has no own lines.
+    pub(crate) fn overlay(&self) -> Option<Entry>
+        ensures { (view : MemoryView) → IsJoined view → IsFoundPage view.table self.now
+            → overlay_at view.table self.now.space self.now.page ≡ result }
+    {
+        if self.own.len() == 0 {
+            None
+        } else {
+            Some(Entry {
+                bits: self.own,
+                block: self.block,
+            })
+        }
+    }
+
+    /// It with another line of its own, in an overlay at a block.
+    pub(crate) fn with(self, line: u8, block: Block) -> FoundPage
+        requires { line < PAGE_LINES }
+        ensures { result ≡ record {
+          space = self.space;
+          page = self.page;
+          perms = self.perms;
+          frame = self.frame;
+          own = with_line self.own line;
+          block = block;
+          in_frame = self.in_frame;
+        } }
+    {
+        FoundPage {
+            space: self.space,
+            page: self.page,
+            perms: self.perms,
+            frame: self.frame,
+            own: self.own.with(line),
+            block,
+            in_frame: self.in_frame,
+        }
     }
 }
 

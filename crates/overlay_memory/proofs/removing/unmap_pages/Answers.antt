@@ -10,9 +10,9 @@ pub remove_run-gone-requires-clause-space : goal.remove_run-gone-requires-clause
 remove_run-gone-requires-clause-space c =
     still_there (state_of c.args.pages.now) c.args.space c.args.page c.args.n c.requires.there (state_of c.unmapping.pages) c.unmapping.at c.unmapping.left c.unmapping.invariant c.unmapping-test.true
 
-pub remove_run-gone-requires-clause-settled : goal.remove_run-gone-requires-clause-settled
-remove_run-gone-requires-clause-settled c =
-    still_settled (state_of c.args.pages.now) c.args.space c.args.page c.args.n c.requires.there (state_of c.unmapping.pages) c.unmapping.at c.unmapping.left c.unmapping.invariant c.unmapping-test.true c.requires.settled
+pub remove_run-gone-requires-clause-none_awaits : goal.remove_run-gone-requires-clause-none_awaits
+remove_run-gone-requires-clause-none_awaits c =
+    still_settled (state_of c.args.pages.now) c.args.space c.args.page c.args.n c.requires.there (state_of c.unmapping.pages) c.unmapping.at c.unmapping.left c.unmapping.invariant c.unmapping-test.true c.requires.none_awaits
 
 pub remove_run-gone-requires-clause-there : goal.remove_run-gone-requires-clause-there
 remove_run-gone-requires-clause-there c =

@@ -1,9 +1,22 @@
-use Rattle.std.proofs.Common.{sym, subst}
+use Rattle.std.proofs.Common.{◌/◌, length, refl, sym, subst, ◌∙◌, arith}
+use Rattle.std.specs.Prelude.{Err}
+use Rattle.ovl_io.specs.Permissions.{writable}
 use Rattle.overlay_memory.specs.Access.{Stores}
 use Rattle.overlay_memory.specs.Pieces.{result_at}
-use Rattle.overlay_memory.proofs.Fronting.{none_known}
-use Rattle.overlay_memory.proofs.Stored.{told_store}
+use Rattle.overlay_memory.specs.declared.error.MemoryError.TheVariants.{Forbidden}
+use Rattle.overlay_memory.proofs.Fronting.{known_found, mayn_be_used, none_known}
+use Rattle.overlay_memory.proofs.Pieced.{reads_of}
+use Rattle.overlay_memory.proofs.Stored.{refused_store, told_store}
 use Rattle.overlay_memory.proofs.storing.store_apart.Goals as goal
+use Rattle.translation_cache.specs.Bare.{bare}
+
+pub returns-then-not-contains-clause-stores : goal.returns-then-not-contains-clause-stores
+returns-then-not-contains-clause-stores c =
+    let view = c.args.pages.now in
+    let at = known_found view c.args.space (c.args.address / 4096) c.in-Some.page.now (bare c.args.cache.now) c.args.fronts.now c.requires.fronts c.in-Some.ensures in
+    refused_store view c.args.space c.args.address c.args.bytes.now (Forbidden c.args.address)
+    (reads_of view c.args.space writable c.args.address (length c.args.bytes.now) (Err (Forbidden c.args.address)) c.requires.some (omega (arith, c.requires.one_line))
+    (refl, mayn_be_used view c.args.space c.args.address c.in-Some.page.now at writable (sym (c.contains.ensures tt) ∙ c.if-not-contains.true)))
 
 pub returns-clause-stores : goal.returns-clause-stores
 returns-clause-stores c =

@@ -19,10 +19,10 @@ returns-then-is_writable-clause-stores c =
     let new = state_of c.put.new.pages in
     let bytes = c.args.bytes.now in
     stored_in_line view new c.args.space c.args.address bytes
-    (may_be_used view c.args.space c.args.address c.line_of-line.result c.args.page c.line.result at line_is it writable c.put.ensures.joined
+    (may_be_used view c.args.space c.args.address c.args.page at writable c.put.ensures.joined
     (sym (c.contains.ensures tt) ∙ c.if-contains.true))
     c.requires.some c.requires.one_line
-    (at_address view c.args.space c.args.address c.line_of-line.result c.args.page c.line.result at line_is it
+    (at_address view c.args.space c.args.address c.args.page at c.line_of-line.result line_is
     (λ s p l. is_writable (state_of view) s p l ≡ true) (sym (c.is_writable.ensures view at.is) ∙ c.if-is_writable.true))
     (found_at view c.args.space (c.args.address / 4096) (c.args.address / 64 % 64) c.line.result
     (line_there view c.args.space c.args.address c.line_of-line.result c.args.page c.line.result at line_is it)

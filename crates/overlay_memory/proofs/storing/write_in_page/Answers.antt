@@ -17,12 +17,12 @@ returns-in-Err-clause-stores c =
 pub returns-in-Some-clause-stores : goal.returns-in-Some-clause-stores
 returns-in-Some-clause-stores c =
     one_full (in_one c.in-Ok.ensures c.requires.some c.requires.one_page c.lines_at-touched.ensures)
-    c.store_units-rise.result c.in-Some.shortage c.store_units-rise.ensures.rise c.in-Some.ensures
+    _ c.in-Some.shortage c.store_units-rise.ensures.rise.one c.in-Some.ensures
 
 pub bring_lines-requires-clause-fits : goal.bring_lines-requires-clause-fits
 bring_lines-requires-clause-fits c =
     one_fits (in_one c.in-Ok.ensures c.requires.some c.requires.one_page c.lines_at-touched.ensures)
-    c.store_units-rise.result c.store_units-rise.ensures.rise c.in_default.ensures
+    _ c.store_units-rise.ensures.rise.one c.in_default.ensures
 
 pub fill_page-requires-clause-there : goal.fill_page-requires-clause-there
 fill_page-requires-clause-there c = one_there (in_one c.in-Ok.ensures c.requires.some c.requires.one_page c.lines_at-touched.ensures)

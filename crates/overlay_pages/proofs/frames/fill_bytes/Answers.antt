@@ -4,9 +4,6 @@ use Rattle.overlay_pages.proofs.Stores.{line_of}
 use Rattle.overlay_pages.proofs.Filling.{chunk_at}
 use Rattle.overlay_pages.proofs.frames.fill_bytes.Goals as goal
 
-pub put_frame-requires-clause-lines : goal.put_frame-requires-clause-lines
-put_frame-requires-clause-lines c = omega (arith, c.as_chunks.ensures.front_len, c.told-bytes)
-
 pub returns-clause-lines : goal.returns-clause-lines
 returns-clause-lines c i low =
     c.put_frame.ensures.lines i low ∙ ap (λ l. line_of l i) c.as_chunks.ensures.front ∙ chunk_at (length c.args.bytes.now / 64) c.args.bytes.now i (omega (arith, low, c.told-bytes))

@@ -1,6 +1,6 @@
 use Rattle.overlay_pages.proofs.Common.{◌≡◌, Some, None, ◌∙◌}
 use Rattle.overlay_pages.proofs.Stores.{CanSettle}
-use Rattle.overlay_pages.proofs.Books.{turned_page}
+use Rattle.overlay_pages.proofs.Books.{altered_page}
 use Rattle.overlay_pages.proofs.Views.{IsJoinedWith, state_of, view_of, discarded}
 use Rattle.overlay_pages.proofs.Overlaying.{overlays}
 use Rattle.overlay_pages.proofs.Joining.{Has, dropped, dropped_page, frames_twice, page_with}
@@ -14,7 +14,7 @@ page c = page_with c.args.ledger.now c.args.space c.args.page c.requires.there (
 
 -- the overlay ended
 ended : (c : After-set_overlay) → IsJoinedWith CanSettle (view_of c.end_segment.new.self c.set_overlay.new.self)
-    × (state_of (view_of c.end_segment.new.self c.set_overlay.new.self) ≡ turned_page discarded (state_of (view_of c.args.store.now c.args.ledger.now)) c.args.space c.args.page)
+    × (state_of (view_of c.end_segment.new.self c.set_overlay.new.self) ≡ altered_page discarded (state_of (view_of c.args.store.now c.args.ledger.now)) c.args.space c.args.page)
 ended c =
     let e = c.end_segment.ensures in
     let a = view_of c.args.store.now c.args.ledger.now in

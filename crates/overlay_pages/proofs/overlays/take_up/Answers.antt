@@ -1,5 +1,5 @@
 use Rattle.overlay_pages.proofs.Common.{◌≡◌, ◌^◌, ap, ◌∙◌}
-use Rattle.overlay_pages.proofs.Books.{turned_page}
+use Rattle.overlay_pages.proofs.Books.{altered_page}
 use Rattle.overlay_pages.proofs.Views.{discarded, IsJoined, state_of, view_of}
 use Rattle.overlay_pages.proofs.Growing.{all_kept, ended_room, has_room}
 use Rattle.overlay_pages.proofs.Joining.{frames_twice}
@@ -19,7 +19,7 @@ returns c =
     let a = view_of c.args.store.now c.args.ledger.now in
     let v = view_of c.end_overlay.new.store c.end_overlay.new.ledger in
     let d = c.end_overlay.ensures in
-    let state = d.state ∙ ap (λ st. turned_page discarded st c.args.space c.args.page) (lifted (goal.at.returns c).After-lift).1 in
+    let state = d.state ∙ ap (λ st. altered_page discarded st c.args.space c.args.page) (lifted (goal.at.returns c).After-lift).1 in
     record {
       joined = d.joined;
       state = state;

@@ -1,13 +1,9 @@
 use Rattle.overlay_pages.proofs.Common.{None, cond, refl, ap₂, ◌∙◌}
-use Rattle.overlay_pages.proofs.Stores.{composed_line, frame_inside, has_line}
+use Rattle.overlay_pages.proofs.Stores.{composed_line, has_line}
 use Rattle.overlay_pages.proofs.Views.{page_lines, view_of}
 use Rattle.overlay_pages.proofs.Joining.{page_with}
 use Rattle.overlay_pages.proofs.NewFrames.{is_placed, others_framed}
 use Rattle.overlay_pages.proofs.placing.place_composed.Goals as goal
-
-pub compose_frame-requires-clause-from : goal.compose_frame-requires-clause-from
-compose_frame-requires-clause-from c =
-    let t = c.take_frame-frame.ensures in frame_inside c.take_frame-frame.new.self t.store c.args.from (t.frames c.args.from c.requires.from).stays
 
 pub returns : goal.returns
 returns c =

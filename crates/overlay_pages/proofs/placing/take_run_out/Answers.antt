@@ -1,7 +1,5 @@
-use Rattle.overlay_pages.proofs.Common.{◌+◌, sym, ap, subst, ◌∙◌}
+use Rattle.overlay_pages.proofs.Common.{◌+◌, sym, subst}
 use Rattle.overlay_pages.proofs.Stores.{Store}
-use Rattle.overlay_pages.proofs.Books.{LedgerView}
-use Rattle.overlay_pages.proofs.Views.{IsJoined, state_of, view_of}
 use Rattle.overlay_pages.proofs.Leaving.{gives_frame}
 use Rattle.overlay_pages.proofs.RunLeaving.{HasLeft, all_left, frame_below, frame_taken, none_left, one_given, one_kept}
 use Rattle.overlay_pages.proofs.placing.take_run_out.Goals as goal
@@ -25,17 +23,13 @@ give_frame-requires c =
 
 pub returns-then-remove_run-eq0-clause-joined : goal.returns-then-remove_run-eq0-clause-joined
 returns-then-remove_run-eq0-clause-joined c =
-    subst (λ (t : LedgerView). IsJoined (view_of c.args.store.now t)) (sym c.remove_run.ensures.gone)
-    (all_left c.args.store.now c.args.ledger.now c.args.space c.args.run.now
-    c.requires.joined c.requires.there c.requires.bare c.remove_run.new.self
-    c.remove_run.ensures.given (c.remove_run.ensures.none c.if-remove_run-eq0.true)).joined
+    (all_left c.args.store.now c.args.ledger.now c.args.space c.args.run.now c.requires.joined c.requires.there c.requires.bare c.remove_run.new.self
+    c.remove_run.ensures.given (c.remove_run.ensures.none c.if-remove_run-eq0.true) c.remove_run.ensures.gone).0
 
 pub returns-then-remove_run-eq0-clause-state : goal.returns-then-remove_run-eq0-clause-state
 returns-then-remove_run-eq0-clause-state c =
-    ap (λ (t : LedgerView). state_of (view_of c.args.store.now t)) c.remove_run.ensures.gone
-    ∙ (all_left c.args.store.now c.args.ledger.now c.args.space c.args.run.now
-    c.requires.joined c.requires.there c.requires.bare c.remove_run.new.self
-    c.remove_run.ensures.given (c.remove_run.ensures.none c.if-remove_run-eq0.true)).state
+    (all_left c.args.store.now c.args.ledger.now c.args.space c.args.run.now c.requires.joined c.requires.there c.requires.bare c.remove_run.new.self
+    c.remove_run.ensures.given (c.remove_run.ensures.none c.if-remove_run-eq0.true) c.remove_run.ensures.gone).1
 
 pub giving-preserved : goal.giving-preserved
 giving-preserved c = elim c.if-is_unused.branch [

@@ -1,6 +1,6 @@
 use Rattle.overlay_pages.proofs.Common.{◌≡◌, None, Some, sym, subst, ◌∙◌}
 use Rattle.overlay_pages.proofs.Stores.{IsFrame}
-use Rattle.overlay_pages.proofs.Books.{turned_page}
+use Rattle.overlay_pages.proofs.Books.{altered_page}
 use Rattle.overlay_pages.proofs.Views.{IsJoined, MemoryView, committed, discarded, state_of, view_of}
 use Rattle.overlay_pages.proofs.Joining.{Has, page_with}
 use Rattle.overlay_pages.proofs.Committing.{bare_committed, committing, page_frame}
@@ -25,8 +25,8 @@ pub lay_in_frame-requires-clause-frame : goal.lay_in_frame-requires-clause-frame
 lay_in_frame-requires-clause-frame c = taken (goal.at.lay_in_frame-requires-clause-frame c).After-frame_of-frame
 
 filled : (c : After-lay_in_frame) → IsJoined (view_of c.lay_in_frame.new.self c.args.ledger.now)
-    × ((m : MemoryView) → state_of m ≡ turned_page discarded (state_of (view_of c.lay_in_frame.new.self c.args.ledger.now)) c.args.space c.args.page
-    → state_of m ≡ turned_page committed (state_of (view_of c.args.store.now c.args.ledger.now)) c.args.space c.args.page)
+    × ((m : MemoryView) → state_of m ≡ altered_page discarded (state_of (view_of c.lay_in_frame.new.self c.args.ledger.now)) c.args.space c.args.page
+    → state_of m ≡ altered_page committed (state_of (view_of c.args.store.now c.args.ledger.now)) c.args.space c.args.page)
 filled c =
     let f = c.lay_in_frame.ensures in
     let over = sym c.overlay.ensures.overlay ∙ c.in-Some.is in

@@ -1,5 +1,4 @@
-use Rattle.overlay_pages.proofs.Common.{◌≡◌, Some, subst}
-use Rattle.overlay_pages.proofs.Stores.{IsFrame}
+use Rattle.overlay_pages.proofs.Common.{◌≡◌, Some}
 use Rattle.overlay_pages.proofs.Views.{view_of}
 use Rattle.overlay_pages.proofs.Joining.{Has, page_with}
 use Rattle.overlay_pages.proofs.Committing.{composed_lines_are, copied_at, copy_enough, copy_settled, copy_shared, page_frame}
@@ -12,8 +11,8 @@ take_up-requires-clause-enough c = copy_enough (view_of c.args.store.now c.args.
 pub place_composed-requires-clause-shared : goal.place_composed-requires-clause-shared
 place_composed-requires-clause-shared c = copy_shared (view_of c.args.store.now c.args.ledger.now) c.args.space c.args.page c.args.overlay c.requires.joined c.requires.there c.requires.overlaid (view_of c.take_up.new.store c.take_up.new.ledger) c.take_up.ensures.state c.requires.shared
 
-pub place_composed-requires-clause-settled : goal.place_composed-requires-clause-settled
-place_composed-requires-clause-settled c = copy_settled (view_of c.args.store.now c.args.ledger.now) c.args.space c.args.page c.args.overlay c.requires.joined c.requires.there c.requires.overlaid (view_of c.take_up.new.store c.take_up.new.ledger) c.take_up.ensures.state c.requires.settled
+pub place_composed-requires-clause-none_awaits : goal.place_composed-requires-clause-none_awaits
+place_composed-requires-clause-none_awaits c = copy_settled (view_of c.args.store.now c.args.ledger.now) c.args.space c.args.page c.args.overlay c.requires.joined c.requires.there c.requires.overlaid (view_of c.take_up.new.store c.take_up.new.ledger) c.take_up.ensures.state c.requires.none_awaits
 
 -- the page and its frame
 abbrev page : (c : After-frame_of-frame) → Has c.args.ledger.now c.args.space c.args.page (Some c.args.overlay)
@@ -21,11 +20,6 @@ page c = page_with c.args.ledger.now c.args.space c.args.page c.requires.there (
 
 framed : (c : After-frame_of-frame) → (page c).x.entry.frame ≡ c.frame_of-frame.result
 framed c = page_frame c.args.ledger.now c.args.space c.args.page (page c).x c.frame_of-frame.result (page c).there c.frame_of-frame.ensures
-
-pub place_composed-requires-clause-from : goal.place_composed-requires-clause-from
-place_composed-requires-clause-from c =
-    let at = (goal.at.place_composed-requires-clause-from c).After-frame_of-frame in
-    subst (IsFrame c.take_up.new.store) (framed at) (c.take_up.ensures.frames (page at).x.entry.frame (c.requires.joined.held c.args.space c.args.page (page at).x (page at).there).frame).stays
 
 pub returns-clause-placed : goal.returns-clause-placed
 returns-clause-placed c =

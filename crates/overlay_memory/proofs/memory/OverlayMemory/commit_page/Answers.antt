@@ -4,14 +4,14 @@ use Rattle.overlay_pages.specs.View as seen
 use Rattle.overlay_memory.specs.View.{state_of, view_of}
 use Rattle.overlay_pages.specs.Changes.{committed}
 use Rattle.space_maps.specs.Spaces.{page_in}
-use Rattle.overlay_memory.proofs.Truths.{flushed_lists, turned_translated, with_cache}
+use Rattle.overlay_memory.proofs.Truths.{flushed_lists, altered_translated, with_cache}
 use Rattle.overlay_memory.proofs.Fronting.{none_known}
 use Rattle.overlay_memory.proofs.memory.OverlayMemory.commit_page.Goals as goal
 
 pub invariant_of-self : goal.invariant_of-self
 invariant_of-self c = (
   with_cache (seen.state_of c.commit_page.new.self) _ c.flush.new.self c.flush.ensures.flushed
-      (turned_translated committed (seen.state_of c.self.inside.pages) (seen.state_of c.commit_page.new.self) c.args.space c.args.page c.self.inside.cache c.commit_page.ensures.state
+      (altered_translated committed (seen.state_of c.self.inside.pages) (seen.state_of c.commit_page.new.self) c.args.space c.args.page c.self.inside.cache c.commit_page.ensures.state
       (ap (λ m. is_some (page_in (state_of m) c.args.space c.args.page)) c.self.view_is ∙ c.requires.there) c.self.invariant.0),
   none_known _ _ _ c.clear.ensures,
 )

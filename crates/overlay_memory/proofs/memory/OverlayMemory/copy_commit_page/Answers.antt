@@ -14,7 +14,7 @@ invariant_of-self c = (
       (copied_translated (seen.state_of c.self.inside.pages) (seen.state_of c.copy_commit_page.new.self) c.args.space c.args.page (λ x frame. copied frame x) c.self.inside.cache
       c.copy_commit_page.ensures.placed
       (ap (λ m. is_some (page_in (state_of m) c.args.space c.args.page)) c.self.view_is ∙ c.requires.there)
-      (ap (λ m. (space_in (state_of m) c.args.space).awaiting) c.self.view_is ∙ c.requires.settled) c.self.invariant.0),
+      (ap (λ m. (space_in (state_of m) c.args.space).awaiting) c.self.view_is ∙ c.requires.none_awaits) c.self.invariant.0),
   none_known _ _ _ c.clear.ensures,
 )
 

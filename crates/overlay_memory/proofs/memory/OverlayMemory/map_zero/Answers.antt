@@ -11,7 +11,7 @@ invariant_of-self c = (
   with_cache (seen.state_of c.map_zero.new.self) _ c.flush.new.self c.flush.ensures.flushed
       (zeros_translated (seen.state_of c.self.inside.pages) (seen.state_of c.map_zero.new.self) c.args.space c.args.page c.args.n _ c.self.inside.cache c.in-Ok.ensures.mapped
       (ap (λ m. holds_space (state_of m) c.args.space) c.self.view_is ∙ c.requires.there)
-      (ap (λ m. (space_in (state_of m) c.args.space).awaiting) c.self.view_is ∙ c.requires.settled) c.self.invariant.0),
+      (ap (λ m. (space_in (state_of m) c.args.space).awaiting) c.self.view_is ∙ c.requires.none_awaits) c.self.invariant.0),
   none_known _ _ _ c.clear.ensures,
 )
 

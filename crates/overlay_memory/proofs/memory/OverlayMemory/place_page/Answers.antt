@@ -14,7 +14,7 @@ invariant_of-self c = (
         placed_translated (seen.state_of c.self.inside.pages) (seen.state_of c.add_page.new.self) c.args.space c.args.page _ c.self.inside.cache w.in-Ok.ensures.placed
         (ap (λ m. page_in (state_of m) c.args.space c.args.page) c.self.view_is ∙ c.requires.absent)
         (ap (λ m. holds_space (state_of m) c.args.space) c.self.view_is ∙ c.requires.there)
-        (ap (λ m. (space_in (state_of m) c.args.space).awaiting) c.self.view_is ∙ c.requires.settled) c.self.invariant.0
+        (ap (λ m. (space_in (state_of m) c.args.space).awaiting) c.self.view_is ∙ c.requires.none_awaits) c.self.invariant.0
     | in-Err w ↦
         same_translated (seen.state_of c.self.inside.pages) (seen.state_of c.add_page.new.self) c.self.inside.cache w.in-Err.ensures.kept c.self.invariant.0
   ],

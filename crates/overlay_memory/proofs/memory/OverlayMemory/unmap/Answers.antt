@@ -11,7 +11,7 @@ pub invariant_of-self : goal.invariant_of-self
 invariant_of-self c = (
   with_cache (seen.state_of c.unmap_pages.new.pages) _ c.flush.new.self c.flush.ensures.flushed
       (unmapped_translated (seen.state_of c.self.inside.pages) (seen.state_of c.unmap_pages.new.pages) c.args.space c.args.page c.args.n c.self.inside.cache c.unmap_pages.ensures
-      (ap (λ m. (space_in (state_of m) c.args.space).awaiting) c.self.view_is ∙ c.requires.settled)
+      (ap (λ m. (space_in (state_of m) c.args.space).awaiting) c.self.view_is ∙ c.requires.none_awaits)
       (subst (λ m. AreMapped (state_of m) c.args.space c.args.page c.args.n) (sym c.self.view_is) c.requires.there) c.self.invariant.0),
   none_known _ _ _ c.clear.ensures,
 )

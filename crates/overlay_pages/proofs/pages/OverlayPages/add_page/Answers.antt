@@ -1,19 +1,14 @@
-use Rattle.overlay_pages.proofs.Common.{◌≤◌, ◌+◌, refl, sym, ap, subst, ◌∙◌, arith}
-use Rattle.overlay_pages.proofs.Books.{page_in}
+use Rattle.overlay_pages.proofs.Common.{◌≤◌, ◌+◌, refl, sym, subst, arith}
 use Rattle.overlay_pages.proofs.Views.{lines_of_bytes, limit_of, units_of, MemoryView, state_of, view_of}
-use Rattle.overlay_pages.proofs.Tables.{none_back}
 use Rattle.overlay_pages.proofs.Growing.{free_is, has_room}
-use Rattle.overlay_pages.proofs.Adding.{IsReady, added, only_one, ready}
+use Rattle.overlay_pages.proofs.Adding.{IsReady, added, ready}
 use Rattle.overlay_pages.proofs.pages.OverlayPages.add_page.Goals as goal
 use Rattle.overlay_pages.proofs.pages.OverlayPages.add_page.Goals.{In-Ok}
-
-pub map_zero-requires-clause-free : goal.map_zero-requires-clause-free
-map_zero-requires-clause-free c q inside = only_one c.self.inside.ledger c.args.space c.args.page q inside (none_back (view_of c.self.inside.store c.self.inside.ledger) c.args.space c.args.page (ap (λ (m : MemoryView). page_in (state_of m) c.args.space c.args.page) c.self.view_is ∙ c.requires.absent))
 
 mapped : (c : In-Ok) → IsReady (view_of c.self.inside.store c.self.inside.ledger) c.map_zero.new.self c.args.space c.args.page (record { perms = c.args.perms; frame = c.self.inside.ledger.zero_frame })
 mapped c =
     ready (view_of c.self.inside.store c.self.inside.ledger) c.args.self.now c.map_zero.new.self c.args.space c.args.page (record { perms = c.args.perms; frame = c.self.inside.ledger.zero_frame })
-    c.self.view_is c.self.invariant c.requires.there c.requires.settled c.requires.low c.requires.absent refl c.in-Ok.ensures.mapped
+    c.self.view_is c.self.invariant c.requires.there c.requires.none_awaits c.requires.low c.requires.absent refl c.in-Ok.ensures.mapped
 
 pub place_bytes-requires : goal.place_bytes-requires
 place_bytes-requires c =
@@ -24,7 +19,7 @@ place_bytes-requires c =
       there = m.there;
       bare = m.bare;
       shared = m.shared;
-      settled = m.settled;
+      none_awaits = m.none_awaits;
       room = has_room v c.self.invariant 4 (omega arith) (let fits = subst (λ (m : MemoryView). units_of (state_of m) + 16 ≤ limit_of (state_of m)) (sym c.self.view_is) c.requires.fits in omega (arith, free_is v c.self.invariant, fits));
     }
 
