@@ -1,12 +1,12 @@
 //! A set of addresses.
 
-ghost use Rattle.std.specs.Prelude.{◌≡◌, ℕ, ◌/◌, ◌%◌, ◌<◌, [], true, false, replicate, slice_set, slice_index_or, IsOk, OnOk, OnErr};
+ghost use Rattle.std.specs.Prelude.{◌≡◌, ℕ, ◌+◌, ◌*◌, ◌<◌, ◌≤◌, [], true, false, replicate, slice_set, slice_index_or, IsOk, OnOk, OnErr};
 ghost use Rattle.std.specs.FinSet as set;
 ghost use Rattle.overlay_bits.specs.Lines.{AreLines, with_line};
-ghost use Rattle.breakpoints.specs.Marks.{mark_of, piece_of, word_of};
-ghost use Rattle.breakpoints.specs.declared.TheConstants.{MARKED_PIECES, PIECE_BYTES};
+ghost use Rattle.breakpoints.specs.Marks.{piece_marks, piece_of, word_place};
+ghost use Rattle.breakpoints.specs.declared.TheConstants.{MARKED_PIECES, PIECE_WORDS};
 
-use crate::{MARKED_PIECES, PIECE_BYTES};
+use crate::{MARKED_PIECES, PIECE_BYTES, PIECE_WORDS};
 use indexmap::IndexSet;
 use overlay_bits::Bits;
 use std::alloc::{AllocError, Global};
@@ -38,29 +38,29 @@ impl Model for Addresses {
 
 /// The mark of a piece.
 #[inline]
-fn mark_of(marks: &[Bits; MARKED_PIECES], address: u64) -> Bits
-    ensures mark { result ≡ mark_of marks.now address }
+fn piece_marks(marks: &[Bits; MARKED_PIECES], address: u64) -> Bits
+    ensures mark { result ≡ piece_marks marks.now address }
 {
     marks[(address / PIECE_BYTES % MARKED_PIECES as u64) as usize]
 }
 
 /// The number of a word in its piece.
 #[inline]
-fn word_of(address: u64) -> u8
-    ensures word { result ≡ word_of address }
-    ensures low { result < 64 }
+fn word_place(address: u64) -> u8
+    ensures word { result ≡ word_place address }
+    ensures low { result < PIECE_WORDS }
 {
-    (address / 4 % 64) as u8
+    (address / 4 % PIECE_WORDS) as u8
 }
 
 /// Marks the word of an address.
 fn mark(marks: &mut [Bits; MARKED_PIECES], address: u64)
     ensures { marks.new ≡ slice_set marks.old (piece_of address)
-        (with_line (mark_of marks.old address) (word_of address)) }
+        (with_line (piece_marks marks.old address) (word_place address)) }
 {
-    marks[(address / PIECE_BYTES % MARKED_PIECES as u64) as usize] = mark_of(marks, address).with(
-        word_of(address),
-    );
+    marks[(address / PIECE_BYTES % MARKED_PIECES as u64) as usize] = piece_marks(
+        marks, address,
+    ).with(word_place(address));
 }
 
 /// Takes away all marks.
@@ -88,7 +88,7 @@ impl Addresses {
         ensures { result ≡ false → set.contains self.now address ≡ false }
     {
         let _found = &self.found;
-        mark_of(&self.marks, address).has(word_of(address))
+        piece_marks(&self.marks, address).has(word_place(address))
     }
 
     /// Whether an address is there. Costs a few steps where no other one lies in its word of four bytes.
@@ -99,14 +99,22 @@ impl Addresses {
         self.may_have(address) && self.found.contains(&address)
     }
 
-    /// Whether one that is there may lie in the same 256 bytes as an address. Costs a few steps.
+    /// How many words there are from that of an address on, at most so many, all in its 256 bytes, before one behind the first in which
+    /// an address may lie. Costs a few steps.
     #[inline]
-    pub fn may_have_near(&self, address: u64) -> bool
-        ensures { result ≡ false → (a : ℕ) → a / PIECE_BYTES ≡ address / PIECE_BYTES
-            → set.contains self.now a ≡ false }
+    pub fn words_past(&self, address: u64, most: u32) -> u32
+        requires some { 0 < most }
+        requires inside { word_place address + most ≤ PIECE_WORDS }
+        ensures some { 0 < result }
+        ensures few { result ≤ most }
+        ensures past { (k : ℕ) → 0 < k → k < result → set.contains self.now (address + 4 * k) ≡ false }
     {
         let _found = &self.found;
-        mark_of(&self.marks, address).len() > 0
+        let word = word_place(address);
+        match piece_marks(&self.marks, address).least_from(word + 1) {
+            Some(next) => most.min(u32::from(next - word)),
+            None => most,
+        }
     }
 
     /// Adds an address. One that is there stays, and takes no memory. After want of memory everything is as before.

@@ -12,8 +12,11 @@ mod by_process;
 pub use addresses::Addresses;
 pub use by_process::Breakpoints;
 
-/// How many bytes a piece has of which the words with breakpoints are marked: those of 64 words.
-pub const PIECE_BYTES: u64 = 256;
+/// How many words a piece has of which those with breakpoints are marked.
+pub const PIECE_WORDS: u64 = 64;
+
+/// How many bytes it has.
+pub const PIECE_BYTES: u64 = 4 * PIECE_WORDS;
 
 /// How many such pieces are told apart.
 pub const MARKED_PIECES: usize = 128;

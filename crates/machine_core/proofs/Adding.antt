@@ -31,7 +31,7 @@ use Rattle.overlay_memory.specs.View.{TranslatedView, translations_of}
 use Rattle.translation_cache.specs.Translations.{flushed}
 use Rattle.std.specs.declared.alloc.AllocError.{AllocError}
 use Rattle.std.specs.Prelude.{Result, Ok, Err, OnOk, OnErr}
-use Rattle.machine_core.specs.Loading.{IsUnseen, HasAdded, IsAdded, IsOpen, is_among, one_loaded}
+use Rattle.machine_core.specs.Loading.{IsUnseen, HasAdded, IsAdded, IsOpen, is_one_of, one_loaded}
 use Rattle.machine_core.specs.PageLines.{lines_joined, page_length_is, zero_bytes_are}
 
 -- Pages added to a space, one after the other.
@@ -107,13 +107,13 @@ at_tie f q k true rest h = ap (λ n. Some (f n)) (sym (tied q k h))
 at_tie f q k false rest h = refl
 
 one_more : (f : ℕ → Page) (ps : List ℕ) (k q : ℕ) (memory : Memory) (start : Option Page)
-    → get memory q ≡ cond (is_among ps q) (Some (f q)) start
-    → get (insert memory k (f k)) q ≡ cond (is_among (ps ++ k ∷ []) q) (Some (f q)) start
+    → get memory q ≡ cond (is_one_of ps q) (Some (f q)) start
+    → get (insert memory k (f k)) q ≡ cond (is_one_of (ps ++ k ∷ []) q) (Some (f q)) start
 one_more f ps k q memory start so_far =
     get-insert nat_cmp_total memory k (f k) q
     ∙ ap (cond (is_eq (nat_cmp q k)) (Some (f k))) so_far
     ∙ at_tie f q k (is_eq (nat_cmp q k)) _ refl
-    ∙ sym (either (is_among ps q) (is_eq (nat_cmp q k)) (Some (f q)) start)
+    ∙ sym (either (is_one_of ps q) (is_eq (nat_cmp q k)) (Some (f q)) start)
     ∙ sym (ap (λ (b : Bool). cond b (Some (f q)) start) (any_push (λ p. is_eq (nat_cmp q p)) ps k))
 
 -- a page put into a space
@@ -136,7 +136,7 @@ open_with : (p : ℕ) (before now new : State) (page : ℕ) (x : PageState) → 
 unfolding put_page put_space
 open_with p before now new page x open_now is = record {
   there = ap (λ (s : State). holds_space s p) is ∙ ap is_some (get_same now.spaces p p _ refl);
-  settled = ap (λ (s : State). (space_in s p).awaiting) is ∙ ap (λ (y : SpaceState). y.awaiting) (space_with now p page x) ∙ open_now.settled;
+  none_awaits = ap (λ (s : State). (space_in s p).awaiting) is ∙ ap (λ (y : SpaceState). y.awaiting) (space_with now p page x) ∙ open_now.none_awaits;
   mark = ap (λ (s : State). (space_in s p).speculating) is ∙ ap (λ (y : SpaceState). y.speculating) (space_with now p page x) ∙ open_now.mark;
   others = λ q other. ap (λ (s : State). get s.spaces q) is ∙ get_other now.spaces p q _ other ∙ open_now.others q other;
   frames = ap (λ (s : State). s.frames) is ∙ open_now.frames;
@@ -144,12 +144,12 @@ open_with p before now new page x open_now is = record {
 }
 
 pub open_itself : (p : ℕ) (s : State) → holds_space s p ≡ true → (space_in s p).awaiting ≡ empty → IsOpen p s s
-open_itself p s there settled = record { there = there; settled = settled; mark = refl; others = λ q other. refl; frames = refl; zero_frame = refl }
+open_itself p s there none_awaits = record { there = there; none_awaits = none_awaits; mark = refl; others = λ q other. refl; frames = refl; zero_frame = refl }
 
 pub open_chain : (p : ℕ) (a b c : State) → IsOpen p a b → IsOpen p b c → IsOpen p a c
 open_chain p a b c h k = record {
   there = k.there;
-  settled = k.settled;
+  none_awaits = k.none_awaits;
   mark = k.mark ∙ h.mark;
   others = λ q other. k.others q other ∙ h.others q other;
   frames = k.frames ∙ h.frames;

@@ -10,7 +10,7 @@ use Rattle.translation_cache.specs.Finding.{found_hits}
 use Rattle.translation_cache.specs.Translations.{entered, found, looked, looked_by, with_hits, with_misses}
 use Rattle.breakpoints.specs.Breakpoints.{Addresses}
 use Rattle.machine_core.specs.Ahead.{ahead, guest_ahead}
-use Rattle.machine_core.specs.Executions.{behind, executions}
+use Rattle.machine_core.specs.Executions.{after_steps, executions}
 use Rattle.machine_core.specs.Turns.{Guest}
 use Rattle.machine_core.specs.Tried.{each_counted}
 
@@ -105,11 +105,11 @@ ahead_paid (suc (suc n)) t some =
 
 -- executions begin with nothing that is owed
 pub begun : (stops : Addresses) (p most k : ℕ) (guest : Guest) → k ≡ 0
-    → executions stops p most guest ≡ behind 0 (executions stops p (most - 0) (guest_ahead k guest))
+    → executions stops p most guest ≡ after_steps 0 (executions stops p (most - 0) (guest_ahead k guest))
 unfolding ahead
 begun stops p most k guest none =
     let all : most ≡ most - 0 = omega arith in
     let e = executions stops p (most - 0) guest in
     let count : e.steps ≡ 0 + e.steps = omega arith in
     ap (λ n. executions stops p n guest) all ∙ (λ i. record { steps = count i; before = e.before; outcome = e.outcome; after = e.after })
-    ∙ ap (λ n. behind 0 (executions stops p (most - 0) (guest_ahead n guest))) (sym none)
+    ∙ ap (λ n. after_steps 0 (executions stops p (most - 0) (guest_ahead n guest))) (sym none)

@@ -9,7 +9,7 @@ use Rattle.overlay_bits.specs.Lines.{has_line, with_line}
 use Rattle.overlay_bits.specs.Laws.{has_with}
 use Rattle.ledger.specs.AloneLaws.{are}
 use Rattle.byteorder.specs.Endian.{little_number}
-use Rattle.decoded_lines.specs.Decoded.{IsOfWord, word_of}
+use Rattle.decoded_lines.specs.Decoded.{IsOfWord, line_word}
 use Rattle.decoded_lines.specs.declared.TheConstants.{KEPT_LINES, LINE_WORDS}
 use Rattle.ovl_io.specs.Memory.{Memory, Page, bytes_at, with_byte, with_bytes, with_page_byte}
 use Rattle.ovl_io.specs.MemoryLaws.{all_allowed}
@@ -58,7 +58,7 @@ module _ (lines : List (List ℕ)) (view : View) (start pc at : ℕ) (held : IsH
   pub page_is : pc / PAGE_BYTES ≡ start / PAGE_BYTES
   page_is = let whole = held.whole in omega (arith, here, inside, whole)
 
-  pub word_is : (word : Option Instr) → IsOfWord word (word_of (get_or lines (start / LINE_BYTES % KEPT_LINES) []) at) → IsWordAt view pc word
+  pub word_is : (word : Option Instr) → IsOfWord word (line_word (get_or lines (start / LINE_BYTES % KEPT_LINES) []) at) → IsWordAt view pc word
   word_is word is =
       let whole = held.whole in
       let low = held.low in
@@ -71,7 +71,7 @@ module _ (lines : List (List ℕ)) (view : View) (start pc at : ℕ) (held : IsH
         front = subst (λ n. IsFront view.space n (lists_lent view)) (sym page_is) held.code.front;
         means = is.means
             ∙ ap meaning
-            (ap (λ l. word_of l at) held.code.bytes
+            (ap (λ l. line_word l at) held.code.bytes
             ∙ ap (little_number 4)
             (some_bytes (memory_of (spaces_lent view) view.space) (LINE_BYTES * (start / LINE_BYTES)) (4 * at) 4 LINE_BYTES (omega (arith, inside))
             ∙ ap (λ n. bytes_at (memory_of (spaces_lent view) view.space) n 4) line));
@@ -79,10 +79,10 @@ module _ (lines : List (List ℕ)) (view : View) (start pc at : ℕ) (held : IsH
       }
 
 -- A line that is taken comes to those in hand.
-module _ (old new : List (List ℕ)) (memory : TranslatedView) (space : ℕ) (hand turned : Hand) (pc : ℕ) (line : List ℕ) (low : pc < 2 ^ 64) (aligned : pc % 4 ≡ 0)
+module _ (old new : List (List ℕ)) (memory : TranslatedView) (space : ℕ) (hand altered : Hand) (pc : ℕ) (line : List ℕ) (low : pc < 2 ^ 64) (aligned : pc % 4 ≡ 0)
     (code : IsCodeLine memory space pc line) (there : get_or new (pc / LINE_BYTES % KEPT_LINES) [] ≡ line)
     (others : (slot : ℕ) → (slot ≡ pc / LINE_BYTES % KEPT_LINES → ⊥) → get_or new slot [] ≡ get_or old slot [])
-    (was : IsInHand old memory space hand) (turn : IsTurned (pc / PAGE_BYTES) hand turned) where
+    (was : IsInHand old memory space hand) (turn : IsTurned (pc / PAGE_BYTES) hand altered) where
   abbrev own : ℕ
   own = pc / LINE_BYTES % PAGE_LINES
 
@@ -108,33 +108,33 @@ module _ (old new : List (List ℕ)) (memory : TranslatedView) (space : ℕ) (ha
         (sym (others (start_of k / LINE_BYTES % KEPT_LINES) (λ same. other (omega (arith, below, same))))) held.code;
   }
 
-  was_held : (k : ℕ) → k < PAGE_LINES → has_line turned.known k ≡ true → IsHeld old memory space (start_of k)
+  was_held : (k : ℕ) → k < PAGE_LINES → has_line altered.known k ≡ true → IsHeld old memory space (start_of k)
   was_held k below has = by_turn turn.1
     where
-      by_turn : (turned ≡ hand) ⊎ (turned ≡ record { page = pc / PAGE_BYTES; known = []; owed = hand.owed }) → IsHeld old memory space (start_of k)
+      by_turn : (altered ≡ hand) ⊎ (altered ≡ record { page = pc / PAGE_BYTES; known = []; owed = hand.owed }) → IsHeld old memory space (start_of k)
       by_turn (inl same) =
           subst (λ n. IsHeld old memory space (PAGE_BYTES * n + LINE_BYTES * k)) (sym (ap (λ (h : Hand). h.page) same) ∙ turn.0)
           (was k below (sym (ap (λ (h : Hand). has_line h.known k) same) ∙ has))
       by_turn (inr none) = absurd (let lacks = ap (λ (h : Hand). has_line h.known k) none in let both = sym lacks ∙ has in cc)
 
-  pub taken : (known : List ℕ) → known ≡ with_line turned.known own → IsTaken new memory space (record { page = turned.page; known = known; owed = turned.owed }) pc
+  pub taken : (known : List ℕ) → known ≡ with_line altered.known own → IsTaken new memory space (record { page = altered.page; known = known; owed = altered.owed }) pc
   taken known known_is = record {
     hand_is = λ k below has.
         subst (λ n. IsHeld new memory space (PAGE_BYTES * n + LINE_BYTES * k)) (sym turn.0)
-        (by_own k below (sym (has_with turned.known own k) ∙ sym (ap (λ l. has_line l k) known_is) ∙ has) (cases_eq k own));
+        (by_own k below (sym (has_with altered.known own k) ∙ sym (ap (λ l. has_line l k) known_is) ∙ has) (cases_eq k own));
     page = turn.0;
     aligned = aligned;
-    known = ap (λ l. has_line l own) known_is ∙ has_with turned.known own own ∙ ap (λ b. b || has_line turned.known own) (are own own refl);
+    known = ap (λ l. has_line l own) known_is ∙ has_with altered.known own own ∙ ap (λ b. b || has_line altered.known own) (are own own refl);
   }
     where
       or_right : (a b : Bool) → (a ≡ true → ⊥) → (a || b) ≡ true → b ≡ true
       or_right true b out h = absurd (out refl)
       or_right false b out h = h
 
-      by_own : (k : ℕ) → k < PAGE_LINES → (nat_eq own k || has_line turned.known k) ≡ true → (k ≡ own) ⊎ (k ≡ own → ⊥) → IsHeld new memory space (start_of k)
+      by_own : (k : ℕ) → k < PAGE_LINES → (nat_eq own k || has_line altered.known k) ≡ true → (k ≡ own) ⊎ (k ≡ own → ⊥) → IsHeld new memory space (start_of k)
       by_own k below has (inl same) = subst (λ n. IsHeld new memory space (start_of n)) (sym same) held_own
       by_own k below has (inr other) =
-          held_still k below other (was_held k below (or_right (nat_eq own k) (has_line turned.known k) (λ is. other (let same : own ≡ k = grind (arith, nat_tests) in sym same)) has))
+          held_still k below other (was_held k below (or_right (nat_eq own k) (has_line altered.known k) (λ is. other (let same : own ≡ k = grind (arith, nat_tests) in sym same)) has))
 
 -- What a store does beside a page.
 

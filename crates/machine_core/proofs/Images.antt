@@ -22,7 +22,7 @@ use Rattle.space_maps.specs.Books.{books_page, books_spaces}
 use Rattle.space_maps.specs.Laws.{page_of}
 use Rattle.space_maps.specs.Spaces.{bare_space, holds_space, page_in, space_in}
 use Rattle.machine_core.specs.Load.{stack_page, stack_pages, stored_pages, zero_content}
-use Rattle.machine_core.specs.Loading.{AreZeros, HasAdded, HasImage, HasStack, IsOpen, IsReady, is_among, none_listed, listed_at}
+use Rattle.machine_core.specs.Loading.{AreZeros, HasAdded, HasImage, HasStack, IsOpen, IsReady, is_one_of, none_listed, listed_at}
 use Rattle.machine_core.proofs.Adding.{added_none, unstored_page, zeros_added}
 use Rattle.machine_core.proofs.Marks.{units_so_far}
 
@@ -40,15 +40,15 @@ page_at file items i d same below =
     (within, ap (λ ps. get_or ps i d) same ∙ get_or-map (listed_page file) (image_pages file) i 0 d within)
 
 -- numbers below all of a range, or above them, aren't among them
-pub none_below : (q a n : ℕ) → q < a → is_among (range_with_len a n) q ≡ false
+pub none_below : (q a n : ℕ) → q < a → is_one_of (range_with_len a n) q ≡ false
 none_below q a zero low = refl
 none_below q a (suc n) low =
-    ap (λ b. b || is_among (range_with_len (a + 1) n) q) (differs q a (λ same. omega (arith, same))) ∙ none_below q (a + 1) n (omega arith)
+    ap (λ b. b || is_one_of (range_with_len (a + 1) n) q) (differs q a (λ same. omega (arith, same))) ∙ none_below q (a + 1) n (omega arith)
 
-pub none_above : (q a n : ℕ) → a + n ≤ q → is_among (range_with_len a n) q ≡ false
+pub none_above : (q a n : ℕ) → a + n ≤ q → is_one_of (range_with_len a n) q ≡ false
 none_above q a zero high = refl
 none_above q a (suc n) high =
-    ap (λ b. b || is_among (range_with_len (a + 1) n) q) (differs q a (λ same. omega (arith, same))) ∙ none_above q (a + 1) n (omega arith)
+    ap (λ b. b || is_one_of (range_with_len (a + 1) n) q) (differs q a (λ same. omega (arith, same))) ∙ none_above q (a + 1) n (omega arith)
 
 pub range_more : (a n : ℕ) → range_with_len a (n + 1) ≡ range_with_len a n ++ (a + n) ∷ []
 range_more a zero = let same : a ≡ a + zero = omega arith in ap (λ k. k ∷ []) same
@@ -69,23 +69,23 @@ low_among test a zero i below = absurd (omega arith)
 low_among test a (suc n) i below = low_step a i (test a) (filter test (range_with_len (a + 1) n)) (low_among test (a + 1) n) below
 
 first_step : (a i : ℕ) (b : Bool) (rest : List ℕ) → ((j : ℕ) → j < length rest → a + 1 ≤ get_or rest j 0)
-    → ((j : ℕ) → j < length rest → is_among (take j rest) (get_or rest j 0) ≡ false)
-    → i < length (cond b (a ∷ rest) rest) → is_among (take i (cond b (a ∷ rest) rest)) (get_or (cond b (a ∷ rest) rest) i 0) ≡ false
+    → ((j : ℕ) → j < length rest → is_one_of (take j rest) (get_or rest j 0) ≡ false)
+    → i < length (cond b (a ∷ rest) rest) → is_one_of (take i (cond b (a ∷ rest) rest)) (get_or (cond b (a ∷ rest) rest) i 0) ≡ false
 first_step a zero true rest low first h = refl
 first_step a (suc j) true rest low first h =
     let within : j < length rest = omega arith in
-    ap (λ b. b || is_among (take j rest) (get_or rest j 0)) (differs (get_or rest j 0) a (λ same. omega (arith, low j within, same))) ∙ first j within
+    ap (λ b. b || is_one_of (take j rest) (get_or rest j 0)) (differs (get_or rest j 0) a (λ same. omega (arith, low j within, same))) ∙ first j within
 first_step a j false rest low first h = first j h
 
 first_of_its_number : (test : ℕ → Bool) (a n i : ℕ) → i < length (filter test (range_with_len a n))
-    → is_among (take i (filter test (range_with_len a n))) (get_or (filter test (range_with_len a n)) i 0) ≡ false
+    → is_one_of (take i (filter test (range_with_len a n))) (get_or (filter test (range_with_len a n)) i 0) ≡ false
 first_of_its_number test a zero i below = absurd (omega arith)
 first_of_its_number test a (suc n) i below =
     first_step a i (test a) (filter test (range_with_len (a + 1) n)) (low_among test (a + 1) n) (first_of_its_number test (a + 1) n) below
 
-pub not_before : (file : List ℕ) (i : ℕ) → i < length (image_pages file) → is_among (take i (image_pages file)) (get_or (image_pages file) i 0) ≡ false
+pub not_before : (file : List ℕ) (i : ℕ) → i < length (image_pages file) → is_one_of (take i (image_pages file)) (get_or (image_pages file) i 0) ≡ false
 not_before file i below =
-    subst (λ ps. i < length ps → is_among (take i ps) (get_or ps i 0) ≡ false) (sym (kept_numbers file))
+    subst (λ ps. i < length ps → is_one_of (take i ps) (get_or ps i 0) ≡ false) (sym (kept_numbers file))
     (first_of_its_number (λ page. list_any (touches_memory page) (loads_of file)) 0 page_numbers i) below
 
 -- A space without a page.
@@ -125,7 +125,7 @@ module _ (file : List ℕ) (p : ℕ) (before now : State) (i : ℕ) (taken : fil
       let count = length-take-le i (image_pages file) (omega (arith, below)) in
       record {
         there = so_far.rest.there;
-        settled = so_far.rest.settled;
+        none_awaits = so_far.rest.none_awaits;
         absent = not_seen now p page (so_far.memory page
             ∙ ap (λ (b : Bool). cond b (Some (image_page file page)) (get (memory_of before p) page)) (not_before file i below)
             ∙ isnt_seen before p page (bare_page before p bare page));
@@ -142,12 +142,12 @@ module _ (file : List ℕ) (p : ℕ) (before now : State) (i : ℕ) (taken : fil
       omega (arith, so, same, limit, fits)
 
 -- numbers of which none is among more aren't among the first of those
-among_fewer : (xs : List ℕ) (i k q : ℕ) → is_among (take (i + k) xs) q ≡ false → is_among (take i xs) q ≡ false
+among_fewer : (xs : List ℕ) (i k q : ℕ) → is_one_of (take (i + k) xs) q ≡ false → is_one_of (take i xs) q ≡ false
 among_fewer xs zero k q h = refl
 among_fewer [] (suc i) k q h = refl
 among_fewer (x ∷ xs) (suc i) k q h =
     let more : suc i + k ≡ suc (i + k) = omega arith in
-    both (is_eq (nat_cmp q x)) (is_among (take (i + k) xs) q) (is_among (take i xs) q) (sym (ap (λ n. is_among (take n (x ∷ xs)) q) more) ∙ h) (among_fewer xs i k q)
+    both (is_eq (nat_cmp q x)) (is_one_of (take (i + k) xs) q) (is_one_of (take i xs) q) (sym (ap (λ n. is_one_of (take n (x ∷ xs)) q) more) ∙ h) (among_fewer xs i k q)
   where
     both : (b c d : Bool) → (b || c) ≡ false → (c ≡ false → d ≡ false) → (b || d) ≡ false
     both true c d h on = cc
@@ -191,7 +191,7 @@ module _ (file : List ℕ) (p : ℕ) (before now : State) (items : List ImagePag
   free k below =
       let q = first.page + k in
       let fits = zeros.within in
-      let before_it = subst (λ page. is_among (take (at + k) pages) page ≡ false) (goes_up k below) (not_before file (at + k) (omega (arith, below, fits, as_many))) in
+      let before_it = subst (λ page. is_one_of (take (at + k) pages) page ≡ false) (goes_up k below) (not_before file (at + k) (omega (arith, below, fits, as_many))) in
       not_seen now p q (so_far.memory q
       ∙ ap (λ (b : Bool). cond b (Some (image_page file q)) (get (memory_of before p) q)) (among_fewer pages at k q before_it)
       ∙ isnt_seen before p q (bare_page before p bare q))
@@ -243,10 +243,10 @@ module _ (p : ℕ) (before new : State) (there : IsOpen p before before) (absent
       (λ k below. ap zero_content (sym may)) (λ k below. refl) (λ k below. absent (67108848 + k) (omega arith))
 
 -- no page of the stack is among those of an image
-pub above_all : (q m : ℕ) (ps : List ℕ) → ((i : ℕ) → i < length ps → get_or ps i 0 < m) → m ≤ q → is_among ps q ≡ false
+pub above_all : (q m : ℕ) (ps : List ℕ) → ((i : ℕ) → i < length ps → get_or ps i 0 < m) → m ≤ q → is_one_of ps q ≡ false
 above_all q m [] low above = refl
 above_all q m (p ∷ ps) low above =
-    ap (λ b. b || is_among ps q) (differs q p (λ same. omega (arith, same, above, low 0 (omega arith))))
+    ap (λ b. b || is_one_of ps q) (differs q p (λ same. omega (arith, same, above, low 0 (omega arith))))
     ∙ above_all q m ps (λ i below. low (suc i) (omega (arith, below))) above
 
 module _ (file : List ℕ) (p : ℕ) (before now : State) (taken : file_refusal file ≡ None) (bare : space_in before p ≡ bare_space) (image : HasImage file p before now) where

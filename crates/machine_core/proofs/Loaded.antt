@@ -7,10 +7,10 @@ use Rattle.number_maps.specs.Keys.{alike, by_key, get_other, get_same, removed_o
 use Rattle.sizes.specs.declared.TheConstants.{STACK_POINTER}
 use Rattle.ovl_io.specs.declared.process_state.ProcessState.TheVariants.{Running}
 use Rattle.elf_loader.specs.Accepted.{file_refusal}
-use Rattle.elf_loader.specs.Fields.{entry_of}
+use Rattle.elf_loader.specs.Fields.{entry_address}
 use Rattle.elf_loader.specs.Image.{image_pages, is_stored, listed_page}
 use Rattle.elf_loader.specs.declared.image.ImagePage.{ImagePage}
-use Rattle.ledger.specs.AlikeLaws.{alike_turned}
+use Rattle.ledger.specs.AlikeLaws.{alike_altered}
 use Rattle.ledger.specs.Units.{units}
 use Rattle.rv_execute.specs.Registers.{Registers, first_registers}
 use Rattle.overlay_pages.specs.Changes.{limit_of, units_of}
@@ -38,7 +38,7 @@ module _ (file : List ℕ) (p : ℕ) (old new : Machine) (lists : lists_of new �
   whole_is : whole_in (spaces_of new) p (shown_process (loaded_process file)) ≡ loaded_process file
   whole_is =
       let kept = ap (λ b. cond b (Some (kept_whole (base_of (spaces_of new) p) none_saved)) None) has.mark in
-      λ i. record { registers = first_registers (entry_of file) STACK_POINTER; state = Running; memory = has.memory i; kept = kept i }
+      λ i. record { registers = first_registers (entry_address file) STACK_POINTER; state = Running; memory = has.memory i; kept = kept i }
 
   others_by : (q : ℕ) → (q ≡ p → ⊥) → (o : Option declared.Process) → option_map (whole_in (spaces_of new) q) o ≡ option_map (whole_in (spaces_of old) q) o
   others_by q other None = refl
@@ -56,10 +56,10 @@ module _ (file : List ℕ) (p : ℕ) (old new : Machine) (lists : lists_of new �
 
   pub loaded : IsLoaded p file old new
   loaded = record {
-    like = record { processes = all_are; ledger = alike_turned _ _ has.ledger; frames = has.frames; translations = lists };
+    like = record { processes = all_are; ledger = alike_altered _ _ has.ledger; frames = has.frames; translations = lists };
     processes = processes;
     there = has.there;
-    settled = has.settled;
+    none_awaits = has.none_awaits;
     others = record {
       spaces = λ q other. space_by (spaces_of new) (spaces_of old) q (has.others q other);
       there = λ q other. ap is_some (has.others q other);
@@ -77,7 +77,7 @@ taken_back file p old now new absent has cut =
     cut ∙ (λ i. record { spaces = spaces i; frames = has.frames i; zero_frame = has.zero_frame i })
 
 -- the process that a load makes
-pub made_process : (file : List ℕ) (regs : Registers) → regs ≡ first_registers (entry_of file) STACK_POINTER
+pub made_process : (file : List ℕ) (regs : Registers) → regs ≡ first_registers (entry_address file) STACK_POINTER
     → ◌≡◌ {A = declared.Process} (record { regs = regs; state = Running; saved = None }) (shown_process (loaded_process file))
 made_process file regs is = ap (λ r. record { regs = r; state = Running; saved = None }) is
 

@@ -3,12 +3,11 @@ use Rattle.std.proofs.lemmas.List.{drop-drop, get_or-drop, get_or-take, length-d
 use Rattle.std.specs.Borrow.{Bor}
 use Rattle.std.specs.Ordering.{nat_cmp}
 use Rattle.std.specs.FinSet.{contains, contains-empty}
-use Rattle.std.proofs.lemmas.Bool.{cases_eq}
 use Rattle.sizes.specs.declared.TheConstants.{LINE_BYTES, PAGE_BYTES, PAGE_LINES}
 use Rattle.breakpoints.specs.Breakpoints.{Addresses}
 use Rattle.overlay_bits.specs.Lines.{has_line}
 use Rattle.overlay_memory.specs.View.{TranslatedView}
-use Rattle.decoded_lines.specs.Decoded.{AreFrom, IsOfWord, word_of}
+use Rattle.decoded_lines.specs.Decoded.{AreFrom, IsOfWord, line_word}
 use Rattle.decoded_lines.specs.declared.TheConstants.{KEPT_LINES, LINE_WORDS}
 use Rattle.ovl_io.specs.declared.process_state.ProcessState.TheVariants as state
 use Rattle.rv_decode.specs.declared.instruction.Instr.{Instr}
@@ -16,7 +15,7 @@ use Rattle.rv_execute.specs.declared.outcome.Outcome.{Outcome}
 use Rattle.rv_execute.specs.declared.outcome.Outcome.TheVariants as outcome
 use Rattle.machine_core.specs.Access.{IsReadyView, spaces_lent}
 use Rattle.machine_core.specs.Ahead.{guest_ahead}
-use Rattle.machine_core.specs.Executions.{Comes, Executions, IsLast, behind, executions, resumed, steps_in, stops_in}
+use Rattle.machine_core.specs.Executions.{Comes, Executions, IsLast, after_steps, executions, resumed, steps_in, stops_in}
 use Rattle.machine_core.specs.Held.{GoesOn, GoesPast, IsHeld, IsInHand, IsLeft, IsTaken, IsWordAt, Keeps, KeepsLines}
 use Rattle.machine_core.specs.Turns.{Guest, executed, outcome_of}
 use Rattle.overlay_pages.specs.State.{State}
@@ -40,16 +39,9 @@ pub on_here : (start from k pc next : ℕ) → start % LINE_BYTES ≡ 0 → star
     → next ≡ (pc + 4) % 2 ^ 64 → next ≡ (start + 4 * (from + (k + 1))) % 2 ^ 64
 on_here start from k pc next whole low inside is goes = omega (arith, whole, low, inside, is, goes)
 
--- no address is a stop where none are handed over, and one word more is at none
+-- no address is a stop where none are handed over
 pub no_stop : (stops : Option (Bor Addresses)) (address : ℕ) → stops ≡ None → contains (stops_in stops) address ≡ false
 no_stop stops address none = ap (λ (o : Option (Bor Addresses)). contains (stops_in o) address) none ∙ contains-empty nat_cmp address
-
-pub past_more : (stops : Addresses) (address count : ℕ) → GoesPast stops address count → contains stops (address + 4 * count) ≡ false → GoesPast stops address (count + 1)
-past_more stops address count past last k some below = by_order (cases_eq k count)
-  where
-    by_order : (k ≡ count) ⊎ (k ≡ count → ⊥) → contains stops (address + 4 * k) ≡ false
-    by_order (inl same) = ap (λ n. contains stops (address + 4 * n)) same ∙ last
-    by_order (inr other) = past k some (omega (arith, below, other))
 
 -- the line of an address in hand
 pub held_at : (lines : List (List ℕ)) (memory : TranslatedView) (space : ℕ) (hand : Hand) (address : ℕ) → IsTaken lines memory space hand address
@@ -84,8 +76,8 @@ module _ (lines : List (List ℕ)) (view : View) (first k pc : ℕ) (held : IsHe
       let number : first / 4 / LINE_WORDS ≡ start / LINE_BYTES = omega arith in
       let one : k + 0 ≡ k = omega arith in
       word_is lines view start pc (from + k) held pc_is inside (get_or (drop k (take count words)) 0 None)
-      (subst (λ n. IsOfWord (get_or (drop k (take count words)) 0 None) (word_of (get_or lines (n % KEPT_LINES) []) (from + k))) number
-      (subst (λ o. IsOfWord o (word_of (get_or lines (first / 4 / LINE_WORDS % KEPT_LINES) []) (from + k)))
+      (subst (λ n. IsOfWord (get_or (drop k (take count words)) 0 None) (line_word (get_or lines (n % KEPT_LINES) []) (from + k))) number
+      (subst (λ o. IsOfWord o (line_word (get_or lines (first / 4 / LINE_WORDS % KEPT_LINES) []) (from + k)))
       (sym (get_or-drop k (take count words) 0 None ∙ ap (λ n. get_or (take count words) n None) one ∙ get_or-take count words k None below)) (are k inside)))
 
   -- executions don't stop at a word behind the first one
@@ -122,7 +114,7 @@ module _ (lines : List (List ℕ)) (old view : View) (hand left : Hand) (n pc ne
 
 -- One more of them.
 module _ (stops : Addresses) (p : ℕ) (guest : Guest) (most k owed : ℕ) (old new : View) (before after : Process) (o : Outcome) (same : old.space ≡ p) (below : k < most)
-    (is : executions stops p most guest ≡ behind k (so_far k stops p (most - k) (guest_ahead (owed + k) (guest_lent old before)))) (past : 0 < k → contains stops before.regs.pc ≡ false)
+    (is : executions stops p most guest ≡ after_steps k (so_far k stops p (most - k) (guest_ahead (owed + k) (guest_lent old before)))) (past : 0 < k → contains stops before.regs.pc ≡ false)
     (came : (n : ℕ) → o ≡ outcome_of old.space (guest_ahead n (guest_lent old before)))
     (moved : (n : ℕ) → guest_ahead (n + 1) (guest_lent new after) ≡ executed old.space (guest_ahead n (guest_lent old before))) where
   abbrev all : Executions
@@ -134,19 +126,19 @@ module _ (stops : Addresses) (p : ℕ) (guest : Guest) (most k owed : ℕ) (old 
   abbrev next : Guest
   next = guest_ahead (owed + (k + 1)) (guest_lent new after)
 
-  begins : all ≡ behind k (executions stops p (most - k) now)
-  begins = is ∙ ap (behind k) (on_so_far stops p k (most - k) now past)
+  begins : all ≡ after_steps k (executions stops p (most - k) now)
+  begins = is ∙ ap (after_steps k) (on_so_far stops p k (most - k) now past)
 
   next_is : next ≡ executed p now
   next_is =
       let one : owed + (k + 1) ≡ owed + k + 1 = omega arith in
       ap (λ n. guest_ahead n (guest_lent new after)) one ∙ moved (owed + k) ∙ ap (λ n. executed n now) same
 
-  pub one_more : o ≡ outcome.Stepped → all ≡ behind (k + 1) (resumed stops p (most - (k + 1)) next)
+  pub one_more : o ≡ outcome.Stepped → all ≡ after_steps (k + 1) (resumed stops p (most - (k + 1)) next)
   one_more stepped = one_step stops p all most k now next below begins (sym stepped ∙ came (owed + k) ∙ ap (λ n. outcome_of n now) same) next_is
 
-  pub one_so_far : o ≡ outcome.Stepped → all ≡ behind (k + 1) (so_far (k + 1) stops p (most - (k + 1)) next)
-  one_so_far stepped = one_more stepped ∙ ap (behind (k + 1)) (is_so_far stops p (k + 1) (most - (k + 1)) next (omega arith))
+  pub one_so_far : o ≡ outcome.Stepped → all ≡ after_steps (k + 1) (so_far (k + 1) stops p (most - (k + 1)) next)
+  one_so_far stepped = one_more stepped ∙ ap (after_steps (k + 1)) (is_so_far stops p (k + 1) (most - (k + 1)) next (omega arith))
 
   pub runs_on : o ≡ outcome.Stepped → before.state ≡ state.Running → after.state ≡ state.Running
   runs_on stepped running =
@@ -191,7 +183,7 @@ pub record AreRun (stops : Addresses) (lines : List (List ℕ)) (old now : View)
   pub space : now.space ≡ old.space
   pub ready : IsReadyView now
   pub all : executions stops old.space most (guest_ahead hand.owed (guest_lent old before))
-      ≡ behind k (so_far k stops old.space (most - k) (guest_ahead (hand.owed + k) (guest_lent now process)))
+      ≡ after_steps k (so_far k stops old.space (most - k) (guest_ahead (hand.owed + k) (guest_lent now process)))
   pub running : process.state ≡ state.Running
   pub saved : process.saved ≡ before.saved
   pub beside : IsBeside old.space (spaces_lent old) (spaces_lent now)

@@ -24,7 +24,7 @@ use Rattle.space_maps.specs.Books.{books_put, books_spaces}
 use Rattle.space_maps.specs.Laws.{space_put}
 use Rattle.space_maps.specs.Spaces.{bare_space, cut_space, holds_space, put_space, space_in}
 use Rattle.machine_core.specs.Load.{image_memory, load_pages, loaded_ledger, stack_page, stack_pages, stored_pages}
-use Rattle.machine_core.specs.Loading.{HasPages, IsOpen, IsSpaceOf, is_among, one_loaded}
+use Rattle.machine_core.specs.Loading.{HasPages, IsOpen, IsSpaceOf, is_one_of, one_loaded}
 use Rattle.machine_core.proofs.Images.{above_all, bare_page, isnt_seen, none_below}
 use Rattle.machine_core.proofs.Marks.{units_after_load}
 
@@ -51,26 +51,26 @@ at_tie f q k true rest h = ap (λ n. Some (f n)) (sym (tied q k h))
 at_tie f q k false rest h = refl
 
 find_pages : (f : ℕ → Page) (ps : List ℕ) (others : List (ℕ × Page)) (q : ℕ)
-    → find nat_cmp q (map (λ p. (p, f p)) ps ++ others) ≡ cond (is_among ps q) (Some (f q)) (find nat_cmp q others)
+    → find nat_cmp q (map (λ p. (p, f p)) ps ++ others) ≡ cond (is_one_of ps q) (Some (f q)) (find nat_cmp q others)
 find_pages f [] others q = refl
 find_pages f (p ∷ ps) others q =
     ap (cond (is_eq (nat_cmp q p)) (Some (f p))) (find_pages f ps others q)
     ∙ at_tie f q p (is_eq (nat_cmp q p)) _ refl
-    ∙ first (is_eq (nat_cmp q p)) (is_among ps q) (Some (f q)) (find nat_cmp q others)
+    ∙ first (is_eq (nat_cmp q p)) (is_one_of ps q) (Some (f q)) (find nat_cmp q others)
   where
     first : (a b : Bool) (x y : Option Page) → cond a x (cond b x y) ≡ cond (a || b) x y
     first true b x y = refl
     first false b x y = refl
 
 image_at : (file : List ℕ) (q : ℕ) → get (image_memory file) q
-    ≡ cond (is_among (image_pages file) q) (Some (image_page file q)) (cond (is_among stack_pages q) (Some stack_page) None)
+    ≡ cond (is_one_of (image_pages file) q) (Some (image_page file q)) (cond (is_one_of stack_pages q) (Some stack_page) None)
 image_at file q =
     get-from_entries nat_cmp_total _ q ∙ find_pages (image_page file) (image_pages file) (map (λ p. (p, stack_page)) stack_pages) q
-    ∙ ap (cond (is_among (image_pages file) q) (Some (image_page file q)))
+    ∙ ap (cond (is_one_of (image_pages file) q) (Some (image_page file q)))
     (ap (find nat_cmp q) (sym (append-nil (map (λ p. (p, stack_page)) stack_pages))) ∙ find_pages (λ _. stack_page) stack_pages [] q)
 
 -- no page of the image is one of the stack
-apart : (file : List ℕ) (q : ℕ) → file_refusal file ≡ None → is_among stack_pages q ≡ true → is_among (image_pages file) q ≡ false
+apart : (file : List ℕ) (q : ℕ) → file_refusal file ≡ None → is_one_of stack_pages q ≡ true → is_one_of (image_pages file) q ≡ false
 unfolding stack_pages
 apart file q taken stack = elim (cases_lt q 67108848) [
   | inl below ↦ absurd (let no = sym (none_below q 67108848 16 below) ∙ stack in cc)
@@ -127,14 +127,14 @@ module _ (file : List ℕ) (p : ℕ) (old begun : State) (taken : file_refusal f
       let start = subst (λ (l : Ledger). AreAlike base l) (sym begun_ledger) (alike_itself base) in
       record {
         memory = alike _ _ (λ q.
-            pages.stack.memory q ∙ ap (cond (is_among stack_pages q) (Some stack_page)) (pages.image.memory q)
-            ∙ ap (λ (o : Option Page). cond (is_among stack_pages q) (Some stack_page) (cond (is_among (image_pages file) q) (Some (image_page file q)) o)) (isnt_seen begun p q (bare_page begun p begun_bare q))
-            ∙ swapped (is_among (image_pages file) q) (is_among stack_pages q) (Some (image_page file q)) (Some stack_page) (apart file q taken)
+            pages.stack.memory q ∙ ap (cond (is_one_of stack_pages q) (Some stack_page)) (pages.image.memory q)
+            ∙ ap (λ (o : Option Page). cond (is_one_of stack_pages q) (Some stack_page) (cond (is_one_of (image_pages file) q) (Some (image_page file q)) o)) (isnt_seen begun p q (bare_page begun p begun_bare q))
+            ∙ swapped (is_one_of (image_pages file) q) (is_one_of stack_pages q) (Some (image_page file q)) (Some stack_page) (apart file q taken)
             ∙ sym (image_at file q));
         ledger = subst (λ (l : Ledger). AreAlike l (books new)) (sym (fold-append (one_loaded p) base images stack))
             (pages.stack.ledger (fold (one_loaded p) base images) (pages.image.ledger base start));
         there = pages.stack.rest.there;
-        settled = pages.stack.rest.settled;
+        none_awaits = pages.stack.rest.none_awaits;
         mark = pages.stack.rest.mark ∙ pages.image.rest.mark ∙ ap (λ (x : SpaceState). x.speculating) begun_bare;
         others = λ q other. pages.stack.rest.others q other ∙ pages.image.rest.others q other ∙ begun_others q other;
         frames = pages.stack.rest.frames ∙ pages.image.rest.frames ∙ begun_frames;

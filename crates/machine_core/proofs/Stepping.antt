@@ -6,10 +6,10 @@ use Rattle.rv_execute.specs.declared.outcome.Outcome.{Outcome}
 use Rattle.rv_execute.specs.declared.outcome.Outcome.TheVariants as outcome
 use Rattle.rv_execute.specs.Execution.{Upshot, Steps, Asks, Faults, outcome_by}
 use Rattle.machine_core.specs.Process.{runs}
-use Rattle.machine_core.specs.Machine.{Wholes, limit_of}
+use Rattle.machine_core.specs.Machine.{Wholes, unit_limit}
 use Rattle.machine_core.specs.Turns.{Guest, after_execution, executed, execution_of, guest_at, guest_executed, guest_refused, is_full, outcome_found, outcome_of, state_executed, units_needed, with_guest}
 use Rattle.breakpoints.specs.Breakpoints.{Addresses}
-use Rattle.machine_core.specs.Executions.{Executions, after_executions, all_executed, Comes, IsLast, behind, executions, first_execution, is_at_stop, last_outcome, more_executions, no_execution, resumed, steps_in, stopped_execution}
+use Rattle.machine_core.specs.Executions.{Executions, after_executions, all_executed, Comes, IsLast, after_steps, executions, first_execution, is_at_stop, last_outcome, more_executions, no_execution, resumed, steps_in, stopped_execution}
 
 -- Executions so far, and those that are left.
 
@@ -35,13 +35,13 @@ module _ (stops : Addresses) (p : ℕ) where
   left_more : (most k : ℕ) → k < most → most - k ≡ suc (most - (k + 1))
   left_more most k below = omega arith
 
-  unrolled : (all : Executions) (most k : ℕ) (now : Guest) (o : Outcome) → k < most → all ≡ behind k (executions stops p (most - k) now)
-      → outcome_of p now ≡ o → all ≡ behind k (first_execution stops o now (executed p now) (executions stops p (most - (k + 1)) (executed p now)))
+  unrolled : (all : Executions) (most k : ℕ) (now : Guest) (o : Outcome) → k < most → all ≡ after_steps k (executions stops p (most - k) now)
+      → outcome_of p now ≡ o → all ≡ after_steps k (first_execution stops o now (executed p now) (executions stops p (most - (k + 1)) (executed p now)))
   unrolled all most k now o below is came =
-      is ∙ ap (λ n. behind k (executions stops p n now)) (left_more most k below)
-      ∙ ap (λ v. behind k (first_execution stops v now (executed p now) (executions stops p (most - (k + 1)) (executed p now)))) came
+      is ∙ ap (λ n. after_steps k (executions stops p n now)) (left_more most k below)
+      ∙ ap (λ v. after_steps k (first_execution stops v now (executed p now) (executions stops p (most - (k + 1)) (executed p now)))) came
 
-  from_first : (most : ℕ) (now : Guest) → executions stops p most now ≡ behind 0 (executions stops p (most - 0) now)
+  from_first : (most : ℕ) (now : Guest) → executions stops p most now ≡ after_steps 0 (executions stops p (most - 0) now)
   from_first most now =
       let all : most ≡ most - 0 = omega arith in
       let e = executions stops p (most - 0) now in
@@ -50,20 +50,20 @@ module _ (stops : Addresses) (p : ℕ) where
 
   -- a step: it isn't known yet whether it leaves the pc at a stop
   step_by : (t : Bool) (k : ℕ) (others : Executions) (next : Guest)
-      → behind k (cond t (stopped_execution next) (more_executions others)) ≡ behind (k + 1) (cond t (no_execution next) others)
+      → after_steps k (cond t (stopped_execution next) (more_executions others)) ≡ after_steps (k + 1) (cond t (no_execution next) others)
   step_by true k others next = let one : k + 1 ≡ k + 1 + 0 = omega arith in λ i. record { steps = one i; before = next; outcome = outcome.Stepped; after = next }
   step_by false k others next =
       let more : k + (others.steps + 1) ≡ k + 1 + others.steps = omega arith in
       λ i. record { steps = more i; before = others.before; outcome = others.outcome; after = others.after }
 
-  pub one_step : (all : Executions) (most k : ℕ) (now next : Guest) → k < most → all ≡ behind k (executions stops p (most - k) now)
-      → outcome.Stepped ≡ outcome_of p now → next ≡ executed p now → all ≡ behind (k + 1) (resumed stops p (most - (k + 1)) next)
+  pub one_step : (all : Executions) (most k : ℕ) (now next : Guest) → k < most → all ≡ after_steps k (executions stops p (most - k) now)
+      → outcome.Stepped ≡ outcome_of p now → next ≡ executed p now → all ≡ after_steps (k + 1) (resumed stops p (most - (k + 1)) next)
   one_step all most k now next below is stepped moved =
       unrolled all most k now outcome.Stepped below is (sym stepped)
       ∙ step_by (is_at_stop stops (executed p now)) k (executions stops p (most - (k + 1)) (executed p now)) (executed p now)
-      ∙ ap (λ g. behind (k + 1) (resumed stops p (most - (k + 1)) g)) (sym moved)
+      ∙ ap (λ g. after_steps (k + 1) (resumed stops p (most - (k + 1)) g)) (sym moved)
 
-  pub no_step : (o : Outcome) (all : Executions) (most k : ℕ) (now next : Guest) → k < most → all ≡ behind k (executions stops p (most - k) now)
+  pub no_step : (o : Outcome) (all : Executions) (most k : ℕ) (now next : Guest) → k < most → all ≡ after_steps k (executions stops p (most - k) now)
       → o ≡ outcome_of p now → (o ≡ outcome.Stepped → ⊥) → next ≡ executed p now → IsLast all k o next
   no_step outcome.Stepped all most k now next below is came other moved = absurd (other refl)
   no_step outcome.Asked all most k now next below is came other moved =
@@ -134,16 +134,16 @@ module _ (stops : Addresses) (p : ℕ) where
   is_so_far (suc k) most guest some = refl
 
   -- some behind others
-  together : (k n : ℕ) (others : Executions) → behind k (behind n others) ≡ behind (k + n) others
+  together : (k n : ℕ) (others : Executions) → after_steps k (after_steps n others) ≡ after_steps (k + n) others
   together k n others =
       let both : k + (n + others.steps) ≡ k + n + others.steps = omega arith in
       λ i. record { steps = both i; before = others.before; outcome = others.outcome; after = others.after }
 
-  module _ (all : Executions) (most k n : ℕ) (now next : Guest) (is : all ≡ behind k (executions stops p (most - k) now)) where
-    pub came_on : executions stops p (most - k) now ≡ behind n (resumed stops p (most - k - n) next) → all ≡ behind (k + n) (resumed stops p (most - (k + n)) next)
+  module _ (all : Executions) (most k n : ℕ) (now next : Guest) (is : all ≡ after_steps k (executions stops p (most - k) now)) where
+    pub came_on : executions stops p (most - k) now ≡ after_steps n (resumed stops p (most - k - n) next) → all ≡ after_steps (k + n) (resumed stops p (most - (k + n)) next)
     came_on came =
         let left : most - k - n ≡ most - (k + n) = omega arith in
-        is ∙ ap (behind k) came ∙ together k n (resumed stops p (most - k - n) next) ∙ ap (λ m. behind (k + n) (resumed stops p m next)) left
+        is ∙ ap (after_steps k) came ∙ together k n (resumed stops p (most - k - n) next) ∙ ap (λ m. after_steps (k + n) (resumed stops p m next)) left
 
 -- Whether it runs then.
 
@@ -168,7 +168,7 @@ module _ (p : ℕ) where
   runs_after_one guest running = by_test (is_full p guest)
     where
       by_test : (b : Bool) → runs (cond b (guest_refused p guest) (guest_executed p guest)).process.state
-          ≡ runs_on (cond b (outcome.Full (units_needed p guest) (limit_of guest.frames)) (outcome_by (execution_of guest.process).upshot))
+          ≡ runs_on (cond b (outcome.Full (units_needed p guest) (unit_limit guest.frames)) (outcome_by (execution_of guest.process).upshot))
       by_test true = ap runs running
       by_test false = runs_by (execution_of guest.process).upshot
 

@@ -9,26 +9,26 @@ use Rattle.ledger.specs.AmpleLaws.{AreAmple, ample_suffices}
 use Rattle.ovl_io.specs.declared.turn.Turn.{Turn}
 use Rattle.ovl_io.specs.declared.turn.Turn.TheVariants.{Stepped, Wrote, Exited, Faulted, Full}
 use Rattle.machine_core.specs.Process.{Process}
-use Rattle.machine_core.specs.Machine.{AnswersAs, Machine, StandsFor, Wholes, limit_of}
+use Rattle.machine_core.specs.Machine.{AnswersAs, Machine, StandsFor, Wholes, unit_limit}
 use Rattle.machine_core.specs.Turns.{Guest, asked_found, exceeds, guest_at, guest_of, is_full, ledger_executed, step_of, store_of, turn_asked, turn_in, turn_of, units_needed}
 use Rattle.ovl_io.specs.Memory.{Access, Memory, denied_at}
 use Rattle.rv_execute.specs.Registers.{Registers, register}
 use Rattle.rv_execute.specs.Calls.{access_of, load_at}
 use Rattle.rv_execute.specs.Execution.{Upshot, Steps, Asks, Faults, execution}
-use Rattle.rv_execute.specs.Step.{Request, buffered, request, turned, write_count}
+use Rattle.rv_execute.specs.Step.{Request, buffered, request, altered, write_count}
 
 -- Where the frames are ample for the ledger that an event leads to, the event isn't full.
 
 -- more units than so many frames have are never needed where the frames are ample
-pub within_ample : (frames : ℕ) (ledger : Ledger) → AreAmple frames ledger → nat_lt (limit_of frames) (units ledger) ≡ false
+pub within_ample : (frames : ℕ) (ledger : Ledger) → AreAmple frames ledger → nat_lt (unit_limit frames) (units ledger) ≡ false
 within_ample frames ledger ample = grind (arith, nat_tests, ample_suffices frames ledger ample)
 
 -- the ledger that the next instruction of a process leads to, if there are units enough for that
-abbrev pub ledger_turned : ℕ → Wholes → Ledger
-ledger_turned p state = option_map_or (ledger_executed p) (guest_at state p) state.ledger
+abbrev pub ledger_altered : ℕ → Wholes → Ledger
+ledger_altered p state = option_map_or (ledger_executed p) (guest_at state p) state.ledger
 
 abbrev pub IsAmpleAt : ℕ → Wholes → Type 0
-IsAmpleAt p state = AreAmple state.frames (ledger_turned p state)
+IsAmpleAt p state = AreAmple state.frames (ledger_altered p state)
 
 abbrev pub is_full_turn : Turn → Bool
 is_full_turn Stepped = false
@@ -65,15 +65,15 @@ asked_fits state p = by_found (guest_at state p)
     by_found (Some guest) = request_fits p guest.process.registers guest.process.memory
 
 -- Neither is a step by itself: it knows of no units.
-turned_fits : (p : ℕ) (upshot : Upshot) (regs : Registers) (memory : Memory) (accesses : List Access) → is_full_turn (turned p upshot regs memory accesses).turn ≡ false
-turned_fits p Steps regs memory accesses = refl
-turned_fits p Asks regs memory accesses = request_fits p regs memory
-turned_fits p (Faults kind address) regs memory accesses = refl
+altered_fits : (p : ℕ) (upshot : Upshot) (regs : Registers) (memory : Memory) (accesses : List Access) → is_full_turn (altered p upshot regs memory accesses).turn ≡ false
+altered_fits p Steps regs memory accesses = refl
+altered_fits p Asks regs memory accesses = request_fits p regs memory
+altered_fits p (Faults kind address) regs memory accesses = refl
 
 pub step_fits : (p : ℕ) (process : Process) → is_full_turn (step_of p process).turn ≡ false
 step_fits p process =
     let e = execution process.registers process.memory in
-    turned_fits p e.upshot e.registers e.memory (map access_of e.calls)
+    altered_fits p e.upshot e.registers e.memory (map access_of e.calls)
 
 exceeds_ample : (store : Option (ℕ × ℕ)) (needed limit : ℕ) → nat_lt limit needed ≡ false → exceeds store needed limit ≡ false
 exceeds_ample None needed limit fits = refl
@@ -82,10 +82,10 @@ exceeds_ample (Some store) needed limit fits = fits
 guest_fits : (p : ℕ) (guest : Guest) → AreAmple guest.frames (ledger_executed p guest) → is_full p guest ≡ false
 unfolding is_full
 guest_fits p guest ample =
-    exceeds_ample (store_of guest.process) (units_needed p guest) (limit_of guest.frames) (within_ample guest.frames (ledger_executed p guest) ample)
+    exceeds_ample (store_of guest.process) (units_needed p guest) (unit_limit guest.frames) (within_ample guest.frames (ledger_executed p guest) ample)
 
 guest_turn_fits : (p : ℕ) (guest : Guest) (full : Bool) → full ≡ false
-    → is_full_turn (cond full (Full (units_needed p guest) (limit_of guest.frames)) (step_of p guest.process).turn) ≡ false
+    → is_full_turn (cond full (Full (units_needed p guest) (unit_limit guest.frames)) (step_of p guest.process).turn) ≡ false
 guest_turn_fits p guest true is = cc
 guest_turn_fits p guest false is = step_fits p guest.process
 

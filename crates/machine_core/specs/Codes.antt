@@ -11,11 +11,11 @@ use Rattle.machine_core.specs.contracts.process.Process as process
 
 -- How pages, memories and machines are told apart as values: by their parts.
 
-abbrev pub page_code : Coded Page
-page_code = code_by (ℕ × List ℕ) (coded× coded_ℕ (coded_list coded_ℕ)) (λ p. (p.perms, p.bytes)) (λ t. record { perms = t.0; bytes = t.1 }) (λ _. refl)
+abbrev pub page_bytes_code : Coded Page
+page_bytes_code = code_by (ℕ × List ℕ) (coded× coded_ℕ (coded_list coded_ℕ)) (λ p. (p.perms, p.bytes)) (λ t. record { perms = t.0; bytes = t.1 }) (λ _. refl)
 
 abbrev pub memory_code : Coded Memory
-memory_code = code coded_ℕ page_code
+memory_code = code coded_ℕ page_bytes_code
 
 abbrev pub machine_code : Coded Machine
 machine_code =

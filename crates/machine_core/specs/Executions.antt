@@ -51,8 +51,8 @@ executions stops p (suc most) guest =
     first_execution stops (outcome_of p guest) guest (executed p guest) (executions stops p most (executed p guest))
 
 -- so many steps before others
-abbrev pub behind : ℕ → Executions → Executions
-behind k others = record { steps = k + others.steps; before = others.before; outcome = others.outcome; after = others.after }
+abbrev pub after_steps : ℕ → Executions → Executions
+after_steps k others = record { steps = k + others.steps; before = others.before; outcome = others.outcome; after = others.after }
 
 -- the last one of all, which is no step or leaves the pc at a stop
 pub record IsLast (all : Executions) (k : ℕ) (o : Outcome) (after : Guest) : Type 0 where
@@ -73,7 +73,7 @@ steps_in (Full units limit) = 0
 
 -- What the first of them come to, up to one behind which it isn't known yet whether pc is at a stop, or to one that is no step.
 abbrev pub Comes : Addresses → ℕ → ℕ → Guest → ℕ → Outcome → Guest → Type 0
-Comes stops p most guest n Stepped next = (n ≤ most) × (executions stops p most guest ≡ behind n (resumed stops p (most - n) next))
+Comes stops p most guest n Stepped next = (n ≤ most) × (executions stops p most guest ≡ after_steps n (resumed stops p (most - n) next))
 Comes stops p most guest n Asked next = (n ≤ most) × IsLast (executions stops p most guest) n Asked next
 Comes stops p most guest n (Fault kind address) next = (n ≤ most) × IsLast (executions stops p most guest) n (Fault kind address) next
 Comes stops p most guest n (Full units limit) next = (n ≤ most) × IsLast (executions stops p most guest) n (Full units limit) next

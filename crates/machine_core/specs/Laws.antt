@@ -7,7 +7,7 @@ use Rattle.number_maps.specs.Keys.{alike, by_key, get_same, insert_over}
 use Rattle.number_maps.specs.Views.{get_viewed, viewed, viewed_gone, viewed_put}
 use Rattle.ledger.specs.Ledger.{Ledger}
 use Rattle.ledger.specs.Alike.{AreAlike}
-use Rattle.ledger.specs.AlikeLaws.{alike_itself, alike_chain, alike_turned}
+use Rattle.ledger.specs.AlikeLaws.{alike_itself, alike_chain, alike_altered}
 use Rattle.ledger.specs.AlikeUnits.{alike_dropped, units_alike}
 use Rattle.ledger.specs.Events as event
 use Rattle.ledger.specs.RowLaws.{alike_after}
@@ -27,14 +27,14 @@ use Rattle.rv_execute.specs.declared.outcome.Outcome.TheVariants as outcome
 use Rattle.ovl_io.specs.Memory.{Access}
 use Rattle.rv_execute.specs.Calls.{Call, access_of, fetch_at}
 use Rattle.rv_execute.specs.Execution.{Execution, Upshot, Steps, Asks, Faults, outcome_by}
-use Rattle.rv_execute.specs.Step.{Request, request, turned}
+use Rattle.rv_execute.specs.Step.{Request, request, altered}
 use Rattle.machine_core.specs.Process.{Process, is_speculating, runs}
 use Rattle.translation_cache.specs.Bare.{BareTranslations}
 use Rattle.translation_cache.specs.Counted.{counted}
 use Rattle.translation_cache.specs.CountedLaws.{counted_next, counted_one}
 use Rattle.translation_cache.specs.Translations.{flushed}
 use Rattle.rv_execute.specs.CallLaws.{is_requested}
-use Rattle.machine_core.specs.Machine.{AnswersAs, AreLike, IsDropped, LeadsTo, Machine, Processes, Wholes, is_running, kept_in, kept_whole, limit_of, lists_of, none_saved, processes_of, spaces_of, whole_in, wholes, with_process_at, without_pages, without_process, without_process_at}
+use Rattle.machine_core.specs.Machine.{AnswersAs, AreLike, IsDropped, LeadsTo, Machine, Processes, Wholes, is_running, kept_in, kept_whole, unit_limit, lists_of, none_saved, processes_of, spaces_of, whole_in, wholes, with_process_at, without_memory, without_process, without_process_at}
 use Rattle.machine_core.specs.Turns.{Guest, after_asked, after_execution, after_request, after_step, after_turn, asked_found, came_to, exceeds, executed, execution_of, guest_after, guest_answered, guest_at, guest_executed, guest_of, guest_refused, guest_stepped, is_full, ledger_executed, ledger_stored, outcome_found, outcome_of, process_after, process_executed, request_of, state_executed, step_of, store_of, translations_after, translations_asked, translations_executed, turn_asked, turn_in, turn_of, units_needed, with_guest}
 use Rattle.std.specs.FinSet.{contains}
 use Rattle.breakpoints.specs.Breakpoints.{Addresses}
@@ -87,7 +87,7 @@ runs_shown machine q =
     by_process (Some process) = refl
 
 -- a space without a process given up
-pub wholes_dropped : (p : ℕ) (old new : Machine) → get old.processes p ≡ None → IsDropped p old new → wholes new ≡ without_pages p (wholes old)
+pub wholes_dropped : (p : ℕ) (old new : Machine) → get old.processes p ≡ None → IsDropped p old new → wholes new ≡ without_memory p (wholes old)
 unfolding cut_space
 wholes_dropped p old new absent dropped =
     let processes : processes_of new ≡ processes_of old = alike _ _ (λ q. processes_at new q
@@ -114,7 +114,7 @@ like_itself a = record { processes = refl; ledger = alike_itself a.ledger; frame
 pub like_back : (a b : Wholes) → AreLike a b → AreLike b a
 like_back a b like = record {
   processes = sym like.processes;
-  ledger = alike_turned a.ledger b.ledger like.ledger;
+  ledger = alike_altered a.ledger b.ledger like.ledger;
   frames = sym like.frames;
   translations = sym like.translations;
 }
@@ -143,7 +143,7 @@ like_without p a b like = record {
   translations = like.translations;
 }
 
-pub like_without_pages : (p : ℕ) (a b : Wholes) → AreLike a b → AreLike (without_pages p a) (without_pages p b)
+pub like_without_pages : (p : ℕ) (a b : Wholes) → AreLike a b → AreLike (without_memory p a) (without_memory p b)
 like_without_pages p a b like = record {
   processes = like.processes;
   ledger = alike_dropped a.ledger b.ledger like.ledger p;
@@ -196,23 +196,23 @@ like_needed p a b like = units_alike (ledger_executed p a) (ledger_executed p b)
 pub like_full : (p : ℕ) (a b : Guest) → AreLikeGuests a b → is_full p a ≡ is_full p b
 unfolding is_full
 like_full p a b like =
-    ap (λ n. exceeds (store_of a.process) n (limit_of a.frames)) (like_needed p a b like)
-    ∙ ap (λ (process : Process). exceeds (store_of process) (units_needed p b) (limit_of a.frames)) like.process
-    ∙ ap (λ n. exceeds (store_of b.process) (units_needed p b) (limit_of n)) like.frames
+    ap (λ n. exceeds (store_of a.process) n (unit_limit a.frames)) (like_needed p a b like)
+    ∙ ap (λ (process : Process). exceeds (store_of process) (units_needed p b) (unit_limit a.frames)) like.process
+    ∙ ap (λ n. exceeds (store_of b.process) (units_needed p b) (unit_limit n)) like.frames
 
 pub like_outcome : (p : ℕ) (a b : Guest) → AreLikeGuests a b → outcome_of p a ≡ outcome_of p b
 like_outcome p a b like =
-    ap (λ f. cond f (outcome.Full (units_needed p a) (limit_of a.frames)) (outcome_by (execution_of a.process).upshot)) (like_full p a b like)
-    ∙ ap (λ n. cond (is_full p b) (outcome.Full n (limit_of a.frames)) (outcome_by (execution_of a.process).upshot)) (like_needed p a b like)
-    ∙ ap (λ n. cond (is_full p b) (outcome.Full (units_needed p b) (limit_of n)) (outcome_by (execution_of a.process).upshot)) like.frames
-    ∙ ap (λ (process : Process). cond (is_full p b) (outcome.Full (units_needed p b) (limit_of b.frames)) (outcome_by (execution_of process).upshot)) like.process
+    ap (λ f. cond f (outcome.Full (units_needed p a) (unit_limit a.frames)) (outcome_by (execution_of a.process).upshot)) (like_full p a b like)
+    ∙ ap (λ n. cond (is_full p b) (outcome.Full n (unit_limit a.frames)) (outcome_by (execution_of a.process).upshot)) (like_needed p a b like)
+    ∙ ap (λ n. cond (is_full p b) (outcome.Full (units_needed p b) (unit_limit n)) (outcome_by (execution_of a.process).upshot)) like.frames
+    ∙ ap (λ (process : Process). cond (is_full p b) (outcome.Full (units_needed p b) (unit_limit b.frames)) (outcome_by (execution_of process).upshot)) like.process
 
 pub like_turn_in : (p : ℕ) (a b : Guest) → AreLikeGuests a b → turn_in p a ≡ turn_in p b
 like_turn_in p a b like =
-    ap (λ f. cond f (turn.Full (units_needed p a) (limit_of a.frames)) (step_of p a.process).turn) (like_full p a b like)
-    ∙ ap (λ n. cond (is_full p b) (turn.Full n (limit_of a.frames)) (step_of p a.process).turn) (like_needed p a b like)
-    ∙ ap (λ n. cond (is_full p b) (turn.Full (units_needed p b) (limit_of n)) (step_of p a.process).turn) like.frames
-    ∙ ap (λ (process : Process). cond (is_full p b) (turn.Full (units_needed p b) (limit_of b.frames)) (step_of p process).turn) like.process
+    ap (λ f. cond f (turn.Full (units_needed p a) (unit_limit a.frames)) (step_of p a.process).turn) (like_full p a b like)
+    ∙ ap (λ n. cond (is_full p b) (turn.Full n (unit_limit a.frames)) (step_of p a.process).turn) (like_needed p a b like)
+    ∙ ap (λ n. cond (is_full p b) (turn.Full (units_needed p b) (unit_limit n)) (step_of p a.process).turn) like.frames
+    ∙ ap (λ (process : Process). cond (is_full p b) (turn.Full (units_needed p b) (unit_limit b.frames)) (step_of p process).turn) like.process
 
 like_cond : (c d : Bool) (a b x y : Guest) → c ≡ d → AreLikeGuests a b → AreLikeGuests x y → AreLikeGuests (cond c a x) (cond d b y)
 like_cond true true a b x y e h k = h
@@ -376,19 +376,19 @@ module _ (all : Wholes) (p : ℕ) (process : Process) (there : get all.processes
   executed_there = at_there (λ o. option_map_or (λ g. with_guest all p (executed p g)) o all)
 
   -- where there aren't units enough
-  full_there : is_full p guest ≡ true → IsTurn all p (turn.Full (units_needed p guest) (limit_of all.frames))
+  full_there : is_full p guest ≡ true → IsTurn all p (turn.Full (units_needed p guest) (unit_limit all.frames))
   full_there full = record {
-    turn_is = turn_there ∙ ap (λ b. cond b (turn.Full (units_needed p guest) (limit_of all.frames)) (step_of p process).turn) full;
+    turn_is = turn_there ∙ ap (λ b. cond b (turn.Full (units_needed p guest) (unit_limit all.frames)) (step_of p process).turn) full;
     after_is = after_there ∙ ap (λ b. with_guest all p (cond b (guest_refused p guest) (guest_stepped p guest))) full
         ∙ sym (executed_there ∙ ap (λ b. with_guest all p (cond b (guest_refused p guest) (guest_executed p guest))) full);
   }
 
   -- where there are, by what comes of the execution
   module _ (enough : is_full p guest ≡ false) where
-    turn_by : (u : Upshot) → e.upshot ≡ u → turn_of all p ≡ (turned p u e.registers e.memory (map access_of e.calls)).turn
+    turn_by : (u : Upshot) → e.upshot ≡ u → turn_of all p ≡ (altered p u e.registers e.memory (map access_of e.calls)).turn
     turn_by u is =
-        turn_there ∙ ap (λ b. cond b (turn.Full (units_needed p guest) (limit_of all.frames)) (step_of p process).turn) enough
-        ∙ ap (λ v. (turned p v e.registers e.memory (map access_of e.calls)).turn) is
+        turn_there ∙ ap (λ b. cond b (turn.Full (units_needed p guest) (unit_limit all.frames)) (step_of p process).turn) enough
+        ∙ ap (λ v. (altered p v e.registers e.memory (map access_of e.calls)).turn) is
 
     left_by : Process → BareTranslations → Wholes
     left_by left translations =
@@ -408,15 +408,15 @@ module _ (all : Wholes) (p : ℕ) (process : Process) (there : get all.processes
         ∙ ap (λ m. counted p m accesses (counted p process.memory (map access_of e.calls) all.translations)) (sym asked.kept)
 
     accesses_by : Upshot → List Access
-    accesses_by u = (turned p u e.registers e.memory (map access_of e.calls)).accesses
+    accesses_by u = (altered p u e.registers e.memory (map access_of e.calls)).accesses
 
     after_by : (u : Upshot) → e.upshot ≡ u
-        → after_turn all p ≡ left_by (after_step process (turned p u e.registers e.memory (map access_of e.calls))) (counted p process.memory (accesses_by u) all.translations)
+        → after_turn all p ≡ left_by (after_step process (altered p u e.registers e.memory (map access_of e.calls))) (counted p process.memory (accesses_by u) all.translations)
     unfolding left_by accesses_by translations_after
     after_by u is =
         after_there
         ∙ ap (λ b. with_guest all p (cond b (guest_refused p guest) (guest_stepped p guest))) enough
-        ∙ ap (λ v. left_by (after_step process (turned p v e.registers e.memory (map access_of e.calls))) (counted p process.memory (accesses_by v) all.translations)) is
+        ∙ ap (λ v. left_by (after_step process (altered p v e.registers e.memory (map access_of e.calls))) (counted p process.memory (accesses_by v) all.translations)) is
 
     executed_by : (u : Upshot) → e.upshot ≡ u
         → after_execution all p ≡ left_by (record { registers = e.registers; state = state_executed u; memory = e.memory; kept = process.kept }) (translations_executed p guest)
@@ -439,7 +439,7 @@ module _ (all : Wholes) (p : ℕ) (process : Process) (there : get all.processes
           turn_is = turn_by Asks (is ∙ same)
               ∙ sym (ap (λ (s : Wholes). turn_asked s p) now ∙ ap (λ (o : Option Process). asked_found p (option_map (guest_of (left_by left tried)) o)) found);
           after_is = after_by Asks (is ∙ same)
-              ∙ ap (left_by (after_step process (turned p Asks e.registers e.memory (map access_of e.calls)))) counts
+              ∙ ap (left_by (after_step process (altered p Asks e.registers e.memory (map access_of e.calls)))) counts
               ∙ sym (ap (λ (s : Wholes). after_asked s p) now
               ∙ ap (λ (o : Option Process). option_map_or (λ g. with_guest (left_by left tried) p (guest_answered p g)) (option_map (guest_of (left_by left tried)) o) (left_by left tried)) found
               ∙ ap (λ (ps : Processes). record { processes = ps; ledger = ledger_executed p guest; frames = all.frames; translations = counted p e.memory asks.accesses tried })
@@ -457,7 +457,7 @@ module _ (all : Wholes) (p : ℕ) (process : Process) (there : get all.processes
   came_there : came_to all p ≡ outcome_of p guest
   came_there = at_there (outcome_found p)
 
-  law_there : (f : Bool) → is_full p guest ≡ f → IsTurnOf all p (cond f (outcome.Full (units_needed p guest) (limit_of all.frames)) (outcome_by e.upshot))
+  law_there : (f : Bool) → is_full p guest ≡ f → IsTurnOf all p (cond f (outcome.Full (units_needed p guest) (unit_limit all.frames)) (outcome_by e.upshot))
   law_there true full = full_there full
   law_there false enough = enough_there enough e.upshot refl
 

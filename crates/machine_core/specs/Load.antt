@@ -4,7 +4,7 @@ use Rattle.std.specs.FinMap.{empty, from_entries, insert}
 use Rattle.sizes.specs.declared.TheConstants.{STACK_PAGE, STACK_PAGES, STACK_POINTER}
 use Rattle.ovl_io.specs.Memory.{Memory, Page}
 use Rattle.ovl_io.specs.declared.process_state.ProcessState.TheVariants.{Running}
-use Rattle.elf_loader.specs.Fields.{entry_of}
+use Rattle.elf_loader.specs.Fields.{entry_address}
 use Rattle.elf_loader.specs.Image.{page_length, image_pages, image_page, is_stored}
 use Rattle.ledger.specs.Ledger.{Ledger}
 use Rattle.ledger.specs.Events.{Load, ledger_after}
@@ -14,7 +14,7 @@ use Rattle.overlay_memory.specs.declared.error.SpaceError.TheVariants.{Full, Mem
 use Rattle.rv_execute.specs.Registers.{first_registers}
 use Rattle.space_maps.specs.Spaces.{space_in}
 use Rattle.machine_core.specs.Process.{Process}
-use Rattle.machine_core.specs.Machine.{AreLike, Machine, StandsFor, StaysBut, Wholes, has_space, limit_of, lists_of, shown_process, spaces_of, wholes}
+use Rattle.machine_core.specs.Machine.{AreLike, Machine, StandsFor, StaysBut, Wholes, has_space, unit_limit, lists_of, shown_process, spaces_of, wholes}
 
 -- What a load makes of a file that is taken.
 
@@ -51,7 +51,7 @@ stored_pages file = stored_count (map (is_stored file) (image_pages file))
 -- the process, at its entry
 abbrev pub loaded_process : List ℕ → Process
 loaded_process file =
-    record { registers = first_registers (entry_of file) STACK_POINTER; state = Running; memory = image_memory file; kept = None }
+    record { registers = first_registers (entry_address file) STACK_POINTER; state = Running; memory = image_memory file; kept = None }
 
 -- the ledger with its pages, and how many units that needs
 unfoldable pub loaded_ledger : ℕ → List ℕ → Ledger → Ledger
@@ -62,7 +62,7 @@ load_needs p file state = units (loaded_ledger p file state.ledger)
 
 -- whether there aren't as many
 abbrev pub is_load_full : ℕ → List ℕ → Wholes → Bool
-is_load_full p file state = nat_lt (limit_of state.frames) (load_needs p file state)
+is_load_full p file state = nat_lt (unit_limit state.frames) (load_needs p file state)
 
 -- the copying machine with that process under a number
 abbrev pub with_loaded : ℕ → List ℕ → Wholes → Wholes
@@ -79,7 +79,7 @@ pub record IsLoaded (p : ℕ) (file : List ℕ) (old new : Machine) : Type 0 whe
   pub like : AreLike (wholes new) (with_loaded p file (wholes old))
   pub processes : new.processes ≡ insert old.processes p (shown_process (loaded_process file))
   pub there : has_space new p ≡ true
-  pub settled : (space_in (spaces_of new) p).awaiting ≡ empty
+  pub none_awaits : (space_in (spaces_of new) p).awaiting ≡ empty
   pub others : StaysBut p old new
 
 -- the same spaces, translations and processes
@@ -91,7 +91,7 @@ IsAsBefore old new = (spaces_of new ≡ spaces_of old) × (lists_of new ≡ list
 abbrev pub Loads : ℕ → List ℕ → Machine → Machine → Result ℕ SpaceError → Type 0
 Loads p file old new (Ok n) = (n ≡ page_count file) × (is_load_full p file (wholes old) ≡ false) × IsLoaded p file old new
 Loads p file old new (Err (Full needed limit)) =
-    (needed ≡ load_needs p file (wholes old)) × (limit ≡ limit_of (wholes old).frames) × (is_load_full p file (wholes old) ≡ true) × (new ≡ old)
+    (needed ≡ load_needs p file (wholes old)) × (limit ≡ unit_limit (wholes old).frames) × (is_load_full p file (wholes old) ≡ true) × (new ≡ old)
 Loads p file old new (Err NoMemory) = (is_load_full p file (wholes old) ≡ false) × IsAsBefore old new
 
 -- the same of each state that the machine stood for
@@ -100,6 +100,6 @@ LoadsAs p file old new (Ok n) =
     (state : Wholes) → StandsFor old state → (is_load_full p file state ≡ false) × StandsFor new (with_loaded p file state)
 LoadsAs p file old new (Err (Full needed limit)) =
     (state : Wholes) → StandsFor old state
-    → (needed ≡ load_needs p file state) × (limit ≡ limit_of state.frames) × (is_load_full p file state ≡ true) × StandsFor new state
+    → (needed ≡ load_needs p file state) × (limit ≡ unit_limit state.frames) × (is_load_full p file state ≡ true) × StandsFor new state
 LoadsAs p file old new (Err NoMemory) =
     (state : Wholes) → StandsFor old state → (is_load_full p file state ≡ false) × StandsFor new state

@@ -12,7 +12,7 @@ use Rattle.overlay_memory.specs.declared.error.SpaceError.{SpaceError}
 use Rattle.overlay_memory.specs.declared.error.SpaceError.TheVariants.{Full, Memory}
 use Rattle.space_maps.specs.Spaces.{holds_space, space_in}
 use Rattle.machine_core.specs.declared.process.Process as declared
-use Rattle.machine_core.specs.Machine.{AreLike, Machine, Processes, StaysBut, Wholes, limit_of, processes_of, spaces_of, whole_in, wholes}
+use Rattle.machine_core.specs.Machine.{AreLike, Machine, Processes, StaysBut, Wholes, unit_limit, processes_of, spaces_of, whole_in, wholes}
 use Rattle.machine_core.specs.Load.{IsAsBefore, Loads, LoadsAs, is_load_full, load_needs, load_pages, loaded_ledger, loaded_process, with_loaded}
 use Rattle.machine_core.specs.Laws.{like_chain}
 
@@ -35,7 +35,7 @@ like_needs p file a b like = units_alike _ _ (like_loaded_ledger p file a b like
 
 pub like_load_full : (p : ℕ) (file : List ℕ) (a b : Wholes) → AreLike a b → is_load_full p file a ≡ is_load_full p file b
 like_load_full p file a b like =
-    ap (λ n. nat_lt (limit_of a.frames) n) (like_needs p file a b like) ∙ ap (λ n. nat_lt (limit_of n) (load_needs p file b)) like.frames
+    ap (λ n. nat_lt (unit_limit a.frames) n) (like_needs p file a b like) ∙ ap (λ n. nat_lt (unit_limit n) (load_needs p file b)) like.frames
 
 -- the same spaces and processes make the same state
 processes_by : State → FinMap nat_cmp declared.Process → Processes
@@ -60,7 +60,7 @@ loads_as p file old new (Ok n) (count, fits, loaded) = λ state stands.
     (sym (like_load_full p file (wholes old) state stands) ∙ fits, like_chain (wholes new) (with_loaded p file (wholes old)) (with_loaded p file state) loaded.like (like_loaded p file (wholes old) state stands))
 loads_as p file old new (Err (Full needed limit)) (needed_is, limit_is, full, same) = λ state stands. (
   needed_is ∙ like_needs p file (wholes old) state stands,
-  limit_is ∙ ap limit_of stands.frames,
+  limit_is ∙ ap unit_limit stands.frames,
   sym (like_load_full p file (wholes old) state stands) ∙ full,
   subst (λ (m : Machine). AreLike (wholes m) state) (sym same) stands,
 )

@@ -21,7 +21,7 @@ use Rattle.machine_core.specs.Load.{image_memory, loaded_ledger, stack_page, sta
 -- one page more may be added to a space
 pub record IsReady (spaces : State) (p page : ℕ) : Type 0 where
   pub there : holds_space spaces p ≡ true
-  pub settled : (space_in spaces p).awaiting ≡ empty
+  pub none_awaits : (space_in spaces p).awaiting ≡ empty
   pub absent : page_in spaces p page ≡ None
   pub low : page < PAGE_END
   pub few : len (space_in spaces p).pages < MOST_SPACE_PAGES
@@ -57,19 +57,19 @@ IsUnseen p translations = flushed p translations ≡ translations
 -- only the pages of a space have changed
 pub record IsOpen (p : ℕ) (before now : State) : Type 0 where
   pub there : holds_space now p ≡ true
-  pub settled : (space_in now p).awaiting ≡ empty
+  pub none_awaits : (space_in now p).awaiting ≡ empty
   pub mark : (space_in now p).speculating ≡ (space_in before p).speculating
   pub others : (q : ℕ) → (q ≡ p → ⊥) → get now.spaces q ≡ get before.spaces q
   pub frames : now.frames ≡ before.frames
   pub zero_frame : now.zero_frame ≡ before.zero_frame
 
 -- whether a number is among some
-abbrev pub is_among : List ℕ → ℕ → Bool
-is_among ps q = list_any (λ p. is_eq (nat_cmp q p)) ps
+abbrev pub is_one_of : List ℕ → ℕ → Bool
+is_one_of ps q = list_any (λ p. is_eq (nat_cmp q p)) ps
 
 -- some pages were added to a space, each with the content and the mark that it is to have
 pub record HasAdded (before now : State) (p : ℕ) (content : ℕ → Page) (mark : ℕ → Bool) (pages : List ℕ) : Type 0 where
-  pub memory : (q : ℕ) → get (memory_of now p) q ≡ cond (is_among pages q) (Some (content q)) (get (memory_of before p) q)
+  pub memory : (q : ℕ) → get (memory_of now p) q ≡ cond (is_one_of pages q) (Some (content q)) (get (memory_of before p) q)
   pub count : len (space_in now p).pages ≡ len (space_in before p).pages + length pages
   pub ledger : (a : Ledger) → AreAlike a (books before) → AreAlike (fold (one_loaded p) a (map (λ page. (page, mark page)) pages)) (books now)
   pub rest : IsOpen p before now
@@ -92,7 +92,7 @@ pub record IsSpaceOf (file : List ℕ) (p : ℕ) (old new : State) : Type 0 wher
   pub memory : memory_of new p ≡ image_memory file
   pub ledger : AreAlike (loaded_ledger p file (books old)) (books new)
   pub there : holds_space new p ≡ true
-  pub settled : (space_in new p).awaiting ≡ empty
+  pub none_awaits : (space_in new p).awaiting ≡ empty
   pub mark : (space_in new p).speculating ≡ false
   pub others : (q : ℕ) → (q ≡ p → ⊥) → get new.spaces q ≡ get old.spaces q
   pub frames : new.frames ≡ old.frames

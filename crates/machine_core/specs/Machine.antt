@@ -33,8 +33,8 @@ pub record Wholes : Type 0 where
   pub translations : BareTranslations
 
 -- how many units there may be
-abbrev pub limit_of : ℕ → ℕ
-limit_of frames = FRAME_UNITS * frames
+abbrev pub unit_limit : ℕ → ℕ
+unit_limit frames = FRAME_UNITS * frames
 
 -- The machine has the memories of spaces by number, and processes by number, each with its registers and its state. A process
 -- has the space of its own number.
@@ -193,6 +193,6 @@ without_process p state =
     record { processes = remove state.processes p; ledger = state.ledger; frames = state.frames; translations = state.translations }
 
 -- without the pages of a space in the ledger, and without translations of them
-abbrev pub without_pages : ℕ → Wholes → Wholes
-without_pages p state =
+abbrev pub without_memory : ℕ → Wholes → Wholes
+without_memory p state =
     record { processes = state.processes; ledger = remove state.ledger p; frames = state.frames; translations = flushed p state.translations }

@@ -19,7 +19,7 @@ use Rattle.rv_execute.specs.declared.outcome.Outcome.{Outcome}
 use Rattle.rv_execute.specs.declared.outcome.Outcome.TheVariants as outcome
 use Rattle.rv_execute.specs.Step.{Request, Step, request, step}
 use Rattle.machine_core.specs.Process.{Process, is_speculating}
-use Rattle.machine_core.specs.Machine.{Wholes, limit_of}
+use Rattle.machine_core.specs.Machine.{Wholes, unit_limit}
 use Rattle.machine_core.specs.declared.process.Process as declared
 use Rattle.machine_core.specs.declared.process.SavedRegs.{SavedRegs}
 
@@ -94,7 +94,7 @@ abbrev pub units_needed : ℕ → Guest → ℕ
 units_needed p guest = units (ledger_executed p guest)
 
 unfoldable pub is_full : ℕ → Guest → Bool
-is_full p guest = exceeds (store_of guest.process) (units_needed p guest) (limit_of guest.frames)
+is_full p guest = exceeds (store_of guest.process) (units_needed p guest) (unit_limit guest.frames)
 
 -- the accesses that it tries are translated, also where it can't be done, or there aren't units enough
 unfoldable pub translations_executed : ℕ → Guest → BareTranslations
@@ -105,7 +105,7 @@ translations_executed p guest =
 abbrev pub outcome_of : ℕ → Guest → Outcome
 outcome_of p guest =
     if is_full p guest
-    then outcome.Full (units_needed p guest) (limit_of guest.frames)
+    then outcome.Full (units_needed p guest) (unit_limit guest.frames)
     else outcome_by (execution_of guest.process).upshot
 
 abbrev pub with_translations : BareTranslations → Guest → Guest
@@ -171,7 +171,7 @@ process_after p process = after_step process (step_of p process)
 -- An event is one instruction of one process: what came of it, and the copying machine afterwards.
 abbrev pub turn_in : ℕ → Guest → Turn
 turn_in p guest =
-    if is_full p guest then Full (units_needed p guest) (limit_of guest.frames) else (step_of p guest.process).turn
+    if is_full p guest then Full (units_needed p guest) (unit_limit guest.frames) else (step_of p guest.process).turn
 
 unfoldable pub translations_after : ℕ → Guest → BareTranslations
 translations_after p guest = counted p guest.process.memory (step_of p guest.process).accesses guest.translations

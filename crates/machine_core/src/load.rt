@@ -67,7 +67,7 @@ fn add_zeros(
     perms: Perms,
 ) -> Result<(), AllocError>
     requires there { holds_space (state_of memory.old) p ≡ true }
-    requires settled { (space_in (state_of memory.old) p).awaiting ≡ map.empty }
+    requires none_awaits { (space_in (state_of memory.old) p).awaiting ≡ map.empty }
     requires absent { AreAbsent (state_of memory.old) p page n }
     requires low { page + n ≤ PAGE_END }
     requires few { map.len (space_in (state_of memory.old) p).pages + n ≤ MOST_SPACE_PAGES }
@@ -163,7 +163,7 @@ fn add_image(
 fn add_stack(memory: &mut OverlayMemory, p: u16) -> Result<(), AllocError>
     requires there { holds_space (state_of memory.old) p ≡ true }
     requires unseen { IsUnseen p (translations_of memory.old) }
-    requires settled { (space_in (state_of memory.old) p).awaiting ≡ map.empty }
+    requires none_awaits { (space_in (state_of memory.old) p).awaiting ≡ map.empty }
     requires few { map.len (space_in (state_of memory.old) p).pages ≤ MOST_IMAGE_PAGES }
     requires absent { (q : ℕ) → STACK_PAGE ≤ q → page_in (state_of memory.old) p q ≡ None }
     ensures added { OnOk result (HasStack p (state_of memory.old) (state_of memory.new)) }

@@ -11,7 +11,7 @@ ghost use Rattle.elf_loader.specs.Image.{IsImageOf};
 ghost use Rattle.overlay_pages.specs.Calls.{IsEmptyState};
 ghost use Rattle.space_maps.specs.Spaces.{space_in};
 ghost use Rattle.translation_cache.specs.Translations.{no_translations};
-ghost use Rattle.machine_core.specs.Machine.{AnswersAs, AreLike, HaveSpaces, IsDropped, KeepsPlaces, LeadsTo, StaysBut, has_saved, has_space, is_marked, is_running, keys_from, lists_of, registers_at, registers_shown, running_numbers, shown_at, spaces_of, wholes, with_memory, with_process_at, without_pages, without_process, without_process_at};
+ghost use Rattle.machine_core.specs.Machine.{AnswersAs, AreLike, HaveSpaces, IsDropped, KeepsPlaces, LeadsTo, StaysBut, has_saved, has_space, is_marked, is_running, keys_from, lists_of, registers_at, registers_shown, running_numbers, shown_at, spaces_of, wholes, with_memory, with_process_at, without_memory, without_process, without_process_at};
 ghost use Rattle.machine_core.specs.Turns.{after_asked, after_execution, after_turn, came_to, turn_asked, turn_of};
 ghost use Rattle.machine_core.specs.Executions.{after_executions, came_to_last, steps_to, stops_in};
 ghost use Rattle.machine_core.specs.Ample.{IsAmplyTaken};
@@ -170,10 +170,10 @@ impl Machine {
     /// Takes away space `p`, which is there, of which no page awaits being shared, and which has no process; gives up its pages.
     pub fn drop_space(&mut self, p: u16)
         requires space { has_space self.old p ≡ true }
-        requires settled { (space_in (spaces_of self.old) p).awaiting ≡ map.empty }
+        requires none_awaits { (space_in (spaces_of self.old) p).awaiting ≡ map.empty }
         requires no_process { map.get self.old.processes p ≡ None }
         ensures dropped { IsDropped p self.old self.new }
-        ensures stands { LeadsTo (without_pages p) self.old self.new }
+        ensures stands { LeadsTo (without_memory p) self.old self.new }
     {
         self.memory.drop_space(p);
     }

@@ -174,26 +174,6 @@ fn leave(hand: &mut Hand, k: u32, outcome: Outcome, course: Course) -> u32
 }
 
 /// How many words of a line there are from an address on, at most so many, of which all but the first are at no stop.
-#[cold]
-#[inline(never)]
-fn count_past(addresses: &Addresses, pc: u64, most: u32) -> u32
-    requires inside { AreInLine pc most }
-    requires some { 0 < most }
-    ensures some { 0 < result }
-    ensures few { result ≤ most }
-    ensures past { GoesPast addresses.now pc result }
-{
-    let mut count = 1u32;
-    'passing: while count < most {
-        if addresses.may_have(pc + 4 * u64::from(count)) {
-            return count;
-        }
-        count += 1;
-    }
-    most
-}
-
-/// How many words of a line there are from an address on, at most so many, of which all but the first are at no stop.
 #[inline]
 fn count_from(stops: Option<&Addresses>, pc: u64, most: u32) -> u32
     requires inside { AreInLine pc most }
@@ -203,13 +183,7 @@ fn count_from(stops: Option<&Addresses>, pc: u64, most: u32) -> u32
     ensures past { GoesPast (stops_in stops.entry) pc result }
 {
     match stops {
-        Some(addresses) => {
-            if addresses.may_have_near(pc) {
-                count_past(addresses, pc, most)
-            } else {
-                most
-            }
-        }
+        Some(addresses) => addresses.words_past(pc, most),
         None => most,
     }
 }

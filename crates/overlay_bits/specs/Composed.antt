@@ -7,12 +7,12 @@ use Rattle.overlay_bits.specs.Lines.{has_line}
 -- Pages composed of two pages.
 
 -- a line that an overlay has is that of the overlay, and any other one is that of the frame
-abbrev pub composed_line : List (List ℕ) → List (List ℕ) → List ℕ → ℕ → List ℕ
-composed_line frame over lines i = cond (has_line lines i) (slice_index_or over i []) (slice_index_or frame i [])
+abbrev pub line_composed : List (List ℕ) → List (List ℕ) → List ℕ → ℕ → List ℕ
+line_composed frame over lines i = cond (has_line lines i) (slice_index_or over i []) (slice_index_or frame i [])
 
 -- the first n lines
 unfoldable pub composed_lines : List (List ℕ) → List (List ℕ) → List ℕ → ℕ → List (List ℕ)
-composed_lines frame over lines n = map (composed_line frame over lines) (range_with_len 0 n)
+composed_lines frame over lines n = map (line_composed frame over lines) (range_with_len 0 n)
 
 -- all lines of a page
 abbrev pub composed : List (List ℕ) → List (List ℕ) → List ℕ → List (List ℕ)
@@ -21,10 +21,10 @@ composed frame over lines = composed_lines frame over lines PAGE_LINES
 -- Each by its number.
 
 pub composed_at : (frame over : List (List ℕ)) (lines : List ℕ) (n i : ℕ) (d : List ℕ) → i < n
-    → get_or (composed_lines frame over lines n) i d ≡ composed_line frame over lines i
+    → get_or (composed_lines frame over lines n) i d ≡ line_composed frame over lines i
 unfolding composed_lines
-composed_at frame over lines n i d lt = get_or-map-range_with_len (composed_line frame over lines) 0 n i i d lt (omega arith)
+composed_at frame over lines n i d lt = get_or-map-range_with_len (line_composed frame over lines) 0 n i i d lt (omega arith)
 
 pub composed_count : (frame over : List (List ℕ)) (lines : List ℕ) (n : ℕ) → length (composed_lines frame over lines n) ≡ n
 unfolding composed_lines
-composed_count frame over lines n = length-map-range_with_len (composed_line frame over lines) 0 n
+composed_count frame over lines n = length-map-range_with_len (line_composed frame over lines) 0 n

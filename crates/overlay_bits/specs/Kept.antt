@@ -50,14 +50,14 @@ word_back word h = word_below word 64 ∙ mod-eq_of_lt h
 
 -- So `==`, which compares the numbers, tells whether two sets are equal.
 
-abbrev digit : Bool → ℕ
-digit b = cond b 1 0
+abbrev binary_digit : Bool → ℕ
+binary_digit b = cond b 1 0
 
-word_more : (t : ℕ → Bool) (k : ℕ) → word_of (below t (suc k)) ≡ digit (t k) * 2 ^ k + word_of (below t k)
+word_more : (t : ℕ → Bool) (k : ℕ) → word_of (below t (suc k)) ≡ binary_digit (t k) * 2 ^ k + word_of (below t k)
 unfolding below
 word_more t k = word_append (below t k) (cond (t k) (k ∷ []) []) ∙ at (t k)
   where
-    at : (b : Bool) → word_of (below t k) + word_of (cond b (k ∷ []) []) ≡ digit b * 2 ^ k + word_of (below t k)
+    at : (b : Bool) → word_of (below t k) + word_of (cond b (k ∷ []) []) ≡ binary_digit b * 2 ^ k + word_of (below t k)
     at true = omega arith
     at false = omega arith
 
@@ -66,7 +66,7 @@ unfolding below
 word_fits t zero = omega arith
 word_fits t (suc k) = at (t k) (word_fits t k) (word_more t k)
   where
-    at : (b : Bool) → word_of (below t k) < 2 ^ k → word_of (below t (suc k)) ≡ digit b * 2 ^ k + word_of (below t k)
+    at : (b : Bool) → word_of (below t k) < 2 ^ k → word_of (below t (suc k)) ≡ binary_digit b * 2 ^ k + word_of (below t k)
         → word_of (below t (suc k)) < 2 ^ suc k
     at true fits is = omega (arith, fits, is, pow-suc 2 k)
     at false fits is = omega (arith, fits, is, pow-suc 2 k)
@@ -76,17 +76,17 @@ word_bits : (t : ℕ → Bool) (k i : ℕ) → i < k → has_bit (word_of (below
 word_bits t zero i lt = absurd (omega (arith, lt))
 word_bits t (suc k) i lt = ap (λ n. has_bit n i) (word_more t k) ∙ at (cases_lt i k) (word_bits t k i)
   where
-    low : (b : Bool) → nat_eq (digit b % 2) 1 ≡ b
+    low : (b : Bool) → nat_eq (binary_digit b % 2) 1 ≡ b
     low true = refl
     low false = refl
 
-    at : (i < k) ⊎ (k ≤ i) → (i < k → has_bit (word_of (below t k)) i ≡ t i) → has_bit (digit (t k) * 2 ^ k + word_of (below t k)) i ≡ t i
-    at (inl less) rest = ap (λ n. nat_eq n 1) (bit_at_cat_low (digit (t k)) k (word_of (below t k)) i less) ∙ rest less
+    at : (i < k) ⊎ (k ≤ i) → (i < k → has_bit (word_of (below t k)) i ≡ t i) → has_bit (binary_digit (t k) * 2 ^ k + word_of (below t k)) i ≡ t i
+    at (inl less) rest = ap (λ n. nat_eq n 1) (bit_at_cat_low (binary_digit (t k)) k (word_of (below t k)) i less) ∙ rest less
     at (inr more) rest =
         let here : i ≡ k = omega (arith, more, lt) in
         let none : i - k ≡ 0 = omega (arith, here) in
-        ap (λ n. nat_eq n 1) (bit_at_cat_high (digit (t k)) k (word_of (below t k)) i (word_fits t k) more ∙ ap (bit_at (digit (t k))) none
-        ∙ bit_at_lowest (digit (t k)))
+        ap (λ n. nat_eq n 1) (bit_at_cat_high (binary_digit (t k)) k (word_of (below t k)) i (word_fits t k) more ∙ ap (bit_at (binary_digit (t k))) none
+        ∙ bit_at_lowest (binary_digit (t k)))
         ∙ low (t k) ∙ ap t (sym here)
 
 pub same_words : (a b : List ℕ) → AreLines a → AreLines b → word_of a ≡ word_of b → a ≡ b

@@ -1,4 +1,4 @@
-use Rattle.std.specs.Prelude.{◌≡◌, ℕ, zero, suc, ◌+◌, ◌-◌, ◌<◌, ◌≤◌, Bool, false, cond, not, ◌||◌, nat_eq, nat_lt, IsTrue, List, [], ◌∷◌, ◌++◌, length, filter, Option, Some, None}
+use Rattle.std.specs.Prelude.{◌≡◌, ℕ, zero, suc, ◌+◌, ◌-◌, ◌<◌, ◌≤◌, Bool, true, false, cond, not, ◌||◌, nat_eq, nat_lt, IsTrue, List, [], ◌∷◌, ◌++◌, length, filter, Option, Some, None}
 use Rattle.std.specs.List.{range_with_len}
 use Rattle.sizes.specs.declared.TheConstants.{PAGE_LINES}
 
@@ -62,3 +62,9 @@ without_lines lines others = filter (λ line. not (has_line others line)) lines
 abbrev pub IsFirst : List ℕ → Option ℕ → Type 0
 IsFirst lines None = lines ≡ []
 IsFirst lines (Some line) = (line < PAGE_LINES) × (lines ≡ line ∷ without_line lines line)
+
+-- the least of them not below one, or that there is none
+abbrev pub IsLeastFrom : List ℕ → ℕ → Option ℕ → Type 0
+IsLeastFrom lines from None = (i : ℕ) → from ≤ i → has_line lines i ≡ false
+IsLeastFrom lines from (Some line) =
+    (from ≤ line) × (line < PAGE_LINES) × (has_line lines line ≡ true) × ((i : ℕ) → from ≤ i → i < line → has_line lines i ≡ false)

@@ -1,6 +1,6 @@
 ghost use Rattle.std.specs.Prelude.{◌≡◌, ◌+◌, ◌<◌, ◌≤◌, cond, [], length};
 ghost use Rattle.sizes.specs.declared.TheConstants.{PAGE_LINES};
-ghost use Rattle.overlay_bits.specs.Lines.{AreLines, IsFirst, has_line, lines_between, rank_of, with_line, with_lines, without_line, without_lines};
+ghost use Rattle.overlay_bits.specs.Lines.{AreLines, IsFirst, IsLeastFrom, has_line, lines_between, rank_of, with_line, with_lines, without_line, without_lines};
 
 use crate::iter::BitsIter;
 use std::marker::Model;
@@ -122,6 +122,15 @@ impl Bits {
         ensures are { AreLines self }
     {
         (self.word & ((1u64 << line) - 1)).count_ones()
+    }
+
+    /// The least member not below a line, which is at most 64. None exactly where there is none. Costs a few instructions.
+    #[inline]
+    pub fn least_from(self, line: u8) -> Option<u8>
+        requires { line ≤ PAGE_LINES }
+        ensures { IsLeastFrom self line result }
+    {
+        self.minus(Bits::range(0, line)).first()
     }
 
     /// The members, ascending. Costs a few instructions for each of them.

@@ -1,15 +1,13 @@
-use Rattle.std.specs.Prelude.{◌≡◌, ℕ, ◌+◌, ◌/◌, ◌%◌, ◌<◌, ◌≤◌, Bool, true, false, cond, not, ◌&&◌, ◌||◌, nat_eq, List, [], ◌∷◌, Option, Some, None, is_some, refl}
+use Rattle.std.specs.Prelude.{◌≡◌, ℕ, ◌/◌, ◌%◌, Bool, true, false, cond, not, ◌&&◌, ◌||◌, nat_eq, List, [], ◌∷◌, Option, Some, None, is_some, refl}
 use Rattle.std.proofs.Common.{subst, sym, ap, ◌∙◌, arith}
 use Rattle.std.proofs.lemmas.Bool.{eq-eqb, ne_eqb}
 use Rattle.std.proofs.lemmas.Bool.Decides.{nat_tests}
 use Rattle.std.specs.FinMap.{get, insert, remove}
 use Rattle.number_maps.specs.Keys.{by_key, get_other, get_same, removed_other, removed_same}
-use Rattle.overlay_bits.specs.Lines.{AreLines, Rise, has_line, lines_between, with_line, without_line, without_lines}
-use Rattle.overlay_bits.specs.Below.{is_between}
-use Rattle.overlay_bits.specs.Laws.{has_between, has_filter, has_with, has_without}
+use Rattle.overlay_bits.specs.Lines.{IsLeastFrom, has_line, with_line, without_line}
+use Rattle.overlay_bits.specs.Laws.{has_with, has_without}
 use Rattle.page_set.specs.declared.TheConstants.{CHUNK_PAGES}
 use Rattle.page_set.specs.Sets.{AreChunks, Chunks, IsChunk, IsPut, holds, places_in}
-use Rattle.page_set.specs.Kept.{IsLeastPlace}
 
 -- A page put in or taken out is a change of the bits of its chunk.
 
@@ -99,59 +97,8 @@ are_gone old new k are is j those there = by_key j k
     (λ same. let no = ap is_some (sym there ∙ ap (λ (m : Chunks). get m j) is ∙ removed_same old k j same) in cc)
     (λ other. are j those (sym (ap (λ (m : Chunks). get m j) is ∙ removed_other old k j other) ∙ there))
 
--- The least place.
-
-lacks_low : (from : ℕ) (places : List ℕ) (end i : ℕ) → Rise from places end → i < from → has_line places i ≡ false
-lacks_low from [] end i rise low = refl
-lacks_low from (x ∷ places) end i rise low =
-    ap (λ (b : Bool). b || has_line places i) (ne_eqb x i (λ same. omega (arith, rise.0, low, same))) ∙ lacks_low (x + 1) places end i rise.1 (omega (arith, rise.0, low))
-
-both : (a b : Bool) → (a && b) ≡ true → (a ≡ true) × (b ≡ true)
-both true true h = (refl, refl)
-both true false h = cc
-both false b h = cc
-
-and_not : (a b : Bool) → b ≡ false → (a && not b) ≡ a
-and_not true b h = ap not h
-and_not false b h = refl
-
-not_between : (from i : ℕ) → not (is_between 0 from i) ≡ true → from ≤ i
-not_between from i h = grind (arith, nat_tests)
-
-beyond : (from i : ℕ) → from ≤ i → is_between 0 from i ≡ false
-beyond from i le = grind (arith, nat_tests)
-
-module _ (places : List ℕ) (from : ℕ) (are : AreLines places) where
-  rest : List ℕ
-  rest = without_lines places (lines_between 0 from)
-
-  has_rest : (i : ℕ) → has_line (without_lines places (lines_between 0 from)) i ≡ (has_line places i && not (is_between 0 from i))
-  has_rest i =
-      has_filter (λ line. not (has_line (lines_between 0 from) line)) places i
-      ∙ ap (λ b. has_line places i && not b) (has_between 0 from i (omega arith))
-
-  same_from : (i : ℕ) → from ≤ i → has_line (without_lines places (lines_between 0 from)) i ≡ has_line places i
-  same_from i le = has_rest i ∙ and_not (has_line places i) (is_between 0 from i) (beyond from i le)
-
-  pub least_none : without_lines places (lines_between 0 from) ≡ [] → IsLeastPlace places from None
-  least_none none i le = sym (same_from i le) ∙ ap (λ l. has_line l i) none
-
-  pub least_some : (place : ℕ) (others : List ℕ) → AreLines (without_lines places (lines_between 0 from))
-      → without_lines places (lines_between 0 from) ≡ place ∷ others → IsLeastPlace places from (Some place)
-  least_some place others rise is =
-      let first : has_line (without_lines places (lines_between 0 from)) place ≡ true =
-      ap (λ l. has_line l place) is ∙ ap (λ (b : Bool). b || has_line others place) (eq-eqb place place refl) in
-      let parts = both (has_line places place) (not (is_between 0 from place)) (sym (has_rest place) ∙ first) in
-      let behind = (subst AreLines is rise).rise in (
-        not_between from place parts.1,
-        are.inside place parts.0,
-        parts.0,
-        λ i le lt.
-            sym (same_from i le) ∙ ap (λ l. has_line l i) is ∙ lacks_low place (place ∷ others) CHUNK_PAGES i (omega arith, behind.1) lt,
-      )
-
 -- a chunk has a least member
-pub some_least : (chunks : Chunks) (k : ℕ) (places : List ℕ) → AreChunks chunks → get chunks k ≡ Some places → IsLeastPlace places 0 None → ⊥
+pub some_least : (chunks : Chunks) (k : ℕ) (places : List ℕ) → AreChunks chunks → get chunks k ≡ Some places → IsLeastFrom places 0 None → ⊥
 some_least chunks k [] are there none = absurd (omega (arith, (are k [] there).some))
 some_least chunks k (i ∷ is) are there none =
     let has : has_line (i ∷ is) i ≡ true = ap (λ (b : Bool). b || has_line is i) (eq-eqb i i refl) in

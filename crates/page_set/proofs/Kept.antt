@@ -1,4 +1,4 @@
-use Rattle.std.specs.Prelude.{◌≡◌, ℕ, ◌/◌, ◌%◌, ◌^◌, ◌<◌, ◌⊎◌, List, [], ◌∷◌, length, get_or, Option, Some, None, is_some, IsSome, MatchOption, refl, slice_set, true, false}
+use Rattle.std.specs.Prelude.{◌≡◌, ℕ, ◌/◌, ◌%◌, ◌^◌, ◌<◌, ◌⊎◌, List, [], ◌∷◌, length, get_or, is_some, IsSome, refl, slice_set, true, false}
 use Rattle.std.proofs.Common.{inl, inr, subst, sym, ap, ◌∙◌, arith}
 use Rattle.std.specs.List as list
 use Rattle.std.specs.List.{AllZip}
@@ -7,12 +7,12 @@ use Rattle.std.proofs.lemmas.List.{length-append}
 use Rattle.number_maps.specs.Rows.{IsAt, IsGap, Rise, map_of}
 use Rattle.number_maps.specs.RowLaws as laws
 use Rattle.number_maps.specs.RowLaws.{map_insert, map_remove, map_set, rise_insert, rise_remove, rise_set}
-use Rattle.overlay_bits.specs.Lines.{AreLines, lines_before, lines_behind, lines_between, with_line, without_line, without_lines}
+use Rattle.overlay_bits.specs.Lines.{AreLines, lines_before, lines_behind, with_line, without_line}
 use Rattle.page_set.specs.declared.TheConstants.{CHUNK_PAGES}
 use Rattle.page_set.specs.Sets.{CanInsert, IsChunk, IsPut, Members, places_in}
 use Rattle.page_set.specs.Laws.{are_none}
-use Rattle.page_set.specs.Kept.{AreKept, IsLeastPlace}
-use Rattle.page_set.proofs.Chunks.{are_gone, are_put, least_none, least_some, put_last, put_nowhere, put_with, put_without}
+use Rattle.page_set.specs.Kept.{AreKept}
+use Rattle.page_set.proofs.Chunks.{are_gone, are_put, put_last, put_nowhere, put_with, put_without}
 
 -- Sets, by the rows that they keep.
 
@@ -122,15 +122,6 @@ row_room set rows room page same rise has = by (subst (λ (s : Members). CanInse
     by : CanInsert (record { chunks = map_of rows; room = room }) page → IsSome (get (map_of rows) (page / CHUNK_PAGES)) ⊎ (length rows < room)
     by (inl some) = inl some
     by (inr less) = inr (omega (arith, less, laws.counted (map_of rows) rows refl rise))
-
--- The least place.
-
-pub least_of : (bits range rest lines others : List ℕ) (from : ℕ) (o : Option ℕ) → AreLines bits → range ≡ lines_between 0 from → rest ≡ without_lines bits range
-    → AreLines rest → lines ≡ rest → MatchOption o ((lines ≡ []) × (others ≡ [])) (λ place. lines ≡ place ∷ others) → IsLeastPlace bits from o
-least_of bits range rest lines others from None are low is own all none =
-    least_none bits from are (sym (is ∙ ap (without_lines bits) low) ∙ sym all ∙ none.0)
-least_of bits range rest lines others from (Some place) are low is own all first =
-    least_some bits from are place others (subst AreLines (is ∙ ap (without_lines bits) low) own) (sym (is ∙ ap (without_lines bits) low) ∙ sym all ∙ first)
 
 -- A copy.
 

@@ -6,7 +6,7 @@ ghost use Rattle.std.specs.Vec.{vec_capacity};
 ghost use Rattle.number_maps.specs.Rows.{IsAt, IsGap, IsNextOne, Rise, map_of};
 ghost use Rattle.page_set.specs.declared.TheConstants.{CHUNK_PAGES};
 ghost use Rattle.page_set.specs.Sets.{AreCut, IsNextMember, IsPut, places_in};
-ghost use Rattle.page_set.specs.Kept.{AreKept, IsLeastPlace};
+ghost use Rattle.page_set.specs.Kept.{AreKept};
 
 use crate::CHUNK_PAGES;
 use overlay_bits::Bits;
@@ -51,24 +51,16 @@ fn next_row(rows: &[Row], chunk: u64) -> Option<Row>
     }
 }
 
-// The least member of bits not below a place.
-fn least_from(bits: Bits, place: u8) -> Option<u8>
-    requires { place < CHUNK_PAGES }
-    ensures { IsLeastPlace bits place result }
-{
-    bits.minus(Bits::range(0, place)).iter().next()
-}
-
 /// The least member not below a page.
 pub(crate) fn next_in(rows: &[Row], page: u64) -> Option<u64>
     requires { AreKept rows.now }
     ensures { IsNextMember (map_of rows.now) page result }
 {
     let chunk = page / CHUNK_PAGES;
-    match least_from(bits_of(rows, chunk), (page % CHUNK_PAGES) as u8) {
+    match bits_of(rows, chunk).least_from((page % CHUNK_PAGES) as u8) {
         Some(place) => Some(CHUNK_PAGES * chunk + u64::from(place)),
         None => match next_row(rows, chunk + 1) {
-            Some(row) => match least_from(row.1, 0) {
+            Some(row) => match row.1.least_from(0) {
                 Some(place) => Some(CHUNK_PAGES * row.0 + u64::from(place)),
                 None => unreachable!(),
             },

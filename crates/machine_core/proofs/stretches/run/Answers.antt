@@ -5,7 +5,7 @@ use Rattle.sizes.specs.declared.TheConstants.{PAGE_BYTES}
 use Rattle.decoded_lines.specs.declared.TheConstants.{LINE_WORDS}
 use Rattle.machine_core.specs.Access.{spaces_lent}
 use Rattle.machine_core.specs.Ahead.{guest_ahead}
-use Rattle.machine_core.specs.Executions.{Comes, behind, executions, resumed, steps_in, stops_in}
+use Rattle.machine_core.specs.Executions.{Comes, after_steps, executions, resumed, steps_in, stops_in}
 use Rattle.machine_core.specs.Held.{IsLeft, Keeps}
 use Rattle.machine_core.specs.Kept.{IsBeside, guest_lent}
 use Rattle.machine_core.specs.declared.hand.Course.{Course}
@@ -115,10 +115,10 @@ returns-clause-came c =
     let all : n - length c.running.rest.now ≡ n = (let test = c.running-test.false in let has = c.is_empty.ensures in grind (arith, nat_tests)) in (
       omega (arith, few, m),
       subst (λ k. executions stops c.args.view.now.space c.args.most (guest_ahead c.args.hand.now.owed (guest_lent c.args.view.now c.args.process.now))
-          ≡ behind k (so_far k stops c.args.view.now.space (c.args.most - k) (guest_ahead (c.args.hand.now.owed + k) (guest_lent c.running.view c.running.process)))) all so.all
-          ∙ sym (ap (behind n) (is_so_far stops c.args.view.now.space n (c.args.most - n)
+          ≡ after_steps k (so_far k stops c.args.view.now.space (c.args.most - k) (guest_ahead (c.args.hand.now.owed + k) (guest_lent c.running.view c.running.process)))) all so.all
+          ∙ sym (ap (after_steps n) (is_so_far stops c.args.view.now.space n (c.args.most - n)
           (guest_ahead (c.args.hand.now.owed + n) (guest_lent c.running.view c.running.process)) c.count_from-count.ensures.some))
-          ∙ ap (λ (h : Hand). behind n (resumed stops c.args.view.now.space (c.args.most - n) (guest_ahead (h.owed + n) (guest_lent c.running.view c.running.process))))
+          ∙ ap (λ (h : Hand). after_steps n (resumed stops c.args.view.now.space (c.args.most - n) (guest_ahead (h.owed + n) (guest_lent c.running.view c.running.process))))
           (sym so.kept),
     )
 

@@ -2,7 +2,7 @@ use Rattle.std.proofs.Common.{◌+◌, ◌-◌, sym, ap, subst, refl, ◌∙◌,
 use Rattle.std.specs.FinSet.{contains}
 use Rattle.machine_core.specs.Access.{spaces_lent}
 use Rattle.machine_core.specs.Ahead.{guest_ahead}
-use Rattle.machine_core.specs.Executions.{Comes, behind, executions, stops_in}
+use Rattle.machine_core.specs.Executions.{Comes, after_steps, executions, stops_in}
 use Rattle.machine_core.specs.Kept.{IsBeside, guest_lent}
 use Rattle.machine_core.proofs.Ahead.{begun}
 use Rattle.machine_core.proofs.Runs.{both_beside}
@@ -45,7 +45,7 @@ stepping-preserved c =
       space = came.ensures.space ∙ so.space;
       ready = goes.ready;
       all = came_on S p (executions S p c.args.most (guest_lent c.args.view.now c.args.process.now)) c.args.most k n now next so.all steps.1
-          ∙ ap (behind (k + n)) (goes_on S p (c.args.most - (k + n)) next (ap (contains S) (sym c.pc.ensures) ∙ sym c.is_stop.ensures ∙ c.if-is_stop.false));
+          ∙ ap (after_steps (k + n)) (goes_on S p (c.args.most - (k + n)) next (ap (contains S) (sym c.pc.ensures) ∙ sym c.is_stop.ensures ∙ c.if-is_stop.false));
       running = came.ensures.running c.in-Stepped.is;
       saved = came.ensures.saved ∙ so.saved;
       few = omega (arith, owes, owed);

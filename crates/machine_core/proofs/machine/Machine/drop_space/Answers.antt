@@ -1,5 +1,5 @@
 use Rattle.std.proofs.Common.{refl, subst}
-use Rattle.machine_core.specs.Machine.{IsDropped, Machine, without_pages}
+use Rattle.machine_core.specs.Machine.{IsDropped, Machine, without_memory}
 use Rattle.machine_core.specs.Kept.{machine_of}
 use Rattle.machine_core.specs.Laws.{leads, like_without_pages, wholes_dropped}
 use Rattle.machine_core.proofs.machine.Machine.drop_space.Goals as goal
@@ -12,5 +12,5 @@ returns-clause-dropped c =
 pub returns-clause-stands : goal.returns-clause-stands
 returns-clause-stands c =
     let new = machine_of c.drop_space.new.self c.self.inside.processes in
-    leads (without_pages c.args.p) c.args.self.now new (like_without_pages c.args.p)
+    leads (without_memory c.args.p) c.args.self.now new (like_without_pages c.args.p)
     (wholes_dropped c.args.p c.args.self.now new c.requires.no_process (returns-clause-dropped c))
