@@ -9,7 +9,7 @@ use Rattle.number_maps.specs.Keys.{alike, by_key, get_other, get_same, removed_o
 use Rattle.number_maps.specs.Slots.{get_slotted}
 use Rattle.by_number.specs.declared.slots.Slot.{Slot}
 use Rattle.by_number.specs.declared.slots.Slot.TheVariants.{Empty, Full}
-use Rattle.by_number.specs.Values.{IsNext}
+use Rattle.by_number.specs.Values.{IsNextValue}
 use Rattle.by_number.specs.Slots.{IsEdited, slot_at, slot_with, value_at, value_of, values}
 
 -- What a change of slots is to their values.
@@ -60,7 +60,7 @@ module _ {T : Type 0} where
   })
 
 -- the next number by one function is that by another that answers alike
-pub next_alike : {T : Type 0} (f g : ℕ → Option T) (from : ℕ) (r : Option ℕ) → ((q : ℕ) → g q ≡ f q) → IsNext f from r → IsNext g from r
+pub next_alike : {T : Type 0} (f g : ℕ → Option T) (from : ℕ) (r : Option ℕ) → ((q : ℕ) → g q ≡ f q) → IsNextValue f from r → IsNextValue g from r
 next_alike f g from None same next = λ q le. same q ∙ next q le
 next_alike f g from (Some n) same next =
     (next.0, ap is_some (same n) ∙ next.1, λ q le below. same q ∙ next.2 q le below)

@@ -3,7 +3,7 @@
 ghost use Rattle.std.specs.Prelude.{◌≡◌, ℕ, ◌+◌, ◌^◌, ◌<◌, ◌≤◌, length, max, Some, None, true, IfOk, OnOk, OnErr};
 ghost use Rattle.std.specs.Option.{is_some, option_copied};
 ghost use Rattle.std.specs.Borrow.{Lends, sem};
-ghost use Rattle.by_number.specs.Values.{IsNext};
+ghost use Rattle.by_number.specs.Values.{IsNextValue};
 ghost use Rattle.by_number.specs.Slots.{IsEdited, slot_at, slot_with, value_at, value_of};
 
 use std::alloc::{AllocError, Global};
@@ -121,7 +121,7 @@ pub(crate) fn remove_in<T: Drop>(slots: &mut Vec<Slot<T>>, number: u16)
 /// The least number that has a value, of those not below one.
 pub(crate) fn next_in<T>(slots: &Vec<Slot<T>>, from: u16) -> Option<u16>
     requires { length slots.now.items ≤ 2 ^ 16 }
-    ensures { IsNext (value_at slots.now.items) from result }
+    ensures { IsNextValue (value_at slots.now.items) from result }
 {
     let mut number = from as usize;
     'looking: while number < slots.len() {

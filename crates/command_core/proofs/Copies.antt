@@ -19,7 +19,7 @@ use Rattle.machine_core.specs.LoadLaws.{same_wholes}
 use Rattle.translation_cache.specs.Translations.{flushed}
 use Rattle.translation_cache.specs.Bare.{BareTranslations}
 use Rattle.command_core.specs.State.{AreLikeStates, Checkpoint, State as Shown}
-use Rattle.command_core.specs.Sessions.{KeepsSession, state_of as shown_by}
+use Rattle.command_core.specs.Sessions.{KeepsSession, session_state as shown_by}
 use Rattle.command_core.specs.Rows.{Row, TakesLast, event_needs, first_refusal, is_event_full, ledger_by, flushed_by}
 use Rattle.command_core.specs.Giving.{GivesChange}
 use Rattle.command_core.specs.Changes.{answer_of}
@@ -84,7 +84,7 @@ module _ (flushes : Option ℕ) (from to : ℕ) (old : Machine) (memory : Transl
         memory = copied.memory;
         after = λ i. record { processes = processes i; ledger = copied.ledger i; frames = copied.frames i; translations = same i };
         there = space_made;
-        settled = copied.awaiting;
+        none_awaits = copied.awaiting;
         unmarked = copied.mark;
         processes = refl;
         others = record { spaces = copied.others; there = others_there; processes = λ r other. refl };
@@ -107,7 +107,7 @@ module _ (flushes : Option ℕ) (from to : ℕ) (old : Machine) (memory : Transl
           after = λ i. record { processes = all_are i; ledger = copied.ledger i; frames = copied.frames i; translations = lists i };
           adopted = get_same old.processes to to process refl;
           there = space_made;
-          settled = copied.awaiting;
+          none_awaits = copied.awaiting;
           others = record {
             spaces = copied.others;
             there = others_there;

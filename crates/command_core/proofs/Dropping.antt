@@ -6,12 +6,12 @@ use Rattle.std.specs.FinMap.{get, remove}
 use Rattle.number_maps.specs.Values.{remove_absent}
 use Rattle.space_maps.specs.Spaces.{cut_space, space_in}
 use Rattle.machine_core.specs.declared.process.Process as declared
-use Rattle.machine_core.specs.Machine.{IsDropped, Machine, Wholes, spaces_of, whole_in, wholes, without_pages, without_process, without_process_at}
+use Rattle.machine_core.specs.Machine.{IsDropped, Machine, Wholes, spaces_of, whole_in, wholes, without_memory, without_process, without_process_at}
 use Rattle.machine_core.specs.Laws.{wholes_dropped}
 use Rattle.report_text.specs.declared.answer.Answer.TheVariants.{Done}
 use Rattle.command_core.specs.declared.checkpoints.Kept.{Kept}
 use Rattle.command_core.specs.State.{Checkpoint, State, registry_of}
-use Rattle.command_core.specs.Sessions.{IsFree, IsSession, KeepsSession, state_of}
+use Rattle.command_core.specs.Sessions.{HasNoProcess, IsSession, KeepsSession, session_state}
 use Rattle.command_core.specs.Kept.{checkpoint_in, checkpoints_in, kept_but, kept_named, spaces_kept}
 use Rattle.command_core.specs.Rows.{accepts, ledger_by}
 use Rattle.command_core.specs.Giving.{GivesChange}
@@ -25,18 +25,18 @@ use Rattle.command_core.proofs.Rows.{gives_named, row_accepted}
 -- What a drop and a forget come to.
 
 module _ (old mid new : Machine) (kept : List Checkpoint) (breaks : Breaks) (drawn p : ℕ) (process : declared.Process) where
-  dropped_after : wholes new ≡ without_pages p (without_process p (wholes old))
-      → state_of new kept (remove breaks p) drawn ≡ (accepts (drop_row p (whole_in (spaces_of old) p process) (registry_of (state_of old kept breaks drawn))) (state_of old kept breaks drawn)).after
+  dropped_after : wholes new ≡ without_memory p (without_process p (wholes old))
+      → session_state new kept (remove breaks p) drawn ≡ (accepts (drop_row p (whole_in (spaces_of old) p process) (registry_of (session_state old kept breaks drawn))) (session_state old kept breaks drawn)).after
   unfolding ledger_by
   dropped_after is = ap (λ (w : Wholes). record { wholes = w; checkpoints = kept; breakpoints = remove breaks p; drawn = drawn }) is
 
   pub gives_dropped : wholes mid ≡ without_process p (wholes old) → get mid.processes p ≡ None → IsDropped p mid new
-      → GivesChange (drop_row p (whole_in (spaces_of old) p process) (registry_of (state_of old kept breaks drawn))) (state_of old kept breaks drawn) Done
-      (state_of new kept (remove breaks p) drawn)
+      → GivesChange (drop_row p (whole_in (spaces_of old) p process) (registry_of (session_state old kept breaks drawn))) (session_state old kept breaks drawn) Done
+      (session_state new kept (remove breaks p) drawn)
   gives_dropped removed absent dropped =
-      let row = drop_row p (whole_in (spaces_of old) p process) (registry_of (state_of old kept breaks drawn)) in
-      row_accepted row (state_of old kept breaks drawn) (state_of new kept (remove breaks p) drawn) refl refl
-      (states_same (state_of new kept (remove breaks p) drawn) (accepts row (state_of old kept breaks drawn)).after (dropped_after (wholes_dropped p mid new absent dropped ∙ ap (without_pages p) removed)))
+      let row = drop_row p (whole_in (spaces_of old) p process) (registry_of (session_state old kept breaks drawn)) in
+      row_accepted row (session_state old kept breaks drawn) (session_state new kept (remove breaks p) drawn) refl refl
+      (states_same (session_state new kept (remove breaks p) drawn) (accepts row (session_state old kept breaks drawn)).after (dropped_after (wholes_dropped p mid new absent dropped ∙ ap (without_memory p) removed)))
 
 -- what is kept of a session from which a process goes with its space
 module _ (old mid new : Machine) (p : ℕ) (there : is_some (get old.processes p) ≡ true) (removed : mid ≡ without_process_at old p) (dropped : IsDropped p mid new) where
@@ -54,14 +54,14 @@ module _ (old mid new : Machine) (p : ℕ) (there : is_some (get old.processes p
 -- A checkpoint goes with its space.
 module _ (old new : Machine) (xs : List Kept) (breaks : Breaks) (drawn : ℕ) (name : List ℕ) (x : Kept) (is : IsSession old (spaces_kept xs) drawn) (found : kept_named name xs ≡ Some x)
     (dropped : IsDropped x.space old new) where
-  pub is_free : IsFree old x.space
-  is_free = found_has name (IsFree old) xs x is.free found
+  pub is_free : HasNoProcess old x.space
+  is_free = found_has name (HasNoProcess old) xs x is.free found
 
   no_processes : new.processes ≡ remove old.processes x.space
   no_processes = dropped.processes ∙ sym (remove_absent old.processes x.space is_free.1)
 
-  left : AllByRecursion (λ q. IsFree old q × (q ≡ x.space → ⊥)) (spaces_kept (kept_but name xs))
-  left = others_but name (IsFree old) 0 xs drawn x is.rise found is.free
+  left : AllByRecursion (λ q. HasNoProcess old q × (q ≡ x.space → ⊥)) (spaces_kept (kept_but name xs))
+  left = others_but name (HasNoProcess old) 0 xs drawn x is.rise found is.free
 
   pub session_forgot : IsSession new (spaces_kept (kept_but name xs)) drawn
   session_forgot =
@@ -70,12 +70,12 @@ module _ (old new : Machine) (xs : List Kept) (breaks : Breaks) (drawn : ℕ) (n
   others_shown : checkpoints_in (spaces_of new) (kept_but name xs) ≡ checkpoints_but name (checkpoints_in (spaces_of old) xs)
   others_shown =
       all_shown (spaces_of new) (spaces_of old) (kept_but name xs)
-      (each (λ q. IsFree old q × (q ≡ x.space → ⊥)) (λ q. space_in (spaces_of new) q ≡ space_in (spaces_of old) q) (spaces_kept (kept_but name xs))
+      (each (λ q. HasNoProcess old q × (q ≡ x.space → ⊥)) (λ q. space_in (spaces_of new) q ≡ space_in (spaces_of old) q) (spaces_kept (kept_but name xs))
       (λ q h. same_left old new x.space dropped.spaces no_processes q h.1) left)
       ∙ sym (but_shown name (spaces_of old) xs)
 
   abbrev before : State
-  before = state_of old (checkpoints_in (spaces_of old) xs) breaks drawn
+  before = session_state old (checkpoints_in (spaces_of old) xs) breaks drawn
 
   abbrev shown : Checkpoint
   shown = checkpoint_in (spaces_of old) x
@@ -84,10 +84,10 @@ module _ (old new : Machine) (xs : List Kept) (breaks : Breaks) (drawn : ℕ) (n
   unfolding ledger_by
   wholes_forgot = wholes_dropped x.space old new is_free.1 dropped
 
-  pub gives_forgot : GivesChange (on_checkpoint name (forget_row name) (registry_of before)) before Done (state_of new (checkpoints_in (spaces_of new) (kept_but name xs)) breaks drawn)
+  pub gives_forgot : GivesChange (on_checkpoint name (forget_row name) (registry_of before)) before Done (session_state new (checkpoints_in (spaces_of new) (kept_but name xs)) breaks drawn)
   gives_forgot =
       let row = forget_row name shown (registry_of before) in
-      let after = state_of new (checkpoints_in (spaces_of new) (kept_but name xs)) breaks drawn in
+      let after = session_state new (checkpoints_in (spaces_of new) (kept_but name xs)) breaks drawn in
       gives_named before name shown (forget_row name) Done after (named_shown name (spaces_of old) xs ∙ ap (option_map (checkpoint_in (spaces_of old))) found)
       (row_accepted row before after refl refl
       (states_same after (accepts row before).after (λ i. record { wholes = wholes_forgot i; checkpoints = others_shown i; breakpoints = breaks; drawn = drawn })))

@@ -15,7 +15,7 @@ use Rattle.report_text.specs.declared.answer.Answer.TheVariants.{Forked, Refused
 use Rattle.report_text.specs.declared.answer.Code.{Code}
 use Rattle.command_core.specs.declared.checkpoints.Kept.{Kept}
 use Rattle.command_core.specs.State.{Checkpoint, State, registry_of}
-use Rattle.command_core.specs.Sessions.{IsSession, state_of}
+use Rattle.command_core.specs.Sessions.{IsSession, session_state}
 use Rattle.command_core.specs.Kept.{checkpoints_in, shown_state, spaces_kept}
 use Rattle.command_core.specs.Rows.{Row, accepts, first_refusal}
 use Rattle.command_core.specs.Giving.{GivesChange}
@@ -64,7 +64,7 @@ module _ (old : Machine) (xs : List Kept) (breaks : Breaks) (drawn p : ℕ) (pro
     pub forked : CopiesProcess None p (drawn + 1) process old new (Ok tt)
         → GivesChange (on_process p (fork_row p) (registry_of before)) before (Forked p (drawn + 1)) (shown_state new xs breaks (drawn + 1))
     forked (enough, copied) =
-        let after = state_of new kept breaks (drawn + 1) in
+        let after = session_state new kept breaks (drawn + 1) in
         gives_kept (on_process p (fork_row p)) old new xs breaks drawn (next_same old new (spaces_kept xs) drawn is copied.others) (Forked p (drawn + 1)) (drawn + 1)
         (gives_found old kept breaks drawn p (fork_row p) process (Forked p (drawn + 1)) after there
         (row_accepted row before after (refusals_are ∙ taken) enough
@@ -75,7 +75,7 @@ module _ (old : Machine) (xs : List Kept) (breaks : Breaks) (drawn p : ℕ) (pro
         → GivesChange (on_process p (fork_row p) (registry_of before)) before (answer_of e) (shown_state new xs breaks drawn)
     not_forked e unmade =
         gives_kept (on_process p (fork_row p)) old new xs breaks drawn (free_same old new (spaces_kept xs) (copy_keeps p (drawn + 1) old new e unmade).free is.free) (answer_of e) drawn
-        (gives_found old kept breaks drawn p (fork_row p) process (answer_of e) (state_of new kept breaks drawn) there
+        (gives_found old kept breaks drawn p (fork_row p) process (answer_of e) (session_state new kept breaks drawn) there
         (gives_unmade row p (drawn + 1) old new kept breaks drawn (refusals_are ∙ taken) refl refl refl e unmade))
 
 -- what a session keeps
@@ -87,7 +87,7 @@ pub session_forked : (old new : Machine) (spaces : List ℕ) (drawn p : ℕ) (pr
 session_forked old new spaces drawn p process is below there (enough, copied) =
     let q = drawn + 1 in
     let whole : Process = whole_in (spaces_of old) p process in
-    session_more old new spaces drawn is below copied.there copied.settled
+    session_more old new spaces drawn is below copied.there copied.none_awaits
     (mark_at new q whole (ap (λ (w : Wholes). get w.processes q) copied.after ∙ get_same (wholes old).processes q q whole refl)
     ∙ marked_is (spaces_of old) p process (is_marked old p) refl ∙ is.kept p ∙ ap saved_of there ∙ sym (ap saved_of copied.adopted))
     copied.others

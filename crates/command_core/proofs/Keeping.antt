@@ -8,7 +8,7 @@ use Rattle.overlay_pages.specs.State.{State}
 use Rattle.machine_core.specs.Laws.{whole_by}
 use Rattle.command_core.specs.declared.checkpoints.Kept.{Kept}
 use Rattle.command_core.specs.State.{Checkpoint}
-use Rattle.command_core.specs.Sessions.{Rise}
+use Rattle.command_core.specs.Sessions.{RiseTo}
 use Rattle.command_core.specs.Kept.{checkpoint_in, checkpoints_in, kept_but, kept_named, spaces_kept}
 use Rattle.command_core.specs.Checkpoints.{checkpoint_named, checkpoints_but}
 
@@ -24,25 +24,25 @@ pub each_more : (P : ℕ → Type 0) (qs : List ℕ) (q : ℕ) → AllByRecursio
 each_more P [] q all h = (h, tt)
 each_more P (x ∷ qs) q all h = (all.0, each_more P qs q all.1 h)
 
-pub rise_on : (above : ℕ) (qs : List ℕ) (last more : ℕ) → last ≤ more → Rise above qs last → Rise above qs more
+pub rise_on : (above : ℕ) (qs : List ℕ) (last more : ℕ) → last ≤ more → RiseTo above qs last → RiseTo above qs more
 rise_on above [] last more le rise = omega (arith, le, rise)
 rise_on above (q ∷ qs) last more le rise = (rise.0, rise_on q qs last more le rise.1)
 
-pub rise_more : (above : ℕ) (qs : List ℕ) (last : ℕ) → Rise above qs last → Rise above (qs ++ ((last + 1) ∷ [])) (last + 1)
+pub rise_more : (above : ℕ) (qs : List ℕ) (last : ℕ) → RiseTo above qs last → RiseTo above (qs ++ ((last + 1) ∷ [])) (last + 1)
 rise_more above [] last rise = (omega (arith, rise), omega arith)
 rise_more above (q ∷ qs) last rise = (rise.0, rise_more q qs last rise.1)
 
-rise_below : (above below : ℕ) (qs : List ℕ) (last : ℕ) → below ≤ above → Rise above qs last → Rise below qs last
+rise_below : (above below : ℕ) (qs : List ℕ) (last : ℕ) → below ≤ above → RiseTo above qs last → RiseTo below qs last
 rise_below above below [] last le rise = omega (arith, le, rise)
 rise_below above below (q ∷ qs) last le rise = (omega (arith, le, rise.0), rise.1)
 
 -- as many as there is room for
-pub rise_count : (above : ℕ) (qs : List ℕ) (last : ℕ) → Rise above qs last → above + length qs ≤ last
+pub rise_count : (above : ℕ) (qs : List ℕ) (last : ℕ) → RiseTo above qs last → above + length qs ≤ last
 rise_count above [] last rise = omega (arith, rise)
 rise_count above (q ∷ qs) last rise = omega (arith, rise.0, rise_count q qs last rise.1)
 
 -- all are above the first
-all_above : (above least : ℕ) (qs : List ℕ) (last : ℕ) → least ≤ above → Rise above qs last → AllByRecursion (λ q. least < q) qs
+all_above : (above least : ℕ) (qs : List ℕ) (last : ℕ) → least ≤ above → RiseTo above qs last → AllByRecursion (λ q. least < q) qs
 all_above above least [] last le rise = tt
 all_above above least (q ∷ qs) last le rise = (omega (arith, le, rise.0), all_above q least qs last (omega (arith, le, rise.0)) rise.1)
 
@@ -74,16 +74,16 @@ module _ (name : List ℕ) where
       by_name false rest e = ap (λ zs. y ∷ zs) (rest e)
 
   -- the others rise too
-  pub rise_but : (above : ℕ) (xs : List Kept) (last : ℕ) → Rise above (spaces_kept xs) last → Rise above (spaces_kept (kept_but name xs)) last
+  pub rise_but : (above : ℕ) (xs : List Kept) (last : ℕ) → RiseTo above (spaces_kept xs) last → RiseTo above (spaces_kept (kept_but name xs)) last
   rise_but above [] last rise = rise
   rise_but above (y ∷ xs) last rise = by_name (pointwise nat_eq name y.name) (rise_but y.space xs last rise.1)
     where
-      by_name : (b : Bool) → Rise y.space (spaces_kept (kept_but name xs)) last → Rise above (spaces_kept (cond b xs (y ∷ kept_but name xs))) last
+      by_name : (b : Bool) → RiseTo y.space (spaces_kept (kept_but name xs)) last → RiseTo above (spaces_kept (cond b xs (y ∷ kept_but name xs))) last
       by_name true rest = rise_below y.space above (spaces_kept xs) last (omega (arith, rise.0)) rise.1
       by_name false rest = (rise.0, rest)
 
   -- and none of them has its space
-  pub others_but : (P : ℕ → Type 0) (above : ℕ) (xs : List Kept) (last : ℕ) (x : Kept) → Rise above (spaces_kept xs) last → kept_named name xs ≡ Some x
+  pub others_but : (P : ℕ → Type 0) (above : ℕ) (xs : List Kept) (last : ℕ) (x : Kept) → RiseTo above (spaces_kept xs) last → kept_named name xs ≡ Some x
       → AllByRecursion P (spaces_kept xs) → AllByRecursion (λ q. P q × (q ≡ x.space → ⊥)) (spaces_kept (kept_but name xs))
   others_but P above [] last x rise is all = cc
   others_but P above (y ∷ xs) last x rise is all = by_name (pointwise nat_eq name y.name) (λ e. others_but P y.space xs last x rise.1 e all.1) is

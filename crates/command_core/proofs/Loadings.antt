@@ -6,18 +6,18 @@ use Rattle.std.specs.FinMap.{get, insert}
 use Rattle.number_maps.specs.Keys.{get_same}
 use Rattle.sizes.specs.declared.TheConstants.{LAST_SPACE}
 use Rattle.elf_loader.specs.Accepted.{file_refusal}
-use Rattle.elf_loader.specs.Fields.{entry_of}
+use Rattle.elf_loader.specs.Fields.{entry_address}
 use Rattle.elf_loader.specs.declared.image.ElfError.{ElfError}
 use Rattle.ledger.specs.Events as event
 use Rattle.overlay_memory.specs.declared.error.SpaceError.{SpaceError}
 use Rattle.overlay_memory.specs.declared.error.SpaceError.TheVariants as error
-use Rattle.machine_core.specs.Machine.{AreLike, Machine, Processes, Wholes, limit_of, wholes}
+use Rattle.machine_core.specs.Machine.{AreLike, Machine, Processes, Wholes, unit_limit, wholes}
 use Rattle.machine_core.specs.Load.{Loads, is_load_full, load_needs, load_pages, loaded_ledger, loaded_process, page_count, with_loaded}
 use Rattle.machine_core.specs.LoadLaws.{same_wholes}
 use Rattle.report_text.specs.declared.answer.Answer.TheVariants.{Loaded, Refused}
 use Rattle.report_text.specs.declared.answer.Code.TheVariants.{Elf, NumbersUsed}
 use Rattle.command_core.specs.State.{AreLikeStates, Checkpoint, State, registry_of}
-use Rattle.command_core.specs.Sessions.{KeepsSession, state_of}
+use Rattle.command_core.specs.Sessions.{KeepsSession, session_state}
 use Rattle.command_core.specs.Rows.{Row, change_by, event_needs, first_refusal, is_event_full, ledger_by, refused_if}
 use Rattle.command_core.specs.Giving.{ComesTo, GivesChange}
 use Rattle.command_core.specs.Refusals.{by_numbers_used}
@@ -36,7 +36,7 @@ unfolding ledger_by loaded_ledger
 load_needed p file w = refl
 
 load_full : (p : ℕ) (file : List ℕ) (w : Wholes) → is_load_full p file w ≡ is_event_full (event.Load p (load_pages file)) w
-load_full p file w = ap (nat_lt (limit_of w.frames)) (load_needed p file w)
+load_full p file w = ap (nat_lt (unit_limit w.frames)) (load_needed p file w)
 
 like_accepted : (p : ℕ) (file : List ℕ) (a w : Wholes) → AreLike a (with_loaded p file w)
     → AreLike a (record {
@@ -70,30 +70,30 @@ module _ (file : List ℕ) (s : State) where
 module _ (file : List ℕ) (old new : Machine) (kept : List Checkpoint) (breaks : Breaks) (drawn : ℕ) (taken : file_refusal file ≡ None)
     (left : (drawn == LAST_SPACE) ≡ false) where
   abbrev before : State
-  before = state_of old kept breaks drawn
+  before = session_state old kept breaks drawn
 
   none : first_refusal (row file before).refusals ≡ None
   none = by_number file before false taken left
 
-  pub gives_loaded : get breaks (drawn + 1) ≡ None → (n entry : ℕ) → Loads (drawn + 1) file old new (Ok n) → entry ≡ entry_of file
-      → ComesTo (change_by (row file before) before) (Loaded (drawn + 1) n entry) (state_of new kept breaks (drawn + 1))
+  pub gives_loaded : get breaks (drawn + 1) ≡ None → (n entry : ℕ) → Loads (drawn + 1) file old new (Ok n) → entry ≡ entry_address file
+      → ComesTo (change_by (row file before) before) (Loaded (drawn + 1) n entry) (session_state new kept breaks (drawn + 1))
   gives_loaded unbroken n entry (count, fits, loaded) is =
       let enough = sym (load_full (drawn + 1) file (wholes old)) ∙ fits in
-      let comes = row_accepted (row file before) before (state_of new kept breaks (drawn + 1)) none enough
+      let comes = row_accepted (row file before) before (session_state new kept breaks (drawn + 1)) none enough
       (record { wholes = like_accepted (drawn + 1) file (wholes new) (wholes old) loaded.like; checkpoints = refl; breakpoints = sym (none_removed breaks (drawn + 1) unbroken); drawn = refl }) in
       record {
         answer_is = ap (λ k. Loaded (drawn + 1) k entry) count ∙ ap (Loaded (drawn + 1) (page_count file)) is ∙ comes.answer_is;
         after_is = comes.after_is;
       }
 
-  pub runs_loaded : (n entry : ℕ) → Loads (drawn + 1) file old new (Ok n) → RunsLoaded (Loaded (drawn + 1) n entry) (state_of new kept breaks (drawn + 1))
+  pub runs_loaded : (n entry : ℕ) → Loads (drawn + 1) file old new (Ok n) → RunsLoaded (Loaded (drawn + 1) n entry) (session_state new kept breaks (drawn + 1))
   runs_loaded n entry (count, fits, loaded) =
       (loaded_process file, ap (λ (ps : Processes). get ps (drawn + 1)) loaded.like.processes ∙ get_same (wholes old).processes (drawn + 1) (drawn + 1) (loaded_process file) refl, refl)
 
-  pub gives_other : (e : SpaceError) → Loads (drawn + 1) file old new (Err e) → GivesChange (row file before) before (answer_of e) (state_of new kept breaks drawn)
+  pub gives_other : (e : SpaceError) → Loads (drawn + 1) file old new (Err e) → GivesChange (row file before) before (answer_of e) (session_state new kept breaks drawn)
   gives_other (error.Full needed limit) (needed_is, limit_is, full, same) =
-      row_full (row file before) before (state_of new kept breaks drawn) needed limit none refl (sym (load_full (drawn + 1) file (wholes old)) ∙ full)
-      (needed_is ∙ load_needed (drawn + 1) file (wholes old)) limit_is (subst (λ (m : Machine). AreLikeStates (state_of m kept breaks drawn) before) (sym same) (states_itself before))
+      row_full (row file before) before (session_state new kept breaks drawn) needed limit none refl (sym (load_full (drawn + 1) file (wholes old)) ∙ full)
+      (needed_is ∙ load_needed (drawn + 1) file (wholes old)) limit_is (subst (λ (m : Machine). AreLikeStates (session_state m kept breaks drawn) before) (sym same) (states_itself before))
   gives_other error.Memory (fits, same) = (refl, ap (λ (w : Wholes). record { wholes = w; checkpoints = kept; breakpoints = breaks; drawn = drawn }) (same_wholes old new same))
 
   pub session_other : (e : SpaceError) → Loads (drawn + 1) file old new (Err e) → KeepsSession old new

@@ -17,7 +17,7 @@ use Rattle.overlay_pages.specs.State.{State, books, memory_of, seen_page}
 use Rattle.overlay_memory.specs.View.{TranslatedView, state_of, translations_of}
 use Rattle.space_maps.specs.Spaces.{space_in}
 use Rattle.machine_core.specs.declared.process.Process as declared
-use Rattle.machine_core.specs.Machine.{Machine, Wholes, keys_from, limit_of, registers_at, registers_of, registers_shown, spaces_of, whole_in, wholes}
+use Rattle.machine_core.specs.Machine.{Machine, Wholes, keys_from, unit_limit, registers_at, registers_of, registers_shown, spaces_of, whole_in, wholes}
 use Rattle.machine_core.specs.Laws.{processes_at}
 use Rattle.machine_core.specs.NumberLaws.{Rises, entries_rise}
 use Rattle.command_core.specs.declared.session.Counts.{Counts}
@@ -166,7 +166,7 @@ kept_within machine xs drawn index x is found =
 
 -- The counts, by those of the memory.
 pub counts_are : (machine : Machine) (memory : TranslatedView) (used most own hits misses : ℕ) → memory ≡ machine.memory → used ≡ units (books (state_of memory))
-    → most ≡ limit_of (state_of memory).frames → own ≡ own_lines (books (state_of memory)) → hits ≡ (translations_of memory).hits → misses ≡ (translations_of memory).misses
+    → most ≡ unit_limit (state_of memory).frames → own ≡ own_lines (books (state_of memory)) → hits ≡ (translations_of memory).hits → misses ≡ (translations_of memory).misses
     → ◌≡◌ {A = Counts} (record { units = used; limit = most; lines = own; hits = hits; misses = misses }) (counts_of (wholes machine))
 counts_are machine memory used most own hits misses same is_used is_most is_own is_hits is_misses =
     (λ i. record { units = is_used i; limit = is_most i; lines = is_own i; hits = is_hits i; misses = is_misses i })

@@ -41,7 +41,7 @@ use Rattle.command_core.specs.State.{Registry}
 use Rattle.command_core.specs.Sessions.{KeepsSession}
 use Rattle.command_core.specs.Rows.{Row, first_refusal}
 use Rattle.command_core.specs.Refusals.{are_too_many, has_page, lacks_page, lie_outside, lowest, map_refusals, place_refusals, unmap_refusals}
-use Rattle.command_core.specs.Mapping.{FindsGap, FindsPage, RefusesMap, RefusesUnmap}
+use Rattle.command_core.specs.Mapping.{FindsGap, FindsMapped, RefusesMap, RefusesUnmap}
 use Rattle.command_core.specs.Overlays.{ChangesOverlays, overlay_row, pages_gone, pages_mapped, with_pages}
 use Rattle.command_core.proofs.Rows.{machine_done, machine_refused}
 use Rattle.command_core.proofs.Speculating.{kept_before, kept_by, put_again, saved_here, speculates, stays, wholes_are, wholes_left}
@@ -92,15 +92,15 @@ module _ (v : State) (p page n : ℕ) where
   inside : (q : ℕ) → is_within page n q ≡ true → (page ≤ q) × (q < page + n)
   inside q within = (grind (arith, nat_tests), grind (arith, nat_tests))
 
-  pub finds_page : (found : ℕ) → page + n ≤ PAGE_END → IsNextPage v p page (Some found) → found < page + n → FindsPage v p page n (Some found)
+  pub finds_page : (found : ℕ) → page + n ≤ PAGE_END → IsNextPage v p page (Some found) → found < page + n → FindsMapped v p page n (Some found)
   finds_page found end (low, there, before) high =
       (lowest_is (has_page (memory_of v p)) n page found low high (has_some v p found there) (λ q le lt. has_none v p q (before q le lt)), omega (arith, high, end))
 
-  pub finds_none : IsNextPage v p page None → FindsPage v p page n None
+  pub finds_none : IsNextPage v p page None → FindsMapped v p page n None
   finds_none absent =
       (lowest_none (has_page (memory_of v p)) n page (λ q le lt. has_none v p q (absent q le)), λ q within. absent q (inside q within).0)
 
-  pub finds_later : (found : ℕ) → IsNextPage v p page (Some found) → page + n ≤ found → FindsPage v p page n None
+  pub finds_later : (found : ℕ) → IsNextPage v p page (Some found) → page + n ≤ found → FindsMapped v p page n None
   finds_later found (low, there, before) high = (
     lowest_none (has_page (memory_of v p)) n page (λ q le lt. has_none v p q (before q le (omega (arith, lt, high)))),
     λ q within. let in_range = inside q within in before q in_range.0 (omega (arith, in_range.1, high)),
@@ -179,7 +179,7 @@ module _ (v : State) (p address n : ℕ) where
       sym (many_is pages false count some) ∙ ap (λ b. b || are_too_many memory n) inside
 
   pub map_here : (pages found at : ℕ) → false ≡ mark → false ≡ lie_outside address n → pages ≡ len (space_in v p).pages → pages + n ≤ MOST_SPACE_PAGES
-      → FindsPage v p (address / PAGE_BYTES) n (Some found) → at ≡ PAGE_BYTES * found → RefusesMap v p address n (Some (Mapped at))
+      → FindsMapped v p (address / PAGE_BYTES) n (Some found) → at ≡ PAGE_BYTES * found → RefusesMap v p address n (Some (Mapped at))
   map_here pages found at unmarked inside count few (is, low) at_is = (
     ap (λ k. Some (Mapped k)) at_is ∙ ap (λ o. first_refusal (option_map (λ page. Mapped (PAGE_BYTES * page)) o ∷ [])) is
         ∙ page_first mark too_far (option_map (λ page. Mapped (PAGE_BYTES * page)) here) unmarked (not_many pages inside count few),
@@ -187,7 +187,7 @@ module _ (v : State) (p address n : ℕ) where
   )
 
   pub map_free : (pages : ℕ) → false ≡ mark → false ≡ lie_outside address n → pages ≡ len (space_in v p).pages → pages + n ≤ MOST_SPACE_PAGES
-      → FindsPage v p (address / PAGE_BYTES) n None → RefusesMap v p address n None
+      → FindsMapped v p (address / PAGE_BYTES) n None → RefusesMap v p address n None
   map_free pages unmarked inside count few (is, absent) = (
     ap (λ o. first_refusal (option_map (λ page. Mapped (PAGE_BYTES * page)) o ∷ [])) is
         ∙ page_first mark too_far (option_map (λ page. Mapped (PAGE_BYTES * page)) here) unmarked (not_many pages inside count few),

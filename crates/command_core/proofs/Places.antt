@@ -24,7 +24,7 @@ use Rattle.machine_core.specs.Laws.{processes_at, runs_shown, whole_by}
 use Rattle.machine_core.specs.Load.{IsAsBefore, IsLoaded, loaded_process}
 use Rattle.round_robin.specs.MemberLaws.{next_has}
 use Rattle.round_robin.specs.Turns.{Turns, next_number}
-use Rattle.command_core.specs.Sessions.{IsFree, IsSession, KeepsFree, KeepsSession, OwnSpaces, Rise, bases_of}
+use Rattle.command_core.specs.Sessions.{HasNoProcess, IsSession, KeepsFree, KeepsSession, OwnSpaces, RiseTo, bases_of}
 use Rattle.command_core.proofs.Keeping.{each, each_more, rise_more, rise_on}
 
 -- Which spaces and processes are there.
@@ -113,9 +113,9 @@ session_kept old new spaces drawn is same = record {
   no_space = λ p above. same.spaces p ∙ is.no_space p above;
   no_process = λ p above. none_is (get new.processes p) (same.processes p ∙ ap is_some (is.no_process p above));
   own_space = λ p some. same.spaces p ∙ is.own_space p (sym (same.processes p) ∙ some);
-  settled = λ p. same.awaiting p ∙ is.settled p;
+  none_awaits = λ p. same.awaiting p ∙ is.none_awaits p;
   kept = λ p. same.marks p ∙ is.kept p ∙ sym (same.saves p);
-  free = each (IsFree old) (IsFree new) spaces
+  free = each (HasNoProcess old) (HasNoProcess new) spaces
       (λ q h. (same.spaces q ∙ h.0, none_is (get new.processes q) (same.processes q ∙ ap is_some h.1))) is.free;
   rise = is.rise;
 }
@@ -133,7 +133,7 @@ module _ (machine : Machine) (frames : ℕ) (none : IsEmptyState frames (spaces_
     no_space = λ p above. ap is_some (no_space_yet p);
     no_process = λ p above. no_process_yet p;
     own_space = λ p some. let lacks = ap is_some (no_process_yet p) in let both : false ≡ true = sym lacks ∙ some in cc;
-    settled = λ p. ap (λ (x : SpaceState). x.awaiting) (space_absent (spaces_of machine) p (no_space_yet p));
+    none_awaits = λ p. ap (λ (x : SpaceState). x.awaiting) (space_absent (spaces_of machine) p (no_space_yet p));
     kept = λ p. ap (λ (x : SpaceState). x.speculating) (space_absent (spaces_of machine) p (no_space_yet p)) ∙ sym (ap saved_of (no_process_yet p));
     free = tt;
     rise = omega arith;
@@ -153,18 +153,18 @@ module _ (machine : Machine) (frames : ℕ) (none : IsEmptyState frames (spaces_
   wholes_start no_lists = λ i. record { processes = no_wholes i; ledger = no_books i; frames = none.count i; translations = no_lists i }
 
 -- a free space isn't the next one
-not_next : (machine : Machine) (spaces : List ℕ) (drawn q : ℕ) → IsSession machine spaces drawn → IsFree machine q → q ≡ drawn + 1 → ⊥
+not_next : (machine : Machine) (spaces : List ℕ) (drawn q : ℕ) → IsSession machine spaces drawn → HasNoProcess machine q → q ≡ drawn + 1 → ⊥
 not_next machine spaces drawn q is h same = let lacks = is.no_space q (omega (arith, same)) in let both : false ≡ true = sym lacks ∙ h.0 in cc
 
 -- the next number has a space, and everything else is as it was
 module _ (old new : Machine) (spaces : List ℕ) (drawn : ℕ) (is : IsSession old spaces drawn) (below : drawn + 1 ≤ LAST_SPACE)
-    (there : has_space new (drawn + 1) ≡ true) (settled : (space_in (spaces_of new) (drawn + 1)).awaiting ≡ empty)
+    (there : has_space new (drawn + 1) ≡ true) (none_awaits : (space_in (spaces_of new) (drawn + 1)).awaiting ≡ empty)
     (kept : is_marked new (drawn + 1) ≡ has_saved new (drawn + 1)) (others : StaysBut (drawn + 1) old new) where
-  still_free : AllByRecursion (IsFree new) spaces
-  still_free = each (IsFree old) (IsFree new) spaces
+  still_free : AllByRecursion (HasNoProcess new) spaces
+  still_free = each (HasNoProcess old) (HasNoProcess new) spaces
       (λ q h. let other = not_next old spaces drawn q is h in (others.there q other ∙ h.0, others.processes q other ∙ h.1)) is.free
 
-  drawn_next : (more : List ℕ) → AllByRecursion (IsFree new) more → Rise 0 more (drawn + 1) → IsSession new more (drawn + 1)
+  drawn_next : (more : List ℕ) → AllByRecursion (HasNoProcess new) more → RiseTo 0 more (drawn + 1) → IsSession new more (drawn + 1)
   drawn_next more free rise = record {
     few = below;
     no_space = λ p above. others.there p (λ same. omega (arith, above, same)) ∙ is.no_space p (omega (arith, above));
@@ -172,9 +172,9 @@ module _ (old new : Machine) (spaces : List ℕ) (drawn : ℕ) (is : IsSession o
     own_space = λ p some. by_key p (drawn + 1)
         (λ same. ap (has_space new) same ∙ there)
         (λ other. others.there p other ∙ is.own_space p (sym (ap is_some (others.processes p other)) ∙ some));
-    settled = λ p. by_key p (drawn + 1)
-        (λ same. ap (λ n. (space_in (spaces_of new) n).awaiting) same ∙ settled)
-        (λ other. ap (λ (x : SpaceState). x.awaiting) (others.spaces p other) ∙ is.settled p);
+    none_awaits = λ p. by_key p (drawn + 1)
+        (λ same. ap (λ n. (space_in (spaces_of new) n).awaiting) same ∙ none_awaits)
+        (λ other. ap (λ (x : SpaceState). x.awaiting) (others.spaces p other) ∙ is.none_awaits p);
     kept = λ p. by_key p (drawn + 1)
         (λ same. ap (is_marked new) same ∙ kept ∙ sym (ap (has_saved new) same))
         (λ other. ap (λ (x : SpaceState). x.speculating) (others.spaces p other) ∙ is.kept p ∙ sym (ap saved_of (others.processes p other)));
@@ -188,12 +188,12 @@ module _ (old new : Machine) (spaces : List ℕ) (drawn : ℕ) (is : IsSession o
 
   pub session_saved : get new.processes (drawn + 1) ≡ None → IsSession new (spaces ++ ((drawn + 1) ∷ [])) (drawn + 1)
   session_saved none =
-      drawn_next (spaces ++ ((drawn + 1) ∷ [])) (each_more (IsFree new) spaces (drawn + 1) still_free (there, none)) (rise_more 0 spaces drawn is.rise)
+      drawn_next (spaces ++ ((drawn + 1) ∷ [])) (each_more (HasNoProcess new) spaces (drawn + 1) still_free (there, none)) (rise_more 0 spaces drawn is.rise)
 
 pub session_load : (old new : Machine) (spaces : List ℕ) (drawn : ℕ) (file : List ℕ) → IsSession old spaces drawn → drawn + 1 ≤ LAST_SPACE → IsLoaded (drawn + 1) file old new
     → IsSession new spaces (drawn + 1)
 session_load old new spaces drawn file is below loaded =
-    session_more old new spaces drawn is below loaded.there loaded.settled
+    session_more old new spaces drawn is below loaded.there loaded.none_awaits
     (mark_at new (drawn + 1) (loaded_process file)
     (ap (λ (ps : Processes). get ps (drawn + 1)) loaded.like.processes ∙ get_same (wholes old).processes (drawn + 1) (drawn + 1) (loaded_process file) refl)
     ∙ sym (ap saved_of (ap (λ (ps : FinMap nat_cmp declared.Process). get ps (drawn + 1)) loaded.processes
@@ -242,7 +242,7 @@ module _ (old new : Machine) (p : ℕ) (spaces : spaces_of new ≡ cut_space (sp
   pub same_left : (q : ℕ) → (q ≡ p → ⊥) → space_in (spaces_of new) q ≡ space_in (spaces_of old) q
   same_left q other = ap (λ (s : State). space_in s q) spaces ∙ space_left (spaces_of old) p q other
 
-  pub session_cut : (kept rest : List ℕ) (drawn : ℕ) → IsSession old kept drawn → AllByRecursion (λ q. IsFree old q × (q ≡ p → ⊥)) rest → Rise 0 rest drawn
+  pub session_cut : (kept rest : List ℕ) (drawn : ℕ) → IsSession old kept drawn → AllByRecursion (λ q. HasNoProcess old q × (q ≡ p → ⊥)) rest → RiseTo 0 rest drawn
       → IsSession new rest drawn
   session_cut kept rest drawn is left rise = record {
     few = is.few;
@@ -252,32 +252,32 @@ module _ (old new : Machine) (p : ℕ) (spaces : spaces_of new ≡ cut_space (sp
     own_space = λ q some. by_key q p
         (λ same. let lacks = ap is_some (ap (get new.processes) same ∙ process_gone) in let both : false ≡ true = sym lacks ∙ some in cc)
         (λ other. space_stays q other ∙ is.own_space q (sym (ap is_some (process_left q other)) ∙ some));
-    settled = λ q. by_key q p
+    none_awaits = λ q. by_key q p
         (λ same. ap (λ n. (space_in (spaces_of new) n).awaiting) same ∙ ap (λ (x : SpaceState). x.awaiting) (space_absent (spaces_of new) p space_gone))
-        (λ other. ap (λ (x : SpaceState). x.awaiting) (same_left q other) ∙ is.settled q);
+        (λ other. ap (λ (x : SpaceState). x.awaiting) (same_left q other) ∙ is.none_awaits q);
     kept = λ q. by_key q p
         (λ same. ap (is_marked new) same ∙ ap (λ (x : SpaceState). x.speculating) (space_absent (spaces_of new) p space_gone)
         ∙ sym (ap (has_saved new) same ∙ ap saved_of process_gone))
         (λ other. ap (λ (x : SpaceState). x.speculating) (same_left q other) ∙ is.kept q ∙ sym (ap saved_of (process_left q other)));
-    free = each (λ q. IsFree old q × (q ≡ p → ⊥)) (IsFree new) rest (λ q h. (space_stays q h.1 ∙ h.0.0, process_left q h.1 ∙ h.0.1)) left;
+    free = each (λ q. HasNoProcess old q × (q ≡ p → ⊥)) (HasNoProcess new) rest (λ q h. (space_stays q h.1 ∙ h.0.0, process_left q h.1 ∙ h.0.1)) left;
     rise = rise;
   }
 
-pub others_free : (machine : Machine) (p : ℕ) (spaces : List ℕ) → is_some (get machine.processes p) ≡ true → AllByRecursion (IsFree machine) spaces
-    → AllByRecursion (λ q. IsFree machine q × (q ≡ p → ⊥)) spaces
-others_free machine p spaces there all = each (IsFree machine) (λ q. IsFree machine q × (q ≡ p → ⊥)) spaces (λ q h. (h, not_free machine p q there h.1)) all
+pub others_free : (machine : Machine) (p : ℕ) (spaces : List ℕ) → is_some (get machine.processes p) ≡ true → AllByRecursion (HasNoProcess machine) spaces
+    → AllByRecursion (λ q. HasNoProcess machine q × (q ≡ p → ⊥)) spaces
+others_free machine p spaces there all = each (HasNoProcess machine) (λ q. HasNoProcess machine q × (q ≡ p → ⊥)) spaces (λ q h. (h, not_free machine p q there h.1)) all
 
 -- the spaces of checkpoints, where each free space is as it was
 abbrev pub AreSame : Machine → Machine → List ℕ → Type 0
 AreSame old new spaces = AllByRecursion (λ q. space_in (spaces_of new) q ≡ space_in (spaces_of old) q) spaces
 
-pub free_same : (old new : Machine) (spaces : List ℕ) → KeepsFree old new → AllByRecursion (IsFree old) spaces → AreSame old new spaces
-free_same old new spaces free all = each (IsFree old) (λ q. space_in (spaces_of new) q ≡ space_in (spaces_of old) q) spaces (λ q h. free q h.1) all
+pub free_same : (old new : Machine) (spaces : List ℕ) → KeepsFree old new → AllByRecursion (HasNoProcess old) spaces → AreSame old new spaces
+free_same old new spaces free all = each (HasNoProcess old) (λ q. space_in (spaces_of new) q ≡ space_in (spaces_of old) q) spaces (λ q h. free q h.1) all
 
 -- where a space under the next number is made
 pub next_same : (old new : Machine) (spaces : List ℕ) (drawn : ℕ) → IsSession old spaces drawn → StaysBut (drawn + 1) old new → AreSame old new spaces
 next_same old new spaces drawn is others =
-    each (IsFree old) (λ q. space_in (spaces_of new) q ≡ space_in (spaces_of old) q) spaces (λ q h. others.spaces q (not_next old spaces drawn q is h)) is.free
+    each (HasNoProcess old) (λ q. space_in (spaces_of new) q ≡ space_in (spaces_of old) q) spaces (λ q h. others.spaces q (not_next old spaces drawn q is h)) is.free
 
 -- A process put where its space alone changed.
 module _ (old : Machine) (memory : TranslatedView) (p : ℕ) (others : (q : ℕ) → (q ≡ p → ⊥) → space_in (spaces_in memory) q ≡ space_in (spaces_of old) q) where

@@ -71,24 +71,24 @@ text_first p turn others =
 pub ran_says : (breaks : Breaks) (processes after : Wholes) (run : Progress) (p : ℕ) (line : List ℕ) → last_break breaks processes run ≡ None → run.taken < run.turns → next_of processes run.order ≡ Some p
     → is_full_turn (turn_of processes p) ≡ false → line ≡ turn_text p (turn_of processes p) → after ≡ after_turn processes p
     → ran_text (ran_from breaks processes run) ≡ line ++ ran_text (ran_from breaks after (run_after p run))
-ran_says breaks processes after run p line unbroken below next counted says turned =
+ran_says breaks processes after run p line unbroken below next counted says altered =
     ap ran_text (ran_counted breaks processes run p unbroken below next counted)
     ∙ text_first p (turn_of processes p) (ran_from breaks (after_turn processes p) (run_after p run))
     ∙ ap (λ bs. bs ++ ran_text (ran_from breaks (after_turn processes p) (run_after p run))) (sym says)
-    ∙ ap (λ (ps : Wholes). line ++ ran_text (ran_from breaks ps (run_after p run))) (sym turned)
+    ∙ ap (λ (ps : Wholes). line ++ ran_text (ran_from breaks ps (run_after p run))) (sym altered)
 
 pub ran_quiet : (breaks : Breaks) (processes after : Wholes) (run : Progress) (p : ℕ) → last_break breaks processes run ≡ None → run.taken < run.turns → next_of processes run.order ≡ Some p
     → is_full_turn (turn_of processes p) ≡ false → turn_text p (turn_of processes p) ≡ [] → after ≡ after_turn processes p
     → ran_text (ran_from breaks processes run) ≡ ran_text (ran_from breaks after (run_after p run))
-ran_quiet breaks processes after run p unbroken below next counted quiet turned =
-    ran_says breaks processes after run p [] unbroken below next counted (sym quiet) turned
+ran_quiet breaks processes after run p unbroken below next counted quiet altered =
+    ran_says breaks processes after run p [] unbroken below next counted (sym quiet) altered
 
 pub ran_after : (breaks : Breaks) (processes after : Wholes) (run : Progress) (p : ℕ) → last_break breaks processes run ≡ None → run.taken < run.turns → next_of processes run.order ≡ Some p
     → is_full_turn (turn_of processes p) ≡ false → after ≡ after_turn processes p
     → (ran_from breaks processes run).after ≡ (ran_from breaks after (run_after p run)).after
-ran_after breaks processes after run p unbroken below next counted turned =
+ran_after breaks processes after run p unbroken below next counted altered =
     ap (λ (r : Ran Wholes). r.after) (ran_counted breaks processes run p unbroken below next counted)
-    ∙ ap (λ (ps : Wholes). (ran_from breaks ps (run_after p run)).after) (sym turned)
+    ∙ ap (λ (ps : Wholes). (ran_from breaks ps (run_after p run)).after) (sym altered)
 
 -- an ending holds where no process has the next turn, or none is left to be taken
 pub has_ending : (next : Option ℕ) (run : Progress) → (next ≡ None) ⊎ (nat_lt run.taken run.turns ≡ false) → run.taken ≤ run.turns

@@ -10,7 +10,7 @@ use Rattle.ledger.specs.Events.{Event}
 use Rattle.overlay_pages.specs.Changes.{limit_of as limit_in}
 use Rattle.overlay_memory.specs.View.{TranslatedView}
 use Rattle.overlay_memory.specs.Room.{FitsAfter, IsFullAt, units_after}
-use Rattle.machine_core.specs.Machine.{AreLike, Machine, limit_of, spaces_of, whole_in, wholes, with_memory}
+use Rattle.machine_core.specs.Machine.{AreLike, Machine, unit_limit, spaces_of, whole_in, wholes, with_memory}
 use Rattle.machine_core.specs.Laws.{processes_at}
 use Rattle.machine_core.specs.Load.{IsAsBefore}
 use Rattle.machine_core.specs.LoadLaws.{same_wholes}
@@ -19,10 +19,10 @@ use Rattle.report_text.specs.declared.answer.Answer.TheVariants.{Done, Full, Ref
 use Rattle.report_text.specs.declared.answer.Code.{Code}
 use Rattle.report_text.specs.declared.answer.Code.TheVariants.{NoCheckpoint, NoProcess}
 use Rattle.command_core.specs.State.{AreLikeStates, Checkpoint, Registry, State, registry_of}
-use Rattle.command_core.specs.Sessions.{KeepsSession, state_of}
+use Rattle.command_core.specs.Sessions.{KeepsSession, session_state}
 use Rattle.command_core.specs.declared.checkpoints.Kept.{Kept}
 use Rattle.command_core.specs.Kept.{checkpoints_in, shown_state, spaces_kept}
-use Rattle.command_core.specs.Rows.{Changed, MemoryTaken, Row, TakesLast, accepts, change_by, event_needs, falls_short, first_refusal, is_event_full, is_full, ledger_by, may_want_memory, refused_row, refuses, still_row, wants_by, within_units}
+use Rattle.command_core.specs.Rows.{Changed, MemoryTaken, Row, TakesLast, accepts, change_by, event_needs, falls_short, first_refusal, is_event_full, row_is_full, ledger_by, may_want_memory, refused_row, refuses, still_row, wants_by, within_units}
 use Rattle.command_core.specs.Giving.{ComesTo, GivesChange, MachineGives}
 use Rattle.command_core.specs.Checkpoints.{checkpoint_named, on_checkpoint}
 use Rattle.command_core.specs.Changes.{on_process}
@@ -72,7 +72,7 @@ module _ (row : Row) (old new : State) where
   by_refusal : (o : Option Code) → first_refusal row.refusals ≡ o → change_by row old ≡ option_map_or (λ code. refuses code old) o (within_units row old)
   by_refusal o is = ap (λ (found : Option Code). option_map_or (λ code. refuses code old) found (within_units row old)) is
 
-  by_units : (full : Bool) → first_refusal row.refusals ≡ None → is_full row old ≡ full → change_by row old ≡ cond full (falls_short row old) (accepts row old)
+  by_units : (full : Bool) → first_refusal row.refusals ≡ None → row_is_full row old ≡ full → change_by row old ≡ cond full (falls_short row old) (accepts row old)
   by_units full none is = by_refusal None none ∙ ap (λ b. cond b (falls_short row old) (accepts row old)) is
 
   -- it is refused
@@ -81,7 +81,7 @@ module _ (row : Row) (old new : State) where
 
   -- there aren't units enough
   pub row_full : (needed limit : ℕ) → first_refusal row.refusals ≡ None → row.may_need_units ≡ true → is_event_full row.event old.wholes ≡ true
-      → needed ≡ event_needs row.event old.wholes → limit ≡ limit_of old.wholes.frames → AreLikeStates new old → ComesTo (change_by row old) (Full needed limit) new
+      → needed ≡ event_needs row.event old.wholes → limit ≡ unit_limit old.wholes.frames → AreLikeStates new old → ComesTo (change_by row old) (Full needed limit) new
   row_full needed limit none may full needed_is limit_is like =
       let short = ap (λ b. b && is_event_full row.event old.wholes) may ∙ full in
       let comes = comes_to_be (change_by row old) (falls_short row old) new (by_units true none short) like in
@@ -91,14 +91,14 @@ module _ (row : Row) (old new : State) where
       }
 
   -- it is done
-  pub row_accepted : first_refusal row.refusals ≡ None → is_full row old ≡ false → AreLikeStates new (accepts row old).after → ComesTo (change_by row old) row.answer new
+  pub row_accepted : first_refusal row.refusals ≡ None → row_is_full row old ≡ false → AreLikeStates new (accepts row old).after → ComesTo (change_by row old) row.answer new
   row_accepted none enough like = comes_to_be (change_by row old) (accepts row old) new (by_units false none enough) like
 
   -- it may want memory
-  pub row_wants : row.memory ≡ TakesLast → first_refusal row.refusals ≡ None → is_full row old ≡ false → may_want_memory row old ≡ true
+  pub row_wants : row.memory ≡ TakesLast → first_refusal row.refusals ≡ None → row_is_full row old ≡ false → may_want_memory row old ≡ true
   row_wants last none enough =
-      ap (λ (m : MemoryTaken). wants_by m (is_some (first_refusal row.refusals)) (is_full row old)) last
-      ∙ ap (λ (o : Option Code). not (is_some o) && not (is_full row old)) none ∙ ap not enough
+      ap (λ (m : MemoryTaken). wants_by m (is_some (first_refusal row.refusals)) (row_is_full row old)) last
+      ∙ ap (λ (o : Option Code). not (is_some o) && not (row_is_full row old)) none ∙ ap not enough
 
 -- A command that isn't there changes nothing.
 
@@ -120,7 +120,7 @@ gives_moved old new xs breaks drawn same =
 -- The row of a process, by whether it is there.
 module _ (old : Machine) (kept : List Checkpoint) (breaks : Breaks) (drawn p : ℕ) (row : Process → Registry → Row) where
   abbrev before : State
-  before = state_of old kept breaks drawn
+  before = session_state old kept breaks drawn
 
   found_is : (o : Option declared.Process) → get old.processes p ≡ o
       → on_process p row (registry_of before) ≡ option_map_or (λ process. row process (registry_of before)) (option_map (whole_in (spaces_of old) p) o) (refused_row NoProcess (registry_of before))
@@ -152,44 +152,44 @@ module _ (before : State) (name : List ℕ) where
 
 -- What a machine answers.
 module _ (row : Registry → Row) (old new : Machine) where
-  same_likes : new ≡ old → (kept : List Checkpoint) (breaks : Breaks) (drawn : ℕ) → AreLikeStates (state_of new kept breaks drawn) (state_of old kept breaks drawn)
+  same_likes : new ≡ old → (kept : List Checkpoint) (breaks : Breaks) (drawn : ℕ) → AreLikeStates (session_state new kept breaks drawn) (session_state old kept breaks drawn)
   same_likes same kept breaks drawn =
-      subst (λ (m : Machine). AreLikeStates (state_of m kept breaks drawn) (state_of old kept breaks drawn)) (sym same) (states_itself (state_of old kept breaks drawn))
+      subst (λ (m : Machine). AreLikeStates (session_state m kept breaks drawn) (session_state old kept breaks drawn)) (sym same) (states_itself (session_state old kept breaks drawn))
 
   pub machine_refused : (code : Code) → ((r : Registry) → first_refusal (row r).refusals ≡ Some code) → new ≡ old → MachineGives row old (Refused code) new
   machine_refused code is same = record {
-    gives = λ kept breaks drawn. row_refused (row (registry_of (state_of old kept breaks drawn))) (state_of old kept breaks drawn) (state_of new kept breaks drawn) code
-        (is (registry_of (state_of old kept breaks drawn))) (same_likes same kept breaks drawn);
+    gives = λ kept breaks drawn. row_refused (row (registry_of (session_state old kept breaks drawn))) (session_state old kept breaks drawn) (session_state new kept breaks drawn) code
+        (is (registry_of (session_state old kept breaks drawn))) (same_likes same kept breaks drawn);
     keeps = keeps_same old new same;
     want = tt;
   }
 
   pub machine_full : (event : Event) (needed limit : ℕ) → ((r : Registry) → first_refusal (row r).refusals ≡ None)
       → ((r : Registry) → (row r).may_need_units ≡ true) → ((r : Registry) → (row r).event ≡ event)
-      → needed ≡ event_needs event (wholes old) → limit ≡ limit_of (wholes old).frames → is_event_full event (wholes old) ≡ true → new ≡ old
+      → needed ≡ event_needs event (wholes old) → limit ≡ unit_limit (wholes old).frames → is_event_full event (wholes old) ≡ true → new ≡ old
       → MachineGives row old (Full needed limit) new
   machine_full event needed limit none may by needed_is limit_is full same = record {
     gives = λ kept breaks drawn.
-        let before = state_of old kept breaks drawn in
+        let before = session_state old kept breaks drawn in
         let r = registry_of before in
-        row_full (row r) before (state_of new kept breaks drawn) needed limit (none r) (may r) (ap (λ e. is_event_full e before.wholes) (by r) ∙ full)
+        row_full (row r) before (session_state new kept breaks drawn) needed limit (none r) (may r) (ap (λ e. is_event_full e before.wholes) (by r) ∙ full)
         (needed_is ∙ sym (ap (λ e. event_needs e before.wholes) (by r))) limit_is (same_likes same kept breaks drawn);
     keeps = keeps_same old new same;
     want = tt;
   }
 
   pub machine_done : ((r : Registry) → first_refusal (row r).refusals ≡ None)
-      → ((kept : List Checkpoint) (breaks : Breaks) (drawn : ℕ) → is_full (row (registry_of (state_of old kept breaks drawn))) (state_of old kept breaks drawn) ≡ false)
+      → ((kept : List Checkpoint) (breaks : Breaks) (drawn : ℕ) → row_is_full (row (registry_of (session_state old kept breaks drawn))) (session_state old kept breaks drawn) ≡ false)
       → ((r : Registry) → (row r).answer ≡ Done)
-      → ((kept : List Checkpoint) (breaks : Breaks) (drawn : ℕ) → AreLike (wholes new) (accepts (row (registry_of (state_of old kept breaks drawn))) (state_of old kept breaks drawn)).after.wholes)
+      → ((kept : List Checkpoint) (breaks : Breaks) (drawn : ℕ) → AreLike (wholes new) (accepts (row (registry_of (session_state old kept breaks drawn))) (session_state old kept breaks drawn)).after.wholes)
       → ((r : Registry) → r.checkpoints ≡ (row r).after.checkpoints) → ((r : Registry) → r.breakpoints ≡ (row r).after.breakpoints)
       → ((r : Registry) → r.drawn ≡ (row r).after.drawn) → KeepsSession old new → MachineGives row old Done new
   machine_done none enough answers like kept_is breaks_is drawn_is keeps = record {
     gives = λ kept breaks drawn.
-        let before = state_of old kept breaks drawn in
+        let before = session_state old kept breaks drawn in
         let r = registry_of before in
-        subst (λ answer. ComesTo (change_by (row r) before) answer (state_of new kept breaks drawn)) (answers r)
-        (row_accepted (row r) before (state_of new kept breaks drawn) (none r) (enough kept breaks drawn)
+        subst (λ answer. ComesTo (change_by (row r) before) answer (session_state new kept breaks drawn)) (answers r)
+        (row_accepted (row r) before (session_state new kept breaks drawn) (none r) (enough kept breaks drawn)
         (record { wholes = like kept breaks drawn; checkpoints = kept_is r; breakpoints = breaks_is r; drawn = drawn_is r }));
     keeps = keeps;
     want = tt;
@@ -198,13 +198,13 @@ module _ (row : Registry → Row) (old new : Machine) where
 -- What is shown of checkpoints stays where their spaces do.
 module _ (row : Registry → Row) (old new : Machine) (xs : List Kept) (breaks : Breaks) (drawn : ℕ) (same : AreSame old new (spaces_kept xs)) where
   pub gives_left : (answer : Answer) (left : Breaks) (after : ℕ)
-      → GivesChange (row (registry_of (shown_state old xs breaks drawn))) (shown_state old xs breaks drawn) answer (state_of new (checkpoints_in (spaces_of old) xs) left after)
+      → GivesChange (row (registry_of (shown_state old xs breaks drawn))) (shown_state old xs breaks drawn) answer (session_state new (checkpoints_in (spaces_of old) xs) left after)
       → GivesChange (row (registry_of (shown_state old xs breaks drawn))) (shown_state old xs breaks drawn) answer (shown_state new xs left after)
   gives_left answer left after given =
-      subst (λ (cs : List Checkpoint). GivesChange (row (registry_of (shown_state old xs breaks drawn))) (shown_state old xs breaks drawn) answer (state_of new cs left after))
+      subst (λ (cs : List Checkpoint). GivesChange (row (registry_of (shown_state old xs breaks drawn))) (shown_state old xs breaks drawn) answer (session_state new cs left after))
       (sym (all_shown (spaces_of new) (spaces_of old) xs same)) given
 
   pub gives_kept : (answer : Answer) (after : ℕ)
-      → GivesChange (row (registry_of (shown_state old xs breaks drawn))) (shown_state old xs breaks drawn) answer (state_of new (checkpoints_in (spaces_of old) xs) breaks after)
+      → GivesChange (row (registry_of (shown_state old xs breaks drawn))) (shown_state old xs breaks drawn) answer (session_state new (checkpoints_in (spaces_of old) xs) breaks after)
       → GivesChange (row (registry_of (shown_state old xs breaks drawn))) (shown_state old xs breaks drawn) answer (shown_state new xs breaks after)
   gives_kept answer after given = gives_left answer breaks after given

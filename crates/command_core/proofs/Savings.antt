@@ -18,11 +18,11 @@ use Rattle.report_text.specs.declared.answer.Code.{Code}
 use Rattle.report_text.specs.declared.answer.Code.TheVariants.{NoCheckpoint, Speculating}
 use Rattle.command_core.specs.declared.checkpoints.Kept.{Kept}
 use Rattle.command_core.specs.State.{Checkpoint, State, process_of, registry_of}
-use Rattle.command_core.specs.Sessions.{IsFree, IsSession, state_of}
+use Rattle.command_core.specs.Sessions.{HasNoProcess, IsSession, session_state}
 use Rattle.command_core.specs.Kept.{checkpoint_in, checkpoints_in, kept_named, kept_process, shown_state, spaces_kept}
 use Rattle.command_core.specs.Rows.{Row, accepts, first_refusal}
 use Rattle.command_core.specs.Giving.{GivesChange}
-use Rattle.command_core.specs.Copies.{CopiesProcess, CopyFails, with_copied}
+use Rattle.command_core.specs.Copies.{CopiesProcess, CopyFails, with_process_copy}
 use Rattle.command_core.specs.Checkpoints.{SavesSpace, checkpoint_named, checkpoint_refusals, checkpoint_row, restore_row, restores}
 use Rattle.command_core.specs.Changes.{answer_of, on_process}
 use Rattle.command_core.specs.LikeLaws.{states_itself, states_same}
@@ -38,10 +38,10 @@ abbrev saved_of : Option declared.Process → Bool
 saved_of found = option_map_or (λ (y : declared.Process). is_some y.saved) found false
 
 -- a free space isn't marked, and what is put of a checkpoint is the whole that it keeps
-pub free_unmarked : (machine : Machine) (spaces : List ℕ) (drawn q : ℕ) → IsSession machine spaces drawn → IsFree machine q → is_marked machine q ≡ false
+pub free_unmarked : (machine : Machine) (spaces : List ℕ) (drawn q : ℕ) → IsSession machine spaces drawn → HasNoProcess machine q → is_marked machine q ≡ false
 free_unmarked machine spaces drawn q is free = is.kept q ∙ ap saved_of free.1
 
-put_is : (machine : Machine) (spaces : List ℕ) (drawn : ℕ) (x : Kept) → IsSession machine spaces drawn → IsFree machine x.space
+put_is : (machine : Machine) (spaces : List ℕ) (drawn : ℕ) (x : Kept) → IsSession machine spaces drawn → HasNoProcess machine x.space
     → whole_in (spaces_of machine) x.space (kept_process x) ≡ process_of (checkpoint_in (spaces_of machine) x).whole
 put_is machine spaces drawn x is free =
     let unmarked = free_unmarked machine spaces drawn x.space is free in
@@ -114,7 +114,7 @@ module _ (old : Machine) (xs : List Kept) (breaks : Breaks) (drawn p : ℕ) (nam
           → GivesChange (on_process p (checkpoint_row p name) (registry_of before)) before (answer_of e) (shown_state new xs breaks drawn)
       checkpoint_unsaved e unmade =
           gives_kept (on_process p (checkpoint_row p name)) old new xs breaks drawn (free_same old new (spaces_kept xs) (copy_keeps p (drawn + 1) old new e unmade).free is.free) (answer_of e) drawn
-          (gives_found old kept breaks drawn p (checkpoint_row p name) process (answer_of e) (state_of new kept breaks drawn) there
+          (gives_found old kept breaks drawn p (checkpoint_row p name) process (answer_of e) (session_state new kept breaks drawn) there
           (gives_unmade saving p (drawn + 1) old new kept breaks drawn none refl refl refl e unmade))
 
   -- A restore.
@@ -147,13 +147,13 @@ module _ (old : Machine) (xs : List Kept) (breaks : Breaks) (drawn p : ℕ) (nam
   -- one is found
   module _ (new : Machine) (x : Kept) (is : IsSession old (spaces_kept xs) drawn) (marked : false ≡ mark_in old p) (found : kept_named name xs ≡ Some x) where
     abbrev after : State
-    after = state_of new kept breaks drawn
+    after = session_state new kept breaks drawn
 
     pub restored_done : CopiesProcess (Some p) x.space p (kept_process x) old new (Ok tt)
         → GivesChange (on_process p (restore_row p name) (registry_of before)) before Done (shown_state new xs breaks drawn)
     restored_done (enough, copied) =
         let row = restores_by false (Some x) in
-        let free = found_has name (IsFree old) xs x is.free found in
+        let free = found_has name (HasNoProcess old) xs x is.free found in
         let put = put_is old (spaces_kept xs) drawn x is free in
         gives_kept (on_process p (restore_row p name)) old new xs breaks drawn
         (free_same old new (spaces_kept xs) (free_stays p old new copied.others (ap is_some there)) is.free) Done drawn
@@ -161,7 +161,7 @@ module _ (old : Machine) (xs : List Kept) (breaks : Breaks) (drawn p : ℕ) (nam
         (row_accepted row before after refl enough
         (states_same after (accepts row before).after
         (ap (λ (w : Wholes). record { wholes = w; checkpoints = kept; breakpoints = breaks; drawn = drawn })
-        (copied.after ∙ ap (λ (y : Process). with_copied (Some p) x.space p y (wholes old)) put)))))
+        (copied.after ∙ ap (λ (y : Process). with_process_copy (Some p) x.space p y (wholes old)) put)))))
 
     pub not_restored : (e : SpaceError) → CopyFails x.space p old new e
         → GivesChange (on_process p (restore_row p name) (registry_of before)) before (answer_of e) (shown_state new xs breaks drawn)
@@ -178,10 +178,10 @@ session_of_saved old new xs drawn p x is below space (enough, saved) =
     let absent : get new.processes q ≡ None = ap (λ m. get m q) saved.processes ∙ is.no_process q (omega arith) in
     let lacks : has_saved new q ≡ false = ap (λ (o : Option declared.Process). option_map_or (λ (y : declared.Process). is_some y.saved) o false) absent in
     subst (λ qs. IsSession new qs q) (sym (more_spaces xs x ∙ ap (λ n. spaces_kept xs ++ n ∷ []) space))
-    (session_saved old new (spaces_kept xs) drawn is below saved.there saved.settled (saved.unmarked ∙ sym lacks) saved.others absent)
+    (session_saved old new (spaces_kept xs) drawn is below saved.there saved.none_awaits (saved.unmarked ∙ sym lacks) saved.others absent)
 
 -- a process put in its place with a copy of a free space
-pub session_of_restored : (old new : Machine) (spaces : List ℕ) (drawn p : ℕ) (x : Kept) → IsSession old spaces drawn → is_some (get old.processes p) ≡ true → IsFree old x.space
+pub session_of_restored : (old new : Machine) (spaces : List ℕ) (drawn p : ℕ) (x : Kept) → IsSession old spaces drawn → is_some (get old.processes p) ≡ true → HasNoProcess old x.space
     → CopiesProcess (Some p) x.space p (kept_process x) old new (Ok tt) → IsSession new spaces drawn
 session_of_restored old new spaces drawn p x is there free (enough, copied) =
     let others = copied.others in
@@ -194,15 +194,15 @@ session_of_restored old new spaces drawn p x is there free (enough, copied) =
       own_space = λ q some. by_key q p
           (λ same. ap (has_space new) same ∙ copied.there)
           (λ other. others.there q other ∙ is.own_space q (sym (ap is_some (others.processes q other)) ∙ some));
-      settled = λ q. by_key q p
-          (λ same. ap (λ n. (space_in (spaces_of new) n).awaiting) same ∙ copied.settled)
-          (λ other. ap (λ (y : SpaceState). y.awaiting) (others.spaces q other) ∙ is.settled q);
+      none_awaits = λ q. by_key q p
+          (λ same. ap (λ n. (space_in (spaces_of new) n).awaiting) same ∙ copied.none_awaits)
+          (λ other. ap (λ (y : SpaceState). y.awaiting) (others.spaces q other) ∙ is.none_awaits q);
       kept = λ q. by_key q p
           (λ same. ap (is_marked new) same
           ∙ mark_at new p whole (ap (λ (w : Wholes). get w.processes p) copied.after ∙ get_same (wholes old).processes p p whole refl)
           ∙ marked_is (spaces_of old) x.space (kept_process x) false (free_unmarked old spaces drawn x.space is free)
           ∙ sym (ap (has_saved new) same ∙ ap saved_of copied.adopted))
           (λ other. ap (λ (y : SpaceState). y.speculating) (others.spaces q other) ∙ is.kept q ∙ sym (ap saved_of (others.processes q other)));
-      free = each (IsFree old) (IsFree new) spaces (λ q h. (others.there q (other_than q h.1) ∙ h.0, others.processes q (other_than q h.1) ∙ h.1)) is.free;
+      free = each (HasNoProcess old) (HasNoProcess new) spaces (λ q h. (others.there q (other_than q h.1) ∙ h.0, others.processes q (other_than q h.1) ∙ h.1)) is.free;
       rise = is.rise;
     }

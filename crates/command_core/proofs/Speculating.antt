@@ -15,7 +15,7 @@ use Rattle.overlay_memory.specs.View.{TranslatedView, state_of, translations_of}
 use Rattle.translation_cache.specs.Translations.{flushed}
 use Rattle.overlay_memory.specs.StateMemory.{memory_at}
 use Rattle.space_maps.specs.Spaces.{holds_space, page_in, space_in}
-use Rattle.promotion.specs.Settled.{AreSettled}
+use Rattle.promotion.specs.Settled.{AreInFrames}
 use Rattle.promotion.specs.Promoted.{Promotes, PromotesAll}
 use Rattle.promotion.specs.declared.error.PromoteError.{PromoteError}
 use Rattle.promotion.specs.declared.error.PromoteError.TheVariants as promote
@@ -33,7 +33,7 @@ use Rattle.report_text.specs.declared.answer.Code.TheVariants.{Ended, Speculatin
 use Rattle.command_core.specs.declared.overlays.OverlayChange.{OverlayChange}
 use Rattle.command_core.specs.declared.overlays.OverlayChange.TheVariants.{Speculate, Commit, Discard, Promote, PromoteAll}
 use Rattle.command_core.specs.State.{Registry}
-use Rattle.command_core.specs.Sessions.{IsFree, KeepsSession}
+use Rattle.command_core.specs.Sessions.{HasNoProcess, KeepsSession}
 use Rattle.command_core.specs.Rows.{Row, first_refusal, flushed_by, ledger_by, plain_row, refused_if, refused_row}
 use Rattle.command_core.specs.Giving.{MachineGives}
 use Rattle.command_core.specs.Refusals.{by_not_speculating, by_speculating}
@@ -96,13 +96,13 @@ module _ (p : ℕ) (process : declared.Process) (old : Machine) (memory : Transl
             no_space = λ q above. spaces q ∙ session.no_space q above;
             no_process = λ q above. none_is (get new.processes q) (found q ∙ ap is_some (session.no_process q above));
             own_space = λ q some. spaces q ∙ session.own_space q (sym (found q) ∙ some);
-            settled = λ q. by_key q p
-                (λ same. ap (λ n. (space_in (state_of memory) n).awaiting) same ∙ awaiting ∙ session.settled p)
-                (λ other. ap (λ (s : SpaceState). s.awaiting) (others q other) ∙ session.settled q);
+            none_awaits = λ q. by_key q p
+                (λ same. ap (λ n. (space_in (state_of memory) n).awaiting) same ∙ awaiting ∙ session.none_awaits p)
+                (λ other. ap (λ (s : SpaceState). s.awaiting) (others q other) ∙ session.none_awaits q);
             kept = λ q. by_key q p
                 (λ same. ap (is_marked new) same ∙ kept (session.kept p) ∙ sym (ap saved_of (get_same old.processes p q put same)))
                 (λ other. ap (λ (s : SpaceState). s.speculating) (others q other) ∙ session.kept q ∙ sym (ap saved_of (get_other old.processes p q put other)));
-            free = each (IsFree old) (IsFree new) free_spaces (λ q h. (spaces q ∙ h.0, none_is (get new.processes q) (found q ∙ ap is_some h.1))) session.free;
+            free = each (HasNoProcess old) (HasNoProcess new) free_spaces (λ q h. (spaces q ∙ h.0, none_is (get new.processes q) (found q ∙ ap is_some h.1))) session.free;
             rise = session.rise;
           };
           free = λ q none. others q (not_free old p q (ap is_some there) none);
@@ -223,7 +223,7 @@ module _ (p : ℕ) (process : declared.Process) (old : Machine) (memory : Transl
   nothing_saved none kept = not_kept (kept ∙ saved_here ∙ ap is_some none) old refl
 
   -- Pages are promoted.
-  module _ (which : ℕ → Bool) (s : AreSettled which (is_marked old p) (spaces_of old) (state_of memory) p) (unmarked : is_marked old p ≡ false) (e : Event)
+  module _ (which : ℕ → Bool) (s : AreInFrames which (is_marked old p) (spaces_of old) (state_of memory) p) (unmarked : is_marked old p ≡ false) (e : Event)
       (lists : translations_of memory ≡ flushed p (lists_of old)) (ledger : AreAlike (books (state_of memory)) (ledger_after e (books (spaces_of old)))) where
     process_is : whole_in (state_of memory) p process ≡ before
     process_is =

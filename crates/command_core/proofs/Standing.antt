@@ -20,7 +20,7 @@ use Rattle.command_core.proofs.Places.{free_same}
 use Rattle.command_core.specs.Looks.{BeginsStep, begun}
 use Rattle.command_core.specs.LikeLaws.{like_ending, like_found, like_left, like_next, like_text}
 use Rattle.command_core.specs.Standing.{SessionAnswersAs, SessionStandsFor, TurnsAs, begun_step, ends_run, speaks, takes_turn}
-use Rattle.command_core.specs.Turns.{EndsRun, InRun, Progress, Speaks, alone, TakesTurn, found_before, left_of, ran_text, run_after, run_found, run_turned}
+use Rattle.command_core.specs.Turns.{EndsRun, InRun, Progress, Speaks, begun_alone, TakesTurn, found_before, left_of, ran_text, run_after, run_found, run_altered}
 
 -- What holds of a session's own processes holds of those of each state that it stands for.
 
@@ -33,7 +33,7 @@ like_begun breaks a b p turns like = by_found (get a.processes p) ∙ ap (λ (ps
   where
     by_found : (o : Option Process) → begun breaks a p turns o ≡ begun breaks b p turns o
     by_found None = refl
-    by_found (Some process) = ap (λ r. cond (runs process.state) (Ok r) (Err Ended)) (like_found a b like breaks (alone p turns))
+    by_found (Some process) = ap (λ r. cond (runs process.state) (Ok r) (Err Ended)) (like_found a b like breaks (begun_alone p turns))
 
 pub step_begun : (session : InSession) (p turns : ℕ) (result : Result InRun Code) → BeginsStep session.state.breakpoints session.state.wholes p turns result
     → SessionAnswersAs (begun_step p turns) session result
@@ -50,12 +50,12 @@ run_begun session run result is state stands =
 -- a turn
 
 module _ (breaks : Breaks) where
-  like_turned : (t : Turn) (p : ℕ) (a b : Wholes) (run : Progress) → AreLike a b → run_turned breaks t p a run ≡ run_turned breaks t p b run
-  like_turned turn.Stepped p a b run like = like_found a b like breaks (run_after p run)
-  like_turned (turn.Wrote written) p a b run like = like_found a b like breaks (run_after p run)
-  like_turned (turn.Exited code) p a b run like = like_found a b like breaks (run_after p run)
-  like_turned (turn.Faulted kind at) p a b run like = like_found a b like breaks (run_after p run)
-  like_turned (turn.Full units limit) p a b run like = refl
+  like_altered : (t : Turn) (p : ℕ) (a b : Wholes) (run : Progress) → AreLike a b → run_altered breaks t p a run ≡ run_altered breaks t p b run
+  like_altered turn.Stepped p a b run like = like_found a b like breaks (run_after p run)
+  like_altered (turn.Wrote written) p a b run like = like_found a b like breaks (run_after p run)
+  like_altered (turn.Exited code) p a b run like = like_found a b like breaks (run_after p run)
+  like_altered (turn.Faulted kind at) p a b run like = like_found a b like breaks (run_after p run)
+  like_altered (turn.Full units limit) p a b run like = refl
 
   found_same : (a b : Wholes) (running : InRun) → AreLike a b → found_before breaks b running ≡ found_before breaks a running
   found_same a b running like = sym (ap (option_or running.stop) (like_ending a b like breaks running.run))
@@ -64,8 +64,8 @@ module _ (breaks : Breaks) where
       → (left : Wholes) × AreLike new left × TakesTurn breaks b running r left after
   takes_like a b new running after None like (same, (stop, found, is)) =
       (b, subst (λ (w : Wholes). AreLike w b) (sym same) like, (refl, (stop, found_same a b running like ∙ found, is)))
-  takes_like a b new running after (Some (p, t)) like (none, next, came, turned, is) =
-      let left = subst (λ (w : Wholes). AreLike w (after_turn b p)) (sym turned) (like_after_turn p a b like) in (
+  takes_like a b new running after (Some (p, t)) like (none, next, came, altered, is) =
+      let left = subst (λ (w : Wholes). AreLike w (after_turn b p)) (sym altered) (like_after_turn p a b like) in (
         after_turn b p,
         left,
         (
@@ -73,7 +73,7 @@ module _ (breaks : Breaks) where
           sym (like_next a b like running.run.order) ∙ next,
           came ∙ like_turn p a b like,
           refl,
-          is ∙ like_turned t p new (after_turn b p) running.run left,
+          is ∙ like_altered t p new (after_turn b p) running.run left,
         ),
       )
 
@@ -101,13 +101,13 @@ after_stands old new state left rest stands like =
 pub turns_as : (old new : InSession) (running after : InRun) (r : Option (ℕ × Turn)) → takes_turn running r after old.state new.state → KeepsRest old new
     → TurnsAs (takes_turn running r after) old new
 turns_as old new running after r took rest state stands =
-    let (left, like, turned) = takes_like old.state.breakpoints old.state.wholes state.wholes new.state.wholes running after r stands.wholes took in (
+    let (left, like, altered) = takes_like old.state.breakpoints old.state.wholes state.wholes new.state.wholes running after r stands.wholes took in (
       with_wholes left state,
       after_stands old new state left rest stands like,
       refl,
       refl,
       refl,
-      subst (λ (bs : Breaks). TakesTurn bs state.wholes running r left after) stands.breakpoints turned,
+      subst (λ (bs : Breaks). TakesTurn bs state.wholes running r left after) stands.breakpoints altered,
     )
 
 -- turns with a line, and the last ones

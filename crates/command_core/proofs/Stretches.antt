@@ -6,7 +6,7 @@ use Rattle.rv_execute.specs.declared.outcome.Outcome.{Outcome}
 use Rattle.rv_execute.specs.declared.outcome.Outcome.TheVariants as outcome
 use Rattle.rv_execute.specs.Execution.{Upshot, Steps, Asks, Faults, outcome_by}
 use Rattle.machine_core.specs.Process.{Process, runs}
-use Rattle.machine_core.specs.Machine.{Processes, Wholes, is_running, limit_of, running_numbers}
+use Rattle.machine_core.specs.Machine.{Processes, Wholes, is_running, unit_limit, running_numbers}
 use Rattle.machine_core.specs.Turns.{Guest, after_execution, after_turn, came_to, executed, execution_of, guest_at, guest_executed, guest_of, guest_refused, is_full, outcome_found, outcome_of, state_executed, units_needed, with_guest}
 use Rattle.breakpoints.specs.Breakpoints.{Breaks, addresses_of}
 use Rattle.machine_core.specs.Executions.{Executions, executions, first_execution, is_at_stop, last_execution, more_executions, no_execution, stopped_execution}
@@ -134,7 +134,7 @@ steps_by false (Faults kind address) needed limit is = cc
 
 still_runs : (p : ℕ) (guest : Guest) → outcome_of p guest ≡ outcome.Stepped → runs (executed p guest).process.state ≡ true
 still_runs p guest is =
-    let parts = steps_by (is_full p guest) (execution_of guest.process).upshot (units_needed p guest) (limit_of guest.frames) is in
+    let parts = steps_by (is_full p guest) (execution_of guest.process).upshot (units_needed p guest) (unit_limit guest.frames) is in
     ap (λ b. runs (cond b (guest_refused p guest) (guest_executed p guest)).process.state) parts.0 ∙ ap (λ u. runs (state_executed u)) parts.1
 
 -- The steps of some executions are turns without a line; the last one, where it is no step, is the next turn's.
@@ -196,17 +196,17 @@ first_done : (breaks : Breaks) (ps : Wholes) (p most : ℕ) (guest : Guest) (run
     → IsStretch breaks (with_guest ps p (executed p guest)) p most (run_after p run) e → IsStretch breaks ps p (most + 1) run (more_executions e)
 first_done breaks ps p most guest run e at running next unbroken below is rest =
     let law = turn_law outcome.Stepped ps p (is_there ps p guest at running) (came_there ps p guest at ∙ is) in
-    let turned : with_guest ps p (executed p guest) ≡ after_turn ps p = sym (executed_there ps p guest at) ∙ sym law.after_is in
+    let altered : with_guest ps p (executed p guest) ≡ after_turn ps p = sym (executed_there ps p guest at) ∙ sym law.after_is in
     let silent = ap (turn_text p) law.turn_is in
     let counted = ap is_full_turn law.turn_is in
     let over = put_over ps p (executed p guest) e.before in
     let took = sym (took_first e.steps p run) in
     record {
       quiet = (
-        ran_quiet breaks ps (with_guest ps p (executed p guest)) run p unbroken below next counted silent turned ∙ rest.quiet.0
+        ran_quiet breaks ps (with_guest ps p (executed p guest)) run p unbroken below next counted silent altered ∙ rest.quiet.0
             ∙ ap (λ (q : Wholes). ran_text (ran_from breaks q (run_took e.steps p (run_after p run)))) over
             ∙ ap (λ r. ran_text (ran_from breaks (with_guest ps p e.before) r)) took,
-        ran_after breaks ps (with_guest ps p (executed p guest)) run p unbroken below next counted turned ∙ rest.quiet.1
+        ran_after breaks ps (with_guest ps p (executed p guest)) run p unbroken below next counted altered ∙ rest.quiet.1
             ∙ ap (λ (q : Wholes). (ran_from breaks q (run_took e.steps p (run_after p run))).after) over
             ∙ ap (λ r. (ran_from breaks (with_guest ps p e.before) r).after) took,
       );

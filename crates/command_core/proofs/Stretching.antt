@@ -117,11 +117,11 @@ pub says_last : (breaks : Breaks) (ps : Wholes) (p steps : ℕ) (run : Progress)
     → (t : IsLastTurn breaks ps p steps run o now) → is_full_turn (turn_of t.before p) ≡ false → line ≡ turn_text p (turn_of t.before p) → new ≡ after_turn t.before p
     → after ≡ run_took (steps + 1) p run
     → (ran_text (ran_from breaks ps run) ≡ line ++ ran_text (ran_from breaks new after)) × ((ran_from breaks ps run).after ≡ (ran_from breaks new after).after)
-says_last breaks ps p steps run o now new line after t counted says turned took =
+says_last breaks ps p steps run o now new line after t counted says altered took =
     let r = run_took steps p run in
     let same = sym (took ∙ took_last steps p run) in (
-      t.quiet.0 ∙ ran_says breaks t.before new r p line t.unbroken t.below t.next counted says turned ∙ ap (λ q. line ++ ran_text (ran_from breaks new q)) same,
-      t.quiet.1 ∙ ran_after breaks t.before new r p t.unbroken t.below t.next counted turned ∙ ap (λ q. (ran_from breaks new q).after) same,
+      t.quiet.0 ∙ ran_says breaks t.before new r p line t.unbroken t.below t.next counted says altered ∙ ap (λ q. line ++ ran_text (ran_from breaks new q)) same,
+      t.quiet.1 ∙ ran_after breaks t.before new r p t.unbroken t.below t.next counted altered ∙ ap (λ q. (ran_from breaks new q).after) same,
     )
 
 -- a last turn for which there weren't units enough: its line, and then the run has ended

@@ -16,7 +16,7 @@ use Rattle.command_core.specs.declared.overlays.OverlayChange.{OverlayChange}
 use Rattle.command_core.specs.declared.overlays.OverlayChange.TheVariants.{Speculate, Commit, Discard, Promote, PromoteAll, Map, Unmap, Set}
 use Rattle.command_core.specs.State.{Checkpoint, Registry, State, registry_of}
 use Rattle.command_core.specs.Sessions.{InSession}
-use Rattle.command_core.specs.Rows.{Row, accepts, change_by, falls_short, first_refusal, is_full, ledger_by, plain_row, refused_row, refuses}
+use Rattle.command_core.specs.Rows.{Row, accepts, change_by, falls_short, first_refusal, row_is_full, ledger_by, plain_row, refused_row, refuses}
 use Rattle.command_core.specs.Giving.{ComesTo}
 use Rattle.command_core.specs.Changes.{change_row, drop_row, load_row, on_process}
 use Rattle.command_core.specs.Copies.{fork_row}
@@ -109,9 +109,9 @@ second_and false y h = refl
 
 -- what a row comes to
 ample_change : (row : Row) (state : State) → is_full_answer row.answer ≡ false → IsAmpleFor row state → is_full_answer (change_by row state).answer ≡ false
-ample_change row state itself ample = by_cases (first_refusal row.refusals) (is_full row state) fits
+ample_change row state itself ample = by_cases (first_refusal row.refusals) (row_is_full row state) fits
   where
-    fits : is_full row state ≡ false
+    fits : row_is_full row state ≡ false
     fits = second_and row.may_need_units _ (within_ample state.wholes.frames (ledger_by row.event state.wholes.ledger) ample)
 
     by_cases : (o : Option Code) (full : Bool) → full ≡ false

@@ -2,7 +2,7 @@ use Rattle.std.specs.Prelude.{ℕ, ◌+◌, true, false, List, [], ◌∷◌, So
 use Rattle.std.specs.Option.{option_map, option_map_or}
 use Rattle.std.specs.FinMap.{get, remove}
 use Rattle.elf_loader.specs.Accepted.{file_refusal}
-use Rattle.elf_loader.specs.Fields.{entry_of}
+use Rattle.elf_loader.specs.Fields.{entry_address}
 use Rattle.ledger.specs.Events as event
 use Rattle.machine_core.specs.Process.{Process}
 use Rattle.machine_core.specs.Load.{load_pages, loaded_process, page_count}
@@ -37,7 +37,7 @@ load_row file registry = record {
   event = event.Load (registry.drawn + 1) (load_pages file);
   may_need_units = true;
   flushes = None;
-  answer = Loaded (registry.drawn + 1) (page_count file) (entry_of file);
+  answer = Loaded (registry.drawn + 1) (page_count file) (entry_address file);
   after = draws (loaded_process file) registry;
 }
 

@@ -112,7 +112,7 @@ pub record IsSaved (from to : ℕ) (old new : Machine) : Type 0 where
   pub memory : memory_of (spaces_of new) to ≡ memory_of (spaces_of old) from
   pub after : wholes new ≡ with_pages_copied from to (wholes old)
   pub there : has_space new to ≡ true
-  pub settled : (space_in (spaces_of new) to).awaiting ≡ empty
+  pub none_awaits : (space_in (spaces_of new) to).awaiting ≡ empty
   pub unmarked : (space_in (spaces_of new) to).speculating ≡ false
   pub processes : new.processes ≡ old.processes
   pub others : StaysBut to old new

@@ -21,7 +21,7 @@ use Rattle.command_core.specs.Sessions.{InSession}
 use Rattle.command_core.specs.Rows.{Changed, Row, change_by, may_want_memory, refuses}
 use Rattle.command_core.specs.Changes.{change_row, load_row}
 use Rattle.command_core.specs.Looks.{counts_of}
-use Rattle.command_core.specs.Turns.{InRun, Progress, alone, by_turns, left_of, ran_from, ran_text}
+use Rattle.command_core.specs.Turns.{InRun, Progress, begun_alone, by_turns, left_of, ran_from, ran_text}
 
 -- What a command asks of the shelf, by the file that it names: nothing; or the file is there, isn't there, or
 -- has more bytes than a file may have.
@@ -78,12 +78,12 @@ abbrev pub told : {S : Type 0} → Bool → Changed S → Performed S
 told wants_memory changed = record { text = answer_text changed.answer; after = changed.after; wants_memory = wants_memory }
 
 -- a text that is printed, and the state as it is
-abbrev pub printed : {S : Type 0} → List ℕ → S → Performed S
-printed text state = record { text = text; after = state; wants_memory = false }
+abbrev pub text_printed : {S : Type 0} → List ℕ → S → Performed S
+text_printed text state = record { text = text; after = state; wants_memory = false }
 
 -- nothing more
 abbrev pub no_more : {S : Type 0} → S → Performed S
-no_more state = printed [] state
+no_more state = text_printed [] state
 
 -- one thing after another
 abbrev pub then_performed : {S : Type 0} → Performed S → (S → Performed S) → Performed S
@@ -119,7 +119,7 @@ unfoldable pub stats_text : State → List ℕ
 stats_text state = counts_text (counts_of state.wholes)
 
 abbrev pub stats_done : State → Performed State
-stats_done state = printed (stats_text state) state
+stats_done state = text_printed (stats_text state) state
 
 abbrev pub rules : Rules State
 rules = record { registry = registry_of; change = change_by; wants = may_want_memory; turns = takes_turns; counts = stats_done }
@@ -152,12 +152,12 @@ list_text registry = list_head registry ++ (processes_text registry ++ checkpoin
 unfoldable pub regs_head : ℕ → Process → List ℕ
 regs_head p process = regs_line p process.state (is_speculating process)
 
-abbrev pub value_at : Registers → ℕ → ℕ
-value_at registers i = if i == 0 then registers.pc else register registers i
+abbrev pub register_value : Registers → ℕ → ℕ
+register_value registers i = if i == 0 then registers.pc else register registers i
 
 unfoldable pub registers_from : Registers → ℕ → ℕ → List ℕ
 registers_from registers i zero = []
-registers_from registers i (suc n) = register_line i (value_at registers i) ++ registers_from registers (i + 1) n
+registers_from registers i (suc n) = register_line i (register_value registers i) ++ registers_from registers (i + 1) n
 
 abbrev pub registers_text : Registers → List ℕ
 registers_text registers = registers_from registers 0 32
@@ -168,7 +168,7 @@ regs_text p process = regs_head p process ++ registers_text process.registers
 -- the registers of a process, which has to be there
 abbrev pub regs_of : {S : Type 0} → ℕ → Option Process → S → Performed S
 regs_of p None state = told false (refuses NoProcess state)
-regs_of p (Some process) state = printed (regs_text p process) state
+regs_of p (Some process) state = text_printed (regs_text p process) state
 
 -- the lines of bytes of a memory from an address on, up to 16 a line; and those of words, as instructions
 abbrev pub dump_row : Memory → ℕ → ℕ → List ℕ
@@ -191,7 +191,7 @@ disasm_text memory address (suc words) = disasm_row memory address ++ disasm_tex
 
 -- what is printed of n bytes of a process from an address on: it has to be there, and so does each byte, whatever the permissions
 abbrev pub prints_read : {S : Type 0} → (Memory → List ℕ) → Memory → Option ℕ → S → Performed S
-prints_read text memory None state = printed (text memory) state
+prints_read text memory None state = text_printed (text memory) state
 prints_read text memory (Some at) state = told false (refuses (Unmapped at) state)
 
 abbrev pub prints_of : {S : Type 0} → ℕ → ℕ → (Memory → List ℕ) → Option Process → S → Performed S
@@ -212,7 +212,7 @@ module _ {S : Type 0} (by : Rules S) where
 
   -- what follows the load of an `exec`: the turns of its process, where it made one
   abbrev pub exec_turns : ℕ → Answer → S → Performed S
-  exec_turns turns (Loaded p pages entry) = by.turns (alone p turns)
+  exec_turns turns (Loaded p pages entry) = by.turns (begun_alone p turns)
   exec_turns turns other = no_more
 
   abbrev pub exec_done : List ℕ → ℕ → S → Performed S
@@ -230,7 +230,7 @@ module _ {S : Type 0} (by : Rules S) where
   -- the turns of one process, which has to be there and to run
   abbrev pub steps : ℕ → ℕ → Option Process → S → Performed S
   steps p turns None state = told false (refuses NoProcess state)
-  steps p turns (Some process) state = if runs process.state then by.turns (alone p turns) state else told false (refuses Ended state)
+  steps p turns (Some process) state = if runs process.state then by.turns (begun_alone p turns) state else told false (refuses Ended state)
 
   abbrev pub process_in : ℕ → S → Option Process
   process_in p state = get (by.registry state).processes p
@@ -244,7 +244,7 @@ module _ {S : Type 0} (by : Rules S) where
 
   -- what is printed
   abbrev pub list_done : S → Performed S
-  list_done state = printed (list_text (by.registry state)) state
+  list_done state = text_printed (list_text (by.registry state)) state
 
   abbrev pub regs_done : ℕ → S → Performed S
   regs_done p state = regs_of p (process_in p state) state

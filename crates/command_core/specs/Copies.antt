@@ -7,7 +7,7 @@ use Rattle.overlay_memory.specs.declared.error.SpaceError.TheVariants.{Full, Mem
 use Rattle.space_maps.specs.Spaces.{space_in}
 use Rattle.machine_core.specs.Process.{Process, is_speculating}
 use Rattle.machine_core.specs.declared.process.Process as declared
-use Rattle.machine_core.specs.Machine.{IsDropped, Machine, StaysBut, Wholes, has_space, limit_of, spaces_of, whole_in, wholes, with_process_at}
+use Rattle.machine_core.specs.Machine.{IsDropped, Machine, StaysBut, Wholes, has_space, unit_limit, spaces_of, whole_in, wholes, with_process_at}
 use Rattle.machine_core.specs.Load.{IsAsBefore}
 use Rattle.report_text.specs.declared.answer.Answer.TheVariants.{Forked}
 use Rattle.report_text.specs.declared.answer.Code.{Code}
@@ -45,7 +45,7 @@ fork_row p process registry = record {
 -- of memory comes only where they don't, and then there are the spaces and processes that there were.
 abbrev pub CopyFails : ℕ → ℕ → Machine → Machine → SpaceError → Type 0
 CopyFails from to old new (Full needed limit) =
-    (needed ≡ event_needs (Copy from to) (wholes old)) × (limit ≡ limit_of (wholes old).frames) × (is_event_full (Copy from to) (wholes old) ≡ true) × (new ≡ old)
+    (needed ≡ event_needs (Copy from to) (wholes old)) × (limit ≡ unit_limit (wholes old).frames) × (is_event_full (Copy from to) (wholes old) ≡ true) × (new ≡ old)
 CopyFails from to old new Memory = (is_event_full (Copy from to) (wholes old) ≡ false) × IsAsBefore old new
 
 abbrev pub CopyEnds : {T : Type 0} → ℕ → ℕ → Machine → Machine → Type 0 → Result T SpaceError → Type 0
@@ -53,8 +53,8 @@ CopyEnds from to old new Done (Ok done) = (is_event_full (Copy from to) (wholes 
 CopyEnds from to old new Done (Err error) = CopyFails from to old new error
 
 -- the copying machine with a process under a number, and a copy of the pages of another one, where the translations of a process go
-abbrev pub with_copied : Option ℕ → ℕ → ℕ → Process → Wholes → Wholes
-with_copied flushes from to process state = record {
+abbrev pub with_process_copy : Option ℕ → ℕ → ℕ → Process → Wholes → Wholes
+with_process_copy flushes from to process state = record {
   processes = insert state.processes to process;
   ledger = ledger_by (Copy from to) state.ledger;
   frames = state.frames;
@@ -63,10 +63,10 @@ with_copied flushes from to process state = record {
 
 -- a machine with that process, its space, and nothing else changed
 pub record IsCopied (flushes : Option ℕ) (from to : ℕ) (process : declared.Process) (old new : Machine) : Type 0 where
-  pub after : wholes new ≡ with_copied flushes from to (whole_in (spaces_of old) from process) (wholes old)
+  pub after : wholes new ≡ with_process_copy flushes from to (whole_in (spaces_of old) from process) (wholes old)
   pub adopted : get new.processes to ≡ Some process
   pub there : has_space new to ≡ true
-  pub settled : (space_in (spaces_of new) to).awaiting ≡ empty
+  pub none_awaits : (space_in (spaces_of new) to).awaiting ≡ empty
   pub others : StaysBut to old new
 
 -- a process with a copy of a space, under a number that had none or in the place of the process that it had

@@ -5,7 +5,7 @@ use Rattle.machine_core.specs.Load.{IsAsBefore}
 use Rattle.report_text.specs.declared.answer.Answer.{Answer}
 use Rattle.report_text.specs.declared.answer.Answer.TheVariants.{Memory}
 use Rattle.command_core.specs.State.{AreLikeStates, Checkpoint, Registry, State, registry_of}
-use Rattle.command_core.specs.Sessions.{InSession, KeepsSession, state_of}
+use Rattle.command_core.specs.Sessions.{InSession, KeepsSession, session_state}
 use Rattle.command_core.specs.Rows.{Changed, Row, change_by, may_want_memory}
 
 -- What an object answers of a change.
@@ -35,6 +35,6 @@ WantKeepsMachine old answer new = Unit {0}
 -- a session
 pub record MachineGives (row : Registry → Row) (old : Machine) (answer : Answer) (new : Machine) : Type 0 where
   pub gives : (kept : List Checkpoint) (breaks : Breaks) (drawn : ℕ)
-      → GivesChange (row (registry_of (state_of old kept breaks drawn))) (state_of old kept breaks drawn) answer (state_of new kept breaks drawn)
+      → GivesChange (row (registry_of (session_state old kept breaks drawn))) (session_state old kept breaks drawn) answer (session_state new kept breaks drawn)
   pub keeps : KeepsSession old new
   pub want : WantKeepsMachine old answer new

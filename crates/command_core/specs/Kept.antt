@@ -8,7 +8,7 @@ use Rattle.machine_core.specs.Machine.{Machine, spaces_of}
 use Rattle.report_text.specs.Answers.{IsCheckpointName}
 use Rattle.command_core.specs.declared.checkpoints.Kept.{Kept}
 use Rattle.command_core.specs.State.{Checkpoint, State as Shown}
-use Rattle.command_core.specs.Sessions.{InSession, bases_of, state_of}
+use Rattle.command_core.specs.Sessions.{InSession, bases_of, session_state}
 
 -- What a session keeps of checkpoints, and what it shows of them.
 
@@ -45,7 +45,7 @@ checkpoints_in spaces xs = map (checkpoint_in spaces) xs
 
 -- the state that a session shows, and the session
 abbrev pub shown_state : Machine → List Kept → Breaks → ℕ → Shown
-shown_state machine xs breakpoints drawn = state_of machine (checkpoints_in (spaces_of machine) xs) breakpoints drawn
+shown_state machine xs breakpoints drawn = session_state machine (checkpoints_in (spaces_of machine) xs) breakpoints drawn
 
 abbrev pub shown_session : Machine → List Kept → Breaks → ℕ → ℕ → InSession
 shown_session machine xs breakpoints drawn quantum =

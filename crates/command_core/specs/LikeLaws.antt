@@ -10,7 +10,7 @@ use Rattle.ledger.specs.Alike.{AreAlike}
 use Rattle.ledger.specs.AlikeUnits.{lines_alike, units_alike}
 use Rattle.ledger.specs.RowLaws.{alike_after}
 use Rattle.machine_core.specs.Process.{Process, runs}
-use Rattle.machine_core.specs.Machine.{AreLike, Processes, Wholes, limit_of, running_among}
+use Rattle.machine_core.specs.Machine.{AreLike, Processes, Wholes, unit_limit, running_among}
 use Rattle.machine_core.specs.Turns.{after_turn, turn_of}
 use Rattle.machine_core.specs.Laws.{like_after_turn, like_chain, like_itself, like_running, like_turn}
 use Rattle.round_robin.specs.Turns.{next_number}
@@ -28,10 +28,10 @@ use Rattle.command_core.specs.declared.turns.Order.TheVariants.{ByTurns, Alone}
 use Rattle.command_core.specs.declared.TheConstants.{WORD_BYTES}
 use Rattle.command_core.specs.State.{AreLikeStates, Checkpoint, Registry, State, registry_of, with_wholes}
 use Rattle.command_core.specs.Sessions.{InSession}
-use Rattle.command_core.specs.Rows.{Changed, Row, accepts, change_by, event_needs, falls_short, first_refusal, flushed_by, is_full, ledger_by, may_want_memory, refuses, wants_by, within_units}
+use Rattle.command_core.specs.Rows.{Changed, Row, accepts, change_by, event_needs, falls_short, first_refusal, flushed_by, row_is_full, ledger_by, may_want_memory, refuses, wants_by, within_units}
 use Rattle.command_core.specs.Giving.{ComesTo, GivesChange}
 use Rattle.command_core.specs.Changes.{change_row, load_row}
-use Rattle.command_core.specs.Turns.{InRun, Progress, Ran, break_at, ending, ending_by, event_then, first_event, last_break, left_by, left_of, next_of, alone, by_turns, ran, ran_text, rest_of, run_after, run_found, stopped, turns_by, ran_from, unless_broken}
+use Rattle.command_core.specs.Turns.{InRun, Progress, Ran, break_at, ending, ending_by, event_then, first_event, last_break, left_by, left_of, next_of, begun_alone, by_turns, ran, ran_text, rest_of, run_after, run_found, stopped, turns_by, ran_from, unless_broken}
 use Rattle.command_core.specs.Looks.{counts_of}
 use Rattle.command_core.specs.Commands.{Performed, change_told, checkpoint_text, counts_text, disasm_text, dump_text, exec_done, exec_turns, list_head, list_text, performed, prints_of, prints_read, process_text, regs_done, regs_of, row_told, stats_text, step_done, steps, takes_turns, told, rules}
 use Rattle.command_core.specs.CommandCases.{GoesBy, ByExec, ByRun, ByStep, ByList, ByStats, ByRegs, ByDump, ByDisasm, ByChange, goes_by}
@@ -207,17 +207,17 @@ module _ (row : Row) (a b : State) (like : AreLikeStates a b) where
   like_needs : event_needs row.event a.wholes ≡ event_needs row.event b.wholes
   like_needs = units_alike _ _ like_ledger
 
-  like_full : is_full row a ≡ is_full row b
+  like_full : row_is_full row a ≡ row_is_full row b
   like_full =
-      ap (λ n. row.may_need_units && nat_lt (limit_of a.wholes.frames) n) like_needs
-      ∙ ap (λ n. row.may_need_units && nat_lt (limit_of n) (event_needs row.event b.wholes)) like.wholes.frames
+      ap (λ n. row.may_need_units && nat_lt (unit_limit a.wholes.frames) n) like_needs
+      ∙ ap (λ n. row.may_need_units && nat_lt (unit_limit n) (event_needs row.event b.wholes)) like.wholes.frames
 
   like_wants : may_want_memory row a ≡ may_want_memory row b
   like_wants = ap (wants_by row.memory (is_some (first_refusal row.refusals))) like_full
 
   like_within : (x y : Bool) → x ≡ y → AreLikeChanges (cond x (falls_short row a) (accepts row a)) (cond y (falls_short row b) (accepts row b))
   like_within true true same = record {
-    answer_is = ap (λ n. Full n (limit_of a.wholes.frames)) like_needs ∙ ap (λ n. Full (event_needs row.event b.wholes) (limit_of n)) like.wholes.frames;
+    answer_is = ap (λ n. Full n (unit_limit a.wholes.frames)) like_needs ∙ ap (λ n. Full (event_needs row.event b.wholes) (unit_limit n)) like.wholes.frames;
     after_is = like;
   }
   like_within false false same =
@@ -243,7 +243,7 @@ module _ (row : Row) (a b : State) (like : AreLikeStates a b) where
     where
       by_refusal : (o : Option Code) → AreLikeChanges
           (option_map_or (λ code. refuses code a) o (within_units row a)) (option_map_or (λ code. refuses code b) o (within_units row b))
-      by_refusal None = like_within (is_full row a) (is_full row b) like_full
+      by_refusal None = like_within (row_is_full row a) (row_is_full row b) like_full
       by_refusal (Some code) = record { answer_is = refl; after_is = like }
 
 -- the row that each has
@@ -302,7 +302,7 @@ like_takes run a b like =
     })
 
 pub like_exec_turns : (turns : ℕ) (answer : Answer) (a b : State) → AreLikeStates a b → AreLikePerformed (exec_turns rules turns answer a) (exec_turns rules turns answer b)
-like_exec_turns turns (Loaded p pages entry) a b like = like_takes (alone p turns) a b like
+like_exec_turns turns (Loaded p pages entry) a b like = like_takes (begun_alone p turns) a b like
 like_exec_turns turns Done a b like = record { text = refl; after = like; wants = refl }
 like_exec_turns turns (Forked p q) a b like = record { text = refl; after = like; wants = refl }
 like_exec_turns turns (Saved p name space) a b like = record { text = refl; after = like; wants = refl }
@@ -327,9 +327,9 @@ like_step : (p turns : ℕ) (a b : State) → AreLikeStates a b → AreLikePerfo
 like_step p turns a b like =
     subst (λ (o : Option Process). AreLikePerformed (step_done rules p turns a) (steps rules p turns o b)) (ap (λ (ps : Processes). get ps p) like.wholes.processes) (by_found (get a.wholes.processes p))
   where
-    by_running : (r : Bool) → AreLikePerformed (cond r (takes_turns (alone p turns) a) (told false (record { answer = Refused Ended; after = a })))
-        (cond r (takes_turns (alone p turns) b) (told false (record { answer = Refused Ended; after = b })))
-    by_running true = like_takes (alone p turns) a b like
+    by_running : (r : Bool) → AreLikePerformed (cond r (takes_turns (begun_alone p turns) a) (told false (record { answer = Refused Ended; after = a })))
+        (cond r (takes_turns (begun_alone p turns) b) (told false (record { answer = Refused Ended; after = b })))
+    by_running true = like_takes (begun_alone p turns) a b like
     by_running false = record { text = refl; after = like; wants = refl }
 
     by_found : (o : Option Process) → AreLikePerformed (steps rules p turns o a) (steps rules p turns o b)
@@ -370,7 +370,7 @@ like_prints p address n text a b like =
 pub counts_same : (a b : Wholes) → AreLike a b → counts_of a ≡ counts_of b
 counts_same a b like = λ i. record {
   units = units_alike a.ledger b.ledger like.ledger i;
-  limit = limit_of (like.frames i);
+  limit = unit_limit (like.frames i);
   lines = lines_alike a.ledger b.ledger like.ledger i;
   hits = (like.translations i).hits;
   misses = (like.translations i).misses;

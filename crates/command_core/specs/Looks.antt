@@ -2,7 +2,7 @@ use Rattle.std.specs.Prelude.{◌≡◌, ℕ, ◌+◌, nat_le, List, [], ◌∷�
 use Rattle.std.specs.List.{filter}
 use Rattle.std.specs.FinMap.{entries, get, len}
 use Rattle.ledger.specs.Units.{own_lines, units}
-use Rattle.machine_core.specs.Machine.{Processes, Wholes, limit_of}
+use Rattle.machine_core.specs.Machine.{Processes, Wholes, unit_limit}
 use Rattle.machine_core.specs.Process.{Process, is_speculating, runs}
 use Rattle.report_text.specs.declared.answer.Code.{Code}
 use Rattle.report_text.specs.declared.answer.Code.TheVariants.{NoProcess, Ended, Unmapped}
@@ -10,19 +10,19 @@ use Rattle.command_core.specs.declared.session.CheckpointView.{CheckpointView}
 use Rattle.command_core.specs.declared.session.Counts.{Counts}
 use Rattle.command_core.specs.declared.session.ProcessView.{ProcessView}
 use Rattle.command_core.specs.State.{Checkpoint}
-use Rattle.command_core.specs.Turns.{InRun, alone, run_found}
+use Rattle.command_core.specs.Turns.{InRun, begun_alone, run_found}
 use Rattle.breakpoints.specs.Breakpoints.{Breaks}
 use Rattle.ovl_io.specs.Memory.{bytes_at, first_denied}
 
 -- What is looked up in a session.
 
 -- a process, as it is shown
-abbrev pub view_of : Process → ProcessView
-view_of process = record { regs = process.registers; state = process.state; speculating = is_speculating process; pages = len process.memory }
+abbrev pub process_view : Process → ProcessView
+process_view process = record { regs = process.registers; state = process.state; speculating = is_speculating process; pages = len process.memory }
 
 abbrev pub looked_at : Option Process → Result ProcessView Code
 looked_at None = Err NoProcess
-looked_at (Some process) = Ok (view_of process)
+looked_at (Some process) = Ok (process_view process)
 
 abbrev pub LooksAt : Processes → ℕ → Result ProcessView Code → Type 0
 LooksAt processes p result = result ≡ looked_at (get processes p)
@@ -43,7 +43,7 @@ LooksAtCheckpoint checkpoints index (Some view) =
 abbrev pub counts_of : Wholes → Counts
 counts_of all = record {
   units = units all.ledger;
-  limit = limit_of all.frames;
+  limit = unit_limit all.frames;
   lines = own_lines all.ledger;
   hits = all.translations.hits;
   misses = all.translations.misses;
@@ -52,7 +52,7 @@ counts_of all = record {
 -- the turns of one process are begun: refused where it isn't there, or has ended
 abbrev pub begun : Breaks → Wholes → ℕ → ℕ → Option Process → Result InRun Code
 begun breaks state p turns None = Err NoProcess
-begun breaks state p turns (Some process) = if runs process.state then Ok (run_found breaks state (alone p turns)) else Err Ended
+begun breaks state p turns (Some process) = if runs process.state then Ok (run_found breaks state (begun_alone p turns)) else Err Ended
 
 abbrev pub BeginsStep : Breaks → Wholes → ℕ → ℕ → Result InRun Code → Type 0
 BeginsStep breaks state p turns result = result ≡ begun breaks state p turns (get state.processes p)

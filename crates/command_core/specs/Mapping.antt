@@ -13,9 +13,9 @@ use Rattle.command_core.specs.Refusals.{has_page, lacks_page, lowest, map_refusa
 -- Whether pages of a space can be mapped, or given up.
 
 -- the lowest of the n pages from one on that is there, or that all are absent; and the lowest that isn't there
-abbrev pub FindsPage : State → ℕ → ℕ → ℕ → Option ℕ → Type 0
-FindsPage v p page n None = (None ≡ lowest (has_page (memory_of v p)) page n) × AreAbsent v p page n
-FindsPage v p page n (Some found) = (Some found ≡ lowest (has_page (memory_of v p)) page n) × (found ≤ PAGE_END)
+abbrev pub FindsMapped : State → ℕ → ℕ → ℕ → Option ℕ → Type 0
+FindsMapped v p page n None = (None ≡ lowest (has_page (memory_of v p)) page n) × AreAbsent v p page n
+FindsMapped v p page n (Some found) = (Some found ≡ lowest (has_page (memory_of v p)) page n) × (found ≤ PAGE_END)
 
 abbrev pub FindsGap : State → ℕ → ℕ → ℕ → Option ℕ → Type 0
 FindsGap v p page n None = (None ≡ lowest (lacks_page (memory_of v p)) page n) × AreMapped v p page n

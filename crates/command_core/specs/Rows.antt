@@ -5,7 +5,7 @@ use Rattle.ledger.specs.Events.{Event, Other, ledger_after}
 use Rattle.ledger.specs.Units.{units}
 use Rattle.translation_cache.specs.Bare.{BareTranslations}
 use Rattle.translation_cache.specs.Translations.{flushed}
-use Rattle.machine_core.specs.Machine.{Wholes, limit_of}
+use Rattle.machine_core.specs.Machine.{Wholes, unit_limit}
 use Rattle.report_text.specs.declared.answer.Answer.{Answer}
 use Rattle.report_text.specs.declared.answer.Answer.TheVariants.{Done, Refused, Full}
 use Rattle.report_text.specs.declared.answer.Code.{Code}
@@ -73,10 +73,10 @@ abbrev pub event_needs : Event → Wholes → ℕ
 event_needs event wholes = units (ledger_by event wholes.ledger)
 
 abbrev pub is_event_full : Event → Wholes → Bool
-is_event_full event wholes = nat_lt (limit_of wholes.frames) (event_needs event wholes)
+is_event_full event wholes = nat_lt (unit_limit wholes.frames) (event_needs event wholes)
 
-abbrev pub is_full : Row → State → Bool
-is_full row state = row.may_need_units && is_event_full row.event state.wholes
+abbrev pub row_is_full : Row → State → Bool
+row_is_full row state = row.may_need_units && is_event_full row.event state.wholes
 
 -- What a change comes to: its answer, and the state of a machine after it.
 pub record Changed (S : Type 0) : Type 0 where
@@ -88,7 +88,7 @@ abbrev pub refuses : {S : Type 0} → Code → S → Changed S
 refuses code state = record { answer = Refused code; after = state }
 
 abbrev pub falls_short : Row → State → Changed State
-falls_short row state = record { answer = Full (event_needs row.event state.wholes) (limit_of state.wholes.frames); after = state }
+falls_short row state = record { answer = Full (event_needs row.event state.wholes) (unit_limit state.wholes.frames); after = state }
 
 abbrev pub accepts : Row → State → Changed State
 accepts row state = record {
@@ -98,7 +98,7 @@ accepts row state = record {
 
 -- The rule: the first refusal; or that there aren't units enough; or the row's answer, and the state after it.
 abbrev pub within_units : Row → State → Changed State
-within_units row state = if is_full row state then falls_short row state else accepts row state
+within_units row state = if row_is_full row state then falls_short row state else accepts row state
 
 abbrev pub change_by : Row → State → Changed State
 change_by row state = option_map_or (λ code. refuses code state) (first_refusal row.refusals) (within_units row state)
@@ -110,4 +110,4 @@ wants_by TakesLast refused full = not refused && not full
 wants_by TakesFirst refused full = true
 
 abbrev pub may_want_memory : Row → State → Bool
-may_want_memory row state = wants_by row.memory (is_some (first_refusal row.refusals)) (is_full row state)
+may_want_memory row state = wants_by row.memory (is_some (first_refusal row.refusals)) (row_is_full row state)

@@ -19,13 +19,13 @@ abbrev pub OwnSpaces : Machine → Type 0
 OwnSpaces machine = (p : ℕ) → is_some (get machine.processes p) ≡ true → has_space machine p ≡ true
 
 -- a space that is there and has no process, as that of a checkpoint
-abbrev pub IsFree : Machine → ℕ → Type 0
-IsFree machine q = (has_space machine q ≡ true) × (get machine.processes q ≡ None)
+abbrev pub HasNoProcess : Machine → ℕ → Type 0
+HasNoProcess machine q = (has_space machine q ≡ true) × (get machine.processes q ≡ None)
 
 -- numbers that rise, from above one up to another one
-abbrev pub Rise : ℕ → List ℕ → ℕ → Type 0
-Rise above [] last = above ≤ last
-Rise above (q ∷ qs) last = (above < q) × Rise q qs last
+abbrev pub RiseTo : ℕ → List ℕ → ℕ → Type 0
+RiseTo above [] last = above ≤ last
+RiseTo above (q ∷ qs) last = (above < q) × RiseTo q qs last
 
 -- A session keeps a machine, and the spaces of checkpoints: the numbers above those drawn are free, each process has its memory, no page
 -- awaits being shared, registers and state are kept of exactly those processes whose spaces are marked as speculating, and the spaces
@@ -35,10 +35,10 @@ pub record IsSession (machine : Machine) (spaces : List ℕ) (drawn : ℕ) : Typ
   pub no_space : (p : ℕ) → drawn < p → has_space machine p ≡ false
   pub no_process : (p : ℕ) → drawn < p → get machine.processes p ≡ None
   pub own_space : OwnSpaces machine
-  pub settled : (p : ℕ) → (space_in (spaces_of machine) p).awaiting ≡ empty
+  pub none_awaits : (p : ℕ) → (space_in (spaces_of machine) p).awaiting ≡ empty
   pub kept : (p : ℕ) → is_marked machine p ≡ has_saved machine p
-  pub free : AllByRecursion (IsFree machine) spaces
-  pub rise : Rise 0 spaces drawn
+  pub free : AllByRecursion (HasNoProcess machine) spaces
+  pub rise : RiseTo 0 spaces drawn
 
 -- each space without a process is as it was
 abbrev pub KeepsFree : Machine → Machine → Type 0
@@ -54,8 +54,8 @@ abbrev pub NoBreaksAbove : ℕ → Breaks → Type 0
 NoBreaksAbove drawn breakpoints = (p : ℕ) → drawn < p → get breakpoints p ≡ None
 
 -- the state that a machine shows, with these checkpoints and breakpoints, and so many numbers drawn
-abbrev pub state_of : Machine → List Checkpoint → Breaks → ℕ → State
-state_of machine checkpoints breakpoints drawn =
+abbrev pub session_state : Machine → List Checkpoint → Breaks → ℕ → State
+session_state machine checkpoints breakpoints drawn =
     record { wholes = wholes machine; checkpoints = checkpoints; breakpoints = breakpoints; drawn = drawn }
 
 -- The base of each space that is there: what it would be without its overlays. The state tells that of speculating processes alone.

@@ -166,8 +166,8 @@ begun_by order turns = record { order = order; turns = turns; taken = 0; last = 
 abbrev pub by_turns : ℕ → ℕ → Progress
 by_turns quantum turns = begun_by (ByTurns (record { quantum = quantum; last = None })) turns
 
-abbrev pub alone : ℕ → ℕ → Progress
-alone p turns = begun_by (Alone p) turns
+abbrev pub begun_alone : ℕ → ℕ → Progress
+begun_alone p turns = begun_by (Alone p) turns
 
 -- A run, and why it ended, where that was found.
 pub record InRun : Type 0 where
@@ -189,19 +189,19 @@ abbrev pub found_before : Breaks → Wholes → InRun → Option Stop
 found_before breaks state running = option_or running.stop (ending breaks state running.run)
 
 -- the run after a turn of p, which left this state
-abbrev pub run_turned : Breaks → Turn → ℕ → Wholes → Progress → InRun
-run_turned breaks turn.Stepped p state run = run_found breaks state (run_after p run)
-run_turned breaks (turn.Wrote written) p state run = run_found breaks state (run_after p run)
-run_turned breaks (turn.Exited code) p state run = run_found breaks state (run_after p run)
-run_turned breaks (turn.Faulted kind at) p state run = run_found breaks state (run_after p run)
-run_turned breaks (turn.Full units limit) p state run = record { run = run; stop = Some Full }
+abbrev pub run_altered : Breaks → Turn → ℕ → Wholes → Progress → InRun
+run_altered breaks turn.Stepped p state run = run_found breaks state (run_after p run)
+run_altered breaks (turn.Wrote written) p state run = run_found breaks state (run_after p run)
+run_altered breaks (turn.Exited code) p state run = run_found breaks state (run_after p run)
+run_altered breaks (turn.Faulted kind at) p state run = run_found breaks state (run_after p run)
+run_altered breaks (turn.Full units limit) p state run = record { run = run; stop = Some Full }
 
 abbrev pub TakesTurn : Breaks → Wholes → InRun → Option (ℕ × Turn) → Wholes → InRun → Type 0
 TakesTurn breaks old running None new after =
     (new ≡ old) × ((stop : Stop) × (found_before breaks old running ≡ Some stop) × (after ≡ record { run = running.run; stop = Some stop }))
 TakesTurn breaks old running (Some (p, turn)) new after =
     (found_before breaks old running ≡ None) × (next_of old running.run.order ≡ Some p) × (turn ≡ turn_of old p) × (new ≡ after_turn old p)
-    × (after ≡ run_turned breaks turn p new running.run)
+    × (after ≡ run_altered breaks turn p new running.run)
 
 -- What is left of a run in progress: nothing, where an ending was found.
 abbrev pub left_by : Option Stop → Breaks → Wholes → Progress → Ran Wholes

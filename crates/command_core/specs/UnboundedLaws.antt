@@ -8,7 +8,7 @@ use Rattle.ovl_io.specs.declared.turn.Turn.{Turn}
 use Rattle.ovl_io.specs.declared.turn.Turn.TheVariants as turn
 use Rattle.rv_execute.specs.Registers.{Registers}
 use Rattle.machine_core.specs.Process.{Process, is_speculating, runs}
-use Rattle.machine_core.specs.Machine.{Processes, Wholes, limit_of}
+use Rattle.machine_core.specs.Machine.{Processes, Wholes, unit_limit}
 use Rattle.machine_core.specs.Turns.{after_turn, guest_after, guest_of, guest_refused, guest_stepped, is_full, process_after, step_of, turn_in, turn_of, units_needed, with_guest}
 use Rattle.machine_core.specs.Ample.{is_full_turn, step_fits}
 use Rattle.report_text.specs.declared.answer.Answer.{Answer}
@@ -22,10 +22,10 @@ use Rattle.report_text.specs.FullLines.{AreWholeLines, answer_lines, answer_show
 use Rattle.script_text.specs.declared.command.Command.{Command}
 use Rattle.command_core.specs.declared.TheConstants.{WORD_BYTES}
 use Rattle.command_core.specs.State.{Registry, State, registry_of}
-use Rattle.command_core.specs.Rows.{Changed, MemoryTaken, Row, TakesFirst, TakesLast, TakesNone, accepts, change_by, event_needs, falls_short, first_refusal, is_full as is_row_full, may_want_memory, refuses, wants_by}
+use Rattle.command_core.specs.Rows.{Changed, MemoryTaken, Row, TakesFirst, TakesLast, TakesNone, accepts, change_by, event_needs, falls_short, first_refusal, row_is_full as is_row_full, may_want_memory, refuses, wants_by}
 use Rattle.command_core.specs.Changes.{change_row, load_row}
-use Rattle.command_core.specs.Turns.{Progress, Ran, alone, by_turns, event_then, first_event, last_break, next_of, ran, ran_by, ran_from, ran_text, rest_of, run_after, stopped, turns_by, unless_broken}
-use Rattle.command_core.specs.Commands.{Performed, change_told, checkpoint_text, checkpoints_text, disasm_text, dump_from, dump_text, exec_done, exec_turns, list_head, list_text, performed, performed_by, printed, prints_of, prints_read, process_text, processes_text, registers_from, regs_head, regs_of, regs_text, row_told, rules, stats_text, steps, takes_turns, told}
+use Rattle.command_core.specs.Turns.{Progress, Ran, begun_alone, by_turns, event_then, first_event, last_break, next_of, ran, ran_by, ran_from, ran_text, rest_of, run_after, stopped, turns_by, unless_broken}
+use Rattle.command_core.specs.Commands.{Performed, change_told, checkpoint_text, checkpoints_text, disasm_text, dump_from, dump_text, exec_done, exec_turns, list_head, list_text, performed, performed_by, text_printed, prints_of, prints_read, process_text, processes_text, registers_from, regs_head, regs_of, regs_text, row_told, rules, stats_text, steps, takes_turns, told}
 use Rattle.command_core.specs.CommandCases.{GoesBy, ByExec, ByRun, ByStep, ByList, ByStats, ByRegs, ByDump, ByDisasm, ByChange, goes_by, prints_counts}
 use Rattle.command_core.specs.Unbounded.{Unbounded, change_unbounded, does_row, after_step_of, step_among, takes_unbounded, unbounded, unbounded_turns, wants_unbounded}
 
@@ -58,12 +58,12 @@ data Found (state : Wholes) (p : ℕ) (o : Option Process) : Type 0 where
 module _ (state : Wholes) (p : ℕ) where
   by_full : (process : Process) (full : Bool) → is_full p (guest_of state process) ≡ full → Found state p (Some process)
   by_full process true is =
-      FullThere (units_needed p (guest_of state process)) (limit_of state.frames)
-      (ap (λ b. cond b (turn.Full (units_needed p (guest_of state process)) (limit_of state.frames)) (step_of p process).turn) is)
+      FullThere (units_needed p (guest_of state process)) (unit_limit state.frames)
+      (ap (λ b. cond b (turn.Full (units_needed p (guest_of state process)) (unit_limit state.frames)) (step_of p process).turn) is)
   by_full process false is =
       let guest = guest_of state process in
       StepThere
-      (ap (λ b. cond b (turn.Full (units_needed p guest) (limit_of state.frames)) (step_of p process).turn) is)
+      (ap (λ b. cond b (turn.Full (units_needed p guest) (unit_limit state.frames)) (step_of p process).turn) is)
       (step_fits p process)
       (ap (λ b. (with_guest state p (cond b (guest_refused p guest) (guest_stepped p guest))).processes) is)
 
@@ -217,7 +217,7 @@ module _ (counts : List (List ℕ)) (behind : List ℕ) where
   changed_by row state (Some code) full none = (record { answer_is = refl; left = refl }, not_wanted row.memory full)
   changed_by row state None false none = (record { answer_is = refl; left = refl }, refl)
   changed_by row state None true none =
-      let shown = answer_shows (event_needs row.event state.wholes) (limit_of state.wholes.frames) behind in
+      let shown = answer_shows (event_needs row.event state.wholes) (unit_limit state.wholes.frames) behind in
       let both : true ≡ false = sym shown ∙ none in
       cc
 
@@ -252,7 +252,7 @@ module _ (counts : List (List ℕ)) (behind : List ℕ) where
       }
 
   -- what is printed
-  same_printed : (text : List ℕ) (state : State) → PerformedSame counts (printed text state) (printed text (unbounded_of counts state))
+  same_printed : (text : List ℕ) (state : State) → PerformedSame counts (text_printed text state) (text_printed text (unbounded_of counts state))
   same_printed text state = record { text = refl; after = refl; wants = refl }
 
   same_refused : (code : Code) (state : State) → PerformedSame counts (told false (refuses code state)) (told false (refuses code (unbounded_of counts state)))
@@ -260,7 +260,7 @@ module _ (counts : List (List ℕ)) (behind : List ℕ) where
 
   same_exec_turns : (turns : ℕ) (answer : Answer) (state : State) → ShowsNoFull (exec_turns rules turns answer state) behind
       → PerformedSame counts (exec_turns rules turns answer state) (exec_turns unbounded turns answer (unbounded_of counts state))
-  same_exec_turns turns (Loaded p pages entry) state none = same_takes (alone p turns) state none
+  same_exec_turns turns (Loaded p pages entry) state none = same_takes (begun_alone p turns) state none
   same_exec_turns turns Done state none = same_printed [] state
   same_exec_turns turns (Forked p q) state none = same_printed [] state
   same_exec_turns turns (Saved p name space) state none = same_printed [] state
@@ -268,10 +268,10 @@ module _ (counts : List (List ℕ)) (behind : List ℕ) where
   same_exec_turns turns (Full units limit) state none = same_printed [] state
   same_exec_turns turns Memory state none = same_printed [] state
 
-  same_running : (p turns : ℕ) (state : State) (runs : Bool) → ShowsNoFull (cond runs (takes_turns (alone p turns) state) (told false (refuses Ended state))) behind
-      → PerformedSame counts (cond runs (takes_turns (alone p turns) state) (told false (refuses Ended state)))
-      (cond runs (takes_unbounded (alone p turns) (unbounded_of counts state)) (told false (refuses Ended (unbounded_of counts state))))
-  same_running p turns state true none = same_takes (alone p turns) state none
+  same_running : (p turns : ℕ) (state : State) (runs : Bool) → ShowsNoFull (cond runs (takes_turns (begun_alone p turns) state) (told false (refuses Ended state))) behind
+      → PerformedSame counts (cond runs (takes_turns (begun_alone p turns) state) (told false (refuses Ended state)))
+      (cond runs (takes_unbounded (begun_alone p turns) (unbounded_of counts state)) (told false (refuses Ended (unbounded_of counts state))))
+  same_running p turns state true none = same_takes (begun_alone p turns) state none
   same_running p turns state false none = same_refused Ended state
 
   same_steps : (p turns : ℕ) (o : Option Process) (state : State) → ShowsNoFull (steps rules p turns o state) behind
@@ -408,8 +408,8 @@ prints_lines : (address n : ℕ) (text : Contents → List ℕ) → ((memory : C
 prints_lines address n text each None state = answer_lines (Refused NoProcess)
 prints_lines address n text each (Some process) state = read_lines text each process.memory (first_denied process.memory 0 address n) state
 
-running_lines : (p turns : ℕ) (state : State) (runs : Bool) → AreWholeLines (cond runs (takes_turns (alone p turns) state) (told false (refuses Ended state))).text
-running_lines p turns state true = ran_lines (ran_from state.breakpoints state.wholes (alone p turns))
+running_lines : (p turns : ℕ) (state : State) (runs : Bool) → AreWholeLines (cond runs (takes_turns (begun_alone p turns) state) (told false (refuses Ended state))).text
+running_lines p turns state true = ran_lines (ran_from state.breakpoints state.wholes (begun_alone p turns))
 running_lines p turns state false = answer_lines (Refused Ended)
 
 steps_lines : (p turns : ℕ) (o : Option Process) (state : State) → AreWholeLines (steps rules p turns o state).text
@@ -417,7 +417,7 @@ steps_lines p turns None state = answer_lines (Refused NoProcess)
 steps_lines p turns (Some process) state = running_lines p turns state (runs process.state)
 
 exec_turns_lines : (turns : ℕ) (answer : Answer) (state : State) → AreWholeLines (exec_turns rules turns answer state).text
-exec_turns_lines turns (Loaded p pages entry) state = ran_lines (ran_from state.breakpoints state.wholes (alone p turns))
+exec_turns_lines turns (Loaded p pages entry) state = ran_lines (ran_from state.breakpoints state.wholes (begun_alone p turns))
 exec_turns_lines turns Done state = no_lines
 exec_turns_lines turns (Forked p q) state = no_lines
 exec_turns_lines turns (Saved p name space) state = no_lines

@@ -35,7 +35,7 @@ pub(crate) fn fork_refusal(state: ProcessState, speculating: bool, drawn: u16) -
 /// Gives space `q`, which was just made, a process. After want of memory the space is gone.
 fn adopt_or_drop(machine: &mut Machine, q: u16, process: Process) -> Result<(), SpaceError>
     requires space { has_space machine.old q ≡ true }
-    requires settled { (space_in (spaces_of machine.old) q).awaiting ≡ empty }
+    requires none_awaits { (space_in (spaces_of machine.old) q).awaiting ≡ empty }
     requires absent { get machine.old.processes q ≡ None }
     ensures { Adopts q process machine.old machine.new result }
 {
@@ -58,7 +58,7 @@ pub(crate) fn fork_process(
     process: Process,
 ) -> Result<(), SpaceError>
     requires there { has_space machine.old p ≡ true }
-    requires settled { (space_in (spaces_of machine.old) p).awaiting ≡ empty }
+    requires none_awaits { (space_in (spaces_of machine.old) p).awaiting ≡ empty }
     requires unmarked { (space_in (spaces_of machine.old) p).speculating ≡ false }
     requires number { (0 < q) × (q ≤ LAST_SPACE) }
     requires no_space { has_space machine.old q ≡ false }

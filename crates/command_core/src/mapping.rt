@@ -7,7 +7,7 @@ ghost use Rattle.overlay_memory.specs.View.{state_of};
 ghost use Rattle.space_maps.specs.Spaces.{holds_space, space_in};
 ghost use Rattle.machine_core.specs.Machine.{has_space, spaces_of};
 ghost use Rattle.command_core.specs.Changes.{CanBeTold};
-ghost use Rattle.command_core.specs.Mapping.{FindsGap, FindsPage, RefusesMap, RefusesUnmap};
+ghost use Rattle.command_core.specs.Mapping.{FindsGap, FindsMapped, RefusesMap, RefusesUnmap};
 ghost use Rattle.command_core.specs.Overlays.{ChangesOverlays};
 ghost use Rattle.command_core.specs.Refusals.{lie_outside};
 
@@ -39,7 +39,7 @@ fn address_of(page: u64) -> u64
 /// The lowest of the `n` pages from one on that is there.
 fn first_present(memory: &OverlayMemory, p: u16, page: u64, n: u32) -> Option<u64>
     requires low { page + n ≤ PAGE_END }
-    ensures { FindsPage (state_of memory.now) p page n result }
+    ensures { FindsMapped (state_of memory.now) p page n result }
 {
     match memory.next_page(p, page) {
         Some(found) => {
@@ -55,7 +55,7 @@ fn first_present(memory: &OverlayMemory, p: u16, page: u64, n: u32) -> Option<u6
 
 /// The lowest of the `n` pages from one on that isn't there.
 fn first_gap(memory: &OverlayMemory, p: u16, page: u64, n: u32) -> Option<u64>
-    requires settled { (space_in (state_of memory.now) p).awaiting ≡ empty }
+    requires none_awaits { (space_in (state_of memory.now) p).awaiting ≡ empty }
     requires low { page + n ≤ PAGE_END }
     ensures { FindsGap (state_of memory.now) p page n result }
 {
@@ -86,7 +86,7 @@ fn map_refusal(memory: &OverlayMemory, p: u16, address: u64, n: u32) -> Option<C
 
 /// Why `n` pages from an address on aren't given up in space `p`, of which no page awaits.
 fn unmap_refusal(memory: &OverlayMemory, p: u16, address: u64, n: u32) -> Option<Code>
-    requires settled { (space_in (state_of memory.now) p).awaiting ≡ empty }
+    requires none_awaits { (space_in (state_of memory.now) p).awaiting ≡ empty }
     ensures { RefusesUnmap (state_of memory.now) p address n result }
 {
     if memory.is_speculating(p) {
@@ -112,7 +112,7 @@ pub(crate) fn map_pages(
 ) -> Answer
     requires there { get machine.old.processes p ≡ Some process }
     requires space { has_space machine.old p ≡ true }
-    requires settled { (space_in (spaces_of machine.old) p).awaiting ≡ empty }
+    requires none_awaits { (space_in (spaces_of machine.old) p).awaiting ≡ empty }
     ensures done { ChangesOverlays p (OverlayChange.Map address n perms) process
         machine.old result machine.new }
     ensures told { CanBeTold result }
@@ -140,7 +140,7 @@ pub(crate) fn unmap_pages(
 ) -> Answer
     requires there { get machine.old.processes p ≡ Some process }
     requires space { has_space machine.old p ≡ true }
-    requires settled { (space_in (spaces_of machine.old) p).awaiting ≡ empty }
+    requires none_awaits { (space_in (spaces_of machine.old) p).awaiting ≡ empty }
     ensures done { ChangesOverlays p (OverlayChange.Unmap address n) process
         machine.old result machine.new }
     ensures told { CanBeTold result }

@@ -66,7 +66,7 @@ fn not_promoted(error: PromoteError, address: u64) -> Answer
 fn begin(machine: &mut Machine, p: u16, process: Process) -> Answer
     requires there { get machine.old.processes p ≡ Some process }
     requires space { has_space machine.old p ≡ true }
-    requires settled { (space_in (spaces_of machine.old) p).awaiting ≡ empty }
+    requires none_awaits { (space_in (spaces_of machine.old) p).awaiting ≡ empty }
     requires runs { process.state ≡ ProcessState.Running }
     ensures done { ChangesOverlays p OverlayChange.Speculate process machine.old result machine.new }
     ensures told { CanBeTold result }
@@ -93,7 +93,7 @@ fn begin(machine: &mut Machine, p: u16, process: Process) -> Answer
 fn speculate_process(machine: &mut Machine, p: u16, process: Process) -> Answer
     requires there { get machine.old.processes p ≡ Some process }
     requires space { has_space machine.old p ≡ true }
-    requires settled { (space_in (spaces_of machine.old) p).awaiting ≡ empty }
+    requires none_awaits { (space_in (spaces_of machine.old) p).awaiting ≡ empty }
     ensures done { ChangesOverlays p OverlayChange.Speculate process machine.old result machine.new }
     ensures told { CanBeTold result }
 {
@@ -167,7 +167,7 @@ fn discard_process(machine: &mut Machine, p: u16, process: Process) -> Answer
 fn promote_page(machine: &mut Machine, p: u16, process: Process, address: u64) -> Answer
     requires there { get machine.old.processes p ≡ Some process }
     requires space { has_space machine.old p ≡ true }
-    requires settled { (space_in (spaces_of machine.old) p).awaiting ≡ empty }
+    requires none_awaits { (space_in (spaces_of machine.old) p).awaiting ≡ empty }
     ensures done { ChangesOverlays p (OverlayChange.Promote address) process
         machine.old result machine.new }
     ensures told { CanBeTold result }
@@ -182,7 +182,7 @@ fn promote_page(machine: &mut Machine, p: u16, process: Process, address: u64) -
 fn promote_pages(machine: &mut Machine, p: u16, process: Process) -> Answer
     requires there { get machine.old.processes p ≡ Some process }
     requires space { has_space machine.old p ≡ true }
-    requires settled { (space_in (spaces_of machine.old) p).awaiting ≡ empty }
+    requires none_awaits { (space_in (spaces_of machine.old) p).awaiting ≡ empty }
     ensures done { ChangesOverlays p OverlayChange.PromoteAll process machine.old result machine.new }
     ensures told { CanBeTold result }
 {
@@ -231,7 +231,7 @@ pub(crate) fn change_overlays(
 ) -> Answer
     requires there { get machine.old.processes p ≡ Some process }
     requires space { has_space machine.old p ≡ true }
-    requires settled { (space_in (spaces_of machine.old) p).awaiting ≡ empty }
+    requires none_awaits { (space_in (spaces_of machine.old) p).awaiting ≡ empty }
     requires kept { is_marked machine.old p ≡ has_saved machine.old p }
     ensures done { ChangesOverlays p change process machine.old result machine.new }
     ensures told { CanBeTold result }

@@ -35,7 +35,7 @@ pub(crate) fn poke(
 ) -> Answer
     requires there { get machine.old.processes p ≡ Some process }
     requires space { has_space machine.old p ≡ true }
-    requires settled { (space_in (spaces_of machine.old) p).awaiting ≡ empty }
+    requires none_awaits { (space_in (spaces_of machine.old) p).awaiting ≡ empty }
     requires kept { is_marked machine.old p ≡ has_saved machine.old p }
     requires few { length bytes.now ≤ PAGE_BYTES }
     ensures done { MachineGives (poke_row p address bytes.now (whole_in (spaces_of machine.old) p process))

@@ -46,7 +46,7 @@ fn enter_or_drop(
     name: &Bytes,
 ) -> Result<Bytes, SpaceError>
     requires space { has_space machine.old q ≡ true }
-    requires settled { (space_in (spaces_of machine.old) q).awaiting ≡ empty }
+    requires none_awaits { (space_in (spaces_of machine.old) q).awaiting ≡ empty }
     requires free { get machine.old.processes q ≡ None }
     requires named { IsCheckpointName name.now }
     requires absent { kept_named name.now checkpoints.old ≡ None }
@@ -76,7 +76,7 @@ pub(crate) fn save_process(
     name: &Bytes,
 ) -> Result<Bytes, SpaceError>
     requires there { has_space machine.old p ≡ true }
-    requires settled { (space_in (spaces_of machine.old) p).awaiting ≡ empty }
+    requires none_awaits { (space_in (spaces_of machine.old) p).awaiting ≡ empty }
     requires unmarked { (space_in (spaces_of machine.old) p).speculating ≡ false }
     requires number { (0 < q) × (q ≤ LAST_SPACE) }
     requires no_space { has_space machine.old q ≡ false }
@@ -103,10 +103,10 @@ pub(crate) fn restore_process(
 ) -> Result<(), SpaceError>
     requires differ { q ≢ p }
     requires saved { has_space machine.old q ≡ true }
-    requires settled { (space_in (spaces_of machine.old) q).awaiting ≡ empty }
+    requires none_awaits { (space_in (spaces_of machine.old) q).awaiting ≡ empty }
     requires unmarked { (space_in (spaces_of machine.old) q).speculating ≡ false }
     requires there { has_space machine.old p ≡ true }
-    requires own_settled { (space_in (spaces_of machine.old) p).awaiting ≡ empty }
+    requires none_of_own_awaits { (space_in (spaces_of machine.old) p).awaiting ≡ empty }
     requires own_unmarked { (space_in (spaces_of machine.old) p).speculating ≡ false }
     requires found { is_some (get machine.old.processes p) ≡ true }
     ensures { CopiesProcess (Some p) q p process machine.old machine.new result }

@@ -7,7 +7,7 @@ ghost use Rattle.machine_core.specs.Executions.{after_executions, came_to_last, 
 ghost use Rattle.machine_core.specs.Turns.{after_asked, turn_asked};
 ghost use Rattle.command_core.specs.Sessions.{KeepsFree, OwnSpaces};
 ghost use Rattle.breakpoints.specs.Breakpoints.{addresses_of};
-ghost use Rattle.command_core.specs.Turns.{EndsRun, GoesOn, Speaks, TakesTurn, break_among, break_of, ending, ending_by, last_break, lines_left, next_of, rest_of, run_turned};
+ghost use Rattle.command_core.specs.Turns.{EndsRun, GoesOn, Speaks, TakesTurn, break_among, break_of, ending, ending_by, last_break, lines_left, next_of, rest_of, run_altered};
 
 use crate::turns::{Order, Running};
 use breakpoints::{Addresses, Breakpoints};
@@ -230,7 +230,7 @@ fn end_turn(
     turn: &Turn,
 )
     requires { running.old.run.taken < running.old.run.turns }
-    ensures { running.new ≡ run_turned breakpoints.now turn.now p (wholes machine.now) running.old.run }
+    ensures { running.new ≡ run_altered breakpoints.now turn.now p (wholes machine.now) running.old.run }
 {
     match turn {
         Turn::Full(_, _) => running.set_stop(Some(Stop::Full)),

@@ -6,7 +6,7 @@ use Rattle.byteorder.specs.Endian.{little_number}
 use Rattle.rv_decode.specs.Encodable.{IsEncodable}
 use Rattle.rv_decode.specs.Meaning.{meaning}
 use Rattle.rv_decode.specs.declared.instruction.Instr.{Instr}
-use Rattle.decoded_lines.specs.Decoded.{AreDecoded, AreFrom, AreOfLine, IsOfWord, word_of}
+use Rattle.decoded_lines.specs.Decoded.{AreDecoded, AreFrom, AreOfLine, IsOfWord, line_word}
 use Rattle.decoded_lines.specs.declared.TheConstants.{KEPT_LINES, LINE_WORDS}
 
 -- A line is decoded word by word.
@@ -15,26 +15,26 @@ use Rattle.decoded_lines.specs.declared.TheConstants.{KEPT_LINES, LINE_WORDS}
 pub record IsDecoding (slot : ℕ) (line : List ℕ) (old now : List (Option Instr)) (done : ℕ) : Type 0 where
   pub within : done ≤ LINE_WORDS
   pub all : length now ≡ length old
-  pub here : (place : ℕ) → place < done → IsOfWord (get_or now (LINE_WORDS * slot + place) None) (word_of line place)
+  pub here : (place : ℕ) → place < done → IsOfWord (get_or now (LINE_WORDS * slot + place) None) (line_word line place)
   pub beside : (at : ℕ) → (at < LINE_WORDS * slot) ⊎ (LINE_WORDS * slot + LINE_WORDS ≤ at) → get_or now at None ≡ get_or old at None
 
 pub decoding_none : (slot : ℕ) (line : List ℕ) (old : List (Option Instr)) → IsDecoding slot line old old 0
 decoding_none slot line old = record { within = omega arith; all = refl; here = λ place low. absurd (omega (arith, low)); beside = λ at out. refl }
 
 module _ (slot : ℕ) (line : List ℕ) (old now : List (Option Instr)) (done : ℕ) (so : IsDecoding slot line old now done) (low : done < LINE_WORDS) (inside : slot < KEPT_LINES)
-    (all : length old ≡ LINE_WORDS * KEPT_LINES) (i : Option Instr) (is : IsOfWord i (word_of line done)) where
+    (all : length old ≡ LINE_WORDS * KEPT_LINES) (i : Option Instr) (is : IsOfWord i (line_word line done)) where
   abbrev next : List (Option Instr)
   next = slice_set now (LINE_WORDS * slot + done) i
 
-  here_next : (place : ℕ) → place < done + 1 → IsOfWord (get_or next (LINE_WORDS * slot + place) None) (word_of line place)
+  here_next : (place : ℕ) → place < done + 1 → IsOfWord (get_or next (LINE_WORDS * slot + place) None) (line_word line place)
   here_next place below = by_order (cases_eq place done)
     where
-      by_order : (place ≡ done) ⊎ (place ≡ done → ⊥) → IsOfWord (get_or next (LINE_WORDS * slot + place) None) (word_of line place)
+      by_order : (place ≡ done) ⊎ (place ≡ done → ⊥) → IsOfWord (get_or next (LINE_WORDS * slot + place) None) (line_word line place)
       by_order (inl same) =
-          subst (λ n. IsOfWord (get_or next (LINE_WORDS * slot + n) None) (word_of line n)) (sym same)
-          (subst (λ o. IsOfWord o (word_of line done)) (sym (get_or-set_same now (LINE_WORDS * slot + done) i None (omega (arith, low, inside, all, so.all)))) is)
+          subst (λ n. IsOfWord (get_or next (LINE_WORDS * slot + n) None) (line_word line n)) (sym same)
+          (subst (λ o. IsOfWord o (line_word line done)) (sym (get_or-set_same now (LINE_WORDS * slot + done) i None (omega (arith, low, inside, all, so.all)))) is)
       by_order (inr other) =
-          subst (λ o. IsOfWord o (word_of line place)) (sym (get_or-set_other now (LINE_WORDS * slot + done) (LINE_WORDS * slot + place) i None (λ same. other (omega (arith, same)))))
+          subst (λ o. IsOfWord o (line_word line place)) (sym (get_or-set_other now (LINE_WORDS * slot + done) (LINE_WORDS * slot + place) i None (λ same. other (omega (arith, same)))))
           (so.here place (omega (arith, below, other)))
 
   beside_next : (at : ℕ) → (at < LINE_WORDS * slot) ⊎ (LINE_WORDS * slot + LINE_WORDS ≤ at) → get_or next at None ≡ get_or old at None
@@ -65,14 +65,14 @@ entered lines old now slot line are low long here beside = record {
     each : (k : ℕ) → k < KEPT_LINES → AreOfLine now k (get_or (slice_set lines slot line) k [])
     each k below place inside = by_slot (cases_eq k slot)
       where
-        by_slot : (k ≡ slot) ⊎ (k ≡ slot → ⊥) → IsOfWord (get_or now (LINE_WORDS * k + place) None) (word_of (get_or (slice_set lines slot line) k []) place)
+        by_slot : (k ≡ slot) ⊎ (k ≡ slot → ⊥) → IsOfWord (get_or now (LINE_WORDS * k + place) None) (line_word (get_or (slice_set lines slot line) k []) place)
         by_slot (inl same) =
-            subst (λ n. IsOfWord (get_or now (LINE_WORDS * n + place) None) (word_of (get_or (slice_set lines slot line) n []) place)) (sym same)
-            (subst (λ l. IsOfWord (get_or now (LINE_WORDS * slot + place) None) (word_of l place))
+            subst (λ n. IsOfWord (get_or now (LINE_WORDS * n + place) None) (line_word (get_or (slice_set lines slot line) n []) place)) (sym same)
+            (subst (λ l. IsOfWord (get_or now (LINE_WORDS * slot + place) None) (line_word l place))
             (sym (get_or-set_same lines slot line [] (omega (arith, low, are.count)))) (here place inside))
         by_slot (inr other) =
-            subst (λ l. IsOfWord (get_or now (LINE_WORDS * k + place) None) (word_of l place)) (sym (get_or-set_other lines slot k line [] other))
-            (subst (λ o. IsOfWord o (word_of (get_or lines k []) place)) (sym (beside (LINE_WORDS * k + place) (apart (cases_order k slot)))) (are.each k below place inside))
+            subst (λ l. IsOfWord (get_or now (LINE_WORDS * k + place) None) (line_word l place)) (sym (get_or-set_other lines slot k line [] other))
+            (subst (λ o. IsOfWord o (line_word (get_or lines k []) place)) (sym (beside (LINE_WORDS * k + place) (apart (cases_order k slot)))) (are.each k below place inside))
           where
             apart : (k ≡ slot) ⊎ ((k < slot) ⊎ (slot < k)) → (LINE_WORDS * k + place < LINE_WORDS * slot) ⊎ (LINE_WORDS * slot + LINE_WORDS ≤ LINE_WORDS * k + place)
             apart (inl same) = absurd (other same)
@@ -86,7 +86,7 @@ zeros_behind zero m = let same : m ≡ m - 0 = omega arith in ap (λ n. replicat
 zeros_behind (suc k) zero = let none : 0 ≡ 0 - suc k = omega arith in ap (λ n. replicate {A = ℕ} n 0) none
 zeros_behind (suc k) (suc m) = let same : m - k ≡ suc m - suc k = omega arith in zeros_behind k m ∙ ap (λ n. replicate {A = ℕ} n 0) same
 
-zero_word : (place : ℕ) → place < LINE_WORDS → word_of (replicate {A = ℕ} 64 0) place ≡ 0
+zero_word : (place : ℕ) → place < LINE_WORDS → line_word (replicate {A = ℕ} 64 0) place ≡ 0
 zero_word place low =
     let four : 64 - 4 * place ≡ suc (suc (suc (suc (60 - 4 * place)))) = omega (arith, low) in
     ap (λ l. little_number 4 (take 4 l)) (zeros_behind (4 * place) 64 ∙ ap (λ n. replicate {A = ℕ} n 0) four)
@@ -96,14 +96,14 @@ none_entered i means encodable = record {
   count = length-replicate KEPT_LINES (replicate {A = ℕ} 64 0);
   all = length-replicate (LINE_WORDS * KEPT_LINES) i;
   each = λ slot low place inside.
-      subst (λ o. IsOfWord o (word_of (get_or (replicate KEPT_LINES (replicate {A = ℕ} 64 0)) slot []) place))
+      subst (λ o. IsOfWord o (line_word (get_or (replicate KEPT_LINES (replicate {A = ℕ} 64 0)) slot []) place))
       (sym (get_or-replicate (LINE_WORDS * KEPT_LINES) (LINE_WORDS * slot + place) i None (omega (arith, low, inside))))
-      (subst (λ l. IsOfWord i (word_of l place)) (sym (get_or-replicate KEPT_LINES slot (replicate {A = ℕ} 64 0) [] low))
+      (subst (λ l. IsOfWord i (line_word l place)) (sym (get_or-replicate KEPT_LINES slot (replicate {A = ℕ} 64 0) [] low))
       (record { means = means ∙ ap meaning (sym (zero_word place inside)); encodable = encodable }));
 }
 
 -- a word as it is read
-pub word_at : (line : List ℕ) (place : ℕ) → little_number 4 (take (4 * place + 4 - 4 * place) (drop (4 * place) line)) ≡ word_of line place
+pub word_at : (line : List ℕ) (place : ℕ) → little_number 4 (take (4 * place + 4 - 4 * place) (drop (4 * place) line)) ≡ line_word line place
 word_at line place = let four : 4 * place + 4 - 4 * place ≡ 4 = omega arith in ap (λ n. little_number 4 (take n (drop (4 * place) line))) four
 
 -- so many lines, all zero
@@ -119,7 +119,7 @@ words_behind lines instructions word are k inside =
     let first : ℕ = word % (LINE_WORDS * KEPT_LINES) in
     let slot : ℕ = word / LINE_WORDS % KEPT_LINES in
     let at : LINE_WORDS * slot + (word % LINE_WORDS + k) ≡ first + k = omega arith in
-    subst (λ o. IsOfWord o (word_of (get_or lines slot []) (word % LINE_WORDS + k)))
+    subst (λ o. IsOfWord o (line_word (get_or lines slot []) (word % LINE_WORDS + k)))
     (ap (λ n. get_or instructions n None) at ∙ sym (get_or-drop first instructions k None)
     ∙ sym (get_or-take (first + (LINE_WORDS - word % LINE_WORDS) - first) (drop first instructions) k None (omega (arith, inside))))
     (are.each slot (omega arith) (word % LINE_WORDS + k) inside)

@@ -7,7 +7,7 @@ use Rattle.std.proofs.lemmas.List.Sorted.{list_any-IsPermutation}
 use Rattle.std.proofs.lemmas.List.FromFn.{length-map-range_with_len}
 use Rattle.std.proofs.lemmas.List.Elements.{filter_agree}
 use Rattle.ovl_io.specs.Permissions.{readable, writable, executable}
-use Rattle.elf_loader.specs.Image.{page_numbers, touches_memory, touches_file, pages_in, page_in}
+use Rattle.elf_loader.specs.Image.{page_numbers, touches_memory, touches_file, pages_in, page_given}
 use Rattle.elf_loader.specs.Reach.{page_at, IsBelowStack, IsTooMany}
 use Rattle.elf_loader.specs.declared.image.ImagePage.{ImagePage}
 use Rattle.elf_loader.specs.declared.image.ElfError.{ElfError}
@@ -30,7 +30,7 @@ same_page page p q s t h k = λ i. record { page = page; perms = record { 0 = h 
 
 -- the reach of the segments that begin in or before a page tells the page
 page_is : (headers : List ProgramHeader) (i page : ℕ) (reach : Reach) → All IsBelowStack headers → Splits headers i page → IsReachOf (take i headers) reach
-    → page_at reach page ≡ page_in headers page
+    → page_at reach page ≡ page_given headers page
 page_is headers i page reach below at is =
     same_page page _ _ _ _
     (three_same _ _ _ _ _ _ (sym (some_with readable headers i page reach.read at is.read)) (sym (some_with writable headers i page reach.write at is.write))
@@ -38,7 +38,7 @@ page_is headers i page reach below at is =
     (sym (some_stored headers i page reach.file below at is.file))
 
 -- the order of the segments makes no difference to a page
-same_pages : (xs ys : List ProgramHeader) → IsPermutation xs ys → (page : ℕ) → page_in ys page ≡ page_in xs page
+same_pages : (xs ys : List ProgramHeader) → IsPermutation xs ys → (page : ℕ) → page_given ys page ≡ page_given xs page
 same_pages xs ys moved page =
     same_page page _ _ _ _
     (perms_in_is ys page
@@ -55,8 +55,8 @@ same_numbers xs ys moved =
     filter_agree (λ page. list_any (touches_memory page) ys) (λ page. list_any (touches_memory page) xs)
     (λ page. sym (list_any-IsPermutation (touches_memory page) xs ys moved)) (range_with_len 0 page_numbers)
 
-pub same_image : (xs ys : List ProgramHeader) → IsPermutation xs ys → map (page_in ys) (pages_in ys) ≡ map (page_in xs) (pages_in xs)
-same_image xs ys moved = ap (map (page_in ys)) (same_numbers xs ys moved) ∙ map_agree (page_in ys) (page_in xs) (pages_in xs) (same_pages xs ys moved)
+pub same_image : (xs ys : List ProgramHeader) → IsPermutation xs ys → map (page_given ys) (pages_in ys) ≡ map (page_given xs) (pages_in xs)
+same_image xs ys moved = ap (map (page_given ys)) (same_numbers xs ys moved) ∙ map_agree (page_given ys) (page_given xs) (pages_in xs) (same_pages xs ys moved)
 
 pub same_count : (xs ys : List ProgramHeader) → IsPermutation xs ys → length (pages_in ys) ≡ length (pages_in xs)
 same_count xs ys moved = ap length (same_numbers xs ys moved)
@@ -78,20 +78,20 @@ touched_more headers i from to reach gap =
 
 -- the pages of the gap behind those before it
 pub filled : (headers : List ProgramHeader) (i from to : ℕ) (reach : Reach) (old : List ImagePage) → Gap headers i from to reach
-    → old ≡ map (page_in headers) (touched_below headers from)
-    → old ++ map (page_at reach) (range_with_len from (min to reach.memory - from)) ≡ map (page_in headers) (touched_below headers to)
+    → old ≡ map (page_given headers) (touched_below headers from)
+    → old ++ map (page_at reach) (range_with_len from (min to reach.memory - from)) ≡ map (page_given headers) (touched_below headers to)
 filled headers i from to reach old gap so_far =
     let ascends = gap.ascends in
     let k = min to reach.memory - from in
     ap (λ pages. pages ++ map (page_at reach) (range_with_len from k)) so_far
-    ∙ ap (λ pages. map (page_in headers) (touched_below headers from) ++ pages)
-    (map_range_agree (page_at reach) (page_in headers) from k (λ q low high. page_is headers i q reach gap.below (gap.splits q low (omega arith)) gap.is))
-    ∙ sym (map-append (page_in headers) (touched_below headers from) (range_with_len from k))
-    ∙ ap (map (page_in headers)) (sym (touched_more headers i from to reach gap))
+    ∙ ap (λ pages. map (page_given headers) (touched_below headers from) ++ pages)
+    (map_range_agree (page_at reach) (page_given headers) from k (λ q low high. page_is headers i q reach gap.below (gap.splits q low (omega arith)) gap.is))
+    ∙ sym (map-append (page_given headers) (touched_below headers from) (range_with_len from k))
+    ∙ ap (map (page_given headers)) (sym (touched_more headers i from to reach gap))
 
 -- how many pages there would be
 pub fewer : (headers : List ProgramHeader) (i from to : ℕ) (reach : Reach) (old : List ImagePage) → Gap headers i from to reach
-    → old ≡ map (page_in headers) (touched_below headers from) → to ≤ page_numbers
+    → old ≡ map (page_given headers) (touched_below headers from) → to ≤ page_numbers
     → length old + (min to reach.memory - from) ≤ length (pages_in headers)
 fewer headers i from to reach old gap so_far within =
     let same = ap length (filled headers i from to reach old gap so_far) in
@@ -101,7 +101,7 @@ fewer headers i from to reach old gap so_far within =
       same,
       length-append old (map (page_at reach) (range_with_len from k)),
       length-map-range_with_len (page_at reach) from k,
-      length-map (touched_below headers to) (page_in headers),
+      length-map (touched_below headers to) (page_given headers),
       filter_fewer (λ page. list_any (touches_memory page) headers) to page_numbers within,
     )
 

@@ -2,7 +2,7 @@ use Rattle.std.proofs.Common.{◌≡◌, ℕ, ◌+◌, ◌-◌, ◌*◌, ◌<◌
 use Rattle.std.proofs.lemmas.Bool.Decides.{nat_tests}
 use Rattle.std.proofs.lemmas.List.{drop_more}
 use Rattle.std.specs.Option.{option_map_or}
-use Rattle.elf_loader.specs.Image.{holds, fills}
+use Rattle.elf_loader.specs.Image.{file_holds, fills}
 use Rattle.elf_loader.specs.Layers.{no_header, last_among}
 use Rattle.elf_loader.specs.declared.header.ProgramHeader.{ProgramHeader}
 
@@ -19,7 +19,7 @@ held page address start size fills low high = grind (arith, nat_tests)
 
 -- a header that fills a page holds each address in it
 pub held_by : (header : ProgramHeader) (page address : ℕ) → fills page header ≡ true → 4096 * page ≤ address → address < 4096 * page + 4096
-    → holds header address ≡ true
+    → file_holds header address ≡ true
 held_by header page address f low high = held page address header.address header.file_size f low high
 
 -- the file's byte at an address, of the segment that holds it; else 0
@@ -36,13 +36,13 @@ chosen file address false header last = refl
 pub laid_more : (loads : List ProgramHeader) (layers : List ℕ) (left : ℕ) (file old new : List ℕ) (page : ℕ) → left < length layers
     → ((i : ℕ) → i < 4096 → get_or old i 0 ≡ byte_by file (4096 * page + i) (last_among loads (drop (left + 1) layers) (4096 * page + i)))
     → ((i : ℕ) → i < 4096 → get_or new i 0
-    ≡ cond (holds (get_or loads (get_or layers left 0) no_header) (4096 * page + i))
+    ≡ cond (file_holds (get_or loads (get_or layers left 0) no_header) (4096 * page + i))
     (slice_index file ((get_or loads (get_or layers left 0) no_header).offset + (4096 * page + i - (get_or loads (get_or layers left 0) no_header).address))) (get_or old i 0))
     → (i : ℕ) → i < 4096 → get_or new i 0 ≡ byte_by file (4096 * page + i) (last_among loads (drop left layers) (4096 * page + i))
 laid_more loads layers left file old new page within before laid i in_page =
     let header = get_or loads (get_or layers left 0) no_header in
     let address = 4096 * page + i in
     laid i in_page
-    ∙ ap (λ (b : ℕ). cond (holds header address) (slice_index file (header.offset + (address - header.address))) b) (before i in_page)
-    ∙ sym (chosen file address (holds header address) header (last_among loads (drop (left + 1) layers) address))
+    ∙ ap (λ (b : ℕ). cond (file_holds header address) (slice_index file (header.offset + (address - header.address))) b) (before i in_page)
+    ∙ sym (chosen file address (file_holds header address) header (last_among loads (drop (left + 1) layers) address))
     ∙ ap (λ ls. byte_by file address (last_among loads ls address)) (sym (drop_more layers left 0 within))

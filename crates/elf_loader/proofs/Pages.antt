@@ -7,7 +7,7 @@ use Rattle.std.proofs.lemmas.List.Kept.{IsNonDecreasingBy-filter}
 use Rattle.std.proofs.lemmas.List.FromFn.{length-map-range_with_len, get_or-map-range_with_len, length-range_with_len, get_or-range_with_len}
 use Rattle.std.proofs.lemmas.List.Elements.{All-filter}
 use Rattle.elf_loader.specs.Fields.{loads_of}
-use Rattle.elf_loader.specs.Image.{page_numbers, page_length, image_pages, page_bytes, byte_in, listed_page, page_in, pages_in, touches_memory, Kept, IsImageOf}
+use Rattle.elf_loader.specs.Image.{page_numbers, page_length, image_pages, page_bytes, byte_in, listed_page, page_given, pages_in, touches_memory, Kept, IsImageOf}
 use Rattle.elf_loader.specs.Layers.{AreAscending, page_number, number_of, no_page}
 use Rattle.elf_loader.specs.declared.header.ProgramHeader.{ProgramHeader}
 use Rattle.elf_loader.specs.declared.image.ImagePage.{ImagePage}
@@ -59,23 +59,23 @@ rising i j d low within =
     omega arith
 
 -- the pages that segments touch are page numbers, ascending
-pub ascending_in : (headers : List ProgramHeader) → AreAscending (map (page_in headers) (pages_in headers))
+pub ascending_in : (headers : List ProgramHeader) → AreAscending (map (page_given headers) (pages_in headers))
 ascending_in headers =
     let numbers = pages_in headers in
-    let len = length-map numbers (page_in headers) in
+    let len = length-map numbers (page_given headers) in
     record {
       sorted = λ i j d low within.
-          let first : page_number (get_or (map (page_in headers) numbers) i d) ≡ get_or numbers i 0 = ap page_number (get_or-map (page_in headers) numbers i 0 d (omega arith)) in
-          let second : page_number (get_or (map (page_in headers) numbers) j d) ≡ get_or numbers j 0 = ap page_number (get_or-map (page_in headers) numbers j 0 d (omega arith)) in
+          let first : page_number (get_or (map (page_given headers) numbers) i d) ≡ get_or numbers i 0 = ap page_number (get_or-map (page_given headers) numbers i 0 d (omega arith)) in
+          let second : page_number (get_or (map (page_given headers) numbers) j d) ≡ get_or numbers j 0 = ap page_number (get_or-map (page_given headers) numbers j 0 d (omega arith)) in
           let up : get_or numbers i 0 ≤ get_or numbers j 0 = IsNonDecreasingBy-filter (λ q. q) (λ page. list_any (touches_memory page) headers) (range_with_len 0 page_numbers) rising i j 0 low (omega arith) in
           omega arith;
       low = λ p within.
-          let it : number_of (map (page_in headers) numbers) p ≡ get_or numbers p 0 = ap page_number (get_or-map (page_in headers) numbers p 0 no_page (omega arith)) in
+          let it : number_of (map (page_given headers) numbers) p ≡ get_or numbers p 0 = ap page_number (get_or-map (page_given headers) numbers p 0 no_page (omega arith)) in
           let below : get_or numbers p 0 < page_numbers = All-filter (λ page. list_any (touches_memory page) headers) (λ q. q < page_numbers) (range_with_len 0 page_numbers) below_all p 0 (omega arith) in
           omega arith;
     }
 
-pub ascending : (headers : List ProgramHeader) (pages : List ImagePage) → pages ≡ map (page_in headers) (pages_in headers) → AreAscending pages
+pub ascending : (headers : List ProgramHeader) (pages : List ImagePage) → pages ≡ map (page_given headers) (pages_in headers) → AreAscending pages
 ascending headers pages is = subst AreAscending (sym is) (ascending_in headers)
 
 pub ascending_of : (file : List ℕ) (image : Kept) → IsImageOf file image → AreAscending image.pages

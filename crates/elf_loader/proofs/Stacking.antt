@@ -5,7 +5,7 @@ use Rattle.std.proofs.lemmas.Bool.{cases_lt, cases_eq}
 use Rattle.std.proofs.lemmas.Bool.Decides.{nat_tests}
 use Rattle.std.proofs.lemmas.List.{drop_more, drop_all, map_push, length_push, get_or_push, get_or_append_left, map-set, get_or-map, get_or-set_same, length-map}
 use Rattle.std.proofs.lemmas.List.Elements.{All-cons, All-nil, All-append}
-use Rattle.elf_loader.specs.Image.{holds, fills, last_holding}
+use Rattle.elf_loader.specs.Image.{file_holds, fills, last_holding}
 use Rattle.elf_loader.specs.Layers.{last_among, no_header, Layered, IsApart, Skips, Starts, IsLaid, HasLayers, number_of, items_of}
 use Rattle.elf_loader.specs.declared.header.ProgramHeader.{ProgramHeader}
 use Rattle.elf_loader.specs.declared.image.ImagePage.{ImagePage}
@@ -16,15 +16,15 @@ use Rattle.elf_loader.proofs.Holding.{or_later, held_by}
 
 -- the header at a place, where it holds an address
 abbrev held_at : List ProgramHeader → ℕ → ℕ → Option ProgramHeader
-held_at loads k a = cond (holds (get_or loads k no_header) a) (Some (get_or loads k no_header)) None
+held_at loads k a = cond (file_holds (get_or loads k no_header) a) (Some (get_or loads k no_header)) None
 
 -- one more below the others
 among_more : (loads : List ProgramHeader) (places : List ℕ) (k a : ℕ)
     → last_among loads (places ++ k ∷ []) a ≡ option_map_or Some (last_among loads places a) (held_at loads k a)
 among_more loads [] k a = refl
 among_more loads (place ∷ places) k a =
-    ap (λ (o : Option ProgramHeader). cond (holds (get_or loads place no_header) a) (Some (get_or loads place no_header)) o) (among_more loads places k a)
-    ∙ sym (or_later (holds (get_or loads place no_header) a) (get_or loads place no_header) (last_among loads places a) (held_at loads k a))
+    ap (λ (o : Option ProgramHeader). cond (file_holds (get_or loads place no_header) a) (Some (get_or loads place no_header)) o) (among_more loads places k a)
+    ∙ sym (or_later (file_holds (get_or loads place no_header) a) (get_or loads place no_header) (last_among loads places a) (held_at loads k a))
 
 holding_more : (loads : List ProgramHeader) (k a : ℕ) → k < length loads
     → last_holding (drop k loads) a ≡ option_map_or Some (last_holding (drop (k + 1) loads) a) (held_at loads k a)

@@ -104,10 +104,10 @@ unfoldable pub page_refusals : List ℕ → List Refusal
 page_refusals file = record { holds = nat_lt MOST_IMAGE_PAGES (length (image_pages file)); error = TooManyPages } ∷ []
 
 -- the first refusal that holds
-abbrev pub first_of : List Refusal → Option ElfError
-first_of [] = None
-first_of (refusal ∷ refusals) = if refusal.holds then Some refusal.error else first_of refusals
+abbrev pub first_error : List Refusal → Option ElfError
+first_error [] = None
+first_error (refusal ∷ refusals) = if refusal.holds then Some refusal.error else first_error refusals
 
 -- why a file isn't taken
 unfoldable pub file_refusal : List ℕ → Option ElfError
-file_refusal file = first_of (header_refusals file ++ table_refusals file ++ page_refusals file)
+file_refusal file = first_error (header_refusals file ++ table_refusals file ++ page_refusals file)

@@ -19,8 +19,8 @@ machine file = number_at file 18 2
 abbrev pub version : List ℕ → ℕ
 version file = number_at file 20 4
 
-abbrev pub entry_of : List ℕ → ℕ
-entry_of file = number_at file 24 8
+abbrev pub entry_address : List ℕ → ℕ
+entry_address file = number_at file 24 8
 
 abbrev pub table_offset : List ℕ → ℕ
 table_offset file = number_at file 32 8

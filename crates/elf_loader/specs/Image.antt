@@ -5,7 +5,7 @@ use Rattle.std.specs.Int.RustNames.{bit_and, bit_or}
 use Rattle.sizes.specs.declared.TheConstants.{PAGE_BYTES}
 use Rattle.ovl_io.specs.Permissions.{readable, writable, permits}
 use Rattle.ovl_io.specs.Memory.{Page}
-use Rattle.elf_loader.specs.Fields.{entry_of, loads_of}
+use Rattle.elf_loader.specs.Fields.{entry_address, loads_of}
 use Rattle.elf_loader.specs.Accepted.{file_refusal}
 unfoldable pub use Rattle.elf_loader.specs.Touched.{page_numbers, touches, touches_memory, touches_file, pages_in, image_pages}
 use Rattle.elf_loader.specs.declared.header.ProgramHeader.{ProgramHeader}
@@ -21,8 +21,8 @@ unfoldable pub page_length : ℕ
 page_length = PAGE_BYTES
 
 -- whether an address is in a header's file range
-abbrev pub holds : ProgramHeader → ℕ → Bool
-holds header address = nat_le header.address address && nat_lt address (header.address + header.file_size)
+abbrev pub file_holds : ProgramHeader → ℕ → Bool
+file_holds header address = nat_le header.address address && nat_lt address (header.address + header.file_size)
 
 -- whether all of a page is in a header's file range
 abbrev pub fills : ℕ → ProgramHeader → Bool
@@ -32,7 +32,7 @@ fills page header = nat_le header.address (PAGE_BYTES * page) && nat_le (PAGE_BY
 abbrev pub last_holding : List ProgramHeader → ℕ → Option ProgramHeader
 last_holding [] address = None
 last_holding (header ∷ headers) address =
-    option_map_or Some (last_holding headers address) (if holds header address then Some header else None)
+    option_map_or Some (last_holding headers address) (if file_holds header address then Some header else None)
 
 -- the byte at an address: the file's byte of the last segment to hold it, else 0
 abbrev pub byte_in : List ProgramHeader → List ℕ → ℕ → ℕ
@@ -69,8 +69,8 @@ pub record Kept : Type 0 where
   pub loads : List ProgramHeader
 
 -- a page as some segments give it
-abbrev pub page_in : List ProgramHeader → ℕ → ImagePage
-page_in headers page = record {
+abbrev pub page_given : List ProgramHeader → ℕ → ImagePage
+page_given headers page = record {
   page = page;
   perms = record { 0 = perms_in headers page };
   stored = list_any (touches_file page) headers;
@@ -78,15 +78,15 @@ page_in headers page = record {
 
 -- all pages that some segments touch
 abbrev pub all_pages : List ProgramHeader → List ImagePage
-all_pages headers = map (page_in headers) (pages_in headers)
+all_pages headers = map (page_given headers) (pages_in headers)
 
 abbrev pub listed_page : List ℕ → ℕ → ImagePage
-listed_page file page = page_in (loads_of file) page
+listed_page file page = page_given (loads_of file) page
 
 -- what is kept is the image of a file
 pub record IsImageOf (file : List ℕ) (image : Kept) : Type 0 where
   pub taken : file_refusal file ≡ None
-  pub entry : image.entry ≡ entry_of file
+  pub entry : image.entry ≡ entry_address file
   pub pages : image.pages ≡ map (listed_page file) (image_pages file)
   pub loads : image.loads ≡ loads_of file
 

@@ -2,7 +2,7 @@ use Rattle.std.specs.Prelude.{◌≡◌, ℕ, ◌+◌, ◌*◌, ◌<◌, ◌≤�
 use Rattle.std.specs.List.Sorted.{IsNonDecreasingBy}
 use Rattle.std.specs.Global.{Vec}
 use Rattle.sizes.specs.declared.TheConstants.{PAGE_BYTES}
-use Rattle.elf_loader.specs.Image.{holds, last_holding, byte_in, page_length}
+use Rattle.elf_loader.specs.Image.{file_holds, last_holding, byte_in, page_length}
 use Rattle.elf_loader.specs.Touched.{page_numbers}
 use Rattle.elf_loader.specs.declared.header.ProgramHeader.{ProgramHeader}
 use Rattle.elf_loader.specs.declared.image.ImagePage.{ImagePage}
@@ -19,7 +19,7 @@ no_header = record { kind = 0; flags = 0; offset = 0; address = 0; file_size = 0
 abbrev pub last_among : List ProgramHeader → List ℕ → ℕ → Option ProgramHeader
 last_among loads [] address = None
 last_among loads (place ∷ places) address =
-    if holds (get_or loads place no_header) address then Some (get_or loads place no_header) else last_among loads places address
+    if file_holds (get_or loads place no_header) address then Some (get_or loads place no_header) else last_among loads places address
 
 -- The segments at these places give a page the bytes that all segments from one on give it; where the page is full they give
 -- each of its bytes.
@@ -30,7 +30,7 @@ pub record Layered (loads : List ProgramHeader) (from page : ℕ) (places : List
 
 -- a segment holds no address of a page
 abbrev pub IsApart : ProgramHeader → ℕ → Type 0
-IsApart header page = (a : ℕ) → PAGE_BYTES * page ≤ a → a < PAGE_BYTES * page + PAGE_BYTES → holds header a ≡ false
+IsApart header page = (a : ℕ) → PAGE_BYTES * page ≤ a → a < PAGE_BYTES * page + PAGE_BYTES → file_holds header a ≡ false
 
 -- no page, where a list is read past its end
 abbrev pub no_page : ImagePage
@@ -108,8 +108,8 @@ abbrev pub StaysFull : Stack → Stack → Type 0
 StaysFull old new = (p : ℕ) → get_or old.full.items p false ≡ true → get_or new.full.items p false ≡ true
 
 -- a segment holds no address of the pages outside these places
-abbrev pub IsWithin : ProgramHeader → List ImagePage → ℕ → ℕ → Type 0
-IsWithin header pages from to = (p : ℕ) → p < length pages → (p < from) ⊎ (to ≤ p) → IsApart header (number_of pages p)
+abbrev pub LiesWithin : ProgramHeader → List ImagePage → ℕ → ℕ → Type 0
+LiesWithin header pages from to = (p : ℕ) → p < length pages → (p < from) ⊎ (to ≤ p) → IsApart header (number_of pages p)
 
 -- lists of places with one place more in one of them
 abbrev pub one_layer_more : List (List ℕ) → ℕ → ℕ → List (List ℕ)

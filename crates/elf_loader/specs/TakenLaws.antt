@@ -7,8 +7,8 @@ use Rattle.std.specs.Option.{option_map_or}
 use Rattle.sizes.specs.declared.TheConstants.{PAGE_BYTES, STACK_PAGE, MOST_IMAGE_PAGES}
 use Rattle.elf_loader.specs.Fields.{loads_of}
 use Rattle.elf_loader.specs.Touched.{image_pages, page_numbers}
-use Rattle.elf_loader.specs.Accepted.{Refusal, first_of, file_refusal, header_refusals, table_refusals, page_refusals, is_too_high}
-use Rattle.elf_loader.specs.Image.{touches_memory, touches_file, holds, last_holding, byte_in, is_stored, page_bytes, page_length}
+use Rattle.elf_loader.specs.Accepted.{Refusal, first_error, file_refusal, header_refusals, table_refusals, page_refusals, is_too_high}
+use Rattle.elf_loader.specs.Image.{touches_memory, touches_file, file_holds, last_holding, byte_in, is_stored, page_bytes, page_length}
 use Rattle.elf_loader.specs.declared.header.ProgramHeader.{ProgramHeader}
 use Rattle.elf_loader.specs.declared.image.ElfError.{ElfError}
 use Rattle.elf_loader.specs.declared.image.ElfError.TheVariants.{TooManyPages}
@@ -20,10 +20,10 @@ unless_first : (b : Bool) (error : ElfError) (rest : Option ElfError) → cond b
 unless_first true error rest h = cc
 unless_first false error rest h = (refl, h)
 
-none_holds : (refusals : List Refusal) (k : ℕ) (d : Refusal) → first_of refusals ≡ None → k < length refusals → (get_or refusals k d).holds ≡ false
+none_holds : (refusals : List Refusal) (k : ℕ) (d : Refusal) → first_error refusals ≡ None → k < length refusals → (get_or refusals k d).holds ≡ false
 none_holds [] k d h below = absurd (omega arith)
-none_holds (r ∷ refusals) zero d h below = (unless_first r.holds r.error (first_of refusals) h).0
-none_holds (r ∷ refusals) (suc k) d h below = none_holds refusals k d (unless_first r.holds r.error (first_of refusals) h).1 (omega arith)
+none_holds (r ∷ refusals) zero d h below = (unless_first r.holds r.error (first_error refusals) h).0
+none_holds (r ∷ refusals) (suc k) d h below = none_holds refusals k d (unless_first r.holds r.error (first_error refusals) h).1 (omega arith)
 
 -- it has no more pages than an image may have: the last of the refusals doesn't hold
 pub few_pages : (file : List ℕ) → file_refusal file ≡ None → length (image_pages file) ≤ MOST_IMAGE_PAGES
@@ -83,7 +83,7 @@ low_page file i taken below =
     low_any (get_or (image_pages file) i 0) (loads_of file) passes (none_high file taken)
 
 -- a page that no file range touches is zero
-holds_touches : (header : ProgramHeader) (page i : ℕ) → touches_file page header ≡ false → i < PAGE_BYTES → holds header (PAGE_BYTES * page + i) ≡ false
+holds_touches : (header : ProgramHeader) (page i : ℕ) → touches_file page header ≡ false → i < PAGE_BYTES → file_holds header (PAGE_BYTES * page + i) ≡ false
 holds_touches header page i untouched within = grind (arith, nat_tests, untouched, within)
 
 none_holding : (headers : List ProgramHeader) (page i : ℕ) → list_any (touches_file page) headers ≡ false → i < PAGE_BYTES
@@ -91,7 +91,7 @@ none_holding : (headers : List ProgramHeader) (page i : ℕ) → list_any (touch
 none_holding [] page i untouched within = refl
 none_holding (header ∷ headers) page i untouched within =
     let parts = neither (touches_file page header) (list_any (touches_file page) headers) untouched in
-    ap (λ found. option_map_or Some found (cond (holds header (PAGE_BYTES * page + i)) (Some header) None)) (none_holding headers page i parts.1 within)
+    ap (λ found. option_map_or Some found (cond (file_holds header (PAGE_BYTES * page + i)) (Some header) None)) (none_holding headers page i parts.1 within)
     ∙ ap (λ (b : Bool). cond b (Some header) None) (holds_touches header page i parts.0 within)
 
 all_zero : (f : ℕ → ℕ) (a n : ℕ) → ((q : ℕ) → q < a + n → f q ≡ 0) → map f (range_with_len a n) ≡ replicate n 0

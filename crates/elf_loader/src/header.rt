@@ -3,7 +3,7 @@ ghost use Rattle.sizes.specs.declared.TheConstants.{PAGE_BYTES, PAGE_END};
 ghost use Rattle.elf_loader.specs.Fields.{number_at, header_at};
 ghost use Rattle.elf_loader.specs.Accepted.{is_larger_in_file, is_outside_file, is_too_high, has_memory};
 ghost use Rattle.elf_loader.specs.Reach.{IsAddressed, IsInFile};
-ghost use Rattle.elf_loader.specs.Image.{holds, fills, perms_of};
+ghost use Rattle.elf_loader.specs.Image.{file_holds, fills, perms_of};
 
 use bitflags::Flags;
 use byteorder::{ByteOrder, LittleEndian};
@@ -128,7 +128,7 @@ impl ProgramHeader {
         requires in_memory { IsAddressed self.now }
         requires is_page { page < PAGE_END }
         ensures { (i : ℕ) → i < PAGE_BYTES → slice_index out.new i
-            ≡ (if holds self.now (PAGE_BYTES * page + i)
+            ≡ (if file_holds self.now (PAGE_BYTES * page + i)
             then slice_index file.now (self.now.offset + (PAGE_BYTES * page + i - self.now.address))
             else slice_index out.old i) }
     {

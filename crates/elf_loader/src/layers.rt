@@ -1,7 +1,7 @@
 ghost use Rattle.std.specs.Prelude.{◌≡◌, ℕ, ◌+◌, ◌<◌, ◌≤◌, true, false, length, get_or, slice_set, IfOk, OnOk, All};
 ghost use Rattle.elf_loader.specs.Touched.{page_numbers};
 ghost use Rattle.elf_loader.specs.Reach.{IsBelowStack, Lies};
-ghost use Rattle.elf_loader.specs.Layers.{AreAscending, AreBytesOf, HasLayers, HasStarted, IsLayeredAt, IsStack, IsWithin, Layered, LeavesOthers, Skips, StaysFull, items_of, no_header, number_of, one_layer_more};
+ghost use Rattle.elf_loader.specs.Layers.{AreAscending, AreBytesOf, HasLayers, HasStarted, IsLayeredAt, IsStack, LiesWithin, Layered, LeavesOthers, Skips, StaysFull, items_of, no_header, number_of, one_layer_more};
 
 use crate::header::ProgramHeader;
 use crate::image::ImagePage;
@@ -122,7 +122,7 @@ impl Stack {
         requires to { to ≤ length pages.now }
         requires sorted { AreAscending pages.now }
         requires stands { IsStack loads.now pages.now (load + 1) self.old }
-        requires apart { IsWithin (get_or loads.now load no_header) pages.now from to }
+        requires apart { LiesWithin (get_or loads.now load no_header) pages.now from to }
         ensures { OnOk result (IsStack loads.now pages.now load self.new) }
     {
         let mut at = from;

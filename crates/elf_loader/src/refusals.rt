@@ -1,6 +1,6 @@
 ghost use Rattle.std.specs.Prelude.{◌≡◌, ◌≤◌, length, IfOk};
 ghost use Rattle.std.specs.List.{list_any};
-ghost use Rattle.elf_loader.specs.Accepted.{has_bad_magic, is_not_class_64, is_not_little, has_bad_version, is_not_executable, is_not_riscv, has_bad_entry_size, has_table_outside, HasTable, names_interpreter, is_larger_in_file, is_outside_file, is_too_high, has_memory, header_refusals, table_refusals, first_of};
+ghost use Rattle.elf_loader.specs.Accepted.{has_bad_magic, is_not_class_64, is_not_little, has_bad_version, is_not_executable, is_not_riscv, has_bad_entry_size, has_table_outside, HasTable, names_interpreter, is_larger_in_file, is_outside_file, is_too_high, has_memory, header_refusals, table_refusals, first_error};
 ghost use Rattle.elf_loader.specs.Fields.{headers_of, loads_of};
 
 use crate::header::{HEADER_BYTES, ProgramHeader, u16_at, u32_at, u64_at};
@@ -91,7 +91,7 @@ fn has_table_outside(file: &[u8]) -> bool
 /// The first refusal by the file header.
 #[tactic(auto, unfolding(crate::specs::Accepted::header_refusals))]
 pub(crate) fn header_refusal(file: &[u8]) -> Option<ElfError>
-    ensures { result ≡ first_of (header_refusals file.now) }
+    ensures { result ≡ first_error (header_refusals file.now) }
 {
     if file.len() < FILE_HEADER_BYTES {
         Some(ElfError::TooShort)
@@ -184,7 +184,7 @@ pub(crate) fn table_refusal(file: &[u8], loads: &[ProgramHeader]) -> Option<ElfE
     requires long { 64 ≤ length file.now }
     requires in_file { HasTable file.now }
     requires loads { loads.now ≡ loads_of file.now }
-    ensures { result ≡ first_of (table_refusals file.now) }
+    ensures { result ≡ first_error (table_refusals file.now) }
 {
     if needs_interpreter(file) {
         Some(ElfError::NeedsInterpreter)

@@ -381,7 +381,7 @@ shared_all v w from to end differs is none = is ∙ partly_all v from to differs
 pub record IsBeside (v w : State) (from to : ℕ) : Type 0 where
   pub there : holds_space v from ≡ true → holds_space w from ≡ true
   pub space : holds_space w to ≡ true
-  pub settled : (space_in v from).awaiting ≡ empty → (space_in w from).awaiting ≡ empty
+  pub none_awaits : (space_in v from).awaiting ≡ empty → (space_in w from).awaiting ≡ empty
   pub low : ArePagesLow v from → ArePagesLow w from
   pub fits : FitsAfter (Copy from to) v → FitsAfter (Copy from to) w
   pub entries : entries_in w from ≡ entries_in v from
@@ -390,7 +390,7 @@ pub put_beside : (v : State) (from to : ℕ) (x : SpaceState) → (from ≡ to �
 put_beside v from to x differs = record {
   there = λ h. put_spaces v to x from ∙ or_true (nat_eq from to) (holds_space v from) h;
   space = put_there v to x;
-  settled = λ h. ap (λ (y : SpaceState). y.awaiting) (space_beside v to x from differs) ∙ h;
+  none_awaits = λ h. ap (λ (y : SpaceState). y.awaiting) (space_beside v to x from differs) ∙ h;
   low = λ h r some. h r (ap is_some (sym (beside_space v to x from r differs)) ∙ some);
   fits = fits_too v from to x differs;
   entries = entries_same (put_space v to x) v from (space_beside v to x from differs);
@@ -408,7 +408,7 @@ ready_made v u from to table differs here made is_bare are_low fit same is named
   there = here;
   space = made;
   bare = ap (λ (y : SpaceState). y.pages) is_bare;
-  settled = ap (λ (y : SpaceState). y.awaiting) is_bare;
+  none_awaits = ap (λ (y : SpaceState). y.awaiting) is_bare;
   entries = is;
   once = named;
   low = are_low;
@@ -430,7 +430,7 @@ ready_cleared v u w from to table differs here none_awaits are_low fit same gone
       there = beside.there here;
       space = beside.space;
       bare = ap (λ (y : SpaceState). y.pages) now;
-      settled = ap (λ (y : SpaceState). y.awaiting) now ∙ none_awaits;
+      none_awaits = ap (λ (y : SpaceState). y.awaiting) now ∙ none_awaits;
       entries = is ∙ sym beside.entries;
       once = subst (λ z. NamesOnce z table) (sym (put_frames v to (cleared v to)).1) named;
       low = beside.low are_low;

@@ -61,7 +61,7 @@ pub record CanHave (state : State) (from to : ℕ) (table : Pages) : Type 0 wher
   pub there : holds_space state from ≡ true
   pub space : holds_space state to ≡ true
   pub bare : (space_in state to).pages ≡ empty
-  pub settled : (space_in state to).awaiting ≡ empty
+  pub none_awaits : (space_in state to).awaiting ≡ empty
   pub entries : table ≡ entries_in state from
   pub once : NamesOnce state.zero_frame table
   pub low : ArePagesLow state from

@@ -18,7 +18,7 @@ use overlay_memory::{OverlayMemory, SpaceError};
 /// space is gone. Costs a step for each page, and a copy of each own line.
 pub fn fork_space(mem: &mut OverlayMemory, from: u16, to: u16) -> Result<(), SpaceError>
     requires there { holds_space (state_of mem.old) from ≡ true }
-    requires settled { (space_in (state_of mem.old) from).awaiting ≡ map.empty }
+    requires none_awaits { (space_in (state_of mem.old) from).awaiting ≡ map.empty }
     requires unmarked { (space_in (state_of mem.old) from).speculating ≡ false }
     requires some { 0 < to }
     requires last { to ≤ LAST_SPACE }

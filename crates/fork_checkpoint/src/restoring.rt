@@ -19,10 +19,10 @@ use overlay_memory::{OverlayMemory, SpaceError};
 pub fn restore_space(mem: &mut OverlayMemory, saved: u16, into: u16) -> Result<(), SpaceError>
     requires differ { saved ≢ into }
     requires saved_there { holds_space (state_of mem.old) saved ≡ true }
-    requires saved_settled { (space_in (state_of mem.old) saved).awaiting ≡ map.empty }
+    requires none_of_saved_awaits { (space_in (state_of mem.old) saved).awaiting ≡ map.empty }
     requires saved_unmarked { (space_in (state_of mem.old) saved).speculating ≡ false }
     requires there { holds_space (state_of mem.old) into ≡ true }
-    requires settled { (space_in (state_of mem.old) into).awaiting ≡ map.empty }
+    requires none_awaits { (space_in (state_of mem.old) into).awaiting ≡ map.empty }
     requires unmarked { (space_in (state_of mem.old) into).speculating ≡ false }
     ensures copies { Copies mem.old mem.new saved into result }
     ensures translations { OnOk result

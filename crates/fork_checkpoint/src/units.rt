@@ -66,7 +66,7 @@ fn without_page(mem: &OverlayMemory, space: u16, page: u64, units: u32) -> u32
 // own lines, which have none, and for each other page.
 fn units_without(mem: &OverlayMemory, space: u16) -> u32
     requires there { holds_space (state_of mem.now) space ≡ true }
-    requires settled { (space_in (state_of mem.now) space).awaiting ≡ map.empty }
+    requires none_awaits { (space_in (state_of mem.now) space).awaiting ≡ map.empty }
     ensures sum { result ≡ units_after (Drop space) (state_of mem.now) }
     ensures few { result ≤ limit_of (state_of mem.now) }
 {
@@ -91,7 +91,7 @@ pub(crate) fn units_restored(mem: &OverlayMemory, saved: u16, into: u16) -> u32
     requires differ { saved ≢ into }
     requires saved_there { holds_space (state_of mem.now) saved ≡ true }
     requires there { holds_space (state_of mem.now) into ≡ true }
-    requires settled { (space_in (state_of mem.now) into).awaiting ≡ map.empty }
+    requires none_awaits { (space_in (state_of mem.now) into).awaiting ≡ map.empty }
     ensures sum { result ≡ units_after (Copy saved into) (state_of mem.now) }
     ensures low { ArePagesLow (state_of mem.now) saved }
 {

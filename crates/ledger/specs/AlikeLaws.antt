@@ -12,8 +12,8 @@ use Rattle.ledger.specs.AloneLaws.{IsAlone, alone_apart, apart_alone, any_page, 
 pub alike_itself : (a : Ledger) → AreAlike a a
 alike_itself a = record { spaces = λ s. refl; own = λ s p. refl; zero_at = λ s p. refl; shared = λ s p q r. refl }
 
-pub alike_turned : (a b : Ledger) → AreAlike a b → AreAlike b a
-alike_turned a b h = record {
+pub alike_altered : (a b : Ledger) → AreAlike a b → AreAlike b a
+alike_altered a b h = record {
   spaces = λ s. sym (h.spaces s);
   own = λ s p. sym (h.own s p);
   zero_at = λ s p. sym (h.zero_at s p);
@@ -78,27 +78,27 @@ alone_too a b space page alike alone =
       there = pair.there;
       not_zero = sym pair.zero_same ∙ apart.not_zero;
       others = λ q r other differs there.
-          let back : IsPair b a q r other = pair_of b a q r other (alike_turned a b alike) there in
+          let back : IsPair b a q r other = pair_of b a q r other (alike_altered a b alike) there in
           sym (one_origin b q r space page other pair.other there pair.there) ∙ sym (alike.shared q r space page)
           ∙ one_origin a q r space page back.other apart.holding back.there apart.there ∙ apart.others q r back.other differs back.there;
     })
 
 pub alike_alone : (a b : Ledger) → AreAlike a b → (space page : ℕ) → is_alone a space page ≡ is_alone b space page
-alike_alone a b alike space page = same_test _ _ (alone_too a b space page alike) (alone_too b a space page (alike_turned a b alike))
+alike_alone a b alike space page = same_test _ _ (alone_too a b space page alike) (alone_too b a space page (alike_altered a b alike))
 
 -- A page put on both sides.
 
 eq_itself : (n : ℕ) → nat_eq n n ≡ true
 eq_itself n = grind (arith, nat_tests)
 
-eq_turned : (a b : ℕ) → nat_eq a b ≡ nat_eq b a
-eq_turned a b = grind (arith, nat_tests)
+eq_altered : (a b : ℕ) → nat_eq a b ≡ nat_eq b a
+eq_altered a b = grind (arith, nat_tests)
 
-one_turned : (a b : Option Holding) → have_one_origin a b ≡ have_one_origin b a
-one_turned None None = refl
-one_turned None (Some y) = refl
-one_turned (Some x) None = refl
-one_turned (Some x) (Some y) = eq_turned x.origin y.origin
+one_altered : (a b : Option Holding) → have_one_origin a b ≡ have_one_origin b a
+one_altered None None = refl
+one_altered None (Some y) = refl
+one_altered (Some x) None = refl
+one_altered (Some x) (Some y) = eq_altered x.origin y.origin
 
 found_used : (l : Ledger) (q r : ℕ) (w : Holding) (origin : ℕ) → holding_at l q r ≡ Some w → nat_eq w.origin origin ≡ true → is_unused l origin ≡ true → ⊥
 found_used l q r w origin there same unused =
@@ -126,8 +126,8 @@ module _ (a b : Ledger) (space page : ℕ) (x y : Holding) where
         (λ d. both (put_here a space page x s p ss pp) (put_other a space page x q r d) ∙ shared q r d
         ∙ sym (both (put_here b space page y s p ss pp) (put_other b space page y q r d))))
         (λ e. by_place space page q r
-        (λ qq rr. both (put_other a space page x s p e) (put_here a space page x q r qq rr) ∙ one_turned (holding_at a s p) (Some x) ∙ shared s p e
-        ∙ one_turned (Some y) (holding_at b s p) ∙ sym (both (put_other b space page y s p e) (put_here b space page y q r qq rr)))
+        (λ qq rr. both (put_other a space page x s p e) (put_here a space page x q r qq rr) ∙ one_altered (holding_at a s p) (Some x) ∙ shared s p e
+        ∙ one_altered (Some y) (holding_at b s p) ∙ sym (both (put_other b space page y s p e) (put_here b space page y q r qq rr)))
         (λ d. both (put_other a space page x s p e) (put_other a space page x q r d) ∙ alike.shared s p q r
         ∙ sym (both (put_other b space page y s p e) (put_other b space page y q r d))));
   }
@@ -142,7 +142,7 @@ module _ (a b : Ledger) (space page : ℕ) (x y : Holding) where
     where
       with_zero : (z : Holding) → z.origin ≡ 0 → (o : Option Holding) → have_one_origin (Some z) o ≡ option_map_or (λ holding. holding.origin == 0) o false
       with_zero z z0 None = refl
-      with_zero z z0 (Some w) = ap (λ n. nat_eq n w.origin) z0 ∙ eq_turned 0 w.origin
+      with_zero z z0 (Some w) = ap (λ n. nat_eq n w.origin) z0 ∙ eq_altered 0 w.origin
 
   -- both have an origin that no other page has
   pub alike_new : AreAlike a b → x.own ≡ y.own → is_unused (without_page a space page) x.origin ≡ true → is_unused (without_page b space page) y.origin ≡ true
@@ -159,7 +159,7 @@ module _ (a b : Ledger) (space page : ℕ) (x y : Holding) where
           by_page None is = ap (have_one_origin (Some z)) is
           by_page (Some w) is =
               ap (have_one_origin (Some z)) is
-              ∙ not_true (nat_eq z.origin w.origin) (λ same. found_used (without_page l space page) q r w z.origin (gone_other l space page q r d ∙ is) (eq_turned w.origin z.origin ∙ same) z_new)
+              ∙ not_true (nat_eq z.origin w.origin) (λ same. found_used (without_page l space page) q r w z.origin (gone_other l space page q r d ∙ is) (eq_altered w.origin z.origin ∙ same) z_new)
 
   -- both have the origin that a page has on its side
   pub alike_shared : AreAlike a b → x.own ≡ y.own → (s p : ℕ) (u v : Holding) → holding_at a s p ≡ Some u → holding_at b s p ≡ Some v → x.origin ≡ u.origin → y.origin ≡ v.origin

@@ -11,7 +11,7 @@ use Rattle.ledger.specs.Alike.{AreAlike, have_one_origin}
 use Rattle.ledger.specs.PlaceLaws.{page_cut, page_is, pages_put, pages_beside, pages_dropped, pages_kept, put_again, gone_here, gone_other, by_place, no_page}
 use Rattle.ledger.specs.UnitLaws.{frame_for, units_at, lines_at}
 use Rattle.ledger.specs.AloneLaws.{HasPage, are, arent, page_that, spaces_without}
-use Rattle.ledger.specs.AlikeLaws.{IsPair, alike_alone, alike_turned, pair_of}
+use Rattle.ledger.specs.AlikeLaws.{IsPair, alike_alone, alike_altered, pair_of}
 
 -- Pages and spaces taken away, put in and copied on both sides, and the units of alike ledgers.
 
@@ -156,7 +156,7 @@ counts zero a b is alike = none (all_holdings a) refl (all_holdings b) refl
     none (x ∷ xs) ax ys by = let long = sym is ∙ ap length ax in absurd (omega (arith, long))
     none [] ax (y ∷ ys) by =
         let found : HasPage b (λ x. true) = some_page b (y ∷ ys) by (λ e. let long = ap length e in absurd (omega (arith, long))) in
-        let back : IsPair b a found.space found.page found.holding = pair_of b a found.space found.page found.holding (alike_turned a b alike) found.there in
+        let back : IsPair b a found.space found.page found.holding = pair_of b a found.space found.page found.holding (alike_altered a b alike) found.there in
         let less = pages_less a found.space found.page back.other back.there in
         absurd (omega (arith, less, is))
 counts (suc n) a b is alike =

@@ -105,8 +105,8 @@ started_and_stored = started ++ (stores_speculating 1 67584 1 ∷ [])
 abbrev stored_alone : List Event
 stored_alone = started ++ (Drop 2 ∷ stores_speculating 1 67584 1 ∷ stores_speculating 1 67648 1 ∷ [])
 
-abbrev given_up : List Event
-given_up = stored_alone ++ (Discard 1 ∷ [])
+abbrev discarded_alone : List Event
+discarded_alone = stored_alone ++ (Discard 1 ∷ [])
 
 -- a load, a fork of it, and a store into the page that both have: 33 units
 pub units_forked : Needs forked 33
@@ -129,9 +129,9 @@ unfolding class frame_for with_lines touched touched_between lines_on_page
 units_speculating_alone = units_are stored_alone ∙ refl
 
 -- and given up: 32
-pub units_given_up : Needs given_up 32
+pub units_given_up : Needs discarded_alone 32
 unfolding class frame_for with_lines touched touched_between lines_on_page
-units_given_up = units_are given_up ∙ refl
+units_given_up = units_are discarded_alone ∙ refl
 
 -- A speculation that is committed while its page is shared: the overlay stays, with 33 units.
 

@@ -12,7 +12,7 @@ use Rattle.ledger.specs.Alike.{AreAlike, own_at}
 use Rattle.ledger.specs.PlaceLaws.{page_is}
 use Rattle.ledger.specs.AloneLaws.{unused_without}
 use Rattle.ledger.specs.OriginLaws.{new_is_unused}
-use Rattle.ledger.specs.AlikeLaws.{IsPair, absent_too, alike_alone, alike_turned, alike_new, alike_own, alike_zero, pair_of}
+use Rattle.ledger.specs.AlikeLaws.{IsPair, absent_too, alike_alone, alike_altered, alike_new, alike_own, alike_zero, pair_of}
 use Rattle.ledger.specs.AlikeUnits.{alike_copied, alike_dropped, alike_emptied, alike_gone}
 
 -- Each row of the table keeps ledgers alike.
@@ -72,7 +72,7 @@ pub settled_new : (before a b : Ledger) → AreAlike a b → (space page : ℕ) 
     → is_unused (without_page b space page) origin ≡ true → AreAlike (settled before a space page) (with_page b space page (without_own origin))
 unfolding settled
 settled_new before a b alike space page y origin there shared new =
-    let pair : IsPair b a space page y = pair_of b a space page y (alike_turned a b alike) there in
+    let pair : IsPair b a space page y = pair_of b a space page y (alike_altered a b alike) there in
     subst (λ (l : Ledger). AreAlike l (with_page b space page (without_own origin)))
     (sym (changed_there (λ holding. without_own (cond (is_alone before space page) holding.origin (new_origin a))) a space page pair.other pair.there
     ∙ ap (λ c. with_page a space page (without_own (cond c pair.other.origin (new_origin a)))) shared))
@@ -82,7 +82,7 @@ pub settled_alone : (before a b : Ledger) → AreAlike a b → (space page : ℕ
     → AreAlike (settled before a space page) (with_page b space page (without_own y.origin))
 unfolding settled
 settled_alone before a b alike space page y there alone =
-    let pair : IsPair b a space page y = pair_of b a space page y (alike_turned a b alike) there in
+    let pair : IsPair b a space page y = pair_of b a space page y (alike_altered a b alike) there in
     subst (λ (l : Ledger). AreAlike l (with_page b space page (without_own y.origin)))
     (sym (changed_there (λ holding. without_own (cond (is_alone before space page) holding.origin (new_origin a))) a space page pair.other pair.there
     ∙ ap (λ c. with_page a space page (without_own (cond c pair.other.origin (new_origin a)))) alone))

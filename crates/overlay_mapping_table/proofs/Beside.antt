@@ -5,7 +5,7 @@ use Rattle.std.proofs.lemmas.Bool.{cases_eq, cases_lt}
 use Rattle.std.proofs.lemmas.Bool.Decides.{nat_tests}
 use Rattle.std.proofs.lemmas.List.{get_or_default, get_or-replicate, get_or-set_same, get_or-set_other, get_or_past, length-replicate, length-set}
 use Rattle.overlay_address.specs.Names.{IsName, split_address}
-use Rattle.overlay_mapping_table.specs.Rows.{slot_of, slots_of, name_in, no_rows, AreSlots}
+use Rattle.overlay_mapping_table.specs.Rows.{slot_seen, slots_of, name_in, no_rows, AreSlots}
 
 -- Slots, by the names and what stands beside them.
 
@@ -29,7 +29,7 @@ whole name k o is split =
 
 module _ {X : Type 0} where
   pub slot_at : (names : List ℕ) (xs : List X) (i : ℕ) (d : X) → length xs ≡ length names → i < length names
-      → get_or (slots_of names xs) i None ≡ slot_of (get_or names i 0) (get_or xs i d)
+      → get_or (slots_of names xs) i None ≡ slot_seen (get_or names i 0) (get_or xs i d)
   unfolding slots_of
   slot_at [] xs i d same inside = absurd (omega (arith, inside))
   slot_at (name ∷ names) [] i d same inside = absurd (omega (arith, same))
@@ -43,45 +43,45 @@ module _ {X : Type 0} where
   sized (name ∷ names) (x ∷ xs) same = ap suc (sized names xs (omega (arith, same)))
 
   pub set_both : (names : List ℕ) (xs : List X) (at name : ℕ) (x : X)
-      → slots_of (slice_set names at name) (slice_set xs at x) ≡ slice_set (slots_of names xs) at (slot_of name x)
+      → slots_of (slice_set names at name) (slice_set xs at x) ≡ slice_set (slots_of names xs) at (slot_seen name x)
   unfolding slots_of
   set_both [] xs at name x = refl
   set_both (m ∷ names) [] zero name x = refl
   set_both (m ∷ names) [] (suc at) name x = refl
   set_both (m ∷ names) (y ∷ xs) zero name x = refl
-  set_both (m ∷ names) (y ∷ xs) (suc at) name x = ap (λ slots. slot_of m y ∷ slots) (set_both names xs at name x)
+  set_both (m ∷ names) (y ∷ xs) (suc at) name x = ap (λ slots. slot_seen m y ∷ slots) (set_both names xs at name x)
 
   pub set_empty : (names : List ℕ) (xs : List X) (at : ℕ) → slots_of (slice_set names at 0) xs ≡ slice_set (slots_of names xs) at None
-  unfolding slots_of slot_of
+  unfolding slots_of slot_seen
   set_empty [] xs at = refl
   set_empty (m ∷ names) [] zero = refl
   set_empty (m ∷ names) [] (suc at) = refl
   set_empty (m ∷ names) (y ∷ xs) zero = refl
-  set_empty (m ∷ names) (y ∷ xs) (suc at) = ap (λ slots. slot_of m y ∷ slots) (set_empty names xs at)
+  set_empty (m ∷ names) (y ∷ xs) (suc at) = ap (λ slots. slot_seen m y ∷ slots) (set_empty names xs at)
 
   pub all_empty : (n : ℕ) (x : X) → slots_of (replicate n 0) (replicate n x) ≡ no_rows n
-  unfolding slots_of slot_of no_rows
+  unfolding slots_of slot_seen no_rows
   all_empty zero x = refl
   all_empty (suc n) x = ap (λ (slots : List (Option (ℕ × X))). None ∷ slots) (all_empty n x)
 
   -- what a slot has
-  pub name_back : (name : ℕ) (x : X) → name_in (slot_of name x) ≡ name
-  unfolding slot_of
+  pub name_back : (name : ℕ) (x : X) → name_in (slot_seen name x) ≡ name
+  unfolding slot_seen
   name_back zero x = refl
   name_back (suc name) x = refl
 
-  pub value_back : (name : ℕ) (x : X) → (name ≡ 0 → ⊥) → option_map (λ (row : ℕ × X). row.1) (slot_of name x) ≡ Some x
-  unfolding slot_of
+  pub value_back : (name : ℕ) (x : X) → (name ≡ 0 → ⊥) → option_map (λ (row : ℕ × X). row.1) (slot_seen name x) ≡ Some x
+  unfolding slot_seen
   value_back zero x some = absurd (some refl)
   value_back (suc name) x some = refl
 
-  pub none_back : (name : ℕ) (x : X) → name ≡ 0 → slot_of name x ≡ None
-  unfolding slot_of
+  pub none_back : (name : ℕ) (x : X) → name ≡ 0 → slot_seen name x ≡ None
+  unfolding slot_seen
   none_back zero x none = refl
   none_back (suc name) x none = absurd (omega (arith, none))
 
-  pub some_back : (name : ℕ) (x : X) → (name ≡ 0 → ⊥) → slot_of name x ≡ Some (name, x)
-  unfolding slot_of
+  pub some_back : (name : ℕ) (x : X) → (name ≡ 0 → ⊥) → slot_seen name x ≡ Some (name, x)
+  unfolding slot_seen
   some_back zero x some = absurd (some refl)
   some_back (suc name) x some = refl
 
@@ -152,7 +152,7 @@ module _ {X : Type 0} where
       → slots_of (slice_set names at m) (slice_set xs at x) ≡ slice_set slots at (Some (name, x))
   stands_put slots names xs at name m x same is named =
       set_both names xs at m x
-      ∙ ap (λ (o : Option (ℕ × X)). slice_set (slots_of names xs) at o) (ap (λ k. slot_of k x) number ∙ some_back name x (λ none. omega (arith, named, none)))
+      ∙ ap (λ (o : Option (ℕ × X)). slice_set (slots_of names xs) at o) (ap (λ k. slot_seen k x) number ∙ some_back name x (λ none. omega (arith, named, none)))
       ∙ ap (λ (ss : List (Option (ℕ × X))). slice_set ss at (Some (name, x))) same
     where
       number : m ≡ name
@@ -175,10 +175,10 @@ module _ {X : Type 0} where
       inside : from < length names
       inside = omega (arith, within, ap length same, kept.size)
 
-      carried : slot_of name x ≡ get_or (slots_of names xs) from None
+      carried : slot_seen name x ≡ get_or (slots_of names xs) from None
       carried =
-          ap (λ k. slot_of k x) (is ∙ get_or_default names from name 0 inside)
-          ∙ ap (λ (y : X). slot_of (get_or names from 0) y) beside
+          ap (λ k. slot_seen k x) (is ∙ get_or_default names from name 0 inside)
+          ∙ ap (λ (y : X). slot_seen (get_or names from 0) y) beside
           ∙ sym (slot_at names xs from x kept.same inside)
 
   -- what is read of a slot
@@ -188,11 +188,11 @@ module _ {X : Type 0} where
     inside = omega (arith, within, ap length stands, kept.size)
 
     -- by the name that was read
-    slot_is : (name : ℕ) (d : X) → name ≡ get_or names at name → get_or slots at None ≡ slot_of name (get_or xs at d)
+    slot_is : (name : ℕ) (d : X) → name ≡ get_or names at name → get_or slots at None ≡ slot_seen name (get_or xs at d)
     slot_is name d is =
         ap (λ (ss : List (Option (ℕ × X))). get_or ss at None) (sym stands)
         ∙ slot_at names xs at d kept.same inside
-        ∙ ap (λ k. slot_of k (get_or xs at d)) (sym (is ∙ get_or_default names at name 0 inside))
+        ∙ ap (λ k. slot_seen k (get_or xs at d)) (sym (is ∙ get_or_default names at name 0 inside))
 
     named : (name : ℕ) → name ≡ get_or names at name → (name ≡ 0) ⊎ IsName name
     named name is = subst (λ m. (m ≡ 0) ⊎ IsName m) (sym (is ∙ get_or_default names at name 0 inside)) (kept.each at)

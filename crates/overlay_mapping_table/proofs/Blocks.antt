@@ -5,7 +5,7 @@ use Rattle.std.proofs.lemmas.Bool.{cases_lt, cases_order}
 use Rattle.std.proofs.lemmas.List.{get_or_past}
 use Rattle.overlay_address.specs.Names.{IsName}
 use Rattle.overlay_mapping_table.specs.declared.entry.Entry.{Entry}
-use Rattle.overlay_mapping_table.specs.Rows.{nothing, ring, slot_of, slots_of, AreSlots, StandOnce}
+use Rattle.overlay_mapping_table.specs.Rows.{nothing, ring, slot_seen, slots_of, AreSlots, StandOnce}
 use Rattle.overlay_mapping_table.specs.Gaps.{ShowNone, AreDown, AreUp}
 use Rattle.overlay_mapping_table.specs.Shifts.{AreLowered, AreOneUp, AreRaised}
 use Rattle.overlay_mapping_table.proofs.Beside.{none_back, sized, slot_at}
@@ -33,7 +33,7 @@ module _ (names names₂ : List ℕ) (xs xs₂ : List Entry) (kept : AreSlots na
       → get_or (slots_of names₂ xs₂) i None ≡ get_or (slots_of names xs) j None
   slot_as i j inside within name x =
       slot_at names₂ xs₂ i nothing level (omega (arith, inside, named))
-      ∙ ap₂ (λ m y. slot_of m y) name x
+      ∙ ap₂ (λ m y. slot_seen m y) name x
       ∙ sym (slot_at names xs j nothing kept.same within)
 
   slot_stays : (i : ℕ) → get_or names₂ i 0 ≡ get_or names i 0 → get_or xs₂ i nothing ≡ get_or xs i nothing

@@ -7,7 +7,7 @@ use Rattle.std.specs.FinMap.{FinMap, find, from_entries, empty, get, insert, rem
 use Rattle.std.proofs.lemmas.Bool.{cases_eq}
 use Rattle.std.proofs.lemmas.List.{get_or-set_same, get_or-set_other}
 use Rattle.number_maps.specs.Keys.{alike, by_key, differs, ties, get_same, get_other, removed_same, removed_other}
-use Rattle.overlay_mapping_table.specs.Rows.{rows_of, map_of, StandOnce}
+use Rattle.overlay_mapping_table.specs.Rows.{rows_of, map_of_slots, StandOnce}
 
 -- Slots with rows, and the map that they stand for.
 
@@ -59,12 +59,12 @@ module _ {X : Type 0} where
       ∙ find_lacks slots k (λ i x is. lacks (suc i) x is)
 
   -- what the map has under them
-  pub got : (slots : List (Option (ℕ × X))) (k i : ℕ) (x : X) → StandOnce slots → get_or slots i None ≡ Some (k, x) → get (map_of slots) k ≡ Some x
-  unfolding map_of
+  pub got : (slots : List (Option (ℕ × X))) (k i : ℕ) (x : X) → StandOnce slots → get_or slots i None ≡ Some (k, x) → get (map_of_slots slots) k ≡ Some x
+  unfolding map_of_slots
   got slots k i x apart is = get-from_entries nat_cmp_total (rows_of slots) k ∙ find_has slots k i x apart is
 
-  pub got_none : (slots : List (Option (ℕ × X))) (k : ℕ) → ((i : ℕ) (x : X) → get_or slots i None ≡ Some (k, x) → ⊥) → get (map_of slots) k ≡ None
-  unfolding map_of
+  pub got_none : (slots : List (Option (ℕ × X))) (k : ℕ) → ((i : ℕ) (x : X) → get_or slots i None ≡ Some (k, x) → ⊥) → get (map_of_slots slots) k ≡ None
+  unfolding map_of_slots
   got_none slots k lacks = get-from_entries nat_cmp_total (rows_of slots) k ∙ find_lacks slots k lacks
 
   -- a key stands in a slot, or in none
@@ -90,7 +90,7 @@ module _ {X : Type 0} where
   pub same_rows : (old new : List (Option (ℕ × X))) → StandOnce old → StandOnce new
       → ((k : ℕ) (x : X) (i : ℕ) → get_or old i None ≡ Some (k, x) → (j : ℕ) × (get_or new j None ≡ Some (k, x)))
       → ((k : ℕ) (x : X) (j : ℕ) → get_or new j None ≡ Some (k, x) → (i : ℕ) × (get_or old i None ≡ Some (k, x)))
-      → map_of new ≡ map_of old
+      → map_of_slots new ≡ map_of_slots old
   same_rows old new before after kept back =
       alike _ _ (λ q. by_slot old q
       (λ i x is. got new q (kept q x i is).0 x after (kept q x i is).1 ∙ sym (got old q i x before is))
@@ -132,18 +132,18 @@ module _ {X : Type 0} where
       (λ far kept. apart q y z i j (sym stays ∙ one) (sym kept ∙ two)))
 
   pub map_put : (slots : List (Option (ℕ × X))) (k at : ℕ) (x : X) → IsOwn slots k at → StandOnce slots
-      → map_of (slice_set slots at (Some (k, x))) ≡ insert (map_of slots) k x
+      → map_of_slots (slice_set slots at (Some (k, x))) ≡ insert (map_of_slots slots) k x
   map_put slots k at x own apart = alike _ _ (λ q. by_key q k (λ same. put q same) (λ other. left q other))
     where
       new : List (Option (ℕ × X))
       new = slice_set slots at (Some (k, x))
 
-      put : (q : ℕ) → q ≡ k → get (map_of new) q ≡ get (insert (map_of slots) k x) q
+      put : (q : ℕ) → q ≡ k → get (map_of_slots new) q ≡ get (insert (map_of_slots slots) k x) q
       put q same =
-          ap (get (map_of new)) same ∙ got new k at x (apart_put slots k at x own apart) (get_or-set_same slots at (Some (k, x)) None own.inside)
-          ∙ sym (get_same (map_of slots) k q x same)
+          ap (get (map_of_slots new)) same ∙ got new k at x (apart_put slots k at x own apart) (get_or-set_same slots at (Some (k, x)) None own.inside)
+          ∙ sym (get_same (map_of_slots slots) k q x same)
 
-      left : (q : ℕ) → (q ≡ k → ⊥) → get (map_of new) q ≡ get (insert (map_of slots) k x) q
+      left : (q : ℕ) → (q ≡ k → ⊥) → get (map_of_slots new) q ≡ get (insert (map_of_slots slots) k x) q
       left q other = by_slot slots q
           (λ i y is.
           got new q i y (apart_put slots k at x own apart)
@@ -153,22 +153,22 @@ module _ {X : Type 0} where
           (λ here now. other (sym (same_key k q x y (sym now ∙ is))))
           (λ away stays. lacks i y (sym stays ∙ is)))
           ∙ sym (got_none slots q lacks))
-          ∙ sym (get_other (map_of slots) k q x other)
+          ∙ sym (get_other (map_of_slots slots) k q x other)
 
   pub map_take : (slots : List (Option (ℕ × X))) (k at : ℕ) → IsOwn slots k at → StandOnce slots
-      → map_of (slice_set slots at None) ≡ remove (map_of slots) k
+      → map_of_slots (slice_set slots at None) ≡ remove (map_of_slots slots) k
   map_take slots k at own apart = alike _ _ (λ q. by_key q k (λ same. gone q same) (λ other. left q other))
     where
       new : List (Option (ℕ × X))
       new = slice_set slots at None
 
-      gone : (q : ℕ) → q ≡ k → get (map_of new) q ≡ get (remove (map_of slots) k) q
+      gone : (q : ℕ) → q ≡ k → get (map_of_slots new) q ≡ get (remove (map_of_slots slots) k) q
       gone q same =
-          ap (get (map_of new)) same
+          ap (get (map_of_slots new)) same
           ∙ got_none new k (λ i y is. by_at slots at None i own.inside (λ here now. cc (now, is)) (λ away stays. away (own.only i y (sym stays ∙ is))))
-          ∙ sym (removed_same (map_of slots) k q same)
+          ∙ sym (removed_same (map_of_slots slots) k q same)
 
-      left : (q : ℕ) → (q ≡ k → ⊥) → get (map_of new) q ≡ get (remove (map_of slots) k) q
+      left : (q : ℕ) → (q ≡ k → ⊥) → get (map_of_slots new) q ≡ get (remove (map_of_slots slots) k) q
       left q other = by_slot slots q
           (λ i y is.
           got new q i y (apart_take slots at own.inside apart)
@@ -178,12 +178,12 @@ module _ {X : Type 0} where
           (λ here now. cc (now, is))
           (λ away stays. lacks i y (sym stays ∙ is)))
           ∙ sym (got_none slots q lacks))
-          ∙ sym (removed_other (map_of slots) k q other)
+          ∙ sym (removed_other (map_of_slots slots) k q other)
 
   -- How many there are.
 
-  pub counted : (slots : List (Option (ℕ × X))) → StandOnce slots → len (map_of slots) ≡ length (rows_of slots)
-  unfolding map_of
+  pub counted : (slots : List (Option (ℕ × X))) → StandOnce slots → len (map_of_slots slots) ≡ length (rows_of slots)
+  unfolding map_of_slots
   counted [] apart = len-empty nat_cmp X
   counted (None ∷ slots) apart = counted slots (apart_rest None slots apart)
   counted (Some row ∷ slots) apart =
@@ -222,8 +222,8 @@ module _ {X : Type 0} where
   rows_of_none zero = refl
   rows_of_none (suc n) = rows_of_none n
 
-  pub map_of_none : (n : ℕ) → map_of (replicate n none_of) ≡ empty
-  unfolding map_of
+  pub map_of_none : (n : ℕ) → map_of_slots (replicate n none_of) ≡ empty
+  unfolding map_of_slots
   map_of_none n = ap from_entries (rows_of_none n)
 
   pub some_row : (slots : List (Option (ℕ × X))) (i : ℕ) (row : ℕ × X) → get_or slots i None ≡ Some row → 0 < length (rows_of slots)

@@ -8,7 +8,7 @@ use Rattle.std.proofs.lemmas.Bool.{cases_eq, cases_lt}
 use Rattle.std.proofs.lemmas.List.{get_or-set_same, get_or-set_other, length-set}
 use Rattle.overlay_mapping_table.specs.declared.entry.Entry.{Entry}
 use Rattle.overlay_mapping_table.specs.declared.full.Full.{Full}
-use Rattle.overlay_mapping_table.specs.Rows.{map_of, ring, AreInOrder, HasWay}
+use Rattle.overlay_mapping_table.specs.Rows.{map_of_slots, ring, AreInOrder, HasWay}
 use Rattle.overlay_mapping_table.specs.Probes.{AreNow, AreSound, IsBefore, IsBeyond, IsGap, IsThere}
 use Rattle.overlay_mapping_table.specs.Shifts.{AreLowered, AreRaised, IsEnd, HaveRows, IsLast}
 use Rattle.overlay_mapping_table.proofs.Contents.{IsOwn, same_key, apart_put, apart_take, map_put, map_take, same_rows}
@@ -137,9 +137,9 @@ module _ (old mid : List (Option (ℕ × Entry))) (name place end at : ℕ) (e :
   other : (i : ℕ) → end < i → i < place + length old → ring (length old) put i ≡ ring (length old) old i
   other i low less = apart_from i (omega (arith, low, last.low)) less ∙ raised.other i low less
 
-  pub put_now : (new : List (Option (ℕ × Entry))) → IsGap old name place → new ≡ put → AreNow old new (insert (map_of old) name e)
+  pub put_now : (new : List (Option (ℕ × Entry))) → IsGap old name place → new ≡ put → AreNow old new (insert (map_of_slots old) name e)
   put_now new gap is =
-      subst (λ ss. AreNow old ss (insert (map_of old) name e)) (sym is) (record {
+      subst (λ ss. AreNow old ss (insert (map_of_slots old) name e)) (sym is) (record {
         size = same;
         apart = apart_put mid name at e own raised.same.apart;
         order = subst (λ n. AreInOrder n put) (sym same) (order_put old put name place end e sound gap last now up other);
@@ -196,7 +196,7 @@ full_over slots new full at row inside are is = subst (λ ss. HaveRows ss full) 
 -- A row that was taken out.
 pub take_now : (old cleared new : List (Option (ℕ × Entry))) (name at hole last : ℕ) → AreSound old → IsThere old name at → hole ≡ length old + at
     → IsLast (length old) old hole last → cleared ≡ slice_set old at None → AreLowered (length cleared) cleared new hole last
-    → AreNow old new (remove (map_of old) name)
+    → AreNow old new (remove (map_of_slots old) name)
 take_now old cleared new name at hole last sound there start is_last is lowered =
     now (subst (λ ss. AreLowered (length old) ss new hole last) is (subst (λ n. AreLowered n cleared new hole last) same lowered))
   where
@@ -221,7 +221,7 @@ take_now old cleared new name at hole last sound there start is_last is lowered 
     as_before i low near =
         get_or-set_other old at (i % length old) None None (λ equal. two_slots (length old) hole i low near (slot ∙ sym equal))
 
-    now : AreLowered (length old) without new hole last → AreNow old new (remove (map_of old) name)
+    now : AreLowered (length old) without new hole last → AreNow old new (remove (map_of_slots old) name)
     now lowered =
         record {
           size = size;

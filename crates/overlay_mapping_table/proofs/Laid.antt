@@ -4,7 +4,7 @@ use Rattle.overlay_address.specs.Names.{IsName}
 use Rattle.overlay_mapping_table.specs.declared.entry.Entry.{Entry}
 use Rattle.overlay_mapping_table.specs.declared.gaps.Gap.{Gap}
 use Rattle.overlay_mapping_table.specs.Rows.{nothing, no_rows, slots_of, AreSlots}
-use Rattle.overlay_mapping_table.specs.Gaps.{no_gap, seen, ShowNone, AreDown, AreLaid, AreUp, IsGapIn, IsWrittenAt}
+use Rattle.overlay_mapping_table.specs.Gaps.{no_gap, seen_slots, ShowNone, AreDown, AreLaid, AreUp, IsGapIn, IsWrittenAt}
 use Rattle.overlay_mapping_table.specs.Shifts.{AreOneUp}
 use Rattle.overlay_mapping_table.proofs.Beside.{all_empty, kept_clear, kept_new, kept_put, stands_clear, stands_put}
 use Rattle.overlay_mapping_table.proofs.Seen.{seen_whole, size_seen, written}
@@ -14,7 +14,7 @@ use Rattle.overlay_mapping_table.proofs.Blocks.{bare_down_slot, bare_up_slot, ke
 
 -- the slots that they make
 abbrev pub laid_slots : List ℕ → List Entry → Gap → List (Option (ℕ × Entry))
-laid_slots names entries gap = slots_of (seen names 0 gap) (seen entries nothing gap)
+laid_slots names entries gap = slots_of (seen_slots names 0 gap) (seen_slots entries nothing gap)
 
 module _ (slots : List (Option (ℕ × Entry))) (names : List ℕ) (entries : List Entry) (gap : Gap) (stands : laid_slots names entries gap ≡ slots)
     (laid : AreLaid names entries gap) where
@@ -31,8 +31,8 @@ module _ (slots : List (Option (ℕ × Entry))) (names : List ℕ) (entries : Li
   room_entries = subst (λ n. IsGapIn n gap) (sym laid.same) laid.room
 
   laid_moved : (names₂ : List ℕ) (entries₂ : List Entry) (gap₂ : Gap) → IsGapIn (length names) gap₂
-      → length (seen names₂ 0 gap₂) ≡ length (seen names 0 gap) → length (seen entries₂ nothing gap₂) ≡ length (seen entries nothing gap)
-      → AreSlots (seen names₂ 0 gap₂) (seen entries₂ nothing gap₂) → AreLaid names₂ entries₂ gap₂
+      → length (seen_slots names₂ 0 gap₂) ≡ length (seen_slots names 0 gap) → length (seen_slots entries₂ nothing gap₂) ≡ length (seen_slots entries nothing gap)
+      → AreSlots (seen_slots names₂ 0 gap₂) (seen_slots entries₂ nothing gap₂) → AreLaid names₂ entries₂ gap₂
   laid_moved names₂ entries₂ gap₂ gap_in size size′ kept =
       record {
         same = sym (size_seen entries₂ nothing gap₂) ∙ kept.same ∙ size_seen names₂ 0 gap₂;
@@ -41,8 +41,8 @@ module _ (slots : List (Option (ℕ × Entry))) (names : List ℕ) (entries : Li
       }
 
   -- A write, once something is written for a slot.
-  module _ (names₁ : List ℕ) (entries₁ : List Entry) (gap₁ : Gap) (room : IsGapIn (length names) gap₁) (same : seen names₁ 0 gap₁ ≡ seen names 0 gap)
-      (beside : seen entries₁ nothing gap₁ ≡ seen entries nothing gap) (at : ℕ) (inside : at < length slots) where
+  module _ (names₁ : List ℕ) (entries₁ : List Entry) (gap₁ : Gap) (room : IsGapIn (length names) gap₁) (same : seen_slots names₁ 0 gap₁ ≡ seen_slots names 0 gap)
+      (beside : seen_slots entries₁ nothing gap₁ ≡ seen_slots entries nothing gap) (at : ℕ) (inside : at < length slots) where
     pub size₁ : length names₁ ≡ length names
     size₁ = sym (size_seen names₁ 0 gap₁) ∙ ap length same ∙ size_seen names 0 gap
 
@@ -66,20 +66,20 @@ module _ (slots : List (Option (ℕ × Entry))) (names : List ℕ) (entries : Li
     inside₂ n place is less = omega (arith, less, is, size₁, size₂, laid.same)
 
     module _ (place : ℕ) (here : IsWrittenAt gap₁ at place) where
-      named : (m : ℕ) (new : List ℕ) → new ≡ slice_set names₁ place m → seen new 0 gap₁ ≡ slice_set (seen names 0 gap) at m
+      named : (m : ℕ) (new : List ℕ) → new ≡ slice_set names₁ place m → seen_slots new 0 gap₁ ≡ slice_set (seen_slots names 0 gap) at m
       named m new is =
-          ap (λ (ns : List ℕ). seen ns 0 gap₁) is
+          ap (λ (ns : List ℕ). seen_slots ns 0 gap₁) is
           ∙ written names₁ 0 m gap₁ room₁ at place (omega (arith, within_names at inside, size₁)) here
           ∙ ap (λ (ns : List ℕ). slice_set ns at m) same
 
-      valued : (e : Entry) (new : List Entry) → new ≡ slice_set entries₁ place e → seen new nothing gap₁ ≡ slice_set (seen entries nothing gap) at e
+      valued : (e : Entry) (new : List Entry) → new ≡ slice_set entries₁ place e → seen_slots new nothing gap₁ ≡ slice_set (seen_slots entries nothing gap) at e
       valued e new is =
-          ap (λ (es : List Entry). seen es nothing gap₁) is
+          ap (λ (es : List Entry). seen_slots es nothing gap₁) is
           ∙ written entries₁ nothing e gap₁ room₂ at place (omega (arith, within_entries at inside, size₂)) here
           ∙ ap (λ (es : List Entry). slice_set es at e) beside
 
       laid_again : (new : List ℕ) (new₂ : List Entry) → length new ≡ length names₁ → length new₂ ≡ length entries₁
-          → AreSlots (seen new 0 gap₁) (seen new₂ nothing gap₁) → AreLaid new new₂ gap₁
+          → AreSlots (seen_slots new 0 gap₁) (seen_slots new₂ nothing gap₁) → AreLaid new new₂ gap₁
       laid_again new new₂ size size′ slots =
           record {
             same = size′ ∙ size₂ ∙ laid.same ∙ sym (size ∙ size₁);
@@ -92,73 +92,73 @@ module _ (slots : List (Option (ℕ × Entry))) (names : List ℕ) (entries : Li
       laid_put name m e new new₂ is is₂ number true_name =
           laid_again new new₂ (ap length is ∙ length-set names₁ place m) (ap length is₂ ∙ length-set entries₁ place e)
           (subst₂ (λ ns es. AreSlots ns es) (sym (named m new is)) (sym (valued e new₂ is₂))
-          (kept_put (seen names 0 gap) (seen entries nothing gap) at name m e laid.slots number true_name))
+          (kept_put (seen_slots names 0 gap) (seen_slots entries nothing gap) at name m e laid.slots number true_name))
 
       pub shows_put : (name m : ℕ) (e : Entry) (new : List ℕ) (new₂ : List Entry) → new ≡ slice_set names₁ place m → new₂ ≡ slice_set entries₁ place e
           → m ≡ name + 0 → IsName name → laid_slots new new₂ gap₁ ≡ slice_set slots at (Some (name, e))
       shows_put name m e new new₂ is is₂ number true_name =
           ap₂ (λ ns es. slots_of ns es) (named m new is) (valued e new₂ is₂)
-          ∙ stands_put slots (seen names 0 gap) (seen entries nothing gap) at name m e stands number true_name
+          ∙ stands_put slots (seen_slots names 0 gap) (seen_slots entries nothing gap) at name m e stands number true_name
 
       pub laid_clear : (new : List ℕ) → new ≡ slice_set names₁ place 0 → AreLaid new entries₁ gap₁
       laid_clear new is =
           laid_again new entries₁ (ap length is ∙ length-set names₁ place 0) refl
           (subst₂ (λ ns es. AreSlots ns es) (sym (named 0 new is)) (sym beside)
-          (kept_clear (seen names 0 gap) (seen entries nothing gap) at laid.slots))
+          (kept_clear (seen_slots names 0 gap) (seen_slots entries nothing gap) at laid.slots))
 
       pub shows_clear : (new : List ℕ) → new ≡ slice_set names₁ place 0 → laid_slots new entries₁ gap₁ ≡ slice_set slots at None
       shows_clear new is =
-          ap₂ (λ ns es. slots_of ns es) (named 0 new is) beside ∙ stands_clear slots (seen names 0 gap) (seen entries nothing gap) at stands
+          ap₂ (λ ns es. slots_of ns es) (named 0 new is) beside ∙ stands_clear slots (seen_slots names 0 gap) (seen_slots entries nothing gap) at stands
 
   -- Rows that went up.
   module _ (names₂ : List ℕ) (entries₂ : List Entry) (gap₂ : Gap) (from end room : ℕ) (gap_in : IsGapIn (length names) gap₂)
-      (up : AreUp (seen names 0 gap) (seen names₂ 0 gap₂) 0 from end room) (bare : get_or (seen names₂ 0 gap₂) from 0 ≡ 0)
-      (up₂ : AreUp (seen entries nothing gap) (seen entries₂ nothing gap₂) nothing from end room) where
+      (up : AreUp (seen_slots names 0 gap) (seen_slots names₂ 0 gap₂) 0 from end room) (bare : get_or (seen_slots names₂ 0 gap₂) from 0 ≡ 0)
+      (up₂ : AreUp (seen_slots entries nothing gap) (seen_slots entries₂ nothing gap₂) nothing from end room) where
     pub laid_up : AreLaid names₂ entries₂ gap₂
     laid_up =
         laid_moved names₂ entries₂ gap₂ gap_in up.size up₂.size
-        (kept_up (seen names 0 gap) (seen names₂ 0 gap₂) (seen entries nothing gap) (seen entries₂ nothing gap₂) laid.slots up.size up₂.size from end room up
+        (kept_up (seen_slots names 0 gap) (seen_slots names₂ 0 gap₂) (seen_slots entries nothing gap) (seen_slots entries₂ nothing gap₂) laid.slots up.size up₂.size from end room up
         bare up₂)
 
-    pub rows_raised : ShowNone (seen names 0 gap) end room → end < length slots → AreOneUp slots (laid_slots names₂ entries₂ gap₂) from end
+    pub rows_raised : ShowNone (seen_slots names 0 gap) end room → end < length slots → AreOneUp slots (laid_slots names₂ entries₂ gap₂) from end
     rows_raised free inside =
-        rows_up (seen names 0 gap) (seen names₂ 0 gap₂) (seen entries nothing gap) (seen entries₂ nothing gap₂) laid.slots up.size up₂.size from end room up
+        rows_up (seen_slots names 0 gap) (seen_slots names₂ 0 gap₂) (seen_slots entries nothing gap) (seen_slots entries₂ nothing gap₂) laid.slots up.size up₂.size from end room up
         bare up₂ slots stands free (omega (arith, within_names end inside, size_seen names 0 gap))
 
     pub bare_raised : get_or (laid_slots names₂ entries₂ gap₂) from None ≡ None
     bare_raised =
-        bare_up_slot (seen names 0 gap) (seen names₂ 0 gap₂) (seen entries nothing gap) (seen entries₂ nothing gap₂) laid.slots up.size up₂.size from end
+        bare_up_slot (seen_slots names 0 gap) (seen_slots names₂ 0 gap₂) (seen_slots entries nothing gap) (seen_slots entries₂ nothing gap₂) laid.slots up.size up₂.size from end
         room up bare up₂
 
   -- Rows that went down.
   module _ (names₂ : List ℕ) (entries₂ : List Entry) (gap₂ : Gap) (to last : ℕ) (gap_in : IsGapIn (length names) gap₂)
-      (down : AreDown (seen names 0 gap) (seen names₂ 0 gap₂) 0 to last)
-      (down₂ : AreDown (seen entries nothing gap) (seen entries₂ nothing gap₂) nothing to last) where
+      (down : AreDown (seen_slots names 0 gap) (seen_slots names₂ 0 gap₂) 0 to last)
+      (down₂ : AreDown (seen_slots entries nothing gap) (seen_slots entries₂ nothing gap₂) nothing to last) where
     pub laid_down : AreLaid names₂ entries₂ gap₂
     laid_down =
         laid_moved names₂ entries₂ gap₂ gap_in down.size down₂.size
-        (kept_down (seen names 0 gap) (seen names₂ 0 gap₂) (seen entries nothing gap) (seen entries₂ nothing gap₂) laid.slots down.size down₂.size to last
+        (kept_down (seen_slots names 0 gap) (seen_slots names₂ 0 gap₂) (seen_slots entries nothing gap) (seen_slots entries₂ nothing gap₂) laid.slots down.size down₂.size to last
         down down₂)
 
     pub rows_lowered : last < length slots → AreOneUp (laid_slots names₂ entries₂ gap₂) slots to last
     rows_lowered inside =
-        rows_down (seen names 0 gap) (seen names₂ 0 gap₂) (seen entries nothing gap) (seen entries₂ nothing gap₂) laid.slots down.size down₂.size to last
+        rows_down (seen_slots names 0 gap) (seen_slots names₂ 0 gap₂) (seen_slots entries nothing gap) (seen_slots entries₂ nothing gap₂) laid.slots down.size down₂.size to last
         down down₂ slots stands (omega (arith, within_names last inside, size_seen names 0 gap))
 
     pub bare_lowered : get_or (laid_slots names₂ entries₂ gap₂) last None ≡ None
     bare_lowered =
-        bare_down_slot (seen names 0 gap) (seen names₂ 0 gap₂) (seen entries nothing gap) (seen entries₂ nothing gap₂) laid.slots down.size down₂.size to
+        bare_down_slot (seen_slots names 0 gap) (seen_slots names₂ 0 gap₂) (seen_slots entries nothing gap) (seen_slots entries₂ nothing gap₂) laid.slots down.size down₂.size to
         last down down₂
 
 -- None yet.
 module _ (names : List ℕ) (entries : List Entry) (gap : Gap) (n : ℕ) (x : Entry) (is : names ≡ replicate n 0) (is₂ : entries ≡ replicate n x)
     (none : gap ≡ no_gap) where
-  whole_names : seen names 0 gap ≡ names
+  whole_names : seen_slots names 0 gap ≡ names
   whole_names =
       seen_whole names 0 gap (ap (λ (g : Gap). g.len) none)
       (let end = ap (λ (g : Gap). g.end) none in let at = ap (λ (g : Gap). g.at) none in omega (arith, at, end))
 
-  whole_entries : seen entries nothing gap ≡ entries
+  whole_entries : seen_slots entries nothing gap ≡ entries
   whole_entries =
       seen_whole entries nothing gap (ap (λ (g : Gap). g.len) none)
       (let end = ap (λ (g : Gap). g.end) none in let at = ap (λ (g : Gap). g.at) none in omega (arith, at, end))

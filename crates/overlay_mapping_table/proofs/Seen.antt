@@ -6,7 +6,7 @@ use Rattle.std.proofs.lemmas.List.{get_or_default, get_or-set_same, get_or-set_o
 use Rattle.std.proofs.lemmas.List.FromFn.{length-map-range_with_len, get_or-map-range_with_len}
 use Rattle.overlay_mapping_table.specs.declared.gaps.Gap.{Gap}
 use Rattle.overlay_mapping_table.specs.Shifts.{AreCopied}
-use Rattle.overlay_mapping_table.specs.Gaps.{seen, seen_at, AreDown, AreFilled, AreUp, IsGapIn, IsShifted, IsWrittenAt}
+use Rattle.overlay_mapping_table.specs.Gaps.{seen_slots, seen_at, AreDown, AreFilled, AreUp, IsGapIn, IsShifted, IsWrittenAt}
 
 -- What is seen of lists with a gap.
 
@@ -17,12 +17,12 @@ if_not : {X : Type 0} (b : Bool) (x y : X) → b ≡ false → cond b x y ≡ y
 if_not b x y is = ap (λ (t : Bool). cond t x y) is
 
 module _ {X : Type 0} (items : List X) (rest : X) (gap : Gap) where
-  pub size_seen : length (seen items rest gap) ≡ length items
-  unfolding seen
+  pub size_seen : length (seen_slots items rest gap) ≡ length items
+  unfolding seen_slots
   size_seen = length-map-range_with_len (seen_at items rest gap) 0 (length items)
 
-  one : (i : ℕ) (d : X) → i < length items → get_or (seen items rest gap) i d ≡ seen_at items rest gap i
-  unfolding seen
+  one : (i : ℕ) (d : X) → i < length items → get_or (seen_slots items rest gap) i d ≡ seen_at items rest gap i
+  unfolding seen_slots
   one i d inside = get_or-map-range_with_len (seen_at items rest gap) 0 (length items) i i d inside (omega arith)
 
   later : ℕ → X
@@ -55,36 +55,36 @@ module _ {X : Type 0} (items : List X) (rest : X) (gap : Gap) where
   unfolding last_one
   past_free i ge = if_not (nat_lt i (gap.end + gap.len)) _ _ (grind (arith, nat_tests, ge))
 
-  pub low : (i : ℕ) (d : X) → i < length items → i < gap.at → get_or (seen items rest gap) i d ≡ get_or items i rest
+  pub low : (i : ℕ) (d : X) → i < length items → i < gap.at → get_or (seen_slots items rest gap) i d ≡ get_or items i rest
   low i d inside less = one i d inside ∙ at_low i less
 
-  pub moved : (i : ℕ) (d : X) → i < length items → gap.at ≤ i → i < gap.end → get_or (seen items rest gap) i d ≡ get_or items (i + gap.len) rest
+  pub moved : (i : ℕ) (d : X) → i < length items → gap.at ≤ i → i < gap.end → get_or (seen_slots items rest gap) i d ≡ get_or items (i + gap.len) rest
   moved i d inside ge less = one i d inside ∙ at_high i ge ∙ in_stretch i less
 
-  pub free : (i : ℕ) (d : X) → i < length items → gap.at ≤ gap.end → gap.end ≤ i → i < gap.end + gap.len → get_or (seen items rest gap) i d ≡ rest
+  pub free : (i : ℕ) (d : X) → i < length items → gap.at ≤ gap.end → gap.end ≤ i → i < gap.end + gap.len → get_or (seen_slots items rest gap) i d ≡ rest
   free i d inside order ge less = one i d inside ∙ at_high i (omega (arith, order, ge)) ∙ past_stretch i ge ∙ in_free i less
 
-  pub high : (i : ℕ) (d : X) → i < length items → gap.at ≤ gap.end → gap.end + gap.len ≤ i → get_or (seen items rest gap) i d ≡ get_or items i rest
+  pub high : (i : ℕ) (d : X) → i < length items → gap.at ≤ gap.end → gap.end + gap.len ≤ i → get_or (seen_slots items rest gap) i d ≡ get_or items i rest
   high i d inside order ge = one i d inside ∙ at_high i (omega (arith, order, ge)) ∙ past_stretch i (omega (arith, ge)) ∙ past_free i ge
 
   -- an element that was read where it is written
-  pub read_low : (i : ℕ) (x : X) → x ≡ get_or items i x → i < length items → i < gap.at → x ≡ get_or (seen items rest gap) i x
+  pub read_low : (i : ℕ) (x : X) → x ≡ get_or items i x → i < length items → i < gap.at → x ≡ get_or (seen_slots items rest gap) i x
   read_low i x is inside less = is ∙ get_or_default items i x rest inside ∙ sym (low i x inside less)
 
   pub read_moved : (i : ℕ) (x : X) → x ≡ get_or items (i + gap.len) x → i < length items → i + gap.len < length items → gap.at ≤ i → i < gap.end
-      → x ≡ get_or (seen items rest gap) i x
+      → x ≡ get_or (seen_slots items rest gap) i x
   read_moved i x is inside within ge less = is ∙ get_or_default items (i + gap.len) x rest within ∙ sym (moved i x inside ge less)
 
-  pub read_high : (i : ℕ) (x : X) → x ≡ get_or items i x → i < length items → gap.at ≤ gap.end → gap.end + gap.len ≤ i → x ≡ get_or (seen items rest gap) i x
+  pub read_high : (i : ℕ) (x : X) → x ≡ get_or items i x → i < length items → gap.at ≤ gap.end → gap.end + gap.len ≤ i → x ≡ get_or (seen_slots items rest gap) i x
   read_high i x is inside order ge = is ∙ get_or_default items i x rest inside ∙ sym (high i x inside order ge)
 
 -- without a gap all is as it is written
-pub seen_whole : {X : Type 0} (items : List X) (rest : X) (gap : Gap) → gap.len ≡ 0 → gap.at ≤ gap.end → seen items rest gap ≡ items
+pub seen_whole : {X : Type 0} (items : List X) (rest : X) (gap : Gap) → gap.len ≡ 0 → gap.at ≤ gap.end → seen_slots items rest gap ≡ items
 seen_whole {X = X} items rest gap none order =
-    same_lists (seen items rest gap) items (size_seen items rest gap) (λ k d below.
+    same_lists (seen_slots items rest gap) items (size_seen items rest gap) (λ k d below.
     by k d (omega (arith, below, size_seen items rest gap)) (cases_lt k gap.at) (cases_lt k gap.end))
   where
-    by : (k : ℕ) (d : X) → k < length items → (k < gap.at) ⊎ (gap.at ≤ k) → (k < gap.end) ⊎ (gap.end ≤ k) → get_or (seen items rest gap) k d ≡ get_or items k d
+    by : (k : ℕ) (d : X) → k < length items → (k < gap.at) ⊎ (gap.at ≤ k) → (k < gap.end) ⊎ (gap.end ≤ k) → get_or (seen_slots items rest gap) k d ≡ get_or items k d
     by k d inside (inl less) side = low items rest gap k d inside less ∙ get_or_default items k rest d inside
     by k d inside (inr ge) (inl less) =
         let same : k + gap.len ≡ k = omega (arith, none) in
@@ -93,13 +93,13 @@ seen_whole {X = X} items rest gap none order =
 
 -- the gap is closed: it was moved behind the stretch, and what lay there was written over
 pub closed : {X : Type 0} (old mid new : List X) (rest : X) (gap : Gap) → IsGapIn (length old) gap → IsShifted old mid gap.at gap.end gap.len
-    → AreFilled mid new rest gap.end gap.len → new ≡ seen old rest gap
+    → AreFilled mid new rest gap.end gap.len → new ≡ seen_slots old rest gap
 closed {X = X} old mid new rest gap is shifted filled =
-    same_lists new (seen old rest gap) (filled.size ∙ shifted.size ∙ sym (size_seen old rest gap)) (λ k d below.
+    same_lists new (seen_slots old rest gap) (filled.size ∙ shifted.size ∙ sym (size_seen old rest gap)) (λ k d below.
     by k d (omega (arith, below, filled.size, shifted.size)) (cases_lt k gap.at) (cases_lt k gap.end) (cases_lt k (gap.end + gap.len)))
   where
     by : (k : ℕ) (d : X) → k < length old → (k < gap.at) ⊎ (gap.at ≤ k) → (k < gap.end) ⊎ (gap.end ≤ k)
-        → (k < gap.end + gap.len) ⊎ (gap.end + gap.len ≤ k) → get_or new k d ≡ get_or (seen old rest gap) k d
+        → (k < gap.end + gap.len) ⊎ (gap.end + gap.len ≤ k) → get_or new k d ≡ get_or (seen_slots old rest gap) k d
     by k d inside (inl less) side far =
         filled.below k d (omega (arith, less, is.order))
         ∙ shifted.below k d less (omega (arith, less, is.order))
@@ -124,7 +124,7 @@ module _ {X : Type 0} (old mid new : List X) (rest : X) (gap : Gap) (from end ro
   abbrev shorter : Gap
   shorter = record { at = from + 1; end = end + 1; len = gap.len - 1 }
 
-  pub up_in : AreUp (seen old rest gap) (seen new rest (record { at = from + 1; end = end + 1; len = gap.len - 1 })) rest from end room
+  pub up_in : AreUp (seen_slots old rest gap) (seen_slots new rest (record { at = from + 1; end = end + 1; len = gap.len - 1 })) rest from end room
   up_in =
       record {
         size = size_seen new rest shorter ∙ size ∙ shifted.size ∙ sym (size_seen old rest gap);
@@ -136,7 +136,7 @@ module _ {X : Type 0} (old mid new : List X) (rest : X) (gap : Gap) (from end ro
       wide : length new ≡ length old
       wide = size ∙ shifted.size
 
-      up : (i : ℕ) (d : X) → from ≤ i → i < end → (i < gap.at) ⊎ (gap.at ≤ i) → get_or (seen new rest shorter) (i + 1) d ≡ get_or (seen old rest gap) i d
+      up : (i : ℕ) (d : X) → from ≤ i → i < end → (i < gap.at) ⊎ (gap.at ≤ i) → get_or (seen_slots new rest shorter) (i + 1) d ≡ get_or (seen_slots old rest gap) i d
       up i d ge below side =
           let far : i + 1 + (gap.len - 1) ≡ i + gap.len = omega (arith, some) in
           moved new rest shorter (i + 1) d (omega (arith, below, here, is.inside, wide, some)) (omega (arith, ge)) (omega (arith, below))
@@ -144,26 +144,26 @@ module _ {X : Type 0} (old mid new : List X) (rest : X) (gap : Gap) (from end ro
           ∙ same (i + gap.len) rest (λ equal. omega (arith, equal, ge, some))
           ∙ was side
         where
-          was : (i < gap.at) ⊎ (gap.at ≤ i) → get_or mid (i + gap.len) rest ≡ get_or (seen old rest gap) i d
+          was : (i < gap.at) ⊎ (gap.at ≤ i) → get_or mid (i + gap.len) rest ≡ get_or (seen_slots old rest gap) i d
           was (inl before) = shifted.up i rest ge before ∙ sym (low old rest gap i d (omega (arith, below, here, is.inside)) before)
           was (inr behind) =
               shifted.above (i + gap.len) rest (omega (arith, behind)) (omega (arith, ge))
               ∙ sym (moved old rest gap i d (omega (arith, below, here, is.inside)) behind (omega (arith, below, here)))
 
-      lower : (i : ℕ) (d : X) → i < from → (i < gap.at) ⊎ (gap.at ≤ i) → get_or (seen new rest shorter) i d ≡ get_or (seen old rest gap) i d
+      lower : (i : ℕ) (d : X) → i < from → (i < gap.at) ⊎ (gap.at ≤ i) → get_or (seen_slots new rest shorter) i d ≡ get_or (seen_slots old rest gap) i d
       lower i d below side =
           low new rest shorter i d (omega (arith, below, less, here, is.inside, wide)) (omega (arith, below))
           ∙ same i rest (λ equal. omega (arith, equal, below))
           ∙ was side
         where
-          was : (i < gap.at) ⊎ (gap.at ≤ i) → get_or mid i rest ≡ get_or (seen old rest gap) i d
+          was : (i < gap.at) ⊎ (gap.at ≤ i) → get_or mid i rest ≡ get_or (seen_slots old rest gap) i d
           was (inl before) = shifted.below i rest before below ∙ sym (low old rest gap i d (omega (arith, below, less, here, is.inside)) before)
           was (inr behind) =
               shifted.down i rest behind below
               ∙ sym (moved old rest gap i d (omega (arith, below, less, here, is.inside)) behind (omega (arith, below, less, here)))
 
       upper : (i : ℕ) (d : X) → end < i → (i < length old) ⊎ (length old ≤ i) → (i < gap.end + gap.len) ⊎ (gap.end + gap.len ≤ i)
-          → get_or (seen new rest shorter) i d ≡ get_or (seen old rest gap) i d
+          → get_or (seen_slots new rest shorter) i d ≡ get_or (seen_slots old rest gap) i d
       upper i d past (inl inside) (inl before) =
           free new rest shorter i d (omega (arith, inside, wide)) (omega (arith, less)) (omega (arith, past)) (omega (arith, before, here, some))
           ∙ sym (free old rest gap i d inside is.order (omega (arith, past, here)) before)
@@ -173,8 +173,8 @@ module _ {X : Type 0} (old mid new : List X) (rest : X) (gap : Gap) (from end ro
           ∙ shifted.above i rest (omega (arith, behind, is.order)) (omega (arith, behind, less, here))
           ∙ sym (high old rest gap i d inside is.order behind)
       upper i d past (inr out) side =
-          get_or_past (seen new rest shorter) i d (omega (arith, out, wide, size_seen new rest shorter))
-          ∙ sym (get_or_past (seen old rest gap) i d (omega (arith, out, size_seen old rest gap)))
+          get_or_past (seen_slots new rest shorter) i d (omega (arith, out, wide, size_seen new rest shorter))
+          ∙ sym (get_or_past (seen_slots old rest gap) i d (omega (arith, out, size_seen old rest gap)))
 
 -- The same where there was no gap: it was opened, as wide as there is room.
 module _ {X : Type 0} (old mid new : List X) (rest : X) (from end room : ℕ) (some : 0 < room) (less : from < end) (inside : end + room ≤ length old)
@@ -183,7 +183,7 @@ module _ {X : Type 0} (old mid new : List X) (rest : X) (from end room : ℕ) (s
   abbrev wider : Gap
   wider = record { at = from + 1; end = end + 1; len = room - 1 }
 
-  pub up_anew : AreUp old (seen new rest (record { at = from + 1; end = end + 1; len = room - 1 })) rest from end room
+  pub up_anew : AreUp old (seen_slots new rest (record { at = from + 1; end = end + 1; len = room - 1 })) rest from end room
   up_anew =
       record {
         size = size_seen new rest wider ∙ size ∙ copied.size;
@@ -208,7 +208,7 @@ module _ {X : Type 0} (old mid new : List X) (rest : X) (from end room : ℕ) (s
       wide = size ∙ copied.size
 
       upper : (i : ℕ) (d : X) → end < i → (i < length old) ⊎ (length old ≤ i) → (i < end + room) ⊎ (end + room ≤ i)
-          → (get_or (seen new rest wider) i d ≡ get_or old i d) ⊎ ((i < end + room) × (get_or (seen new rest wider) i d ≡ rest))
+          → (get_or (seen_slots new rest wider) i d ≡ get_or old i d) ⊎ ((i < end + room) × (get_or (seen_slots new rest wider) i d ≡ rest))
       upper i d past (inl within) (inl before) =
           inr (before, free new rest wider i d (omega (arith, within, wide)) (omega (arith, less)) (omega (arith, past)) (omega (arith, before, some)))
       upper i d past (inl within) (inr behind) =
@@ -219,11 +219,11 @@ module _ {X : Type 0} (old mid new : List X) (rest : X) (from end room : ℕ) (s
           ∙ get_or_default old i rest d within
           )
       upper i d past (inr out) side =
-          inl (get_or_past (seen new rest wider) i d (omega (arith, out, wide, size_seen new rest wider)) ∙ sym (get_or_past old i d out))
+          inl (get_or_past (seen_slots new rest wider) i d (omega (arith, out, wide, size_seen new rest wider)) ∙ sym (get_or_past old i d out))
 
 -- what was written over has the value then
 pub bare_up : {X : Type 0} (mid new : List X) (rest : X) (from end len : ℕ) → from < length mid → new ≡ slice_set mid from rest
-    → get_or (seen new rest (record { at = from + 1; end = end; len = len })) from rest ≡ rest
+    → get_or (seen_slots new rest (record { at = from + 1; end = end; len = len })) from rest ≡ rest
 bare_up {X = X} mid new rest from end len inside is =
     low new rest (record { at = from + 1; end = end; len = len }) from rest (omega (arith, inside, ap length is ∙ length-set mid from rest)) (omega arith)
     ∙ ap (λ (xs : List X). get_or xs from rest) is
@@ -240,7 +240,7 @@ module _ {X : Type 0} (old new : List X) (rest : X) (gap : Gap) (to last : ℕ) 
   abbrev longer : Gap
   longer = record { at = to; end = last; len = gap.len + 1 }
 
-  pub down_in : AreDown (seen old rest gap) (seen new rest (record { at = to; end = last; len = gap.len + 1 })) rest to last
+  pub down_in : AreDown (seen_slots old rest gap) (seen_slots new rest (record { at = to; end = last; len = gap.len + 1 })) rest to last
   down_in =
       record {
         size = size_seen new rest longer ∙ shifted.size ∙ sym (size_seen old rest gap);
@@ -254,33 +254,33 @@ module _ {X : Type 0} (old new : List X) (rest : X) (gap : Gap) (to last : ℕ) 
       wide = shifted.size
 
       down : (i : ℕ) (d : X) → to ≤ i → i < last → (i + 1 < gap.at) ⊎ (gap.at ≤ i + 1)
-          → get_or (seen new rest longer) i d ≡ get_or (seen old rest gap) (i + 1) d
+          → get_or (seen_slots new rest longer) i d ≡ get_or (seen_slots old rest gap) (i + 1) d
       down i d ge below side =
           let far : i + (gap.len + 1) ≡ i + 1 + gap.len = omega arith in
           moved new rest longer i d (omega (arith, below, here, is.inside, wide)) ge below
           ∙ ap (λ j. get_or new j rest) far
           ∙ was side
         where
-          was : (i + 1 < gap.at) ⊎ (gap.at ≤ i + 1) → get_or new (i + 1 + gap.len) rest ≡ get_or (seen old rest gap) (i + 1) d
+          was : (i + 1 < gap.at) ⊎ (gap.at ≤ i + 1) → get_or new (i + 1 + gap.len) rest ≡ get_or (seen_slots old rest gap) (i + 1) d
           was (inl before) =
               shifted.up (i + 1) rest (omega (arith, ge)) before ∙ sym (low old rest gap (i + 1) d (omega (arith, below, here, is.inside)) before)
           was (inr behind) =
               shifted.above (i + 1 + gap.len) rest (omega (arith, behind)) (omega (arith, ge))
               ∙ sym (moved old rest gap (i + 1) d (omega (arith, below, here, is.inside)) behind (omega (arith, below, here)))
 
-      lower : (i : ℕ) (d : X) → i < to → (i < gap.at) ⊎ (gap.at ≤ i) → get_or (seen new rest longer) i d ≡ get_or (seen old rest gap) i d
+      lower : (i : ℕ) (d : X) → i < to → (i < gap.at) ⊎ (gap.at ≤ i) → get_or (seen_slots new rest longer) i d ≡ get_or (seen_slots old rest gap) i d
       lower i d below side =
           low new rest longer i d (omega (arith, below, less, here, is.inside, wide)) below
           ∙ was side
         where
-          was : (i < gap.at) ⊎ (gap.at ≤ i) → get_or new i rest ≡ get_or (seen old rest gap) i d
+          was : (i < gap.at) ⊎ (gap.at ≤ i) → get_or new i rest ≡ get_or (seen_slots old rest gap) i d
           was (inl before) = shifted.below i rest before below ∙ sym (low old rest gap i d (omega (arith, below, less, here, is.inside)) before)
           was (inr behind) =
               shifted.down i rest behind below
               ∙ sym (moved old rest gap i d (omega (arith, below, less, here, is.inside)) behind (omega (arith, below, less, here)))
 
       upper : (i : ℕ) (d : X) → last < i → (i < length old) ⊎ (length old ≤ i) → (i < gap.end + gap.len) ⊎ (gap.end + gap.len ≤ i)
-          → get_or (seen new rest longer) i d ≡ get_or (seen old rest gap) i d
+          → get_or (seen_slots new rest longer) i d ≡ get_or (seen_slots old rest gap) i d
       upper i d past (inl inside) (inl before) =
           free new rest longer i d (omega (arith, inside, wide)) (omega (arith, less)) (omega (arith, past)) (omega (arith, before, here))
           ∙ sym (free old rest gap i d inside is.order (omega (arith, past, here)) before)
@@ -289,15 +289,15 @@ module _ {X : Type 0} (old new : List X) (rest : X) (gap : Gap) (to last : ℕ) 
           ∙ shifted.above i rest (omega (arith, behind, is.order)) (omega (arith, behind, less, here))
           ∙ sym (high old rest gap i d inside is.order behind)
       upper i d past (inr out) side =
-          get_or_past (seen new rest longer) i d (omega (arith, out, wide, size_seen new rest longer))
-          ∙ sym (get_or_past (seen old rest gap) i d (omega (arith, out, size_seen old rest gap)))
+          get_or_past (seen_slots new rest longer) i d (omega (arith, out, wide, size_seen new rest longer))
+          ∙ sym (get_or_past (seen_slots old rest gap) i d (omega (arith, out, size_seen old rest gap)))
 
 -- The same where there was no gap: nothing moves.
 module _ {X : Type 0} (old : List X) (rest : X) (to last : ℕ) (less : to < last) (inside : last < length old) where
   abbrev single : Gap
   single = record { at = to; end = last; len = 1 }
 
-  pub down_anew : AreDown old (seen old rest (record { at = to; end = last; len = 1 })) rest to last
+  pub down_anew : AreDown old (seen_slots old rest (record { at = to; end = last; len = 1 })) rest to last
   down_anew =
       record {
         size = size_seen old rest single;
@@ -309,19 +309,19 @@ module _ {X : Type 0} (old : List X) (rest : X) (to last : ℕ) (less : to < las
         above = λ i d past. upper i d past (cases_lt i (length old));
       }
     where
-      upper : (i : ℕ) (d : X) → last < i → (i < length old) ⊎ (length old ≤ i) → get_or (seen old rest single) i d ≡ get_or old i d
+      upper : (i : ℕ) (d : X) → last < i → (i < length old) ⊎ (length old ≤ i) → get_or (seen_slots old rest single) i d ≡ get_or old i d
       upper i d past (inl within) =
           high old rest single i d within (omega (arith, less)) (omega (arith, past)) ∙ get_or_default old i rest d within
-      upper i d past (inr out) = get_or_past (seen old rest single) i d (omega (arith, out, size_seen old rest single)) ∙ sym (get_or_past old i d out)
+      upper i d past (inr out) = get_or_past (seen_slots old rest single) i d (omega (arith, out, size_seen old rest single)) ∙ sym (get_or_past old i d out)
 
 -- An element that is written where it is.
 module _ {X : Type 0} (items : List X) (rest x : X) (gap : Gap) (is : IsGapIn (length items) gap) (i place : ℕ) (inside : i < length items) where
-  written_by : ((ys : List X) (d : X) → length ys ≡ length items → get_or (seen ys rest gap) i d ≡ get_or ys place rest) → place < length items
+  written_by : ((ys : List X) (d : X) → length ys ≡ length items → get_or (seen_slots ys rest gap) i d ≡ get_or ys place rest) → place < length items
       → ((k : ℕ) → (k ≡ i → ⊥) → k < gap.at → k ≡ place → ⊥) → ((k : ℕ) → (k ≡ i → ⊥) → gap.at ≤ k → k < gap.end → k + gap.len ≡ place → ⊥)
       → ((k : ℕ) → (k ≡ i → ⊥) → gap.at ≤ k → gap.end + gap.len ≤ k → k ≡ place → ⊥)
-      → seen (slice_set items place x) rest gap ≡ slice_set (seen items rest gap) i x
+      → seen_slots (slice_set items place x) rest gap ≡ slice_set (seen_slots items rest gap) i x
   written_by reads within apart_low apart_moved apart_high =
-      same_lists (seen new rest gap) (slice_set (seen items rest gap) i x) level (λ k d below.
+      same_lists (seen_slots new rest gap) (slice_set (seen_slots items rest gap) i x) level (λ k d below.
       by k d (omega (arith, below, wide, size_seen new rest gap)) (cases_eq k i))
     where
       new : List X
@@ -330,11 +330,11 @@ module _ {X : Type 0} (items : List X) (rest x : X) (gap : Gap) (is : IsGapIn (l
       wide : length new ≡ length items
       wide = length-set items place x
 
-      level : length (seen new rest gap) ≡ length (slice_set (seen items rest gap) i x)
-      level = size_seen new rest gap ∙ wide ∙ sym (length-set (seen items rest gap) i x ∙ size_seen items rest gap)
+      level : length (seen_slots new rest gap) ≡ length (slice_set (seen_slots items rest gap) i x)
+      level = size_seen new rest gap ∙ wide ∙ sym (length-set (seen_slots items rest gap) i x ∙ size_seen items rest gap)
 
       other : (k : ℕ) (d : X) → k < length items → (k ≡ i → ⊥) → (k < gap.at) ⊎ (gap.at ≤ k) → (k < gap.end) ⊎ (gap.end ≤ k)
-          → (k < gap.end + gap.len) ⊎ (gap.end + gap.len ≤ k) → get_or (seen new rest gap) k d ≡ get_or (seen items rest gap) k d
+          → (k < gap.end + gap.len) ⊎ (gap.end + gap.len ≤ k) → get_or (seen_slots new rest gap) k d ≡ get_or (seen_slots items rest gap) k d
       other k d inside differ (inl less) side far =
           low new rest gap k d (omega (arith, inside, wide)) less
           ∙ get_or-set_other items place k x rest (apart_low k differ less)
@@ -350,18 +350,18 @@ module _ {X : Type 0} (items : List X) (rest x : X) (gap : Gap) (is : IsGapIn (l
           ∙ get_or-set_other items place k x rest (apart_high k differ ge more)
           ∙ sym (high items rest gap k d inside is.order more)
 
-      by : (k : ℕ) (d : X) → k < length items → (k ≡ i) ⊎ (k ≡ i → ⊥) → get_or (seen new rest gap) k d ≡ get_or (slice_set (seen items rest gap) i x) k d
+      by : (k : ℕ) (d : X) → k < length items → (k ≡ i) ⊎ (k ≡ i → ⊥) → get_or (seen_slots new rest gap) k d ≡ get_or (slice_set (seen_slots items rest gap) i x) k d
       by k d below (inl same) =
-          ap (λ j. get_or (seen new rest gap) j d) same
+          ap (λ j. get_or (seen_slots new rest gap) j d) same
           ∙ reads new d wide
           ∙ get_or-set_same items place x rest within
-          ∙ sym (get_or-set_same (seen items rest gap) i x d (omega (arith, inside, size_seen items rest gap)))
-          ∙ ap (λ j. get_or (slice_set (seen items rest gap) i x) j d) (sym same)
+          ∙ sym (get_or-set_same (seen_slots items rest gap) i x d (omega (arith, inside, size_seen items rest gap)))
+          ∙ ap (λ j. get_or (slice_set (seen_slots items rest gap) i x) j d) (sym same)
       by k d below (inr differ) =
           other k d below differ (cases_lt k gap.at) (cases_lt k gap.end) (cases_lt k (gap.end + gap.len))
-          ∙ sym (get_or-set_other (seen items rest gap) i k x d differ)
+          ∙ sym (get_or-set_other (seen_slots items rest gap) i k x d differ)
 
-  pub written : IsWrittenAt gap i place → seen (slice_set items place x) rest gap ≡ slice_set (seen items rest gap) i x
+  pub written : IsWrittenAt gap i place → seen_slots (slice_set items place x) rest gap ≡ slice_set (seen_slots items rest gap) i x
   written (inl (less, same)) =
       written_by (λ ys d size. low ys rest gap i d (omega (arith, inside, size)) less ∙ ap (λ j. get_or ys j rest) (sym same))
       (omega (arith, same, inside)) (λ k differ before equal. let again : k ≡ i = omega (arith, equal, same) in differ again)

@@ -10,7 +10,7 @@ use Rattle.sizes.specs.declared.TheConstants.{FRAME_UNITS, MOST_FRAMES}
 use Rattle.number_maps.specs.Values.{remove_absent}
 use Rattle.overlay_mapping_table.specs.declared.entry.Entry.{Entry}
 use Rattle.overlay_mapping_table.specs.Homes.{home_number, IsWay}
-use Rattle.overlay_mapping_table.specs.Rows.{rows_of, map_of, no_rows, StandOnce, AreInOrder, HasWay}
+use Rattle.overlay_mapping_table.specs.Rows.{rows_of, map_of_slots, no_rows, StandOnce, AreInOrder, HasWay}
 use Rattle.overlay_mapping_table.specs.Probes.{AreNow, AreSound, IsGap, IsThere}
 use Rattle.overlay_mapping_table.specs.Table.{Table, HasRoomFor, AreThoseOf, NoneIsEmptyBefore}
 use Rattle.overlay_mapping_table.specs.Kept.{AreKept, names_of}
@@ -52,23 +52,23 @@ module _ (slots : List (Option (ℕ × Entry))) (count room : ℕ) (kept : AreKe
 
 -- What a table has.
 
-has_there : (slots : List (Option (ℕ × Entry))) (entries : FinMap nat_cmp Entry) (name at : ℕ) → map_of slots ≡ entries → StandOnce slots
+has_there : (slots : List (Option (ℕ × Entry))) (entries : FinMap nat_cmp Entry) (name at : ℕ) → map_of_slots slots ≡ entries → StandOnce slots
     → (there : IsThere slots name at) → get entries name ≡ Some there.value
 has_there slots entries name at same apart there =
     ap (λ (m : FinMap nat_cmp Entry). get m name) (sym same) ∙ got slots name at there.value apart there.is
 
-pub lacks : (slots : List (Option (ℕ × Entry))) (entries : FinMap nat_cmp Entry) (name place : ℕ) → map_of slots ≡ entries → IsGap slots name place
+pub lacks : (slots : List (Option (ℕ × Entry))) (entries : FinMap nat_cmp Entry) (name place : ℕ) → map_of_slots slots ≡ entries → IsGap slots name place
     → None ≡ get entries name
 lacks slots entries name place same gap =
     sym (ap (λ (m : FinMap nat_cmp Entry). get m name) (sym same) ∙ got_none slots name gap.absent)
 
 pub got_there : (slots : List (Option (ℕ × Entry))) (entries : FinMap nat_cmp Entry) (name at : ℕ) (value : Option Entry)
-    → map_of slots ≡ entries → StandOnce slots → IsThere slots name at
+    → map_of_slots slots ≡ entries → StandOnce slots → IsThere slots name at
     → value ≡ option_map (λ (row : ℕ × Entry). row.1) (get_or slots at None) → value ≡ get entries name
 got_there slots entries name at value same apart there read =
     read ∙ ap (option_map (λ (row : ℕ × Entry). row.1)) there.is ∙ sym (has_there slots entries name at same apart there)
 
-pub stands_lacking : (slots : List (Option (ℕ × Entry))) (entries : FinMap nat_cmp Entry) (name place : ℕ) → map_of slots ≡ entries
+pub stands_lacking : (slots : List (Option (ℕ × Entry))) (entries : FinMap nat_cmp Entry) (name place : ℕ) → map_of_slots slots ≡ entries
     → IsGap slots name place
     → entries ≡ remove entries name
 stands_lacking slots entries name place same gap = sym (remove_absent entries name (sym (lacks slots entries name place same gap)))
@@ -121,9 +121,9 @@ module _ (slots : List (Option (ℕ × Entry))) (count room : ℕ) (kept : AreKe
               way = has.way;
             }
 
-    pub over_now : (new : List (Option (ℕ × Entry))) → new ≡ slice_set slots at (Some (name, e)) → AreNow slots new (insert (map_of slots) name e)
+    pub over_now : (new : List (Option (ℕ × Entry))) → new ≡ slice_set slots at (Some (name, e)) → AreNow slots new (insert (map_of_slots slots) name e)
     over_now new is =
-        subst (λ ss. AreNow slots ss (insert (map_of slots) name e)) (sym is) (record {
+        subst (λ ss. AreNow slots ss (insert (map_of_slots slots) name e)) (sym is) (record {
           size = length-set slots at (Some (name, e));
           apart = apart_put slots name at e own kept.apart;
           order = subst (λ n. AreInOrder n over) (sym (length-set slots at (Some (name, e)))) order;
@@ -144,28 +144,28 @@ module _ (slots : List (Option (ℕ × Entry))) (count room : ℕ) (kept : AreKe
 
     pub kept_over : (new : List (Option (ℕ × Entry))) → new ≡ slice_set slots at (Some (name, e)) → AreKept new count room
     kept_over new is =
-        kept_now slots count room kept new (insert (map_of slots) name e) count (over_now new is)
-        (kept.counted ∙ sym (len_over (map_of slots) name e there.value (got slots name at there.value kept.apart there.is))) kept.few
+        kept_now slots count room kept new (insert (map_of_slots slots) name e) count (over_now new is)
+        (kept.counted ∙ sym (len_over (map_of_slots slots) name e there.value (got slots name at there.value kept.apart there.is))) kept.few
 
-    pub stands_over : (entries : FinMap nat_cmp Entry) (new : List (Option (ℕ × Entry))) → map_of slots ≡ entries
-        → new ≡ slice_set slots at (Some (name, e)) → map_of new ≡ insert entries name e
+    pub stands_over : (entries : FinMap nat_cmp Entry) (new : List (Option (ℕ × Entry))) → map_of_slots slots ≡ entries
+        → new ≡ slice_set slots at (Some (name, e)) → map_of_slots new ≡ insert entries name e
     stands_over entries new same is = (over_now new is).map ∙ ap (λ (m : FinMap nat_cmp Entry). insert m name e) same
 
   -- there is room for one more, where there is room for the name
-  pub room_left : (table : Table) (place : ℕ) → map_of slots ≡ table.entries → room ≡ table.room → IsGap slots name place → HasRoomFor table name
+  pub room_left : (table : Table) (place : ℕ) → map_of_slots slots ≡ table.entries → room ≡ table.room → IsGap slots name place → HasRoomFor table name
       → count < room
   room_left table place same same_room gap (inl some) =
       let none = lacks slots table.entries name place same gap in absurd (false≢true (ap is_some none ∙ some))
   room_left table place same same_room gap (inr less) = let lens = ap len same in omega (arith, less, lens, same_room, kept.counted)
 
-  pub kept_put : (new : List (Option (ℕ × Entry))) (place : ℕ) → IsGap slots name place → AreNow slots new (insert (map_of slots) name e)
+  pub kept_put : (new : List (Option (ℕ × Entry))) (place : ℕ) → IsGap slots name place → AreNow slots new (insert (map_of_slots slots) name e)
       → count < room → AreKept new (count + 1) room
   kept_put new place gap now less =
-      let more = len_put (map_of slots) name e (got_none slots name gap.absent) in
-      kept_now slots count room kept new (insert (map_of slots) name e) (count + 1) now (omega (arith, kept.counted, more)) (omega (arith, less))
+      let more = len_put (map_of_slots slots) name e (got_none slots name gap.absent) in
+      kept_now slots count room kept new (insert (map_of_slots slots) name e) (count + 1) now (omega (arith, kept.counted, more)) (omega (arith, less))
 
-  pub stands_put : (entries : FinMap nat_cmp Entry) (new : List (Option (ℕ × Entry))) → map_of slots ≡ entries
-      → AreNow slots new (insert (map_of slots) name e) → map_of new ≡ insert entries name e
+  pub stands_put : (entries : FinMap nat_cmp Entry) (new : List (Option (ℕ × Entry))) → map_of_slots slots ≡ entries
+      → AreNow slots new (insert (map_of_slots slots) name e) → map_of_slots new ≡ insert entries name e
   stands_put entries new same now = now.map ∙ ap (λ (m : FinMap nat_cmp Entry). insert m name e) same
 
 module _ (slots : List (Option (ℕ × Entry))) (count room : ℕ) (kept : AreKept slots count room) (name at : ℕ) (there : IsThere slots name at) where
@@ -175,13 +175,13 @@ module _ (slots : List (Option (ℕ × Entry))) (count room : ℕ) (kept : AreKe
       let same = (fewer slots count room kept).1 in
       omega (arith, some, same)
 
-  pub kept_take : (new : List (Option (ℕ × Entry))) → AreNow slots new (remove (map_of slots) name) → AreKept new (count - 1) room
+  pub kept_take : (new : List (Option (ℕ × Entry))) → AreNow slots new (remove (map_of_slots slots) name) → AreKept new (count - 1) room
   kept_take new now =
-      let less = len_take (map_of slots) name there.value (got slots name at there.value kept.apart there.is) in
-      kept_now slots count room kept new (remove (map_of slots) name) (count - 1) now (omega (arith, kept.counted, less)) (omega (arith, kept.few))
+      let less = len_take (map_of_slots slots) name there.value (got slots name at there.value kept.apart there.is) in
+      kept_now slots count room kept new (remove (map_of_slots slots) name) (count - 1) now (omega (arith, kept.counted, less)) (omega (arith, kept.few))
 
-  pub stands_take : (entries : FinMap nat_cmp Entry) (new : List (Option (ℕ × Entry))) → map_of slots ≡ entries
-      → AreNow slots new (remove (map_of slots) name) → map_of new ≡ remove entries name
+  pub stands_take : (entries : FinMap nat_cmp Entry) (new : List (Option (ℕ × Entry))) → map_of_slots slots ≡ entries
+      → AreNow slots new (remove (map_of_slots slots) name) → map_of_slots new ≡ remove entries name
   stands_take entries new same now = now.map ∙ ap (λ (m : FinMap nat_cmp Entry). remove m name) same
 
 -- A new table.
@@ -207,9 +207,9 @@ kept_new slots n room is size some most =
         get_or-replicate n i (none_of {X = Entry}) None (omega (arith, less, length-replicate n (none_of {X = Entry}))) in
         cc (none, there)
 
-pub stands_new : (slots : List (Option (ℕ × Entry))) (n : ℕ) → slots ≡ no_rows n → map_of slots ≡ empty
+pub stands_new : (slots : List (Option (ℕ × Entry))) (n : ℕ) → slots ≡ no_rows n → map_of_slots slots ≡ empty
 unfolding no_rows
-stands_new slots n is = ap map_of is ∙ map_of_none n
+stands_new slots n is = ap map_of_slots is ∙ map_of_none n
 
 -- What the slots show.
 
@@ -237,7 +237,7 @@ module _ (slots : List (Option (ℕ × Entry))) (count room : ℕ) (kept : AreKe
   row_at : (i name : ℕ) → get_or (names_of slots) i None ≡ Some name → (x : Entry) × (get_or slots i None ≡ Some (name, x))
   row_at i name is = row_of (get_or slots i None) name (sym (name_at slots i) ∙ is)
 
-  pub those : AreThoseOf (names_of slots) (map_of slots)
+  pub those : AreThoseOf (names_of slots) (map_of_slots slots)
   those =
       record {
         there = λ at name is. let row = row_at at name is in ap is_some (got slots name at row.0 kept.apart row.1);

@@ -7,8 +7,8 @@ use Rattle.overlay_mapping_table.specs.declared.entry.Entry.{Entry}
 use Rattle.overlay_mapping_table.specs.contracts.entry.Entry as entry
 
 -- Tables are told apart as values by their parts.
-abbrev pub table_code : Coded Table
-table_code =
+abbrev pub mapping_table_code : Coded Table
+mapping_table_code =
     code_by (FinMap nat_cmp Entry × (ℕ × List (Option ℕ)))
     (coded× (code {R = nat_cmp} coded_ℕ entry.the_row.coded) (coded× coded_ℕ (coded_list (coded_option coded_ℕ))))
     (λ t. (t.entries, (t.room, t.slots))) (λ t. record { entries = t.0; room = t.1.0; slots = t.1.1 }) (λ _. refl)

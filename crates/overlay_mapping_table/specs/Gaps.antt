@@ -22,8 +22,8 @@ module _ {X : Type 0} where
       (cond (nat_lt i gap.end) (get_or items (i + gap.len) rest) (cond (nat_lt i (gap.end + gap.len)) rest (get_or items i rest)))
 
   -- all of them
-  unfoldable pub seen : List X → X → Gap → List X
-  seen items rest gap = map (seen_at items rest gap) (range_with_len 0 (length items))
+  unfoldable pub seen_slots : List X → X → Gap → List X
+  seen_slots items rest gap = map (seen_at items rest gap) (range_with_len 0 (length items))
 
 -- an element is written at a place
 abbrev pub IsWrittenAt : Gap → ℕ → ℕ → Type 0
@@ -69,4 +69,4 @@ ShowNone names end room = (i : ℕ) → end < i → i < end + room → get_or na
 pub record AreLaid (names : List ℕ) (entries : List Entry) (gap : Gap) : Type 0 where
   pub same : length entries ≡ length names
   pub room : IsGapIn (length names) gap
-  pub slots : AreSlots (seen names 0 gap) (seen entries nothing gap)
+  pub slots : AreSlots (seen_slots names 0 gap) (seen_slots entries nothing gap)

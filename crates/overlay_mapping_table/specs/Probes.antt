@@ -4,7 +4,7 @@ use Rattle.std.specs.Ordering.{nat_cmp}
 use Rattle.std.specs.FinMap.{FinMap, remove}
 use Rattle.overlay_mapping_table.specs.declared.entry.Entry.{Entry}
 use Rattle.overlay_mapping_table.specs.Homes.{home_number, IsWay}
-use Rattle.overlay_mapping_table.specs.Rows.{map_of, ring, StandOnce, AreInOrder, HasWay}
+use Rattle.overlay_mapping_table.specs.Rows.{map_of_slots, ring, StandOnce, AreInOrder, HasWay}
 
 -- What a probe asks of slots and says of them.
 
@@ -65,8 +65,8 @@ pub record AreNow (old new : List (Option (ℕ × Entry))) (entries : FinMap nat
   pub size : length new ≡ length old
   pub apart : StandOnce new
   pub order : AreInOrder (length new) new
-  pub map : map_of new ≡ entries
+  pub map : map_of_slots new ≡ entries
 
 -- the row of a slot was taken out
 abbrev pub IsTakenOut : List (Option (ℕ × Entry)) → List (Option (ℕ × Entry)) → ℕ → Type 0
-IsTakenOut old new at = (name : ℕ) → IsThere old name at → AreNow old new (remove (map_of old) name)
+IsTakenOut old new at = (name : ℕ) → IsThere old name at → AreNow old new (remove (map_of_slots old) name)

@@ -14,8 +14,8 @@ module _ {X : Type 0} where
   rows_of (None ∷ slots) = rows_of slots
   rows_of (Some row ∷ slots) = row ∷ rows_of slots
 
-  unfoldable pub map_of : List (Option (ℕ × X)) → FinMap nat_cmp X
-  map_of slots = from_entries (rows_of slots)
+  unfoldable pub map_of_slots : List (Option (ℕ × X)) → FinMap nat_cmp X
+  map_of_slots slots = from_entries (rows_of slots)
 
   -- a name stands in one slot at most
   abbrev pub StandOnce : List (Option (ℕ × X)) → Type 0
@@ -40,14 +40,14 @@ module _ {X : Type 0} where
       (place w i : ℕ) → HasWay n slots place w → i < place → place ≤ i + w → (v : ℕ) × HasWay n slots i v × (i + w ≤ place + v)
 
   -- the slots that names and what stands beside them make: a name of 0 is that of an empty slot
-  unfoldable pub slot_of : ℕ → X → Option (ℕ × X)
-  slot_of zero x = None
-  slot_of (suc name) x = Some (suc name, x)
+  unfoldable pub slot_seen : ℕ → X → Option (ℕ × X)
+  slot_seen zero x = None
+  slot_seen (suc name) x = Some (suc name, x)
 
   unfoldable pub slots_of : List ℕ → List X → List (Option (ℕ × X))
   slots_of [] xs = []
   slots_of (name ∷ names) [] = []
-  slots_of (name ∷ names) (x ∷ xs) = slot_of name x ∷ slots_of names xs
+  slots_of (name ∷ names) (x ∷ xs) = slot_seen name x ∷ slots_of names xs
 
   -- the name in a slot, or 0
   abbrev pub name_in : Option (ℕ × X) → ℕ

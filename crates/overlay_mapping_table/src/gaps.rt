@@ -1,5 +1,5 @@
 ghost use Rattle.std.specs.Prelude.{◌≡◌, ◌<◌, ◌≤◌, ◌+◌, length, get_or};
-ghost use Rattle.overlay_mapping_table.specs.Gaps.{no_gap, seen, AreFilled, IsGapIn, IsShifted, IsWrittenAt};
+ghost use Rattle.overlay_mapping_table.specs.Gaps.{no_gap, seen_slots, AreFilled, IsGapIn, IsShifted, IsWrittenAt};
 
 use crate::filled::Filled;
 
@@ -29,7 +29,7 @@ impl Gap {
 pub(crate) fn read<T: Copy>(items: &Filled<T>, rest: T, gap: Gap, i: usize) -> T
     requires inside { i < length items.now }
     requires gap { IsGapIn (length items.now) gap }
-    ensures { result ≡ get_or (seen items.now rest gap) i result }
+    ensures { result ≡ get_or (seen_slots items.now rest gap) i result }
 {
     let _n = items.len();
     if i < gap.at {
@@ -77,7 +77,7 @@ pub(crate) fn shift<T: Copy>(items: &mut Filled<T>, at: usize, to: usize, len: u
 // Closes the gap: what is seen is what is written then.
 pub(crate) fn close<T: Copy>(items: &mut Filled<T>, rest: T, gap: Gap)
     requires { IsGapIn (length items.old) gap }
-    ensures { items.new ≡ seen items.old rest gap }
+    ensures { items.new ≡ seen_slots items.old rest gap }
 {
     if gap.len > 0 {
         shift(items, gap.at, gap.end, gap.len);

@@ -1,6 +1,6 @@
 ghost use Rattle.std.specs.Prelude.{◌≡◌, ◌<◌, ◌≤◌, ◌+◌, length, get_or};
 ghost use Rattle.overlay_mapping_table.specs.Rows.{nothing};
-ghost use Rattle.overlay_mapping_table.specs.Gaps.{seen, ShowNone, AreDown, AreUp, IsGapIn};
+ghost use Rattle.overlay_mapping_table.specs.Gaps.{seen_slots, ShowNone, AreDown, AreUp, IsGapIn};
 
 use crate::entry::Entry;
 use crate::filled::Filled;
@@ -30,7 +30,7 @@ pub(crate) fn room_from(names: &Filled<u64>, gap: Gap, from: usize, end: usize) 
     requires end { end < length names.now }
     ensures some { 0 < result }
     ensures inside { end + result ≤ length names.now }
-    ensures bare { ShowNone (seen names.now 0 gap) end result }
+    ensures bare { ShowNone (seen_slots names.now 0 gap) end result }
 {
     let is_there = gap.len > 0 && gap.end == end;
     if is_there || end - from < MANY {
@@ -63,9 +63,9 @@ pub(crate) fn move_up(
     requires some { 0 < room }
     requires room { end + room ≤ length names.old }
     ensures gap { IsGapIn (length names.old) result }
-    ensures names { AreUp (seen names.old 0 gap) (seen names.new 0 result) 0 from end room }
-    ensures bare { get_or (seen names.new 0 result) from 0 ≡ 0 }
-    ensures entries { AreUp (seen entries.old nothing gap) (seen entries.new nothing result) nothing from end room }
+    ensures names { AreUp (seen_slots names.old 0 gap) (seen_slots names.new 0 result) 0 from end room }
+    ensures bare { get_or (seen_slots names.new 0 result) from 0 ≡ 0 }
+    ensures entries { AreUp (seen_slots entries.old nothing gap) (seen_slots entries.new nothing result) nothing from end room }
 {
     let _n = names.len();
     if gap.len > 0 && gap.end == end {
@@ -104,8 +104,8 @@ pub(crate) fn move_down(
     requires order { to < last }
     requires last { last < length names.old }
     ensures gap { IsGapIn (length names.old) result }
-    ensures names { AreDown (seen names.old 0 gap) (seen names.new 0 result) 0 to last }
-    ensures entries { AreDown (seen entries.old nothing gap) (seen entries.new nothing result) nothing to last }
+    ensures names { AreDown (seen_slots names.old 0 gap) (seen_slots names.new 0 result) 0 to last }
+    ensures entries { AreDown (seen_slots entries.old nothing gap) (seen_slots entries.new nothing result) nothing to last }
 {
     let _n = names.len();
     if gap.len > 0 && gap.end == last + 1 {
@@ -136,8 +136,8 @@ pub(crate) fn settle(
     requires gap { IsGapIn (length names.old) gap }
     requires beside { length entries.old ≡ length names.old }
     ensures gap { IsGapIn (length names.old) result }
-    ensures names { seen names.new 0 result ≡ seen names.old 0 gap }
-    ensures entries { seen entries.new nothing result ≡ seen entries.old nothing gap }
+    ensures names { seen_slots names.new 0 result ≡ seen_slots names.old 0 gap }
+    ensures entries { seen_slots entries.new nothing result ≡ seen_slots entries.old nothing gap }
     ensures full { i < result.end + result.len → i < result.end }
 {
     let _n = names.len();

@@ -1,7 +1,7 @@
 ghost use Rattle.std.specs.Prelude.{◌≡◌, ◌≤◌, ◌<◌, ◌+◌, ◌*◌, ◌^◌, ℕ, None, length};
 ghost use Rattle.std.specs.Int.{IsPowerOfTwo};
 ghost use Rattle.std.specs.FinMap.{insert};
-ghost use Rattle.overlay_mapping_table.specs.Rows.{map_of, ring, StandOnce};
+ghost use Rattle.overlay_mapping_table.specs.Rows.{map_of_slots, ring, StandOnce};
 ghost use Rattle.overlay_mapping_table.specs.Probes.{AreNow, AreSound, IsBeyond, IsGap, IsTakenOut, IsThere};
 ghost use Rattle.overlay_mapping_table.specs.Shifts.{AreLowered, AreRaised, IsEnd, HaveRows, IsLast};
 
@@ -26,7 +26,7 @@ pub(crate) fn put_in(
     requires sound { AreSound slots.old }
     requires full { HaveRows slots.old full }
     requires gap { IsGap slots.old p place }
-    ensures now { AreNow slots.old slots.new (insert (map_of slots.old) p e) }
+    ensures now { AreNow slots.old slots.new (insert (map_of_slots slots.old) p e) }
     ensures full { HaveRows slots.new result }
 {
     let end = end_from(slots, guesses, full, place);

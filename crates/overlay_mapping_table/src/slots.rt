@@ -26,11 +26,11 @@ impl Model for Slots {
     ghost use Rattle.std.specs.Prelude.{ℕ, List, Option};
     ghost use Rattle.overlay_mapping_table.specs.declared.entry.Entry.{Entry};
     ghost use Rattle.overlay_mapping_table.specs.Rows.{nothing, slots_of};
-    ghost use Rattle.overlay_mapping_table.specs.Gaps.{seen, AreLaid};
+    ghost use Rattle.overlay_mapping_table.specs.Gaps.{seen_slots, AreLaid};
 
     ghost Value = { List (Option (ℕ × Entry)) };
 
-    ghost view = { λ s. slots_of (seen s.names 0 s.gap) (seen s.entries nothing s.gap) };
+    ghost view = { λ s. slots_of (seen_slots s.names 0 s.gap) (seen_slots s.entries nothing s.gap) };
 
     ghost invariant = { λ s. AreLaid s.names s.entries s.gap };
 }

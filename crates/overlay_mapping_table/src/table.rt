@@ -30,16 +30,16 @@ pub struct MappingTable {
 
 impl Model for MappingTable {
     ghost use Rattle.overlay_mapping_table.specs.Table.{Table};
-    ghost use Rattle.overlay_mapping_table.specs.Codes.{table_code};
+    ghost use Rattle.overlay_mapping_table.specs.Codes.{mapping_table_code};
 
     ghost Value = { Table };
 
-    ghost coded = { table_code };
+    ghost coded = { mapping_table_code };
 
-    ghost use Rattle.overlay_mapping_table.specs.Rows.{map_of};
+    ghost use Rattle.overlay_mapping_table.specs.Rows.{map_of_slots};
     ghost use Rattle.overlay_mapping_table.specs.Kept.{AreKept, names_of};
 
-    ghost view = { λ t. record { entries = map_of t.slots; room = t.room; slots = names_of t.slots } };
+    ghost view = { λ t. record { entries = map_of_slots t.slots; room = t.room; slots = names_of t.slots } };
 
     ghost use Rattle.overlay_mapping_table.specs.Shifts.{HaveRows};
 

@@ -9,7 +9,7 @@ use Rattle.command_core.specs.Rows.{refuses}
 use Rattle.command_core.specs.Commands.{rules, step_done, steps, takes_left, takes_turns, told}
 use Rattle.command_core.specs.LikeLaws.{left_found}
 use Rattle.command_core.specs.Looks.{BeginsStep, begun}
-use Rattle.command_core.specs.Turns.{InRun, Progress, Ran, alone, ran_text, run_found}
+use Rattle.command_core.specs.Turns.{InRun, Progress, Ran, begun_alone, ran_text, run_found}
 
 -- Turns that were just begun: all of them are left.
 
@@ -26,9 +26,9 @@ ok_is a b e = cc
 
 -- the turns of one process, which is there and runs
 module _ (p turns : ℕ) (state : State) where
-  runs_begun : (running : InRun) (b : Bool) → Ok running ≡ cond b (Ok (run_found state.breakpoints state.wholes (alone p turns))) (Err Ended)
-      → takes_left running state ≡ cond b (takes_turns (alone p turns) state) (told false (refuses Ended state))
-  runs_begun running true is = takes_begun running (alone p turns) state (ok_is running (run_found state.breakpoints state.wholes (alone p turns)) is) (omega arith)
+  runs_begun : (running : InRun) (b : Bool) → Ok running ≡ cond b (Ok (run_found state.breakpoints state.wholes (begun_alone p turns))) (Err Ended)
+      → takes_left running state ≡ cond b (takes_turns (begun_alone p turns) state) (told false (refuses Ended state))
+  runs_begun running true is = takes_begun running (begun_alone p turns) state (ok_is running (run_found state.breakpoints state.wholes (begun_alone p turns)) is) (omega arith)
   runs_begun running false is = cc
 
   found_begun : (running : InRun) (found : Option Process) → Ok running ≡ begun state.breakpoints state.wholes p turns found

@@ -13,7 +13,7 @@ use Rattle.command_core.specs.declared.session.Counts.{Counts}
 use Rattle.command_core.specs.declared.session.ProcessView.{ProcessView}
 use Rattle.command_core.specs.State.{Checkpoint, State, registry_of}
 use Rattle.command_core.specs.Commands.{checkpoint_text, counts_text, list_head, process_text, stats_text}
-use Rattle.command_core.specs.Looks.{NextProcess, ShowsCheckpoint, counts_of, from_number, looked_at, view_of}
+use Rattle.command_core.specs.Looks.{NextProcess, ShowsCheckpoint, counts_of, from_number, looked_at, process_view}
 
 -- The processes from a number on.
 
@@ -42,7 +42,7 @@ pub line_is : (processes : Processes) (p : ℕ) (process : Process) (view : Proc
     → Ok view ≡ looked_at (get processes p) → line ≡ process_line p view.state view.speculating view.pages → line ≡ process_text (p, process)
 unfolding process_text
 line_is processes p process view line there looks is =
-    let same : view ≡ view_of process = ok_is view (view_of process) (looks ∙ ap looked_at there) in
+    let same : view ≡ process_view process = ok_is view (process_view process) (looks ∙ ap looked_at there) in
     is ∙ ap (λ (v : ProcessView). process_line p v.state v.speculating v.pages) same
   where
     ok_is : (v u : ProcessView) → ◌≡◌ {A = Result ProcessView Code} (Ok v) (Ok u) → v ≡ u

@@ -11,7 +11,7 @@ use Rattle.clap.proofs.OnLiterals.{clap_on_literals}
 use Rattle.overlay_top.specs.declared.words.TheConstants.{FRAMES, QUANTUM, MOST_QUANTUM}
 use Rattle.overlay_top.specs.declared.words.WordsError.{WordsError}
 use Rattle.overlay_top.specs.declared.words.WordsError.TheVariants.{Refused, Memory}
-use Rattle.overlay_top.specs.Words.{MatchesWords, ReadsWords, command_line, number_of, refusal_of, seed_of, settings_from, settings_in, settings_of}
+use Rattle.overlay_top.specs.Words.{MatchesWords, ReadsWords, command_line, option_number, words_refusal, seed_of, settings_from, settings_in, settings_of}
 
 -- The command is one of which `clap` says everything.
 
@@ -34,10 +34,10 @@ unmatched words Refused fails = fails
 unmatched words Memory fails = tt
 
 pub refused : (words : List Text) (kind : ErrorKind) → (kind ≡ OutOfMemory) ⊎ IsAmong kind (fault_of command_line words)
-    → MatchesWords words (Err (refusal_of kind))
+    → MatchesWords words (Err (words_refusal kind))
 refused words kind has = elim has [
-  | inl memory ↦ subst (λ k. MatchesWords words (Err (refusal_of k))) (sym memory) tt
-  | inr among ↦ unmatched words (refusal_of kind) (is_some_kind kind (fault_of command_line words) among)
+  | inl memory ↦ subst (λ k. MatchesWords words (Err (words_refusal k))) (sym memory) tt
+  | inr among ↦ unmatched words (words_refusal kind) (is_some_kind kind (fault_of command_line words) among)
 ]
 
 -- What reading them gives, by what it finds.
@@ -57,14 +57,14 @@ set_by words matches found = rw found.0 (ap settings_in (sym found.1))
 pub values_set : (matches : ArgMatches) (first second third : Option Text) (frames quantum : Option ℕ) (seed : Option (Option ℕ))
     → first ≡ first_value (found_of matches) (codes "frames") → second ≡ first_value (found_of matches) (codes "quantum")
     → third ≡ first_value (found_of matches) (codes "make")
-    → frames ≡ number_of FRAMES MOST_FRAMES first → quantum ≡ number_of QUANTUM MOST_QUANTUM second → seed ≡ seed_of third
+    → frames ≡ option_number FRAMES MOST_FRAMES first → quantum ≡ option_number QUANTUM MOST_QUANTUM second → seed ≡ seed_of third
     → settings_from frames quantum seed ≡ settings_in (rows_of (found_of matches))
 values_set matches first second third frames quantum seed is_first is_second is_third is_frames is_quantum is_seed =
     let row = first_value-rows (found_of matches) in
-    let wide : Option ℕ = number_of FRAMES MOST_FRAMES (first_of (codes "frames") (rows_of (found_of matches))) in
-    let long : Option ℕ = number_of QUANTUM MOST_QUANTUM (first_of (codes "quantum") (rows_of (found_of matches))) in
-    ap (λ f. settings_from f quantum seed) (is_frames ∙ ap (number_of FRAMES MOST_FRAMES) (is_first ∙ row (codes "frames")))
-    ∙ ap (λ q. settings_from wide q seed) (is_quantum ∙ ap (number_of QUANTUM MOST_QUANTUM) (is_second ∙ row (codes "quantum")))
+    let wide : Option ℕ = option_number FRAMES MOST_FRAMES (first_of (codes "frames") (rows_of (found_of matches))) in
+    let long : Option ℕ = option_number QUANTUM MOST_QUANTUM (first_of (codes "quantum") (rows_of (found_of matches))) in
+    ap (λ f. settings_from f quantum seed) (is_frames ∙ ap (option_number FRAMES MOST_FRAMES) (is_first ∙ row (codes "frames")))
+    ∙ ap (λ q. settings_from wide q seed) (is_quantum ∙ ap (option_number QUANTUM MOST_QUANTUM) (is_second ∙ row (codes "quantum")))
     ∙ ap (settings_from wide long) (is_seed ∙ ap seed_of (is_third ∙ row (codes "make")))
 
 pub set_by_parts : {frames frames_is quantum quantum_is : Option ℕ} {seed seed_is : Option (Option ℕ)} → frames ≡ frames_is → quantum ≡ quantum_is → seed ≡ seed_is

@@ -17,12 +17,12 @@ abbrev pub view_text : ℕ → ProcessView → List ℕ
 view_text p view = regs_line p view.state view.speculating ++ registers_text view.regs
 
 -- the memory of a process; none of a page where there is no process
-abbrev pub memory_of : Option Process → Memory
-memory_of None = empty
-memory_of (Some process) = process.memory
+abbrev pub shown_memory : Option Process → Memory
+shown_memory None = empty
+shown_memory (Some process) = process.memory
 
 abbrev pub memory_in : ℕ → State → Memory
-memory_in p state = memory_of (get state.wholes.processes p)
+memory_in p state = shown_memory (get state.wholes.processes p)
 
 -- n bytes of a process from an address on were looked at: it is there, so is each of them, and they end where user addresses end
 pub record Sees (found : Option Process) (address n : ℕ) : Type 0 where
@@ -36,8 +36,8 @@ abbrev pub SeesWords : ℕ → ℕ → ℕ → State → Type 0
 SeesWords p address words state = SeesBytes p address (WORD_BYTES * words) state
 
 -- the lines of bytes of a process, and of words
-abbrev pub bytes_text : ℕ → ℕ → ℕ → State → List ℕ
-bytes_text p address count state = dump_text (memory_in p state) address count
+abbrev pub bytes_dumped : ℕ → ℕ → ℕ → State → List ℕ
+bytes_dumped p address count state = dump_text (memory_in p state) address count
 
 abbrev pub words_text : ℕ → ℕ → ℕ → State → List ℕ
 words_text p address words state = disasm_text (memory_in p state) address words

@@ -24,18 +24,18 @@ command_line =
     (option_of (codes "frames"))) (option_of (codes "quantum"))) (option_of (codes "make"))
 
 -- The number of a text within a range, as Rust's `parse` reads one.
-abbrev pub number_in : ℕ → ℕ → Text → Option ℕ
-number_in least most text = if is_unsigned_in least most text then Some (digits_value 10 (without_leading_plus text)) else None
+abbrev pub parsed_in : ℕ → ℕ → Text → Option ℕ
+parsed_in least most text = if is_unsigned_in least most text then Some (digits_value 10 (without_leading_plus text)) else None
 
 -- the number of an option, from 1 on: the default where it isn't given
-abbrev pub number_of : ℕ → ℕ → Option Text → Option ℕ
-number_of default most None = Some default
-number_of default most (Some text) = number_in 1 most text
+abbrev pub option_number : ℕ → ℕ → Option Text → Option ℕ
+option_number default most None = Some default
+option_number default most (Some text) = parsed_in 1 most text
 
 -- the seed of an option, of 64 bits: none is set where it isn't given
 abbrev pub seed_of : Option Text → Option (Option ℕ)
 seed_of None = Some None
-seed_of (Some text) = option_map Some (number_in 0 (2 ^ 64 - 1) text)
+seed_of (Some text) = option_map Some (parsed_in 0 (2 ^ 64 - 1) text)
 
 abbrev pub settings_from : Option ℕ → Option ℕ → Option (Option ℕ) → Option Settings
 settings_from (Some frames) (Some quantum) (Some seed) = Some (record { frames = frames; quantum = quantum; seed = seed })
@@ -46,7 +46,7 @@ settings_from None quantum seed = None
 -- What the options set, by the values that `clap` found.
 abbrev pub settings_in : List Row → Option Settings
 settings_in rows =
-    settings_from (number_of FRAMES MOST_FRAMES (first_of (codes "frames") rows)) (number_of QUANTUM MOST_QUANTUM (first_of (codes "quantum") rows))
+    settings_from (option_number FRAMES MOST_FRAMES (first_of (codes "frames") rows)) (option_number QUANTUM MOST_QUANTUM (first_of (codes "quantum") rows))
     (seed_of (first_of (codes "make") rows))
 
 -- What words set, where they are the command's.
@@ -69,9 +69,9 @@ abbrev pub AreInRange : Settings → Type 0
 AreInRange settings = IsFromOne MOST_FRAMES settings.frames × IsFromOne MOST_QUANTUM settings.quantum
 
 -- what `clap` finds in them, and what reading them gives; for want of memory neither says anything
-abbrev pub refusal_of : ErrorKind → WordsError
-refusal_of OutOfMemory = Memory
-refusal_of kind = Refused
+abbrev pub words_refusal : ErrorKind → WordsError
+words_refusal OutOfMemory = Memory
+words_refusal kind = Refused
 
 abbrev pub MatchesWords : List Text → Result ArgMatches WordsError → Type 0
 MatchesWords words (Ok matches) = (fault_of command_line words ≡ []) × (rows_of (found_of matches) ≡ matches_of command_line words)

@@ -5,7 +5,7 @@ ghost use Rattle.script_text.specs.declared.TheConstants.{MOST_WORDS};
 ghost use Rattle.report_text.specs.Answers.{HasAnswerLine, answer_text};
 ghost use Rattle.command_core.specs.Changes.{CanBeTold};
 ghost use Rattle.command_core.specs.State.{registry_of};
-ghost use Rattle.command_core.specs.Commands.{RunsLoaded, asks, change_told, checkpoints_text, disasm_done, dump_done, exec_done, exec_turns, list_text, load_told, performed_in, processes_text, registers_text, regs_done, rules, run_done, stats_text, step_done, takes_left, tells_exec, value_at};
+ghost use Rattle.command_core.specs.Commands.{RunsLoaded, asks, change_told, checkpoints_text, disasm_done, dump_done, exec_done, exec_turns, list_text, load_told, performed_in, processes_text, registers_text, regs_done, rules, run_done, stats_text, step_done, takes_left, tells_exec, register_value};
 ghost use Rattle.overlay_top.specs.Sending.{SendsText};
 ghost use Rattle.overlay_top.specs.Printing.{view_text};
 ghost use Rattle.overlay_top.specs.Running.{DoesCommand, TakesOn, TellsAnswer};
@@ -272,9 +272,9 @@ fn list<K: Sink>(session: &Session, report: &mut Report<K>) -> Result<(), Failed
 }
 
 /// The value of a register, by its number; of the pc, for 0.
-fn value_at(regs: &Regs, i: u8) -> u64
+fn register_value(regs: &Regs, i: u8) -> u64
     requires { i < 32 }
-    ensures { result ≡ value_at regs.now i }
+    ensures { result ≡ register_value regs.now i }
 {
     if i == 0 { regs.pc() } else { regs.get(i) }
 }
@@ -287,7 +287,7 @@ fn send_registers<K: Sink>(regs: &Regs, report: &mut Report<K>) -> Result<(), Fa
 {
     let mut i = 0u8;
     'sending: while i < 32 {
-        register_line(i, value_at(regs, i), &mut report.line);
+        register_line(i, register_value(regs, i), &mut report.line);
         report.send()?;
         i += 1;
     }

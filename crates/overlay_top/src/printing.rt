@@ -7,7 +7,7 @@ ghost use Rattle.report_text.specs.Lines.{dump_line};
 ghost use Rattle.command_core.specs.declared.TheConstants.{WORD_BYTES};
 ghost use Rattle.command_core.specs.Commands.{disasm_row};
 ghost use Rattle.overlay_top.specs.Sending.{SendsText};
-ghost use Rattle.overlay_top.specs.Printing.{SeesBytes, SeesWords, bytes_text, memory_in, words_text};
+ghost use Rattle.overlay_top.specs.Printing.{SeesBytes, SeesWords, bytes_dumped, memory_in, words_text};
 
 use crate::sending::Report;
 use byteorder::{ByteOrder, LittleEndian};
@@ -37,7 +37,7 @@ pub(crate) fn send_bytes<K: Sink>(
     report: &mut Report<K>,
 ) -> Result<(), Failed>
     requires sees { SeesBytes p address count session.now.state }
-    ensures sends { SendsText K.Sink report.old.sink.now (bytes_text p address count session.now.state)
+    ensures sends { SendsText K.Sink report.old.sink.now (bytes_dumped p address count session.now.state)
         report.new.sink.now result }
     ensures same { report.new.sink.ghost_name ≡ report.old.sink.ghost_name }
 {

@@ -1,6 +1,6 @@
 ghost use Rattle.std.specs.Prelude.{◌≡◌, IfOk, IfSome, false, map, option_map, string_bytes};
 ghost use Rattle.clap.specs.Words.{app_of, found_of, kind_of, rows_of, rule_of};
-ghost use Rattle.overlay_top.specs.Words.{AreInRange, IsFromOne, MatchesWords, ReadsWords, command_line, number_of, option_of, refusal_of, seed_of, settings_in};
+ghost use Rattle.overlay_top.specs.Words.{AreInRange, IsFromOne, MatchesWords, ReadsWords, command_line, option_number, option_of, words_refusal, seed_of, settings_in};
 
 use clap::error::ErrorKind;
 use clap::{Arg, ArgAction, ArgMatches, Command, Error};
@@ -69,7 +69,7 @@ fn command<'a>(alloc: Global) -> Result<Command<'a>, AllocError>
 /// The number of an option, from 1 on: the default where it isn't given, and none where its value is no number of the range.
 fn number(value: Option<&str>, default: u32, most: u32) -> Option<u32>
     requires { IsFromOne most default }
-    ensures value { result ≡ number_of default most (option_map (λ text. text.now) value.entry) }
+    ensures value { result ≡ option_number default most (option_map (λ text. text.now) value.entry) }
     ensures range { IfSome result (IsFromOne most) }
 {
     match value {
@@ -106,7 +106,7 @@ fn matched<'a>(alloc: Global, words: &'a [String]) -> Result<ArgMatches<'a>, Wor
 
 /// Why `clap` gives nothing.
 fn refusal(error: &Error) -> WordsError
-    ensures { result ≡ refusal_of (kind_of error.now) }
+    ensures { result ≡ words_refusal (kind_of error.now) }
 {
     match error.kind() {
         ErrorKind::OutOfMemory => WordsError::Memory,

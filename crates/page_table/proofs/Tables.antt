@@ -11,7 +11,7 @@ use Rattle.page_table.specs.declared.entry.PageEntry.{PageEntry}
 use Rattle.page_table.specs.declared.run.PageRun.{PageRun}
 use Rattle.page_table.specs.Table.{Pages, is_within, IsFree, AreThere, IsUnmapped, IsNext}
 use Rattle.page_table.specs.Run.{IsRunFrom, entry_at}
-use Rattle.page_table.specs.Kept.{IsRest, AreSame, HasFilled, HasRun, HasSet, HaveLost, IsRunBehind, IsPlace, IsRun, ComeInOrder, entry_for, plain_run, find_in, lies_in, pages_of, run_at, single, tail_of, total}
+use Rattle.page_table.specs.Kept.{IsRest, AreSame, HasFilled, HasRun, HasSet, HaveLost, IsRunBehind, IsPlace, IsRun, ComeInOrder, entry_for, plain_run, find_in, lies_in, run_pages, run_at, single, run_tail, total}
 use Rattle.page_table.proofs.Pages.{get_in, len_in, same_pages, within_at, within_behind, within_from, within_is, within_none, within_to}
 use Rattle.page_table.proofs.Places.{found_at, found_none, ends_behind}
 use Rattle.page_table.proofs.Edits.{entry_tail, find_insert, item_at, find_put, is_tail, low_at, rise_insert, rise_put, tail_fits, total_insert, total_put}
@@ -19,11 +19,11 @@ use Rattle.page_table.proofs.Edits.{entry_tail, find_insert, item_at, find_put, 
 -- Tables, by the runs that they keep.
 
 -- how many pages there are
-pub counted : (pages : Pages) (runs : List PageRun) → pages_of runs ≡ pages → ComeInOrder 0 runs → total runs ≡ len pages
+pub counted : (pages : Pages) (runs : List PageRun) → run_pages runs ≡ pages → ComeInOrder 0 runs → total runs ≡ len pages
 counted pages runs same h = sym (len_in 0 runs h) ∙ ap len same
 
 -- what is found is what there is
-pub found_is : (pages : Pages) (runs : List PageRun) (page : ℕ) → pages_of runs ≡ pages → find_in runs page ≡ get pages page
+pub found_is : (pages : Pages) (runs : List PageRun) (page : ℕ) → run_pages runs ≡ pages → find_in runs page ≡ get pages page
 found_is pages runs page same = sym (get_in runs page) ∙ ap (λ (m : Pages). get m page) same
 
 -- What is read at the place of a page: its run, or the first behind it.
@@ -73,7 +73,7 @@ run_fits run is rising =
     omega (arith, last, is.some)
 
 -- the next run from a page on is that run, where it begins at the page or behind it
-pub whole_run : (pages : Pages) (runs : List PageRun) (page : ℕ) (run : PageRun) → pages_of runs ≡ pages → IsRunBehind runs page run → page ≤ run.page
+pub whole_run : (pages : Pages) (runs : List PageRun) (page : ℕ) (run : PageRun) → run_pages runs ≡ pages → IsRunBehind runs page run → page ≤ run.page
     → IsRest pages page run
 whole_run pages runs page run same h le = record {
   from = le;
@@ -85,8 +85,8 @@ whole_run pages runs page run same h le = record {
 }
 
 -- and else its pages from that one on
-pub rest_of_run : (pages : Pages) (runs : List PageRun) (page : ℕ) (run : PageRun) → pages_of runs ≡ pages → IsRunBehind runs page run → run.page < page
-    → IsRest pages page (tail_of run (page - run.page))
+pub rest_of_run : (pages : Pages) (runs : List PageRun) (page : ℕ) (run : PageRun) → run_pages runs ≡ pages → IsRunBehind runs page run → run.page < page
+    → IsRest pages page (run_tail run (page - run.page))
 rest_of_run pages runs page run same h lt =
     let n = page - run.page in
     let own = is_tail run n h.own (omega (arith, h.to, lt)) in
@@ -100,7 +100,7 @@ rest_of_run pages runs page run same h lt =
           ∙ subst (λ q. find_in runs q ≡ Some (entry_at run (n + i))) on (h.has (n + i) (omega (arith, less, h.to, lt)))
           ∙ ap (λ (e : PageEntry). Some e) (sym (entry_tail run n i));
       low = own.low;
-      fits = run_fits (tail_of run n) own;
+      fits = run_fits (run_tail run n) own;
     }
 
 -- the first page of the next run is the next page
@@ -122,7 +122,7 @@ next_first pages page run next = (next.from, has, next.none)
 -- What is kept.
 
 -- A run of n pages is put in.
-pub filled_run : (runs new : List PageRun) (from n at : ℕ) (entry : PageEntry) → ComeInOrder 0 runs → IsFree (pages_of runs) from n → from + n ≤ 2 ^ 41
+pub filled_run : (runs new : List PageRun) (from n at : ℕ) (entry : PageEntry) → ComeInOrder 0 runs → IsFree (run_pages runs) from n → from + n ≤ 2 ^ 41
     → 0 < n → n < 2 ^ 32 → entry.frame < 2 ^ 32 → IsPlace runs from at → new ≡ list.insert runs at (plain_run from n entry)
     → HasFilled runs from n entry new
 filled_run runs new from n at entry h free low some few fits place is =
@@ -138,7 +138,7 @@ filled_run runs new from n at entry h free low some few fits place is =
 
 pub filled_none : (runs : List PageRun) (from n : ℕ) (entry : PageEntry) → ComeInOrder 0 runs → n ≡ 0 → HasFilled runs from n entry runs
 filled_none runs from n entry h none = record {
-  pages = λ q. ap (λ (b : Bool). cond b (Some entry) (get (pages_of runs) q)) (sym (ap (λ (k : ℕ). is_within from k q) none ∙ within_none from q));
+  pages = λ q. ap (λ (b : Bool). cond b (Some entry) (get (run_pages runs) q)) (sym (ap (λ (k : ℕ). is_within from k q) none ∙ within_none from q));
   rise = h;
   count = omega (arith, none);
 }
@@ -161,10 +161,10 @@ set_one runs cut put new page at e parts there begins one is joined = record {
       ∙ by_key q page
       (λ same.
       ap (λ (b : Bool). cond b (Some e) (find_in cut q)) (within_is page 1 q (omega (arith, same)) (omega (arith, same)))
-      ∙ sym (get_same (pages_of runs) page q e same))
+      ∙ sym (get_same (run_pages runs) page q e same))
       (λ other.
       ap (λ (b : Bool). cond b (Some e) (find_in cut q)) (outside q other) ∙ parts.found q ∙ sym (get_in runs q)
-      ∙ sym (get_other (pages_of runs) page q e other)));
+      ∙ sym (get_other (run_pages runs) page q e other)));
   rise = joined.rise;
   count = joined.count ∙ ap total is ∙ total_put cut at page e there one ∙ parts.count;
 }
@@ -236,7 +236,7 @@ clearing_more old now new from n had at left has later gone so_far lost le more 
     }
 
 -- the next page is still there
-pub lost_next : (old now : List PageRun) (from done n : ℕ) → AreThere (pages_of old) from n → done < n → HaveLost old from done now
+pub lost_next : (old now : List PageRun) (from done n : ℕ) → AreThere (run_pages old) from n → done < n → HaveLost old from done now
     → IsSome (find_in now (from + done))
 lost_next old now from done n there lt lost =
     ap is_some (lost.found (from + done)
@@ -244,8 +244,8 @@ lost_next old now from done n there lt lost =
     ∙ sym (get_in old (from + done)))
     ∙ there (from + done) (within_at from n done lt)
 
-pub unmapped_run : (pages : Pages) (runs new : List PageRun) (from n : ℕ) → pages_of runs ≡ pages → HaveLost runs from n new
-    → IsUnmapped pages from n (pages_of new)
+pub unmapped_run : (pages : Pages) (runs new : List PageRun) (from n : ℕ) → run_pages runs ≡ pages → HaveLost runs from n new
+    → IsUnmapped pages from n (run_pages new)
 unmapped_run pages runs new from n same lost q =
     get_in new q ∙ lost.found q ∙ ap (λ (o : Option PageEntry). cond (is_within from n q) None o) (found_is pages runs q same)
 
@@ -263,7 +263,7 @@ low_found from (run ∷ runs) page h some = by (lies_in run page) refl (low_foun
     by true is behind = omega (arith, within_to run.page run.n page is, h.1.low)
     by false is behind = behind (sym (ap (λ (b : Bool). is_some (cond b (Some (entry_for run page)) (find_in runs page))) is) ∙ some)
 
-pub there_fits : (pages : Pages) (runs : List PageRun) (from n : ℕ) → pages_of runs ≡ pages → ComeInOrder 0 runs → AreThere pages from n → from < 2 ^ 64
+pub there_fits : (pages : Pages) (runs : List PageRun) (from n : ℕ) → run_pages runs ≡ pages → ComeInOrder 0 runs → AreThere pages from n → from < 2 ^ 64
     → from + n < 2 ^ 64
 there_fits pages runs from zero same h there low = omega (arith, low)
 there_fits pages runs from (suc n) same h there low =

@@ -8,7 +8,7 @@ use Rattle.number_maps.specs.Keys.{by_key, get_same, get_other}
 use Rattle.number_maps.specs.Rows.{map_of, key_at, Rise, IsGap}
 use Rattle.number_maps.specs.RowLaws.{got_gap, map_insert, never_falls, rise_insert}
 use Rattle.page_table.specs.declared.entry.PageEntry.{PageEntry}
-use Rattle.page_table.specs.Nodes.{Links, child_at, look, node_at, page_end, size, slot, slot_in, slot_of}
+use Rattle.page_table.specs.Nodes.{Links, child_at, look, node_at, page_end, size, slot, slot_in, page_slot}
 use Rattle.page_table.specs.Kept.{IsSpot, IsUpper, EndBy, HaveGrown, HasChild, HasLeaf, HaveLeaves, IsTree}
 
 -- Nodes by their links: two paths never meet, and a new node changes no other path.
@@ -83,20 +83,20 @@ has_slot links page s true (Some leaf) low at h = (leaf, record { low = low_page
     same : (a b : ℕ) → ◌≡◌ {A = Option ℕ} (Some b) (Some a) → a ≡ b
     same a b h = cc
 
-pub slot_parts : (links : Links) (page s : ℕ) → slot_of links page ≡ Some s → (l : ℕ) × IsSlot links page s l
+pub slot_parts : (links : Links) (page s : ℕ) → page_slot links page ≡ Some s → (l : ℕ) × IsSlot links page s l
 slot_parts links page s h = has_slot links page s (nat_lt page page_end) (node_at links 3 (page / 512)) refl refl h
 
-pub slot_low : (links : Links) (page : ℕ) → page < 2 ^ 36 → slot_of links page ≡ slot_in (node_at links 3 (page / 512)) (page % 512)
+pub slot_low : (links : Links) (page : ℕ) → page < 2 ^ 36 → page_slot links page ≡ slot_in (node_at links 3 (page / 512)) (page % 512)
 slot_low links page low = ap (λ (b : Bool). cond b (slot_in (node_at links 3 (page / 512)) (page % 512)) None) (page_low page low)
 
-pub slot_none : (links : Links) (page : ℕ) → 2 ^ 36 ≤ page → slot_of links page ≡ None
+pub slot_none : (links : Links) (page : ℕ) → 2 ^ 36 ≤ page → page_slot links page ≡ None
 slot_none links page high = ap (λ (b : Bool). cond b (slot_in (node_at links 3 (page / 512)) (page % 512)) None) (page_high page high)
 
-pub slot_has : (links : Links) (page leaf : ℕ) → page < 2 ^ 36 → node_at links 3 (page / 512) ≡ Some leaf → slot_of links page ≡ Some (slot leaf (page % 512))
+pub slot_has : (links : Links) (page leaf : ℕ) → page < 2 ^ 36 → node_at links 3 (page / 512) ≡ Some leaf → page_slot links page ≡ Some (slot leaf (page % 512))
 slot_has links page leaf low at = slot_low links page low ∙ ap (λ (o : Option ℕ). slot_in o (page % 512)) at
 
 -- two pages never have one slot
-pub slot_once : (links : Links) → Once links → (p q s : ℕ) → slot_of links p ≡ Some s → slot_of links q ≡ Some s → p ≡ q
+pub slot_once : (links : Links) → Once links → (p q s : ℕ) → page_slot links p ≡ Some s → page_slot links q ≡ Some s → p ≡ q
 slot_once links once p q s hp hq =
     let a = slot_parts links p s hp in
     let b = slot_parts links q s hq in
@@ -108,7 +108,7 @@ slot_once links once p q s hp hq =
     (same_digit a.0 b.0 (p % 512) (q % 512) (digit_low p) (digit_low q) keys)
 
 -- pages of one leaf have slots that lie one after the other
-pub slot_near : (links : Links) (p i s : ℕ) → slot_of links p ≡ Some s → p % 512 + i < 512 → slot_of links (p + i) ≡ Some (s + i)
+pub slot_near : (links : Links) (p i s : ℕ) → page_slot links p ≡ Some s → p % 512 + i < 512 → page_slot links (p + i) ≡ Some (s + i)
 slot_near links p i s h near =
     let a = slot_parts links p s h in
     let above : (p + i) / 512 ≡ p / 512 = omega (arith, near) in
@@ -167,7 +167,7 @@ same_look has fresh d ends None (Some m) kept new = by (new m refl)
     by (inr absent) = cc
 
 looks_same : (old new : Links) (fresh : ℕ) → IsFresh old new fresh → (has : ℕ → Option PageEntry) → EndBy has (512 * fresh) → (page : ℕ)
-    → look has (slot_of new page) ≡ look has (slot_of old page)
+    → look has (page_slot new page) ≡ look has (page_slot old page)
 looks_same old new fresh is has ends page = by (nat_lt page page_end)
   where
     by : (b : Bool) → look has (cond b (slot_in (node_at new 3 (page / 512)) (page % 512)) None)

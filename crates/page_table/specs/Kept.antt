@@ -4,7 +4,7 @@ use Rattle.sizes.specs.declared.TheConstants.{TABLE_SLOTS}
 use Rattle.number_maps.specs.Rows.{Rise, key_at, map_of}
 use Rattle.page_set.specs.Sets.{AreChunks, Chunks, LieInFew, Members, holds}
 use Rattle.page_table.specs.Next.{NoneFrom}
-use Rattle.page_table.specs.Nodes.{Links, Table, look, node_at, slot, slot_of, pages_by, size}
+use Rattle.page_table.specs.Nodes.{Links, Table, look, node_at, slot, page_slot, pages_by, size}
 use Rattle.page_table.specs.declared.entry.PageEntry.{PageEntry}
 use Rattle.page_table.specs.declared.run.PageRun.{PageRun}
 use Rattle.page_table.specs.Table.{Pages, IsMapped, is_within}
@@ -24,13 +24,13 @@ find_in [] page = None
 find_in (run ∷ runs) page = if lies_in run page then Some (entry_for run page) else find_in runs page
 
 -- the pages that runs stand for: the first n of a run put into a table, and all of all runs
-abbrev pub put_pages : PageRun → ℕ → Pages → Pages
-put_pages run zero pages = pages
-put_pages run (suc n) pages = insert (put_pages run n pages) (run.page + n) (entry_at run n)
+abbrev pub put_run : PageRun → ℕ → Pages → Pages
+put_run run zero pages = pages
+put_run run (suc n) pages = insert (put_run run n pages) (run.page + n) (entry_at run n)
 
-abbrev pub pages_of : List PageRun → Pages
-pages_of [] = empty
-pages_of (run ∷ runs) = put_pages run run.n (pages_of runs)
+abbrev pub run_pages : List PageRun → Pages
+run_pages [] = empty
+run_pages (run ∷ runs) = put_run run run.n (run_pages runs)
 
 -- how many there are
 abbrev pub total : List PageRun → ℕ
@@ -100,13 +100,13 @@ pub record HasBegun (old : List PageRun) (page at : ℕ) (new : List PageRun) : 
 
 -- a page that is there was given another entry
 pub record HasSet (old : List PageRun) (page : ℕ) (entry : PageEntry) (new : List PageRun) : Type 0 where
-  pub pages : pages_of new ≡ insert (pages_of old) page entry
+  pub pages : run_pages new ≡ insert (run_pages old) page entry
   pub rise : ComeInOrder 0 new
   pub count : total new ≡ total old
 
 -- n pages from one on, which weren't there, were given an entry
 pub record HasFilled (old : List PageRun) (from n : ℕ) (entry : PageEntry) (new : List PageRun) : Type 0 where
-  pub pages : IsMapped (pages_of old) from n entry (pages_of new)
+  pub pages : IsMapped (run_pages old) from n entry (run_pages new)
   pub rise : ComeInOrder 0 new
   pub count : total new ≡ total old + n
 
@@ -117,11 +117,11 @@ pub record HaveLost (old : List PageRun) (page n : ℕ) (new : List PageRun) : T
   pub count : total new + n ≡ total old
 
 -- the first pages of a run, the others, and the run of two that lie one after the other
-abbrev pub head_of : PageRun → ℕ → PageRun
-head_of run n = record { page = run.page; n = n; entry = run.entry; rising = run.rising }
+abbrev pub run_head : PageRun → ℕ → PageRun
+run_head run n = record { page = run.page; n = n; entry = run.entry; rising = run.rising }
 
-abbrev pub tail_of : PageRun → ℕ → PageRun
-tail_of run n = record { page = run.page + n; n = run.n - n; entry = entry_at run n; rising = run.rising }
+abbrev pub run_tail : PageRun → ℕ → PageRun
+run_tail run n = record { page = run.page + n; n = run.n - n; entry = entry_at run n; rising = run.rising }
 
 -- a run is two that lie one after the other
 pub record IsOneRun (a b run : PageRun) : Type 0 where
@@ -177,8 +177,8 @@ EndBy has end = (s : ℕ) → end ≤ s → has s ≡ None
 pub record AreHeld (links : List (ℕ × ℕ)) (runs : List PageRun) (count room : ℕ) : Type 0 where
   pub tree : IsTree links
   pub kept : AreKept runs count room
-  pub ends : EndBy (get (pages_of runs)) (TABLE_SLOTS * (length links + 1))
-  pub counted : len (pages_by (map_of links) (pages_of runs)) ≡ count
+  pub ends : EndBy (get (run_pages runs)) (TABLE_SLOTS * (length links + 1))
+  pub counted : len (pages_by (map_of links) (run_pages runs)) ≡ count
 
 -- which pages are overlaid: pages that are there; and there is room for the chunks of all that are
 pub record AreOverlaid (pages : Pages) (set : Members) : Type 0 where
@@ -189,8 +189,8 @@ pub record AreOverlaid (pages : Pages) (set : Members) : Type 0 where
 -- and a page below which there is none
 pub record IsTable (links : List (ℕ × ℕ)) (runs : List PageRun) (count room front : ℕ) (set : Members) : Type 0 where
   pub held : AreHeld links runs count room
-  pub none : NoneFrom (pages_by (map_of links) (pages_of runs)) 0 front
-  pub overlaid : AreOverlaid (pages_by (map_of links) (pages_of runs)) set
+  pub none : NoneFrom (pages_by (map_of links) (run_pages runs)) 0 front
+  pub overlaid : AreOverlaid (pages_by (map_of links) (run_pages runs)) set
 
 -- links to more nodes, which have no entry, lead to what they led to before
 pub record HaveGrown (old new : List (ℕ × ℕ)) : Type 0 where
@@ -198,7 +198,7 @@ pub record HaveGrown (old new : List (ℕ × ℕ)) : Type 0 where
   pub more : length old ≤ length new
   pub kept : (k c : ℕ) → get (map_of old) k ≡ Some c → get (map_of new) k ≡ Some c
   pub same : (has : ℕ → Option PageEntry) → EndBy has (TABLE_SLOTS * (length old + 1)) → (page : ℕ)
-      → look has (slot_of (map_of new) page) ≡ look has (slot_of (map_of old) page)
+      → look has (page_slot (map_of new) page) ≡ look has (page_slot (map_of old) page)
 
 -- a node has a child, which was made where there was none
 pub record HasChild (old : List (ℕ × ℕ)) (node digit : ℕ) (new : List (ℕ × ℕ)) (child : ℕ) : Type 0 where
@@ -220,7 +220,7 @@ pub record HaveLeaves (old : List (ℕ × ℕ)) (from to : ℕ) (new : List (ℕ
 
 -- the n pages from one on have paths
 abbrev pub HavePaths : Links → ℕ → ℕ → Type 0
-HavePaths links from n = (page : ℕ) → is_within from n page ≡ true → slot_of links page ≡ None → ⊥
+HavePaths links from n = (page : ℕ) → is_within from n page ≡ true → page_slot links page ≡ None → ⊥
 
 -- what each page has after a change of a run of them
 abbrev pub Changed : Option PageEntry → Pages → ℕ → ℕ → Pages → Type 0
@@ -228,24 +228,24 @@ Changed x old from n new = (q : ℕ) → get new q ≡ (if is_within from n q th
 
 -- n pages that weren't there have the entry, by their slots
 pub record HaveFilled (links : List (ℕ × ℕ)) (old : List PageRun) (from n : ℕ) (entry : PageEntry) (new : List PageRun) : Type 0 where
-  pub pages : Changed (Some entry) (pages_by (map_of links) (pages_of old)) from n (pages_by (map_of links) (pages_of new))
+  pub pages : Changed (Some entry) (pages_by (map_of links) (run_pages old)) from n (pages_by (map_of links) (run_pages new))
   pub rise : ComeInOrder 0 new
-  pub ends : EndBy (get (pages_of new)) (TABLE_SLOTS * (length links + 1))
+  pub ends : EndBy (get (run_pages new)) (TABLE_SLOTS * (length links + 1))
   pub count : total new ≡ total old + n
 
 -- n pages were taken away
 pub record HaveCleared (links : List (ℕ × ℕ)) (old : List PageRun) (from n : ℕ) (new : List PageRun) : Type 0 where
-  pub pages : Changed None (pages_by (map_of links) (pages_of old)) from n (pages_by (map_of links) (pages_of new))
+  pub pages : Changed None (pages_by (map_of links) (run_pages old)) from n (pages_by (map_of links) (run_pages new))
   pub rise : ComeInOrder 0 new
-  pub ends : EndBy (get (pages_of new)) (TABLE_SLOTS * (length links + 1))
+  pub ends : EndBy (get (run_pages new)) (TABLE_SLOTS * (length links + 1))
   pub count : total new + n ≡ total old
 
 -- what is seen of a table
-abbrev pub seen : List (ℕ × ℕ) → List PageRun → Chunks → Table
-seen links runs overlaid = record {
-  pages = pages_by (map_of links) (pages_of runs);
+abbrev pub seen_table : List (ℕ × ℕ) → List PageRun → Chunks → Table
+seen_table links runs overlaid = record {
+  pages = pages_by (map_of links) (run_pages runs);
   links = map_of links;
-  leaves = pages_of runs;
+  leaves = run_pages runs;
   overlaid = overlaid;
 }
 

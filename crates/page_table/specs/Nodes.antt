@@ -16,9 +16,9 @@ abbrev pub slot : ℕ → ℕ → ℕ
 slot node digit = TABLE_SLOTS * node + digit
 
 -- the digits of a page's number, from the last one on
-abbrev pub digit : ℕ → ℕ → ℕ
-digit zero page = page % TABLE_SLOTS
-digit (suc i) page = digit i (page / TABLE_SLOTS)
+abbrev pub nth_digit : ℕ → ℕ → ℕ
+nth_digit zero page = page % TABLE_SLOTS
+nth_digit (suc i) page = nth_digit i (page / TABLE_SLOTS)
 
 -- a table: its pages; the child that a slot has; the entry that a slot has; which pages are overlaid
 pub record Table : Type 0 where
@@ -54,10 +54,10 @@ leaf_at leaves (Some node) d = get leaves (slot node d)
 
 -- the four nodes of a page's path, and what the last one has for it
 abbrev pub fourth_of : Links → ℕ → Option ℕ
-fourth_of links page = child_at links (child_at links (child_at links (Some 0) (digit 3 page)) (digit 2 page)) (digit 1 page)
+fourth_of links page = child_at links (child_at links (child_at links (Some 0) (nth_digit 3 page)) (nth_digit 2 page)) (nth_digit 1 page)
 
 abbrev pub by_path : Table → ℕ → Option PageEntry
-by_path table page = leaf_at table.leaves (fourth_of table.links page) (digit 0 page)
+by_path table page = leaf_at table.leaves (fourth_of table.links page) (nth_digit 0 page)
 
 -- Where there is no node there is no page, and else a page has what its path leads to. Pages are below 2^36.
 pub record HasPaths (table : Table) : Type 0 where
@@ -84,8 +84,8 @@ abbrev pub slot_in : Option ℕ → ℕ → Option ℕ
 slot_in None d = None
 slot_in (Some node) d = Some (slot node d)
 
-abbrev pub slot_of : Links → ℕ → Option ℕ
-slot_of links page = if nat_lt page page_end then slot_in (node_at links 3 (page / TABLE_SLOTS)) (page % TABLE_SLOTS) else None
+abbrev pub page_slot : Links → ℕ → Option ℕ
+page_slot links page = if nat_lt page page_end then slot_in (node_at links 3 (page / TABLE_SLOTS)) (page % TABLE_SLOTS) else None
 
 abbrev pub look : (ℕ → Option PageEntry) → Option ℕ → Option PageEntry
 look has None = None
@@ -102,4 +102,4 @@ map_below has (suc n) = put_some (map_below has n) n (has n)
 
 -- the pages whose slots have an entry
 unfoldable pub pages_by : Links → Pages → Pages
-pages_by links leaves = map_below (λ page. look (get leaves) (slot_of links page)) page_end
+pages_by links leaves = map_below (λ page. look (get leaves) (page_slot links page)) page_end

@@ -5,7 +5,7 @@ ghost use Rattle.std.specs.FinMap as map;
 ghost use Rattle.std.specs.Vec.{vec_capacity};
 ghost use Rattle.sizes.specs.declared.TheConstants.{TABLE_SLOTS};
 ghost use Rattle.number_maps.specs.Rows.{IsAt, IsGap, Rise, map_of};
-ghost use Rattle.page_table.specs.Nodes.{node_at, slot, slot_of};
+ghost use Rattle.page_table.specs.Nodes.{node_at, slot, page_slot};
 ghost use Rattle.page_table.specs.Kept.{HaveGrown, HasChild, HasLeaf, HaveLeaves, IsNextChild, IsStart, IsTree, IsUpper};
 
 use crate::nodes::Nodes;
@@ -156,7 +156,7 @@ pub(crate) fn leaf_in(links: &[Link], nodes: &Nodes, above: u64) -> Option<u32>
 #[inline]
 pub(crate) fn slot_in(links: &[Link], nodes: &Nodes, page: u64) -> Option<u64>
     requires rise { Rise 0 links.now }
-    ensures { result ≡ slot_of (map_of links.now) page }
+    ensures { result ≡ page_slot (map_of links.now) page }
 {
     if page >= TABLE_END {
         return None;

@@ -4,7 +4,7 @@ ghost use Rattle.std.specs.Prelude.{◌≡◌, ℕ, ◌+◌, ◌*◌, ◌%◌, �
 ghost use Rattle.sizes.specs.declared.TheConstants.{TABLE_SLOTS};
 ghost use Rattle.number_maps.specs.Rows.{map_of, Rise};
 ghost use Rattle.page_table.specs.Nodes.{node_at, pages_by};
-ghost use Rattle.page_table.specs.Kept.{ComeInOrder, IsTree, moved_run, pages_of};
+ghost use Rattle.page_table.specs.Kept.{ComeInOrder, IsTree, moved_run, run_pages};
 ghost use Rattle.page_table.specs.Next.{IsUpTo, NoneFrom};
 ghost use Rattle.page_table.specs.Run.{IsNextRun};
 
@@ -38,7 +38,7 @@ fn look_in(runs: &VecDeque<PageRun>, nodes: &Nodes, leaf: u32, page: u64) -> Opt
     requires rise { ComeInOrder 0 runs.now.items }
     requires low { page < 2 ^ 36 }
     ensures { (links : List (ℕ × ℕ)) → node_at (map_of links) 3 (page / TABLE_SLOTS) ≡ Some leaf
-        → IsUpTo (pages_by (map_of links) (pages_of runs.now.items)) page
+        → IsUpTo (pages_by (map_of links) (run_pages runs.now.items)) page
         ((page / TABLE_SLOTS + 1) * TABLE_SLOTS) result }
 {
     let base = TABLE_SLOTS * u64::from(leaf);
@@ -77,7 +77,7 @@ fn look_third(
     requires order { ComeInOrder 0 runs.now.items }
     requires low { page < 2 ^ 36 }
     requires node { node_at (map_of links.now) 2 (page / TABLE_SLOTS / TABLE_SLOTS) ≡ Some node }
-    ensures { IsUpTo (pages_by (map_of links.now) (pages_of runs.now.items)) page
+    ensures { IsUpTo (pages_by (map_of links.now) (run_pages runs.now.items)) page
         ((page / TABLE_SLOTS / TABLE_SLOTS + 1) * TABLE_SLOTS * TABLE_SLOTS) result }
 {
     let front = page / TABLE_SLOTS / TABLE_SLOTS * TABLE_SLOTS;
@@ -107,7 +107,7 @@ fn look_second(
     requires order { ComeInOrder 0 runs.now.items }
     requires low { page < 2 ^ 36 }
     requires node { node_at (map_of links.now) 1 (page / TABLE_SLOTS / TABLE_SLOTS / TABLE_SLOTS) ≡ Some node }
-    ensures { IsUpTo (pages_by (map_of links.now) (pages_of runs.now.items)) page
+    ensures { IsUpTo (pages_by (map_of links.now) (run_pages runs.now.items)) page
         ((page / TABLE_SLOTS / TABLE_SLOTS / TABLE_SLOTS + 1) * TABLE_SLOTS * TABLE_SLOTS * TABLE_SLOTS) result }
 {
     let front = page / TABLE_SLOTS / TABLE_SLOTS / TABLE_SLOTS * TABLE_SLOTS;
@@ -130,7 +130,7 @@ fn look_first(links: &[Link], nodes: &Nodes, runs: &VecDeque<PageRun>, page: u64
     requires rise { Rise 0 links.now }
     requires order { ComeInOrder 0 runs.now.items }
     requires low { page < 2 ^ 36 }
-    ensures { IsUpTo (pages_by (map_of links.now) (pages_of runs.now.items)) page (2 ^ 36) result }
+    ensures { IsUpTo (pages_by (map_of links.now) (run_pages runs.now.items)) page (2 ^ 36) result }
 {
     let mut digit = page / TABLE_SLOTS / TABLE_SLOTS / TABLE_SLOTS;
     let mut at = start_of(links, nodes, digit);
@@ -155,7 +155,7 @@ pub(crate) fn next_in(
 ) -> Option<PageRun>
     requires tree { IsTree links.now }
     requires rise { ComeInOrder 0 runs.now.items }
-    ensures { IsNextRun (pages_by (map_of links.now) (pages_of runs.now.items)) page result }
+    ensures { IsNextRun (pages_by (map_of links.now) (run_pages runs.now.items)) page result }
 {
     if page >= TABLE_END {
         return None;
@@ -167,8 +167,8 @@ pub(crate) fn next_in(
 pub(crate) fn least_in(links: &[Link], nodes: &Nodes, runs: &VecDeque<PageRun>, front: u64) -> u64
     requires tree { IsTree links.now }
     requires rise { ComeInOrder 0 runs.now.items }
-    requires none { NoneFrom (pages_by (map_of links.now) (pages_of runs.now.items)) 0 front }
-    ensures { NoneFrom (pages_by (map_of links.now) (pages_of runs.now.items)) 0 result }
+    requires none { NoneFrom (pages_by (map_of links.now) (run_pages runs.now.items)) 0 front }
+    ensures { NoneFrom (pages_by (map_of links.now) (run_pages runs.now.items)) 0 result }
 {
     match next_in(links, nodes, runs, front) {
         Some(run) => run.page,

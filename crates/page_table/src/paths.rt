@@ -5,8 +5,8 @@ ghost use Rattle.std.specs.FinMap as map;
 ghost use Rattle.std.specs.VecDeque.{deque_capacity};
 ghost use Rattle.sizes.specs.declared.TheConstants.{TABLE_SLOTS};
 ghost use Rattle.number_maps.specs.Rows.{map_of};
-ghost use Rattle.page_table.specs.Nodes.{pages_by, slot_of};
-ghost use Rattle.page_table.specs.Kept.{ComeInOrder, EndBy, HaveCleared, HaveFilled, HavePaths, IsTree, pages_of, total};
+ghost use Rattle.page_table.specs.Nodes.{pages_by, page_slot};
+ghost use Rattle.page_table.specs.Kept.{ComeInOrder, EndBy, HaveCleared, HaveFilled, HavePaths, IsTree, run_pages, total};
 ghost use Rattle.page_table.specs.Table.{AreThere, IsFree};
 
 use crate::entry::PageEntry;
@@ -39,9 +39,9 @@ pub(crate) fn fill_paths(
 )
     requires tree { IsTree links.now }
     requires rise { ComeInOrder 0 runs.old.items }
-    requires ends { EndBy (map.get (pages_of runs.old.items)) (TABLE_SLOTS * (length links.now + 1)) }
+    requires ends { EndBy (map.get (run_pages runs.old.items)) (TABLE_SLOTS * (length links.now + 1)) }
     requires paths { HavePaths (map_of links.now) from n }
-    requires free { IsFree (pages_by (map_of links.now) (pages_of runs.old.items)) from n }
+    requires free { IsFree (pages_by (map_of links.now) (run_pages runs.old.items)) from n }
     requires low { from + n ≤ 2 ^ 36 }
     requires few { total runs.old.items + n < 2 ^ 32 }
     requires room { total runs.old.items + n ≤ deque_capacity runs.old }
@@ -74,8 +74,8 @@ pub(crate) fn clear_paths(
 )
     requires tree { IsTree links.now }
     requires rise { ComeInOrder 0 runs.old.items }
-    requires ends { EndBy (map.get (pages_of runs.old.items)) (TABLE_SLOTS * (length links.now + 1)) }
-    requires there { AreThere (pages_by (map_of links.now) (pages_of runs.old.items)) from n }
+    requires ends { EndBy (map.get (run_pages runs.old.items)) (TABLE_SLOTS * (length links.now + 1)) }
+    requires there { AreThere (pages_by (map_of links.now) (run_pages runs.old.items)) from n }
     requires low { from + n < 2 ^ 64 }
     requires room { total runs.old.items ≤ deque_capacity runs.old }
     ensures cleared { HaveCleared links.now runs.old.items from n runs.new.items }

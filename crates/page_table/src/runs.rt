@@ -4,7 +4,7 @@ ghost use Rattle.std.specs.Prelude.{◌≡◌, ◌+◌, ◌^◌, ◌<◌, ◌≤
 ghost use Rattle.std.specs.FinMap as map;
 ghost use Rattle.std.specs.List as list;
 ghost use Rattle.std.specs.VecDeque.{deque_capacity};
-ghost use Rattle.page_table.specs.Kept.{AreSame, HasBegun, HasFilled, HasRest, HasRun, HasSet, HaveLost, IsPlace, ComeInOrder, plain_run, find_in, head_of, is_before, pages_of, run_at, tail_of, total};
+ghost use Rattle.page_table.specs.Kept.{AreSame, HasBegun, HasFilled, HasRest, HasRun, HasSet, HaveLost, IsPlace, ComeInOrder, plain_run, find_in, run_head, is_before, run_pages, run_at, run_tail, total};
 ghost use Rattle.page_table.specs.Table.{AreThere, IsFree};
 
 use crate::entry::PageEntry;
@@ -90,7 +90,7 @@ pub(crate) fn run_from(runs: &VecDeque<PageRun>, page: u64, guess: usize) -> Opt
 #[inline]
 pub(crate) fn entry_in(runs: &VecDeque<PageRun>, page: u64, guess: usize) -> Option<PageEntry>
     requires { ComeInOrder 0 runs.now.items }
-    ensures { result ≡ map.get (pages_of runs.now.items) page }
+    ensures { result ≡ map.get (run_pages runs.now.items) page }
 {
     match run_from(runs, page, guess) {
         Some(run) => {
@@ -108,7 +108,7 @@ pub(crate) fn entry_in(runs: &VecDeque<PageRun>, page: u64, guess: usize) -> Opt
 #[inline]
 pub(crate) fn next_slots(runs: &VecDeque<PageRun>, page: u64, guess: usize) -> Option<PageRun>
     requires { ComeInOrder 0 runs.now.items }
-    ensures { HasRest (pages_of runs.now.items) page result }
+    ensures { HasRest (run_pages runs.now.items) page result }
 {
     match run_from(runs, page, guess) {
         Some(run) => {
@@ -165,8 +165,8 @@ fn cut(runs: &mut VecDeque<PageRun>, at: usize, n: u32)
     requires room { total runs.old.items ≤ deque_capacity runs.old }
     ensures same { AreSame runs.old.items runs.new.items }
     ensures cut { runs.new.items
-        ≡ list.insert (slice_set runs.old.items at (tail_of (run_at runs.old.items at) n)) at
-        (head_of (run_at runs.old.items at) n) }
+        ≡ list.insert (slice_set runs.old.items at (run_tail (run_at runs.old.items at) n)) at
+        (run_head (run_at runs.old.items at) n) }
     ensures room { deque_capacity runs.old ≤ deque_capacity runs.new }
 {
     let run = runs[at];
@@ -268,7 +268,7 @@ pub(crate) fn fill_pages(
     entry: PageEntry,
 )
     requires rise { ComeInOrder 0 runs.old.items }
-    requires free { IsFree (pages_of runs.old.items) from n }
+    requires free { IsFree (run_pages runs.old.items) from n }
     requires low { from + n ≤ 2 ^ 41 }
     requires few { total runs.old.items + n < 2 ^ 32 }
     requires room { total runs.old.items + n ≤ deque_capacity runs.old }
@@ -310,7 +310,7 @@ fn clear_run(runs: &mut VecDeque<PageRun>, page: u64, most: u32, guess: usize) -
 /// Takes away the n pages from `from` on, which are there, run by run.
 pub(crate) fn clear_pages(runs: &mut VecDeque<PageRun>, from: u64, n: u32, guess: usize)
     requires rise { ComeInOrder 0 runs.old.items }
-    requires there { AreThere (pages_of runs.old.items) from n }
+    requires there { AreThere (run_pages runs.old.items) from n }
     requires room { total runs.old.items ≤ deque_capacity runs.old }
     requires low { from + n < 2 ^ 64 }
     ensures lost { HaveLost runs.old.items from n runs.new.items }

@@ -58,16 +58,16 @@ fn passed(least: u64, from: u64, n: u32) -> u64
 
 impl Model for PageTable {
     ghost use Rattle.page_table.specs.Nodes.{Table};
-    ghost use Rattle.page_table.specs.Codes.{table_code};
+    ghost use Rattle.page_table.specs.Codes.{page_table_code};
 
     ghost Value = { Table };
 
-    ghost coded = { table_code };
+    ghost coded = { page_table_code };
 
     ghost use Rattle.std.specs.VecDeque.{deque_capacity};
-    ghost use Rattle.page_table.specs.Kept.{IsTable, seen};
+    ghost use Rattle.page_table.specs.Kept.{IsTable, seen_table};
 
-    ghost view = { λ t. seen t.links.items t.runs.items t.overlaid.chunks };
+    ghost view = { λ t. seen_table t.links.items t.runs.items t.overlaid.chunks };
 
     ghost invariant = { λ t. IsTable t.links.items t.runs.items t.count (deque_capacity t.runs) t.front t.overlaid };
 }

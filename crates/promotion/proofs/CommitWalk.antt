@@ -6,7 +6,7 @@ use Rattle.ledger.specs.Ledger.{Holding, holding_at, is_alone}
 use Rattle.ledger.specs.Changes.{has_own}
 use Rattle.ledger.specs.Events.{Commit, ledger_after}
 use Rattle.space_maps.specs.Laws.{changed_there}
-use Rattle.space_maps.specs.Spaces.{page_in, put_page, turned_page}
+use Rattle.space_maps.specs.Spaces.{page_in, put_page, altered_page}
 use Rattle.space_ledger.specs.Calls.{IsNextOwn}
 use Rattle.overlay_pages.specs.State.{PageState, State, books, held_page, seen_page}
 use Rattle.overlay_pages.specs.Changes.{committed}
@@ -14,8 +14,8 @@ use Rattle.promotion.specs.Settled.{HasCommittedAlone, alone_in, with_committed}
 use Rattle.overlay_memory.specs.ApartLaws.{ArePagesApart}
 use Rattle.overlay_memory.specs.Joined.{IsBare}
 use Rattle.overlay_memory.specs.PageLaws.{held_there, own_is, own_there}
-use Rattle.promotion.specs.FateFolds.{after_commit, none_own, same_turned, widened}
-use Rattle.promotion.specs.Turns.{HasTurned, WasThere, alone_now, are_settled, none_yet, one_more, own_now, said_again, still, was_there}
+use Rattle.promotion.specs.FateFolds.{after_commit, none_own, same_altered, widened}
+use Rattle.promotion.specs.Altered.{HaveAltered, WasThere, alone_now, are_settled, none_yet, one_more, own_now, said_again, still, was_there}
 use Rattle.promotion.specs.Walks.{at_first, come_past, come_to, next_done, next_kept, not_yet, so_far}
 
 -- Pages that are alone are committed, one after the other.
@@ -25,12 +25,12 @@ abbrev pub to_commit : State → ℕ → ℕ → Bool
 to_commit v space r = has_own (books v) space r && is_alone (books v) space r
 
 pub record IsCommitting (old now : State) (space from : ℕ) : Type 0 where
-  pub turned : HasTurned seen_page (so_far (to_commit old space) from) (alone_in old space) old now space
+  pub altered : HaveAltered seen_page (so_far (to_commit old space) from) (alone_in old space) old now space
   pub low : from ≤ PAGE_END
 
 pub committing_none : (v : State) (space : ℕ) → IsCommitting v v space 0
 committing_none v space = record {
-  turned = said_again seen_page _ _ (alone_in v space) v v space (none_yet seen_page (alone_in v space) v space) (λ r x at. at_first (to_commit v space) r);
+  altered = said_again seen_page _ _ (alone_in v space) v v space (none_yet seen_page (alone_in v space) v space) (λ r x at. at_first (to_commit v space) r);
   low = omega arith;
 }
 
@@ -47,36 +47,36 @@ module _ (old now new : State) (space from page : ℕ) (apart : ArePagesApart ol
   abbrev test : ℕ → Bool
   test = to_commit old space
 
-  reached : HasTurned seen_page (so_far test page) (alone_in old space) old now space
-  reached = come_to seen_page test (alone_in old space) old now space from h.turned (bare_stays old space) page next
+  reached : HaveAltered seen_page (so_far test page) (alone_in old space) old now space
+  reached = come_to seen_page test (alone_in old space) old now space from h.altered (bare_stays old space) page next
 
   was : WasThere old space page
   was = was_there seen_page _ _ old now space page reached (own_there now space page next.1)
 
   pub committing_more : IsCommitting old new space (page + 1)
   unfolding with_committed
-  committing_more = record { turned = by_test (test page) refl; low = omega arith }
+  committing_more = record { altered = by_test (test page) refl; low = omega arith }
     where
-      unturned : so_far test page page ≡ false
-      unturned = not_yet test page page (omega arith)
+      unaltered : so_far test page page ≡ false
+      unaltered = not_yet test page page (omega arith)
 
       at : page_in now space page ≡ Some was.x
-      at = still seen_page (so_far test page) (alone_in old space) old now space page was.x reached was.had unturned
+      at = still seen_page (so_far test page) (alone_in old space) old now space page was.x reached was.had unaltered
 
       same_test : (has_own (books now) space page && is_alone (books now) space page) ≡ test page
-      same_test = λ i. own_now old now space page was.x was.had at i && alone_now seen_page (so_far test page) old now space page was.x apart reached unturned was.had i
+      same_test = λ i. own_now old now space page was.x was.had at i && alone_now seen_page (so_far test page) old now space page was.x apart reached unaltered was.had i
 
-      by_test : (b : Bool) → test page ≡ b → HasTurned seen_page (so_far test (page + 1)) (alone_in old space) old new space
+      by_test : (b : Bool) → test page ≡ b → HaveAltered seen_page (so_far test (page + 1)) (alone_in old space) old new space
       by_test false e =
-          let kept : new ≡ now = is ∙ ap (λ b. cond b (turned_page committed now space page) now) (same_test ∙ e) in
-          subst (λ (v : State). HasTurned seen_page (so_far test (page + 1)) (alone_in old space) old v space) (sym kept)
+          let kept : new ≡ now = is ∙ ap (λ b. cond b (altered_page committed now space page) now) (same_test ∙ e) in
+          subst (λ (v : State). HaveAltered seen_page (so_far test (page + 1)) (alone_in old space) old v space) (sym kept)
           (said_again seen_page _ _ (alone_in old space) old now space reached (λ r x had. next_kept test page r e))
       by_test true e =
           let put : new ≡ put_page now space page (committed was.x) =
-          is ∙ ap (λ b. cond b (turned_page committed now space page) now) (same_test ∙ e) ∙ changed_there committed now space page was.x at in
-          subst (λ (v : State). HasTurned seen_page (so_far test (page + 1)) (alone_in old space) old v space) (sym put)
+          is ∙ ap (λ b. cond b (altered_page committed now space page) now) (same_test ∙ e) ∙ changed_there committed now space page was.x at in
+          subst (λ (v : State). HaveAltered seen_page (so_far test (page + 1)) (alone_in old space) old v space) (sym put)
           (said_again seen_page _ _ (alone_in old space) old (put_page now space page (committed was.x)) space
-          (one_more seen_page (so_far test page) (alone_in old space) old now space page was.x (committed was.x) reached was.had unturned refl refl refl (λ _. refl)
+          (one_more seen_page (so_far test page) (alone_in old space) old now space page was.x (committed was.x) reached was.had unaltered refl refl refl (λ _. refl)
           (λ no. let yes = and_right (has_own (books old) space page) (is_alone (books old) space page) e in let never = sym yes ∙ no in cc))
           (λ r x had. next_done test page r e))
 
@@ -84,15 +84,15 @@ pub committed_all : (old now : State) (space from : ℕ) → IsBare old space �
 committed_all old now space from plain h none = record {
   settled = are_settled test (alone_in old space) (alone_in old space) old now space whole plain
       (λ r e. and_right (has_own (books old) space r) (is_alone (books old) space r) e) bare;
-  ledger = same_turned (alone_in old space) (alone_in old space) (books old) (books now) (ledger_after (Commit space) (books old)) space
+  ledger = same_altered (alone_in old space) (alone_in old space) (books old) (books now) (ledger_after (Commit space) (books old)) space
       (widened test (alone_in old space) (alone_in old space) (books old) (books now) space whole.ledger wide) (after_commit (books old) space) (λ r e. e);
 }
   where
     test : ℕ → Bool
     test = to_commit old space
 
-    whole : HasTurned seen_page test (alone_in old space) old now space
-    whole = come_past seen_page test (alone_in old space) old now space from h.turned (bare_stays old space) none
+    whole : HaveAltered seen_page test (alone_in old space) old now space
+    whole = come_past seen_page test (alone_in old space) old now space from h.altered (bare_stays old space) none
 
     own_of : (r : ℕ) (x : PageState) → page_in old space r ≡ Some x → has_own (books old) space r ≡ false → x.own ≡ []
     own_of r x had e = none_own x.own (sym (own_is (books old) space r (held_page old.zero_frame x) (held_there old space r x had)) ∙ e)
@@ -117,21 +117,21 @@ committed_all old now space from plain h none = record {
 -- one page
 pub commits_none : (v : State) (space page n : ℕ) → has_own (books v) space page ≡ nat_lt 0 n → n ≡ 0 → v ≡ with_committed v space page
 unfolding with_committed
-commits_none v space page n own none = sym (ap (λ b. cond (b && is_alone (books v) space page) (turned_page committed v space page) v) (own ∙ ap (nat_lt 0) none))
+commits_none v space page n own none = sym (ap (λ b. cond (b && is_alone (books v) space page) (altered_page committed v space page) v) (own ∙ ap (nat_lt 0) none))
 
 pub commits_no_other : (v : State) (space page : ℕ) → is_alone (books v) space page ≡ false → v ≡ with_committed v space page
 unfolding with_committed
-commits_no_other v space page shared = sym (ap (λ b. cond (has_own (books v) space page && b) (turned_page committed v space page) v) shared ∙ at (has_own (books v) space page))
+commits_no_other v space page shared = sym (ap (λ b. cond (has_own (books v) space page && b) (altered_page committed v space page) v) shared ∙ at (has_own (books v) space page))
   where
-    at : (b : Bool) → cond (b && false) (turned_page committed v space page) v ≡ v
+    at : (b : Bool) → cond (b && false) (altered_page committed v space page) v ≡ v
     at true = refl
     at false = refl
 
 pub commits_it : (v w : State) (space page n : ℕ) → has_own (books v) space page ≡ nat_lt 0 n → (n ≡ 0 → ⊥) → is_alone (books v) space page ≡ true
-    → w ≡ turned_page committed v space page → w ≡ with_committed v space page
+    → w ≡ altered_page committed v space page → w ≡ with_committed v space page
 unfolding with_committed
 commits_it v w space page n own some alone is =
-    is ∙ sym (λ i. cond ((own ∙ above) i && alone i) (turned_page committed v space page) v)
+    is ∙ sym (λ i. cond ((own ∙ above) i && alone i) (altered_page committed v space page) v)
   where
     above : nat_lt 0 n ≡ true
     above = grind (arith, nat_tests)

@@ -20,10 +20,10 @@ use Rattle.overlay_memory.specs.Joined.{IsBare}
 use Rattle.overlay_memory.specs.PageLaws.{held_there, own_is, own_there}
 use Rattle.overlay_memory.specs.Room.{FitsAfter}
 use Rattle.promotion.specs.Settled.{CanCopy, HasCommittedAlone, HasSettled, IsCopiedWhere, NoneAlone, alone_in, every_page}
-use Rattle.promotion.specs.FateLaws.{alike_turned}
+use Rattle.promotion.specs.FateLaws.{alike_altered}
 use Rattle.promotion.specs.FateFolds.{after_settle, both_tests, commits_first, none_alone, none_own, or_page, retold}
 use Rattle.promotion.specs.FateUnits.{room_on_the_way}
-use Rattle.promotion.specs.Turns.{HasTurned, WasThere, alone_now, are_settled, new_origin_of, none_yet, one_more, own_now, said_again, still, was_there}
+use Rattle.promotion.specs.Altered.{HaveAltered, WasThere, alone_now, are_settled, new_origin_of, none_yet, one_more, own_now, said_again, still, was_there}
 use Rattle.promotion.specs.Walks.{at_first, come_past, come_to, next_done, not_yet, so_far}
 
 -- Pages with own lines, of which none is alone, are copied, one after the other.
@@ -33,21 +33,21 @@ abbrev pub to_copy : State → ℕ → ℕ → Bool
 to_copy v space r = has_own (books v) space r
 
 pub record IsCopying (old now : State) (space from : ℕ) : Type 0 where
-  pub turned : HasTurned seen_page (so_far (to_copy old space) from) (alone_in old space) old now space
+  pub altered : HaveAltered seen_page (so_far (to_copy old space) from) (alone_in old space) old now space
   pub low : from ≤ PAGE_END
 
 pub copying_none : (v : State) (space : ℕ) → IsCopying v v space 0
 copying_none v space = record {
-  turned = said_again seen_page _ _ (alone_in v space) v v space (none_yet seen_page (alone_in v space) v space) (λ r x at. at_first (to_copy v space) r);
+  altered = said_again seen_page _ _ (alone_in v space) v v space (none_yet seen_page (alone_in v space) v space) (λ r x at. at_first (to_copy v space) r);
   low = omega arith;
 }
 
 -- A page that isn't alone goes into a new frame.
-module _ (t : ℕ → Bool) (old now : State) (space page : ℕ) (x : PageState) (h : HasTurned seen_page t (alone_in old space) old now space)
-    (had : page_in old space page ≡ Some x) (unturned : t page ≡ false) (shared : is_alone (books old) space page ≡ false) (frame : ℕ) (fresh : IsNewFrame now frame) where
-  pub copied_one : HasTurned seen_page (or_page t page) (alone_in old space) old (put_page now space page (copied frame x)) space
+module _ (t : ℕ → Bool) (old now : State) (space page : ℕ) (x : PageState) (h : HaveAltered seen_page t (alone_in old space) old now space)
+    (had : page_in old space page ≡ Some x) (unaltered : t page ≡ false) (shared : is_alone (books old) space page ≡ false) (frame : ℕ) (fresh : IsNewFrame now frame) where
+  pub copied_one : HaveAltered seen_page (or_page t page) (alone_in old space) old (put_page now space page (copied frame x)) space
   copied_one =
-      one_more seen_page t (alone_in old space) old now space page x (copied frame x) h had unturned refl refl refl
+      one_more seen_page t (alone_in old space) old now space page x (copied frame x) h had unaltered refl refl refl
       (λ yes. let no = sym yes ∙ shared in cc)
       (λ _. ap (is_unused (without_page (books now) space page)) (new_origin_of now.zero_frame frame fresh.other) ∙ unused_without (books now) space page (frame + 1) fresh.unused)
 
@@ -56,17 +56,17 @@ module _ (old now : State) (space from page : ℕ) (apart : ArePagesApart old sp
   abbrev test : ℕ → Bool
   test = to_copy old space
 
-  reached : HasTurned seen_page (so_far test page) (alone_in old space) old now space
-  reached = come_to seen_page test (alone_in old space) old now space from h.turned (λ q bare. bare) page next
+  reached : HaveAltered seen_page (so_far test page) (alone_in old space) old now space
+  reached = come_to seen_page test (alone_in old space) old now space from h.altered (λ q bare. bare) page next
 
   was : WasThere old space page
   was = was_there seen_page _ _ old now space page reached (own_there now space page next.1)
 
-  unturned : so_far test page page ≡ false
-  unturned = not_yet test page page (omega arith)
+  unaltered : so_far test page page ≡ false
+  unaltered = not_yet test page page (omega arith)
 
   at : page_in now space page ≡ Some was.x
-  at = still seen_page (so_far test page) (alone_in old space) old now space page was.x reached was.had unturned
+  at = still seen_page (so_far test page) (alone_in old space) old now space page was.x reached was.had unaltered
 
   passes : test page ≡ true
   passes = sym (own_now old now space page was.x was.had at) ∙ next.1
@@ -78,10 +78,10 @@ module _ (old now : State) (space from page : ℕ) (apart : ArePagesApart old sp
       by_test false e = e
       by_test true e = let no = sym own ∙ none r e in cc
 
-  turned_more : (frame : ℕ) → IsNewFrame now frame → HasTurned seen_page (so_far test (page + 1)) (alone_in old space) old (put_page now space page (copied frame was.x)) space
-  turned_more frame fresh =
+  altered_more : (frame : ℕ) → IsNewFrame now frame → HaveAltered seen_page (so_far test (page + 1)) (alone_in old space) old (put_page now space page (copied frame was.x)) space
+  altered_more frame fresh =
       said_again seen_page _ _ (alone_in old space) old (put_page now space page (copied frame was.x)) space
-      (copied_one (so_far test page) old now space page was.x reached was.had unturned (not_alone page passes) frame fresh)
+      (copied_one (so_far test page) old now space page was.x reached was.had unaltered (not_alone page passes) frame fresh)
       (λ r x had. next_done test page r passes)
 
   -- the units with it are at most those after the last one
@@ -104,10 +104,10 @@ module _ (old now : State) (space from page : ℕ) (apart : ArePagesApart old sp
   can_copy own = record { shared = shared; room = room_now shared }
     where
       shared : is_alone (books now) space page ≡ false
-      shared = alone_now seen_page (so_far test page) old now space page was.x apart reached unturned was.had ∙ not_alone page passes
+      shared = alone_now seen_page (so_far test page) old now space page was.x apart reached unaltered was.had ∙ not_alone page passes
 
   pub copying_more : (new : State) → IsCopiedWhere (has_own (books now) space page) now new space page → page < PAGE_END → IsCopying old new space (page + 1)
-  copying_more new copies low = record { turned = moved; low = omega arith }
+  copying_more new copies low = record { altered = moved; low = omega arith }
     where
       at_true : IfSome (page_in now space page) (λ x. IsPlaced now new space page (λ frame. copied frame x))
       at_true = subst (λ b. IsCopiedWhere b now new space page) next.1 copies
@@ -115,21 +115,21 @@ module _ (old now : State) (space from page : ℕ) (apart : ArePagesApart old sp
       placed : IsPlaced now new space page (λ frame. copied frame was.x)
       placed = subst (λ (o : Option PageState). IfSome o (λ x. IsPlaced now new space page (λ frame. copied frame x))) at at_true
 
-      moved : HasTurned seen_page (so_far test (page + 1)) (alone_in old space) old new space
-      moved = subst (λ (v : State). HasTurned seen_page (so_far test (page + 1)) (alone_in old space) old v space) (sym placed.placed) (turned_more placed.frame placed.fresh)
+      moved : HaveAltered seen_page (so_far test (page + 1)) (alone_in old space) old new space
+      moved = subst (λ (v : State). HaveAltered seen_page (so_far test (page + 1)) (alone_in old space) old v space) (sym placed.placed) (altered_more placed.frame placed.fresh)
 
 pub copied_all : (old now : State) (space from : ℕ) → IsBare old space → IsCopying old now space from → IsNextOwn (books now) space from None → HasSettled old now space
 copied_all old now space from plain h none = record {
   settled = are_settled test (alone_in old space) every_page old now space whole plain (λ r e. refl)
       (λ r x had e _. none_own x.own (sym (own_is (books old) space r (held_page old.zero_frame x) (held_there old space r x had)) ∙ e));
-  ledger = alike_turned test (alone_in old space) (books old) (books now) (ledger_after (Settle space) (books old)) space whole.ledger (after_settle (books old) space);
+  ledger = alike_altered test (alone_in old space) (books old) (books now) (ledger_after (Settle space) (books old)) space whole.ledger (after_settle (books old) space);
 }
   where
     test : ℕ → Bool
     test = to_copy old space
 
-    whole : HasTurned seen_page test (alone_in old space) old now space
-    whole = come_past seen_page test (alone_in old space) old now space from h.turned (λ q bare. bare) none
+    whole : HaveAltered seen_page test (alone_in old space) old now space
+    whole = come_past seen_page test (alone_in old space) old now space from h.altered (λ q bare. bare) none
 
 -- one page
 pub lines_above : (v : State) (space page n : ℕ) → has_own (books v) space page ≡ nat_lt 0 n → (n ≡ 0 → ⊥) → has_own (books v) space page ≡ true

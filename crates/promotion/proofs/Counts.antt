@@ -20,8 +20,8 @@ use Rattle.overlay_memory.specs.PageLaws.{HasPage, has_page, held_there, own_the
 use Rattle.overlay_memory.specs.Room.{class_at, units_after}
 use Rattle.overlay_memory.specs.Walked.{one_further}
 use Rattle.promotion.specs.Counted.{new_frame_at}
-use Rattle.promotion.specs.Fates.{AreTurned, none_turned}
-use Rattle.promotion.specs.FateLaws.{alike_turned, alone_stays, here}
+use Rattle.promotion.specs.Fates.{AreTurned, none_altered}
+use Rattle.promotion.specs.FateLaws.{alike_altered, alone_stays, here}
 use Rattle.promotion.specs.FateFolds.{after_settle, both_tests, retold, settle_acts, settle_idle, stepped}
 use Rattle.promotion.specs.FateUnits.{settled_units}
 use Rattle.promotion.specs.Walks.{at_first, not_yet, passed, passed_all}
@@ -87,7 +87,7 @@ sum_bare v space page n own count lines count_is none =
 -- The pages below a number were settled, in some ledger that is counted.
 pub record IsCounting (v : State) (space units_kept from : ℕ) : Type 0 where
   pub so_far : Ledger
-  pub turned : AreTurned (both_tests (has_own (books v) space) (λ r. nat_lt r from)) (is_alone (books v) space) (books v) so_far space
+  pub altered : AreTurned (both_tests (has_own (books v) space) (λ r. nat_lt r from)) (is_alone (books v) space) (books v) so_far space
   pub units_is : units_kept ≡ units so_far
   pub low : from ≤ PAGE_END
   pub few : units_kept ≤ limit_of v + FRAME_UNITS * from
@@ -95,8 +95,8 @@ pub record IsCounting (v : State) (space units_kept from : ℕ) : Type 0 where
 pub counting_none : (v : State) (space n : ℕ) → n ≡ units (books v) → units (books v) ≤ limit_of v → IsCounting v space n 0
 counting_none v space n is fits = record {
   so_far = books v;
-  turned = retold (λ r. false) (both_tests (has_own (books v) space) (λ r. nat_lt r 0)) (is_alone (books v) space) (books v) (books v) space
-      (none_turned (is_alone (books v) space) (books v) space) (λ r x at. at_first (has_own (books v) space) r);
+  altered = retold (λ r. false) (both_tests (has_own (books v) space) (λ r. nat_lt r 0)) (is_alone (books v) space) (books v) (books v) space
+      (none_altered (is_alone (books v) space) (books v) space) (λ r x at. at_first (has_own (books v) space) r);
   units_is = is;
   low = omega arith;
   few = omega (arith, is, fits);
@@ -118,13 +118,13 @@ module _ (v : State) (space n from page : ℕ) (apart : ArePagesApart v space) (
 
   -- those between have no own lines
   reached : AreTurned (both_tests (has_own before space) (λ r. nat_lt r page)) (is_alone before space) before h.so_far space
-  reached = retold _ _ (is_alone before space) before h.so_far space h.turned (λ r y was. passed (has_own before space) from page r next.0 (next.2 r))
+  reached = retold _ _ (is_alone before space) before h.so_far space h.altered (λ r y was. passed (has_own before space) from page r next.0 (next.2 r))
 
-  unturned : both_tests (has_own before space) (λ r. nat_lt r page) page ≡ false
-  unturned = not_yet (has_own before space) page page (omega arith)
+  unaltered : both_tests (has_own before space) (λ r. nat_lt r page) page ≡ false
+  unaltered = not_yet (has_own before space) page page (omega arith)
 
   now_has : holding_at h.so_far space page ≡ Some held
-  now_has = here (both_tests (has_own before space) (λ r. nat_lt r page)) before h.so_far space page held (origins_apart v space apart) reached unturned had
+  now_has = here (both_tests (has_own before space) (λ r. nat_lt r page)) before h.so_far space page held (origins_apart v space apart) reached unaltered had
 
   -- its segment is among the units
   pub segment_there : class_at v space page ≤ n
@@ -140,7 +140,7 @@ module _ (v : State) (space n from page : ℕ) (apart : ArePagesApart v space) (
   pub counting_more : (m : ℕ) → m + class_at v space page ≡ n + new_frame_at v space page → page < PAGE_END → IsCounting v space m (page + 1)
   counting_more m sum low = record {
     so_far = cond (has_own before space page) (settled before h.so_far space page) h.so_far;
-    turned = retold _ _ (is_alone before space) before _ space
+    altered = retold _ _ (is_alone before space) before _ space
         (stepped (has_own before space) (is_alone before space) before space (λ now k. settled before now space k) (settle_idle before space)
         (λ now k y e there. settle_acts before now space k y there) (λ r. nat_lt r page) h.so_far page reached)
         (λ r w was. ap (λ b. has_own before space r && b) (one_further page r));
@@ -157,7 +157,7 @@ module _ (v : State) (space n from page : ℕ) (apart : ArePagesApart v space) (
       is_sum =
           let act = settle_acts before h.so_far space page held now_has in
           let stays : is_alone h.so_far space page ≡ is_alone before space page =
-          alone_stays (both_tests (has_own before space) (λ r. nat_lt r page)) before h.so_far space page held (origins_apart v space apart) reached unturned had in
+          alone_stays (both_tests (has_own before space) (λ r. nat_lt r page)) before h.so_far space page held (origins_apart v space apart) reached unaltered had in
           let units_are : units (with_page h.so_far space page act.z) + class (length p.x.own) ≡ units h.so_far + cond (is_alone before space page) 0 FRAME_UNITS =
           settled_units h.so_far space page held act.z (is_alone before space page) now_has stays act.own act.kept act.fresh in
           let frame = for_one (is_alone before space page) refl in
@@ -170,6 +170,6 @@ pub counted_all : (v : State) (space n from : ℕ) → IsCounting v space n from
 counted_all v space n from h none =
     h.units_is
     ∙ units_alike h.so_far (ledger_after (Settle space) (books v))
-    (alike_turned (has_own (books v) space) (is_alone (books v) space) (books v) h.so_far (ledger_after (Settle space) (books v)) space
-    (retold _ _ (is_alone (books v) space) (books v) h.so_far space h.turned (λ r x at. passed_all (has_own (books v) space) from r (none r)))
+    (alike_altered (has_own (books v) space) (is_alone (books v) space) (books v) h.so_far (ledger_after (Settle space) (books v)) space
+    (retold _ _ (is_alone (books v) space) (books v) h.so_far space h.altered (λ r x at. passed_all (has_own (books v) space) from r (none r)))
     (after_settle (books v) space))

@@ -20,14 +20,14 @@ use Rattle.overlay_memory.specs.PageLaws.{held_there, own_is, some_is}
 use Rattle.overlay_memory.specs.Room.{FitsAfter, IsFullAt, IsShort, class_at, units_after}
 use Rattle.overlay_memory.specs.declared.error.Shortage.{Shortage}
 use Rattle.space_maps.specs.Laws.{changed_there, same_spaces}
-use Rattle.space_maps.specs.Spaces.{holds_space, page_in, put_mark, put_page, put_space, space_in, turned_page}
+use Rattle.space_maps.specs.Spaces.{holds_space, page_in, put_mark, put_page, put_space, space_in, altered_page}
 use Rattle.promotion.specs.Counted.{new_frame_at}
-use Rattle.promotion.specs.Settled.{AreSettled, IsAfter, alone_in, mark_of}
+use Rattle.promotion.specs.Settled.{AreInFrames, IsAfter, alone_in, mark_of}
 use Rattle.promotion.specs.Promoted.{HasPromoted, one_page}
-use Rattle.promotion.specs.FateLaws.{alike_turned}
+use Rattle.promotion.specs.FateLaws.{alike_altered}
 use Rattle.promotion.specs.FateFolds.{after_settle_page, arent_same, none_own, retold, settle_acts}
 use Rattle.promotion.specs.FateUnits.{settled_units}
-use Rattle.promotion.specs.Turns.{HasTurned, are_settled, none_yet, one_more}
+use Rattle.promotion.specs.Altered.{HaveAltered, are_settled, none_yet, one_more}
 use Rattle.promotion.proofs.Counts.{enough_for, frame_is, needs_no_other, needs_none, sum_shared}
 use Rattle.promotion.proofs.CopyWalk.{copied_one, lines_above}
 
@@ -62,15 +62,15 @@ page_units v space page x at = by_own (has_own (books v) space page) refl
         let put = ap units act.put in
         omega (arith, sum, frame, put, segment)
 
--- one page alone was turned
-module _ (old new : State) (space page : ℕ) (plain : IsBare old space) (h : HasTurned seen_page (λ r. nat_eq r page) (alone_in old space) old new space)
+-- one page alone was altered
+module _ (old new : State) (space page : ℕ) (plain : IsBare old space) (h : HaveAltered seen_page (λ r. nat_eq r page) (alone_in old space) old new space)
     (own : has_own (books old) space page ≡ true) where
-  pub page_settled : AreSettled (one_page page) (mark_of old space) old new space
+  pub page_settled : AreInFrames (one_page page) (mark_of old space) old new space
   page_settled = are_settled (λ r. nat_eq r page) (alone_in old space) (one_page page) old new space h plain (λ r e. e) (λ r x had e yes. let no = sym e ∙ yes in cc)
 
   pub page_ledger : IsAfter (SettlePage space page) old new
   page_ledger =
-      alike_turned (λ r. has_own (books old) space r && (r == page)) (alone_in old space) (books old) (books new) (ledger_after (SettlePage space page) (books old)) space
+      alike_altered (λ r. has_own (books old) space r && (r == page)) (alone_in old space) (books old) (books new) (ledger_after (SettlePage space page) (books old)) space
       (retold (λ r. nat_eq r page) (λ r. has_own (books old) space r && (r == page)) (alone_in old space) (books old) (books new) space h.ledger (λ r x at. named r))
       (after_settle_page (books old) space page)
     where
@@ -97,17 +97,17 @@ module _ (old : State) (space page : ℕ) (x : PageState) (plain : IsBare old sp
           (λ e. none_own y.own (sym (own_is (books old) space r (held_page old.zero_frame y) (held_there old space r y had)) ∙ ap (has_own (books old) space) e ∙ none))
           (λ other. let no = sym (arent_same r page other) ∙ same in cc)
 
-  turns : (new : State) (z : PageState) → HasTurned seen_page (λ r. nat_eq r page) (alone_in old space) old (put_page old space page z) space → new ≡ put_page old space page z
+  turns : (new : State) (z : PageState) → HaveAltered seen_page (λ r. nat_eq r page) (alone_in old space) old (put_page old space page z) space → new ≡ put_page old space page z
       → has_own (books old) space page ≡ true → HasPromoted old new space page
   turns new z h is own =
-      let moved = subst (λ (v : State). HasTurned seen_page (λ r. nat_eq r page) (alone_in old space) old v space) (sym is) h in record {
+      let moved = subst (λ (v : State). HaveAltered seen_page (λ r. nat_eq r page) (alone_in old space) old v space) (sym is) h in record {
         there = ap is_some at;
         fits = fits;
         settled = page_settled old new space page plain moved own;
         ledger = page_ledger old new space page plain moved own;
       }
 
-  pub promoted_alone : (new : State) → has_own (books old) space page ≡ true → is_alone (books old) space page ≡ true → new ≡ turned_page committed old space page
+  pub promoted_alone : (new : State) → has_own (books old) space page ≡ true → is_alone (books old) space page ≡ true → new ≡ altered_page committed old space page
       → HasPromoted old new space page
   promoted_alone new own alone is =
       turns new (committed x)
@@ -172,7 +172,7 @@ module _ (m : TranslatedView) (space page n : ℕ) (own : List ℕ) (count segme
       promoted_bare v space page x.x (all_bare m.pages space) x.there (fits_bare v space page n own count (class count) lines count_is refl units_is none fits)
       (has_own_is v space page own count lines count_is ∙ ap (nat_lt 0) none)
 
-  pub commits : (new : State) → (count ≡ 0 → ⊥) → is_alone (books v) space page ≡ true → new ≡ turned_page committed v space page → HasPromoted v new space page
+  pub commits : (new : State) → (count ≡ 0 → ⊥) → is_alone (books v) space page ≡ true → new ≡ altered_page committed v space page → HasPromoted v new space page
   commits new some alone is =
       promoted_alone v space page x.x (all_bare m.pages space) x.there (fits_alone v space page n own count (class count) lines count_is refl units_is alone fits) new (owned some) alone is
 

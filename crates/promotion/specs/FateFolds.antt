@@ -18,8 +18,8 @@ use Rattle.ledger.specs.OriginLaws.{new_is_unused}
 use Rattle.ledger.specs.RowLaws.{changed_absent, changed_there}
 use Rattle.overlay_memory.specs.ApartLaws.{AreOriginsApart}
 use Rattle.overlay_memory.specs.PageLaws.{own_absent, own_is}
-use Rattle.promotion.specs.Fates.{AreTurned, HasFate, IsFate, bare_is, fate_same, none_turned, one_turned}
-use Rattle.promotion.specs.FateLaws.{alike_turned, alone_stays}
+use Rattle.promotion.specs.Fates.{AreTurned, HasFate, IsFate, bare_is, fate_same, none_altered, one_altered}
+use Rattle.promotion.specs.FateLaws.{alike_altered, alone_stays}
 
 -- The ledger after an event that settles pages, and its units on the way.
 
@@ -99,7 +99,7 @@ module _ (test a : ℕ → Bool) (before : Ledger) (space : ℕ) (act : Ledger �
           let f = h.pages k x had in
           let s = acts now k f.is e f.there in
           subst (λ (l : Ledger). AreTurned (both_tests test (or_page done k)) a before l space) (sym s.put)
-          (one_turned (both_tests test done) (both_tests test (or_page done k)) a before now space k x f.is s.z h had f.there
+          (one_altered (both_tests test done) (both_tests test (or_page done k)) a before now space k x f.is s.z h had f.there
           (ap (λ b. b && (done k || nat_eq k k)) e ∙ ap (λ b. done k || b) (are_same k k refl) ∙ or_true (done k))
           apart s.own (λ keeps. s.kept keeps ∙ kept keeps (both_tests test done k) f.is f.fate) s.fresh)
         where
@@ -149,7 +149,7 @@ module _ (test a : ℕ → Bool) (before : Ledger) (space : ℕ) (act : Ledger �
 
   pub all_folded : AreTurned test a before (each_page before space (λ l k. cond (test k) (act l k) l)) space
   unfolding each_page
-  all_folded = all_folded_from (λ r. false) before (retold _ _ a before before space (none_turned a before space) (λ r x at. and_false (test r)))
+  all_folded = all_folded_from (λ r. false) before (retold _ _ a before before space (none_altered a before space) (λ r x at. and_false (test r)))
 
 -- The events.
 
@@ -202,7 +202,7 @@ pub after_settle_page : (before : Ledger) (space page : ℕ)
 after_settle_page before space page =
     stepped (has_own before space) (is_alone before space) before space (λ now k. settled before now space k) (settle_idle before space)
     (λ now k y e at. settle_acts before now space k y at) (λ r. false) before page
-    (retold _ _ (is_alone before space) before before space (none_turned (is_alone before space) before space) (λ r x at. and_false (has_own before space r)))
+    (retold _ _ (is_alone before space) before before space (none_altered (is_alone before space) before space) (λ r x at. and_false (has_own before space r)))
 
 pub after_discard : (before : Ledger) (space : ℕ) → AreTurned (λ r. true) (λ r. true) before (ledger_after (Discard space) before) space
 after_discard before space =
@@ -245,9 +245,9 @@ widened t u a before now space h same = record {
         at true false alone = cc
 
 -- where each page that was settled kept its origin, there is one such ledger
-pub same_turned : (t a : ℕ → Bool) (before l m : Ledger) (space : ℕ) → AreTurned t a before l space → AreTurned t a before m space
+pub same_altered : (t a : ℕ → Bool) (before l m : Ledger) (space : ℕ) → AreTurned t a before l space → AreTurned t a before m space
     → ((r : ℕ) → t r ≡ true → a r ≡ true) → l ≡ m
-same_turned t a before l m space h k keeps = same_ledger l m (λ q. h.spaces q ∙ sym (k.spaces q)) (λ q r. by_key q space
+same_altered t a before l m space h k keeps = same_ledger l m (λ q. h.spaces q ∙ sym (k.spaces q)) (λ q r. by_key q space
     (λ same. ap (λ n. holding_at l n r) same ∙ by_page r (holding_at before space r) refl ∙ sym (ap (λ n. holding_at m n r) same))
     (λ d. h.others q r d ∙ sym (k.others q r d)))
   where
@@ -345,5 +345,5 @@ module _ (before : Ledger) (space : ℕ) (apart : AreOriginsApart before space) 
 
   pub commits_first : AreAlike (ledger_after (Settle space) (ledger_after (Commit space) before)) (ledger_after (Settle space) before)
   commits_first =
-      alike_turned (has_own before space) (is_alone before space) before (ledger_after (Settle space) middle)
+      alike_altered (has_own before space) (is_alone before space) before (ledger_after (Settle space) middle)
       (ledger_after (Settle space) before) space twice (after_settle before space)

@@ -13,19 +13,19 @@ use Rattle.promotion.specs.Fates.{AreTurned, HasFate, IsFate}
 
 -- What is alone in a ledger in which pages were settled, and when two such are alike.
 
-eq_turned : (a b : ℕ) → nat_eq a b ≡ nat_eq b a
-eq_turned a b = grind (arith, nat_tests)
+eq_altered : (a b : ℕ) → nat_eq a b ≡ nat_eq b a
+eq_altered a b = grind (arith, nat_tests)
 
 fate_at : (b c : Bool) (now : Ledger) (space page : ℕ) (w z : Holding) → HasFate b c now space page w → holding_at now space page ≡ Some z → IsFate b c now space page w z
 fate_at b c now space page w z f at = subst (λ (v : Holding). IsFate b c now space page w v) (some_is f.is z (sym f.there ∙ at)) f.fate
 
--- a page that wasn't turned yet is alone where it was before
+-- a page that wasn't altered yet is alone where it was before
 module _ (t : ℕ → Bool) (before now : Ledger) (space page : ℕ) (x : Holding) (apart : AreOriginsApart before space)
-    (h : AreTurned t (is_alone before space) before now space) (unturned : t page ≡ false) (was : holding_at before space page ≡ Some x) where
+    (h : AreTurned t (is_alone before space) before now space) (unaltered : t page ≡ false) (was : holding_at before space page ≡ Some x) where
   pub here : holding_at now space page ≡ Some x
   here =
       let f = h.pages page x was in
-      f.there ∙ ap Some (by_turn (t page) (is_alone before space page) f.is unturned f.fate)
+      f.there ∙ ap Some (by_turn (t page) (is_alone before space page) f.is unaltered f.fate)
     where
       by_turn : (b c : Bool) (z : Holding) → b ≡ false → IsFate b c now space page x z → z ≡ x
       by_turn false c z e fate = fate
@@ -63,7 +63,7 @@ module _ (t : ℕ → Bool) (before now : Ledger) (space page : ℕ) (x : Holdin
       by_turn true true fate = ap (λ (v : Holding). nat_eq v.origin x.origin) fate ∙ beside r w differs some had
       by_turn true false fate =
           let a : IsAlone now space r = alone_apart now space r fate.1 in
-          eq_turned other.origin x.origin
+          eq_altered other.origin x.origin
           ∙ ap (λ (v : Holding). nat_eq x.origin v.origin) (some_is other a.holding (sym there ∙ a.there))
           ∙ a.others space page x (λ _ e. differs (sym e)) here
 
@@ -110,11 +110,11 @@ zero_origin : (o : Option Holding) → option_map_or (λ (h : Holding). h.origin
 zero_origin None = refl
 zero_origin (Some x) = refl
 
-one_turned_round : (o u : Option Holding) → have_one_origin o u ≡ have_one_origin u o
-one_turned_round None None = refl
-one_turned_round None (Some y) = refl
-one_turned_round (Some x) None = refl
-one_turned_round (Some x) (Some y) = eq_turned x.origin y.origin
+one_altered_round : (o u : Option Holding) → have_one_origin o u ≡ have_one_origin u o
+one_altered_round None None = refl
+one_altered_round None (Some y) = refl
+one_altered_round (Some x) None = refl
+one_altered_round (Some x) (Some y) = eq_altered x.origin y.origin
 
 -- a page that is alone shares with itself alone
 alone_shares : (l : Ledger) (s p q r : ℕ) → is_alone l s p ≡ true → have_one_origin (holding_at l s p) (holding_at l q r) ≡ (nat_eq q s && nat_eq r p)
@@ -131,7 +131,7 @@ alone_shares l s p q r alone =
 
     other_page : (a : IsAlone l s p) → (q ≡ s → r ≡ p → ⊥) → (o : Option Holding) → holding_at l q r ≡ o → have_one_origin (Some a.holding) (holding_at l q r) ≡ false
     other_page a d None is = ap (have_one_origin (Some a.holding)) is
-    other_page a d (Some y) is = ap (have_one_origin (Some a.holding)) is ∙ eq_turned a.holding.origin y.origin ∙ a.others q r y d is
+    other_page a d (Some y) is = ap (have_one_origin (Some a.holding)) is ∙ eq_altered a.holding.origin y.origin ∙ a.others q r y d is
 
     elsewhere : (q ≡ s → r ≡ p → ⊥) → (nat_eq q s && nat_eq r p) ≡ false
     elsewhere d = by_key q s
@@ -166,7 +166,7 @@ module _ (t u : ℕ → Bool) (before a b : Ledger) (space : ℕ) (h : AreTurned
       → have_one_origin (holding_at a s p) (holding_at a q r) ≡ have_one_origin (holding_at b s p) (holding_at b q r)
   shared_at s p q r (fresh x y) other = alone_shares a s p q r x ∙ sym (alone_shares b s p q r y)
   shared_at s p q r (same x y) (fresh v w) =
-      one_turned_round (holding_at a s p) (holding_at a q r) ∙ alone_shares a q r s p v ∙ sym (alone_shares b q r s p w) ∙ one_turned_round (holding_at b q r) (holding_at b s p)
+      one_altered_round (holding_at a s p) (holding_at a q r) ∙ alone_shares a q r s p v ∙ sym (alone_shares b q r s p w) ∙ one_altered_round (holding_at b q r) (holding_at b s p)
   shared_at s p q r (same x y) (same v w) =
       by_origins (holding_at a s p) (holding_at a q r) ∙ (λ i. eq_some ((x ∙ sym y) i) ((v ∙ sym w) i)) ∙ sym (by_origins (holding_at b s p) (holding_at b q r))
 
@@ -192,8 +192,8 @@ module _ (t u : ℕ → Bool) (before a b : Ledger) (space : ℕ) (h : AreTurned
       by_turn true true f g = joined f.is g.is f.there g.there (ap (λ (v : Holding). v.own) (f.fate ∙ sym g.fate))
       by_turn true false f g = joined f.is g.is f.there g.there (f.fate.0 ∙ sym g.fate.0)
 
-  pub alike_turned : AreAlike a b
-  alike_turned = record {
+  pub alike_altered : AreAlike a b
+  alike_altered = record {
     spaces = λ s. h.spaces s ∙ sym (k.spaces s);
     own = λ s p. by_key s space
         (λ e. subst (λ n. own_at a n p ≡ own_at b n p) (sym e) (own_both p (holding_at before space p) refl))

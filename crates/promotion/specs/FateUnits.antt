@@ -13,7 +13,7 @@ use Rattle.ledger.specs.ClassLaws.{class_most, class_none}
 use Rattle.ledger.specs.UnitLaws.{alone_is, frame_for, units_changed}
 use Rattle.overlay_memory.specs.ApartLaws.{AreOriginsApart}
 use Rattle.promotion.specs.Fates.{AreTurned, IsFate, bare_is}
-use Rattle.promotion.specs.FateLaws.{alike_turned, alone_stays}
+use Rattle.promotion.specs.FateLaws.{alike_altered, alone_stays}
 use Rattle.promotion.specs.FateFolds.{IsActed, after_settle, all_folded_from, both_tests, or_page, own_found, settle_acts, settle_idle, stepped}
 
 -- The units while pages are settled.
@@ -62,8 +62,8 @@ module _ (before : Ledger) (space : ℕ) (apart : AreOriginsApart before space) 
       → ((r : ℕ) → alone r ≡ true → done r ≡ true) → units now ≤ units (settle_one now k)
   rises done now k h first = by_own (has_own before space k) refl
     where
-      turned_by : (x : Holding) → holding_at before space k ≡ Some x → has_own before space k ≡ true → units now ≤ units (settled before now space k)
-      turned_by x had own =
+      altered_by : (x : Holding) → holding_at before space k ≡ Some x → has_own before space k ≡ true → units now ≤ units (settled before now space k)
+      altered_by x had own =
           let f = h.pages k x had in
           let act = settle_acts before now space k f.is f.there in
           subst (λ (l : Ledger). units now ≤ units l) (sym act.put) (at (alone k) (done k) refl refl f.is f.there act (both_is (done k) refl f.fate))
@@ -83,8 +83,8 @@ module _ (before : Ledger) (space : ℕ) (apart : AreOriginsApart before space) 
               cases true false e g fate = let no = sym (first k e) ∙ g in cc
               cases false true e g fate = let is = moved_units now space k y act.z there fate.1 fate.0 act.own (act.fresh e) in omega (arith, is)
               cases false false e g fate =
-                  let unturned : both_tests (has_own before space) done k ≡ false = ap (λ b. b && done k) own ∙ g in
-                  let stays : is_alone now space k ≡ false = alone_stays (both_tests (has_own before space) done) before now space k x apart h unturned had ∙ e in
+                  let unaltered : both_tests (has_own before space) done k ≡ false = ap (λ b. b && done k) own ∙ g in
+                  let stays : is_alone now space k ≡ false = alone_stays (both_tests (has_own before space) done) before now space k x apart h unaltered had ∙ e in
                   let sum = settled_units now space k y act.z false there stays act.own (λ no. cc) (λ _. act.fresh e) in
                   let most = class_most (length y.own) in
                   omega (arith, sum, most)
@@ -95,7 +95,7 @@ module _ (before : Ledger) (space : ℕ) (apart : AreOriginsApart before space) 
         where
           by_page : (o : Option Holding) → holding_at before space k ≡ o → units now ≤ units (settled before now space k)
           by_page None had = let no = sym (own_found before space k e) ∙ ap is_some had in cc
-          by_page (Some x) had = turned_by x had e
+          by_page (Some x) had = altered_by x had e
 
   all_rise : (ks : List ℕ) (done : ℕ → Bool) (now : Ledger) → AreTurned (both_tests (has_own before space) done) alone before now space
       → ((r : ℕ) → alone r ≡ true → done r ≡ true) → units now ≤ units (fold settle_one now ks)
@@ -116,7 +116,7 @@ module _ (before : Ledger) (space : ℕ) (apart : AreOriginsApart before space) 
       all_folded_from (has_own before space) alone before space (λ now k. settled before now space k) (settle_idle before space)
       (λ now k y e at. settle_acts before now space k y at) done now h in
       let end : units (fold settle_one now (keys (pages_of before space))) ≡ units (ledger_after (Settle space) before) =
-      units_alike _ _ (alike_turned (has_own before space) alone before (fold settle_one now (keys (pages_of before space))) (ledger_after (Settle space) before) space ended (after_settle before space)) in
+      units_alike _ _ (alike_altered (has_own before space) alone before (fold settle_one now (keys (pages_of before space))) (ledger_after (Settle space) before) space ended (after_settle before space)) in
       omega (arith, le, end)
 
   -- and with each page that is still to be settled there is room for its frame

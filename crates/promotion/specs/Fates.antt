@@ -12,23 +12,23 @@ use Rattle.ledger.specs.AloneLaws.{IsAlone, alone_apart, alone_kept, any_page, c
 
 -- A ledger in which some pages of a space were settled, and when two such are alike.
 
--- What a page holds now: what it held, where it wasn't turned; else it has no own lines, and the origin that it had where it was
+-- What a page holds now: what it held, where it wasn't altered; else it has no own lines, and the origin that it had where it was
 -- alone; where it wasn't, it is alone now.
 abbrev pub IsFate : Bool → Bool → Ledger → ℕ → ℕ → Holding → Holding → Type 0
 IsFate false alone now space page was is = is ≡ was
 IsFate true true now space page was is = is ≡ without_own was.origin
 IsFate true false now space page was is = (is.own ≡ []) × (is_alone now space page ≡ true)
 
-pub record HasFate (turned alone : Bool) (now : Ledger) (space page : ℕ) (was : Holding) : Type 0 where
+pub record HasFate (altered alone : Bool) (now : Ledger) (space page : ℕ) (was : Holding) : Type 0 where
   pub is : Holding
   pub there : holding_at now space page ≡ Some is
-  pub fate : IsFate turned alone now space page was is
+  pub fate : IsFate altered alone now space page was is
 
-pub record AreTurned (turned alone : ℕ → Bool) (before now : Ledger) (space : ℕ) : Type 0 where
+pub record AreTurned (altered alone : ℕ → Bool) (before now : Ledger) (space : ℕ) : Type 0 where
   pub spaces : (q : ℕ) → is_some (get now q) ≡ is_some (get before q)
   pub others : (q r : ℕ) → (q ≡ space → ⊥) → holding_at now q r ≡ holding_at before q r
   pub absent : (r : ℕ) → holding_at before space r ≡ None → holding_at now space r ≡ None
-  pub pages : (r : ℕ) (x : Holding) → holding_at before space r ≡ Some x → HasFate (turned r) (alone r) now space r x
+  pub pages : (r : ℕ) (x : Holding) → holding_at before space r ≡ Some x → HasFate (altered r) (alone r) now space r x
 
 -- what a page holds without own lines
 pub bare_is : (z : Holding) (o : ℕ) → z.own ≡ [] → z.origin ≡ o → z ≡ without_own o
@@ -38,9 +38,9 @@ pub fate_same : (t t' a a' : Bool) (now : Ledger) (space page : ℕ) (was is : H
 fate_same t t' a a' now space page was is e h fate =
     subst (λ b. IsFate b a now space page was is) (sym e) (subst (λ b. IsFate t' b now space page was is) (sym h) fate)
 
--- none was turned yet
-pub none_turned : (a : ℕ → Bool) (before : Ledger) (space : ℕ) → AreTurned (λ r. false) a before before space
-none_turned a before space = record {
+-- none was altered yet
+pub none_altered : (a : ℕ → Bool) (before : Ledger) (space : ℕ) → AreTurned (λ r. false) a before before space
+none_altered a before space = record {
   spaces = λ q. refl;
   others = λ q r d. refl;
   absent = λ r e. e;
@@ -64,11 +64,11 @@ unlike : (now : Ledger) (space page r : ℕ) (origin : ℕ) (y : Holding) → is
     → holding_at now space r ≡ Some y → nat_eq origin y.origin ≡ false
 unlike now space page r origin y unused other at = not_true _ (λ same.
     contradicts (without_page now space page) origin
-    (any_page (λ (holding : Holding). holding.origin == origin) (without_page now space page) space r y (gone_other now space page space r (λ _ e. other e) ∙ at) (turned origin y.origin same))
+    (any_page (λ (holding : Holding). holding.origin == origin) (without_page now space page) space r y (gone_other now space page space r (λ _ e. other e) ∙ at) (altered origin y.origin same))
     (unused_parts (without_page now space page) origin unused).1)
   where
-    turned : (m n : ℕ) → nat_eq m n ≡ true → nat_eq n m ≡ true
-    turned m n e = grind (arith, nat_tests)
+    altered : (m n : ℕ) → nat_eq m n ≡ true → nat_eq n m ≡ true
+    altered m n e = grind (arith, nat_tests)
 
 -- One page more is settled.
 module _ (t u a : ℕ → Bool) (before now : Ledger) (space page : ℕ) (x y z : Holding)
@@ -118,8 +118,8 @@ module _ (t u a : ℕ → Bool) (before now : Ledger) (space page : ℕ) (x y z 
         fate = fate_same (u r) (t r) (a r) (a r) (with_page now space page z) space r w f.is (stays r other) refl (fate_there r w f.is other f.there (t r) (a r) f.fate);
       }
 
-  pub one_turned : AreTurned u a before (with_page now space page z) space
-  one_turned = record {
+  pub one_altered : AreTurned u a before (with_page now space page z) space
+  one_altered = record {
     spaces = λ q. put_spaces now space page z q (ap is_some (space_of_page now space page y at)) ∙ h.spaces q;
     others = λ q r d. put_other now space page z q r (λ s _. d s) ∙ h.others q r d;
     absent = λ r none. put_other now space page z space r (λ _ e. let no = sym (ap is_some was) ∙ ap (λ n. is_some (holding_at before space n)) (sym e) ∙ ap is_some none in cc) ∙ h.absent r none;

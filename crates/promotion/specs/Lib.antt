@@ -7,5 +7,5 @@ pub mod Fates
 pub mod FateLaws
 pub mod FateFolds
 pub mod FateUnits
-pub mod Turns
+pub mod Altered
 pub mod Walks

@@ -5,7 +5,7 @@ use Rattle.overlay_pages.specs.State.{State}
 use Rattle.overlay_memory.specs.View.{TranslatedView, state_of}
 use Rattle.overlay_memory.specs.Room.{FitsAfter, IsFullAt, units_after}
 use Rattle.space_maps.specs.Spaces.{page_in, space_in}
-use Rattle.promotion.specs.Settled.{AreSettled, HasSettled, IsAfter, mark_of}
+use Rattle.promotion.specs.Settled.{AreInFrames, HasSettled, IsAfter, mark_of}
 use Rattle.promotion.specs.declared.error.PromoteError.{PromoteError}
 use Rattle.overlay_memory.specs.declared.error.Shortage.{Shortage}
 use Rattle.promotion.specs.declared.error.PromoteError.TheVariants.{Unmapped, Speculating, Full}
@@ -35,7 +35,7 @@ one_page page q = q == page
 pub record HasPromoted (old new : State) (space page : ℕ) : Type 0 where
   pub there : IsSome (page_in old space page)
   pub fits : FitsAfter (SettlePage space page) old
-  pub settled : AreSettled (one_page page) (mark_of old space) old new space
+  pub settled : AreInFrames (one_page page) (mark_of old space) old new space
   pub ledger : IsAfter (SettlePage space page) old new
 
 -- how settling a page that is there comes out

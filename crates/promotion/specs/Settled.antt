@@ -9,14 +9,14 @@ use Rattle.overlay_pages.specs.Changes.{HasCopyRoom, IsPlaced, committed, copied
 use Rattle.overlay_memory.specs.View.{TranslatedView, state_of}
 use Rattle.overlay_memory.specs.Room.{FitsAfter, IsFullAt, units_after}
 use Rattle.overlay_memory.specs.declared.error.Shortage.{Shortage}
-use Rattle.space_maps.specs.Spaces.{holds_space, page_in, space_in, turned_page}
+use Rattle.space_maps.specs.Spaces.{holds_space, page_in, space_in, altered_page}
 
 -- What settling does.
 
 -- The pages of a space that `which` names were settled: what processes see is as before, with its permissions; it is the base of
 -- these pages, which have no own lines; every other page has its base of before. The space is marked as said, and nothing else
 -- changed.
-pub record AreSettled (which : ℕ → Bool) (mark : Bool) (old new : State) (space : ℕ) : Type 0 where
+pub record AreInFrames (which : ℕ → Bool) (mark : Bool) (old new : State) (space : ℕ) : Type 0 where
   pub memory : memory_of new space ≡ memory_of old space
   pub base : (page : ℕ) → get (base_of new space) page ≡ (if which page then get (memory_of old space) page else get (base_of old space) page)
   pub own : (page : ℕ) → which page ≡ true → has_own (books new) space page ≡ false
@@ -48,12 +48,12 @@ NoneAlone state space = (page : ℕ) → is_alone (books state) space page ≡ t
 
 -- each page of a space that is alone was settled
 pub record HasCommittedAlone (old new : State) (space : ℕ) : Type 0 where
-  pub settled : AreSettled (alone_in old space) (mark_of old space) old new space
+  pub settled : AreInFrames (alone_in old space) (mark_of old space) old new space
   pub ledger : books new ≡ ledger_after (Commit space) (books old)
 
 -- each page of a space was settled
 pub record HasSettled (old new : State) (space : ℕ) : Type 0 where
-  pub settled : AreSettled every_page (mark_of old space) old new space
+  pub settled : AreInFrames every_page (mark_of old space) old new space
   pub ledger : IsAfter (Settle space) old new
 
 -- how settling a space comes out: each page is settled, or the units after that exceed the limit and nothing changed
@@ -66,7 +66,7 @@ Settles old new space (Err shortage) = IsFullAt old new (units_after (Settle spa
 -- its own lines go into its frame, where it has any and is alone
 unfoldable pub with_committed : State → ℕ → ℕ → State
 with_committed state space page =
-    if has_own (books state) space page && is_alone (books state) space page then turned_page committed state space page else state
+    if has_own (books state) space page && is_alone (books state) space page then altered_page committed state space page else state
 
 -- it gets a new frame, where it has own lines
 abbrev pub IsCopiedWhere : Bool → State → State → ℕ → ℕ → Type 0

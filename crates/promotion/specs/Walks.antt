@@ -9,7 +9,7 @@ use Rattle.space_ledger.specs.Calls.{IsNextOwn}
 use Rattle.overlay_pages.specs.State.{PageState, State, books}
 use Rattle.overlay_memory.specs.Walked.{one_further}
 use Rattle.promotion.specs.FateFolds.{arent_same, or_page}
-use Rattle.promotion.specs.Turns.{HasTurned, own_now, said_again, still}
+use Rattle.promotion.specs.Altered.{HaveAltered, own_now, said_again, still}
 
 -- The pages of a space with own lines, walked in ascending order.
 
@@ -87,17 +87,17 @@ module _ (test : ℕ → Bool) (page r : ℕ) where
       only le lt = omega (arith, le, lt)
 
 -- The walk goes from one page with own lines to the next: those between fail the test.
-module _ (to : PageState → Page) (test a : ℕ → Bool) (old now : State) (space from : ℕ) (h : HasTurned to (so_far test from) a old now space)
+module _ (to : PageState → Page) (test a : ℕ → Bool) (old now : State) (space from : ℕ) (h : HaveAltered to (so_far test from) a old now space)
     (bare_fails : (q : ℕ) → has_own (books old) space q ≡ false → test q ≡ false) where
   fails_now : (q : ℕ) (x : PageState) → page_in old space q ≡ Some x → from ≤ q → has_own (books now) space q ≡ false → test q ≡ false
   fails_now q x had le bare =
       bare_fails q (sym (own_now old now space q x had (still to (so_far test from) a old now space q x h had (not_yet test from q le))) ∙ bare)
 
-  pub come_to : (page : ℕ) → IsNextOwn (books now) space from (Some page) → HasTurned to (so_far test page) a old now space
+  pub come_to : (page : ℕ) → IsNextOwn (books now) space from (Some page) → HaveAltered to (so_far test page) a old now space
   come_to page next =
       said_again to (so_far test from) (so_far test page) a old now space h
       (λ r x had. passed test from page r next.0 (λ le lt. fails_now r x had le (next.2 r le lt)))
 
-  pub come_past : IsNextOwn (books now) space from None → HasTurned to test a old now space
+  pub come_past : IsNextOwn (books now) space from None → HaveAltered to test a old now space
   come_past none =
       said_again to (so_far test from) test a old now space h (λ r x had. passed_all test from r (λ le. fails_now r x had le (none r le)))

@@ -47,7 +47,7 @@ pub fn commit_alone(mem: &mut OverlayMemory, space: u16)
 // A page gets a new frame, where it has own lines.
 fn copy_one(mem: &mut OverlayMemory, space: u16, page: u64)
     requires there { IsSome (page_in (state_of mem.old) space page) }
-    requires settled { (space_in (state_of mem.old) space).awaiting ≡ map.empty }
+    requires none_awaits { (space_in (state_of mem.old) space).awaiting ≡ map.empty }
     requires fits { CanCopyOwn (state_of mem.old) space page }
     ensures copied { IsCopied (state_of mem.old) (state_of mem.new) space page }
     ensures lists { KeepsOtherTranslations space mem.old mem.new }
@@ -63,7 +63,7 @@ fn copy_one(mem: &mut OverlayMemory, space: u16, page: u64)
 // after the last one are there.
 fn copy_overlaid(mem: &mut OverlayMemory, space: u16)
     requires there { holds_space (state_of mem.old) space ≡ true }
-    requires settled { (space_in (state_of mem.old) space).awaiting ≡ map.empty }
+    requires none_awaits { (space_in (state_of mem.old) space).awaiting ≡ map.empty }
     requires shared { NoneAlone (state_of mem.old) space }
     requires fits { FitsAfter (Settle space) (state_of mem.old) }
     ensures settled { HasSettled (state_of mem.old) (state_of mem.new) space }
@@ -84,7 +84,7 @@ fn copy_overlaid(mem: &mut OverlayMemory, space: u16)
 /// page for each new frame.
 pub fn settle(mem: &mut OverlayMemory, space: u16) -> Result<(), Shortage>
     requires there { holds_space (state_of mem.old) space ≡ true }
-    requires settled { (space_in (state_of mem.old) space).awaiting ≡ map.empty }
+    requires none_awaits { (space_in (state_of mem.old) space).awaiting ≡ map.empty }
     ensures settles { Settles mem.old mem.new space result }
     ensures lists { KeepsOtherTranslations space mem.old mem.new }
 {

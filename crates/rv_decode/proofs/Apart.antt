@@ -9,17 +9,17 @@ use Rattle.std.proofs.lemmas.List.Sums.{AllPass-from_list_all, passes_at_first, 
 use Rattle.rv_decode.specs.declared.names.Name.{Name}
 use Rattle.rv_decode.specs.declared.rows.CaseRow.{CaseRow}
 use Rattle.rv_decode.specs.Table.{row_of, all_names, rv64i_rows}
-use Rattle.rv_decode.specs.Fits.{Fits, FitsAt, FindsRow, fits, IsWithinMask, AreApart}
+use Rattle.rv_decode.specs.Fits.{FitsRow, FitsAt, FindsRow, fits, IsWithinMask, AreApart}
 use Rattle.rv_decode.proofs.Listed.{all_names-contains}
 use Rattle.rv_decode.proofs.NoneFits.{known_bits}
 
 -- a row that fits stands at a place of the list
-pub at_place : (rows : List CaseRow) (word k : ℕ) (d : CaseRow) → FitsAt rows word k → (k < length rows) × Fits (get_or rows k d) word
+pub at_place : (rows : List CaseRow) (word k : ℕ) (d : CaseRow) → FitsAt rows word k → (k < length rows) × FitsRow (get_or rows k d) word
 at_place [] word k d fit = absurd fit
 at_place (r ∷ rs) word zero d fit = (omega arith, fit)
 at_place (r ∷ rs) word (suc k) d fit = let rest = at_place rs word k d fit in (omega (arith, rest.0), rest.1)
 
-pub place_of_fit : (rows : List CaseRow) (word k : ℕ) (d : CaseRow) → k < length rows → Fits (get_or rows k d) word → FitsAt rows word k
+pub place_of_fit : (rows : List CaseRow) (word k : ℕ) (d : CaseRow) → k < length rows → FitsRow (get_or rows k d) word → FitsAt rows word k
 place_of_fit [] word k d within fit = absurd (omega (arith, within))
 place_of_fit (r ∷ rs) word zero d within fit = fit
 place_of_fit (r ∷ rs) word (suc k) d within fit = place_of_fit rs word k d (omega (arith, within)) fit
@@ -65,12 +65,12 @@ unfolding rv64i_rows
 rows_within = All-weaker (λ r. (bit_and r.value r.mask == r.value) ≡ true) IsWithinMask (λ r h. eqb-true _ _ h) rv64i_rows (AllPass-from_list_all (λ r. bit_and r.value r.mask == r.value) rv64i_rows refl)
 
 -- a name whose row fits stands at its place of the table
-fits_at_name : (word : ℕ) (names : List Name) (k : ℕ) (name : Name) → k < length names → get_or names k name ≡ name → Fits (row_of name) word → FitsAt (map row_of names) word k
+fits_at_name : (word : ℕ) (names : List Name) (k : ℕ) (name : Name) → k < length names → get_or names k name ≡ name → FitsRow (row_of name) word → FitsAt (map row_of names) word k
 fits_at_name word [] k name within here fit = absurd (omega (arith, within))
-fits_at_name word (n ∷ ns) zero name within here fit = subst (λ x. Fits (row_of x) word) (sym here) fit
+fits_at_name word (n ∷ ns) zero name within here fit = subst (λ x. FitsRow (row_of x) word) (sym here) fit
 fits_at_name word (n ∷ ns) (suc k) name within here fit = fits_at_name word ns k name (omega (arith, within)) here fit
 
-pub place_of_name : (word : ℕ) (name : Name) → Fits (row_of name) word → FitsAt rv64i_rows word (all_names-contains name).0
+pub place_of_name : (word : ℕ) (name : Name) → FitsRow (row_of name) word → FitsAt rv64i_rows word (all_names-contains name).0
 unfolding rv64i_rows
 place_of_name word name fit =
     let c = all_names-contains name in
@@ -87,7 +87,7 @@ same_at [] j k a b within e at_j at_k = absurd (omega (arith, within))
 same_at (n ∷ ns) j k a b within e at_j at_k = sym at_j ∙ get_or_default (n ∷ ns) j a b within ∙ ap (λ i. get_or (n ∷ ns) i b) e ∙ at_k
 
 -- no word fits the rows of two names
-pub one_name : (word : ℕ) (a b : Name) → Fits (row_of a) word → Fits (row_of b) word → a ≡ b
+pub one_name : (word : ℕ) (a b : Name) → FitsRow (row_of a) word → FitsRow (row_of b) word → a ≡ b
 one_name word a b fit_a fit_b =
     let ca = all_names-contains a in
     let cb = all_names-contains b in
@@ -115,7 +115,7 @@ FindsRow-cond (r ∷ rs) word n true within e =
     let rows : List CaseRow = r ∷ rs in
     let inside : n < length rows = ltb-true _ _ within in
     let passes = passes_at_first (λ row. fits row word) rows r (subst (λ k. k < length rows) e inside) in
-    place_of_fit rows word n r inside (subst (λ k. Fits (get_or rows k r) word) (sym e) (eqb-true _ _ passes))
+    place_of_fit rows word n r inside (subst (λ k. FitsRow (get_or rows k r) word) (sym e) (eqb-true _ _ passes))
 FindsRow-cond rows word n false past e = λ k fit. no_place rows word k (subst (λ m. length rows ≤ m) e (ltb-false _ _ past)) fit
 
 pub FindsRow-position : (rows : List CaseRow) (word : ℕ) → FindsRow rows word (position (λ row. fits row word) rows)

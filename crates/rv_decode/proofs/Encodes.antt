@@ -11,7 +11,7 @@ use Rattle.rv_decode.specs.Table.{row_of}
 use Rattle.rv_decode.specs.Fields.{field, sign_extended, imm_of, instr_in}
 use Rattle.rv_decode.specs.Meaning.{MeansInstr}
 use Rattle.rv_decode.specs.Encodable.{HasRegisters, HasImmediate, IsEncodable}
-use Rattle.rv_decode.specs.Encoding.{bits_of, registers_of, immediate_of}
+use Rattle.rv_decode.specs.Encoding.{bits_of, register_bits, immediate_of}
 use Rattle.rv_decode.proofs.Masks.{opcode_bits, funct3_bits, funct6_bits, funct7_bits, whole_word}
 use Rattle.rv_decode.proofs.NoneFits.{each_name}
 use Rattle.rv_decode.proofs.Words.{IsWordOf}
@@ -31,7 +31,7 @@ mask_of H5 = 0xFE00707F
 mask_of N = 0xFFFFFFFF
 
 -- the sum of the parts has the parts
-pub word_by : (format : Format) (value word : ℕ) (i : Instr) → value < 2 ^ 32 → bit_and value (mask_of format) ≡ value → HasRegisters format i → HasImmediate format i.imm → word ≡ value + registers_of i + immediate_of format i.imm → IsWordOf format (mask_of format) value i word
+pub word_by : (format : Format) (value word : ℕ) (i : Instr) → value < 2 ^ 32 → bit_and value (mask_of format) ≡ value → HasRegisters format i → HasImmediate format i.imm → word ≡ value + register_bits i + immediate_of format i.imm → IsWordOf format (mask_of format) value i word
 word_by R = word_R
 word_by I = word_I
 word_by S = word_S
@@ -43,7 +43,7 @@ word_by H5 = word_H5
 word_by N = word_N
 
 -- a word is the sum of its parts
-pub parts_by : (format : Format) (name : Name) (word : ℕ) → word < 2 ^ 32 → word ≡ bit_and word (mask_of format) + registers_of (instr_in format name word) + immediate_of format (imm_of format word)
+pub parts_by : (format : Format) (name : Name) (word : ℕ) → word < 2 ^ 32 → word ≡ bit_and word (mask_of format) + register_bits (instr_in format name word) + immediate_of format (imm_of format word)
 parts_by R name word below = let fixed = funct7_bits word below in omega arith
 parts_by I name word below =
     let fixed = funct3_bits word in
@@ -91,7 +91,7 @@ value_below name = ltb-true _ _ (and_parts _ _ (and_parts _ _ (each_name is_shap
 
 -- the encoder's sum
 abbrev pub sum_of : Instr → ℕ
-sum_of i = (row_of i.name).value + registers_of i + immediate_of (row_of i.name).format i.imm
+sum_of i = (row_of i.name).value + register_bits i + immediate_of (row_of i.name).format i.imm
 
 is_word : (i : Instr) → IsEncodable i → IsWordOf (row_of i.name).format (mask_of (row_of i.name).format) (row_of i.name).value i (sum_of i)
 is_word i ok =
@@ -115,12 +115,12 @@ pub sum-means : (i : Instr) (word : ℕ) → word < 2 ^ 32 → MeansInstr word i
 sum-means i word below m =
     let row = row_of m.name in
     ap sum_of m.is
-    ∙ ap (λ v. v + registers_of (instr_in row.format m.name word) + immediate_of row.format (imm_of row.format word)) (sym m.fits ∙ ap (bit_and word) (mask-row_of m.name))
+    ∙ ap (λ v. v + register_bits (instr_in row.format m.name word) + immediate_of row.format (imm_of row.format word)) (sym m.fits ∙ ap (bit_and word) (mask-row_of m.name))
     ∙ sym (parts_by row.format m.name word below)
 
 -- the parts as the encoder computes them
-pub sum-parts : (i : Instr) (row : CaseRow) (a b : ℕ) → row ≡ row_of i.name → a ≡ registers_of i → b ≡ immediate_of row.format i.imm → row.value + a + b ≡ sum_of i
+pub sum-parts : (i : Instr) (row : CaseRow) (a b : ℕ) → row ≡ row_of i.name → a ≡ register_bits i → b ≡ immediate_of row.format i.imm → row.value + a + b ≡ sum_of i
 sum-parts i row a b is_row is_a is_b =
     ap (λ x. row.value + x + b) is_a
-    ∙ ap (λ x. row.value + registers_of i + x) is_b
-    ∙ ap (λ x. x.value + registers_of i + immediate_of x.format i.imm) is_row
+    ∙ ap (λ x. row.value + register_bits i + x) is_b
+    ∙ ap (λ x. x.value + register_bits i + immediate_of x.format i.imm) is_row

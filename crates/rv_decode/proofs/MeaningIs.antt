@@ -7,20 +7,20 @@ use Rattle.std.proofs.lemmas.List.Elements.{All-nil, All-cons, All-contains}
 use Rattle.rv_decode.specs.declared.instruction.Instr.{Instr}
 use Rattle.rv_decode.specs.declared.names.Name.{Name}
 use Rattle.rv_decode.specs.Table.{row_of, all_names, rv64i_rows}
-use Rattle.rv_decode.specs.Fits.{Fits, fits}
+use Rattle.rv_decode.specs.Fits.{FitsRow, fits}
 use Rattle.rv_decode.specs.Fields.{instr_in, instr_of}
 use Rattle.rv_decode.specs.Meaning.{Means, meaning}
 use Rattle.rv_decode.proofs.Apart.{one_name}
 use Rattle.rv_decode.proofs.Listed.{all_names-contains, name-row_of}
 
 -- the look-up gives the row of a name that fits, or no name's row fits
-first : (word : ℕ) (names : List Name) → ((find (λ row. fits row word) (map row_of names) ≡ None) × All (λ name. Fits (row_of name) word → ⊥) names) ⊎ ((name : Name) × (find (λ row. fits row word) (map row_of names) ≡ Some (row_of name)) × Fits (row_of name) word)
-first word [] = inl (refl, All-nil (λ name. Fits (row_of name) word → ⊥))
+first : (word : ℕ) (names : List Name) → ((find (λ row. fits row word) (map row_of names) ≡ None) × All (λ name. FitsRow (row_of name) word → ⊥) names) ⊎ ((name : Name) × (find (λ row. fits row word) (map row_of names) ≡ Some (row_of name)) × FitsRow (row_of name) word)
+first word [] = inl (refl, All-nil (λ name. FitsRow (row_of name) word → ⊥))
 first word (n ∷ ns) =
     elim (cases_Bool (fits (row_of n) word)) [
       | inl passes ↦ inr (n, cond-true _ _ _ passes, eqb-true _ _ passes)
       | inr fails ↦ elim (first word ns) [
-        | inl none ↦ inl (cond-false _ _ _ fails ∙ none.0, All-cons (λ name. Fits (row_of name) word → ⊥) n ns (eqb-false _ _ fails) none.1)
+        | inl none ↦ inl (cond-false _ _ _ fails ∙ none.0, All-cons (λ name. FitsRow (row_of name) word → ⊥) n ns (eqb-false _ _ fails) none.1)
         | inr found ↦ inr (found.0, cond-false _ _ _ fails ∙ found.1, found.2)
       ]
     ]
@@ -34,7 +34,7 @@ meaning_is word None none =
     ]
 meaning_is word (Some i) m =
     elim (first word all_names) [
-      | inl out ↦ absurd (All-contains (λ name. Fits (row_of name) word → ⊥) all_names m.name out.1 (all_names-contains m.name) m.fits)
+      | inl out ↦ absurd (All-contains (λ name. FitsRow (row_of name) word → ⊥) all_names m.name out.1 (all_names-contains m.name) m.fits)
       | inr found ↦
           let n = found.0 in
           ap Some (m.is ∙ ap (λ x. instr_of x word) (one_name word m.name n m.fits found.2) ∙ ap (λ x. instr_in (row_of n).format x word) (sym (name-row_of n)))
@@ -46,7 +46,7 @@ pub means-meaning : (word : ℕ) → Means word (meaning word)
 unfolding meaning rv64i_rows
 means-meaning word =
     elim (first word all_names) [
-      | inl out ↦ subst (Means word) (sym (ap (option_map (λ row. instr_in row.format row.name word)) out.0)) (λ name fit. All-contains (λ name. Fits (row_of name) word → ⊥) all_names name out.1 (all_names-contains name) fit)
+      | inl out ↦ subst (Means word) (sym (ap (option_map (λ row. instr_in row.format row.name word)) out.0)) (λ name fit. All-contains (λ name. FitsRow (row_of name) word → ⊥) all_names name out.1 (all_names-contains name) fit)
       | inr found ↦
           let n = found.0 in
           subst (Means word) (sym (ap (option_map (λ row. instr_in row.format row.name word)) found.1))

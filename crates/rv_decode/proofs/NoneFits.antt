@@ -10,7 +10,7 @@ use Rattle.std.proofs.lemmas.List.Sums.{AllPass-from_list_all}
 use Rattle.rv_decode.specs.declared.names.Name.{Name}
 use Rattle.rv_decode.specs.declared.rows.CaseRow.{CaseRow}
 use Rattle.rv_decode.specs.Table.{row_of, all_names}
-use Rattle.rv_decode.specs.Fits.{Fits}
+use Rattle.rv_decode.specs.Fits.{FitsRow}
 use Rattle.rv_decode.proofs.Listed.{all_names-contains}
 
 -- a test that passes along the table passes at each name
@@ -23,7 +23,7 @@ pub and_swap : (w a b : ℕ) → bit_and (bit_and w a) b ≡ bit_and (bit_and w 
 and_swap w a b = and_assoc b w a ∙ ap (bit_and w) (and_comm a b) ∙ sym (and_assoc a w b)
 
 -- a row that fits agrees with the word's known bits wherever the row fixes them
-pub known_bits : (word mask key : ℕ) (row : CaseRow) → bit_and word mask ≡ key → Fits row word → bit_and row.value mask ≡ bit_and key row.mask
+pub known_bits : (word mask key : ℕ) (row : CaseRow) → bit_and word mask ≡ key → FitsRow row word → bit_and row.value mask ≡ bit_and key row.mask
 known_bits word mask key row known fit =
     ap (λ x. bit_and x mask) (sym fit) ∙ and_swap word row.mask mask ∙ ap (λ x. bit_and x row.mask) known
 
@@ -36,7 +36,7 @@ NoneOf word (p ∷ ps) = (bit_and word p.0 ≡ p.1 → ⊥) × NoneOf word ps
 abbrev pub implies : CaseRow → ℕ × ℕ → Bool
 implies row p = bit_and row.mask p.0 == p.0 && bit_and row.value p.0 == p.1
 
-implied : (word : ℕ) (row : CaseRow) (p : ℕ × ℕ) → implies row p ≡ true → Fits row word → bit_and word p.0 ≡ p.1
+implied : (word : ℕ) (row : CaseRow) (p : ℕ × ℕ) → implies row p ≡ true → FitsRow row word → bit_and word p.0 ≡ p.1
 implied word row p test fit =
     let both = and_parts _ _ test in
     ap (bit_and word) (sym (eqb-true _ _ both.0)) ∙ sym (and_assoc p.0 word row.mask) ∙ ap (λ x. bit_and x p.0) fit ∙ eqb-true _ _ both.1
@@ -45,7 +45,7 @@ abbrev pub implies_some : CaseRow → List (ℕ × ℕ) → Bool
 implies_some row [] = false
 implies_some row (p ∷ ps) = implies row p || implies_some row ps
 
-none_of_at : (word : ℕ) (row : CaseRow) (ps : List (ℕ × ℕ)) → NoneOf word ps → implies_some row ps ≡ true → Fits row word → ⊥
+none_of_at : (word : ℕ) (row : CaseRow) (ps : List (ℕ × ℕ)) → NoneOf word ps → implies_some row ps ≡ true → FitsRow row word → ⊥
 none_of_at word row [] none among fit = false≢true among
 none_of_at word row (p ∷ ps) none among fit =
     elim (or_cases _ _ among) [
@@ -58,7 +58,7 @@ abbrev pub is_out : ℕ → ℕ → List (ℕ × ℕ) → Name → Bool
 is_out mask key ps name =
     not (bit_and (row_of name).value mask == bit_and key (row_of name).mask) || implies_some (row_of name) ps
 
-pub none_fits : (word mask key : ℕ) (ps : List (ℕ × ℕ)) → list_all (is_out mask key ps) all_names ≡ true → bit_and word mask ≡ key → NoneOf word ps → (name : Name) → Fits (row_of name) word → ⊥
+pub none_fits : (word mask key : ℕ) (ps : List (ℕ × ℕ)) → list_all (is_out mask key ps) all_names ≡ true → bit_and word mask ≡ key → NoneOf word ps → (name : Name) → FitsRow (row_of name) word → ⊥
 none_fits word mask key ps test known none name fit =
     elim (or_cases _ _ (each_name (is_out mask key ps) test name)) [
       | inl differs ↦ eqb-false _ _ (not-true _ differs) (known_bits word mask key (row_of name) known fit)

@@ -5,12 +5,12 @@ use Rattle.rv_decode.specs.declared.instruction.Instr.{Instr}
 use Rattle.rv_decode.specs.declared.names.Format.TheVariants.{R, I, S, B, U, J, H6, H5, N}
 use Rattle.rv_decode.specs.Fields.{field, sign_extended, instr_in}
 use Rattle.rv_decode.specs.Encodable.{HasRegisters, HasImmediate}
-use Rattle.rv_decode.specs.Encoding.{bits_of, registers_of, immediate_of}
+use Rattle.rv_decode.specs.Encoding.{bits_of, register_bits, immediate_of}
 use Rattle.rv_decode.proofs.Masks.{opcode_bits, funct3_bits, funct6_bits, funct7_bits}
 use Rattle.rv_decode.proofs.Words.{parts-word_of, IsWordOf, same_instr}
 use Rattle.rv_decode.proofs.Signed.{extended-complement, complement-lt, even-complement, multiple-complement}
 
-pub word_I : (value word : ℕ) (i : Instr) → value < 2 ^ 32 → bit_and value 0x707F ≡ value → HasRegisters I i → HasImmediate I i.imm → word ≡ value + registers_of i + immediate_of I i.imm → IsWordOf I 0x707F value i word
+pub word_I : (value word : ℕ) (i : Instr) → value < 2 ^ 32 → bit_and value 0x707F ≡ value → HasRegisters I i → HasImmediate I i.imm → word ≡ value + register_bits i + immediate_of I i.imm → IsWordOf I 0x707F value i word
 word_I value word i small within regs imm is =
     let b = bits_of 12 i.imm in
     let b_below : b < 4096 = complement-lt 2048 4096 i.imm refl imm.0 imm.1 in
@@ -23,7 +23,7 @@ word_I value word i small within regs imm is =
       fields = same_instr i (instr_in I i.name word) refl (sym parts.rd_is) (sym parts.rs1_is) (regs.2) (sym (ap (sign_extended 12) (let e : field word 20 12 ≡ b = omega arith in e) ∙ extended-complement 2048 4096 i.imm refl imm.0 imm.1));
     }
 
-pub word_S : (value word : ℕ) (i : Instr) → value < 2 ^ 32 → bit_and value 0x707F ≡ value → HasRegisters S i → HasImmediate S i.imm → word ≡ value + registers_of i + immediate_of S i.imm → IsWordOf S 0x707F value i word
+pub word_S : (value word : ℕ) (i : Instr) → value < 2 ^ 32 → bit_and value 0x707F ≡ value → HasRegisters S i → HasImmediate S i.imm → word ≡ value + register_bits i + immediate_of S i.imm → IsWordOf S 0x707F value i word
 word_S value word i small within regs imm is =
     let b = bits_of 12 i.imm in
     let b_below : b < 4096 = complement-lt 2048 4096 i.imm refl imm.0 imm.1 in
@@ -36,7 +36,7 @@ word_S value word i small within regs imm is =
       fields = same_instr i (instr_in S i.name word) refl (regs.0) (sym parts.rs1_is) (sym parts.rs2_is) (sym (ap (sign_extended 12) (let e : field word 25 7 * 2 ^ 5 + field word 7 5 ≡ b = omega arith in e) ∙ extended-complement 2048 4096 i.imm refl imm.0 imm.1));
     }
 
-pub word_B : (value word : ℕ) (i : Instr) → value < 2 ^ 32 → bit_and value 0x707F ≡ value → HasRegisters B i → HasImmediate B i.imm → word ≡ value + registers_of i + immediate_of B i.imm → IsWordOf B 0x707F value i word
+pub word_B : (value word : ℕ) (i : Instr) → value < 2 ^ 32 → bit_and value 0x707F ≡ value → HasRegisters B i → HasImmediate B i.imm → word ≡ value + register_bits i + immediate_of B i.imm → IsWordOf B 0x707F value i word
 word_B value word i small within regs imm is =
     let b = bits_of 13 i.imm in
     let b_below : b < 8192 = complement-lt 4096 8192 i.imm refl imm.0.0 imm.0.1 in
@@ -54,7 +54,7 @@ word_B value word i small within regs imm is =
       fields = same_instr i (instr_in B i.name word) refl (regs.0) (sym parts.rs1_is) (sym parts.rs2_is) (sym (ap (sign_extended 13) (let e : field word 31 1 * 2 ^ 12 + field word 7 1 * 2 ^ 11 + field word 25 6 * 2 ^ 5 + field word 8 4 * 2 ^ 1 ≡ b = omega arith in e) ∙ extended-complement 4096 8192 i.imm refl imm.0.0 imm.0.1));
     }
 
-pub word_U : (value word : ℕ) (i : Instr) → value < 2 ^ 32 → bit_and value 0x7F ≡ value → HasRegisters U i → HasImmediate U i.imm → word ≡ value + registers_of i + immediate_of U i.imm → IsWordOf U 0x7F value i word
+pub word_U : (value word : ℕ) (i : Instr) → value < 2 ^ 32 → bit_and value 0x7F ≡ value → HasRegisters U i → HasImmediate U i.imm → word ≡ value + register_bits i + immediate_of U i.imm → IsWordOf U 0x7F value i word
 word_U value word i small within regs imm is =
     let b = bits_of 32 i.imm in
     let b_below : b < 4294967296 = complement-lt 2147483648 4294967296 i.imm refl imm.0.0 imm.0.1 in
@@ -68,7 +68,7 @@ word_U value word i small within regs imm is =
       fields = same_instr i (instr_in U i.name word) refl (sym parts.rd_is) (regs.1) (regs.2) (sym (ap (sign_extended 32) (let e : field word 12 20 * 2 ^ 12 ≡ b = omega arith in e) ∙ extended-complement 2147483648 4294967296 i.imm refl imm.0.0 imm.0.1));
     }
 
-pub word_J : (value word : ℕ) (i : Instr) → value < 2 ^ 32 → bit_and value 0x7F ≡ value → HasRegisters J i → HasImmediate J i.imm → word ≡ value + registers_of i + immediate_of J i.imm → IsWordOf J 0x7F value i word
+pub word_J : (value word : ℕ) (i : Instr) → value < 2 ^ 32 → bit_and value 0x7F ≡ value → HasRegisters J i → HasImmediate J i.imm → word ≡ value + register_bits i + immediate_of J i.imm → IsWordOf J 0x7F value i word
 word_J value word i small within regs imm is =
     let b = bits_of 21 i.imm in
     let b_below : b < 2097152 = complement-lt 1048576 2097152 i.imm refl imm.0.0 imm.0.1 in
@@ -91,7 +91,7 @@ amount : (count : ℕ) (z : ℤ) → pos 0 ≤ℤ z → z ≡ pos (bits_of count
 amount count (pos n) low = refl
 amount count (negsuc n) low = absurd (omega (arith, ints, low))
 
-pub word_H6 : (value word : ℕ) (i : Instr) → value < 2 ^ 32 → bit_and value 0xFC00707F ≡ value → HasRegisters H6 i → HasImmediate H6 i.imm → word ≡ value + registers_of i + immediate_of H6 i.imm → IsWordOf H6 0xFC00707F value i word
+pub word_H6 : (value word : ℕ) (i : Instr) → value < 2 ^ 32 → bit_and value 0xFC00707F ≡ value → HasRegisters H6 i → HasImmediate H6 i.imm → word ≡ value + register_bits i + immediate_of H6 i.imm → IsWordOf H6 0xFC00707F value i word
 word_H6 value word i small within regs imm is =
     let b = bits_of 6 i.imm in
     let is_amount : i.imm ≡ pos b = amount 6 i.imm imm.0 in
@@ -105,7 +105,7 @@ word_H6 value word i small within regs imm is =
       fields = same_instr i (instr_in H6 i.name word) refl (sym parts.rd_is) (sym parts.rs1_is) (regs.2) (is_amount ∙ ap pos (let e : b ≡ field word 20 6 = omega arith in e));
     }
 
-pub word_H5 : (value word : ℕ) (i : Instr) → value < 2 ^ 32 → bit_and value 0xFE00707F ≡ value → HasRegisters H5 i → HasImmediate H5 i.imm → word ≡ value + registers_of i + immediate_of H5 i.imm → IsWordOf H5 0xFE00707F value i word
+pub word_H5 : (value word : ℕ) (i : Instr) → value < 2 ^ 32 → bit_and value 0xFE00707F ≡ value → HasRegisters H5 i → HasImmediate H5 i.imm → word ≡ value + register_bits i + immediate_of H5 i.imm → IsWordOf H5 0xFE00707F value i word
 word_H5 value word i small within regs imm is =
     let b = bits_of 5 i.imm in
     let is_amount : i.imm ≡ pos b = amount 5 i.imm imm.0 in
@@ -119,7 +119,7 @@ word_H5 value word i small within regs imm is =
       fields = same_instr i (instr_in H5 i.name word) refl (sym parts.rd_is) (sym parts.rs1_is) (regs.2) (is_amount ∙ ap pos (sym parts.rs2_is));
     }
 
-pub word_R : (value word : ℕ) (i : Instr) → value < 2 ^ 32 → bit_and value 0xFE00707F ≡ value → HasRegisters R i → HasImmediate R i.imm → word ≡ value + registers_of i + immediate_of R i.imm → IsWordOf R 0xFE00707F value i word
+pub word_R : (value word : ℕ) (i : Instr) → value < 2 ^ 32 → bit_and value 0xFE00707F ≡ value → HasRegisters R i → HasImmediate R i.imm → word ≡ value + register_bits i + immediate_of R i.imm → IsWordOf R 0xFE00707F value i word
 word_R value word i small within regs imm is =
     let fixed : value ≡ field value 25 7 * 2 ^ 25 + field value 12 3 * 2 ^ 12 + value % 2 ^ 7 = sym within ∙ funct7_bits value small in
     let parts = parts-word_of word (value % 2 ^ 7) i.rd (field value 12 3) i.rs1 i.rs2 (field value 25 7) (omega arith) (omega arith) (omega arith) (omega arith) (omega arith) (omega arith) (omega arith) in
@@ -130,7 +130,7 @@ word_R value word i small within regs imm is =
       fields = same_instr i (instr_in R i.name word) refl (sym parts.rd_is) (sym parts.rs1_is) (sym parts.rs2_is) (imm);
     }
 
-pub word_N : (value word : ℕ) (i : Instr) → value < 2 ^ 32 → bit_and value 0xFFFFFFFF ≡ value → HasRegisters N i → HasImmediate N i.imm → word ≡ value + registers_of i + immediate_of N i.imm → IsWordOf N 0xFFFFFFFF value i word
+pub word_N : (value word : ℕ) (i : Instr) → value < 2 ^ 32 → bit_and value 0xFFFFFFFF ≡ value → HasRegisters N i → HasImmediate N i.imm → word ≡ value + register_bits i + immediate_of N i.imm → IsWordOf N 0xFFFFFFFF value i word
 word_N value word i small within regs imm is =
     let same : word ≡ value = omega arith in
     record {

@@ -11,8 +11,8 @@ bits_of count (pos n) = n
 bits_of count (negsuc n) = 2 ^ count - (n + 1)
 
 -- the registers' bits; a register that is not there is 0
-abbrev pub registers_of : Instr → ℕ
-registers_of i = i.rd * 2 ^ 7 + i.rs1 * 2 ^ 15 + i.rs2 * 2 ^ 20
+abbrev pub register_bits : Instr → ℕ
+register_bits i = i.rd * 2 ^ 7 + i.rs1 * 2 ^ 15 + i.rs2 * 2 ^ 20
 
 -- "Immediate Encoding Variants": where the bits of an S-, B- or J-immediate stand
 abbrev pub store_bits : ℕ → ℕ

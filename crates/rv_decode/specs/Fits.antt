@@ -3,8 +3,8 @@ use Rattle.std.specs.Prelude.{◌≡◌, ◌≢◌, ℕ, Bool, List, Option, Som
 use Rattle.rv_decode.specs.declared.rows.CaseRow.{CaseRow}
 
 -- the word's bits under the row's mask are the row's value
-abbrev pub Fits : CaseRow → ℕ → Type 0
-Fits row word = bit_and word row.mask ≡ row.value
+abbrev pub FitsRow : CaseRow → ℕ → Type 0
+FitsRow row word = bit_and word row.mask ≡ row.value
 
 -- the same as a test
 abbrev pub fits : CaseRow → ℕ → Bool
@@ -12,7 +12,7 @@ fits row word = bit_and word row.mask == row.value
 
 -- the row at a place of a list fits the word
 abbrev pub FitsAt : List CaseRow → ℕ → ℕ → Type 0
-FitsAt rows word place = IsSomeAnd (slice_get rows place) (λ row. Fits row word)
+FitsAt rows word place = IsSomeAnd (slice_get rows place) (λ row. FitsRow row word)
 
 -- the place of a row that fits, or none where no row of the list fits
 abbrev pub FindsRow : List CaseRow → ℕ → Option ℕ → Type 0

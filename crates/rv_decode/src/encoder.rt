@@ -3,7 +3,7 @@
 ghost use Rattle.std.specs.Prelude.{◌≡◌, ℕ, ◌-◌, ◌^◌, ◌<◌, ◌≤◌, Some};
 ghost use Rattle.rv_decode.specs.Meaning.{Means, meaning};
 ghost use Rattle.rv_decode.specs.Encodable.{IsEncodable, IsSignedBelow, HasImmediate};
-ghost use Rattle.rv_decode.specs.Encoding.{bits_of, registers_of, immediate_of, store_bits, branch_bits, jump_bits};
+ghost use Rattle.rv_decode.specs.Encoding.{bits_of, register_bits, immediate_of, store_bits, branch_bits, jump_bits};
 
 use crate::instruction::Instr;
 use crate::names::Format;
@@ -22,7 +22,7 @@ pub fn encode(i: &Instr) -> u32
 
 /// The bits of the registers; one that the format lacks is 0.
 fn registers(i: &Instr) -> u32
-    ensures { result ≡ registers_of i.now }
+    ensures { result ≡ register_bits i.now }
 {
     (u32::from(i.rd) << 7) + (u32::from(i.rs1) << 15) + (u32::from(i.rs2) << 20)
 }

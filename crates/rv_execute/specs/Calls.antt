@@ -40,16 +40,16 @@ Fetches memory address (Ok word) = (denied_at memory (fetch_at address) ≡ None
 Fetches memory address (Err denied) = denied_at memory (fetch_at address) ≡ Some denied.address
 
 -- What a load answers, and what it gives.
-abbrev pub Loads : {Done : Type 0} → Memory → ℕ → ℕ → List ℕ → Result Done Denied → Type 0
-Loads memory address count given (Ok done) = (denied_at memory (load_at address count) ≡ None) × (given ≡ bytes_at memory address count)
-Loads memory address count given (Err denied) = denied_at memory (load_at address count) ≡ Some denied.address
+abbrev pub LoadsBytes : {Done : Type 0} → Memory → ℕ → ℕ → List ℕ → Result Done Denied → Type 0
+LoadsBytes memory address count given (Ok done) = (denied_at memory (load_at address count) ≡ None) × (given ≡ bytes_at memory address count)
+LoadsBytes memory address count given (Err denied) = denied_at memory (load_at address count) ≡ Some denied.address
 
 -- What a store answers, and the memory that it leaves. One that is refused changes nothing; for want of units it is refused
 -- only where each of its bytes may be written.
-abbrev pub Stores : {Done : Type 0} → Memory → ℕ → List ℕ → Result Done Refused → Memory → Type 0
-Stores old address bytes (Ok done) new = (denied_at old (store_at address (length bytes)) ≡ None) × (new ≡ with_bytes old address bytes)
-Stores old address bytes (Err (At at)) new = (denied_at old (store_at address (length bytes)) ≡ Some at) × (new ≡ old)
-Stores old address bytes (Err (Full units limit)) new = (denied_at old (store_at address (length bytes)) ≡ None) × (new ≡ old)
+abbrev pub StoresBytes : {Done : Type 0} → Memory → ℕ → List ℕ → Result Done Refused → Memory → Type 0
+StoresBytes old address bytes (Ok done) new = (denied_at old (store_at address (length bytes)) ≡ None) × (new ≡ with_bytes old address bytes)
+StoresBytes old address bytes (Err (At at)) new = (denied_at old (store_at address (length bytes)) ≡ Some at) × (new ≡ old)
+StoresBytes old address bytes (Err (Full units limit)) new = (denied_at old (store_at address (length bytes)) ≡ None) × (new ≡ old)
 
 -- how many bytes a load or a store may have
 abbrev pub is_count : ℕ → Bool

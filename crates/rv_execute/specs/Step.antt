@@ -76,16 +76,16 @@ request number regs memory =
     else answered no_such_request regs []))
 
 -- what comes of an execution
-abbrev pub turned : ℕ → Upshot → Registers → Memory → List Access → Step
-turned number Steps regs memory accesses = record { registers = regs; memory = memory; turn = Stepped; accesses = accesses }
-turned number Asks regs memory accesses =
+abbrev pub altered : ℕ → Upshot → Registers → Memory → List Access → Step
+altered number Steps regs memory accesses = record { registers = regs; memory = memory; turn = Stepped; accesses = accesses }
+altered number Asks regs memory accesses =
     let asked = request number regs memory in
     record { registers = asked.registers; memory = memory; turn = asked.turn; accesses = accesses ++ asked.accesses }
-turned number (Faults kind address) regs memory accesses =
+altered number (Faults kind address) regs memory accesses =
     record { registers = regs; memory = memory; turn = Faulted kind address; accesses = accesses }
 
 abbrev pub step_from : ℕ → Execution → Step
-step_from number e = turned number e.upshot e.registers e.memory (map access_of e.calls)
+step_from number e = altered number e.upshot e.registers e.memory (map access_of e.calls)
 
 abbrev pub step : ℕ → Registers → Memory → Step
 step number regs memory = step_from number (execution regs memory)

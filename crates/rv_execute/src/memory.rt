@@ -3,7 +3,7 @@
 ghost use Rattle.std.specs.Prelude.{◌≡◌, ℕ, ◌%◌, List, Result, IsTrue, length};
 ghost use Rattle.ovl_io.specs.Memory.{Memory};
 ghost use Rattle.rv_execute.specs.declared.memory.Refused.{Refused};
-ghost use Rattle.rv_execute.specs.Calls.{Fetches, is_count, Loads, Stores};
+ghost use Rattle.rv_execute.specs.Calls.{Fetches, is_count, LoadsBytes, StoresBytes};
 
 /// An access that failed.
 #[derive(Clone, Copy, Debug, PartialEq, Eq)]
@@ -56,7 +56,7 @@ pub trait GuestMemory {
         requires count { IsTrue (is_count (length into.old)) }
         requires ready { ready self.old }
         ensures ready { ready self.new }
-        ensures answer { Loads (memory self.old) address (length into.old) into.new result }
+        ensures answer { LoadsBytes (memory self.old) address (length into.old) into.new result }
         ensures kept { memory self.new ≡ memory self.old }
         ensures made { loaded self.old address (length into.old) self.new };
 
@@ -66,6 +66,6 @@ pub trait GuestMemory {
         requires count { IsTrue (is_count (length bytes.now)) }
         requires ready { ready self.old }
         ensures ready { ready self.new }
-        ensures answer { Stores (memory self.old) address bytes.now result (memory self.new) }
+        ensures answer { StoresBytes (memory self.old) address bytes.now result (memory self.new) }
         ensures made { stored self.old address bytes.now result self.new };
 }

@@ -15,7 +15,7 @@ use Rattle.script_text.specs.declared.command.Meaning.TheVariants.{Does, Nothing
 use Rattle.script_text.specs.Words.{words_of}
 use Rattle.script_text.specs.Lines.{without_return}
 use Rattle.script_text.specs.Numbers.{within, number_between, number_in}
-use Rattle.script_text.specs.Kinds.{Kind, is_file_name, file_word, is_name_byte, is_checkpoint_name, checkpoint_word, turns_word, process_word, address_word, begins_with, has_leading_zero, register_word, pages_word, perms_by, is_text, perms_word, dumped_word, words_word, is_hex, bytes_of_pairs, hex_word, is_all, all_word}
+use Rattle.script_text.specs.Kinds.{Kind, is_file_name, file_word, is_name_byte, is_checkpoint_name, checkpoint_word, turns_word, process_word, address_word, begins_with, has_leading_zero, register_word, pages_word, perms_of_bits, is_text, perms_word, dumped_word, words_word, is_hex, bytes_of_pairs, hex_word, is_all, all_word}
 use Rattle.script_text.specs.Forms.{Form, forms, no_words, one_word, two_words, three_words, with_said, word_then, both, promote_all, made_by, command_of}
 use Rattle.script_text.specs.Script.{is_comment, as_command, meaning_of_words, meaning_of}
 use Rattle.script_text.specs.FormLaws.{◌beside◌}
@@ -95,7 +95,7 @@ words_given word = in_range 1 MOST_WORDS (number_in word)
 hex_given : (word : List ℕ) → IfSome (hex_word word) IsPoked
 hex_given word = where_true IsPoked (is_hex word) (bytes_of_pairs word) (paired word)
 
-or_else : (t : Bool) (bits : ℕ) (o : Option Perms) → IsPerms (perms_by bits) → IfSome o IsPerms → IfSome (cond t (Some (perms_by bits)) o) IsPerms
+or_else : (t : Bool) (bits : ℕ) (o : Option Perms) → IsPerms (perms_of_bits bits) → IfSome o IsPerms → IfSome (cond t (Some (perms_of_bits bits)) o) IsPerms
 or_else true bits o h k = h
 or_else false bits o h k = k
 

@@ -4,7 +4,7 @@ use Rattle.std.proofs.lemmas.List.{take_more}
 use Rattle.std.proofs.lemmas.List.Sums.{fold-append}
 use Rattle.std.proofs.lemmas.Bool.Decides.{nat_tests}
 use Rattle.script_text.specs.Words.{has_bytes}
-use Rattle.script_text.specs.Numbers.{digit, value_of, spelled, within}
+use Rattle.script_text.specs.Numbers.{digit, number_value, spelled, within}
 
 -- What digits stand for, in a base that is at least 1.
 
@@ -12,15 +12,15 @@ grows : (base n : ℕ) (ys : List ℕ) → ((m : ℕ) → m ≤ base * m) → n 
 grows base n [] h = omega arith
 grows base n (y ∷ ys) h = omega (arith, h n, grows base (base * n + digit y) ys h)
 
-value_front : (base : ℕ) (digits : List ℕ) (i : ℕ) → ((m : ℕ) → m ≤ base * m) → value_of base (take i digits) ≤ value_of base digits
+value_front : (base : ℕ) (digits : List ℕ) (i : ℕ) → ((m : ℕ) → m ≤ base * m) → number_value base (take i digits) ≤ number_value base digits
 value_front base digits i h =
-    omega (arith, grows base (value_of base (take i digits)) (drop i digits) h, fold-append (λ m b. base * m + digit b) 0 (take i digits) (drop i digits), ap (value_of base) (take-append-drop i digits))
+    omega (arith, grows base (number_value base (take i digits)) (drop i digits) h, fold-append (λ m b. base * m + digit b) 0 (take i digits) (drop i digits), ap (number_value base) (take-append-drop i digits))
 
 -- one digit more
 pub value_more : (base : ℕ) (digits : List ℕ) (i : ℕ) → i < length digits
-    → value_of base (take (i + 1) digits) ≡ base * value_of base (take i digits) + digit (get_or digits i 0)
+    → number_value base (take (i + 1) digits) ≡ base * number_value base (take i digits) + digit (get_or digits i 0)
 value_more base digits i below =
-    ap (value_of base) (take_more digits i 0 below) ∙ fold-append (λ m b. base * m + digit b) 0 (take i digits) (get_or digits i 0 ∷ [])
+    ap (number_value base) (take_more digits i 0 below) ∙ fold-append (λ m b. base * m + digit b) 0 (take i digits) (get_or digits i 0 ∷ [])
 
 outside : (t : Bool) (v most : ℕ) → most < v → None ≡ within 0 most (cond t (Some v) None)
 outside true v most h = grind (arith, nat_tests)
@@ -28,13 +28,13 @@ outside false v most h = refl
 
 -- once the digits so far stand for more than the most, all of them do
 pub too_high : (base most : ℕ) (is_digit : ℕ → Bool) (digits : List ℕ) (i n : ℕ) → ((m : ℕ) → m ≤ base * m) → i < length digits
-    → n ≡ value_of base (take i digits) → most < base * n + digit (get_or digits i 0) → None ≡ within 0 most (spelled base is_digit digits)
+    → n ≡ number_value base (take i digits) → most < base * n + digit (get_or digits i 0) → None ≡ within 0 most (spelled base is_digit digits)
 too_high base most is_digit digits i n h below so_far high =
     let more = value_more base digits i below in
     let front = value_front base digits (i + 1) h in
-    let product : base * n ≡ base * value_of base (take i digits) = ap (λ m. base * m) so_far in
-    let big : most < value_of base digits = omega (arith, more, front, product, high) in
-    outside (has_bytes digits && list_all is_digit digits) (value_of base digits) most big
+    let product : base * n ≡ base * number_value base (take i digits) = ap (λ m. base * m) so_far in
+    let big : most < number_value base digits = omega (arith, more, front, product, high) in
+    outside (has_bytes digits && list_all is_digit digits) (number_value base digits) most big
 
 inside : (t : Bool) (v most : ℕ) → t ≡ true → v ≤ most → Some v ≡ within 0 most (cond t (Some v) None)
 inside true v most h small = grind (arith, nat_tests)
@@ -45,17 +45,17 @@ has [] some = absurd (omega arith)
 has (b ∷ bytes) some = refl
 
 -- digits that stand for no more than the most
-pub in_range : (base most : ℕ) (is_digit : ℕ → Bool) (digits : List ℕ) (n : ℕ) → 0 < length digits → list_all is_digit digits ≡ true → n ≡ value_of base digits
+pub in_range : (base most : ℕ) (is_digit : ℕ → Bool) (digits : List ℕ) (n : ℕ) → 0 < length digits → list_all is_digit digits ≡ true → n ≡ number_value base digits
     → n ≤ most → Some n ≡ within 0 most (spelled base is_digit digits)
 in_range base most is_digit digits n some all is small =
-    ap Some is ∙ inside (has_bytes digits && list_all is_digit digits) (value_of base digits) most
+    ap Some is ∙ inside (has_bytes digits && list_all is_digit digits) (number_value base digits) most
     (ap (λ (t : Bool). t && list_all is_digit digits) (has digits some) ∙ all) (omega arith)
 
 -- a byte that is no digit
 pub no_digit : (base most : ℕ) (is_digit : ℕ → Bool) (digits : List ℕ) → list_all is_digit digits ≡ false → None ≡ within 0 most (spelled base is_digit digits)
 no_digit base most is_digit digits h =
-    sym (ap (λ (t : Bool). within 0 most (cond (has_bytes digits && t) (Some (value_of base digits)) None)) h
-    ∙ neither (has_bytes digits) (value_of base digits) most)
+    sym (ap (λ (t : Bool). within 0 most (cond (has_bytes digits && t) (Some (number_value base digits)) None)) h
+    ∙ neither (has_bytes digits) (number_value base digits) most)
   where
     neither : (t : Bool) (v most : ℕ) → within 0 most (cond (t && false) (Some v) None) ≡ None
     neither true v most = refl

@@ -17,9 +17,9 @@ abbrev pub ◌beside◌ : {A B : Type 0} → A → B → A × B
 ◌beside◌ a b = (a, b)
 
 -- a form that words fit leaves none behind it that they fit
-abbrev AreApart : List Form → Type 0
-AreApart [] = Unit {0}
-AreApart (f ∷ fs) = ((words : List (List ℕ)) (command : Command) → f.makes words ≡ Some command → made_by_each fs f.first words ≡ []) × AreApart fs
+abbrev FormsAreApart : List Form → Type 0
+FormsAreApart [] = Unit {0}
+FormsAreApart (f ∷ fs) = ((words : List (List ℕ)) (command : Command) → f.makes words ≡ Some command → made_by_each fs f.first words ≡ []) × FormsAreApart fs
 
 one_more : (t : Bool) (o : Option Command) (more : List Command) → (t ≡ true → (command : Command) → o ≡ Some command → more ≡ []) → length more ≤ 1
     → length (cons_option (cond t o None) more) ≤ 1
@@ -27,7 +27,7 @@ one_more false o more alone few = few
 one_more true None more alone few = few
 one_more true (Some command) more alone few = omega (arith, ap (λ cs. length cs) (alone refl command refl))
 
-one_of : (fs : List Form) (first : List ℕ) (words : List (List ℕ)) → AreApart fs → length (made_by_each fs first words) ≤ 1
+one_of : (fs : List Form) (first : List ℕ) (words : List (List ℕ)) → FormsAreApart fs → length (made_by_each fs first words) ≤ 1
 one_of [] first words apart = omega arith
 one_of (f ∷ fs) first words apart =
     one_more (pointwise nat_eq first f.first) (f.makes words) (made_by_each fs first words)
@@ -52,7 +52,7 @@ page_or_all (w ∷ []) command is = refl
 page_or_all (w ∷ x ∷ []) command is = either (process_word w) (address_word x) (is_all x) command (no_address x) is
 page_or_all (w ∷ x ∷ y ∷ words) command is = refl
 
-apart : AreApart forms
+apart : FormsAreApart forms
 apart =
     (λ words command is. refl)
     beside (λ words command is. refl)

@@ -87,16 +87,16 @@ abbrev pub hex_word : Kind (List ℕ)
 hex_word word = if is_hex word then Some (bytes_of_pairs word) else None
 
 -- PERM: what may be done with a page
-abbrev pub perms_by : ℕ → Perms
-perms_by bits = record { 0 = bits }
+abbrev pub perms_of_bits : ℕ → Perms
+perms_of_bits bits = record { 0 = bits }
 
 abbrev pub perms_word : Kind Perms
 perms_word word =
-    if is_text word (codes "r") then Some (perms_by 4)
-    else if is_text word (codes "rw") then Some (perms_by 6)
-    else if is_text word (codes "x") then Some (perms_by 1)
-    else if is_text word (codes "rx") then Some (perms_by 5)
-    else if is_text word (codes "rwx") then Some (perms_by 7)
+    if is_text word (codes "r") then Some (perms_of_bits 4)
+    else if is_text word (codes "rw") then Some (perms_of_bits 6)
+    else if is_text word (codes "x") then Some (perms_of_bits 1)
+    else if is_text word (codes "rx") then Some (perms_of_bits 5)
+    else if is_text word (codes "rwx") then Some (perms_of_bits 7)
     else None
 
 -- the word `all`, which says no more than that it stands there

@@ -17,20 +17,20 @@ abbrev pub digit : ℕ → ℕ
 digit b = if nat_le b 57 then b - 48 else if nat_le b 70 then b - 55 else b - 87
 
 -- what digits of a base stand for
-abbrev pub value_of : ℕ → List ℕ → ℕ
-value_of base digits = fold (λ n b. base * n + digit b) 0 digits
+abbrev pub number_value : ℕ → List ℕ → ℕ
+number_value base digits = fold (λ n b. base * n + digit b) 0 digits
 
 -- the number that bytes are where each is a digit of the base
 abbrev pub spelled : ℕ → (ℕ → Bool) → List ℕ → Option ℕ
-spelled base is_digit bytes = if has_bytes bytes && list_all is_digit bytes then Some (value_of base bytes) else None
+spelled base is_digit bytes = if has_bytes bytes && list_all is_digit bytes then Some (number_value base bytes) else None
 
 -- whether a word begins as a hexadecimal number does
-abbrev pub is_marked : List ℕ → Bool
-is_marked word = pointwise nat_eq (take 2 word) (codes "0x")
+abbrev pub is_hex_marked : List ℕ → Bool
+is_hex_marked word = pointwise nat_eq (take 2 word) (codes "0x")
 
 -- the number that a word is
 abbrev pub number_in : List ℕ → Option ℕ
-number_in word = if is_marked word then spelled 16 is_hexadecimal (drop 2 word) else spelled 10 is_decimal word
+number_in word = if is_hex_marked word then spelled 16 is_hexadecimal (drop 2 word) else spelled 10 is_decimal word
 
 abbrev pub within : ℕ → ℕ → Option ℕ → Option ℕ
 within least most None = None

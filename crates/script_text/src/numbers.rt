@@ -1,6 +1,6 @@
 ghost use Rattle.std.specs.Prelude.{◌≡◌, ◌-◌, ◌^◌, ◌<◌, ◌≤◌, nat_le, length, IsTrue};
 ghost use Rattle.std.specs.List.{list_all};
-ghost use Rattle.script_text.specs.Numbers.{is_decimal, is_hexadecimal, digit, spelled, is_marked, number_in, number_between, within};
+ghost use Rattle.script_text.specs.Numbers.{is_decimal, is_hexadecimal, digit, spelled, is_hex_marked, number_in, number_between, within};
 
 /// Whether a byte is a decimal digit.
 pub(crate) fn is_decimal(b: u8) -> bool
@@ -74,8 +74,8 @@ fn hexadecimal(digits: &[u8]) -> Option<u64>
 }
 
 /// Whether a word begins as a hexadecimal number does.
-fn is_marked(word: &[u8]) -> bool
-    ensures { result ≡ is_marked word.now }
+fn is_hex_marked(word: &[u8]) -> bool
+    ensures { result ≡ is_hex_marked word.now }
 {
     word.len() >= 2 && &word[..2] == b"0x".as_slice()
 }
@@ -84,7 +84,7 @@ fn is_marked(word: &[u8]) -> bool
 fn number(word: &[u8]) -> Option<u64>
     ensures { result ≡ within 0 (2 ^ 64 - 1) (number_in word.now) }
 {
-    if is_marked(word) {
+    if is_hex_marked(word) {
         hexadecimal(&word[2..])
     } else {
         decimal(word)

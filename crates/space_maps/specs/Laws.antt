@@ -8,7 +8,7 @@ use Rattle.std.specs.FinMap.{empty, get, get-empty, insert, remove}
 use Rattle.number_maps.specs.Keys.{alike, by_key, get_other, get_same, insert_kept, insert_over, removed_other, removed_same}
 use Rattle.page_table.specs.Table.{Pages, is_within}
 use Rattle.space_maps.specs.Options.{by_option, none_by}
-use Rattle.space_maps.specs.Spaces.{SpaceOf, Spaces, bare_space, cut_page, cut_pages, cut_space, holds_space, of_pages, page_in, put_awaiting, put_mark, put_page, put_pages, put_shared, put_space, set_page, space_in, turned_page}
+use Rattle.space_maps.specs.Spaces.{SpaceOf, Spaces, bare_space, cut_page, cut_pages, cut_space, holds_space, of_pages, page_in, put_awaiting, put_mark, put_page, put_pages, put_shared, put_space, set_page, space_in, altered_page}
 
 -- What is at a place after each change.
 
@@ -119,8 +119,8 @@ module _ {P : Type 0} where
   page_awaited v s awaiting q r = stays_at v s _ q r (λ ss. refl)
 
   -- a page that is there, changed; and put where it is
-  pub changed_there : (f : P → P) (v : Spaces P) (s p : ℕ) (x : P) → page_in v s p ≡ Some x → turned_page f v s p ≡ put_page v s p (f x)
-  unfolding turned_page
+  pub changed_there : (f : P → P) (v : Spaces P) (s p : ℕ) (x : P) → page_in v s p ≡ Some x → altered_page f v s p ≡ put_page v s p (f x)
+  unfolding altered_page
   changed_there f v s p x there = ap (λ (o : Option P). option_map_or (λ x. put_page v s p (f x)) o v) there
 
   pub page_again : (v : Spaces P) (s p : ℕ) (x : P) → page_in v s p ≡ Some x → put_page v s p x ≡ v

@@ -71,8 +71,8 @@ cut_pages v space from zero = v
 cut_pages v space from (suc k) = cut_page (cut_pages v space from k) space (from + k)
 
 -- a page that is there, changed
-unfoldable pub turned_page : {P : Type 0} → (P → P) → Spaces P → ℕ → ℕ → Spaces P
-turned_page turn v space page = option_map_or (λ x. put_page v space page (turn x)) (page_in v space page) v
+unfoldable pub altered_page : {P : Type 0} → (P → P) → Spaces P → ℕ → ℕ → Spaces P
+altered_page turn v space page = option_map_or (λ x. put_page v space page (turn x)) (page_in v space page) v
 
 -- a space with a mark, and one whose pages are to be those of a table
 unfoldable pub put_mark : {P : Type 0} → Spaces P → ℕ → Bool → Spaces P

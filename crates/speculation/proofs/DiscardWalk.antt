@@ -9,7 +9,7 @@ use Rattle.ledger.specs.Changes.{has_own}
 use Rattle.ledger.specs.Events.{Discard, ledger_after}
 use Rattle.space_maps.specs.Books.{books_page}
 use Rattle.space_maps.specs.Laws.{changed_there}
-use Rattle.space_maps.specs.Spaces.{page_in, put_page, turned_page}
+use Rattle.space_maps.specs.Spaces.{page_in, put_page, altered_page}
 use Rattle.space_ledger.specs.Calls.{IsNextOwn}
 use Rattle.overlay_pages.specs.State.{PageState, State, base_page, books, held_page, seen_page}
 use Rattle.overlay_pages.specs.Changes.{discarded}
@@ -18,8 +18,8 @@ use Rattle.promotion.specs.Settled.{mark_of}
 use Rattle.promotion.specs.Fates.{IsFate}
 use Rattle.overlay_memory.specs.Joined.{IsBare}
 use Rattle.overlay_memory.specs.PageLaws.{held_there, own_absent, own_is, own_there}
-use Rattle.promotion.specs.FateFolds.{after_discard, none_own, same_turned, widened}
-use Rattle.promotion.specs.Turns.{HasTurned, IsTurn, WasThere, base_at, memory_at, none_yet, one_more, own_now, said_again, still, was_there}
+use Rattle.promotion.specs.FateFolds.{after_discard, none_own, same_altered, widened}
+use Rattle.promotion.specs.Altered.{HaveAltered, IsAlteration, WasThere, base_at, memory_at, none_yet, one_more, own_now, said_again, still, was_there}
 use Rattle.promotion.specs.Walks.{at_first, come_past, come_to, next_done, not_yet, so_far}
 use Rattle.speculation.specs.Speculated.{HasDiscarded, with_discarded}
 
@@ -33,12 +33,12 @@ abbrev pub to_discard : State → ℕ → ℕ → Bool
 to_discard v space r = has_own (books v) space r
 
 pub record IsDiscarding (old now : State) (space from : ℕ) : Type 0 where
-  pub turned : HasTurned base_page (so_far (to_discard old space) from) any_origin old now space
+  pub altered : HaveAltered base_page (so_far (to_discard old space) from) any_origin old now space
   pub low : from ≤ PAGE_END
 
 pub discarding_none : (v : State) (space : ℕ) → IsDiscarding v v space 0
 discarding_none v space = record {
-  turned = said_again base_page _ _ any_origin v v space (none_yet base_page any_origin v space) (λ r x at. at_first (to_discard v space) r);
+  altered = said_again base_page _ _ any_origin v v space (none_yet base_page any_origin v space) (λ r x at. at_first (to_discard v space) r);
   low = omega arith;
 }
 
@@ -47,41 +47,41 @@ module _ (old now new : State) (space from page : ℕ) (h : IsDiscarding old now
   abbrev test : ℕ → Bool
   test = to_discard old space
 
-  reached : HasTurned base_page (so_far test page) any_origin old now space
-  reached = come_to base_page test any_origin old now space from h.turned (λ q bare. bare) page next
+  reached : HaveAltered base_page (so_far test page) any_origin old now space
+  reached = come_to base_page test any_origin old now space from h.altered (λ q bare. bare) page next
 
   was : WasThere old space page
   was = was_there base_page _ _ old now space page reached (own_there now space page next.1)
 
   pub discarding_more : IsDiscarding old new space (page + 1)
   unfolding with_discarded
-  discarding_more = record { turned = moved; low = omega arith }
+  discarding_more = record { altered = moved; low = omega arith }
     where
-      unturned : so_far test page page ≡ false
-      unturned = not_yet test page page (omega arith)
+      unaltered : so_far test page page ≡ false
+      unaltered = not_yet test page page (omega arith)
 
       at : page_in now space page ≡ Some was.x
-      at = still base_page (so_far test page) any_origin old now space page was.x reached was.had unturned
+      at = still base_page (so_far test page) any_origin old now space page was.x reached was.had unaltered
 
       passes : test page ≡ true
       passes = sym (own_now old now space page was.x was.had at) ∙ next.1
 
       put : new ≡ put_page now space page (discarded was.x)
-      put = is ∙ ap (λ b. cond b (turned_page discarded now space page) now) next.1 ∙ changed_there discarded now space page was.x at
+      put = is ∙ ap (λ b. cond b (altered_page discarded now space page) now) next.1 ∙ changed_there discarded now space page was.x at
 
-      moved : HasTurned base_page (so_far test (page + 1)) any_origin old new space
+      moved : HaveAltered base_page (so_far test (page + 1)) any_origin old new space
       moved =
-          subst (λ (v : State). HasTurned base_page (so_far test (page + 1)) any_origin old v space) (sym put)
+          subst (λ (v : State). HaveAltered base_page (so_far test (page + 1)) any_origin old v space) (sym put)
           (said_again base_page _ _ any_origin old (put_page now space page (discarded was.x)) space
-          (one_more base_page (so_far test page) any_origin old now space page was.x (discarded was.x) reached was.had unturned refl refl refl (λ _. refl) (λ no. cc))
+          (one_more base_page (so_far test page) any_origin old now space page was.x (discarded was.x) reached was.had unaltered refl refl refl (λ _. refl) (λ no. cc))
           (λ r x had. next_done test page r passes))
 
 module _ (old now : State) (space from : ℕ) (plain : IsBare old space) (h : IsDiscarding old now space from) (none : IsNextOwn (books now) space from None) where
   abbrev tests : ℕ → Bool
   tests = to_discard old space
 
-  whole : HasTurned base_page tests any_origin old now space
-  whole = come_past base_page tests any_origin old now space from h.turned (λ q bare. bare) none
+  whole : HaveAltered base_page tests any_origin old now space
+  whole = come_past base_page tests any_origin old now space from h.altered (λ q bare. bare) none
 
   bare : (r : ℕ) (x : PageState) → page_in old space r ≡ Some x → tests r ≡ false → x.own ≡ []
   bare r x had e = none_own x.own (sym (own_is (books old) space r (held_page old.zero_frame x) (held_there old space r x had)) ∙ e)
@@ -91,7 +91,7 @@ module _ (old now : State) (space from : ℕ) (plain : IsBare old space) (h : Is
   same_memory r (Some x) had =
       let p = whole.pages r x had in ap (option_map seen_page) p.there ∙ ap Some (by_turn (tests r) refl p.is p.turn) ∙ sym (ap (option_map base_page) had)
     where
-      by_turn : (b : Bool) → tests r ≡ b → (is : PageState) → IsTurn base_page b x is → seen_page is ≡ base_page x
+      by_turn : (b : Bool) → tests r ≡ b → (is : PageState) → IsAlteration base_page b x is → seen_page is ≡ base_page x
       by_turn true e is turn = turn.0
       by_turn false e is turn = ap seen_page turn ∙ ap (λ lines. record { perms = x.entry.perms.0; bytes = bytes_in_lines lines }) (plain r x had (bare r x had e))
 
@@ -100,7 +100,7 @@ module _ (old now : State) (space from : ℕ) (plain : IsBare old space) (h : Is
   same_base r (Some x) had =
       let p = whole.pages r x had in ap (option_map base_page) p.there ∙ ap Some (by_turn (tests r) p.is p.turn) ∙ sym (ap (option_map base_page) had)
     where
-      by_turn : (b : Bool) (is : PageState) → IsTurn base_page b x is → base_page is ≡ base_page x
+      by_turn : (b : Bool) (is : PageState) → IsAlteration base_page b x is → base_page is ≡ base_page x
       by_turn true is turn = turn.1
       by_turn false is turn = ap base_page turn
 
@@ -128,7 +128,7 @@ module _ (old now : State) (space from : ℕ) (plain : IsBare old space) (h : Is
   discarded_all = record {
     memory = alike _ _ (λ r. memory_at now space r ∙ same_memory r (page_in old space r) refl ∙ sym (base_at old space r));
     base = alike _ _ (λ r. base_at now space r ∙ same_base r (page_in old space r) refl ∙ sym (base_at old space r));
-    ledger = same_turned any_origin any_origin (books old) (books now) (ledger_after (Discard space) (books old)) space
+    ledger = same_altered any_origin any_origin (books old) (books now) (ledger_after (Discard space) (books old)) space
         (widened tests any_origin any_origin (books old) (books now) space whole.ledger wide) (after_discard (books old) space) (λ r e. refl);
     own = none_owned;
     awaiting = whole.awaiting;
@@ -142,12 +142,12 @@ module _ (old now : State) (space from : ℕ) (plain : IsBare old space) (h : Is
 -- one page
 pub discards_none : (v : State) (space page n : ℕ) → has_own (books v) space page ≡ nat_lt 0 n → n ≡ 0 → v ≡ with_discarded v space page
 unfolding with_discarded
-discards_none v space page n own none = sym (ap (λ b. cond b (turned_page discarded v space page) v) (own ∙ ap (nat_lt 0) none))
+discards_none v space page n own none = sym (ap (λ b. cond b (altered_page discarded v space page) v) (own ∙ ap (nat_lt 0) none))
 
-pub discards_it : (v w : State) (space page n : ℕ) → has_own (books v) space page ≡ nat_lt 0 n → (n ≡ 0 → ⊥) → w ≡ turned_page discarded v space page
+pub discards_it : (v w : State) (space page n : ℕ) → has_own (books v) space page ≡ nat_lt 0 n → (n ≡ 0 → ⊥) → w ≡ altered_page discarded v space page
     → w ≡ with_discarded v space page
 unfolding with_discarded
-discards_it v w space page n own some is = is ∙ sym (ap (λ b. cond b (turned_page discarded v space page) v) (own ∙ above))
+discards_it v w space page n own some is = is ∙ sym (ap (λ b. cond b (altered_page discarded v space page) v) (own ∙ above))
   where
     above : nat_lt 0 n ≡ true
     above = grind (arith, nat_tests)

@@ -11,7 +11,7 @@ use Rattle.overlay_pages.specs.State.{State, books}
 use Rattle.space_maps.specs.Spaces.{holds_space, put_mark}
 use Rattle.promotion.specs.Settled as settled
 use Rattle.promotion.specs.Settled.{HasSettled, alone_in, every_page, mark_of}
-use Rattle.promotion.specs.Turns.{is_marked, settled_marked}
+use Rattle.promotion.specs.Altered.{is_marked, settled_marked}
 use Rattle.speculation.specs.Speculated.{HasCommitted, HasDiscarded, HasStarted}
 
 -- A space is marked after its pages were settled, committed or discarded.

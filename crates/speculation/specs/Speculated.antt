@@ -5,8 +5,8 @@ use Rattle.overlay_pages.specs.Changes.{discarded}
 use Rattle.overlay_pages.specs.State.{State, base_of, books, memory_of}
 use Rattle.overlay_memory.specs.View.{TranslatedView, state_of}
 use Rattle.overlay_memory.specs.Room.{FitsAfter, IsFullAt, units_after}
-use Rattle.space_maps.specs.Spaces.{holds_space, space_in, turned_page}
-use Rattle.promotion.specs.Settled.{AreSettled, IsAfter, alone_in, every_page, mark_of}
+use Rattle.space_maps.specs.Spaces.{holds_space, space_in, altered_page}
+use Rattle.promotion.specs.Settled.{AreInFrames, IsAfter, alone_in, every_page, mark_of}
 use Rattle.speculation.specs.declared.error.SpeculationError.{SpeculationError}
 use Rattle.speculation.specs.declared.error.SpeculationError.TheVariants.{Speculating, NotSpeculating, Full}
 
@@ -19,13 +19,13 @@ pub record HadMark (mark : Bool) (old new : TranslatedView) (space : ℕ) : Type
 
 -- Each page was settled, so that the base is what processes see, and the space is marked.
 pub record HasStarted (old new : State) (space : ℕ) : Type 0 where
-  pub settled : AreSettled every_page true old new space
+  pub settled : AreInFrames every_page true old new space
   pub base : base_of new space ≡ memory_of new space
   pub ledger : IsAfter (Settle space) old new
 
 -- Each page that is alone was settled, the others have their overlays, and the space has no mark.
 pub record HasCommitted (old new : State) (space : ℕ) : Type 0 where
-  pub settled : AreSettled (alone_in old space) false old new space
+  pub settled : AreInFrames (alone_in old space) false old new space
   pub ledger : books new ≡ ledger_after (Commit space) (books old)
 
 -- The base of before is what processes see, no page has own lines, and the space is marked as said. Nothing else changed.
@@ -71,4 +71,4 @@ DiscardsAll old new space = HasDiscarded (mark_of old space) old new space
 
 -- the overlay of a page is given up, where it has one
 unfoldable pub with_discarded : State → ℕ → ℕ → State
-with_discarded state space page = if has_own (books state) space page then turned_page discarded state space page else state
+with_discarded state space page = if has_own (books state) space page then altered_page discarded state space page else state

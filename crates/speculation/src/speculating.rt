@@ -18,7 +18,7 @@ use promotion::{commit_alone, settle};
 /// look-ups for each page with own lines, a copy of each own line, and a page for each new frame.
 pub fn start(mem: &mut OverlayMemory, space: u16) -> Result<(), SpeculationError>
     requires there { holds_space (state_of mem.old) space ≡ true }
-    requires settled { (space_in (state_of mem.old) space).awaiting ≡ map.empty }
+    requires none_awaits { (space_in (state_of mem.old) space).awaiting ≡ map.empty }
     ensures starts { Starts mem.old mem.new space result }
     ensures translations { OnOk result
         (translations_of mem.new ≡ flushed space (translations_of mem.old)) }

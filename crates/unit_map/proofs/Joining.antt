@@ -5,7 +5,7 @@ use Rattle.std.proofs.lemmas.Nat.{pow_pos}
 use Rattle.unit_map.specs.Pieces.{Piece, AreBeside, free_at}
 use Rattle.unit_map.specs.Changes.{Merges}
 use Rattle.unit_map.specs.Changes.Merges.{Done, Step}
-use Rattle.unit_map.specs.Cells.{code, pieces_in, pieces_of, behind, with_free, AreHalves, AreInside, AreNotFree, AreSameBut, CanClear, IsCleared, IsIn, IsJoined, IsKept, IsTiled, IsTwo, IsWiped}
+use Rattle.unit_map.specs.Cells.{code, pieces_in, pieces_of, behind, with_free, AreHalves, AreInside, AreNotFree, AreSameBut, CanClear, IsCleared, IsIn, IsMerged, IsKept, IsTiled, IsTwo, IsWiped}
 use Rattle.unit_map.proofs.Codes.{code_same, free_small}
 use Rattle.unit_map.proofs.Numbers.{less_aligned, next_aligned, twice}
 use Rattle.unit_map.proofs.Reading.{in_three, in_three_new, in_two, one_piece}
@@ -14,7 +14,7 @@ use Rattle.unit_map.proofs.Writes.{same_self, same_set, same_side}
 
 -- Two halves of the order k at u are joined.
 
-pub joined_not : (cells : List ℕ) (u k : ℕ) → AreHalves cells u k → AreNotFree cells u k → IsJoined cells u k cells
+pub joined_not : (cells : List ℕ) (u k : ℕ) → AreHalves cells u k → AreNotFree cells u k → IsMerged cells u k cells
 unfolding IsTwo
 joined_not cells u k are apart =
     let next : suc k ≡ k + 1 = omega arith in
@@ -81,7 +81,7 @@ module _ (cells : List ℕ) (u v k c : ℕ) (are : AreHalves cells u k) (ev : v 
       in_three_new cells (set (set cells v 0) u c) u (2 ^ (k + 1)) are.fits same
       ∙ ap (λ ps. pieces_in cells 0 u ++ (ps ++ behind cells u (2 ^ (k + 1)))) (one_piece (set (set cells v 0) u c) u (k + 1) true (omega (arith, are.low)) here inside)
 
-  pub joined : IsJoined cells u k (set (set cells v 0) u c)
+  pub joined : IsMerged cells u k (set (set cells v 0) u c)
   joined = record {
     units = length-set (set cells v 0) u c ∙ length-set cells v 0;
     stays = λ x. stays x;
@@ -175,7 +175,7 @@ halves_beside u k v x aligned (inl a) (inr b) differs = inl (subst (λ y. y % 2 
 halves_beside u k v x aligned (inr a) (inl b) differs = inr (subst (λ y. y % 2 ^ (k + 1) ≡ 0) (sym b) aligned, omega (arith, a, b))
 halves_beside u k v x aligned (inr a) (inr b) differs = absurd (differs (b ∙ sym a))
 
-pub cleared_more : (old mid new : List ℕ) (v j u n w k : ℕ) → k + 1 ≡ n → IsIn v j w k → (w ≡ u) ⊎ (w ≡ u + 2 ^ k) → CanClear old v j u n → IsCleared old v j w k mid → IsJoined mid u k new → IsCleared old v j u n new
+pub cleared_more : (old mid new : List ℕ) (v j u n w k : ℕ) → k + 1 ≡ n → IsIn v j w k → (w ≡ u) ⊎ (w ≡ u + 2 ^ k) → CanClear old v j u n → IsCleared old v j w k mid → IsMerged mid u k new → IsCleared old v j u n new
 cleared_more old mid new v j u n w k e place half can cleared joined = record {
   same = subst (λ i. AreSameBut u (2 ^ i) old new) e (record {
     units = joined.units ∙ cleared.same.units;

@@ -101,7 +101,7 @@ pub record AreHalves (cells : List ℕ) (unit order : ℕ) : Type 0 where
   pub upper : IsTiled order cells (unit + 2 ^ order)
 
 -- two free blocks of an order, halves of one, may have become that one
-pub record IsJoined (old : List ℕ) (unit order : ℕ) (new : List ℕ) : Type 0 where
+pub record IsMerged (old : List ℕ) (unit order : ℕ) (new : List ℕ) : Type 0 where
   pub units : length new ≡ length old
   pub stays : (x : ℕ) → (get_or new x 0 ≡ get_or old x 0) ⊎ ((get_or old x 0 ≡ code true order) × (get_or new x 0 < 32) × ((x ≡ unit) ⊎ (x ≡ unit + 2 ^ order)))
   pub tiled : IsTiled (order + 1) new unit

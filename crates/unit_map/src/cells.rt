@@ -2,7 +2,7 @@
 ghost use Rattle.std.specs.Prelude.{◌≡◌, ◌+◌, ◌*◌, ◌/◌, ◌^◌, ◌<◌, ◌≤◌, ◌⊎◌, ℕ, true, false, length, get_or};
 ghost use Rattle.mark_levels.specs.Levels.{AreMarks};
 ghost use Rattle.unit_map.specs.Changes.{CanMove};
-ghost use Rattle.unit_map.specs.Cells.{code, pieces_of, with_free, CanClear, AreHalves, AreInside, AreSameBut, IsCleared, IsHeld, IsIn, IsJoined, IsRange, IsSplit, IsTable, IsWiped};
+ghost use Rattle.unit_map.specs.Cells.{code, pieces_of, with_free, CanClear, AreHalves, AreInside, AreSameBut, IsCleared, IsHeld, IsIn, IsMerged, IsRange, IsSplit, IsTable, IsWiped};
 ghost use Rattle.unit_map.specs.Counted.{AreCounts, CanCount, GoAlong};
 ghost use Rattle.unit_map.specs.Moves.{IsCarried};
 
@@ -145,7 +145,7 @@ fn wipe(cells: &mut Bytes, block: Block)
 fn join(cells: &mut Bytes, counts: &mut Counts, lower: Block)
     requires halves { AreHalves cells.old lower.unit lower.order }
     requires counts { CanCount counts.old (pieces_of cells.old) }
-    ensures joined { IsJoined cells.old lower.unit lower.order cells.new }
+    ensures joined { IsMerged cells.old lower.unit lower.order cells.new }
     ensures counts { GoAlong counts.old (pieces_of cells.old) counts.new (pieces_of cells.new) }
 {
     let upper = lower.unit + (1u32 << lower.order);

@@ -10,8 +10,8 @@ abbrev pub first_text : ℕ → List ℕ
 first_text drawn = codes "load gen.elf\nset 1 x5 " ++ decimal (drawn + 1) ++ codes "\nrun 100000\n"
 
 -- the command of a round: its first draw says which it is, the second of which process, the third the name or the number
-abbrev pub command_of : ℕ → List ℕ → List ℕ → List ℕ → List ℕ
-command_of kind process name number =
+abbrev pub round_command : ℕ → List ℕ → List ℕ → List ℕ → List ℕ
+round_command kind process name number =
     if kind == 0 then codes "fork " ++ process
     else if kind == 1 then codes "speculate " ++ process
     else if kind == 2 then codes "commit " ++ process
@@ -22,7 +22,7 @@ command_of kind process name number =
     else codes "set " ++ process ++ codes " x5 " ++ number
 
 abbrev pub command_text : ℕ → ℕ → ℕ → List ℕ
-command_text a b c = command_of (a % 8) (decimal (1 + b % 6)) (codes "c" ++ decimal (c % 4)) (decimal (c + 1)) ++ codes "\n"
+command_text a b c = round_command (a % 8) (decimal (1 + b % 6)) (codes "c" ++ decimal (c % 4)) (decimal (c + 1)) ++ codes "\n"
 
 -- the lines of round r, from 1
 abbrev pub round_text : ℕ → ℕ → List ℕ

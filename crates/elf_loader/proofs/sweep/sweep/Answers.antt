@@ -1,7 +1,7 @@
 use Rattle.std.proofs.Common.{◌≡◌, [], ◌+◌, ◌-◌, ◌≤◌, ◌++◌, length, map, min, ap, subst, sym, ◌∙◌, arith}
 use Rattle.std.specs.List.{range_with_len}
 use Rattle.std.proofs.lemmas.List.{length-map}
-use Rattle.elf_loader.specs.Image.{page_numbers, page_in, pages_in}
+use Rattle.elf_loader.specs.Image.{page_numbers, page_given, pages_in}
 use Rattle.elf_loader.specs.Reach.{page_at, IsTooMany}
 use Rattle.elf_loader.specs.Layers.{no_header}
 use Rattle.elf_loader.proofs.Pages.{page_numbers_is}
@@ -84,4 +84,4 @@ returns-clause-pages c =
 pub returns-clause-few : goal.returns-clause-few
 returns-clause-few c =
     let sorted = c.args.sorted.now in
-    omega (arith, ap length (returns-clause-pages c), length-map (pages_in sorted) (page_in sorted), c.in_ok-fill-2.ensures.few)
+    omega (arith, ap length (returns-clause-pages c), length-map (pages_in sorted) (page_given sorted), c.in_ok-fill-2.ensures.few)

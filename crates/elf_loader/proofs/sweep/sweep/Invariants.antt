@@ -1,6 +1,6 @@
 use Rattle.std.proofs.Common.{◌≡◌, ◌≤◌, length, map, take}
 use Rattle.sizes.specs.declared.TheConstants.{MOST_IMAGE_PAGES}
-use Rattle.elf_loader.specs.Image.{page_numbers, page_in}
+use Rattle.elf_loader.specs.Image.{page_numbers, page_given}
 use Rattle.elf_loader.proofs.Reaching.{IsReachOf}
 use Rattle.elf_loader.proofs.Filling.{touched_below}
 use Rattle.elf_loader.proofs.Sweeping.{Stands}
@@ -13,5 +13,5 @@ invariant-loop-header l = record {
   low : l.at ≤ page_numbers;
   stands : Stands l.sorted l.header-index l.at;
   is : IsReachOf (take l.header-index l.sorted) l.reach;
-  pages : l.pages.items ≡ map (page_in l.sorted) (touched_below l.sorted l.at);
+  pages : l.pages.items ≡ map (page_given l.sorted) (touched_below l.sorted l.at);
 }

@@ -32,8 +32,8 @@ fill_space-requires-clause-differ c = two_spaces (state_of c.args.mem.now) c.arg
 pub fill_space-requires-clause-there : goal.fill_space-requires-clause-there
 fill_space-requires-clause-there c = (added c).beside.there c.requires.there
 
-pub fill_space-requires-clause-settled : goal.fill_space-requires-clause-settled
-fill_space-requires-clause-settled c = (added c).beside.settled c.requires.settled
+pub fill_space-requires-clause-none_awaits : goal.fill_space-requires-clause-none_awaits
+fill_space-requires-clause-none_awaits c = (added c).beside.none_awaits c.requires.none_awaits
 
 pub fill_space-requires-clause-space : goal.fill_space-requires-clause-space
 fill_space-requires-clause-space c = (added c).beside.space

@@ -2,7 +2,7 @@ use Rattle.std.proofs.Common.{ℕ, ◌+◌, ◌-◌, List, length, ap, refl, sub
 use Rattle.std.proofs.lemmas.List.{length-set}
 use Rattle.overlay_mapping_table.specs.declared.entry.Entry.{Entry}
 use Rattle.overlay_mapping_table.specs.Rows.{nothing}
-use Rattle.overlay_mapping_table.specs.Gaps.{seen, AreUp, IsGapIn}
+use Rattle.overlay_mapping_table.specs.Gaps.{seen_slots, AreUp, IsGapIn}
 use Rattle.overlay_mapping_table.proofs.Seen.{bare_up, same_but, size_seen, up_anew, up_in}
 use Rattle.overlay_mapping_table.proofs.moves.move_up.Goals as goal
 
@@ -47,7 +47,7 @@ pub returns-clause-names : goal.returns-clause-names
 returns-clause-names c =
     subst
     (λ (old : List ℕ).
-    AreUp old (seen c.set-2.new.self 0 (record { at = c.args.from + 1; end = c.args.end + 1; len = c.args.room - 1 })) 0 c.args.from c.args.end
+    AreUp old (seen_slots c.set-2.new.self 0 (record { at = c.args.from + 1; end = c.args.end + 1; len = c.args.room - 1 })) 0 c.args.from c.args.end
     c.args.room)
     c.close.ensures
     (up_anew c.close.new.items c.copy.new.self c.set-2.new.self 0 c.args.from c.args.end c.args.room c.requires.some c.requires.order
@@ -61,10 +61,10 @@ returns-clause-bare c =
 
 pub returns-clause-entries : goal.returns-clause-entries
 returns-clause-entries c =
-    let as_seen = c.close-2.ensures ∙ ap (λ (e : Entry). seen c.args.entries.now e c.args.gap) c.nothing.ensures in
+    let as_seen = c.close-2.ensures ∙ ap (λ (e : Entry). seen_slots c.args.entries.now e c.args.gap) c.nothing.ensures in
     subst
     (λ (old : List Entry).
-    AreUp old (seen c.copy-2.new.self nothing (record { at = c.args.from + 1; end = c.args.end + 1; len = c.args.room - 1 })) nothing c.args.from
+    AreUp old (seen_slots c.copy-2.new.self nothing (record { at = c.args.from + 1; end = c.args.end + 1; len = c.args.room - 1 })) nothing c.args.from
     c.args.end c.args.room)
     as_seen
     (up_anew c.close-2.new.items c.copy-2.new.self c.copy-2.new.self nothing c.args.from c.args.end c.args.room c.requires.some c.requires.order

@@ -17,7 +17,7 @@ pub sending-preserved : goal.sending-preserved
 sending-preserved g c =
     let regs = c.args.regs.now in
     let i = c.sending.i in
-    let next = next_register regs i c.value_at.result c.register_line.new.out.items c.sending-test.true c.value_at.ensures c.register_line.ensures in
+    let next = next_register regs i c.register_value.result c.register_line.new.out.items c.sending-test.true c.register_value.ensures c.register_line.ensures in
     record {
       same = c.in_ok-send.ensures.same ∙ c.sending.invariant.same;
       sound = c.in_ok-send.ensures.sends.0 ∙ c.sending.invariant.sound;
@@ -32,7 +32,7 @@ pub returns-in_err-send-clause-sends : goal.returns-in_err-send-clause-sends
 returns-in_err-send-clause-sends g c =
     let regs = c.args.regs.now in
     let i = c.sending.i in
-    let next = next_register regs i c.value_at.result c.register_line.new.out.items c.sending-test.true c.value_at.ensures c.register_line.ensures in
+    let next = next_register regs i c.register_value.result c.register_line.new.out.items c.sending-test.true c.register_value.ensures c.register_line.ensures in
     sends_cut g.K.Sink c.args.report.now.sink.now c.sending.report.sink.now c.send.new.self.sink.now c.sending.invariant.sound
     (registers_from regs i (32 - i)) c.register_line.new.out.items (registers_from regs (i + 1) (32 - (i + 1))) (registers_text regs)
     c.in_err-send.field-0.0 c.from_residual.result c.in_err-send.field-0.0 (by_err c.from_residual.result c.in_err-send.field-0.0 c.from_residual.ensures)

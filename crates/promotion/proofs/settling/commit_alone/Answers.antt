@@ -9,7 +9,7 @@ pub committing-init : goal.committing-init
 committing-init c = record { walked = committing_none (state_of c.args.mem.now) c.args.space; lists = refl }
 
 pub next_overlaid-requires : goal.next_overlaid-requires
-next_overlaid-requires c = record { there = c.committing.invariant.walked.turned.spaces c.args.space ∙ c.requires.there }
+next_overlaid-requires c = record { there = c.committing.invariant.walked.altered.spaces c.args.space ∙ c.requires.there }
 
 pub commit_one-requires : goal.commit_one-requires
 commit_one-requires c = record { there = own_there (state_of c.committing.mem) c.args.space c.in-Some.page c.in-Some.ensures.next.1 }

@@ -9,7 +9,7 @@ pub copying-init : goal.copying-init
 copying-init c = record { walked = copying_none (state_of c.args.mem.now) c.args.space; lists = refl }
 
 pub next_overlaid-requires : goal.next_overlaid-requires
-next_overlaid-requires c = record { there = c.copying.invariant.walked.turned.spaces c.args.space ∙ c.requires.there }
+next_overlaid-requires c = record { there = c.copying.invariant.walked.altered.spaces c.args.space ∙ c.requires.there }
 
 pub copy_one-requires-clause-there : goal.copy_one-requires-clause-there
 copy_one-requires-clause-there c = own_there (state_of c.copying.mem) c.args.space c.in-Some.page c.in-Some.ensures.next.1

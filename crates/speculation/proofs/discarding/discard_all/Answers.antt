@@ -9,7 +9,7 @@ pub discarding-init : goal.discarding-init
 discarding-init c = record { walked = discarding_none (state_of c.args.mem.now) c.args.space; lists = refl }
 
 pub next_overlaid-requires : goal.next_overlaid-requires
-next_overlaid-requires c = record { there = c.discarding.invariant.walked.turned.spaces c.args.space ∙ c.requires.there }
+next_overlaid-requires c = record { there = c.discarding.invariant.walked.altered.spaces c.args.space ∙ c.requires.there }
 
 pub discard_one-requires : goal.discard_one-requires
 discard_one-requires c = record { there = own_there (state_of c.discarding.mem) c.args.space c.in-Some.page c.in-Some.ensures.next.1 }

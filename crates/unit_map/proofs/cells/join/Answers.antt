@@ -1,5 +1,5 @@
 use Rattle.std.proofs.Common.{◌≡◌, ℕ, ◌+◌, ◌*◌, ◌^◌, ◌%◌, ◌<◌, set, get_or, sym, ap, subst, ◌∙◌, refl, arith}
-use Rattle.unit_map.specs.Cells.{behind, pieces_in, pieces_of, IsJoined}
+use Rattle.unit_map.specs.Cells.{behind, pieces_in, pieces_of, IsMerged}
 use Rattle.unit_map.proofs.Counting.{can_few, counts_joined, goes_same, two_there}
 use Rattle.unit_map.proofs.Joining.{joined, joined_not, joined_now, joined_was}
 use Rattle.unit_map.proofs.Numbers.{size_is}
@@ -35,7 +35,7 @@ returns-then-get-byte-2 c =
     let b = sym c.get-then-get-byte.ensures ∙ c.if-get-byte-2.true ∙ c.free-byte.ensures in
     let made = c.set-then-get-byte-2.ensures ∙ ap (λ xs. set xs u c.free.result) c.set.ensures in
     record {
-      joined = subst (IsJoined cells u k) (sym made) (joined cells u at k c.free.result c.requires.halves place c.free.ensures a b);
+      joined = subst (IsMerged cells u k) (sym made) (joined cells u at k c.free.result c.requires.halves place c.free.ensures a b);
       counts = counts_joined c.args.counts.now c.join.new.counts (pieces_of cells) (pieces_of c.set-then-get-byte-2.new.self) (pieces_in cells 0 u) (behind cells u (2 ^ (k + 1))) k u at
           (joined_was cells u at k c.free.result c.requires.halves place c.free.ensures a b)
           (ap pieces_of made ∙ joined_now cells u at k c.free.result c.requires.halves place c.free.ensures a b)

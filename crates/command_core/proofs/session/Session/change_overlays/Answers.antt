@@ -1,7 +1,7 @@
 use Rattle.std.proofs.Common.{refl, subst, sym}
 use Rattle.machine_core.specs.Machine.{spaces_of}
 use Rattle.command_core.specs.State.{registry_of}
-use Rattle.command_core.specs.Sessions.{InSession, state_of}
+use Rattle.command_core.specs.Sessions.{InSession, session_state}
 use Rattle.command_core.specs.Kept.{checkpoints_in, shown_session, shown_state, spaces_kept}
 use Rattle.command_core.specs.Giving.{GivesChange}
 use Rattle.command_core.specs.Overlays.{overlay_row}
@@ -25,7 +25,7 @@ returns-in-Some-clause-gives c =
     let done = c.change_overlays.ensures.done in
     subst (λ (s : InSession). GivesChange (on_process c.args.p row (registry_of s.state)) s.state c.change_overlays.result (shown_state new c.self.inside.checkpoints c.self.inside.breakpoints c.self.inside.drawn)) c.self.view_is
     (gives_kept (on_process c.args.p row) old new s.checkpoints s.breakpoints s.drawn (free_same old new (spaces_kept s.checkpoints) done.keeps.free c.self.invariant.0.free) c.change_overlays.result s.drawn
-    (gives_found old kept s.breakpoints s.drawn c.args.p row c.in-Some.process.now c.change_overlays.result (state_of new kept s.breakpoints s.drawn) (sym c.in-Some.ensures.kept)
+    (gives_found old kept s.breakpoints s.drawn c.args.p row c.in-Some.process.now c.change_overlays.result (session_state new kept s.breakpoints s.drawn) (sym c.in-Some.ensures.kept)
     (done.gives kept s.breakpoints s.drawn)))
 
 pub returns-in-Some-clause-want : goal.returns-in-Some-clause-want

@@ -6,7 +6,7 @@ use Rattle.ovl_io.specs.Keys.{removed_same}
 use Rattle.machine_core.specs.Machine.{Machine, spaces_of}
 use Rattle.report_text.specs.declared.answer.Answer.TheVariants.{Done}
 use Rattle.command_core.specs.State.{registry_of}
-use Rattle.command_core.specs.Sessions.{InSession, NoBreaksAbove, state_of}
+use Rattle.command_core.specs.Sessions.{InSession, NoBreaksAbove, session_state}
 use Rattle.command_core.specs.Kept.{checkpoints_in, shown_state, spaces_kept}
 use Rattle.command_core.specs.Giving.{GivesChange}
 use Rattle.command_core.specs.Changes.{drop_row, on_process}
@@ -43,6 +43,6 @@ returns-clause-gives c =
     (sym c.clear.ensures)
     (gives_left (on_process p (drop_row p)) old new s.checkpoints s.breakpoints s.drawn (free_same old new (spaces_kept s.checkpoints) keeps.free c.self.invariant.0.free) Done
     (remove s.breakpoints p) s.drawn
-    (gives_found old kept s.breakpoints s.drawn p (drop_row p) c.in-Some.field-0.now Done (state_of new kept (remove s.breakpoints p) s.drawn) (sym c.in-Some.ensures.kept)
+    (gives_found old kept s.breakpoints s.drawn p (drop_row p) c.in-Some.field-0.now Done (session_state new kept (remove s.breakpoints p) s.drawn) (sym c.in-Some.ensures.kept)
     (gives_dropped old c.remove.new.self new kept s.breakpoints s.drawn p c.in-Some.field-0.now c.remove.ensures.after
     (ap (λ (m : Machine). get m.processes p) c.remove.ensures.removed ∙ removed_same old.processes p p refl) c.drop_space.ensures.dropped))))

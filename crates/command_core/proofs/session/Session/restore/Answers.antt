@@ -4,7 +4,7 @@ use Rattle.machine_core.specs.declared.process.Process as declared
 use Rattle.report_text.specs.declared.answer.Answer.TheVariants.{Done, Refused}
 use Rattle.report_text.specs.declared.answer.Code.TheVariants.{NoCheckpoint}
 use Rattle.command_core.specs.State.{registry_of}
-use Rattle.command_core.specs.Sessions.{InSession, IsFree}
+use Rattle.command_core.specs.Sessions.{InSession, HasNoProcess}
 use Rattle.command_core.specs.Kept.{kept_named, shown_session, shown_state, spaces_kept}
 use Rattle.command_core.specs.Giving.{GivesChange}
 use Rattle.command_core.specs.Copies.{CopiesProcess}
@@ -32,19 +32,19 @@ restore_process-requires-clause-differ c =
     let s = c.self.inside in
     let x = c.in-Some-get.kept.now in
     not_free s.machine c.args.p x.space (ap is_some (sym c.in-Some.ensures.kept))
-    (found_has c.as_slice.result.now (IsFree s.machine) s.checkpoints x c.self.invariant.0.free (sym c.in-Some-get.ensures)).1
+    (found_has c.as_slice.result.now (HasNoProcess s.machine) s.checkpoints x c.self.invariant.0.free (sym c.in-Some-get.ensures)).1
 
 pub restore_process-requires-clause-saved : goal.restore_process-requires-clause-saved
 restore_process-requires-clause-saved c =
     let s = c.self.inside in
-    (found_has c.as_slice.result.now (IsFree s.machine) s.checkpoints c.in-Some-get.kept.now c.self.invariant.0.free (sym c.in-Some-get.ensures)).0
+    (found_has c.as_slice.result.now (HasNoProcess s.machine) s.checkpoints c.in-Some-get.kept.now c.self.invariant.0.free (sym c.in-Some-get.ensures)).0
 
 pub restore_process-requires-clause-unmarked : goal.restore_process-requires-clause-unmarked
 restore_process-requires-clause-unmarked c =
     let s = c.self.inside in
     let x = c.in-Some-get.kept.now in
     free_unmarked s.machine (spaces_kept s.checkpoints) s.drawn x.space c.self.invariant.0
-    (found_has c.as_slice.result.now (IsFree s.machine) s.checkpoints x c.self.invariant.0.free (sym c.in-Some-get.ensures))
+    (found_has c.as_slice.result.now (HasNoProcess s.machine) s.checkpoints x c.self.invariant.0.free (sym c.in-Some-get.ensures))
 
 -- it is done
 
@@ -54,7 +54,7 @@ invariant_of-self-2 c =
     let x = c.in-Some-get.kept.now in
     let copied = subst (λ (y : declared.Process). CopiesProcess (Some c.args.p) x.space c.args.p y s.machine c.restore_process.new.machine (Ok tt)) c.process-in-Some-get.ensures c.in-Ok.ensures in (
       session_of_restored s.machine c.restore_process.new.machine (spaces_kept s.checkpoints) s.drawn c.args.p x c.self.invariant.0 (ap is_some (sym c.in-Some.ensures.kept))
-          (found_has c.as_slice.result.now (IsFree s.machine) s.checkpoints x c.self.invariant.0.free (sym c.in-Some-get.ensures)) copied,
+          (found_has c.as_slice.result.now (HasNoProcess s.machine) s.checkpoints x c.self.invariant.0.free (sym c.in-Some-get.ensures)) copied,
       c.self.invariant.1,
       c.self.invariant.2,
     )

@@ -1,4 +1,4 @@
-use Rattle.overlay_mapping_table.specs.Gaps.{seen}
+use Rattle.overlay_mapping_table.specs.Gaps.{seen_slots}
 use Rattle.overlay_mapping_table.specs.Rows.{nothing}
 use Rattle.overlay_mapping_table.proofs.Beside.{number_read}
 use Rattle.overlay_mapping_table.proofs.Laid.{within_names}
@@ -11,5 +11,5 @@ read-requires-clause-inside c =
 
 pub returns : goal.returns
 returns c =
-    number_read c.args.self.now (seen c.self.inside.names 0 c.self.inside.gap) (seen c.self.inside.entries nothing c.self.inside.gap) c.args.at c.self.view_is c.self.invariant.slots c.requires
+    number_read c.args.self.now (seen_slots c.self.inside.names 0 c.self.inside.gap) (seen_slots c.self.inside.entries nothing c.self.inside.gap) c.args.at c.self.view_is c.self.invariant.slots c.requires
     c.read.result nothing c.read.ensures

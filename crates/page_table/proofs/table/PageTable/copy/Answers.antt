@@ -1,6 +1,6 @@
 use Rattle.std.proofs.Common.{◌≡◌, List, ap, ◌∙◌, arith, length}
 use Rattle.page_table.specs.declared.run.PageRun.{PageRun}
-use Rattle.page_table.specs.Kept.{seen}
+use Rattle.page_table.specs.Kept.{seen_table}
 use Rattle.page_table.proofs.Pages.{length_total}
 use Rattle.page_table.proofs.Tables.{cloned}
 use Rattle.page_table.proofs.Held.{held_copy, links_cloned}
@@ -36,6 +36,6 @@ invariant_of-result c = record {
 
 pub returns : goal.returns
 returns c =
-    ap (λ l. seen l c.reserve.new.self.items c.in_ok-overlaid.overlaid.chunks) (same_links c)
-    ∙ ap (λ (r : List PageRun). seen c.self.inside.links.items r c.in_ok-overlaid.overlaid.chunks) (same_runs c)
-    ∙ ap (seen c.self.inside.links.items c.self.inside.runs.items) c.in_ok-overlaid.ensures.chunks ∙ c.self.view_is
+    ap (λ l. seen_table l c.reserve.new.self.items c.in_ok-overlaid.overlaid.chunks) (same_links c)
+    ∙ ap (λ (r : List PageRun). seen_table c.self.inside.links.items r c.in_ok-overlaid.overlaid.chunks) (same_runs c)
+    ∙ ap (seen_table c.self.inside.links.items c.self.inside.runs.items) c.in_ok-overlaid.ensures.chunks ∙ c.self.view_is

@@ -1,7 +1,7 @@
 use Rattle.std.proofs.Common.{ℕ, ◌+◌, ◌-◌, ◌/◌, List, ap, subst, sym, ◌∙◌, refl, arith}
 use Rattle.number_maps.specs.Rows.{map_of}
 use Rattle.page_table.specs.declared.run.PageRun.{PageRun}
-use Rattle.page_table.specs.Kept.{HaveFilled, HaveLeaves, HavePaths, pages_of}
+use Rattle.page_table.specs.Kept.{HaveFilled, HaveLeaves, HavePaths, run_pages}
 use Rattle.page_table.specs.Nodes.{pages_by}
 use Rattle.page_table.specs.Table.{IsFree}
 use Rattle.page_table.specs.Laws.{one_mapped_at}
@@ -41,8 +41,8 @@ fill_paths-requires-clause-paths c =
 pub fill_paths-requires-clause-free : goal.fill_paths-requires-clause-free
 fill_paths-requires-clause-free c =
     let here = (goal.at.fill_paths-requires-clause-free c).After-make_leaves in
-    let same = ap (λ l. pages_by (map_of l) (pages_of c.reserve.new.self.items)) c.deref.ensures.value
-    ∙ ap (λ (r : List PageRun). pages_by (map_of c.make_leaves.new.links.items) (pages_of r)) c.in_ok-reserve.ensures.items
+    let same = ap (λ l. pages_by (map_of l) (run_pages c.reserve.new.self.items)) c.deref.ensures.value
+    ∙ ap (λ (r : List PageRun). pages_by (map_of c.make_leaves.new.links.items) (run_pages r)) c.in_ok-reserve.ensures.items
     ∙ grown_pages c.args.self.now c.self.inside.links.items c.make_leaves.new.links.items c.self.inside.runs.items c.self.inside.count _ c.self.view_is
     c.self.invariant.held (made here).grown in
     subst (λ m. IsFree m c.args.from c.args.n) (sym same) c.requires.free
@@ -65,14 +65,14 @@ invariant_of-self-2 c =
             length_total 0 c.self.inside.runs.items c.self.invariant.held.kept.rise,
             c.self.inside.runs.ok.0,
           ));
-      none = front_mapped c.args.self.now.pages (pages_by (map_of c.make_leaves.new.links.items) (pages_of c.fill_paths.new.runs.items)) c.self.inside.front
+      none = front_mapped c.args.self.now.pages (pages_by (map_of c.make_leaves.new.links.items) (run_pages c.fill_paths.new.runs.items)) c.self.inside.front
           c.sooner-self-inside.result c.args.from c.args.n (record { perms = c.args.perms; frame = c.args.frame })
           (front_seen c.args.self.now c.self.inside.links.items c.self.inside.runs.items c.self.inside.front c.self.view_is c.self.invariant.none)
           (mapped_table c.args.self.now c.self.inside.links.items c.make_leaves.new.links.items c.self.inside.runs.items c.fill_paths.new.runs.items
           c.self.inside.count _ c.args.from c.args.n (record { perms = c.args.perms; frame = c.args.frame }) c.self.view_is c.self.invariant.held
           (made before).grown (filled here))
           c.sooner-self-inside.ensures.page c.sooner-self-inside.ensures.other;
-      overlaid = overlaid_mapped c.args.self.now.pages (pages_by (map_of c.make_leaves.new.links.items) (pages_of c.fill_paths.new.runs.items))
+      overlaid = overlaid_mapped c.args.self.now.pages (pages_by (map_of c.make_leaves.new.links.items) (run_pages c.fill_paths.new.runs.items))
           c.self.inside.overlaid c.reserve-2.new.self
           (overlaid_seen c.args.self.now c.self.inside.links.items c.self.inside.runs.items c.self.inside.overlaid c.self.view_is
           c.self.invariant.overlaid)
@@ -101,7 +101,7 @@ pub returns-clause-one : goal.returns-clause-one
 returns-clause-one c is =
     let here = (goal.at.returns-clause-one c).After-fill_paths in
     let before = (goal.at.returns-clause-one c).After-make_leaves in
-    one_mapped_at c.args.self.now.pages (pages_by (map_of c.make_leaves.new.links.items) (pages_of c.fill_paths.new.runs.items)) c.args.from c.args.n
+    one_mapped_at c.args.self.now.pages (pages_by (map_of c.make_leaves.new.links.items) (run_pages c.fill_paths.new.runs.items)) c.args.from c.args.n
     (record { perms = c.args.perms; frame = c.args.frame }) is
     (mapped_table c.args.self.now c.self.inside.links.items c.make_leaves.new.links.items c.self.inside.runs.items c.fill_paths.new.runs.items
     c.self.inside.count _ c.args.from c.args.n (record { perms = c.args.perms; frame = c.args.frame }) c.self.view_is c.self.invariant.held (made before).grown

@@ -1,6 +1,6 @@
 use Rattle.std.proofs.Common.{subst, sym}
 use Rattle.page_table.specs.Laws.{one_unmapped_at}
-use Rattle.page_table.specs.Kept.{HaveCleared, pages_of}
+use Rattle.page_table.specs.Kept.{HaveCleared, run_pages}
 use Rattle.page_table.specs.Nodes.{pages_by}
 use Rattle.number_maps.specs.Rows.{map_of}
 use Rattle.page_table.proofs.Held.{held_unmapped, there_low, unmapped_len, unmapped_table}
@@ -20,7 +20,7 @@ clear_paths-requires-clause-low c =
 
 pub least_in-least-requires-clause-none : goal.least_in-least-requires-clause-none
 least_in-least-requires-clause-none c =
-    subst (λ l. NoneFrom (pages_by (map_of l) (pages_of c.self.inside.runs.items)) 0 c.self.inside.front) (sym c.deref.ensures.value) c.self.invariant.none
+    subst (λ l. NoneFrom (pages_by (map_of l) (run_pages c.self.inside.runs.items)) 0 c.self.inside.front) (sym c.deref.ensures.value) c.self.invariant.none
 
 pub passed-self-inside-requires : goal.passed-self-inside-requires
 passed-self-inside-requires c =
@@ -32,15 +32,15 @@ invariant_of-self c =
     record {
       held = held_unmapped c.args.self.now c.self.inside.links.items c.self.inside.runs.items c.clear_paths.new.runs.items c.self.inside.count _ _
           c.args.from c.args.n c.self.view_is c.self.invariant.held (cleared here) c.requires c.clear_paths.ensures.room;
-      none = front_unmapped c.args.self.now.pages (pages_by (map_of c.self.inside.links.items) (pages_of c.clear_paths.new.runs.items))
+      none = front_unmapped c.args.self.now.pages (pages_by (map_of c.self.inside.links.items) (run_pages c.clear_paths.new.runs.items))
           c.least_in-least.result c.passed-self-inside.result c.args.from c.args.n
           (front_seen c.args.self.now c.self.inside.links.items c.self.inside.runs.items c.least_in-least.result c.self.view_is
-          (subst (λ l. NoneFrom (pages_by (map_of l) (pages_of c.self.inside.runs.items)) 0 c.least_in-least.result) c.deref.ensures.value
+          (subst (λ l. NoneFrom (pages_by (map_of l) (run_pages c.self.inside.runs.items)) 0 c.least_in-least.result) c.deref.ensures.value
           c.least_in-least.ensures))
           (unmapped_table c.args.self.now c.self.inside.links.items c.self.inside.runs.items c.clear_paths.new.runs.items c.args.from c.args.n
           c.self.view_is (cleared here))
           c.passed-self-inside.ensures;
-      overlaid = overlaid_unmapped c.args.self.now.pages (pages_by (map_of c.self.inside.links.items) (pages_of c.clear_paths.new.runs.items))
+      overlaid = overlaid_unmapped c.args.self.now.pages (pages_by (map_of c.self.inside.links.items) (run_pages c.clear_paths.new.runs.items))
           c.self.inside.overlaid c.remove_run.new.self
           (overlaid_seen c.args.self.now c.self.inside.links.items c.self.inside.runs.items c.self.inside.overlaid c.self.view_is
           c.self.invariant.overlaid)
@@ -63,7 +63,7 @@ returns-clause-unmapped c =
 pub returns-clause-one : goal.returns-clause-one
 returns-clause-one c is =
     let here = (goal.at.returns-clause-one c).After-clear_paths in
-    one_unmapped_at c.args.self.now.pages (pages_by (map_of c.self.inside.links.items) (pages_of c.clear_paths.new.runs.items)) c.args.from c.args.n is
+    one_unmapped_at c.args.self.now.pages (pages_by (map_of c.self.inside.links.items) (run_pages c.clear_paths.new.runs.items)) c.args.from c.args.n is
     (unmapped_table c.args.self.now c.self.inside.links.items c.self.inside.runs.items c.clear_paths.new.runs.items c.args.from c.args.n c.self.view_is
     (cleared here))
 

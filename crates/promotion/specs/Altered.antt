@@ -16,36 +16,36 @@ use Rattle.overlay_pages.specs.State.{PageState, SpaceState, State, base_of, bas
 use Rattle.overlay_memory.specs.ApartLaws.{ArePagesApart, origins_apart}
 use Rattle.overlay_memory.specs.Joined.{IsBare}
 use Rattle.overlay_memory.specs.PageLaws.{held_there, own_absent, own_is, some_is, there_of}
-use Rattle.promotion.specs.Settled.{AreSettled, mark_of}
-use Rattle.promotion.specs.Fates.{AreTurned, IsFate, none_turned, one_turned}
+use Rattle.promotion.specs.Settled.{AreInFrames, mark_of}
+use Rattle.promotion.specs.Fates.{AreTurned, IsFate, none_altered, one_altered}
 use Rattle.promotion.specs.FateLaws.{alone_stays}
 use Rattle.promotion.specs.FateFolds.{arent_same, are_same, or_page, retold}
 
 -- States in which pages of a space lost their own lines, one after the other.
 
--- What a page is now: what it was, where it wasn't turned; else its lines, and those of its frame, are what `to` made of it.
-abbrev pub IsTurn : (PageState → Page) → Bool → PageState → PageState → Type 0
-IsTurn to false was is = is ≡ was
-IsTurn to true was is = (seen_page is ≡ to was) × (base_page is ≡ to was)
+-- What a page is now: what it was, where it wasn't altered; else its lines, and those of its frame, are what `to` made of it.
+abbrev pub IsAlteration : (PageState → Page) → Bool → PageState → PageState → Type 0
+IsAlteration to false was is = is ≡ was
+IsAlteration to true was is = (seen_page is ≡ to was) × (base_page is ≡ to was)
 
-pub record HasTurn (to : PageState → Page) (turned : Bool) (now : State) (space page : ℕ) (was : PageState) : Type 0 where
+pub record HasTurn (to : PageState → Page) (altered : Bool) (now : State) (space page : ℕ) (was : PageState) : Type 0 where
   pub is : PageState
   pub there : page_in now space page ≡ Some is
-  pub turn : IsTurn to turned was is
+  pub turn : IsAlteration to altered was is
 
-pub record HasTurned (to : PageState → Page) (turned alone : ℕ → Bool) (before now : State) (space : ℕ) : Type 0 where
+pub record HaveAltered (to : PageState → Page) (altered alone : ℕ → Bool) (before now : State) (space : ℕ) : Type 0 where
   pub absent : (r : ℕ) → page_in before space r ≡ None → page_in now space r ≡ None
-  pub pages : (r : ℕ) (x : PageState) → page_in before space r ≡ Some x → HasTurn to (turned r) now space r x
+  pub pages : (r : ℕ) (x : PageState) → page_in before space r ≡ Some x → HasTurn to (altered r) now space r x
   pub awaiting : (space_in now space).awaiting ≡ (space_in before space).awaiting
   pub mark : (space_in now space).speculating ≡ (space_in before space).speculating
   pub others : (q : ℕ) → (q ≡ space → ⊥) → space_in now q ≡ space_in before q
   pub spaces : (q : ℕ) → holds_space now q ≡ holds_space before q
   pub frames : now.frames ≡ before.frames
   pub zero_frame : now.zero_frame ≡ before.zero_frame
-  pub ledger : AreTurned turned alone (books before) (books now) space
+  pub ledger : AreTurned altered alone (books before) (books now) space
 
--- none was turned yet
-pub none_yet : (to : PageState → Page) (a : ℕ → Bool) (v : State) (space : ℕ) → HasTurned to (λ r. false) a v v space
+-- none was altered yet
+pub none_yet : (to : PageState → Page) (a : ℕ → Bool) (v : State) (space : ℕ) → HaveAltered to (λ r. false) a v v space
 none_yet to a v space = record {
   absent = λ r e. e;
   pages = λ r x at. record { is = x; there = at; turn = refl };
@@ -55,15 +55,15 @@ none_yet to a v space = record {
   spaces = λ q. refl;
   frames = refl;
   zero_frame = refl;
-  ledger = none_turned a (books v) space;
+  ledger = none_altered a (books v) space;
 }
 
-turn_same : (to : PageState → Page) (t u : Bool) (was is : PageState) → u ≡ t → IsTurn to t was is → IsTurn to u was is
-turn_same to t u was is e turn = subst (λ b. IsTurn to b was is) (sym e) turn
+turn_same : (to : PageState → Page) (t u : Bool) (was is : PageState) → u ≡ t → IsAlteration to t was is → IsAlteration to u was is
+turn_same to t u was is e turn = subst (λ b. IsAlteration to b was is) (sym e) turn
 
--- the same, said with another test of which pages were turned
-pub said_again : (to : PageState → Page) (t u a : ℕ → Bool) (before now : State) (space : ℕ) → HasTurned to t a before now space
-    → ((r : ℕ) (x : PageState) → page_in before space r ≡ Some x → u r ≡ t r) → HasTurned to u a before now space
+-- the same, said with another test of which pages were altered
+pub said_again : (to : PageState → Page) (t u a : ℕ → Bool) (before now : State) (space : ℕ) → HaveAltered to t a before now space
+    → ((r : ℕ) (x : PageState) → page_in before space r ≡ Some x → u r ≡ t r) → HaveAltered to u a before now space
 said_again to t u a before now space h same = record {
   absent = h.absent;
   pages = λ r x at. let p = h.pages r x at in record { is = p.is; there = p.there; turn = turn_same to (t r) (u r) x p.is (same r x at) p.turn };
@@ -95,25 +95,25 @@ pub put_page_frames : (v : State) (s p : ℕ) (z : PageState) → ((put_page v s
 unfolding put_page put_space
 put_page_frames v s p z = (refl, refl)
 
--- a page that wasn't turned is what it was
-pub still : (to : PageState → Page) (t a : ℕ → Bool) (before now : State) (space page : ℕ) (x : PageState) → HasTurned to t a before now space
+-- a page that wasn't altered is what it was
+pub still : (to : PageState → Page) (t a : ℕ → Bool) (before now : State) (space page : ℕ) (x : PageState) → HaveAltered to t a before now space
     → page_in before space page ≡ Some x → t page ≡ false → page_in now space page ≡ Some x
-still to t a before now space page x h was unturned =
-    let p = h.pages page x was in p.there ∙ ap Some (turn_same to (t page) false x p.is (sym unturned) p.turn)
+still to t a before now space page x h was unaltered =
+    let p = h.pages page x was in p.there ∙ ap Some (turn_same to (t page) false x p.is (sym unaltered) p.turn)
 
--- One page more is turned.
+-- One page more is altered.
 module _ (to : PageState → Page) (t a : ℕ → Bool) (before now : State) (space page : ℕ) (x z : PageState)
-    (h : HasTurned to t a before now space) (was : page_in before space page ≡ Some x) (unturned : t page ≡ false)
+    (h : HaveAltered to t a before now space) (was : page_in before space page ≡ Some x) (unaltered : t page ≡ false)
     (own : z.own ≡ []) (seen : seen_page z ≡ to x) (based : base_page z ≡ to x)
     (kept : a page ≡ true → z.entry.frame ≡ x.entry.frame)
     (fresh : a page ≡ false → is_unused (without_page (books now) space page) (origin_of now.zero_frame z.entry.frame) ≡ true) where
   at_page : page_in now space page ≡ Some x
-  at_page = still to t a before now space page x h was unturned
+  at_page = still to t a before now space page x h was unaltered
 
-  turned_ledger : AreTurned (or_page t page) a (books before) (books (put_page now space page z)) space
-  turned_ledger =
+  altered_ledger : AreTurned (or_page t page) a (books before) (books (put_page now space page z)) space
+  altered_ledger =
       subst (λ (l : Ledger). AreTurned (or_page t page) a (books before) l space) (sym (books_put_page held_page now space page z))
-      (one_turned t (or_page t page) a (books before) (books now) space page (held_page before.zero_frame x) (held_page now.zero_frame x) (held_page now.zero_frame z)
+      (one_altered t (or_page t page) a (books before) (books now) space page (held_page before.zero_frame x) (held_page now.zero_frame x) (held_page now.zero_frame z)
       h.ledger (held_there before space page x was) (held_there now space page x at_page)
       (ap (λ b. t page || b) (are_same page page refl) ∙ or_true (t page))
       (λ r other. ap (λ b. t r || b) (arent_same r page other) ∙ or_false (t r))
@@ -154,7 +154,7 @@ module _ (to : PageState → Page) (t a : ℕ → Bool) (before now : State) (sp
             turn = turn_same to (t r) (or_page t page r) w p.is (or_none (t r) (nat_eq r page) (arent_same r page other)) p.turn;
           }
 
-  pub one_more : HasTurned to (or_page t page) a before (put_page now space page z) space
+  pub one_more : HaveAltered to (or_page t page) a before (put_page now space page z) space
   one_more =
       let there = there_space now space page x at_page in record {
         absent = λ r none. page_put_beside now space page z space r
@@ -166,10 +166,10 @@ module _ (to : PageState → Page) (t a : ℕ → Bool) (before now : State) (sp
         spaces = λ q. put_page_spaces now space page z there q ∙ h.spaces q;
         frames = (put_page_frames now space page z).0 ∙ h.frames;
         zero_frame = (put_page_frames now space page z).1 ∙ h.zero_frame;
-        ledger = turned_ledger;
+        ledger = altered_ledger;
       }
 
--- What a memory is when pages were turned.
+-- What a memory is when pages were altered.
 
 pub memory_at : (v : State) (s r : ℕ) → get (memory_of v s) r ≡ option_map seen_page (page_in v s r)
 unfolding memory_of
@@ -179,12 +179,12 @@ pub base_at : (v : State) (s r : ℕ) → get (base_of v s) r ≡ option_map bas
 unfolding base_of
 base_at v s r = get_viewed (λ _ x. base_page x) (space_in v s).pages r ∙ ap (option_map base_page) (sym (page_of v s r))
 
--- a page's lines, in a state in which it was turned to its own lines
-seen_turn : (t : Bool) (was is : PageState) → IsTurn seen_page t was is → seen_page is ≡ seen_page was
+-- a page's lines, in a state in which it was altered to its own lines
+seen_turn : (t : Bool) (was is : PageState) → IsAlteration seen_page t was is → seen_page is ≡ seen_page was
 seen_turn false was is turn = ap seen_page turn
 seen_turn true was is turn = turn.0
 
-module _ (t a which : ℕ → Bool) (old new : State) (space : ℕ) (h : HasTurned seen_page t a old new space) (plain : IsBare old space)
+module _ (t a which : ℕ → Bool) (old new : State) (space : ℕ) (h : HaveAltered seen_page t a old new space) (plain : IsBare old space)
     (names : (r : ℕ) → t r ≡ true → which r ≡ true)
     (bare : (r : ℕ) (x : PageState) → page_in old space r ≡ Some x → t r ≡ false → which r ≡ true → x.own ≡ []) where
   same_seen : (r : ℕ) (o : Option PageState) → page_in old space r ≡ o → option_map seen_page (page_in new space r) ≡ option_map seen_page (page_in old space r)
@@ -203,7 +203,7 @@ module _ (t a which : ℕ → Bool) (old new : State) (space : ℕ) (h : HasTurn
       let p = h.pages r x had in
       ap (option_map base_page) p.there ∙ by_turn (t r) (which r) refl refl p.is p.turn ∙ sym (ap (λ o. cond (which r) (option_map seen_page o) (option_map base_page o)) had)
     where
-      by_turn : (b c : Bool) → t r ≡ b → which r ≡ c → (is : PageState) → IsTurn seen_page b x is → Some (base_page is) ≡ cond c (Some (seen_page x)) (Some (base_page x))
+      by_turn : (b c : Bool) → t r ≡ b → which r ≡ c → (is : PageState) → IsAlteration seen_page b x is → Some (base_page is) ≡ cond c (Some (seen_page x)) (Some (base_page x))
       by_turn true true e g is turn = ap Some turn.1
       by_turn true false e g is turn = let no = sym (names r e) ∙ g in cc
       by_turn false false e g is turn = ap (λ y. Some (base_page y)) turn
@@ -225,7 +225,7 @@ module _ (t a which : ℕ → Bool) (old new : State) (space : ℕ) (h : HasTurn
           by_turn true true e w fate = ap (λ (v : Holding). v.own) fate
           by_turn true false e w fate = fate.0
 
-  pub are_settled : AreSettled which (mark_of old space) old new space
+  pub are_settled : AreInFrames which (mark_of old space) old new space
   are_settled = record {
     memory = alike _ _ (λ r. memory_at new space r ∙ same_seen r (page_in old space r) refl ∙ sym (memory_at old space r));
     base = λ r. base_at new space r ∙ same_base r (page_in old space r) refl ∙ sym (λ i. cond (which r) (memory_at old space r i) (base_at old space r i));
@@ -247,22 +247,22 @@ pub record WasThere (old : State) (space page : ℕ) : Type 0 where
   pub x : PageState
   pub had : page_in old space page ≡ Some x
 
-pub was_there : (to : PageState → Page) (t a : ℕ → Bool) (old now : State) (space page : ℕ) → HasTurned to t a old now space → is_some (page_in now space page) ≡ true → WasThere old space page
+pub was_there : (to : PageState → Page) (t a : ℕ → Bool) (old now : State) (space page : ℕ) → HaveAltered to t a old now space → is_some (page_in now space page) ≡ true → WasThere old space page
 was_there to t a old now space page h there = by_page (page_in old space page) refl
   where
     by_page : (o : Option PageState) → page_in old space page ≡ o → WasThere old space page
     by_page None is = let no = sym there ∙ ap is_some (h.absent page is) in cc
     by_page (Some x) is = record { x = x; had = is }
 
--- whether a page that wasn't turned has own lines, and is alone
+-- whether a page that wasn't altered has own lines, and is alone
 pub own_now : (old now : State) (space page : ℕ) (x : PageState) → page_in old space page ≡ Some x → page_in now space page ≡ Some x
     → has_own (books now) space page ≡ has_own (books old) space page
 own_now old now space page x had at = own_is (books now) space page _ (held_there now space page x at) ∙ sym (own_is (books old) space page _ (held_there old space page x had))
 
 pub alone_now : (to : PageState → Page) (t : ℕ → Bool) (old now : State) (space page : ℕ) (x : PageState) → ArePagesApart old space
-    → HasTurned to t (is_alone (books old) space) old now space → t page ≡ false → page_in old space page ≡ Some x → is_alone (books now) space page ≡ is_alone (books old) space page
-alone_now to t old now space page x apart h unturned had =
-    alone_stays t (books old) (books now) space page (held_page old.zero_frame x) (origins_apart old space apart) h.ledger unturned (held_there old space page x had)
+    → HaveAltered to t (is_alone (books old) space) old now space → t page ≡ false → page_in old space page ≡ Some x → is_alone (books now) space page ≡ is_alone (books old) space page
+alone_now to t old now space page x apart h unaltered had =
+    alone_stays t (books old) (books now) space page (held_page old.zero_frame x) (origins_apart old space apart) h.ledger unaltered (held_there old space page x had)
 
 -- A space that was marked afterwards.
 marked_space : (v : State) (s : ℕ) (on : Bool) → space_in (put_mark v s on) s ≡ record { pages = (space_in v s).pages; awaiting = (space_in v s).awaiting; speculating = on }
@@ -316,8 +316,8 @@ is_marked v w s on there is = subst (λ (u : State). IsMarked v u s on) (sym is)
   zero_frame = (marked_frames v s on).1;
 })
 
-pub settled_marked : (which : ℕ → Bool) (mark on : Bool) (old mid new : State) (space : ℕ) → AreSettled which mark old mid space → IsMarked mid new space on
-    → AreSettled which on old new space
+pub settled_marked : (which : ℕ → Bool) (mark on : Bool) (old mid new : State) (space : ℕ) → AreInFrames which mark old mid space → IsMarked mid new space on
+    → AreInFrames which on old new space
 settled_marked which mark on old mid new space h m = record {
   memory = m.memory ∙ h.memory;
   base = λ r. ap (λ (l : Memory). get l r) m.base ∙ h.base r;
