@@ -16,6 +16,7 @@ use Rattle.overlay_memory.specs.declared.error.MemoryError.TheVariants.{Unmapped
 use Rattle.overlay_memory.specs.declared.error.SpaceError.{SpaceError}
 use Rattle.overlay_memory.specs.declared.error.SpaceError.TheVariants as refused
 use Rattle.overlay_memory.specs.View.{TranslatedView, state_of}
+use Rattle.space_ledger.specs.View.{LedgerView, with_zero_pages}
 use Rattle.space_maps.specs.Laws.{space_absent, space_beside, space_left, space_put}
 use Rattle.space_maps.specs.Options.{by_option}
 use Rattle.space_maps.specs.Spaces.{SpaceOf, Spaces, cut_page, cut_pages, cut_space, bare_space, page_in, put_mark, put_page, put_space, space_in, altered_page, put_pages}
@@ -123,3 +124,15 @@ none_awaits_copied old new s p placed there settled = by_option (page_in old s p
     (λ none. absurd (true≢false (sym (subst IsSome none there))))
     (λ x found. let h = subst (λ o. IfSome o (λ y. IsPlaced old new s p (λ frame. copied frame y))) found placed in
     none_awaits_as _ new h.placed (none_awaits_page old s p _ settled))
+
+-- A ledger alone: with one space that has no page, and with zero pages of it.
+
+pub none_awaits_begun : (v w : LedgerView) (s : ℕ) → v.spaces ≡ map.empty → w ≡ put_space v s bare_space → NoneAwaits w
+none_awaits_begun v w s none is q =
+    ap (λ (x : LedgerView). (space_in x q).awaiting) is
+    ∙ none_awaits_put v s bare_space (λ r. ap (λ y. y.awaiting) (space_absent v r (ap (λ m. map.get m r) none ∙ map.get-empty _ r))) refl q
+
+pub none_awaits_zeroed : (v w : LedgerView) (s from n : ℕ) (entry : PageEntry) → w ≡ with_zero_pages v s from n entry → NoneAwaits v → NoneAwaits w
+unfolding with_zero_pages
+none_awaits_zeroed v w s from n entry is settled q =
+    ap (λ (x : LedgerView). (space_in x q).awaiting) is ∙ none_awaits_zeros n from v s (record { entry = entry; overlay = None }) settled q

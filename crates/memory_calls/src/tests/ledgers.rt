@@ -1,7 +1,8 @@
-ghost use Rattle.std.specs.Prelude.{◌+◌, ◌≤◌, IsTrue, OnOk};
+ghost use Rattle.std.specs.Prelude.{◌≡◌, ℕ, ◌+◌, ◌≤◌, IsTrue, OnOk};
+ghost use Rattle.std.specs.FinMap as map;
 ghost use Rattle.sizes.specs.declared.TheConstants.{PAGE_END};
 ghost use Rattle.space_ledger.specs.Calls.{AreFree};
-ghost use Rattle.memory_calls.proofs.Awaiting.{NoneAwaits};
+ghost use Rattle.space_maps.specs.Spaces.{space_in};
 
 use ovl_io::Perms;
 use space_ledger::{SpaceLedger, class_of};
@@ -21,8 +22,8 @@ fn is_free(ledger: &SpaceLedger, space: u16, from: u64, n: u32) -> bool
 
 // Maps 16 pages of space 1, of which no page awaits, on the zero frame.
 fn map_zeros(rt: &impl Abort, ledger: &mut SpaceLedger) -> Result<(), Fail>
-    requires { NoneAwaits ledger.old }
-    ensures { OnOk result (NoneAwaits ledger.new) }
+    requires { (q : ℕ) → (space_in ledger.old q).awaiting ≡ map.empty }
+    ensures { OnOk result ((q : ℕ) → (space_in ledger.new q).awaiting ≡ map.empty) }
 {
     assert!(rt; ledger.has_space(1));
     assert!(rt; ledger.pages(1) < 1000 && is_free(ledger, 1, 100, 16));
@@ -32,7 +33,7 @@ fn map_zeros(rt: &impl Abort, ledger: &mut SpaceLedger) -> Result<(), Fail>
 
 // They are there, and a copy of the table has as many.
 fn assert_zeros(rt: &impl Abort, ledger: &SpaceLedger) -> Result<(), Fail>
-    requires { NoneAwaits ledger.now }
+    requires { (q : ℕ) → (space_in ledger.now q).awaiting ≡ map.empty }
 {
     assert!(rt; ledger.has_space(1));
     assert_eq!(rt; ledger.zeros_from(1, 100), 16);
