@@ -56,9 +56,10 @@ impl PageSet {
         bits_of(&self.rows, page / CHUNK_PAGES).has((page % CHUNK_PAGES) as u8)
     }
 
-    /// How many chunks have a member. Costs a step.
+    /// How many chunks have a member: at most as many as there is room for. Costs a step.
     pub fn chunks(&self) -> usize
-        ensures { result ≡ map.len self.now.chunks }
+        ensures count { result ≡ map.len self.now.chunks }
+        ensures few { result ≤ self.now.room }
     {
         self.rows.len()
     }
