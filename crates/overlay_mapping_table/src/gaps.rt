@@ -75,6 +75,7 @@ pub(crate) fn shift<T: Copy>(items: &mut Filled<T>, at: usize, to: usize, len: u
 }
 
 // Closes the gap: what is seen is what is written then.
+#[inline(never)]
 pub(crate) fn close<T: Copy>(items: &mut Filled<T>, rest: T, gap: Gap)
     requires { IsGapIn (length items.old) gap }
     ensures { items.new ≡ seen_slots items.old rest gap }

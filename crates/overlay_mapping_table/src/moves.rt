@@ -127,6 +127,7 @@ pub(crate) fn move_down(
 }
 
 // Closes the gap where nothing is written for an element.
+#[inline(always)]
 pub(crate) fn settle(
     names: &mut Filled<u64>,
     entries: &mut Filled<Entry>,

@@ -7,7 +7,22 @@ use crate::slots::Slots;
 use overlay_address::OverlayPage;
 
 // The slot in which a name stands, or else the place where it would stand, counted on from the number of slots.
+#[inline(always)]
 pub(crate) fn place_of(slots: &Slots, guesses: &Guesses, p: OverlayPage) -> Result<usize, usize>
+    requires { AreSound slots.now }
+    ensures there { IfOk result (IsThere slots.now p) }
+    ensures gap { IfErr result (IsGap slots.now p) }
+{
+    let slot = home(p, slots.len());
+    if slots.number_at(slot) == p.address(0) {
+        return Ok(slot);
+    }
+    search(slots, guesses, p)
+}
+
+// The same, of a name that seldom stands at its home.
+#[inline(never)]
+fn search(slots: &Slots, guesses: &Guesses, p: OverlayPage) -> Result<usize, usize>
     requires { AreSound slots.now }
     ensures there { IfOk result (IsThere slots.now p) }
     ensures gap { IfErr result (IsGap slots.now p) }

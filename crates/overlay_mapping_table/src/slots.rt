@@ -79,6 +79,7 @@ impl Slots {
     }
 
     // The entry in a slot. None exactly where it is empty.
+    #[inline(always)]
     pub fn entry_at(&self, at: usize) -> Option<Entry>
         requires { at < length self.now }
         ensures { result ≡ option_map (λ row. row.1) (get_or self.now at None) }
@@ -91,6 +92,7 @@ impl Slots {
     }
 
     // Writes a row into a slot.
+    #[inline(always)]
     pub fn put(&mut self, at: usize, p: OverlayPage, e: Entry)
         requires { at < length self.old }
         ensures { self.new ≡ slice_set self.old at (Some (p, e)) }

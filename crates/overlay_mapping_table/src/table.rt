@@ -70,6 +70,7 @@ impl MappingTable {
 
     /// The entry of an overlay. None exactly where it has none. Costs a few steps, and in a run of slots without an empty
     /// one the logarithm of its length and a step for each overlay with the same home.
+    #[inline]
     pub fn get(&self, p: OverlayPage) -> Option<Entry>
         ensures { result ≡ map.get self.now.entries p }
     {
@@ -83,6 +84,7 @@ impl MappingTable {
     /// is room for. Every other overlay keeps its entry. Takes no memory. Costs a look-up, and where it has none a step
     /// for each slot of the run in which it is put, at most: overlays that are put in one behind the other cost the slots
     /// between them.
+    #[inline]
     pub fn insert(&mut self, p: OverlayPage, e: Entry)
         requires room { HasRoomFor self.old p }
         ensures entries { self.new.entries ≡ map.insert self.old.entries p e }

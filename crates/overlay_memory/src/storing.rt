@@ -201,6 +201,7 @@ pub(crate) fn write_pages(
 
 /// Stores bytes, some and all in one line, of a page that was found, may be written and is at the front of its list, where the line
 /// can't be written where it stands: units first, then the line, then the bytes. No page is looked up unless the overlay grew.
+#[inline(always)]
 fn store_brought(
     pages: &mut OverlayPages,
     cache: &mut Cache,

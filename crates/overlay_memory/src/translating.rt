@@ -203,6 +203,7 @@ fn writes_frame(pages: &OverlayPages, space: u16, page: u64) -> bool
 
 /// Brings a line of a page that was found, which can't be written where it stands, as `bring_found` of pages does, and adds it to what
 /// the entry of the page holds.
+#[inline(always)]
 pub(crate) fn bring_line(
     pages: &mut OverlayPages,
     cache: &mut Cache,

@@ -157,6 +157,7 @@ fn begin_overlay(
 }
 
 /// A line comes into the overlay of a page, where there is a place for it. Answers its block.
+#[inline(always)]
 fn insert_line(
     store: &mut SegmentStore,
     ledger: &mut SpaceLedger,
@@ -236,6 +237,7 @@ fn begin_with(
 
 /// A line comes into the overlay of a page, which begins where there is none, and grows where it has no place for it. Answers its block
 /// where it doesn't grow.
+#[inline(always)]
 fn join(
     store: &mut SegmentStore,
     ledger: &mut SpaceLedger,
@@ -283,6 +285,7 @@ fn has_own(overlay: &Option<Entry>, line: u8) -> bool
 
 /// A line of a page that is to be written in its overlay is there: as the page's frame has it, where it wasn't there. Answers the block
 /// where it came and no other overlay moved.
+#[inline(always)]
 fn bring_line(
     store: &mut SegmentStore,
     ledger: &mut SpaceLedger,
@@ -313,6 +316,7 @@ fn bring_line(
 
 /// A line of a page that was found, which can't be written where it stands, comes into its overlay, as the page's frame has it. Answers
 /// the page as it is found then, where no other overlay moved.
+#[inline(always)]
 pub(crate) fn bring_found(
     store: &mut SegmentStore,
     ledger: &mut SpaceLedger,

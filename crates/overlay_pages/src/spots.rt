@@ -29,24 +29,24 @@ pub(crate) enum Spot {
 /// A line of a page, as it was found: with the permissions of the page, and with where the line stands.
 #[derive(Clone, Copy, Debug, PartialEq, Eq)]
 pub struct FoundLine {
-    pub space: u16,
     pub page: u64,
+    pub(crate) spot: Spot,
+    pub space: u16,
     pub line: u8,
     pub perms: Perms,
-    pub(crate) spot: Spot,
 }
 
 /// A page, as it was found, with all that an access to it has to know.
 #[derive(Clone, Copy, Debug, PartialEq, Eq)]
 pub struct FoundPage {
-    pub space: u16,
     pub page: u64,
-    pub perms: Perms,
-    pub frame: u32,
     /// its own lines
     pub own: Bits,
     // where they stand, where it has some
     pub(crate) block: Block,
+    pub frame: u32,
+    pub space: u16,
+    pub perms: Perms,
     // whether stores to it go into its frame
     pub(crate) in_frame: bool,
 }
@@ -85,6 +85,7 @@ impl FoundPage {
     }
 
     /// By how many units all pages rise where a line of it that can't be written where it stands is brought. Costs a step.
+    #[inline(always)]
     pub(crate) fn rise(&self) -> u32
         ensures rise { (view : MemoryView) (line : ℕ) → IsFoundPage view.table self.now → line < PAGE_LINES
             → is_writable (state_of view) self.now.space self.now.page line ≡ false
@@ -97,6 +98,7 @@ impl FoundPage {
     }
 
     /// Its overlay: none where it has no own lines.
+    #[inline(always)]
     pub(crate) fn overlay(&self) -> Option<Entry>
         ensures { (view : MemoryView) → IsJoined view → IsFoundPage view.table self.now
             → overlay_at view.table self.now.space self.now.page ≡ result }
@@ -112,6 +114,7 @@ impl FoundPage {
     }
 
     /// It with another line of its own, in an overlay at a block.
+    #[inline(always)]
     pub(crate) fn with(self, line: u8, block: Block) -> FoundPage
         requires { line < PAGE_LINES }
         ensures { result ≡ record {

@@ -220,6 +220,7 @@ impl Tables {
     }
 
     /// Gives a page that is there another overlay, or none, where it had one or none.
+    #[inline(always)]
     pub(crate) fn set_overlay(&mut self, space: u16, page: u64, had: bool, overlay: Option<Entry>)
         requires there { IsSome (page_in self.old space page) }
         requires had { had ≡ is_some (option_and_then (λ x. x.overlay) (page_in self.old space page)) }

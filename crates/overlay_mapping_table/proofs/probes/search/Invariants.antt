@@ -1,6 +1,6 @@
 use Rattle.std.proofs.Common.{◌-◌, ◌+◌, length}
 use Rattle.overlay_mapping_table.specs.Probes.{IsPast}
-use Rattle.overlay_mapping_table.proofs.probes.place_of.Given as goal
+use Rattle.overlay_mapping_table.proofs.probes.search.Given as goal
 
 abbrev pub invariant-probing : goal.invariant-probing
 invariant-probing l = IsPast (length l.slots) l.slots l.fn.p l.home l.place
