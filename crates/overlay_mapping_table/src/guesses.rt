@@ -55,6 +55,7 @@ impl Guesses {
     }
 
     // A row was put in or taken out at a place, and the rows behind it end at another one.
+    #[inline(never)]
     pub fn keep(&mut self, p: OverlayPage, place: usize, n: usize, end: usize)
         requires power { IsPowerOfTwo n }
         requires behind { n ≤ place }

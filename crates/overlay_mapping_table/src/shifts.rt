@@ -15,6 +15,7 @@ use overlay_address::OverlayPage;
 
 // Puts a row in at the place where its name would stand. Those from there up to the next empty slot go up by one.
 // Answers where all of these stand then.
+#[inline(never)]
 pub(crate) fn put_in(
     slots: &mut Slots,
     guesses: &Guesses,

@@ -84,7 +84,7 @@ impl MappingTable {
     /// is room for. Every other overlay keeps its entry. Takes no memory. Costs a look-up, and where it has none a step
     /// for each slot of the run in which it is put, at most: overlays that are put in one behind the other cost the slots
     /// between them.
-    #[inline]
+    #[inline(always)]
     pub fn insert(&mut self, p: OverlayPage, e: Entry)
         requires room { HasRoomFor self.old p }
         ensures entries { self.new.entries ≡ map.insert self.old.entries p e }

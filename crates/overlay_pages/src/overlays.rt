@@ -123,6 +123,7 @@ pub(crate) fn take_up(
 
 /// A page that is there and has no overlay gets one, for which there is room: with these lines of scratch, and with one line more.
 /// Answers its block.
+#[inline(never)]
 fn begin_overlay(
     store: &mut SegmentStore,
     ledger: &mut SpaceLedger,
@@ -186,6 +187,8 @@ fn insert_line(
 }
 
 /// A line comes into the overlay of a page, which grows for it: its old segment ends before the new one begins.
+#[cold]
+#[inline(never)]
 fn grow(
     store: &mut SegmentStore,
     ledger: &mut SpaceLedger,

@@ -465,7 +465,7 @@ impl OverlayPages {
 
     /// How many units there are once a line of a page that was found is brought, which can't be written where it stands. Costs a few
     /// steps.
-    #[inline]
+    #[inline(always)]
     pub fn units_with(&self, page: &FoundPage) -> u32
         requires found { IsFoundPage self.now.table page.now }
         ensures units { (line : ℕ) → line < PAGE_LINES
@@ -480,7 +480,7 @@ impl OverlayPages {
     /// needs are there. Answers the page as it is found then, and all other pages are found as before; or none where the overlay grew, so
     /// that others may have moved. Takes no memory. Costs an insertion and a copy of the line, and what `bring` costs where the overlay
     /// grows.
-    #[inline]
+    #[inline(always)]
     pub fn bring_found(&mut self, page: FoundPage, line: u8) -> Option<FoundPage>
         requires found { IsFoundPage self.old.table page }
         requires line { line < PAGE_LINES }

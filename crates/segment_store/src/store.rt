@@ -304,7 +304,7 @@ impl SegmentStore {
 
     /// Puts a line, which is below 64 and absent, into a segment, which has to be there with fewer lines than
     /// it has places. Below order 4 it goes into the lowest free slot. Costs a few steps.
-    #[inline]
+    #[inline(always)]
     pub fn insert(&mut self, block: Block, line: u8, bytes: &[u8; 64])
         requires there { IsSegment self.old block }
         requires line { line < PAGE_LINES }

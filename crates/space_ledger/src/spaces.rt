@@ -301,7 +301,7 @@ impl SpaceLedger {
 
     /// As `set_overlay`, where the overlay that the page has, or that it has none, is known. Takes no memory, and costs a look-up where
     /// there is one.
-    #[inline]
+    #[inline(always)]
     pub fn replace_overlay(
         &mut self,
         space: u16,
