@@ -28,7 +28,7 @@ fn share_bare(store: &SegmentStore, ledger: &mut SpaceLedger, from: u16, to: u16
     ensures state { state_of (view_of store.now ledger.new)
         ≡ with_shared (state_of (view_of store.now ledger.old)) from to page }
 {
-    ledger.share_page(from, to, page, None, None);
+    ledger.share_found(from, to, page, None, None);
 }
 
 /// A page that awaits in a space, and has an overlay where it is shared from, is shared with a copy of the overlay.
@@ -52,7 +52,7 @@ fn share_overlaid(
         ≡ with_shared (state_of (view_of store.old ledger.old)) from to page }
 {
     let block = store.copy_segment(overlay.block, OverlayPage::of(to, page));
-    ledger.share_page(from, to, page, Some(overlay), Some(block));
+    ledger.share_found(from, to, page, Some(overlay), Some(block));
 }
 
 /// A page that awaits in a space as the least, with the frame that it has where it is shared from, is shared.

@@ -449,9 +449,26 @@ impl SpaceLedger {
     }
 
     /// Shares the page of a space with another one, where it awaits as the least and has the frame that it has in the first: it
-    /// gets its origin and its own lines there, and keeps the permissions of the table that was adopted. Its overlay there is given,
-    /// and a block exactly where it has one; fewer than 16 pages for each frame are overlaid then. Takes no memory, and costs a look-up.
-    pub fn share_page(
+    /// gets its origin and its own lines there, and keeps the permissions of the table that was adopted. A block is given exactly
+    /// where it has own lines, and fewer than 16 pages for each frame are overlaid then. Takes no memory, and costs a look-up.
+    pub fn share_page(&mut self, from: u16, to: u16, page: u64, block: Option<Block>)
+        requires there { IsSome (page_in self.old from page) }
+        requires space { holds_space self.old to ≡ true }
+        requires least { IsLeast (space_in self.old to).awaiting page }
+        requires frame { frame_awaiting self.old to page ≡ frame_at self.old from page }
+        requires block { is_some block ≡ is_some (overlay_at self.old from page) }
+        requires room { IfSome block (λ b. HasSpare self.old) }
+        ensures shared { self.new ≡ with_page_shared self.old from to page block }
+        ensures same { held_at self.new to page ≡ held_at self.old from page }
+        ensures absent { page_in self.old to page ≡ None }
+    {
+        let overlay = self.tables.overlay(from, page);
+        self.share_found(from, to, page, overlay, block);
+    }
+
+    /// As `share_page`, where the overlay that the page has, or that it has none, is known. Takes no memory, and costs a step, and an
+    /// insertion where there is one.
+    pub fn share_found(
         &mut self,
         from: u16,
         to: u16,

@@ -1,8 +1,8 @@
 use Rattle.space_ledger.proofs.Common.{◌≡◌, ◌+◌, ◌<◌, Some, sym, ap, subst, subst₂, ◌∙◌, is_some}
 use Rattle.space_ledger.proofs.Views.{holding_at, holds_space, page_in, LedgerView, PageView, frame_at, frame_awaiting, ledger_of, overlay_at, with_page_shared, IsBooked}
 use Rattle.space_ledger.proofs.LedgerCalls.{shared_call, shared_frame, shared_holding, shared_view}
-use Rattle.space_ledger.proofs.spaces.SpaceLedger.share_page.Goals as goal
-use Rattle.space_ledger.proofs.spaces.SpaceLedger.share_page.Goals.{After-share-entry}
+use Rattle.space_ledger.proofs.spaces.SpaceLedger.share_found.Goals as goal
+use Rattle.space_ledger.proofs.spaces.SpaceLedger.share_found.Goals.{After-share-entry}
 
 -- the page that is shared, and the frame that it awaits with
 from_page : (c : After-share-entry) → (x : PageView) × (page_in c.self.inside.tables c.args.from c.args.page ≡ Some x) × (c.share-entry.result.frame ≡ x.entry.frame)
