@@ -8,3 +8,4 @@ pub mod Forms
 pub mod FormLaws
 pub mod Script
 pub mod Given
+pub mod Limits

@@ -1,0 +1,7 @@
+use Rattle.std.specs.Prelude.{◌≡◌, refl}
+use Rattle.command_core.specs.declared.TheConstants.{WORD_BYTES}
+
+-- Bytes of an instruction as a number: RISC-V Unprivileged ISA, 1.5, Base Instruction-Length Encoding.
+
+pub word_bytes_is : WORD_BYTES ≡ 4
+word_bytes_is = refl
