@@ -1,7 +1,7 @@
-use Rattle.std.proofs.Common.{◌≡◌, ℕ, ◌+◌, ◌*◌, ◌/◌, ◌%◌, ◌<◌, ◌≤◌, ◌⊎◌, inl, inr, ◌||◌, Bool, true, false, cond, List, [], ◌∷◌, length, get_or, Option, Some, None, replicate, slice_set, sym, ap, ◌∙◌, refl, arith}
+use Rattle.std.proofs.Common.{◌≡◌, ℕ, ◌+◌, ◌*◌, ◌/◌, ◌%◌, ◌<◌, ◌≤◌, ◌⊎◌, inl, inr, ◌||◌, Bool, true, false, cond, List, [], get_or, Option, Some, None, slice_set, sym, ap, ◌∙◌, refl, arith}
 use Rattle.std.specs.Prelude.{nat_eq, IfSome}
 use Rattle.std.proofs.lemmas.Bool.{cases_eq, eq-eqb, eqb-true}
-use Rattle.std.proofs.lemmas.List.{get_or-set_other, get_or-set_same, length-replicate, length-set}
+use Rattle.std.proofs.lemmas.List.{get_or-set_other, get_or-set_same, length-set}
 use Rattle.std.specs.List.{list_any}
 use Rattle.std.specs.Ordering.{nat_cmp}
 use Rattle.std.specs.FinSet.{contains, from_list}
@@ -75,16 +75,3 @@ module _ (old new : List ℕ) (marks : List (List ℕ)) (a : ℕ) (are : AreMark
 
   pub marked_more : AreMarked new next
   marked_more = record { count = length-set marks (piece_of a) (with_line (piece_marks marks a) (word_place a)) ∙ are.count; each = each }
-
--- one less needs no other marks, and none needs none
-pub marked_less : (old new : List ℕ) (marks : List (List ℕ)) (a : ℕ) → AreMarked old marks
-    → ((q : ℕ) → list_any (nat_eq q) new ≡ cond (nat_eq a q) false (list_any (nat_eq q) old)) → AreMarked new marks
-marked_less old new marks a are has = record { count = are.count; each = λ q there. are.each q (by_test q (nat_eq a q) (sym (has q) ∙ there)) }
-  where
-    by_test : (q : ℕ) (b : Bool) → cond b false (list_any (nat_eq q) old) ≡ true → list_any (nat_eq q) old ≡ true
-    by_test q true is = cc
-    by_test q false is = is
-
-pub none_unmarked : (ks : List ℕ) → length ks ≡ 0 → AreMarked ks (replicate MARKED_PIECES [])
-none_unmarked [] none = record { count = length-replicate {A = List ℕ} MARKED_PIECES []; each = λ q there. absurd (let both : false ≡ true = there in cc) }
-none_unmarked (k ∷ ks) none = absurd (omega (arith, none))

@@ -23,4 +23,4 @@ pub mod LikeLaws
 pub mod Ample
 pub mod Unbounded
 pub mod UnboundedLaws
-pub mod Limits
+pub mod Examples

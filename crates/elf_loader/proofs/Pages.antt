@@ -7,7 +7,7 @@ use Rattle.std.proofs.lemmas.List.Kept.{IsNonDecreasingBy-filter}
 use Rattle.std.proofs.lemmas.List.FromFn.{length-map-range_with_len, get_or-map-range_with_len, length-range_with_len, get_or-range_with_len}
 use Rattle.std.proofs.lemmas.List.Elements.{All-filter}
 use Rattle.elf_loader.specs.Fields.{loads_of}
-use Rattle.elf_loader.specs.Image.{page_numbers, page_length, image_pages, page_bytes, byte_in, listed_page, page_given, pages_in, touches_memory, Kept, IsImageOf}
+use Rattle.elf_loader.specs.Image.{page_numbers, page_length, image_pages, page_bytes, byte_in, listed_page, page_given, pages_in, touches_memory, KeptImage, IsImageOf}
 use Rattle.elf_loader.specs.Layers.{AreAscending, page_number, number_of, no_page}
 use Rattle.elf_loader.specs.declared.header.ProgramHeader.{ProgramHeader}
 use Rattle.elf_loader.specs.declared.image.ImagePage.{ImagePage}
@@ -43,7 +43,7 @@ below_all k d below =
     subst (λ n. n < page_numbers) (sym (get_or-range_with_len 0 page_numbers k d within)) (omega arith)
 
 -- a page of the image has a page number
-pub page_below : (file : List ℕ) (image : Kept) (page : ℕ) → IsImageOf file image → Contains (map (λ p. p.page) image.pages) page → page < page_numbers
+pub page_below : (file : List ℕ) (image : KeptImage) (page : ℕ) → IsImageOf file image → Contains (map (λ p. p.page) image.pages) page → page < page_numbers
 unfolding image_pages
 page_below file image page is there =
     let same = ap (map (λ p. p.page)) is.pages ∙ numbers_of file (image_pages file) in
@@ -78,7 +78,7 @@ ascending_in headers =
 pub ascending : (headers : List ProgramHeader) (pages : List ImagePage) → pages ≡ map (page_given headers) (pages_in headers) → AreAscending pages
 ascending headers pages is = subst AreAscending (sym is) (ascending_in headers)
 
-pub ascending_of : (file : List ℕ) (image : Kept) → IsImageOf file image → AreAscending image.pages
+pub ascending_of : (file : List ℕ) (image : KeptImage) → IsImageOf file image → AreAscending image.pages
 unfolding image_pages
 ascending_of file image is = ascending (loads_of file) image.pages is.pages
 
@@ -105,7 +105,7 @@ place_is pages page place ascending below others there =
     ]
 
 -- the same, of the pages that are kept
-pub place_in : (file : List ℕ) (image : Kept) (pages : List ImagePage) (page place : ℕ) → IsImageOf file image → pages ≡ image.pages
+pub place_in : (file : List ℕ) (image : KeptImage) (pages : List ImagePage) (page place : ℕ) → IsImageOf file image → pages ≡ image.pages
     → ((p : ℕ) → p < place → number_of pages p < page)
     → ((p : ℕ) → place ≤ p → p < length pages → page ≤ number_of pages p)
     → Contains (map (λ p. p.page) image.pages) page → IsPlaceOf image.pages page place

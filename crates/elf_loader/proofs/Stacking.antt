@@ -1,12 +1,11 @@
-use Rattle.std.proofs.Common.{◌≡◌, ℕ, ◌+◌, ◌-◌, ◌*◌, ◌/◌, ◌<◌, ◌≤◌, Bool, true, false, cond, ◌&&◌, leb, ltb, List, [], ◌∷◌, ◌++◌, length, drop, get_or, set, sym, ap, subst, ◌∙◌, refl, ◌≢◌, ◌⊎◌, arith, Option, Some, None, IsSome, inl, inr, Result, Ok, Err, OnOk, below_more}
+use Rattle.std.proofs.Common.{◌≡◌, ℕ, ◌+◌, ◌<◌, ◌≤◌, Bool, true, false, cond, List, [], ◌∷◌, ◌++◌, length, drop, get_or, set, sym, ap, subst, ◌∙◌, refl, ◌≢◌, ◌⊎◌, arith, Option, Some, None, IsSome, inl, inr, Result, Ok, Err, OnOk}
 use Rattle.std.specs.Option.{option_map_or}
 use Rattle.std.specs.Global.{Vec}
 use Rattle.std.proofs.lemmas.Bool.{cases_lt, cases_eq}
-use Rattle.std.proofs.lemmas.Bool.Decides.{nat_tests}
-use Rattle.std.proofs.lemmas.List.{drop_more, drop_all, map_push, length_push, get_or_push, get_or_append_left, map-set, get_or-map, get_or-set_same, length-map}
+use Rattle.std.proofs.lemmas.List.{drop_more, map-set, get_or-map, get_or-set_same, length-map}
 use Rattle.std.proofs.lemmas.List.Elements.{All-cons, All-nil, All-append}
 use Rattle.elf_loader.specs.Image.{file_holds, fills, last_holding}
-use Rattle.elf_loader.specs.Layers.{last_among, no_header, Layered, IsApart, Skips, Starts, IsLaid, HasLayers, number_of, items_of}
+use Rattle.elf_loader.specs.Layers.{last_among, no_header, Layered, IsOutsidePage, Skips, IsLaid, HasLayers, number_of, items_of}
 use Rattle.elf_loader.specs.declared.header.ProgramHeader.{ProgramHeader}
 use Rattle.elf_loader.specs.declared.image.ImagePage.{ImagePage}
 use Rattle.elf_loader.proofs.Pages.{IsPlaceOf}
@@ -75,7 +74,7 @@ none_there None = refl
 
 -- a page of which the segment holds no address stays as it is
 pub layered_apart : (loads : List ProgramHeader) (k page : ℕ) (places : List ℕ) (is_full : Bool) → k < length loads
-    → IsApart (get_or loads k no_header) page
+    → IsOutsidePage (get_or loads k no_header) page
     → Layered loads (k + 1) page places is_full → Layered loads k page places is_full
 layered_apart loads k page places is_full within apart layered = record {
   there = layered.there;
@@ -99,16 +98,6 @@ pub read_item : (layers : List (Vec ℕ)) (at : ℕ) (v : Vec ℕ) → at < leng
     → v.items ≡ get_or (items_of layers) at []
 read_item layers at v within is = ap (λ x. x.items) is ∙ sym (get_or-map (λ x. x.items) layers at v [] (omega (arith, length-map layers (λ x. x.items))))
 
--- what is full stays full, and so are the places between
-pub skips_stay : (old new : List Bool) (next : List ℕ) → Skips old next → length new ≡ length old
-    → ((p : ℕ) → get_or old p false ≡ true → get_or new p false ≡ true) → Skips new next
-skips_stay old new next skips as_many stays = record {
-  as_many = skips.as_many ∙ sym as_many;
-  rises = skips.rises;
-  within = skips.within;
-  between = λ p q within above below. stays q (skips.between p q within above below);
-}
-
 -- How far the laying of a segment between two places has come: up to a place the pages have it, and the others don't.
 pub record Comes (loads : List ProgramHeader) (pages : List ImagePage) (load from at : ℕ) (layers : List (List ℕ)) (full : List Bool) (next : List ℕ) : Type 0 where
   pub begun : from ≤ at
@@ -117,17 +106,6 @@ pub record Comes (loads : List ProgramHeader) (pages : List ImagePage) (load fro
   pub done : (p : ℕ) → p < length pages → from ≤ p → p < at → Layered loads load (number_of pages p) (get_or layers p []) (get_or full p false)
   pub waits : (p : ℕ) → p < length pages → (p < from) ⊎ (at ≤ p) → Layered loads (load + 1) (number_of pages p) (get_or layers p []) (get_or full p false)
   pub skips : Skips full next
-
-pub comes_first : (loads : List ProgramHeader) (pages : List ImagePage) (load from : ℕ) (layers : List (Vec ℕ)) (full : List Bool) (next : List ℕ)
-    → IsLaid loads pages (load + 1) layers full next → Comes loads pages load from from (items_of layers) full next
-comes_first loads pages load from layers full next stands = record {
-  begun = omega arith;
-  as_many = stands.as_many;
-  marked = stands.marked;
-  done = λ p within low high. absurd (omega arith);
-  waits = λ p within apart. stands.layered p within;
-  skips = stands.skips;
-}
 
 same_layered : (loads : List ProgramHeader) (from page : ℕ) (old new : List ℕ) (was is : Bool) → new ≡ old → is ≡ was
     → Layered loads from page old was → Layered loads from page new is
@@ -173,7 +151,7 @@ comes_more loads pages load from at on old new was full next after is_load comes
 -- the others have none of its addresses
 pub comes_last : (loads : List ProgramHeader) (pages : List ImagePage) (load from at to : ℕ) (layers : List (Vec ℕ)) (full : List Bool) (next : List ℕ)
     → load < length loads → to ≤ at
-    → ((p : ℕ) → p < length pages → (p < from) ⊎ (to ≤ p) → IsApart (get_or loads load no_header) (number_of pages p))
+    → ((p : ℕ) → p < length pages → (p < from) ⊎ (to ≤ p) → IsOutsidePage (get_or loads load no_header) (number_of pages p))
     → Comes loads pages load from at (items_of layers) full next → IsLaid loads pages load layers full next
 comes_last loads pages load from at to layers full next is_load past apart comes = record {
   as_many = comes.as_many;
@@ -187,15 +165,6 @@ comes_last loads pages load from at to layers full next is_load past apart comes
   ];
   skips = comes.skips;
 }
-
--- a segment holds no address of the pages before its first one, nor of those behind its last one
-pub apart_before : (address size page : ℕ) → page < address / 4096
-    → (a : ℕ) → 4096 * page ≤ a → a < 4096 * page + 4096 → (leb address a && ltb a (address + size)) ≡ false
-apart_before address size page before a low high = grind (arith, nat_tests)
-
-pub apart_behind : (address size page : ℕ) → cond (ltb 0 size) ((address + size - 1) / 4096 + 1) 0 ≤ page
-    → (a : ℕ) → 4096 * page ≤ a → a < 4096 * page + 4096 → (leb address a && ltb a (address + size)) ≡ false
-apart_behind address size page behind a low high = grind (arith, nat_tests)
 
 pub both_ok : {T E P Q R : Type 0} (r : Result T E) → OnOk r P → OnOk r Q → (P → Q → R) → OnOk r R
 both_ok (Ok x) p q f = f p q
@@ -213,55 +182,7 @@ layered_put loads k page at old new was is fills_it within inside marked by laye
     (ap (λ xs. get_or xs at false) marks ∙ get_or-set_same was at fills_it false marked ∙ by)
     (layered_more loads k page (get_or old at []) (get_or was at false) within layered)
 
-pub starts_none : Starts 0 [] [] []
-starts_none = record {
-  as_many = refl;
-  marked = refl;
-  follow = refl;
-  none = λ p h. absurd (omega arith);
-  empty = λ p h. absurd (omega arith);
-  on = λ p h. absurd (omega arith);
-}
-
-pub starts_more : (n : ℕ) (layers : List (Vec ℕ)) (v : Vec ℕ) (full : List Bool) (next : List ℕ) → Starts n layers full next → v.items ≡ []
-    → Starts (n + 1) (layers ++ v ∷ []) (full ++ false ∷ []) (next ++ (n + 1) ∷ [])
-starts_more n layers v full next starts empty =
-    let pushed = map_push (λ x. x.items) layers v in
-    record {
-      as_many = ap length pushed ∙ length_push (items_of layers) v.items ∙ omega (arith, starts.as_many);
-      marked = length_push full false ∙ omega (arith, starts.marked);
-      follow = length_push next (n + 1) ∙ omega (arith, starts.follow);
-      none = below_more _ _ (λ p h. ap (λ xs. get_or xs p []) pushed ∙ get_or_append_left (items_of layers) (v.items ∷ []) [] p (omega (arith, starts.as_many)) ∙ starts.none p h)
-          (ap (λ xs. get_or xs n []) pushed ∙ get_or_push (items_of layers) v.items [] n starts.as_many ∙ empty);
-      empty = below_more _ _ (λ p h. get_or_append_left full (false ∷ []) false p (omega (arith, starts.marked)) ∙ starts.empty p h)
-          (get_or_push full false false n starts.marked);
-      on = below_more _ _ (λ p h. get_or_append_left next ((n + 1) ∷ []) 0 p (omega (arith, starts.follow)) ∙ starts.on p h)
-          (get_or_push next (n + 1) 0 n starts.follow);
-    }
-
-none_layered : (loads : List ProgramHeader) (page : ℕ) → Layered loads (length loads) page [] false
-none_layered loads page = record {
-  there = All-nil (λ place. place < length loads);
-  same = λ a low high. sym (ap (λ hs. last_holding hs a) (drop_all (length loads) loads (omega arith)));
-  gives = λ full a low high. cc;
-}
-
--- before the first segment
-pub stands_none : (loads : List ProgramHeader) (pages : List ImagePage) (layers : List (Vec ℕ)) (full : List Bool) (next : List ℕ)
-    → Starts (length pages) layers full next → IsLaid loads pages (length loads) layers full next
-stands_none loads pages layers full next starts = record {
-  as_many = starts.as_many;
-  marked = starts.marked;
-  layered = λ p within. same_layered loads (length loads) (number_of pages p) [] _ false _ (starts.none p within) (starts.empty p within) (none_layered loads (number_of pages p));
-  skips = record {
-    as_many = starts.follow ∙ sym starts.marked;
-    rises = λ p h. omega (arith, starts.on p (omega (arith, starts.follow)));
-    within = λ p h. omega (arith, starts.follow, starts.on p (omega (arith, starts.follow)));
-    between = λ p q h above below. absurd (omega (arith, starts.on p (omega (arith, starts.follow))));
-  };
-}
-
--- behind the last
+-- behind the last segment
 pub stands_all : (loads : List ProgramHeader) (pages : List ImagePage) (layers : List (Vec ℕ)) (full : List Bool) (next : List ℕ)
     → IsLaid loads pages 0 layers full next → HasLayers loads pages layers
 stands_all loads pages layers full next stands = record {

@@ -7,7 +7,7 @@ use Rattle.std.proofs.lemmas.List.Elements.{All-nil, All-cons}
 use Rattle.sizes.specs.declared.TheConstants.{MOST_IMAGE_PAGES, STACK_ADDRESS}
 use Rattle.elf_loader.specs.Fields.{table_offset, table_length, loads_of}
 use Rattle.elf_loader.specs.Accepted.{Refusal, first_error, file_refusal, header_refusals, table_refusals, page_refusals, has_table_outside, HasTable, is_larger_in_file, is_outside_file, is_too_high}
-use Rattle.elf_loader.specs.Image.{pages_in, image_pages, page_given, listed_page, Kept, ReadsImage}
+use Rattle.elf_loader.specs.Image.{pages_in, image_pages, page_given, listed_page, KeptImage, ReadsImage}
 use Rattle.elf_loader.specs.Reach.{IsBelowStack, Lies, IsTooMany}
 use Rattle.elf_loader.specs.declared.header.ProgramHeader.{ProgramHeader}
 use Rattle.elf_loader.specs.declared.image.ElfError.{ElfError}
@@ -123,7 +123,7 @@ pub reads_error : (file : List ℕ) (e : ElfError) → file_refusal file ≡ Som
 reads_error file Memory h = tt
 reads_error file e h = h
 
-pub reads_err : (file : List ℕ) (r : Result Kept ElfError) (e : ElfError) → IsErr r × IsErrAnd r (λ x. x ≡ e) → ReadsImage file (Err e) → ReadsImage file r
+pub reads_err : (file : List ℕ) (r : Result KeptImage ElfError) (e : ElfError) → IsErr r × IsErrAnd r (λ x. x ≡ e) → ReadsImage file (Err e) → ReadsImage file r
 reads_err file (Ok image) e is reads = let no_error = is.0 in cc
 reads_err file (Err x) e is reads = subst (λ x. ReadsImage file (Err x)) (sym is.1) reads
 

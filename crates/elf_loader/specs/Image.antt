@@ -63,7 +63,7 @@ is_stored file page = list_any (touches_file page) (loads_of file)
 
 -- What an `Image` keeps: the entry, the pages in ascending order with their permissions and marks, and
 -- the headers of the segments.
-pub record Kept : Type 0 where
+pub record KeptImage : Type 0 where
   pub entry : ℕ
   pub pages : List ImagePage
   pub loads : List ProgramHeader
@@ -84,7 +84,7 @@ abbrev pub listed_page : List ℕ → ℕ → ImagePage
 listed_page file page = page_given (loads_of file) page
 
 -- what is kept is the image of a file
-pub record IsImageOf (file : List ℕ) (image : Kept) : Type 0 where
+pub record IsImageOf (file : List ℕ) (image : KeptImage) : Type 0 where
   pub taken : file_refusal file ≡ None
   pub entry : image.entry ≡ entry_address file
   pub pages : image.pages ≡ map (listed_page file) (image_pages file)
@@ -92,7 +92,7 @@ pub record IsImageOf (file : List ℕ) (image : Kept) : Type 0 where
 
 -- What reading a file gives: its image where it is taken, else the first refusal that holds, unless
 -- there is no memory.
-abbrev pub ReadsImage : List ℕ → Result Kept ElfError → Type 0
+abbrev pub ReadsImage : List ℕ → Result KeptImage ElfError → Type 0
 ReadsImage file (Ok image) = IsImageOf file image
 ReadsImage file (Err Memory) = Unit {0}
 ReadsImage file (Err error) = file_refusal file ≡ Some error

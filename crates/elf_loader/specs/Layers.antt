@@ -29,8 +29,8 @@ pub record Layered (loads : List ProgramHeader) (from page : ℕ) (places : List
   pub gives : is_full ≡ true → (a : ℕ) → PAGE_BYTES * page ≤ a → a < PAGE_BYTES * page + PAGE_BYTES → IsSome (last_among loads places a)
 
 -- a segment holds no address of a page
-abbrev pub IsApart : ProgramHeader → ℕ → Type 0
-IsApart header page = (a : ℕ) → PAGE_BYTES * page ≤ a → a < PAGE_BYTES * page + PAGE_BYTES → file_holds header a ≡ false
+abbrev pub IsOutsidePage : ProgramHeader → ℕ → Type 0
+IsOutsidePage header page = (a : ℕ) → PAGE_BYTES * page ≤ a → a < PAGE_BYTES * page + PAGE_BYTES → file_holds header a ≡ false
 
 -- no page, where a list is read past its end
 abbrev pub no_page : ImagePage
@@ -71,7 +71,7 @@ pub record IsLaid (loads : List ProgramHeader) (pages : List ImagePage) (from : 
   pub skips : Skips full next
 
 -- So many pages before any segment: none has a place, none is full, and each is followed by the next.
-pub record Starts (count : ℕ) (layers : List (Vec ℕ)) (full : List Bool) (next : List ℕ) : Type 0 where
+pub record AreUnfilled (count : ℕ) (layers : List (Vec ℕ)) (full : List Bool) (next : List ℕ) : Type 0 where
   pub as_many : length (items_of layers) ≡ count
   pub marked : length full ≡ count
   pub follow : length next ≡ count
@@ -81,8 +81,8 @@ pub record Starts (count : ℕ) (layers : List (Vec ℕ)) (full : List Bool) (ne
 
 -- The same of a stack.
 
-abbrev pub HasStarted : ℕ → Stack → Type 0
-HasStarted count stack = Starts count stack.layers.items stack.full.items stack.next.items
+abbrev pub IsUnfilled : ℕ → Stack → Type 0
+IsUnfilled count stack = AreUnfilled count stack.layers.items stack.full.items stack.next.items
 
 abbrev pub IsStack : List ProgramHeader → List ImagePage → ℕ → Stack → Type 0
 IsStack loads pages from stack = IsLaid loads pages from stack.layers.items stack.full.items stack.next.items
@@ -109,7 +109,7 @@ StaysFull old new = (p : ℕ) → get_or old.full.items p false ≡ true → get
 
 -- a segment holds no address of the pages outside these places
 abbrev pub LiesWithin : ProgramHeader → List ImagePage → ℕ → ℕ → Type 0
-LiesWithin header pages from to = (p : ℕ) → p < length pages → (p < from) ⊎ (to ≤ p) → IsApart header (number_of pages p)
+LiesWithin header pages from to = (p : ℕ) → p < length pages → (p < from) ⊎ (to ≤ p) → IsOutsidePage header (number_of pages p)
 
 -- lists of places with one place more in one of them
 abbrev pub one_layer_more : List (List ℕ) → ℕ → ℕ → List (List ℕ)

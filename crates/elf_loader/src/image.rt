@@ -67,9 +67,9 @@ pub struct Image {
 }
 
 impl Model for Image {
-    ghost use Rattle.elf_loader.specs.Image.{Kept};
+    ghost use Rattle.elf_loader.specs.Image.{KeptImage};
 
-    ghost Value = { Kept };
+    ghost Value = { KeptImage };
 
     ghost view = { λ i. record { entry = i.entry; pages = i.pages.items; loads = i.loads.items } };
 

@@ -1,7 +1,7 @@
 ghost use Rattle.std.specs.Prelude.{◌≡◌, ℕ, ◌+◌, ◌<◌, ◌≤◌, true, false, length, get_or, slice_set, IfOk, OnOk, All};
 ghost use Rattle.elf_loader.specs.Touched.{page_numbers};
 ghost use Rattle.elf_loader.specs.Reach.{IsBelowStack, Lies};
-ghost use Rattle.elf_loader.specs.Layers.{AreAscending, AreBytesOf, HasLayers, HasStarted, IsLayeredAt, IsStack, LiesWithin, Layered, LeavesOthers, Skips, StaysFull, items_of, no_header, number_of, one_layer_more};
+ghost use Rattle.elf_loader.specs.Layers.{AreAscending, AreBytesOf, HasLayers, IsUnfilled, IsLayeredAt, IsStack, LiesWithin, Layered, LeavesOthers, Skips, StaysFull, items_of, no_header, number_of, one_layer_more};
 
 use crate::header::ProgramHeader;
 use crate::image::ImagePage;
@@ -68,7 +68,7 @@ struct Stack {
 impl Stack {
     /// So many pages without a segment.
     fn of_none(alloc: Global, count: usize) -> Result<Stack, AllocError>
-        ensures { IfOk result (HasStarted count) }
+        ensures { IfOk result (IsUnfilled count) }
     {
         let mut layers = Vec::new(alloc);
         let mut full = Vec::new(alloc);

@@ -10,7 +10,7 @@ use Rattle.ledger.specs.Units.{class, own_lines, tally, units, units_of}
 use Rattle.ledger.specs.Alike.{AreAlike, have_one_origin}
 use Rattle.ledger.specs.PlaceLaws.{page_cut, page_is, pages_put, pages_beside, pages_dropped, pages_kept, put_again, gone_here, gone_other, by_place, no_page}
 use Rattle.ledger.specs.UnitLaws.{frame_for, units_at, lines_at}
-use Rattle.ledger.specs.AloneLaws.{HasPage, are, arent, page_that, spaces_without}
+use Rattle.ledger.specs.AloneLaws.{HasSuchPage, are, arent, page_that, spaces_without}
 use Rattle.ledger.specs.AlikeLaws.{IsPair, alike_alone, alike_altered, pair_of}
 
 -- Pages and spaces taken away, put in and copied on both sides, and the units of alike ledgers.
@@ -136,7 +136,7 @@ record SameCounts (a b : Ledger) : Type 0 where
   units_same : units a ≡ units b
   lines_same : own_lines a ≡ own_lines b
 
-pub some_page : (l : Ledger) (xs : List Holding) → all_holdings l ≡ xs → (xs ≡ [] → ⊥) → HasPage l (λ x. true)
+pub some_page : (l : Ledger) (xs : List Holding) → all_holdings l ≡ xs → (xs ≡ [] → ⊥) → HasSuchPage l (λ x. true)
 some_page l [] is some = absurd (some refl)
 some_page l (x ∷ xs) is some = page_that l (λ x. true) (ap (list_any (λ (x : Holding). true)) is)
 
@@ -155,12 +155,12 @@ counts zero a b is alike = none (all_holdings a) refl (all_holdings b) refl
     none [] ax [] by = record { units_same = unit_of a b ax by; lines_same = lines_of a b ax by }
     none (x ∷ xs) ax ys by = let long = sym is ∙ ap length ax in absurd (omega (arith, long))
     none [] ax (y ∷ ys) by =
-        let found : HasPage b (λ x. true) = some_page b (y ∷ ys) by (λ e. let long = ap length e in absurd (omega (arith, long))) in
+        let found : HasSuchPage b (λ x. true) = some_page b (y ∷ ys) by (λ e. let long = ap length e in absurd (omega (arith, long))) in
         let back : IsPair b a found.space found.page found.holding = pair_of b a found.space found.page found.holding (alike_altered a b alike) found.there in
         let less = pages_less a found.space found.page back.other back.there in
         absurd (omega (arith, less, is))
 counts (suc n) a b is alike =
-    let found : HasPage a (λ x. true) = some_page a (all_holdings a) refl (λ e. let short = ap length e in absurd (omega (arith, short, is))) in
+    let found : HasSuchPage a (λ x. true) = some_page a (all_holdings a) refl (λ e. let short = ap length e in absurd (omega (arith, short, is))) in
     let s = found.space in
     let p = found.page in
     let pair : IsPair a b s p found.holding = pair_of a b s p found.holding alike found.there in

@@ -14,7 +14,7 @@ use Rattle.ledger.specs.UnitLaws.{alone_is}
 -- Which pages there are with an origin, and when a page is alone.
 
 -- a page at a place that passes a test
-pub record HasPage (ledger : Ledger) (test : Holding → Bool) : Type 0 where
+pub record HasSuchPage (ledger : Ledger) (test : Holding → Bool) : Type 0 where
   pub space : ℕ
   pub page : ℕ
   pub holding : Holding
@@ -28,7 +28,7 @@ any_in_spaces test (space ∷ spaces) =
     list_any-append test (values space) (flat_map (λ (space : Space). values space) spaces) ∙ ap (λ b. list_any test (values space) || b) (any_in_spaces test spaces)
 
 -- where some page passes a test, there is one at a place
-pub page_that : (ledger : Ledger) (test : Holding → Bool) → list_any test (all_holdings ledger) ≡ true → HasPage ledger test
+pub page_that : (ledger : Ledger) (test : Holding → Bool) → list_any test (all_holdings ledger) ≡ true → HasSuchPage ledger test
 unfolding all_holdings
 page_that ledger test some =
     let outer : HasValue ledger (λ (space : Space). list_any test (values space)) = any_at (λ (space : Space). list_any test (values space)) ledger (sym (any_in_spaces test (values ledger)) ∙ some) in
@@ -73,7 +73,7 @@ unfolding has_origin
 origin_of ledger space page x there = any_page (λ holding. holding.origin == x.origin) ledger space page x there (grind (arith, nat_tests))
 
 -- the same page in a ledger without another
-pub holder : (ledger : Ledger) (origin : ℕ) → has_origin ledger origin ≡ true → HasPage ledger (λ holding. holding.origin == origin)
+pub holder : (ledger : Ledger) (origin : ℕ) → has_origin ledger origin ≡ true → HasSuchPage ledger (λ holding. holding.origin == origin)
 unfolding has_origin
 holder ledger origin had = page_that ledger (λ holding. holding.origin == origin) had
 
@@ -138,7 +138,7 @@ apart_alone ledger space page alone =
     let rest : Ledger = without_page ledger space page in
     alone_is ledger space page alone.holding alone.there
     ∙ unused_from rest alone.holding.origin alone.not_zero (not_true (has_origin rest alone.holding.origin) (λ had.
-    let found : HasPage rest (λ holding. holding.origin == alone.holding.origin) = holder rest alone.holding.origin had in
+    let found : HasSuchPage rest (λ holding. holding.origin == alone.holding.origin) = holder rest alone.holding.origin had in
     by_place space page found.space found.page
     (λ s p. let no = ap is_some (sym found.there ∙ gone_here ledger space page found.space found.page s p) in cc)
     (λ differs. let isnt = alone.others found.space found.page found.holding differs (sym (gone_other ledger space page found.space found.page differs) ∙ found.there) in
@@ -228,7 +228,7 @@ pub unused_without : (ledger : Ledger) (space page origin : ℕ) → is_unused l
 unused_without ledger space page origin unused =
     let parts = unused_parts ledger origin unused in
     unused_from (without_page ledger space page) origin parts.0 (not_true _ (λ had.
-    let found : HasPage (without_page ledger space page) (λ holding. holding.origin == origin) = holder (without_page ledger space page) origin had in
+    let found : HasSuchPage (without_page ledger space page) (λ holding. holding.origin == origin) = holder (without_page ledger space page) origin had in
     by_place space page found.space found.page
     (λ s p. let no = ap is_some (sym found.there ∙ gone_here ledger space page found.space found.page s p) in cc)
     (λ differs. contradicts ledger origin

@@ -83,8 +83,3 @@ new_is_unused ledger =
         by_end : (b : Bool) → nat_lt new (length (all_holdings ledger) + 1) ≡ b → has_origin ledger (q + 1) ≡ true
         by_end true h = let inside : new < 1 + length (all_holdings ledger) = grind (arith, nat_tests) in let no = sym had ∙ least.hit inside in cc
         by_end false h = least.had (q + 1) (omega arith) (grind (arith, nat_tests))
-
--- each number above 0 below it is some page's origin
-pub had_below_new : (ledger : Ledger) (k : ℕ) → 0 < k → k < new_origin ledger → has_origin ledger k ≡ true
-unfolding new_origin
-had_below_new ledger k above below = (least_is ledger 1 (length (all_holdings ledger))).had k (omega arith) below

@@ -99,12 +99,6 @@ put_spaces ledger space page holding q there = by_key q space
     (λ same. ap is_some (get_same ledger space q (insert (pages_of ledger space) page holding) same) ∙ sym there ∙ ap (λ s. is_some (get ledger s)) (sym same))
     (λ other. ap is_some (get_other ledger space q (insert (pages_of ledger space) page holding) other))
 
-pub gone_spaces : (ledger : Ledger) (space page q : ℕ) → is_some (get ledger space) ≡ true → is_some (get (without_page ledger space page) q) ≡ is_some (get ledger q)
-unfolding without_page
-gone_spaces ledger space page q there = by_key q space
-    (λ same. ap is_some (get_same ledger space q (remove (pages_of ledger space) page) same) ∙ sym there ∙ ap (λ s. is_some (get ledger s)) (sym same))
-    (λ other. ap is_some (get_other ledger space q (remove (pages_of ledger space) page) other))
-
 -- a page's own value put again, one value put over another, and what is without the page
 pub put_again : (ledger : Ledger) (space page : ℕ) (holding : Holding) → holding_at ledger space page ≡ Some holding → with_page ledger space page holding ≡ ledger
 unfolding with_page

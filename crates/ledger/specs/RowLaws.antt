@@ -12,7 +12,7 @@ use Rattle.ledger.specs.Alike.{AreAlike, own_at}
 use Rattle.ledger.specs.PlaceLaws.{page_is}
 use Rattle.ledger.specs.AloneLaws.{unused_without}
 use Rattle.ledger.specs.OriginLaws.{new_is_unused}
-use Rattle.ledger.specs.AlikeLaws.{IsPair, absent_too, alike_alone, alike_altered, alike_new, alike_own, alike_zero, pair_of}
+use Rattle.ledger.specs.AlikeLaws.{IsPair, absent_too, alike_alone, alike_new, alike_own, alike_zero, pair_of}
 use Rattle.ledger.specs.AlikeUnits.{alike_copied, alike_dropped, alike_emptied, alike_gone}
 
 -- Each row of the table keeps ledgers alike.
@@ -67,26 +67,6 @@ alike_settled before_a before_b a b alike space page same = alike_changed _ _ a 
     by_alone x y at_a at_b false true e = cc
 
 -- The same, where the other side has put a page by itself: it may take any new origin.
-
-pub settled_new : (before a b : Ledger) → AreAlike a b → (space page : ℕ) (y : Holding) (origin : ℕ) → holding_at b space page ≡ Some y → is_alone before space page ≡ false
-    → is_unused (without_page b space page) origin ≡ true → AreAlike (settled before a space page) (with_page b space page (without_own origin))
-unfolding settled
-settled_new before a b alike space page y origin there shared new =
-    let pair : IsPair b a space page y = pair_of b a space page y (alike_altered a b alike) there in
-    subst (λ (l : Ledger). AreAlike l (with_page b space page (without_own origin)))
-    (sym (changed_there (λ holding. without_own (cond (is_alone before space page) holding.origin (new_origin a))) a space page pair.other pair.there
-    ∙ ap (λ c. with_page a space page (without_own (cond c pair.other.origin (new_origin a)))) shared))
-    (alike_new a b space page (without_own (new_origin a)) (without_own origin) alike refl (unused_without a space page (new_origin a) (new_is_unused a)) new)
-
-pub settled_alone : (before a b : Ledger) → AreAlike a b → (space page : ℕ) (y : Holding) → holding_at b space page ≡ Some y → is_alone before space page ≡ true
-    → AreAlike (settled before a space page) (with_page b space page (without_own y.origin))
-unfolding settled
-settled_alone before a b alike space page y there alone =
-    let pair : IsPair b a space page y = pair_of b a space page y (alike_altered a b alike) there in
-    subst (λ (l : Ledger). AreAlike l (with_page b space page (without_own y.origin)))
-    (sym (changed_there (λ holding. without_own (cond (is_alone before space page) holding.origin (new_origin a))) a space page pair.other pair.there
-    ∙ ap (λ c. with_page a space page (without_own (cond c pair.other.origin (new_origin a)))) alone))
-    (alike_own a b space page (without_own pair.other.origin) (without_own y.origin) alike refl pair.other y pair.there there refl refl)
 
 -- a page that is loaded, and one that is mapped
 pub loaded_new : (a b : Ledger) → AreAlike a b → (space page origin : ℕ) → is_unused (without_page b space page) origin ≡ true

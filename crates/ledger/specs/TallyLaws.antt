@@ -17,7 +17,7 @@ use Rattle.ledger.specs.Units.{class, origins, overlaid_pages, own_lines, sharer
 use Rattle.ledger.specs.PlaceLaws.{by_place, gone_here, gone_other, holdings_in, in_spaces, out_of_spaces, page_cut, no_page, page_is, pages_absent, pages_beside, pages_put, put_again}
 use Rattle.ledger.specs.ClassLaws.{class_le, class_most, class_none, class_one}
 use Rattle.ledger.specs.UnitLaws.{alone_is, has_origins, have, sum_with}
-use Rattle.ledger.specs.AloneLaws.{HasPage, not_true, page_that}
+use Rattle.ledger.specs.AloneLaws.{HasSuchPage, not_true, page_that}
 use Rattle.ledger.specs.AlikeUnits.{pages_less, some_page}
 
 -- Sums over all pages.
@@ -50,7 +50,7 @@ le_by_pages : (f g : Holding → ℕ) (n : ℕ) (ledger : Ledger) → length (al
     → ((space page : ℕ) (x : Holding) → holding_at ledger space page ≡ Some x → f x ≤ g x) → tally f ledger ≤ tally g ledger
 le_by_pages f g zero ledger is each = let none = tally_none f ledger (nil_from_length (all_holdings ledger) is) in omega (arith, none)
 le_by_pages f g (suc n) ledger is each =
-    let found : HasPage ledger (λ x. true) = some_page ledger (all_holdings ledger) refl (λ e. let short = ap length e in absurd (omega (arith, short, is))) in
+    let found : HasSuchPage ledger (λ x. true) = some_page ledger (all_holdings ledger) refl (λ e. let short = ap length e in absurd (omega (arith, short, is))) in
     let s = found.space in
     let p = found.page in
     let less = pages_less ledger s p found.holding found.there in
@@ -173,7 +173,7 @@ pub origins_few : (ledger : Ledger) (most : ℕ) → ((space page : ℕ) (x : Ho
     → set.len (origins (all_holdings ledger)) ≤ most + 1
 origins_few ledger most each = small_set (most + 1) (origins (all_holdings ledger)) (λ q h.
     let parts = both (q == 0) (have (all_holdings ledger) q) (sym (has_origins (all_holdings ledger) q) ∙ h) in
-    let found : HasPage ledger (λ holding. holding.origin == q) = page_that ledger (λ holding. holding.origin == q) parts in
+    let found : HasSuchPage ledger (λ holding. holding.origin == q) = page_that ledger (λ holding. holding.origin == q) parts in
     let low = each found.space found.page found.holding found.there in
     let same = found.passes in grind (arith, nat_tests))
   where
@@ -275,25 +275,6 @@ sharers_few ledger origin = by_entries (λ ledger. IsApart ledger origin → sha
         kept s p x at =
             let differs : s ≡ k → ⊥ = λ same. let no = ap is_some (sym at ∙ page_is m s p ∙ ap (λ (n : Space). get n p) (ap (pages_of m) same ∙ pages_absent m k absent) ∙ no_page p) in cc in
             page_is (insert m k pages) s p ∙ ap (λ (n : Space). get n p) (pages_beside m k pages s differs) ∙ sym (page_is m s p) ∙ at
-
--- with a space put in
-pub tally_space : (f : Holding → ℕ) (ledger : Ledger) (space : ℕ) (pages : Space) → tally f (insert ledger space pages) ≡ tally f (remove ledger space) + sum_by f (values pages)
-unfolding tally
-tally_space f ledger space pages =
-    let cut = cut_at ledger space in
-    let front = holdings_in cut.front in
-    let back = holdings_in cut.back in
-    let whole = ap (sum_by f) (in_spaces ledger space cut pages) ∙ sum_by-append f front (values pages ++ back) in
-    let inner = sum_by-append f (values pages) back in
-    let rest = ap (sum_by f) (out_of_spaces ledger space cut) ∙ sum_by-append f front back in
-    omega (arith, whole, inner, rest)
-
--- a space without a page counts nothing
-pub tally_empty : (f : Holding → ℕ) (ledger : Ledger) (space : ℕ) (pages : Space) → pages ≡ empty → tally f (insert ledger space pages) ≡ tally f (remove ledger space)
-tally_empty f ledger space pages none =
-    let put = tally_space f ledger space pages in
-    let nothing = ap (λ (m : Space). sum_by f (values m)) none ∙ ap (sum_by f) (no_values {X = Holding}) in
-    omega (arith, put, nothing)
 
 -- a space without a page has no pages
 pub empty_holdings : (ledger : Ledger) (space : ℕ) (pages : Space) → pages ≡ empty → all_holdings (insert ledger space pages) ≡ all_holdings (remove ledger space)

@@ -6,7 +6,7 @@ use Rattle.std.proofs.lemmas.Slice.{put_mid-paste}
 use Rattle.std.proofs.VecSteps.Gaps.{all_new}
 use Rattle.std.specs.List.{copy_within, refill}
 use Rattle.line_store.specs.Lines.{zero_lines, with_copied, with_put}
-use Rattle.line_store.specs.Kept.{kept_lines, EndsInZero, IsKept}
+use Rattle.line_store.specs.Kept.{kept_lines, EndsInZero, AreLinesKept}
 
 -- Lines of which the first are kept.
 
@@ -62,7 +62,7 @@ page_behind first count at ends below near h =
     ∙ sym (get_or-take 64 (drop at all) k d short ∙ get_or-drop at all k d ∙ line_near first count (at + k) d ends near_k low_k))
 
 -- what the callers know of a page that isn't kept whole
-pub page_of_zeros : (first : List (List ℕ)) (count at : ℕ) → IsKept first count → length first < at + 64 → at + 64 ≤ count
+pub page_of_zeros : (first : List (List ℕ)) (count at : ℕ) → AreLinesKept first count → length first < at + 64 → at + 64 ≤ count
     → zero_lines 64 ≡ take 64 (drop at (kept_lines first count))
 page_of_zeros first count at kept near h = elim kept.ends [
   | inl whole ↦ absurd (omega (arith, whole))
@@ -81,39 +81,14 @@ more_same first count more h =
     append_assoc first (zero_lines more) (zero_lines (count - length kept))
     ∙ ap (λ l. first ++ l) (zero_lines-append more (count - length kept) ∙ ap zero_lines rest)
 
-pub more_ends : (first : List (List ℕ)) (more : ℕ) → EndsInZero first → EndsInZero (first ++ zero_lines more)
-more_ends first more ends at d near low =
-    let long : length (first ++ zero_lines more) ≡ length first + more = omega (arith, length-append first (zero_lines more), length-zero_lines more) in
-    elim (cases_lt at (length first)) [
-      | inl kept ↦ get_or_append_left first (zero_lines more) d at kept ∙ ends at d (omega arith) kept
-      | inr behind ↦ get_or-append_right first (zero_lines more) (length first) at d refl behind ∙ get_or-zero_lines more (at - length first) d (omega arith)
-    ]
-
 -- the lines kept, after zero lines were put behind them until there were so many
 grown : (first new : List (List ℕ)) (wanted : ℕ) → new ≡ first ++ replicate (wanted - length first) (replicate 64 0) → new ≡ first ++ zero_lines (wanted - length first)
 unfolding zero_lines
 grown first new wanted is = is
 
-pub length-grown : (first new : List (List ℕ)) (wanted : ℕ) → new ≡ first ++ replicate (wanted - length first) (replicate 64 0) → length new ≡ length first + (wanted - length first)
-length-grown first new wanted is = omega (arith, ap length (grown first new wanted is), length-append first (zero_lines (wanted - length first)), length-zero_lines (wanted - length first))
-
 pub grown_same : (first new : List (List ℕ)) (count wanted : ℕ) → new ≡ first ++ replicate (wanted - length first) (replicate 64 0) → length first ≤ count
     → wanted ≤ count → kept_lines new count ≡ kept_lines first count
 grown_same first new count wanted is h k = ap (λ l. kept_lines l count) (grown first new wanted is) ∙ more_same first count (wanted - length first) (omega arith)
-
-pub grown_kept : (first new : List (List ℕ)) (count wanted : ℕ) → new ≡ first ++ replicate (wanted - length first) (replicate 64 0)
-    → wanted ≤ count → IsKept first count → IsKept new count
-grown_kept first new count wanted is k kept =
-    let long = length-grown first new wanted is in
-    let below = kept.below in
-    record {
-      few = kept.few;
-      below = omega (arith, long, below);
-      ends = elim kept.ends [
-        | inl whole ↦ inl (omega (arith, long, whole, k))
-        | inr ends ↦ inr (subst EndsInZero (sym (grown first new wanted is)) (more_ends first (wanted - length first) ends))
-      ];
-    }
 
 -- a line is written
 pub set_same : (first : List (List ℕ)) (count at : ℕ) (w : List ℕ) → at < length first → kept_lines (set first at w) count ≡ set (kept_lines first count) at w
@@ -159,7 +134,7 @@ put_ends first to given n h k ends at d near low =
     ∙ ends at d (omega (arith, long)) (omega (arith, long))
 
 pub put_kept : (first new : List (List ℕ)) (count to : ℕ) (given : List (List ℕ)) (n end : ℕ) → new ≡ with_put first to given n → n ≤ length given → to + n ≤ length first
-    → (length first ≡ count) ⊎ (end + 64 ≤ length first) → to + n ≤ end → IsKept first count → IsKept new count
+    → (length first ≡ count) ⊎ (end + 64 ≤ length first) → to + n ≤ end → AreLinesKept first count → AreLinesKept new count
 put_kept first new count to given n end is h k reached inside kept =
     let long = ap length is ∙ length-with_put first to given n h k in
     let below = kept.below in
@@ -194,5 +169,5 @@ copy_same first count from to n h k =
     ∙ sym (ap (λ l. take to (first ++ zeros) ++ l ++ drop (to + n) (first ++ zeros)) (ap (take n) (drop-append-le from first zeros from_low) ∙ take-append-le n (drop from first) zeros room))
 
 pub copy_kept : (first new : List (List ℕ)) (count from to n end : ℕ) → new ≡ with_copied first from to n → from + n ≤ length first → to + n ≤ length first
-    → (length first ≡ count) ⊎ (end + 64 ≤ length first) → to + n ≤ end → IsKept first count → IsKept new count
+    → (length first ≡ count) ⊎ (end + 64 ≤ length first) → to + n ≤ end → AreLinesKept first count → AreLinesKept new count
 copy_kept first new count from to n end is h k reached inside kept = put_kept first new count to (drop from first) n end is (omega (arith, length-drop from first)) k reached inside kept

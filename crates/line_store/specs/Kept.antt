@@ -13,7 +13,7 @@ abbrev pub EndsInZero : List (List ℕ) → Type 0
 EndsInZero lines = (at : ℕ) (d : List ℕ) → length lines ≤ at + 64 → at < length lines → slice_index_or lines at d ≡ replicate 64 0
 
 -- All lines are kept, or the last 64 of those kept are zero. So a page that isn't kept whole is zero.
-pub record IsKept (first : List (List ℕ)) (count : ℕ) : Type 0 where
+pub record AreLinesKept (first : List (List ℕ)) (count : ℕ) : Type 0 where
   pub few : count ≤ MOST_REGION_LINES
   pub below : length first ≤ count
   pub ends : (length first ≡ count) ⊎ EndsInZero first

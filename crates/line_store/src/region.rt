@@ -3,7 +3,7 @@ ghost use Rattle.std.specs.Borrow.{Lends, sem, Array, u8 as byte};
 ghost use Rattle.sizes.specs.declared.TheConstants.{LINE_BYTES, MOST_REGION_FRAMES, MOST_REGION_LINES};
 ghost use Rattle.line_store.specs.contracts.region.Region.{the_row};
 ghost use Rattle.line_store.specs.Lines.{zero_lines, line_of, with_copied, with_put};
-ghost use Rattle.line_store.specs.Kept.{kept_lines, IsKept};
+ghost use Rattle.line_store.specs.Kept.{kept_lines, AreLinesKept};
 
 use crate::lines::{Lease, Lines};
 use std::alloc::{AllocError, Allocator, Global};
@@ -24,13 +24,13 @@ pub struct Region<A: Allocator = Global> {
 
 impl<A: Allocator> Model for Region<A> {
     ghost use Rattle.std.specs.Prelude.{List, ℕ, ◌≡◌};
-    ghost use Rattle.line_store.specs.Kept.{kept_lines, IsKept};
+    ghost use Rattle.line_store.specs.Kept.{kept_lines, AreLinesKept};
 
     ghost Value = { List (List ℕ) };
 
     ghost view = { λ region. kept_lines region.lines.items region.count };
 
-    ghost invariant = { λ region. IsKept region.lines.items region.count × (region.lines.room ≡ region.count) × (region.lease.at ≡ region.lines.at) × (region.lease.room ≡ region.count) × (region.lease.alloc ≡ region.alloc) };
+    ghost invariant = { λ region. AreLinesKept region.lines.items region.count × (region.lines.room ≡ region.count) × (region.lease.at ≡ region.lines.at) × (region.lease.room ≡ region.count) × (region.lease.alloc ≡ region.alloc) };
 }
 
 // Gives the memory back.
@@ -188,7 +188,7 @@ fn reach(lines: &mut Lines, count: u32, end: u32)
     requires inside { end ≤ count }
     requires room { lines.old.room ≡ count }
     ensures same { kept_lines lines.new.items count ≡ kept_lines lines.old.items count }
-    ensures kept { IsKept lines.old.items count → IsKept lines.new.items count }
+    ensures kept { AreLinesKept lines.old.items count → AreLinesKept lines.new.items count }
     ensures reached { (length lines.new.items ≡ count) ⊎ (end + 64 ≤ length lines.new.items) }
     ensures piece { (lines.new.at ≡ lines.old.at) × (lines.new.room ≡ lines.old.room) }
 {

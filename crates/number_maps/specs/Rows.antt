@@ -14,9 +14,9 @@ abbrev pub key_at : {X : Type 0} → List (ℕ × X) → ℕ → ℕ
 key_at rows i = get_or (map (λ row. row.0) rows) i 0
 
 -- the keys rise strictly, the first not below a number
-abbrev pub Rise : {X : Type 0} → ℕ → List (ℕ × X) → Type 0
-Rise from [] = Unit {0}
-Rise from (row ∷ rows) = (from ≤ row.0) × Rise (row.0 + 1) rows
+abbrev pub RowsRise : {X : Type 0} → ℕ → List (ℕ × X) → Type 0
+RowsRise from [] = Unit {0}
+RowsRise from (row ∷ rows) = (from ≤ row.0) × RowsRise (row.0 + 1) rows
 
 -- the row of a key stands at a place
 pub record IsAt {X : Type 0} (rows : List (ℕ × X)) (k i : ℕ) : Type 0 where

@@ -21,10 +21,6 @@ same_space s p t q fs lp ft lq same = sym (space_back s p fs lp) ∙ ap space_of
 pub same_page : (s p t q : ℕ) → s < 2 ^ 15 → p < 2 ^ 36 → t < 2 ^ 15 → q < 2 ^ 36 → overlay_page s p ≡ overlay_page t q → p ≡ q
 same_page s p t q fs lp ft lq same = sym (page_back s p fs lp) ∙ ap page_of same ∙ page_back t q ft lq
 
--- names of one space and one page are equal
-pub same_name : (a b : ℕ) → IsName a → IsName b → space_of a ≡ space_of b → page_of a ≡ page_of b → a ≡ b
-same_name a b is other space page = omega (arith, is, other, space, page)
-
 -- an example: the address of byte 64 of page 16 of space 1 is 0x8001000000010040
 example : overlay_page 1 16 + 64 ≡ 9223653511831552064
 example = refl

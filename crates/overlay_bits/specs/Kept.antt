@@ -4,10 +4,7 @@ use Rattle.std.proofs.lemmas.Nat.{mod-pow-add}
 use Rattle.std.proofs.lemmas.Bool.{cases_lt}
 use Rattle.std.proofs.lemmas.Nat.Bits.{bit_at-lt, bit_at_cat_high, bit_at_cat_low, bit_at_lowest}
 use Rattle.std.proofs.Math.Nat.{mod-eq_of_lt, pow-suc}
-use Rattle.sizes.specs.declared.TheConstants.{PAGE_LINES}
-use Rattle.overlay_bits.specs.Lines.{below, lines_where, has_line, AreLines}
-use Rattle.overlay_bits.specs.Below.{below_same}
-use Rattle.overlay_bits.specs.Laws.{is_where}
+use Rattle.overlay_bits.specs.Lines.{below, lines_where}
 
 -- How a set is kept: as a number of 64 bits, of which bit i tells whether line i is a member.
 
@@ -88,13 +85,3 @@ word_bits t (suc k) i lt = ap (λ n. has_bit n i) (word_more t k) ∙ at (cases_
         ap (λ n. nat_eq n 1) (bit_at_cat_high (binary_digit (t k)) k (word_of (below t k)) i (word_fits t k) more ∙ ap (bit_at (binary_digit (t k))) none
         ∙ bit_at_lowest (binary_digit (t k)))
         ∙ low (t k) ∙ ap t (sym here)
-
-pub same_words : (a b : List ℕ) → AreLines a → AreLines b → word_of a ≡ word_of b → a ≡ b
-same_words a b one other same =
-    is_where a one ∙ below_same (has_line a) (has_line b) PAGE_LINES at ∙ sym (is_where b other)
-  where
-    bits : (lines : List ℕ) (i : ℕ) → AreLines lines → i < PAGE_LINES → has_bit (word_of lines) i ≡ has_line lines i
-    bits lines i are lt = ap (λ xs. has_bit (word_of xs) i) (is_where lines are) ∙ word_bits (has_line lines) PAGE_LINES i lt
-
-    at : (i : ℕ) → i < PAGE_LINES → has_line a i ≡ has_line b i
-    at i lt = sym (bits a i one lt) ∙ ap (λ n. has_bit n i) same ∙ bits b i other lt

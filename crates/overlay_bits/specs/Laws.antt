@@ -1,12 +1,11 @@
-use Rattle.std.proofs.Common.{◌≡◌, ℕ, ◌+◌, ◌-◌, ◌<◌, ◌≤◌, ◌⊎◌, inl, inr, Bool, true, false, cond, not, ◌&&◌, ◌||◌, nat_eq, nat_lt, List, [], ◌∷◌, ◌++◌, length, get_or, subst, sym, ap, ◌∙◌, refl, arith}
+use Rattle.std.proofs.Common.{◌≡◌, ℕ, ◌+◌, ◌-◌, ◌<◌, ◌≤◌, ◌⊎◌, inl, inr, Bool, true, false, cond, not, ◌&&◌, ◌||◌, nat_eq, nat_lt, List, [], ◌∷◌, ◌++◌, length, subst, sym, ap, ◌∙◌, refl, arith}
 use Rattle.std.specs.Prelude.{filter}
 use Rattle.std.proofs.lemmas.Bool.{and_right, cases_order, lt-ltb, le-ltb, eq-eqb, ne_eqb, eqb-true, ltb-true}
 use Rattle.std.proofs.lemmas.List.{append-nil, length-append}
 use Rattle.std.proofs.lemmas.List.Elements.{filter-append}
-use Rattle.std.proofs.Math.Seq.{get_or-append_seam}
 use Rattle.sizes.specs.declared.TheConstants.{PAGE_LINES}
 use Rattle.overlay_bits.specs.Lines.{below, lines_where, has_line, Rise, AreLines, lines_before, lines_behind, rank_of, with_line, without_line, lines_between, with_lines}
-use Rattle.overlay_bits.specs.Below.{and_false, and_true, or_false, or_true, below_same, below_filter, below_cut, below_split, below_range, has_append, has_below, has_range, is_between, rise_below, rise_bounds, rise_inside, rise_is, rise_same}
+use Rattle.overlay_bits.specs.Below.{and_false, and_true, or_true, below_same, below_filter, below_cut, below_split, has_append, has_below, has_range, is_between, rise_below, rise_bounds, rise_inside, rise_is, rise_same}
 
 -- Laws of sets of lines, for the crates above.
 
@@ -196,20 +195,6 @@ are_with lines line are lt =
     subst AreLines (where_with (has_line lines) line lt ∙ ap (λ xs. with_line xs line) (sym (is_where lines are)))
     (are_where (λ i. nat_eq line i || has_line lines i))
 
-pub are_without : (lines : List ℕ) (line : ℕ) → AreLines lines → line < PAGE_LINES → AreLines (without_line lines line)
-are_without lines line are lt =
-    subst AreLines (where_without (has_line lines) line lt ∙ ap (λ xs. without_line xs line) (sym (is_where lines are)))
-    (are_where (λ i. has_line lines i && not (nat_eq line i)))
-
-pub are_filtered : (p : ℕ → Bool) (lines : List ℕ) → AreLines lines → AreLines (filter p lines)
-are_filtered p lines are =
-    subst AreLines (sym (below_filter p (has_line lines) PAGE_LINES) ∙ ap (filter p) (sym (is_where lines are)))
-    (are_where (λ i. has_line lines i && p i))
-
-pub are_between : (first end : ℕ) → first ≤ end → end ≤ PAGE_LINES → AreLines (lines_between first end)
-are_between first end le few =
-    subst AreLines (sym (below_range first (end - first) PAGE_LINES (omega (arith, le, few)))) (are_where (is_between first (first + (end - first))))
-
 -- Counts.
 
 length_at : (before : List ℕ) (b : Bool) (line : ℕ) (behind : List ℕ)
@@ -254,41 +239,7 @@ pub without_absent : (lines : List ℕ) (line : ℕ) → AreLines lines → line
 without_absent lines line are lt is =
     sym (lines_at lines line are lt ∙ ap (λ (b : Bool). lines_before lines line ++ (cond b (line ∷ []) [] ++ lines_behind lines line)) is)
 
-pub with_without : (lines : List ℕ) (line : ℕ) → AreLines lines → line < PAGE_LINES → has_line lines line ≡ true
-    → with_line (without_line lines line) line ≡ lines
-with_without lines line are lt is =
-    same_sets _ lines (are_with _ line (are_without lines line are lt) lt) are
-    (λ q. has_with (without_line lines line) line q ∙ ap (λ (b : Bool). nat_eq line q || b) (has_without lines line q) ∙ at q (nat_eq line q) refl)
-  where
-    at : (q : ℕ) (e : Bool) → nat_eq line q ≡ e → (e || (has_line lines q && not e)) ≡ has_line lines q
-    at q true same = sym is ∙ ap (has_line lines) (eqb-true line q same)
-    at q false same = and_true (has_line lines q)
-
-pub without_with : (lines : List ℕ) (line : ℕ) → AreLines lines → line < PAGE_LINES → has_line lines line ≡ false
-    → without_line (with_line lines line) line ≡ lines
-without_with lines line are lt is =
-    same_sets _ lines (are_without _ line (are_with lines line are lt) lt) are
-    (λ q. has_without (with_line lines line) line q ∙ ap (λ (b : Bool). b && not (nat_eq line q)) (has_with lines line q) ∙ at q (nat_eq line q) refl)
-  where
-    at : (q : ℕ) (e : Bool) → nat_eq line q ≡ e → ((e || has_line lines q) && not e) ≡ has_line lines q
-    at q true same = sym is ∙ ap (has_line lines) (eqb-true line q same)
-    at q false same = and_true (has_line lines q)
-
 -- Ranks: how many members stand before a line.
-
--- a line is behind as many members as its place has before it
-pub line_of_rank : (lines : List ℕ) (line d : ℕ) → AreLines lines → line < PAGE_LINES → has_line lines line ≡ true
-    → get_or lines (rank_of lines line) d ≡ line
-line_of_rank lines line d are lt is =
-    ap (λ xs. get_or xs (rank_of lines line) d)
-    (lines_at lines line are lt ∙ ap (λ (b : Bool). lines_before lines line ++ (cond b (line ∷ []) [] ++ lines_behind lines line)) is)
-    ∙ get_or-append_seam (lines_before lines line) line (lines_behind lines line) d
-
-pub rank_below : (lines : List ℕ) (line : ℕ) → AreLines lines → line < PAGE_LINES → has_line lines line ≡ true
-    → rank_of lines line < length lines
-rank_below lines line are lt is =
-    let whole = lines_at lines line are lt ∙ ap (λ (b : Bool). lines_before lines line ++ (cond b (line ∷ []) [] ++ lines_behind lines line)) is in
-    omega (arith, ap length whole, length-append (lines_before lines line) (line ∷ lines_behind lines line))
 
 -- Members one after the other: those in front of a member are below it, and those behind it above.
 
@@ -359,7 +310,3 @@ with_next front line rest are =
     λ i. all_before 0 front line h i ++ line ∷ none_behind 0 front line h i
 
 -- Nothing more than a set.
-
-pub with_lines_none : (lines : List ℕ) → AreLines lines → with_lines lines [] ≡ lines
-with_lines_none lines are =
-    below_same (λ line. has_line lines line || false) (has_line lines) PAGE_LINES (λ i lt. or_false (has_line lines i)) ∙ sym (is_where lines are)

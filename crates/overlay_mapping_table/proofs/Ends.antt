@@ -9,8 +9,8 @@ use Rattle.std.proofs.lemmas.List.{get_or-set_same, get_or-set_other, length-set
 use Rattle.overlay_mapping_table.specs.declared.entry.Entry.{Entry}
 use Rattle.overlay_mapping_table.specs.declared.full.Full.{Full}
 use Rattle.overlay_mapping_table.specs.Rows.{map_of_slots, ring, AreInOrder, HasWay}
-use Rattle.overlay_mapping_table.specs.Probes.{AreNow, AreSound, IsBefore, IsBeyond, IsGap, IsThere}
-use Rattle.overlay_mapping_table.specs.Shifts.{AreLowered, AreRaised, IsEnd, HaveRows, IsLast}
+use Rattle.overlay_mapping_table.specs.Probes.{AreNow, AreSound, IsBefore, IsBeyond, WouldStandAt, StandsAt}
+use Rattle.overlay_mapping_table.specs.Shifts.{AreLowered, AreRaised, IsEnd, HaveRows, IsLastRow}
 use Rattle.overlay_mapping_table.proofs.Contents.{IsOwn, same_key, apart_put, apart_take, map_put, map_take, same_rows}
 use Rattle.overlay_mapping_table.proofs.Searching.{not_bare, some, spare_from}
 use Rattle.overlay_mapping_table.proofs.Moving.{two_slots}
@@ -96,7 +96,7 @@ module _ (slots : List (Option (ℕ × Entry))) (sound : AreSound slots) (hole n
           let back : before.way ≡ before.way - 1 + 1 = omega (arith, before.before, ge) in
           (before.way - 1, subst (HasWay (length slots) slots i) back before.has)
 
-  pub last_found : (IsBefore (length slots) slots next next → ⊥) → IsLast (length slots) slots hole (next - 1)
+  pub last_found : (IsBefore (length slots) slots next next → ⊥) → IsLastRow (length slots) slots hole (next - 1)
   last_found stops =
       record {
         low = omega (arith, low);
@@ -137,7 +137,7 @@ module _ (old mid : List (Option (ℕ × Entry))) (name place end at : ℕ) (e :
   other : (i : ℕ) → end < i → i < place + length old → ring (length old) put i ≡ ring (length old) old i
   other i low less = apart_from i (omega (arith, low, last.low)) less ∙ raised.other i low less
 
-  pub put_now : (new : List (Option (ℕ × Entry))) → IsGap old name place → new ≡ put → AreNow old new (insert (map_of_slots old) name e)
+  pub put_now : (new : List (Option (ℕ × Entry))) → WouldStandAt old name place → new ≡ put → AreNow old new (insert (map_of_slots old) name e)
   put_now new gap is =
       subst (λ ss. AreNow old ss (insert (map_of_slots old) name e)) (sym is) (record {
         size = same;
@@ -194,8 +194,8 @@ full_over slots new full at row inside are is = subst (λ ss. HaveRows ss full) 
         by i low less (ap (λ n. ring n put i) (sym (length-set slots at (Some row))) ∙ none) (cases_eq (i % length slots) at)
 
 -- A row that was taken out.
-pub take_now : (old cleared new : List (Option (ℕ × Entry))) (name at hole last : ℕ) → AreSound old → IsThere old name at → hole ≡ length old + at
-    → IsLast (length old) old hole last → cleared ≡ slice_set old at None → AreLowered (length cleared) cleared new hole last
+pub take_now : (old cleared new : List (Option (ℕ × Entry))) (name at hole last : ℕ) → AreSound old → StandsAt old name at → hole ≡ length old + at
+    → IsLastRow (length old) old hole last → cleared ≡ slice_set old at None → AreLowered (length cleared) cleared new hole last
     → AreNow old new (remove (map_of_slots old) name)
 take_now old cleared new name at hole last sound there start is_last is lowered =
     now (subst (λ ss. AreLowered (length old) ss new hole last) is (subst (λ n. AreLowered n cleared new hole last) same lowered))
@@ -241,15 +241,15 @@ take_now old cleared new name at hole last sound there start is_last is lowered 
         size = lowered.same.size ∙ length-set old at None
 
 -- the place of a slot
-slot_of_place : (old : List (Option (ℕ × Entry))) (name at hole : ℕ) → IsThere old name at → hole ≡ length old + at → hole % length old ≡ at
+slot_of_place : (old : List (Option (ℕ × Entry))) (name at hole : ℕ) → StandsAt old name at → hole ≡ length old + at → hole % length old ≡ at
 slot_of_place old name at hole there start = ap (λ i. i % length old) start ∙ add-mod_left (length old) at ∙ mod-eq_of_lt there.inside
 
-pub full_there : (old : List (Option (ℕ × Entry))) (name at hole : ℕ) → IsThere old name at → hole ≡ length old + at
+pub full_there : (old : List (Option (ℕ × Entry))) (name at hole : ℕ) → StandsAt old name at → hole ≡ length old + at
     → ring (length old) old hole ≡ None → ⊥
 full_there old name at hole there start none =
     let full = ap (λ j. get_or old j None) (slot_of_place old name at hole there start) ∙ there.is in cc (full, none)
 
-pub bare_there : (old cleared : List (Option (ℕ × Entry))) (name at hole : ℕ) → IsThere old name at → hole ≡ length old + at
+pub bare_there : (old cleared : List (Option (ℕ × Entry))) (name at hole : ℕ) → StandsAt old name at → hole ≡ length old + at
     → cleared ≡ slice_set old at None → ring (length cleared) cleared hole ≡ None
 bare_there old cleared name at hole there start is =
     let same : length cleared ≡ length old = ap length is ∙ length-set old at None in

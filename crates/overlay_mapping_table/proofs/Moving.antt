@@ -5,7 +5,7 @@ use Rattle.std.proofs.lemmas.Bool.{cases_lt}
 use Rattle.std.proofs.lemmas.List.{get_or-set_same, get_or-set_other, length-set}
 use Rattle.overlay_mapping_table.specs.declared.entry.Entry.{Entry}
 use Rattle.overlay_mapping_table.specs.Rows.{ring, StandOnce}
-use Rattle.overlay_mapping_table.specs.Shifts.{AreLowered, AreRaised, AreSame}
+use Rattle.overlay_mapping_table.specs.Shifts.{AreLowered, AreRaised, HaveSameRows}
 use Rattle.overlay_mapping_table.proofs.Ways.{Placed, placed, same_near}
 use Rattle.overlay_mapping_table.proofs.Searching.{within}
 
@@ -185,7 +185,7 @@ module _ (n : ℕ) (lower upper : List (Option (ℕ × Entry))) (start end : ℕ
           let none = ap (λ k. ring n upper k) same ∙ shift.first in
           absurd (cc (none, row))
 
-  pub same_up : StandOnce lower → AreSame lower upper
+  pub same_up : StandOnce lower → HaveSameRows lower upper
   same_up apart =
       record {
         size = shift.level;
@@ -197,7 +197,7 @@ module _ (n : ℕ) (lower upper : List (Option (ℕ × Entry))) (start end : ℕ
         back = λ name x j there. let a = comes j (name, x) there in (a.0, a.2);
       }
 
-  pub same_down : StandOnce upper → AreSame upper lower
+  pub same_down : StandOnce upper → HaveSameRows upper lower
   same_down apart =
       record {
         size = sym shift.level;

@@ -5,8 +5,8 @@ use Rattle.std.proofs.lemmas.Bool.{cases_lt, cases_order}
 use Rattle.overlay_mapping_table.specs.declared.entry.Entry.{Entry}
 use Rattle.overlay_mapping_table.specs.Homes.{home_number}
 use Rattle.overlay_mapping_table.specs.Rows.{ring, AreInOrder, HasWay}
-use Rattle.overlay_mapping_table.specs.Probes.{AreSound, IsGap}
-use Rattle.overlay_mapping_table.specs.Shifts.{IsEnd, IsLast}
+use Rattle.overlay_mapping_table.specs.Probes.{AreSound, WouldStandAt}
+use Rattle.overlay_mapping_table.specs.Shifts.{IsEnd, IsLastRow}
 use Rattle.overlay_mapping_table.proofs.Ways.{placed, same_minus, way_back, way_next}
 use Rattle.overlay_mapping_table.proofs.Searching.{has_at, has_once, has_row, has_some, not_bare, some, spare_from}
 
@@ -53,7 +53,7 @@ short slots sound p w has = by (cases_lt (w + 1) (length slots))
         absurd (at_end e.0 e.1 e.2 e.3 ge (cases_lt e.0 (p + length slots)))
 
 -- A row was put in at a place, and those from there up to the end went up by one.
-module _ (old new : List (Option (ℕ × Entry))) (name place end : ℕ) (x : Entry) (sound : AreSound old) (gap : IsGap old name place)
+module _ (old new : List (Option (ℕ × Entry))) (name place end : ℕ) (x : Entry) (sound : AreSound old) (gap : WouldStandAt old name place)
     (last : IsEnd (length old) old place end) (here : ring (length old) new place ≡ Some (name, x))
     (up : (i : ℕ) → place ≤ i → i < end → ring (length old) new (i + 1) ≡ ring (length old) old i)
     (other : (i : ℕ) → end < i → i < place + length old → ring (length old) new i ≡ ring (length old) old i) where
@@ -174,7 +174,7 @@ module _ (old new : List (Option (ℕ × Entry))) (name place end : ℕ) (x : En
       by q w i low near has less le (inr (inr after)) = behind q w i after near has less le (cases_lt end q)
 
 -- A row was taken out, and those behind it up to the last one went down by one.
-module _ (old new : List (Option (ℕ × Entry))) (hole last : ℕ) (sound : AreSound old) (far : length old ≤ hole) (is_last : IsLast (length old) old hole last)
+module _ (old new : List (Option (ℕ × Entry))) (hole last : ℕ) (sound : AreSound old) (far : length old ≤ hole) (is_last : IsLastRow (length old) old hole last)
     (down : (i : ℕ) → hole ≤ i → i < last → ring (length old) new i ≡ ring (length old) old (i + 1))
     (stay : (i : ℕ) → last < i → i < hole + length old → ring (length old) new i ≡ ring (length old) old i)
     (bare : ring (length old) new last ≡ None) where

@@ -9,7 +9,7 @@ use Rattle.overlay_address.specs.Names.{IsName}
 use Rattle.overlay_mapping_table.specs.declared.entry.Entry.{Entry}
 use Rattle.overlay_mapping_table.specs.Homes.{home_number, IsWay}
 use Rattle.overlay_mapping_table.specs.Rows.{name_in, ring, AreInOrder, HasWay}
-use Rattle.overlay_mapping_table.specs.Probes.{AreSound, IsBefore, IsBeyond, IsGap, IsPassed, IsPast, IsThere}
+use Rattle.overlay_mapping_table.specs.Probes.{AreSound, IsBefore, IsBeyond, WouldStandAt, IsPassed, IsPast, StandsAt}
 use Rattle.overlay_mapping_table.proofs.Ways.{Placed, placed, same_plus, way_at, way_once, way_there}
 use Rattle.overlay_mapping_table.proofs.Contents.{same_key}
 
@@ -196,7 +196,7 @@ module _ (slots : List (Option (ℕ × Entry))) (name home : ℕ) (sound : AreSo
 
   pub gap_found : (place at number : ℕ) → IsPast (length slots) slots name home place → at ≡ place % length slots
       → number ≡ name_in (get_or slots at None) → (number ≡ name → ⊥) → (IsBefore (length slots) slots (home + 1) place → ⊥)
-      → IsGap slots name place
+      → WouldStandAt slots name place
   gap_found place at number past here read differs stops =
       record {
         low = omega (arith, past.low, same);
@@ -238,7 +238,7 @@ module _ (slots : List (Option (ℕ × Entry))) (name home : ℕ) (sound : AreSo
               stops (record { way = led.0; has = led.1; before = omega (arith, led.2, p.low) })
 
   pub gap_at_home : (at number : ℕ) (read : Option ℕ) → at ≡ home_number name % length slots → number ≡ name_in (get_or slots at None) → (number ≡ name → ⊥)
-      → read ≡ option_map (λ (row : ℕ × Entry). row.0) (get_or slots at None) → read ≡ None → IsGap slots name home
+      → read ≡ option_map (λ (row : ℕ × Entry). row.0) (get_or slots at None) → read ≡ None → WouldStandAt slots name home
   gap_at_home at number read slot is differs named none =
       gap_found home at number none_past (slot ∙ sym is_home) is differs
       (λ before. not_bare (length slots) slots before.way home home before.has (ap (λ i. get_or slots i None) (is_home ∙ sym slot) ∙ by (get_or slots at None) refl) refl)
@@ -250,10 +250,10 @@ module _ (slots : List (Option (ℕ × Entry))) (name home : ℕ) (sound : AreSo
 
 -- the slot whose number was read has the name
 pub found : (slots : List (Option (ℕ × Entry))) (name at number : ℕ) → at < length slots → number ≡ name_in (get_or slots at None) → number ≡ name
-    → IsName name → IsThere slots name at
+    → IsName name → StandsAt slots name at
 found slots name at number inside read same is = by (get_or slots at None) refl
   where
-    by : (o : Option (ℕ × Entry)) → get_or slots at None ≡ o → IsThere slots name at
+    by : (o : Option (ℕ × Entry)) → get_or slots at None ≡ o → StandsAt slots name at
     by None none = let zero : number ≡ 0 = read ∙ ap name_in none in absurd (omega (arith, zero, same, is))
     by (Some row) there =
         let equal : row.0 ≡ name = sym (ap name_in there) ∙ sym read ∙ same in

@@ -11,15 +11,15 @@ use Rattle.number_maps.specs.Values.{remove_absent}
 use Rattle.overlay_mapping_table.specs.declared.entry.Entry.{Entry}
 use Rattle.overlay_mapping_table.specs.Homes.{home_number, IsWay}
 use Rattle.overlay_mapping_table.specs.Rows.{rows_of, map_of_slots, no_rows, StandOnce, AreInOrder, HasWay}
-use Rattle.overlay_mapping_table.specs.Probes.{AreNow, AreSound, IsGap, IsThere}
-use Rattle.overlay_mapping_table.specs.Table.{Table, HasRoomFor, AreThoseOf, NoneIsEmptyBefore}
-use Rattle.overlay_mapping_table.specs.Kept.{AreKept, names_of}
+use Rattle.overlay_mapping_table.specs.Probes.{AreNow, AreSound, WouldStandAt, StandsAt}
+use Rattle.overlay_mapping_table.specs.Table.{NamedEntries, HasRoomFor, AreThoseOf, NoneIsEmptyBefore}
+use Rattle.overlay_mapping_table.specs.Kept.{AreTableSlots, names_of}
 use Rattle.overlay_mapping_table.proofs.Contents.{IsOwn, none_of, same_key, apart_put, by_slot, counted, got, got_none, len_put, len_over, len_take, map_put, map_of_none, some_row, spared}
 use Rattle.overlay_mapping_table.proofs.Searching.{not_bare, within}
 
 -- Tables, by their slots.
 
-module _ (slots : List (Option (ℕ × Entry))) (count room : ℕ) (kept : AreKept slots count room) where
+module _ (slots : List (Option (ℕ × Entry))) (count room : ℕ) (kept : AreTableSlots slots count room) where
   -- fewer rows than slots
   pub fewer : (length (rows_of slots) < length slots) × (length (rows_of slots) ≡ count)
   fewer =
@@ -38,7 +38,7 @@ module _ (slots : List (Option (ℕ × Entry))) (count room : ℕ) (kept : AreKe
 
   -- what is kept after a change
   pub kept_now : (new : List (Option (ℕ × Entry))) (entries : FinMap nat_cmp Entry) (now : ℕ) → AreNow slots new entries → now ≡ len entries → now ≤ room
-      → AreKept new now room
+      → AreTableSlots new now room
   kept_now new entries now is counts few =
       record {
         size = subst (IsNextPowerOfTwo (2 * room)) (sym is.size) kept.size;
@@ -53,31 +53,31 @@ module _ (slots : List (Option (ℕ × Entry))) (count room : ℕ) (kept : AreKe
 -- What a table has.
 
 has_there : (slots : List (Option (ℕ × Entry))) (entries : FinMap nat_cmp Entry) (name at : ℕ) → map_of_slots slots ≡ entries → StandOnce slots
-    → (there : IsThere slots name at) → get entries name ≡ Some there.value
+    → (there : StandsAt slots name at) → get entries name ≡ Some there.value
 has_there slots entries name at same apart there =
     ap (λ (m : FinMap nat_cmp Entry). get m name) (sym same) ∙ got slots name at there.value apart there.is
 
-pub lacks : (slots : List (Option (ℕ × Entry))) (entries : FinMap nat_cmp Entry) (name place : ℕ) → map_of_slots slots ≡ entries → IsGap slots name place
+pub lacks : (slots : List (Option (ℕ × Entry))) (entries : FinMap nat_cmp Entry) (name place : ℕ) → map_of_slots slots ≡ entries → WouldStandAt slots name place
     → None ≡ get entries name
 lacks slots entries name place same gap =
     sym (ap (λ (m : FinMap nat_cmp Entry). get m name) (sym same) ∙ got_none slots name gap.absent)
 
 pub got_there : (slots : List (Option (ℕ × Entry))) (entries : FinMap nat_cmp Entry) (name at : ℕ) (value : Option Entry)
-    → map_of_slots slots ≡ entries → StandOnce slots → IsThere slots name at
+    → map_of_slots slots ≡ entries → StandOnce slots → StandsAt slots name at
     → value ≡ option_map (λ (row : ℕ × Entry). row.1) (get_or slots at None) → value ≡ get entries name
 got_there slots entries name at value same apart there read =
     read ∙ ap (option_map (λ (row : ℕ × Entry). row.1)) there.is ∙ sym (has_there slots entries name at same apart there)
 
 pub stands_lacking : (slots : List (Option (ℕ × Entry))) (entries : FinMap nat_cmp Entry) (name place : ℕ) → map_of_slots slots ≡ entries
-    → IsGap slots name place
+    → WouldStandAt slots name place
     → entries ≡ remove entries name
 stands_lacking slots entries name place same gap = sym (remove_absent entries name (sym (lacks slots entries name place same gap)))
 
 -- What is kept afterwards, and what it stands for.
 
-module _ (slots : List (Option (ℕ × Entry))) (count room : ℕ) (kept : AreKept slots count room) (name : ℕ) (e : Entry) where
+module _ (slots : List (Option (ℕ × Entry))) (count room : ℕ) (kept : AreTableSlots slots count room) (name : ℕ) (e : Entry) where
   -- another value under a name moves no row
-  module _ (at : ℕ) (there : IsThere slots name at) where
+  module _ (at : ℕ) (there : StandsAt slots name at) where
     abbrev over : List (Option (ℕ × Entry))
     over = slice_set slots at (Some (name, e))
 
@@ -142,7 +142,7 @@ module _ (slots : List (Option (ℕ × Entry))) (count room : ℕ) (kept : AreKe
         order place w i has before le =
             let led = kept.order place w i (as_before place w has) before le in (led.0, and_after i led.0 led.1, led.2)
 
-    pub kept_over : (new : List (Option (ℕ × Entry))) → new ≡ slice_set slots at (Some (name, e)) → AreKept new count room
+    pub kept_over : (new : List (Option (ℕ × Entry))) → new ≡ slice_set slots at (Some (name, e)) → AreTableSlots new count room
     kept_over new is =
         kept_now slots count room kept new (insert (map_of_slots slots) name e) count (over_now new is)
         (kept.counted ∙ sym (len_over (map_of_slots slots) name e there.value (got slots name at there.value kept.apart there.is))) kept.few
@@ -152,14 +152,14 @@ module _ (slots : List (Option (ℕ × Entry))) (count room : ℕ) (kept : AreKe
     stands_over entries new same is = (over_now new is).map ∙ ap (λ (m : FinMap nat_cmp Entry). insert m name e) same
 
   -- there is room for one more, where there is room for the name
-  pub room_left : (table : Table) (place : ℕ) → map_of_slots slots ≡ table.entries → room ≡ table.room → IsGap slots name place → HasRoomFor table name
+  pub room_left : (table : NamedEntries) (place : ℕ) → map_of_slots slots ≡ table.entries → room ≡ table.room → WouldStandAt slots name place → HasRoomFor table name
       → count < room
   room_left table place same same_room gap (inl some) =
       let none = lacks slots table.entries name place same gap in absurd (false≢true (ap is_some none ∙ some))
   room_left table place same same_room gap (inr less) = let lens = ap len same in omega (arith, less, lens, same_room, kept.counted)
 
-  pub kept_put : (new : List (Option (ℕ × Entry))) (place : ℕ) → IsGap slots name place → AreNow slots new (insert (map_of_slots slots) name e)
-      → count < room → AreKept new (count + 1) room
+  pub kept_put : (new : List (Option (ℕ × Entry))) (place : ℕ) → WouldStandAt slots name place → AreNow slots new (insert (map_of_slots slots) name e)
+      → count < room → AreTableSlots new (count + 1) room
   kept_put new place gap now less =
       let more = len_put (map_of_slots slots) name e (got_none slots name gap.absent) in
       kept_now slots count room kept new (insert (map_of_slots slots) name e) (count + 1) now (omega (arith, kept.counted, more)) (omega (arith, less))
@@ -168,14 +168,14 @@ module _ (slots : List (Option (ℕ × Entry))) (count room : ℕ) (kept : AreKe
       → AreNow slots new (insert (map_of_slots slots) name e) → map_of_slots new ≡ insert entries name e
   stands_put entries new same now = now.map ∙ ap (λ (m : FinMap nat_cmp Entry). insert m name e) same
 
-module _ (slots : List (Option (ℕ × Entry))) (count room : ℕ) (kept : AreKept slots count room) (name at : ℕ) (there : IsThere slots name at) where
+module _ (slots : List (Option (ℕ × Entry))) (count room : ℕ) (kept : AreTableSlots slots count room) (name at : ℕ) (there : StandsAt slots name at) where
   pub one_at_least : 1 ≤ count
   one_at_least =
       let some = some_row slots at (name, there.value) there.is in
       let same = (fewer slots count room kept).1 in
       omega (arith, some, same)
 
-  pub kept_take : (new : List (Option (ℕ × Entry))) → AreNow slots new (remove (map_of_slots slots) name) → AreKept new (count - 1) room
+  pub kept_take : (new : List (Option (ℕ × Entry))) → AreNow slots new (remove (map_of_slots slots) name) → AreTableSlots new (count - 1) room
   kept_take new now =
       let less = len_take (map_of_slots slots) name there.value (got slots name at there.value kept.apart there.is) in
       kept_now slots count room kept new (remove (map_of_slots slots) name) (count - 1) now (omega (arith, kept.counted, less)) (omega (arith, kept.few))
@@ -187,10 +187,10 @@ module _ (slots : List (Option (ℕ × Entry))) (count room : ℕ) (kept : AreKe
 -- A new table.
 
 pub kept_new : (slots : List (Option (ℕ × Entry))) (n room : ℕ) → slots ≡ no_rows n → IsNextPowerOfTwo (2 * room) n → 0 < room
-    → room ≤ FRAME_UNITS * MOST_FRAMES → AreKept slots 0 room
+    → room ≤ FRAME_UNITS * MOST_FRAMES → AreTableSlots slots 0 room
 unfolding no_rows
 kept_new slots n room is size some most =
-    subst (λ ss. AreKept ss 0 room) (sym is) (record {
+    subst (λ ss. AreTableSlots ss 0 room) (sym is) (record {
       size = subst (IsNextPowerOfTwo (2 * room)) (sym (length-replicate n (none_of {X = Entry}))) size;
       apart = λ name x y i j one two. absurd (empty_at i (name, x) one);
       order = λ place w i has before le. absurd (empty_at (place % length (replicate n (none_of {X = Entry}))) (has.name, has.value) has.is);
@@ -218,7 +218,7 @@ name_at [] i = refl
 name_at (slot ∷ slots) zero = refl
 name_at (slot ∷ slots) (suc i) = name_at slots i
 
-pub shown : (table : Table) (slots : List (Option (ℕ × Entry))) (i : ℕ) (name : Option ℕ) → names_of slots ≡ table.slots
+pub shown : (table : NamedEntries) (slots : List (Option (ℕ × Entry))) (i : ℕ) (name : Option ℕ) → names_of slots ≡ table.slots
     → name ≡ option_map (λ (row : ℕ × Entry). row.0) (get_or slots i None) → name ≡ get_or table.slots i None
 shown table slots i name same read = read ∙ sym (name_at slots i) ∙ ap (λ (names : List (Option ℕ)). get_or names i None) same
 
@@ -233,7 +233,7 @@ some_name : (slot : Option (ℕ × Entry)) → (slot ≡ None → ⊥) → is_so
 some_name None other = absurd (other refl)
 some_name (Some row) other = refl
 
-module _ (slots : List (Option (ℕ × Entry))) (count room : ℕ) (kept : AreKept slots count room) where
+module _ (slots : List (Option (ℕ × Entry))) (count room : ℕ) (kept : AreTableSlots slots count room) where
   row_at : (i name : ℕ) → get_or (names_of slots) i None ≡ Some name → (x : Entry) × (get_or slots i None ≡ Some (name, x))
   row_at i name is = row_of (get_or slots i None) name (sym (name_at slots i) ∙ is)
 

@@ -2,12 +2,12 @@ use Rattle.std.specs.Prelude.{ℕ, refl, List, Option}
 use Rattle.std.specs.Coded.{Coded, code_by, coded×, coded_ℕ, coded_list, coded_option}
 use Rattle.std.specs.Ordering.{nat_cmp}
 use Rattle.std.specs.FinMap.{FinMap, code}
-use Rattle.overlay_mapping_table.specs.Table.{Table}
+use Rattle.overlay_mapping_table.specs.Table.{NamedEntries}
 use Rattle.overlay_mapping_table.specs.declared.entry.Entry.{Entry}
 use Rattle.overlay_mapping_table.specs.contracts.entry.Entry as entry
 
 -- Tables are told apart as values by their parts.
-abbrev pub mapping_table_code : Coded Table
+abbrev pub mapping_table_code : Coded NamedEntries
 mapping_table_code =
     code_by (FinMap nat_cmp Entry × (ℕ × List (Option ℕ)))
     (coded× (code {R = nat_cmp} coded_ℕ entry.the_row.coded) (coded× coded_ℕ (coded_list (coded_option coded_ℕ))))

@@ -7,7 +7,7 @@ use Rattle.overlay_mapping_table.specs.declared.entry.Entry.{Entry}
 use Rattle.overlay_mapping_table.specs.Rows.{map_of_slots, StandOnce, AreInOrder}
 
 -- What a table keeps. This is true of the slots of every table.
-pub record AreKept (slots : List (Option (ℕ × Entry))) (count room : ℕ) : Type 0 where
+pub record AreTableSlots (slots : List (Option (ℕ × Entry))) (count room : ℕ) : Type 0 where
   pub size : IsNextPowerOfTwo (2 * room) (length slots)
   pub apart : StandOnce slots
   pub order : AreInOrder (length slots) slots

@@ -22,7 +22,7 @@ pub record AreSound (slots : List (Option (ℕ × Entry))) : Type 0 where
   pub spare : (at : ℕ) × IsEmpty slots at
 
 -- a name stands in a slot
-pub record IsThere (slots : List (Option (ℕ × Entry))) (name at : ℕ) : Type 0 where
+pub record StandsAt (slots : List (Option (ℕ × Entry))) (name at : ℕ) : Type 0 where
   pub inside : at < length slots
   pub value : Entry
   pub is : get_or slots at None ≡ Some (name, value)
@@ -51,7 +51,7 @@ pub record IsPast (n : ℕ) (slots : List (Option (ℕ × Entry))) (name home pl
   pub other : (i : ℕ) (x : Entry) → home ≤ i → i < place → ring n slots i ≡ Some (name, x) → ⊥
 
 -- a name stands nowhere, and would stand at a place: behind those whose homes lie no further on
-pub record IsGap (slots : List (Option (ℕ × Entry))) (name place : ℕ) : Type 0 where
+pub record WouldStandAt (slots : List (Option (ℕ × Entry))) (name place : ℕ) : Type 0 where
   pub low : length slots ≤ place
   pub near : place < 3 * length slots
   pub steps : ℕ
@@ -69,4 +69,4 @@ pub record AreNow (old new : List (Option (ℕ × Entry))) (entries : FinMap nat
 
 -- the row of a slot was taken out
 abbrev pub IsTakenOut : List (Option (ℕ × Entry)) → List (Option (ℕ × Entry)) → ℕ → Type 0
-IsTakenOut old new at = (name : ℕ) → IsThere old name at → AreNow old new (remove (map_of_slots old) name)
+IsTakenOut old new at = (name : ℕ) → StandsAt old name at → AreNow old new (remove (map_of_slots old) name)

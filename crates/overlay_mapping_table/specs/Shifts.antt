@@ -31,14 +31,14 @@ abbrev pub HaveRows : List (Option (ℕ × Entry)) → Full → Type 0
 HaveRows slots full = (i : ℕ) → full.from ≤ i → i < full.end → ring (length slots) slots i ≡ None → ⊥
 
 -- the rows behind a place up to the last one stand behind their homes, and what comes next doesn't
-pub record IsLast (n : ℕ) (slots : List (Option (ℕ × Entry))) (hole last : ℕ) : Type 0 where
+pub record IsLastRow (n : ℕ) (slots : List (Option (ℕ × Entry))) (hole last : ℕ) : Type 0 where
   pub low : hole ≤ last
   pub passed : (i : ℕ) → hole < i → i ≤ last → (v : ℕ) × HasWay n slots i (v + 1)
   pub stops : (v : ℕ) → HasWay n slots (last + 1) v → v ≡ 0
   pub end : (e : ℕ) × (last < e) × (e < hole + n) × (ring n slots e ≡ None)
 
 -- the same rows, each in one slot
-pub record AreSame (old new : List (Option (ℕ × Entry))) : Type 0 where
+pub record HaveSameRows (old new : List (Option (ℕ × Entry))) : Type 0 where
   pub size : length new ≡ length old
   pub apart : StandOnce new
   pub kept : (name : ℕ) (x : Entry) (i : ℕ) → get_or old i None ≡ Some (name, x) → (j : ℕ) × (get_or new j None ≡ Some (name, x))
@@ -46,14 +46,14 @@ pub record AreSame (old new : List (Option (ℕ × Entry))) : Type 0 where
 
 -- what stood from a place on before an empty one stands one place further on
 pub record AreRaised (n : ℕ) (old new : List (Option (ℕ × Entry))) (place end : ℕ) : Type 0 where
-  pub same : AreSame old new
+  pub same : HaveSameRows old new
   pub up : (i : ℕ) → place ≤ i → i < end → ring n new (i + 1) ≡ ring n old i
   pub other : (i : ℕ) → end < i → i < place + n → ring n new i ≡ ring n old i
   pub bare : ring n new place ≡ None
 
 -- what stood behind an empty place, up to the last one, stands one place before
 pub record AreLowered (n : ℕ) (old new : List (Option (ℕ × Entry))) (hole last : ℕ) : Type 0 where
-  pub same : AreSame old new
+  pub same : HaveSameRows old new
   pub down : (i : ℕ) → hole ≤ i → i < last → ring n new i ≡ ring n old (i + 1)
   pub other : (i : ℕ) → last < i → i < hole + n → ring n new i ≡ ring n old i
   pub bare : ring n new last ≡ None

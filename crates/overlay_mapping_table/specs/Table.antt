@@ -5,13 +5,13 @@ use Rattle.overlay_mapping_table.specs.Homes.{home_number}
 use Rattle.overlay_mapping_table.specs.declared.entry.Entry.{Entry}
 
 -- Entries by the names of overlays, how many there may be, and the name in each slot.
-pub record Table : Type 0 where
+pub record NamedEntries : Type 0 where
   pub entries : FinMap nat_cmp Entry
   pub room : ℕ
   pub slots : List (Option ℕ)
 
 -- a name has an entry, or there is room for one more
-abbrev pub HasRoomFor : Table → ℕ → Type 0
+abbrev pub HasRoomFor : NamedEntries → ℕ → Type 0
 HasRoomFor table name = IsSome (get table.entries name) ⊎ (len table.entries < table.room)
 
 -- the names in the slots are those of the map, each in exactly one slot

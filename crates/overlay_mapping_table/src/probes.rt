@@ -1,5 +1,5 @@
 ghost use Rattle.std.specs.Prelude.{◌≡◌, ◌+◌, ◌≤◌, ◌<◌, ◌*◌, ◌↔◌, true, length, IfOk, IfErr};
-ghost use Rattle.overlay_mapping_table.specs.Probes.{AreSound, IsBefore, IsBeyond, IsGap, IsPassed, IsThere};
+ghost use Rattle.overlay_mapping_table.specs.Probes.{AreSound, IsBefore, IsBeyond, WouldStandAt, IsPassed, StandsAt};
 
 use crate::guesses::Guesses;
 use crate::places::{home, middle, way, wrap};
@@ -10,8 +10,8 @@ use overlay_address::OverlayPage;
 #[inline(always)]
 pub(crate) fn place_of(slots: &Slots, guesses: &Guesses, p: OverlayPage) -> Result<usize, usize>
     requires { AreSound slots.now }
-    ensures there { IfOk result (IsThere slots.now p) }
-    ensures gap { IfErr result (IsGap slots.now p) }
+    ensures there { IfOk result (StandsAt slots.now p) }
+    ensures gap { IfErr result (WouldStandAt slots.now p) }
 {
     let slot = home(p, slots.len());
     if slots.number_at(slot) == p.address(0) {
@@ -24,8 +24,8 @@ pub(crate) fn place_of(slots: &Slots, guesses: &Guesses, p: OverlayPage) -> Resu
 #[inline(never)]
 fn search(slots: &Slots, guesses: &Guesses, p: OverlayPage) -> Result<usize, usize>
     requires { AreSound slots.now }
-    ensures there { IfOk result (IsThere slots.now p) }
-    ensures gap { IfErr result (IsGap slots.now p) }
+    ensures there { IfOk result (StandsAt slots.now p) }
+    ensures gap { IfErr result (WouldStandAt slots.now p) }
 {
     let n = slots.len();
     let name = p.address(0);

@@ -2,8 +2,8 @@ ghost use Rattle.std.specs.Prelude.{◌≡◌, ◌≤◌, ◌<◌, ◌+◌, ◌*
 ghost use Rattle.std.specs.Int.{IsPowerOfTwo};
 ghost use Rattle.std.specs.FinMap.{insert};
 ghost use Rattle.overlay_mapping_table.specs.Rows.{map_of_slots, ring, StandOnce};
-ghost use Rattle.overlay_mapping_table.specs.Probes.{AreNow, AreSound, IsBeyond, IsGap, IsTakenOut, IsThere};
-ghost use Rattle.overlay_mapping_table.specs.Shifts.{AreLowered, AreRaised, IsEnd, HaveRows, IsLast};
+ghost use Rattle.overlay_mapping_table.specs.Probes.{AreNow, AreSound, IsBeyond, WouldStandAt, IsTakenOut, StandsAt};
+ghost use Rattle.overlay_mapping_table.specs.Shifts.{AreLowered, AreRaised, IsEnd, HaveRows, IsLastRow};
 
 use crate::entry::Entry;
 use crate::full::Full;
@@ -26,7 +26,7 @@ pub(crate) fn put_in(
 ) -> Full
     requires sound { AreSound slots.old }
     requires full { HaveRows slots.old full }
-    requires gap { IsGap slots.old p place }
+    requires gap { WouldStandAt slots.old p place }
     ensures now { AreNow slots.old slots.new (insert (map_of_slots slots.old) p e) }
     ensures full { HaveRows slots.new result }
 {
@@ -44,7 +44,7 @@ pub(crate) fn put_in(
 // they end then.
 pub(crate) fn take_out(slots: &mut Slots, guesses: &Guesses, at: usize) -> usize
     requires sound { AreSound slots.old }
-    requires there { (name : ℕ) × IsThere slots.old name at }
+    requires there { (name : ℕ) × StandsAt slots.old name at }
     ensures { IsTakenOut slots.old slots.new at }
 {
     let hole = slots.len() + at;
@@ -76,7 +76,7 @@ fn last_from(slots: &Slots, guesses: &Guesses, hole: usize) -> usize
     requires behind { length slots.now ≤ hole }
     requires near { hole < 2 * length slots.now }
     requires there { ring (length slots.now) slots.now hole ≡ None → ⊥ }
-    ensures { IsLast (length slots.now) slots.now hole result }
+    ensures { IsLastRow (length slots.now) slots.now hole result }
 {
     let mut next = hole + 1;
     'passing: while is_before(slots, next, next) {

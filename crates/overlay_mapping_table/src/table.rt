@@ -29,21 +29,21 @@ pub struct MappingTable {
 }
 
 impl Model for MappingTable {
-    ghost use Rattle.overlay_mapping_table.specs.Table.{Table};
+    ghost use Rattle.overlay_mapping_table.specs.Table.{NamedEntries};
     ghost use Rattle.overlay_mapping_table.specs.Codes.{mapping_table_code};
 
-    ghost Value = { Table };
+    ghost Value = { NamedEntries };
 
     ghost coded = { mapping_table_code };
 
     ghost use Rattle.overlay_mapping_table.specs.Rows.{map_of_slots};
-    ghost use Rattle.overlay_mapping_table.specs.Kept.{AreKept, names_of};
+    ghost use Rattle.overlay_mapping_table.specs.Kept.{AreTableSlots, names_of};
 
     ghost view = { λ t. record { entries = map_of_slots t.slots; room = t.room; slots = names_of t.slots } };
 
     ghost use Rattle.overlay_mapping_table.specs.Shifts.{HaveRows};
 
-    ghost invariant = { λ t. AreKept t.slots t.count t.room × HaveRows t.slots t.full };
+    ghost invariant = { λ t. AreTableSlots t.slots t.count t.room × HaveRows t.slots t.full };
 }
 
 impl MappingTable {

@@ -6,7 +6,7 @@ pub use Rattle.overlay_bits.specs.Below.{has_append}
 pub use Rattle.overlay_bits.specs.Laws.{are_with, count_with, has_next, has_with, with_there}
 pub use Rattle.overlay_bits.specs.Lines.{AreLines, has_line, with_line}
 pub use Rattle.overlay_mapping_table.specs.declared.entry.Entry.{Entry}
-pub use Rattle.segment_store.specs.Changes.{AreCarried, AreLow, BeginsSegment, Copies, Ends, FillsFrame, HasLinesNow, Inserts, IsEmptyStore, IsKept, IsOutside, IsTarget, KeepsFrame, KeepsFrames, KeepsOtherFrames, KeepsOtherSegments, KeepsScratch, KeepsSegment, KeepsSegments, Lays, Lifts, MakesMoves, block_of, units_after}
+pub use Rattle.segment_store.specs.Changes.{AreCarried, AreLow, BeginsSegment, CopiesSegment, EndsSegment, FillsFrame, HasLinesNow, Inserts, IsEmptyStore, IsKept, IsOutside, IsTarget, KeepsFrame, KeepsFrames, KeepsOtherFrames, KeepsOtherSegments, KeepsScratch, KeepsSegment, KeepsSegments, Lays, Lifts, MakesMoves, block_of, units_after}
 pub use Rattle.segment_store.specs.Kept.{IsStore}
 pub use Rattle.segment_store.specs.Laws.{Alters, count_fits, filled_there, frame_alters, frame_inside, frame_set_here, frame_set_store, frame_stays, frames_stay, inside_of, lies_at, line_alters, line_lies, line_set_store, lines_there, order_of, others_stay, places_differ, refilled, scratch_stays, segment_range, segments_stay, set_beside, set_here, stays_twice}
 pub use Rattle.segment_store.specs.Places.{LiesIn}

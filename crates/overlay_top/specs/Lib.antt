@@ -11,4 +11,4 @@ pub mod Outside
 pub mod Running
 pub mod Ends
 pub mod Unbounded
-pub mod Limits
+pub mod Examples

@@ -155,22 +155,9 @@ put_both front back old f is =
     let none = ap (drop (length whole - f)) rest ∙ drop_all (length whole - f) (drop f old) (omega (arith, length-append front (drop f old))) in
     ap (λ xs. xs ++ (back ++ drop (length whole - f) (drop f whole))) first ∙ ap (λ xs. front ++ (back ++ xs)) none ∙ ap (λ xs. front ++ xs) (append-nil back)
 
-pub filled_both : (memory : Memory) (front back old : List ℕ) (address next f j k n : ℕ) → length front ≡ f → j ≡ f → n ≡ j + k → next ≡ address + j
-    → front ≡ bytes_at memory address j → back ≡ bytes_at memory next k
-    → take f (front ++ drop f old) ++ (back ++ drop (length (front ++ drop f old) - f) (drop f (front ++ drop f old))) ≡ bytes_at memory address n
-filled_both memory front back old address next f j k n len is_j is at front_is back_is =
-    put_both front back old f len ∙ ap (λ xs. xs ++ back) front_is ∙ ap (λ xs. bytes_at memory address j ++ xs) (back_is ∙ ap (λ a. bytes_at memory a k) at)
-    ∙ sym (bytes_joined memory address j k) ∙ ap (bytes_at memory address) (sym is)
-
 -- what is behind f elements
 pub rest_is : (xs : List ℕ) (f : ℕ) → take (length xs - f) (drop f xs) ≡ drop f xs
 rest_is xs f = take_all (length xs - f) (drop f xs) (omega (arith, length-drop f xs))
-
-pub rest_length : (front old : List ℕ) (f : ℕ) → length front ≡ f → f ≤ length old
-    → length (take (length (front ++ drop f old) - f) (drop f (front ++ drop f old))) ≡ length old - f
-rest_length front old f is within =
-    ap length (rest_is (front ++ drop f old) f)
-    ∙ omega (arith, length-drop f (front ++ drop f old), length-append front (drop f old), length-drop f old)
 
 -- what a memory is stays so where a byte of it is stored
 byte_kept : (memory : Memory) (q at value : ℕ) (old : Page) → IsMemory memory → get memory q ≡ Some old → IsMemory (insert memory q (with_page_byte at value old))

@@ -4,24 +4,24 @@ use Rattle.std.specs.List as list
 use Rattle.std.specs.List.{AllZip}
 use Rattle.std.specs.FinMap.{get, insert}
 use Rattle.std.proofs.lemmas.List.{length-append}
-use Rattle.number_maps.specs.Rows.{IsAt, IsGap, Rise, map_of}
+use Rattle.number_maps.specs.Rows.{IsAt, IsGap, RowsRise, map_of}
 use Rattle.number_maps.specs.RowLaws as laws
 use Rattle.number_maps.specs.RowLaws.{map_insert, map_remove, map_set, rise_insert, rise_remove, rise_set}
 use Rattle.overlay_bits.specs.Lines.{AreLines, lines_before, lines_behind, with_line, without_line}
 use Rattle.page_set.specs.declared.TheConstants.{CHUNK_PAGES}
 use Rattle.page_set.specs.Sets.{CanInsert, IsChunk, IsPut, Members, places_in}
 use Rattle.page_set.specs.Laws.{are_none}
-use Rattle.page_set.specs.Kept.{AreKept}
+use Rattle.page_set.specs.Kept.{AreSetRows}
 use Rattle.page_set.proofs.Chunks.{are_gone, are_put, put_last, put_nowhere, put_with, put_without}
 
 -- Sets, by the rows that they keep.
 
-pub kept_none : AreKept []
+pub kept_none : AreSetRows []
 kept_none = record { rise = tt; are = are_none (map_of []) refl }
 
 -- The bits of a chunk.
 
-pub had : (rows : List (ℕ × List ℕ)) (k i : ℕ) (row : ℕ × List ℕ) → Rise 0 rows → IsAt rows k i → row ≡ get_or rows i row
+pub had : (rows : List (ℕ × List ℕ)) (k i : ℕ) (row : ℕ × List ℕ) → RowsRise 0 rows → IsAt rows k i → row ≡ get_or rows i row
     → places_in (get (map_of rows) k) ≡ row.1
 had rows k i row rise at is = ap places_in (sym (laws.got (map_of rows) rows k i row refl rise at is))
 
@@ -41,9 +41,9 @@ chunk_with page places bits low is are =
 
 -- A page put in, where its chunk has a row and where it has none.
 
-module _ (rows : List (ℕ × List ℕ)) (page i : ℕ) (bits : List ℕ) (low : page < 2 ^ 64) (kept : AreKept rows) (are : AreLines bits) where
+module _ (rows : List (ℕ × List ℕ)) (page i : ℕ) (bits : List ℕ) (low : page < 2 ^ 64) (kept : AreSetRows rows) (are : AreLines bits) where
   pub kept_with : (places : List ℕ) → IsAt rows (page / CHUNK_PAGES) i → bits ≡ with_line places (page % CHUNK_PAGES)
-      → AreKept (slice_set rows i (page / CHUNK_PAGES, bits))
+      → AreSetRows (slice_set rows i (page / CHUNK_PAGES, bits))
   kept_with places at is = record {
     rise = rise_set 0 rows (page / CHUNK_PAGES) i bits kept.rise at;
     are = are_put (map_of rows) (map_of (slice_set rows i (page / CHUNK_PAGES, bits))) (page / CHUNK_PAGES) bits kept.are
@@ -57,8 +57,8 @@ module _ (rows : List (ℕ × List ℕ)) (page i : ℕ) (bits : List ℕ) (low :
       (map_set rows (page / CHUNK_PAGES) i bits kept.rise at ∙ ap (insert (map_of rows) (page / CHUNK_PAGES)) is)
 
   pub kept_new : (none : List ℕ) (new : List (ℕ × List ℕ)) → IsGap rows (page / CHUNK_PAGES) i → new ≡ list.insert rows i (page / CHUNK_PAGES, bits)
-      → bits ≡ with_line none (page % CHUNK_PAGES) → AreKept new
-  kept_new none new gap put is = subst AreKept (sym put) (record {
+      → bits ≡ with_line none (page % CHUNK_PAGES) → AreSetRows new
+  kept_new none new gap put is = subst AreSetRows (sym put) (record {
     rise = rise_insert 0 rows (page / CHUNK_PAGES) i bits kept.rise (omega arith) gap;
     are = are_put (map_of rows) (map_of (list.insert rows i (page / CHUNK_PAGES, bits))) (page / CHUNK_PAGES) bits kept.are
         (map_insert rows (page / CHUNK_PAGES) i bits gap) (chunk_with page none bits low is are);
@@ -72,7 +72,7 @@ module _ (rows : List (ℕ × List ℕ)) (page i : ℕ) (bits : List ℕ) (low :
 
   -- A page taken out, where others are left in its chunk.
 
-  pub kept_without : IsAt rows (page / CHUNK_PAGES) i → 0 < length bits → AreKept (slice_set rows i (page / CHUNK_PAGES, bits))
+  pub kept_without : IsAt rows (page / CHUNK_PAGES) i → 0 < length bits → AreSetRows (slice_set rows i (page / CHUNK_PAGES, bits))
   kept_without at some = record {
     rise = rise_set 0 rows (page / CHUNK_PAGES) i bits kept.rise at;
     are = are_put (map_of rows) (map_of (slice_set rows i (page / CHUNK_PAGES, bits))) (page / CHUNK_PAGES) bits kept.are
@@ -91,9 +91,9 @@ nil : (xs : List ℕ) → length xs ≡ 0 → xs ≡ []
 nil [] h = refl
 nil (x ∷ xs) h = absurd (omega (arith, h))
 
-module _ (rows new : List (ℕ × List ℕ)) (page i : ℕ) (kept : AreKept rows) (at : IsAt rows (page / CHUNK_PAGES) i) (gone : new ≡ list.remove rows i) where
-  pub kept_last : AreKept new
-  kept_last = subst AreKept (sym gone) (record {
+module _ (rows new : List (ℕ × List ℕ)) (page i : ℕ) (kept : AreSetRows rows) (at : IsAt rows (page / CHUNK_PAGES) i) (gone : new ≡ list.remove rows i) where
+  pub kept_last : AreSetRows new
+  kept_last = subst AreSetRows (sym gone) (record {
     rise = rise_remove 0 rows i kept.rise at.there;
     are = are_gone (map_of rows) (map_of (list.remove rows i)) (page / CHUNK_PAGES) kept.are (map_remove rows (page / CHUNK_PAGES) i kept.rise at);
   })
@@ -115,7 +115,7 @@ pub row_left : (rows : List (ℕ × List ℕ)) (k i room : ℕ) → IsGap rows k
 row_left rows k i room gap (inl some) = let no = sym some ∙ ap is_some (laws.got_gap rows k i gap) in cc
 row_left rows k i room gap (inr less) = less
 
-pub row_room : (set : Members) (rows : List (ℕ × List ℕ)) (room page : ℕ) → ◌≡◌ {A = Members} (record { chunks = map_of rows; room = room }) set → Rise 0 rows
+pub row_room : (set : Members) (rows : List (ℕ × List ℕ)) (room page : ℕ) → ◌≡◌ {A = Members} (record { chunks = map_of rows; room = room }) set → RowsRise 0 rows
     → CanInsert set page → IsSome (get (map_of rows) (page / CHUNK_PAGES)) ⊎ (length rows < room)
 row_room set rows room page same rise has = by (subst (λ (s : Members). CanInsert s page) (sym same) has)
   where

@@ -58,8 +58,8 @@ abbrev pub is_within : ℕ → ℕ → ℕ → Bool
 is_within from n page = nat_le from page && nat_lt page (from + n)
 
 -- the n pages from `from` on are no members, and every other one is as before
-abbrev pub AreCut : Chunks → ℕ → ℕ → Chunks → Type 0
-AreCut old from n new = (q : ℕ) → holds new q ≡ (if is_within from n q then false else holds old q)
+abbrev pub AreTakenOut : Chunks → ℕ → ℕ → Chunks → Type 0
+AreTakenOut old from n new = (q : ℕ) → holds new q ≡ (if is_within from n q then false else holds old q)
 
 -- the least member not below a page, or that there is none
 abbrev pub IsNextMember : Chunks → ℕ → Option ℕ → Type 0

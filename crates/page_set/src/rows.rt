@@ -3,10 +3,10 @@
 ghost use Rattle.std.specs.Prelude.{◌≡◌, ℕ, ◌+◌, ◌/◌, ◌%◌, ◌^◌, ◌<◌, ◌≤◌, ◌⊎◌, List, IfOk, IfErr, IsSome, length, true, false};
 ghost use Rattle.std.specs.FinMap.{get};
 ghost use Rattle.std.specs.Vec.{vec_capacity};
-ghost use Rattle.number_maps.specs.Rows.{IsAt, IsGap, IsNextOne, Rise, map_of};
+ghost use Rattle.number_maps.specs.Rows.{IsAt, IsGap, IsNextOne, RowsRise, map_of};
 ghost use Rattle.page_set.specs.declared.TheConstants.{CHUNK_PAGES};
-ghost use Rattle.page_set.specs.Sets.{AreCut, IsNextMember, IsPut, places_in};
-ghost use Rattle.page_set.specs.Kept.{AreKept};
+ghost use Rattle.page_set.specs.Sets.{AreTakenOut, IsNextMember, IsPut, places_in};
+ghost use Rattle.page_set.specs.Kept.{AreSetRows};
 
 use crate::CHUNK_PAGES;
 use overlay_bits::Bits;
@@ -16,7 +16,7 @@ pub(crate) type Row = (u64, Bits);
 
 // Where the row of a chunk stands, or would stand.
 fn place_of(rows: &[Row], chunk: u64) -> Result<usize, usize>
-    requires { Rise 0 rows.now }
+    requires { RowsRise 0 rows.now }
     ensures there { IfOk result (IsAt rows.now chunk) }
     ensures gap { IfErr result (IsGap rows.now chunk) }
 {
@@ -25,7 +25,7 @@ fn place_of(rows: &[Row], chunk: u64) -> Result<usize, usize>
 
 /// The bits of a chunk: none where it has no row.
 pub(crate) fn bits_of(rows: &[Row], chunk: u64) -> Bits
-    requires { Rise 0 rows.now }
+    requires { RowsRise 0 rows.now }
     ensures { result ≡ places_in (get (map_of rows.now) chunk) }
 {
     match place_of(rows, chunk) {
@@ -36,7 +36,7 @@ pub(crate) fn bits_of(rows: &[Row], chunk: u64) -> Bits
 
 // The row of the least chunk not below one.
 fn next_row(rows: &[Row], chunk: u64) -> Option<Row>
-    requires { Rise 0 rows.now }
+    requires { RowsRise 0 rows.now }
     ensures { IsNextOne (map_of rows.now) chunk result }
 {
     match place_of(rows, chunk) {
@@ -53,7 +53,7 @@ fn next_row(rows: &[Row], chunk: u64) -> Option<Row>
 
 /// The least member not below a page.
 pub(crate) fn next_in(rows: &[Row], page: u64) -> Option<u64>
-    requires { AreKept rows.now }
+    requires { AreSetRows rows.now }
     ensures { IsNextMember (map_of rows.now) page result }
 {
     let chunk = page / CHUNK_PAGES;
@@ -71,10 +71,10 @@ pub(crate) fn next_in(rows: &[Row], page: u64) -> Option<u64>
 
 /// Puts a page in, for which there is room.
 pub(crate) fn put_in(rows: &mut Vec<Row>, page: u64)
-    requires kept { AreKept rows.old.items }
+    requires kept { AreSetRows rows.old.items }
     requires room { IsSome (get (map_of rows.old.items) (page / CHUNK_PAGES))
         ⊎ (length rows.old.items < vec_capacity rows.old) }
-    ensures kept { AreKept rows.new.items }
+    ensures kept { AreSetRows rows.new.items }
     ensures put { IsPut (map_of rows.old.items) page true (map_of rows.new.items) }
     ensures room { vec_capacity rows.old ≤ vec_capacity rows.new }
 {
@@ -94,8 +94,8 @@ pub(crate) fn put_in(rows: &mut Vec<Row>, page: u64)
 
 /// Takes a page out. A chunk that has no more keeps no row.
 pub(crate) fn take_out(rows: &mut Vec<Row>, page: u64)
-    requires { AreKept rows.old.items }
-    ensures kept { AreKept rows.new.items }
+    requires { AreSetRows rows.old.items }
+    ensures kept { AreSetRows rows.new.items }
     ensures put { IsPut (map_of rows.old.items) page false (map_of rows.new.items) }
     ensures room { vec_capacity rows.new ≡ vec_capacity rows.old }
 {
@@ -116,10 +116,10 @@ pub(crate) fn take_out(rows: &mut Vec<Row>, page: u64)
 
 /// Takes out the `n` pages from `from` on, as many as are members.
 pub(crate) fn take_run(rows: &mut Vec<Row>, from: u64, n: u32)
-    requires kept { AreKept rows.old.items }
+    requires kept { AreSetRows rows.old.items }
     requires low { from + n < 2 ^ 64 }
-    ensures kept { AreKept rows.new.items }
-    ensures cut { AreCut (map_of rows.old.items) from n (map_of rows.new.items) }
+    ensures kept { AreSetRows rows.new.items }
+    ensures cut { AreTakenOut (map_of rows.old.items) from n (map_of rows.new.items) }
     ensures room { vec_capacity rows.new ≡ vec_capacity rows.old }
 {
     let end = from + u64::from(n);

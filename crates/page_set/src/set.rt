@@ -1,6 +1,6 @@
 ghost use Rattle.std.specs.Prelude.{◌≡◌, ◌+◌, ◌^◌, ◌<◌, ◌≤◌, ◌⊎◌, IfOk, OnOk, true, false};
 ghost use Rattle.std.specs.FinMap as map;
-ghost use Rattle.page_set.specs.Sets.{AreChunks, AreCut, CanInsert, IsNextMember, IsPut, chunks_in, holds};
+ghost use Rattle.page_set.specs.Sets.{AreChunks, AreTakenOut, CanInsert, IsNextMember, IsPut, chunks_in, holds};
 
 use crate::CHUNK_PAGES;
 use crate::rows::{Row, bits_of, next_in, put_in, take_out, take_run};
@@ -32,11 +32,11 @@ impl Model for PageSet {
 
     ghost use Rattle.std.specs.Vec.{vec_capacity};
     ghost use Rattle.number_maps.specs.Rows.{map_of};
-    ghost use Rattle.page_set.specs.Kept.{AreKept};
+    ghost use Rattle.page_set.specs.Kept.{AreSetRows};
 
     ghost view = { λ s. record { chunks = map_of s.rows.items; room = vec_capacity s.rows } };
 
-    ghost invariant = { λ s. AreKept s.rows.items };
+    ghost invariant = { λ s. AreSetRows s.rows.items };
 }
 
 impl PageSet {
@@ -95,7 +95,7 @@ impl PageSet {
     /// too.
     pub fn remove_run(&mut self, from: u64, n: u32)
         requires { from + n < 2 ^ 64 }
-        ensures cut { AreCut self.old.chunks from n self.new.chunks }
+        ensures cut { AreTakenOut self.old.chunks from n self.new.chunks }
         ensures room { self.new.room ≡ self.old.room }
         ensures are { AreChunks self.new.chunks }
     {

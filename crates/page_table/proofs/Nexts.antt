@@ -2,7 +2,7 @@ use Rattle.std.proofs.Common.{◌≡◌, ℕ, suc, ◌+◌, ◌-◌, ◌*◌, �
 use Rattle.std.proofs.lemmas.Bool.{cases_lt}
 use Rattle.std.proofs.lemmas.Bool.Decides.{nat_tests}
 use Rattle.std.specs.FinMap.{get}
-use Rattle.number_maps.specs.Rows.{map_of, key_at, Rise, IsAt, IsGap}
+use Rattle.number_maps.specs.Rows.{map_of, key_at, RowsRise, IsAt, IsGap}
 use Rattle.number_maps.specs.RowLaws.{got_at, got_gap, key_of, never_falls}
 use Rattle.page_table.specs.declared.run.PageRun.{PageRun}
 use Rattle.page_table.specs.Table.{Pages}
@@ -93,18 +93,6 @@ none_to pages page other from none (inl is) q le lt = absurd (omega (arith, is, 
 none_to pages page other from none (inr is) q le lt = none q le (omega (arith, is, lt))
 
 -- What is true of a page and its digits when a node is looked through from a digit on: nothing is there up to the digit.
-
--- the first of the digits
-pub third_begun : (links : Links) (leaves : Pages) (page : ℕ)
-    → NoneFrom (pages_by links leaves) page ((page / 512 / 512 * 512 + page / 512 % 512) * 512)
-third_begun links leaves page q le lt = absurd (omega (arith, le, lt))
-
-pub second_begun : (links : Links) (leaves : Pages) (page : ℕ)
-    → NoneFrom (pages_by links leaves) page ((page / 512 / 512 / 512 * 512 + page / 512 / 512 % 512) * 512 * 512)
-second_begun links leaves page q le lt = absurd (omega (arith, le, lt))
-
-pub first_begun : (links : Links) (leaves : Pages) (page : ℕ) → NoneFrom (pages_by links leaves) page (page / 512 / 512 / 512 * 512 * 512 * 512)
-first_begun links leaves page q le lt = absurd (omega (arith, le, lt))
 
 -- up to the next child, or to the end
 pub third_next : (links : Links) (leaves : Pages) (page node digit next : ℕ) → node_at links 2 (page / 512 / 512) ≡ Some node
@@ -294,7 +282,7 @@ next_first links leaves page None is =
 
 -- What a place in the links says of the next child of a node.
 
-rises : (from : ℕ) (rows : List (ℕ × ℕ)) (i j : ℕ) → Rise from rows → i < j → j < length rows → key_at rows i < key_at rows j
+rises : (from : ℕ) (rows : List (ℕ × ℕ)) (i j : ℕ) → RowsRise from rows → i < j → j < length rows → key_at rows i < key_at rows j
 rises from [] i j h lt there = absurd (omega (arith, there))
 rises from (row ∷ rows) i zero h lt there = absurd (omega (arith, lt))
 rises from (row ∷ []) zero (suc j) h lt there = absurd (omega (arith, there))
@@ -302,7 +290,7 @@ rises from (row ∷ (next ∷ rows)) zero (suc j) h lt there =
     omega (arith, h.1.0, never_falls (row.0 + 1) (next ∷ rows) 0 j h.1 (omega arith) (omega (arith, there)))
 rises from (row ∷ rows) (suc i) (suc j) h lt there = rises (row.0 + 1) rows i j h.1 (omega (arith, lt)) (omega (arith, there))
 
-pub start_at : (rows : List (ℕ × ℕ)) (key at : ℕ) → Rise 0 rows → IsAt rows key at → IsStart rows key at
+pub start_at : (rows : List (ℕ × ℕ)) (key at : ℕ) → RowsRise 0 rows → IsAt rows key at → IsStart rows key at
 start_at rows key at rise is = record {
   inside = omega (arith, is.there);
   before = λ j lt. omega (arith, rises 0 rows j at rise lt is.there, is.has);
@@ -317,7 +305,7 @@ start_gap rows key at gap = record {
 }
 
 -- between the links before a place and the one there no slot has a child
-none_between : (rows : List (ℕ × ℕ)) (node digit at next : ℕ) → Rise 0 rows → IsStart rows (slot node digit) at
+none_between : (rows : List (ℕ × ℕ)) (node digit at next : ℕ) → RowsRise 0 rows → IsStart rows (slot node digit) at
     → (at < length rows → slot node next ≤ key_at rows at) → NoChild (map_of rows) node digit next
 none_between rows node digit at next rise start past e le lt =
     got_gap rows (slot node e) at (record {
@@ -326,11 +314,11 @@ none_between rows node digit at next rise start past e le lt =
       behind = λ j from there. omega (arith, past (omega (arith, from, there)), never_falls 0 rows at j rise from there, lt);
     })
 
-pub child_none : (rows : List (ℕ × ℕ)) (node digit at : ℕ) → Rise 0 rows → IsStart rows (slot node digit) at
+pub child_none : (rows : List (ℕ × ℕ)) (node digit at : ℕ) → RowsRise 0 rows → IsStart rows (slot node digit) at
     → (at < length rows → 512 * node + 512 ≤ key_at rows at) → NoChild (map_of rows) node digit 512
 child_none rows node digit at rise start past = none_between rows node digit at 512 rise start past
 
-pub child_here : (rows : List (ℕ × ℕ)) (node digit at key child : ℕ) → Rise 0 rows → IsStart rows (slot node digit) at → at < length rows
+pub child_here : (rows : List (ℕ × ℕ)) (node digit at key child : ℕ) → RowsRise 0 rows → IsStart rows (slot node digit) at → at < length rows
     → get_or rows at (0, 0) ≡ (key, child) → key < 512 * node + 512 → IsChildFrom rows node digit at (key - 512 * node, child)
 child_here rows node digit at key child rise start there is low =
     let keys : key_at rows at ≡ key = sym (key_of rows at (0, 0) there) ∙ ap (λ (row : ℕ × ℕ). row.0) is in

@@ -4,7 +4,7 @@ use Rattle.std.specs.Ordering.{nat_cmp}
 use Rattle.std.specs.FinMap.{empty, get, insert, len, len-empty}
 use Rattle.number_maps.specs.Keys.{by_key, get_other, get_same}
 use Rattle.number_maps.specs.Rows.{map_of}
-use Rattle.page_set.specs.Sets.{AreChunks, AreCut, Chunks, LieInFew, Members, chunks_in, holds}
+use Rattle.page_set.specs.Sets.{AreChunks, AreTakenOut, Chunks, LieInFew, Members, chunks_in, holds}
 use Rattle.page_set.specs.Laws.{are_none, few_counted, few_more, few_within, holds_none}
 use Rattle.page_table.specs.declared.entry.PageEntry.{PageEntry}
 use Rattle.page_table.specs.declared.run.PageRun.{PageRun}
@@ -51,7 +51,7 @@ module _ (old new : Pages) (set later : Members) (own : AreOverlaid old set) whe
           few_within new new (set.room + chunks_in from n) later.room (λ q there. there) more
           (few_more old new from n set.room (λ q there. inside q (is_within from n q) refl there) own.roomy)
 
-  pub overlaid_unmapped : (from n : ℕ) → IsUnmapped old from n new → AreCut set.chunks from n later.chunks → AreChunks later.chunks → later.room ≡ set.room
+  pub overlaid_unmapped : (from n : ℕ) → IsUnmapped old from n new → AreTakenOut set.chunks from n later.chunks → AreChunks later.chunks → later.room ≡ set.room
       → AreOverlaid new later
   overlaid_unmapped from n unmapped cut are room = record {
     are = are;

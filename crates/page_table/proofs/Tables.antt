@@ -11,7 +11,7 @@ use Rattle.page_table.specs.declared.entry.PageEntry.{PageEntry}
 use Rattle.page_table.specs.declared.run.PageRun.{PageRun}
 use Rattle.page_table.specs.Table.{Pages, is_within, IsFree, AreThere, IsUnmapped, IsNext}
 use Rattle.page_table.specs.Run.{IsRunFrom, entry_at}
-use Rattle.page_table.specs.Kept.{IsRest, AreSame, HasFilled, HasRun, HasSet, HaveLost, IsRunBehind, IsPlace, IsRun, ComeInOrder, entry_for, plain_run, find_in, lies_in, run_pages, run_at, single, run_tail, total}
+use Rattle.page_table.specs.Kept.{IsRest, HaveSamePages, HasFilled, HasRun, HasSet, HaveLost, IsRunBehind, IsRunPlace, IsRun, ComeInOrder, entry_for, plain_run, find_in, lies_in, run_pages, run_at, single, run_tail, total}
 use Rattle.page_table.proofs.Pages.{get_in, len_in, same_pages, within_at, within_behind, within_from, within_is, within_none, within_to}
 use Rattle.page_table.proofs.Places.{found_at, found_none, ends_behind}
 use Rattle.page_table.proofs.Edits.{entry_tail, find_insert, item_at, find_put, is_tail, low_at, rise_insert, rise_put, tail_fits, total_insert, total_put}
@@ -27,7 +27,7 @@ pub found_is : (pages : Pages) (runs : List PageRun) (page : ℕ) → run_pages 
 found_is pages runs page same = sym (get_in runs page) ∙ ap (λ (m : Pages). get m page) same
 
 -- What is read at the place of a page: its run, or the first behind it.
-run_there : (runs : List PageRun) (page at : ℕ) (run : PageRun) → ComeInOrder 0 runs → IsPlace runs page at → at < length runs
+run_there : (runs : List PageRun) (page at : ℕ) (run : PageRun) → ComeInOrder 0 runs → IsRunPlace runs page at → at < length runs
     → run ≡ run_at runs at → IsRunBehind runs page run
 run_there runs page at run h place there is = record {
   own = subst IsRun (sym is) (low_at 0 runs at h there);
@@ -41,7 +41,7 @@ run_there runs page at run h place there is = record {
       ∙ ap (λ (k : ℕ). Some (entry_at run k)) on;
 }
 
-pub run_read : (runs : List PageRun) (page at : ℕ) (read : Option (Bor PageRun)) → ComeInOrder 0 runs → IsPlace runs page at
+pub run_read : (runs : List PageRun) (page at : ℕ) (read : Option (Bor PageRun)) → ComeInOrder 0 runs → IsRunPlace runs page at
     → (IsSome read ↔ (at < length runs)) → IfSome read (λ run. run.now ≡ get_or runs at run.now) → HasRun runs page (option_copied read)
 run_read runs page at None h place inside is =
     λ q le. found_none 0 runs page at q h place le (λ there. let some = inside.1 there in cc)
@@ -123,7 +123,7 @@ next_first pages page run next = (next.from, has, next.none)
 
 -- A run of n pages is put in.
 pub filled_run : (runs new : List PageRun) (from n at : ℕ) (entry : PageEntry) → ComeInOrder 0 runs → IsFree (run_pages runs) from n → from + n ≤ 2 ^ 41
-    → 0 < n → n < 2 ^ 32 → entry.frame < 2 ^ 32 → IsPlace runs from at → new ≡ list.insert runs at (plain_run from n entry)
+    → 0 < n → n < 2 ^ 32 → entry.frame < 2 ^ 32 → IsRunPlace runs from at → new ≡ list.insert runs at (plain_run from n entry)
     → HasFilled runs from n entry new
 filled_run runs new from n at entry h free low some few fits place is =
     subst (HasFilled runs from n entry) (sym is) (record {
@@ -136,15 +136,8 @@ filled_run runs new from n at entry h free low some few fits place is =
       count = total_insert runs at (plain_run from n entry) place.inside;
     })
 
-pub filled_none : (runs : List PageRun) (from n : ℕ) (entry : PageEntry) → ComeInOrder 0 runs → n ≡ 0 → HasFilled runs from n entry runs
-filled_none runs from n entry h none = record {
-  pages = λ q. ap (λ (b : Bool). cond b (Some entry) (get (run_pages runs) q)) (sym (ap (λ (k : ℕ). is_within from k q) none ∙ within_none from q));
-  rise = h;
-  count = omega (arith, none);
-}
-
 -- and is joined with those round it
-pub filled_joined : (runs put new : List PageRun) (from n : ℕ) (entry : PageEntry) → HasFilled runs from n entry put → AreSame put new
+pub filled_joined : (runs put new : List PageRun) (from n : ℕ) (entry : PageEntry) → HasFilled runs from n entry put → HaveSamePages put new
     → HasFilled runs from n entry new
 filled_joined runs put new from n entry filled same = record {
   pages = λ q. ap (λ (m : Pages). get m q) (same_pages put new same.found) ∙ filled.pages q;
@@ -153,8 +146,8 @@ filled_joined runs put new from n entry filled same = record {
 }
 
 -- A page that is a run of its own is given an entry, and the runs round it are joined.
-pub set_one : (runs cut put new : List PageRun) (page at : ℕ) (e : PageEntry) → AreSame runs cut → at < length cut → (run_at cut at).page ≡ page
-    → (run_at cut at).n ≡ 1 → put ≡ slice_set cut at (single page e) → AreSame put new → HasSet runs page e new
+pub set_one : (runs cut put new : List PageRun) (page at : ℕ) (e : PageEntry) → HaveSamePages runs cut → at < length cut → (run_at cut at).page ≡ page
+    → (run_at cut at).n ≡ 1 → put ≡ slice_set cut at (single page e) → HaveSamePages put new → HasSet runs page e new
 set_one runs cut put new page at e parts there begins one is joined = record {
   pages = alike _ _ (λ q.
       get_in new q ∙ joined.found q ∙ ap (λ (rs : List PageRun). find_in rs q) is ∙ find_put 0 cut at page q e parts.rise there begins one
@@ -183,36 +176,6 @@ set_rises cut put page at e h there begins one fits is = subst (ComeInOrder 0) (
 
 -- Pages are taken away, run by run.
 
-pub lost_none : (runs : List PageRun) (from : ℕ) → ComeInOrder 0 runs → HaveLost runs from 0 runs
-lost_none runs from h = record {
-  found = λ q. ap (λ (b : Bool). cond b None (find_in runs q)) (sym (within_none from q));
-  rise = h;
-  count = omega arith;
-}
-
-pub lost_more : (old now new : List PageRun) (from n m : ℕ) → HaveLost old from n now → HaveLost now (from + n) m new → HaveLost old from (n + m) new
-lost_more old now new from n m first second = record {
-  found = λ q.
-      second.found q
-      ∙ ap (λ (o : Option PageEntry). cond (is_within (from + n) m q) None o) (first.found q)
-      ∙ by q (is_within (from + n) m q) (is_within from n q) refl refl;
-  rise = second.rise;
-  count = omega (arith, first.count, second.count);
-}
-  where
-    by : (q : ℕ) (a b : Bool) → is_within (from + n) m q ≡ a → is_within from n q ≡ b
-        → cond a None (cond b None (find_in old q)) ≡ cond (is_within from (n + m) q) None (find_in old q)
-    by q true b h k =
-        ap (λ (c : Bool). cond c None (find_in old q))
-        (sym (within_is from (n + m) q (omega (arith, within_from (from + n) m q h)) (omega (arith, within_to (from + n) m q h))))
-    by q false true h k =
-        ap (λ (c : Bool). cond c None (find_in old q))
-        (sym (within_is from (n + m) q (within_from from n q k) (omega (arith, within_to from n q k))))
-    by q false false h k = ap (λ (c : Bool). cond c None (find_in old q)) (sym (neither from n m q h k))
-      where
-        neither : (p n m q : ℕ) → is_within (p + n) m q ≡ false → is_within p n q ≡ false → is_within p (n + m) q ≡ false
-        neither p n m q h k = grind (arith, nat_tests)
-
 -- What holds while pages are taken away: those before `at` are gone, and there is room for the others.
 pub record IsClearing (old : List PageRun) (from n had at left has : ℕ) (now : List PageRun) : Type 0 where
   pub begun : from ≤ at
@@ -220,20 +183,6 @@ pub record IsClearing (old : List PageRun) (from n had at left has : ℕ) (now :
   pub lost : HaveLost old from (at - from) now
   pub roomy : had ≤ has
   pub enough : total old ≤ had
-
-pub clearing_more : (old now new : List PageRun) (from n had at left has later gone : ℕ) → IsClearing old from n had at left has now
-    → HaveLost now at gone new → gone ≤ left → has ≤ later → IsClearing old from n had (at + gone) (left - gone) later new
-clearing_more old now new from n had at left has later gone so_far lost le more =
-    let on : from + (at - from) ≡ at = omega (arith, so_far.begun) in
-    let done : at - from + gone ≡ at + gone - from = omega (arith, so_far.begun) in
-    record {
-      begun = omega (arith, so_far.begun);
-      place = omega (arith, so_far.place, le);
-      lost = subst (λ k. HaveLost old from k new) done
-          (lost_more old now new from (at - from) gone so_far.lost (subst (λ k. HaveLost now k gone new) (sym on) lost));
-      roomy = omega (arith, so_far.roomy, more);
-      enough = so_far.enough;
-    }
 
 -- the next page is still there
 pub lost_next : (old now : List PageRun) (from done n : ℕ) → AreThere (run_pages old) from n → done < n → HaveLost old from done now

@@ -5,11 +5,11 @@ use Rattle.std.specs.List as list
 use Rattle.std.specs.FinMap.{get, insert}
 use Rattle.std.proofs.lemmas.List.Edits.{length-insert}
 use Rattle.number_maps.specs.Keys.{by_key, get_same, get_other}
-use Rattle.number_maps.specs.Rows.{map_of, key_at, Rise, IsGap}
+use Rattle.number_maps.specs.Rows.{map_of, key_at, RowsRise, IsGap}
 use Rattle.number_maps.specs.RowLaws.{got_gap, map_insert, never_falls, rise_insert}
 use Rattle.page_table.specs.declared.entry.PageEntry.{PageEntry}
 use Rattle.page_table.specs.Nodes.{Links, child_at, look, node_at, page_end, size, slot, slot_in, page_slot}
-use Rattle.page_table.specs.Kept.{IsSpot, IsUpper, EndBy, HaveGrown, HasChild, HasLeaf, HaveLeaves, IsTree}
+use Rattle.page_table.specs.Kept.{IsNodeOfPath, IsUpper, EndBy, HaveGrown, HasChild, HasLeaf, HaveLeaves, IsTree}
 
 -- Nodes by their links: two paths never meet, and a new node changes no other path.
 
@@ -226,7 +226,7 @@ linked_low old key fresh low below k c h = by_key k key
     value : (a b : ℕ) → ◌≡◌ {A = Option ℕ} (Some a) (Some b) → a ≡ b
     value a b h = cc
 
-kept_spot : (old new : Links) (node : ℕ) → ((k c : ℕ) → get old k ≡ Some c → get new k ≡ Some c) → IsSpot old node → IsSpot new node
+kept_spot : (old new : Links) (node : ℕ) → ((k c : ℕ) → get old k ≡ Some c → get new k ≡ Some c) → IsNodeOfPath old node → IsNodeOfPath new node
 kept_spot old new node kept spot = record {
   level = spot.level;
   above = spot.above;
@@ -236,7 +236,7 @@ kept_spot old new node kept spot = record {
 }
 
 fresh_spot : (old new : Links) (node d fresh : ℕ) → ((k c : ℕ) → get old k ≡ Some c → get new k ≡ Some c) → IsUpper old node → d < 512
-    → get new (slot node d) ≡ Some fresh → IsSpot new fresh
+    → get new (slot node d) ≡ Some fresh → IsNodeOfPath new fresh
 fresh_spot old new node d fresh kept upper low has =
     let q = 512 * upper.above + d in
     let front : q / 512 ≡ upper.above = omega (arith, low) in
@@ -263,9 +263,9 @@ grown old new node d at tree upper digit low gap is =
     subst (λ (m : Links). IsFresh (map_of old) m fresh) (sym same) (linked (map_of old) key fresh (got_gap old key at gap) low tree.low) in
     record {
       tree = record {
-        rise = subst (λ l. Rise 0 l) (sym is) (rise_insert 0 old key at fresh tree.rise (omega arith) gap);
+        rise = subst (λ l. RowsRise 0 l) (sym is) (rise_insert 0 old key at fresh tree.rise (omega arith) gap);
         spots = λ c lt. by_key c fresh
-            (λ same_node. subst (λ k. IsSpot (map_of new) k) (sym same_node)
+            (λ same_node. subst (λ k. IsNodeOfPath (map_of new) k) (sym same_node)
             (fresh_spot (map_of old) (map_of new) node d fresh fresh_one.kept upper digit
             (ap (λ (m : Links). get m key) same ∙ get_same (map_of old) key key fresh refl)))
             (λ other. kept_spot (map_of old) (map_of new) c fresh_one.kept (tree.spots c (omega (arith, lt, grew, other))));
@@ -318,18 +318,6 @@ child_made old new node d at child tree upper low dl gap is made =
 
 -- A path leads to a leaf.
 
-pub leaf_made : (old one two new : List (ℕ × ℕ)) (above first second third : ℕ) → HasChild old 0 (above / 512 / 512 % 512) one first
-    → HasChild one first (above / 512 % 512) two second → HasChild two second (above % 512) new third → HasLeaf old above new
-leaf_made old one two new above first second third a b c = record {
-  grown = grown_more old two new (grown_more old one two a.grown b.grown) c.grown;
-  three = omega (arith, a.one, b.one, c.one);
-  there = ap is_some (
-      ap (λ (o : Option ℕ). child_at (map_of new) (child_at (map_of new) o (above / 512 % 512)) (above % 512))
-      (c.grown.kept (slot 0 (above / 512 / 512 % 512)) first (b.grown.kept (slot 0 (above / 512 / 512 % 512)) first a.there))
-      ∙ ap (λ (o : Option ℕ). child_at (map_of new) o (above % 512)) (c.grown.kept (slot first (above / 512 % 512)) second b.there)
-      ∙ c.there);
-}
-
 some_kept : (p q : Option ℕ) → ((m : ℕ) → p ≡ Some m → q ≡ Some m) → IsSome p → IsSome q
 some_kept None q kept h = cc
 some_kept (Some m) q kept h = ap is_some (kept m refl)
@@ -360,10 +348,10 @@ AllBelow links key at = (j : ℕ) → j < at → key_at links j < key
 abbrev pub AllAbove : List (ℕ × ℕ) → ℕ → ℕ → Type 0
 AllAbove links key at = (j : ℕ) → at ≤ j → j < length links → key < key_at links j
 
-pub below_here : (links : List (ℕ × ℕ)) (key at : ℕ) → Rise 0 links → at < length links → key_at links at < key → AllBelow links key (at + 1)
+pub below_here : (links : List (ℕ × ℕ)) (key at : ℕ) → RowsRise 0 links → at < length links → key_at links at < key → AllBelow links key (at + 1)
 below_here links key at rise there lt j le = omega (arith, lt, never_falls 0 links j at rise (omega (arith, le)) there)
 
-pub above_here : (links : List (ℕ × ℕ)) (key at : ℕ) → Rise 0 links → key < key_at links at → AllAbove links key at
+pub above_here : (links : List (ℕ × ℕ)) (key at : ℕ) → RowsRise 0 links → key < key_at links at → AllAbove links key at
 above_here links key at rise lt j le there = omega (arith, lt, never_falls 0 links at j rise le there)
 
 pub gap_here : (links : List (ℕ × ℕ)) (key low high : ℕ) → low ≡ high → high ≤ length links → AllBelow links key low → AllAbove links key high
@@ -375,9 +363,6 @@ gap_here links key low high same inside below above = record {
 }
 
 -- Nodes of a path that are no leaves.
-
-pub upper_root : (links : Links) → IsUpper links 0
-upper_root links = record { level = 0; above = 0; deep = omega arith; low = omega arith; at = refl }
 
 pub upper_first : (links : Links) (d first : ℕ) → d < 512 → get links (slot 0 d) ≡ Some first → IsUpper links first
 upper_first links d first low has =

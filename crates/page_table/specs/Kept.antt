@@ -1,7 +1,7 @@
 use Rattle.std.specs.Prelude.{◌≡◌, ℕ, zero, suc, ◌+◌, ◌-◌, ◌*◌, ◌^◌, ◌<◌, ◌≤◌, Bool, true, false, List, [], ◌∷◌, length, get_or, nat_le, nat_lt, if◌then◌else◌, Option, Some, None, IsSome}
 use Rattle.std.specs.FinMap.{empty, get, insert, len}
 use Rattle.sizes.specs.declared.TheConstants.{TABLE_SLOTS}
-use Rattle.number_maps.specs.Rows.{Rise, key_at, map_of}
+use Rattle.number_maps.specs.Rows.{RowsRise, key_at, map_of}
 use Rattle.page_set.specs.Sets.{AreChunks, Chunks, LieInFew, Members, holds}
 use Rattle.page_table.specs.Next.{NoneFrom}
 use Rattle.page_table.specs.Nodes.{Links, Table, look, node_at, slot, page_slot, pages_by, size}
@@ -51,7 +51,7 @@ ComeInOrder from (run ∷ runs) = (from ≤ run.page) × IsRun run × ComeInOrde
 
 -- This is true of the runs of every table, of how many pages it has, and of the runs that it has room for: a page may become a run of
 -- its own without memory.
-pub record AreKept (runs : List PageRun) (count room : ℕ) : Type 0 where
+pub record AreTableRuns (runs : List PageRun) (count room : ℕ) : Type 0 where
   pub rise : ComeInOrder 0 runs
   pub few : count < 2 ^ 32
   pub counted : count ≡ total runs
@@ -69,7 +69,7 @@ abbrev pub is_before : ℕ → PageRun → Bool
 is_before page run = nat_le run.n (page - run.page)
 
 -- the run that holds a page stands at a place, or the first behind it
-pub record IsPlace (runs : List PageRun) (page at : ℕ) : Type 0 where
+pub record IsRunPlace (runs : List PageRun) (page at : ℕ) : Type 0 where
   pub inside : at ≤ length runs
   pub before : (i : ℕ) → i < at → is_before page (run_at runs i) ≡ true
   pub behind : (i : ℕ) → at ≤ i → i < length runs → is_before page (run_at runs i) ≡ false
@@ -87,14 +87,14 @@ HasRun runs page None = (q : ℕ) → page ≤ q → find_in runs q ≡ None
 HasRun runs page (Some run) = IsRunBehind runs page run
 
 -- other runs of the same pages
-pub record AreSame (old new : List PageRun) : Type 0 where
+pub record HaveSamePages (old new : List PageRun) : Type 0 where
   pub found : (page : ℕ) → find_in new page ≡ find_in old page
   pub rise : ComeInOrder 0 new
   pub count : total new ≡ total old
 
 -- a run begins at a page, among runs of the same pages
 pub record HasBegun (old : List PageRun) (page at : ℕ) (new : List PageRun) : Type 0 where
-  pub same : AreSame old new
+  pub same : HaveSamePages old new
   pub there : at < length new
   pub begins : (run_at new at).page ≡ page
 
@@ -146,7 +146,7 @@ abbrev pub plain_run : ℕ → ℕ → PageEntry → PageRun
 plain_run from n entry = record { page = from; n = n; entry = entry; rising = false }
 
 -- a node stands at the end of a path: on a level, for the digits above it
-pub record IsSpot (links : Links) (node : ℕ) : Type 0 where
+pub record IsNodeOfPath (links : Links) (node : ℕ) : Type 0 where
   pub level : ℕ
   pub above : ℕ
   pub deep : level < 4
@@ -164,8 +164,8 @@ pub record IsUpper (links : Links) (node : ℕ) : Type 0 where
 -- What the links of a table keep: rows by rising slots. The slots are those of nodes that there are, and the nodes that they lead to
 -- too; no two lead to one.
 pub record IsTree (links : List (ℕ × ℕ)) : Type 0 where
-  pub rise : Rise 0 links
-  pub spots : (node : ℕ) → node < length links + 1 → IsSpot (map_of links) node
+  pub rise : RowsRise 0 links
+  pub spots : (node : ℕ) → node < length links + 1 → IsNodeOfPath (map_of links) node
   pub low : (k c : ℕ) → get (map_of links) k ≡ Some c → (k < TABLE_SLOTS * (length links + 1)) × (c < length links + 1)
   pub once : (j k c : ℕ) → get (map_of links) j ≡ Some c → get (map_of links) k ≡ Some c → j ≡ k
 
@@ -176,7 +176,7 @@ EndBy has end = (s : ℕ) → end ≤ s → has s ≡ None
 -- what there is of a table: its links, its runs of slots, how many pages it has, and the room for runs
 pub record AreHeld (links : List (ℕ × ℕ)) (runs : List PageRun) (count room : ℕ) : Type 0 where
   pub tree : IsTree links
-  pub kept : AreKept runs count room
+  pub kept : AreTableRuns runs count room
   pub ends : EndBy (get (run_pages runs)) (TABLE_SLOTS * (length links + 1))
   pub counted : len (pages_by (map_of links) (run_pages runs)) ≡ count
 
@@ -187,7 +187,7 @@ pub record AreOverlaid (pages : Pages) (set : Members) : Type 0 where
   pub roomy : LieInFew pages set.room
 
 -- and a page below which there is none
-pub record IsTable (links : List (ℕ × ℕ)) (runs : List PageRun) (count room front : ℕ) (set : Members) : Type 0 where
+pub record IsPageTable (links : List (ℕ × ℕ)) (runs : List PageRun) (count room front : ℕ) (set : Members) : Type 0 where
   pub held : AreHeld links runs count room
   pub none : NoneFrom (pages_by (map_of links) (run_pages runs)) 0 front
   pub overlaid : AreOverlaid (pages_by (map_of links) (run_pages runs)) set
@@ -223,19 +223,19 @@ abbrev pub HavePaths : Links → ℕ → ℕ → Type 0
 HavePaths links from n = (page : ℕ) → is_within from n page ≡ true → page_slot links page ≡ None → ⊥
 
 -- what each page has after a change of a run of them
-abbrev pub Changed : Option PageEntry → Pages → ℕ → ℕ → Pages → Type 0
-Changed x old from n new = (q : ℕ) → get new q ≡ (if is_within from n q then x else get old q)
+abbrev pub HasChanged : Option PageEntry → Pages → ℕ → ℕ → Pages → Type 0
+HasChanged x old from n new = (q : ℕ) → get new q ≡ (if is_within from n q then x else get old q)
 
 -- n pages that weren't there have the entry, by their slots
 pub record HaveFilled (links : List (ℕ × ℕ)) (old : List PageRun) (from n : ℕ) (entry : PageEntry) (new : List PageRun) : Type 0 where
-  pub pages : Changed (Some entry) (pages_by (map_of links) (run_pages old)) from n (pages_by (map_of links) (run_pages new))
+  pub pages : HasChanged (Some entry) (pages_by (map_of links) (run_pages old)) from n (pages_by (map_of links) (run_pages new))
   pub rise : ComeInOrder 0 new
   pub ends : EndBy (get (run_pages new)) (TABLE_SLOTS * (length links + 1))
   pub count : total new ≡ total old + n
 
 -- n pages were taken away
 pub record HaveCleared (links : List (ℕ × ℕ)) (old : List PageRun) (from n : ℕ) (new : List PageRun) : Type 0 where
-  pub pages : Changed None (pages_by (map_of links) (run_pages old)) from n (pages_by (map_of links) (run_pages new))
+  pub pages : HasChanged None (pages_by (map_of links) (run_pages old)) from n (pages_by (map_of links) (run_pages new))
   pub rise : ComeInOrder 0 new
   pub ends : EndBy (get (run_pages new)) (TABLE_SLOTS * (length links + 1))
   pub count : total new + n ≡ total old

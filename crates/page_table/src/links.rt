@@ -4,7 +4,7 @@ ghost use Rattle.std.specs.Prelude.{◌≡◌, ◌+◌, ◌-◌, ◌*◌, ◌/�
 ghost use Rattle.std.specs.FinMap as map;
 ghost use Rattle.std.specs.Vec.{vec_capacity};
 ghost use Rattle.sizes.specs.declared.TheConstants.{TABLE_SLOTS};
-ghost use Rattle.number_maps.specs.Rows.{IsAt, IsGap, Rise, map_of};
+ghost use Rattle.number_maps.specs.Rows.{IsAt, IsGap, RowsRise, map_of};
 ghost use Rattle.page_table.specs.Nodes.{node_at, slot, page_slot};
 ghost use Rattle.page_table.specs.Kept.{HaveGrown, HasChild, HasLeaf, HaveLeaves, IsNextChild, IsStart, IsTree, IsUpper};
 
@@ -37,7 +37,7 @@ pub(crate) fn place_in(low: usize, high: usize, guess: usize) -> usize
 #[cold]
 #[inline(never)]
 fn search(links: &[Link], slot: u64, guess: usize) -> Result<usize, usize>
-    requires { Rise 0 links.now }
+    requires { RowsRise 0 links.now }
     ensures there { IfOk result (IsAt links.now slot) }
     ensures gap { IfErr result (IsGap links.now slot) }
 {
@@ -82,7 +82,7 @@ fn guess_of(links: &[Link], nodes: &Nodes, slot: u64) -> usize {
 // Where the link of a slot stands, or would stand.
 #[inline]
 fn place_of(links: &[Link], nodes: &Nodes, slot: u64) -> Result<usize, usize>
-    requires { Rise 0 links.now }
+    requires { RowsRise 0 links.now }
     ensures there { IfOk result (IsAt links.now slot) }
     ensures gap { IfErr result (IsGap links.now slot) }
 {
@@ -96,7 +96,7 @@ fn place_of(links: &[Link], nodes: &Nodes, slot: u64) -> Result<usize, usize>
 /// The child of a node at a digit.
 #[inline]
 pub(crate) fn child_in(links: &[Link], nodes: &Nodes, node: u32, digit: u64) -> Option<u32>
-    requires rise { Rise 0 links.now }
+    requires rise { RowsRise 0 links.now }
     requires digit { digit < TABLE_SLOTS }
     ensures { result ≡ map.get (map_of links.now) (slot node digit) }
 {
@@ -109,7 +109,7 @@ pub(crate) fn child_in(links: &[Link], nodes: &Nodes, node: u32, digit: u64) -> 
 /// The place of the first link from a slot on.
 #[inline]
 pub(crate) fn start_of(links: &[Link], nodes: &Nodes, slot: u64) -> usize
-    requires { Rise 0 links.now }
+    requires { RowsRise 0 links.now }
     ensures { IsStart links.now slot result }
 {
     match place_of(links, nodes, slot) {
@@ -121,7 +121,7 @@ pub(crate) fn start_of(links: &[Link], nodes: &Nodes, slot: u64) -> usize
 /// The first child of a node from a digit on, with its digit. Links from there on begin at a place.
 #[inline]
 pub(crate) fn child_from(links: &[Link], node: u32, digit: u64, at: usize) -> Option<(u64, u32)>
-    requires rise { Rise 0 links.now }
+    requires rise { RowsRise 0 links.now }
     requires start { IsStart links.now (slot node digit) at }
     ensures { IsNextChild links.now node digit at result }
 {
@@ -139,7 +139,7 @@ pub(crate) fn child_from(links: &[Link], node: u32, digit: u64, at: usize) -> Op
 
 /// The leaf that holds the pages with the same first three digits, by those digits.
 pub(crate) fn leaf_in(links: &[Link], nodes: &Nodes, above: u64) -> Option<u32>
-    requires rise { Rise 0 links.now }
+    requires rise { RowsRise 0 links.now }
     ensures { result ≡ node_at (map_of links.now) 3 above }
 {
     let first = child_in(
@@ -155,7 +155,7 @@ pub(crate) fn leaf_in(links: &[Link], nodes: &Nodes, above: u64) -> Option<u32>
 /// The slot of a page.
 #[inline]
 pub(crate) fn slot_in(links: &[Link], nodes: &Nodes, page: u64) -> Option<u64>
-    requires rise { Rise 0 links.now }
+    requires rise { RowsRise 0 links.now }
     ensures { result ≡ page_slot (map_of links.now) page }
 {
     if page >= TABLE_END {

@@ -2,7 +2,7 @@
 
 ghost use Rattle.std.specs.Prelude.{◌≡◌, ℕ, ◌+◌, ◌*◌, ◌%◌, ◌/◌, ◌^◌, ◌<◌, ◌≤◌, ◌⊎◌, List, Some};
 ghost use Rattle.sizes.specs.declared.TheConstants.{TABLE_SLOTS};
-ghost use Rattle.number_maps.specs.Rows.{map_of, Rise};
+ghost use Rattle.number_maps.specs.Rows.{map_of, RowsRise};
 ghost use Rattle.page_table.specs.Nodes.{node_at, pages_by};
 ghost use Rattle.page_table.specs.Kept.{ComeInOrder, IsTree, moved_run, run_pages};
 ghost use Rattle.page_table.specs.Next.{IsUpTo, NoneFrom};
@@ -73,7 +73,7 @@ fn look_third(
     node: u32,
     page: u64,
 ) -> Option<PageRun>
-    requires rise { Rise 0 links.now }
+    requires rise { RowsRise 0 links.now }
     requires order { ComeInOrder 0 runs.now.items }
     requires low { page < 2 ^ 36 }
     requires node { node_at (map_of links.now) 2 (page / TABLE_SLOTS / TABLE_SLOTS) ≡ Some node }
@@ -103,7 +103,7 @@ fn look_second(
     node: u32,
     page: u64,
 ) -> Option<PageRun>
-    requires rise { Rise 0 links.now }
+    requires rise { RowsRise 0 links.now }
     requires order { ComeInOrder 0 runs.now.items }
     requires low { page < 2 ^ 36 }
     requires node { node_at (map_of links.now) 1 (page / TABLE_SLOTS / TABLE_SLOTS / TABLE_SLOTS) ≡ Some node }
@@ -127,7 +127,7 @@ fn look_second(
 
 // The same in all leaves.
 fn look_first(links: &[Link], nodes: &Nodes, runs: &VecDeque<PageRun>, page: u64) -> Option<PageRun>
-    requires rise { Rise 0 links.now }
+    requires rise { RowsRise 0 links.now }
     requires order { ComeInOrder 0 runs.now.items }
     requires low { page < 2 ^ 36 }
     ensures { IsUpTo (pages_by (map_of links.now) (run_pages runs.now.items)) page (2 ^ 36) result }

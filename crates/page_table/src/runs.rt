@@ -4,7 +4,7 @@ ghost use Rattle.std.specs.Prelude.{◌≡◌, ◌+◌, ◌^◌, ◌<◌, ◌≤
 ghost use Rattle.std.specs.FinMap as map;
 ghost use Rattle.std.specs.List as list;
 ghost use Rattle.std.specs.VecDeque.{deque_capacity};
-ghost use Rattle.page_table.specs.Kept.{AreSame, HasBegun, HasFilled, HasRest, HasRun, HasSet, HaveLost, IsPlace, ComeInOrder, plain_run, find_in, run_head, is_before, run_pages, run_at, run_tail, total};
+ghost use Rattle.page_table.specs.Kept.{HaveSamePages, HasBegun, HasFilled, HasRest, HasRun, HasSet, HaveLost, IsRunPlace, ComeInOrder, plain_run, find_in, run_head, is_before, run_pages, run_at, run_tail, total};
 ghost use Rattle.page_table.specs.Table.{AreThere, IsFree};
 
 use crate::entry::PageEntry;
@@ -46,7 +46,7 @@ fn holds(run: &PageRun, page: u64) -> bool
 #[inline]
 fn place_of(runs: &VecDeque<PageRun>, page: u64, guess: usize) -> usize
     requires { ComeInOrder 0 runs.now.items }
-    ensures { IsPlace runs.now.items page result }
+    ensures { IsRunPlace runs.now.items page result }
 {
     if guess < runs.len() && holds(&runs[guess], page) {
         return guess;
@@ -57,7 +57,7 @@ fn place_of(runs: &VecDeque<PageRun>, page: u64, guess: usize) -> usize
 /// The same. Looks at a guess first, then further and further from it, and then in the middle of what is left.
 fn search(runs: &VecDeque<PageRun>, page: u64, guess: usize) -> usize
     requires { ComeInOrder 0 runs.now.items }
-    ensures { IsPlace runs.now.items page result }
+    ensures { IsRunPlace runs.now.items page result }
 {
     let mut low = 0;
     let mut high = runs.len();
@@ -163,7 +163,7 @@ fn cut(runs: &mut VecDeque<PageRun>, at: usize, n: u32)
     requires some { 0 < n }
     requires inside { n < (run_at runs.old.items at).n }
     requires room { total runs.old.items ≤ deque_capacity runs.old }
-    ensures same { AreSame runs.old.items runs.new.items }
+    ensures same { HaveSamePages runs.old.items runs.new.items }
     ensures cut { runs.new.items
         ≡ list.insert (slice_set runs.old.items at (run_tail (run_at runs.old.items at) n)) at
         (run_head (run_at runs.old.items at) n) }
@@ -215,7 +215,7 @@ fn join(runs: &mut VecDeque<PageRun>, at: usize)
     requires rise { ComeInOrder 0 runs.old.items }
     requires there { at < length runs.old.items }
     requires few { total runs.old.items < 2 ^ 32 }
-    ensures same { AreSame runs.old.items runs.new.items }
+    ensures same { HaveSamePages runs.old.items runs.new.items }
     ensures there { at < length runs.new.items }
     ensures room { deque_capacity runs.new ≡ deque_capacity runs.old }
 {
@@ -236,7 +236,7 @@ fn join_round(runs: &mut VecDeque<PageRun>, at: usize)
     requires rise { ComeInOrder 0 runs.old.items }
     requires there { at < length runs.old.items }
     requires few { total runs.old.items < 2 ^ 32 }
-    ensures same { AreSame runs.old.items runs.new.items }
+    ensures same { HaveSamePages runs.old.items runs.new.items }
     ensures room { deque_capacity runs.new ≡ deque_capacity runs.old }
 {
     join(runs, at);

@@ -1,7 +1,7 @@
 ghost use Rattle.std.specs.Prelude.{◌≡◌, ◌+◌, ◌^◌, ◌<◌, ◌≤◌, ◌⊎◌, IfOk, IfSome, IsSome, OnOk, OnErr};
 ghost use Rattle.std.specs.FinMap as map;
 ghost use Rattle.sizes.specs.declared.TheConstants.{TABLE_SLOTS};
-ghost use Rattle.page_set.specs.Sets.{AreCut, IsNextMember, IsPut};
+ghost use Rattle.page_set.specs.Sets.{AreTakenOut, IsNextMember, IsPut};
 ghost use Rattle.page_table.specs.Nodes.{HasPaths, OverlaidAreThere, nodes_of, slot, with_overlaid};
 ghost use Rattle.page_table.specs.Run.{IsNextRun};
 ghost use Rattle.page_table.specs.Table.{IsFree, AreThere, IsMapped, IsUnmapped, IsNext};
@@ -65,11 +65,11 @@ impl Model for PageTable {
     ghost coded = { page_table_code };
 
     ghost use Rattle.std.specs.VecDeque.{deque_capacity};
-    ghost use Rattle.page_table.specs.Kept.{IsTable, seen_table};
+    ghost use Rattle.page_table.specs.Kept.{IsPageTable, seen_table};
 
     ghost view = { λ t. seen_table t.links.items t.runs.items t.overlaid.chunks };
 
-    ghost invariant = { λ t. IsTable t.links.items t.runs.items t.count (deque_capacity t.runs) t.front t.overlaid };
+    ghost invariant = { λ t. IsPageTable t.links.items t.runs.items t.count (deque_capacity t.runs) t.front t.overlaid };
 }
 
 impl PageTable {
@@ -167,7 +167,7 @@ impl PageTable {
         ensures unmapped { IsUnmapped self.old.pages from n self.new.pages }
         ensures one { n ≡ 1 → self.new.pages ≡ map.remove self.old.pages from }
         ensures count { map.len self.new.pages + n ≡ map.len self.old.pages }
-        ensures overlaid { AreCut self.old.overlaid from n self.new.overlaid }
+        ensures overlaid { AreTakenOut self.old.overlaid from n self.new.overlaid }
     {
         let least = least_in(&self.links, &self.nodes, &self.runs, self.front);
         clear_paths(&self.links, &mut self.nodes, &mut self.runs, from, n);
@@ -256,7 +256,7 @@ impl PageTable {
     /// is, and else as many again for each that is.
     pub fn clear_overlaid(&mut self, from: u64, n: u32)
         requires { from + n < 2 ^ 64 }
-        ensures cut { AreCut self.old.overlaid from n self.new.overlaid }
+        ensures cut { AreTakenOut self.old.overlaid from n self.new.overlaid }
         ensures rest { self.new ≡ with_overlaid self.old self.new.overlaid }
     {
         self.overlaid.remove_run(from, n)

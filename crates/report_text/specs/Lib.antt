@@ -6,4 +6,4 @@ pub mod Instructions
 pub mod Lines
 pub mod Answers
 pub mod FullLines
-pub mod Limits
+pub mod Examples

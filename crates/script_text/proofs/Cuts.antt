@@ -36,10 +36,6 @@ unfolding line_count
 one_line_more script line rest h = ap (λ ls. length ls) h ∙ (omega arith)
 
 -- The byte 0D at the end of a line.
-pub none_to_drop : (line : List ℕ) → length line ≡ 0 → line ≡ without_return line
-none_to_drop [] h = refl
-none_to_drop (b ∷ line) h = absurd (omega arith)
-
 pub return_dropped : (line : List ℕ) (k : ℕ) → k + 1 ≡ length line → get_or line k 0 ≡ 13 → take k line ≡ without_return line
 return_dropped [] k h last = absurd (omega arith)
 return_dropped (b ∷ []) zero h last = sym (ap (λ n. cond (n == 13) [] (n ∷ [])) last)

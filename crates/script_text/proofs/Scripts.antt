@@ -6,7 +6,7 @@ use Rattle.script_text.specs.declared.command.ScriptError.TheVariants.{Line, Mem
 use Rattle.script_text.specs.declared.command.Meaning.{Meaning}
 use Rattle.script_text.specs.declared.command.Meaning.TheVariants.{Does, Nothing, Outside}
 use Rattle.script_text.specs.Lines.{script_lines}
-use Rattle.script_text.specs.Script.{meaning_of, meanings, and_then, said_by, commands_from, commands_of, Parses, Tells, is_outside, command_in, IsFirstOutside}
+use Rattle.script_text.specs.Script.{meaning_of, meanings, and_then, said_by, commands_from, commands_of, Parses, TellsCommands, is_outside, command_in, IsFirstOutside}
 
 -- What a script says, by what its first lines say.
 
@@ -50,18 +50,6 @@ pub nothing_said : (script rest line left : List ℕ) (k : ℕ) (commands : List
 nothing_said script rest line left k commands said lines is =
     said ∙ ap (behind commands) (next_said k rest line left Nothing lines is)
 
-pub outside_said : (script rest line left : List ℕ) (k : ℕ) (commands : List Command)
-    → commands_of script ≡ behind commands (commands_from k (meanings rest)) → script_lines rest ≡ line ∷ script_lines left
-    → Outside ≡ meaning_of line → commands_of script ≡ Err k
-outside_said script rest line left k commands said lines is =
-    said ∙ ap (behind commands) (next_said k rest line left Outside lines is)
-
--- no line is left
-pub all_said : (script rest : List ℕ) (k : ℕ) (commands : List Command)
-    → commands_of script ≡ behind commands (commands_from k (meanings rest)) → length rest ≡ 0 → commands_of script ≡ Ok commands
-all_said script [] k commands said none = said ∙ ap Ok (append-nil commands)
-all_said script (b ∷ rest) k commands said none = absurd (omega arith)
-
 -- What is told of lines, of which the first is line k, as far as their value goes.
 abbrev Told : ℕ → List Meaning → Result (List Command) ℕ → Type 0
 Told k lines (Ok commands) = (list_any is_outside lines ≡ false) × (commands ≡ filter_map command_in lines)
@@ -88,7 +76,7 @@ told_from k [] = (refl, refl)
 told_from k (meaning ∷ more) = told_behind k meaning more (commands_from (k + 1) more) (told_from (k + 1) more)
 
 -- The value of a script, line by line.
-pub tells : {Commands : Type 0} (view : Commands → List Command) (script : List ℕ) (r : Result Commands ScriptError) → Parses view script r → Tells view (meanings script) r
+pub tells : {Commands : Type 0} (view : Commands → List Command) (script : List ℕ) (r : Result Commands ScriptError) → Parses view script r → TellsCommands view (meanings script) r
 unfolding commands_of
 tells view script (Ok commands) is = subst (Told 1 (meanings script)) is (told_from 1 (meanings script))
 tells view script (Err (Line k)) is =

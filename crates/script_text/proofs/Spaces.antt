@@ -63,14 +63,8 @@ pub words_from : (text : List ℕ) (i : ℕ) → list_all is_blank (take i text)
 words_from text i h =
     ap words_of (part_from text i) ∙ sym (words_behind (take i text) (drop i text) h) ∙ ap words_of (take-append-drop i text)
 
-pub begins_at : (text : List ℕ) (i : ℕ) → i < length text → begins_blank (take (length text - i) (drop i text)) ≡ is_blank (get_or text i 0)
-begins_at text i below = ap begins_blank (part_from text i ∙ drop-cons text i 0 below)
-
 pub ends_at : (text : List ℕ) (i : ℕ) → i < length text → ends_word (take (length text - i) (drop i text)) ≡ is_blank (get_or text i 0)
 ends_at text i below = ap ends_word (part_from text i ∙ drop-cons text i 0 below)
-
-pub parts_at : (text : List ℕ) (i : ℕ) → text ≡ take i text ++ take (length text - i) (drop i text)
-parts_at text i = sym (ap (λ bs. take i text ++ bs) (part_from text i) ∙ take-append-drop i text)
 
 pub all_blank : (text : List ℕ) (i : ℕ) → length text ≤ i → list_all is_blank (take i text) ≡ true → words_of text ≡ []
 all_blank text i over h =

@@ -50,13 +50,3 @@ pub in_range : (base most : ℕ) (is_digit : ℕ → Bool) (digits : List ℕ) (
 in_range base most is_digit digits n some all is small =
     ap Some is ∙ inside (has_bytes digits && list_all is_digit digits) (number_value base digits) most
     (ap (λ (t : Bool). t && list_all is_digit digits) (has digits some) ∙ all) (omega arith)
-
--- a byte that is no digit
-pub no_digit : (base most : ℕ) (is_digit : ℕ → Bool) (digits : List ℕ) → list_all is_digit digits ≡ false → None ≡ within 0 most (spelled base is_digit digits)
-no_digit base most is_digit digits h =
-    sym (ap (λ (t : Bool). within 0 most (cond (has_bytes digits && t) (Some (number_value base digits)) None)) h
-    ∙ neither (has_bytes digits) (number_value base digits) most)
-  where
-    neither : (t : Bool) (v most : ℕ) → within 0 most (cond (t && false) (Some v) None) ≡ None
-    neither true v most = refl
-    neither false v most = refl

@@ -8,4 +8,4 @@ pub mod Forms
 pub mod FormLaws
 pub mod Script
 pub mod Given
-pub mod Limits
+pub mod Examples

@@ -82,7 +82,7 @@ pub record IsFirstOutside (lines : List Meaning) (k : ℕ) : Type 0 where
 
 -- With commands, no line is outside, and they are those of the lines in order; with a number, that line is the
 -- first that is outside.
-abbrev pub Tells : {Commands : Type 0} → (Commands → List Command) → List Meaning → Result Commands ScriptError → Type 0
-Tells view lines (Ok commands) = (list_any is_outside lines ≡ false) × (view commands ≡ filter_map command_in lines)
-Tells view lines (Err (Line k)) = IsFirstOutside lines k
-Tells view lines (Err Memory) = Unit {0}
+abbrev pub TellsCommands : {Commands : Type 0} → (Commands → List Command) → List Meaning → Result Commands ScriptError → Type 0
+TellsCommands view lines (Ok commands) = (list_any is_outside lines ≡ false) × (view commands ≡ filter_map command_in lines)
+TellsCommands view lines (Err (Line k)) = IsFirstOutside lines k
+TellsCommands view lines (Err Memory) = Unit {0}

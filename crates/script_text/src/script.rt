@@ -1,7 +1,7 @@
 ghost use Rattle.std.specs.Prelude.{◌≤◌, IfOk, length};
 ghost use Rattle.std.specs.List.{All};
 ghost use Rattle.sizes.specs.declared.TheConstants.{MOST_SCRIPT_BYTES};
-ghost use Rattle.script_text.specs.Script.{Parses, Tells, meanings};
+ghost use Rattle.script_text.specs.Script.{Parses, TellsCommands, meanings};
 ghost use Rattle.script_text.specs.Given.{IsGiven};
 
 use crate::command::{Command, Meaning, ScriptError};
@@ -36,7 +36,7 @@ fn parse_lines(alloc: Global, bytes: &[u8]) -> Result<Vec<Command>, ScriptError>
 pub fn parse(alloc: Global, bytes: &[u8]) -> Result<Vec<Command>, ScriptError>
     requires { length bytes.now ≤ MOST_SCRIPT_BYTES }
     ensures parses { Parses (λ commands. commands.items) bytes.now result }
-    ensures lines { Tells (λ commands. commands.items) (meanings bytes.now) result }
+    ensures lines { TellsCommands (λ commands. commands.items) (meanings bytes.now) result }
     ensures given { IfOk result (λ commands. All IsGiven commands.items) }
 {
     parse_lines(alloc, bytes)

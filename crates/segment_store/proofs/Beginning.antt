@@ -12,7 +12,7 @@ use Rattle.segment_store.specs.Pointers.{ArePointers, capacity_of}
 use Rattle.segment_store.specs.Store.{Store, IsFrame, IsSegment, segment_at}
 use Rattle.segment_store.specs.Places.{BeginsLines, HasBlock}
 use Rattle.segment_store.specs.Kept.{IsStore}
-use Rattle.segment_store.specs.Changes.{BeginsSegment, KeepsFrames, KeepsLines, KeepsOtherSegments, KeepsScratch}
+use Rattle.segment_store.specs.Changes.{BeginsSegment, KeepsFrames, KeepsLinesOutside, KeepsOtherSegments, KeepsScratch}
 use Rattle.segment_store.specs.Laws.{Alters, IsGood, free_range, frame_stays, fresh_frame, fresh_unit, next_store, others_stay, scratch_stays, segments_stay, frames_stay, segment_range, some_none}
 use Rattle.segment_store.specs.declared.segment.Segment.{Segment}
 
@@ -33,13 +33,6 @@ frame_taken store unit order are e taken none =
       alone = ap (segment_at store) at ∙ none;
     }
 
--- the block that was taken lies in the region
-pub block_taken : (store : Store) → IsStore store → (blocks : List Piece) → ArePieces blocks → units_in blocks ≡ units_in store.blocks → (block : Block) → IsPiece blocks (taken_at block.unit block.order)
-    → HasBlock store.lines block
-block_taken store is blocks are units block taken =
-    let inside = within blocks are _ taken in
-    record { order = (are.aligned _ taken).order; inside = omega (arith, inside, units, is.lines); few = omega (arith, is.lines, is.pieces.few) }
-
 -- a segment began
 module _ (old new : Store) (owner order : ℕ) (bits : List ℕ) (block : Block) (is : IsStore old) (are : ArePieces new.blocks) (asked : TakesAsked old.blocks order new.blocks block)
     (taken : IsPiece new.blocks (taken_at block.unit block.order)) (kept : KeepsTaken old.blocks new.blocks) (only : OnlyTakes old.blocks block.unit block.order new.blocks) (units : units_in new.blocks ≡ units_in old.blocks)
@@ -57,7 +50,7 @@ module _ (old new : Store) (owner order : ℕ) (bits : List ℕ) (block : Block)
   there : segment_at new block.unit ≡ Some begun_now
   there = ap (λ l. get_or l block.unit None) segments ∙ get_or-set_same old.segments block.unit (Some begun_now) None (omega (arith, inside, units, is.units, pow_pos block.order))
 
-  alters : KeepsLines (4 * block.unit) (4 * 2 ^ block.order) old.lines new.lines → Alters old new block.unit (4 * block.unit) (4 * 2 ^ block.order)
+  alters : KeepsLinesOutside (4 * block.unit) (4 * 2 ^ block.order) old.lines new.lines → Alters old new block.unit (4 * block.unit) (4 * 2 ^ block.order)
   alters lines = record {
     is = is;
     range = free_range old block.unit block.order apart;
@@ -69,7 +62,7 @@ module _ (old new : Store) (owner order : ℕ) (bits : List ℕ) (block : Block)
     size = ap length segments ∙ length-set old.segments block.unit (Some begun_now);
   }
 
-  pub began : KeepsLines (4 * block.unit) (4 * 2 ^ block.order) old.lines new.lines → AreLines bits → (block.order < 4 → ArePointers (capacity_of block.order) bits (line_of new.lines (4 * block.unit)))
+  pub began : KeepsLinesOutside (4 * block.unit) (4 * 2 ^ block.order) old.lines new.lines → AreLines bits → (block.order < 4 → ArePointers (capacity_of block.order) bits (line_of new.lines (4 * block.unit)))
       → BeginsSegment old new owner order bits block
   began lines set pointers = record {
     fresh = fresh;
@@ -90,7 +83,7 @@ module _ (old new : Store) (owner order : ℕ) (bits : List ℕ) (block : Block)
       good segment e = subst (IsGood new block.unit) (sym e) (record { taken = taken; set = set; pointers = pointers })
 
 -- without a line
-pub begun_lines : (old new : List (List ℕ)) (block : Block) → BeginsLines old new block → KeepsLines (4 * block.unit) (4 * 2 ^ block.order) old new
+pub begun_lines : (old new : List (List ℕ)) (block : Block) → BeginsLines old new block → KeepsLinesOutside (4 * block.unit) (4 * 2 ^ block.order) old new
 begun_lines old new block lines = record { size = lines.size; outside = λ at out. lines.others at (λ h. off at out) }
   where
     off : (at : ℕ) → (at < 4 * block.unit) ⊎ (4 * block.unit + 4 * 2 ^ block.order ≤ at) → at ≡ 4 * block.unit → ⊥

@@ -1,5 +1,5 @@
-use Rattle.std.proofs.Common.{◌≡◌, ℕ, ◌+◌, ◌-◌, ◌*◌, ◌<◌, List, [], ◌++◌, length, get_or, set, replicate, sym, ap, refl, ◌∙◌, arith}
-use Rattle.std.proofs.lemmas.List.{get_or-append_right, get_or_append_left, length-append, replicate-append-replicate, set-append_left, set-append_right}
+use Rattle.std.proofs.Common.{◌≡◌, ℕ, ◌+◌, ◌-◌, ◌*◌, ◌<◌, ◌≤◌, List, [], ◌++◌, length, get_or, set, take, drop, replicate, sym, ap, refl, ◌∙◌, arith}
+use Rattle.std.proofs.lemmas.List.{drop-append-le, get_or-append_right, get_or_append_left, length-append, replicate-append-replicate, set-append_left, set-append_right, take-append-le, length-drop}
 use Rattle.line_store.specs.Lines.{line_of, zero_lines}
 
 -- The lines of the units with those of scratch behind them.
@@ -22,6 +22,11 @@ module _ (units scratch whole : List (List ℕ)) (same : units ++ scratch ≡ wh
 
   pub set_before : (at : ℕ) (line : List ℕ) → at + 64 < length whole → set units at line ++ scratch ≡ set whole at line
   set_before at line h = sym (set-append_left units scratch at line (before_at at h)) ∙ ap (λ l. set l at line) same
+
+  pub page_before : (at : ℕ) → at + 2 * 64 ≤ length whole → take 64 (drop at units) ≡ take 64 (drop at whole)
+  page_before at h =
+      sym (ap (take 64) (drop-append-le at units scratch (omega (arith, before_is, h))) ∙ take-append-le 64 (drop at units) scratch (omega (arith, before_is, h, length-drop at units)))
+      ∙ ap (λ l. take 64 (drop at l)) same
 
   place_behind : (line : ℕ) → length whole - 64 + line ≡ length units + line
   place_behind line = omega (arith, before_is)

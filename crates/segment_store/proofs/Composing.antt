@@ -11,7 +11,7 @@ use Rattle.segment_store.proofs.Copies.{put_in, put_out}
 use Rattle.segment_store.specs.Store.{Store, IsFrame, IsSegment, composed_line, frame_line, line_in, segment_at}
 use Rattle.segment_store.specs.Places.{CopiesPage, HasLaidOver, IsApartFrom, LaysOver, LiftsLines}
 use Rattle.segment_store.specs.Kept.{IsStore}
-use Rattle.segment_store.specs.Changes.{FillsFrame, KeepsLines}
+use Rattle.segment_store.specs.Changes.{FillsFrame, KeepsLinesOutside}
 use Rattle.segment_store.specs.Laws.{Alters, frame_inside, frame_range, frame_stays, next_store, scratch_stays, segment_range, segments_stay, some_none}
 
 -- Lines of scratch are laid over a page.
@@ -75,7 +75,7 @@ all_over scratch first bits front rest old new h e =
 
 -- The lines of a frame that is taken changed.
 
-pub frame_filled : (old new : Store) (frame : ℕ) → IsStore old → IsFrame old frame → KeepsLines (64 * frame) 64 old.lines new.lines → new.blocks ≡ old.blocks → new.segments ≡ old.segments → FillsFrame old new frame
+pub frame_filled : (old new : Store) (frame : ℕ) → IsStore old → IsFrame old frame → KeepsLinesOutside (64 * frame) 64 old.lines new.lines → new.blocks ≡ old.blocks → new.segments ≡ old.segments → FillsFrame old new frame
 frame_filled old new frame is f lines blocks segments = record {
   blocks = blocks;
   same = segments;

@@ -7,7 +7,7 @@ use Rattle.overlay_bits.specs.Lines.{has_line}
 use Rattle.segment_store.specs.Pointers.{ArePointers, capacity_of, slot_of}
 use Rattle.segment_store.specs.Store.{Store, IsSegment, line_in, lines_at, place_of, with_copy_at}
 use Rattle.segment_store.specs.Kept.{IsStore}
-use Rattle.segment_store.specs.Changes.{Copies, KeepsLines}
+use Rattle.segment_store.specs.Changes.{CopiesSegment, KeepsLinesOutside}
 use Rattle.segment_store.specs.Laws.{inside_of, lies_at, lines_there, pointers_there}
 use Rattle.segment_store.specs.declared.segment.Segment.{Segment}
 use Rattle.segment_store.proofs.Copies.{copied_in, copied_out}
@@ -67,7 +67,7 @@ module _ (old new : Store) (from : Block) (owner : ℕ) (to : Block) (is : IsSto
   pub now_segments : new.segments ≡ set old.segments to.unit (Some (record { owner = owner; order = to.order; bits = lines_at old from.unit }))
   now_segments = segments ∙ sym made
 
-  outside : KeepsLines (4 * to.unit) (4 * 2 ^ to.order) old.lines new.lines
+  outside : KeepsLinesOutside (4 * to.unit) (4 * 2 ^ to.order) old.lines new.lines
   outside = record {
     size = size;
     outside = λ at out. ap (λ l. line_of l at) lines ∙ copied_out old.lines (4 * from.unit) (4 * to.unit) (4 * 2 ^ from.order) at source_lines target_lines (by_size at out);
@@ -101,7 +101,7 @@ module _ (old new : Store) (from : Block) (owner : ℕ) (to : Block) (is : IsSto
       let b : 4 * from.unit + (p - 4 * from.unit) ≡ p = omega (arith, lies.from) in
       ap (line_of new.lines) a ∙ inside (p - 4 * from.unit) (omega (arith, lies.from, lies.to)) ∙ ap (line_of old.lines) b
 
-  pub copies : Copies old new from to
+  pub copies : CopiesSegment old new from to
   copies = record { outside = outside; places = λ line has. place_goes line; lines = line_goes }
 
   pub copied_pointers : to.order < 4 → ArePointers (capacity_of to.order) (lines_at old from.unit) (line_of new.lines (4 * to.unit))

@@ -12,7 +12,7 @@ use Rattle.segment_store.specs.Pointers.{ArePointers, HasTaken, IsLowestFree, ca
 use Rattle.segment_store.specs.Store.{Store, IsSegment, set_in, lines_at, place_in, segment_at, with_lines_at}
 use Rattle.segment_store.specs.Places.{HasBlock, LiesIn, Reserves}
 use Rattle.segment_store.specs.Kept.{IsStore}
-use Rattle.segment_store.specs.Changes.{HasLinesNow, Inserts, KeepsFrames, KeepsLines, KeepsOtherSegments, KeepsScratch}
+use Rattle.segment_store.specs.Changes.{HasLinesNow, Inserts, KeepsFrames, KeepsLinesOutside, KeepsOtherSegments, KeepsScratch}
 use Rattle.segment_store.specs.Laws.{refilled, Alters, IsGood, block_in, frames_stay, inside_of, lies_in, place_same, places_differ, next_store, others_stay, pointers_there, scratch_stays, segment_range, set_there}
 use Rattle.segment_store.specs.declared.segment.Segment.{Segment}
 use Rattle.segment_store.proofs.Pointing.{inserted, some_free}
@@ -33,7 +33,7 @@ pub record HasFilled (old new : Store) (block : Block) (bits : List ℕ) : Type 
   pub scratch : KeepsScratch old new
   pub store : IsStore new
 
-pub filled : (old new : Store) (block : Block) (bits : List ℕ) → IsStore old → IsSegment old block → KeepsLines (4 * block.unit) (4 * 2 ^ block.order) old.lines new.lines → new.blocks ≡ old.blocks
+pub filled : (old new : Store) (block : Block) (bits : List ℕ) → IsStore old → IsSegment old block → KeepsLinesOutside (4 * block.unit) (4 * 2 ^ block.order) old.lines new.lines → new.blocks ≡ old.blocks
     → new.segments ≡ with_lines_at old.segments block.unit bits → AreLines bits → (block.order < 4 → ArePointers (capacity_of block.order) bits (line_of new.lines (4 * block.unit)))
     → HasFilled old new block bits
 filled old new block bits is there lines blocks segments set pointers = record {
@@ -94,7 +94,7 @@ pub record PutsLine (old new : List (List ℕ)) (block : Block) (bits : List ℕ
   pub taken : block.order < 4 → HasTaken line (slot_of (line_of new (4 * block.unit)) line) (line_of old (4 * block.unit)) (line_of new (4 * block.unit))
   pub pointers : block.order < 4 → ArePointers (capacity_of block.order) (with_line bits line) (line_of new (4 * block.unit))
   pub rest : (at : ℕ) → (at ≡ place_in new block.unit block.order line → ⊥) → (block.order < 4 → at ≡ 4 * block.unit → ⊥) → line_of new at ≡ line_of old at
-  pub outside : KeepsLines (4 * block.unit) (4 * 2 ^ block.order) old new
+  pub outside : KeepsLinesOutside (4 * block.unit) (4 * 2 ^ block.order) old new
 
 pub puts_line : (old mid new : List (List ℕ)) (block : Block) (bits : List ℕ) (line at : ℕ) (bytes : List ℕ) → HasBlock old block → AreLines bits
     → (block.order < 4 → ArePointers (capacity_of block.order) bits (line_of old (4 * block.unit))) → line < 64 → has_line bits line ≡ false
@@ -160,7 +160,7 @@ puts_line old mid new block bits line at bytes within set_bits old_pointers low 
     apart : (other : ℕ) → has_line bits other ≡ true → place_in old block.unit block.order other ≡ at → ⊥
     apart other has e = other_than other has (places_differ mid block more other line within.order pointers (has_more other has) has_here (mid_place other has ∙ e ∙ place))
 
-    changed : KeepsLines (4 * block.unit) (4 * 2 ^ block.order) old new
+    changed : KeepsLinesOutside (4 * block.unit) (4 * 2 ^ block.order) old new
     changed = record {
       size = ap length lines ∙ length-set mid at bytes ∙ reserves.size;
       outside = λ x out. kept x (λ e. off x out (omega (arith, (lies line has_here).from, place, e)) (omega (arith, (lies line has_here).to, place, e))) (λ h e. off x out (omega (arith, e)) (omega (arith, e, pow_pos block.order)));

@@ -15,7 +15,7 @@ use Rattle.segment_store.specs.declared.segment.Segment.{Segment}
 -- What a call changes, and what stays.
 
 -- as many lines as before, and those outside a range stay
-pub record KeepsLines (from count : ℕ) (old new : List (List ℕ)) : Type 0 where
+pub record KeepsLinesOutside (from count : ℕ) (old new : List (List ℕ)) : Type 0 where
   pub size : length new ≡ length old
   pub outside : (at : ℕ) → (at < from) ⊎ (from + count ≤ at) → line_of new at ≡ line_of old at
 
@@ -81,13 +81,13 @@ pub record BeginsSegment (old new : Store) (owner order : ℕ) (bits : List ℕ)
   pub store : IsStore new
 
 -- the lines of a segment stand in another block as they stand in its own, and no line outside that changed
-pub record Copies (old new : Store) (from to : Block) : Type 0 where
-  pub outside : KeepsLines (UNIT_LINES * to.unit) (UNIT_LINES * 2 ^ to.order) old.lines new.lines
+pub record CopiesSegment (old new : Store) (from to : Block) : Type 0 where
+  pub outside : KeepsLinesOutside (UNIT_LINES * to.unit) (UNIT_LINES * 2 ^ to.order) old.lines new.lines
   pub places : (line : ℕ) → has_line (lines_at old from.unit) line ≡ true → place_of new to line + UNIT_LINES * from.unit ≡ place_of old from line + UNIT_LINES * to.unit
   pub lines : (line : ℕ) → has_line (lines_at old from.unit) line ≡ true → line_in new to line ≡ line_in old from line
 
 -- a segment ended: its block is free
-pub record Ends (old new : Store) (block : Block) : Type 0 where
+pub record EndsSegment (old new : Store) (block : Block) : Type 0 where
   pub segments : new.segments ≡ slice_set old.segments block.unit None
   pub lines : new.lines ≡ old.lines
   pub blocks : Gives old.blocks block.unit block.order new.blocks
@@ -96,7 +96,7 @@ pub record Ends (old new : Store) (block : Block) : Type 0 where
 pub record HasLinesNow (old new : Store) (block : Block) (bits : List ℕ) : Type 0 where
   pub segments : new.segments ≡ with_lines_at old.segments block.unit bits
   pub blocks : new.blocks ≡ old.blocks
-  pub lines : KeepsLines (UNIT_LINES * block.unit) (UNIT_LINES * 2 ^ block.order) old.lines new.lines
+  pub lines : KeepsLinesOutside (UNIT_LINES * block.unit) (UNIT_LINES * 2 ^ block.order) old.lines new.lines
 
 -- a line came into a segment: below order 4 into the lowest free slot; every other line of the segment stays
 pub record Inserts (old new : Store) (block : Block) (line : ℕ) (bytes : List ℕ) : Type 0 where

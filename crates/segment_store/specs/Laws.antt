@@ -12,7 +12,7 @@ use Rattle.segment_store.specs.Pointers.{ArePointers, capacity_of, slot_of}
 use Rattle.segment_store.specs.Store.{IsFrame, IsSegment, Store, frame_line, frame_place, line_in, lines_at, place_in, place_of, segment_at, with_line_at, with_lines_at}
 use Rattle.segment_store.specs.Kept.{IsStore}
 use Rattle.segment_store.specs.Places.{HasBlock, LiesIn}
-use Rattle.segment_store.specs.Changes.{HasLinesNow, KeepsFrame, KeepsFrames, KeepsLines, KeepsOtherSegments, KeepsScratch, KeepsSegment, KeepsSegments, block_of}
+use Rattle.segment_store.specs.Changes.{HasLinesNow, KeepsFrame, KeepsFrames, KeepsLinesOutside, KeepsOtherSegments, KeepsScratch, KeepsSegment, KeepsSegments, block_of}
 use Rattle.segment_store.specs.declared.segment.Segment.{Segment}
 
 -- Laws for the crates above, and for this one: where lines stand, and what stays while something else changes.
@@ -108,7 +108,7 @@ IsRangeOf blocks but from count = (v j : ℕ) → IsPiece blocks (taken_at v j) 
 pub record Alters (old new : Store) (but from count : ℕ) : Type 0 where
   pub is : IsStore old
   pub range : IsRangeOf old.blocks but from count
-  pub lines : KeepsLines from count old.lines new.lines
+  pub lines : KeepsLinesOutside from count old.lines new.lines
   pub same : (v : ℕ) → (v ≡ but → ⊥) → segment_at new v ≡ segment_at old v
   pub taken : (v j : ℕ) → IsPiece old.blocks (taken_at v j) → (v ≡ but → ⊥) → IsPiece new.blocks (taken_at v j)
   pub pieces : ArePieces new.blocks
@@ -249,7 +249,7 @@ fresh_frame store unit order apart frame f e = not_taken store unit order 4 apar
 
 -- One line is another one: a line of a segment, or of a frame that is taken.
 
-line_set : (store : Store) (from count at : ℕ) (bytes : List ℕ) → from ≤ at → at < from + count → KeepsLines from count store.lines (with_line_at store at bytes).lines
+line_set : (store : Store) (from count at : ℕ) (bytes : List ℕ) → from ≤ at → at < from + count → KeepsLinesOutside from count store.lines (with_line_at store at bytes).lines
 line_set store from count at bytes low high = record {
   size = length-set store.lines at bytes;
   outside = λ x out. get_or-set_other store.lines at x bytes [] (λ e. off x e out);
@@ -388,10 +388,6 @@ stays_twice one two three block a b = record {
 
 -- How many lines a segment has.
 
-pub capacity_rises : (order : ℕ) → order < 4 → capacity_of order ≤ capacity_of (order + 1)
-capacity_rises order h =
-    by_order (λ k. k < 4 → capacity_of k ≤ capacity_of (k + 1)) (λ h. omega arith) (λ h. omega arith) (λ h. omega arith) (λ h. omega arith) (λ h. absurd (omega (arith, h))) order (omega (arith, h)) h
-
 pub count_fits : (store : Store) → IsStore store → (block : Block) → IsSegment store block → length (lines_at store block.unit) ≤ capacity_of block.order
 count_fits store is block there = at (cases_lt block.order 4)
   where
@@ -415,7 +411,3 @@ filled_there old new block bits is there h = record {
       ∙ refilled old.segments block.unit there.segment bits there.there (omega (arith, inside_of old is block.unit there.segment there.there, is.units, pow_pos there.segment.order));
   order = there.order;
 }
-
-pub filled_lines : (old new : Store) (block : Block) (bits : List ℕ) (is : IsStore old) (there : IsSegment old block) (h : HasLinesNow old new block bits) → lines_at new block.unit ≡ bits
-unfolding filled_there
-filled_lines old new block bits is there h = lines_there new block.unit (filled_there old new block bits is there h).segment (filled_there old new block bits is there h).there

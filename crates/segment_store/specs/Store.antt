@@ -1,4 +1,4 @@
-use Rattle.std.specs.Prelude.{◌≡◌, ℕ, ◌+◌, ◌*◌, cond, nat_eq, List, [], Option, Some, None, option_map, slice_index_or, slice_set}
+use Rattle.std.specs.Prelude.{◌≡◌, ℕ, ◌+◌, ◌*◌, cond, nat_eq, List, [], Option, Some, None, option_map, slice_index_or, slice_set, take, drop}
 use Rattle.std.specs.Option.{option_map_or}
 use Rattle.sizes.specs.declared.TheConstants.{FRAME_UNITS, PAGE_LINES, UNIT_LINES}
 use Rattle.line_store.specs.Lines.{line_of}
@@ -62,6 +62,13 @@ scratch_place store = UNIT_LINES * units_in store.blocks
 
 abbrev pub scratch_line : Store → ℕ → List ℕ
 scratch_line store line = line_of store.lines (scratch_place store + line)
+
+-- the lines of a frame, and those of scratch
+abbrev pub frame_page : Store → ℕ → List (List ℕ)
+frame_page store frame = take PAGE_LINES (drop (PAGE_LINES * frame) store.lines)
+
+abbrev pub scratch_page : Store → List (List ℕ)
+scratch_page store = take PAGE_LINES (drop (scratch_place store) store.lines)
 
 -- a line of scratch where a set has it, else that of a frame
 abbrev pub composed_line : Store → ℕ → List ℕ → ℕ → List ℕ

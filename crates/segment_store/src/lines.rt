@@ -88,6 +88,21 @@ impl StoreLines {
         self.units.put_lines(at, lines);
     }
 
+    /// Lends the 64 lines from `at` on, which lie before scratch.
+    pub(crate) fn page(&self, at: u32) -> &[[u8; 64]; 64]
+        requires there { at + 2 * PAGE_LINES ≤ length self.now }
+        ensures { result.now ≡ take PAGE_LINES (drop at self.now) }
+    {
+        self.units.page(at)
+    }
+
+    /// Lends the lines of scratch.
+    pub(crate) fn scratch(&self) -> &[[u8; 64]; 64]
+        ensures { result.now ≡ take PAGE_LINES (drop (length self.now - PAGE_LINES) self.now) }
+    {
+        self.scratch.page(0)
+    }
+
     /// Copies lines before scratch to others there, which may not overlap them.
     pub(crate) fn copy_lines(&mut self, from: u32, to: u32, n: u32)
         requires source { from + n + PAGE_LINES ≤ length self.old }

@@ -8,13 +8,14 @@ ghost use Rattle.unit_map.specs.Pieces.{AreSettled, AreSettledBut, CanSettle, fr
 ghost use Rattle.unit_map.specs.Changes.{CanMove, HasRoom, IsFull, Gives, OnlyGives, OnlyTakes, TakesBlock};
 ghost use Rattle.store_compaction.specs.Runs.{HasPair};
 ghost use Rattle.store_compaction.specs.Next.{Ascend, IsPairMove, IsRoomMove, RunsShort};
+ghost use Rattle.overlay_bits.specs.Composed.{composed};
 ghost use Rattle.overlay_bits.specs.Lines.{has_line};
 ghost use Rattle.segment_store.specs.contracts.store.SegmentStore.{the_row};
 ghost use Rattle.segment_store.specs.Pointers.{capacity_of};
-ghost use Rattle.segment_store.specs.Store.{segment_at, lines_at, place_of, line_in, frame_place, frame_line, composed_line, with_frame_line, with_segment_line, lines_with, IsFrame, IsSegment};
+ghost use Rattle.segment_store.specs.Store.{segment_at, lines_at, place_of, line_in, frame_place, frame_line, frame_page, composed_line, scratch_page, with_frame_line, with_segment_line, lines_with, IsFrame, IsSegment};
 ghost use Rattle.segment_store.specs.Kept.{IsStore};
 ghost use Rattle.segment_store.specs.Places.{BeginsLines};
-ghost use Rattle.segment_store.specs.Changes.{IsEmptyStore, BeginsSegment, Copies, Ends, FillsFrame, HasLinesNow, Inserts, IsKept, Lays, Lifts, KeepsSegments, KeepsOtherSegments, KeepsFrames, KeepsOtherFrames, KeepsScratch, MakesMove, MakesMoves, SegmentsOutsideStay, WholeSegmentsStay, moved_lines};
+ghost use Rattle.segment_store.specs.Changes.{IsEmptyStore, BeginsSegment, CopiesSegment, EndsSegment, FillsFrame, HasLinesNow, Inserts, IsKept, Lays, Lifts, KeepsSegments, KeepsOtherSegments, KeepsFrames, KeepsOtherFrames, KeepsScratch, MakesMove, MakesMoves, SegmentsOutsideStay, WholeSegmentsStay, moved_lines};
 
 use crate::lines::StoreLines;
 use crate::places;
@@ -23,7 +24,7 @@ use crate::slots::{self, Slots};
 use crate::steps::Steps;
 use arrayvec::ArrayVec;
 use overlay_address::OverlayPage;
-use overlay_bits::Bits;
+use overlay_bits::{Bits, compose};
 use std::alloc::{AllocError, Global};
 use std::marker::Model;
 use std::sync::ledger::Ledger;
@@ -272,7 +273,7 @@ impl SegmentStore {
         requires there { IsSegment self.old from }
         requires room { HasRoom self.old.blocks from.order }
         ensures begins { BeginsSegment self.old self.new owner from.order (lines_at self.old from.unit) result }
-        ensures copies { Copies self.old self.new from result }
+        ensures copies { CopiesSegment self.old self.new from result }
     {
         match self.map.take(from.order) {
             Some(to) => {
@@ -288,7 +289,7 @@ impl SegmentStore {
     /// Ends a segment, which has to be there: its block is free. Costs what giving a block costs.
     pub fn end_segment(&mut self, block: Block)
         requires { IsSegment self.old block }
-        ensures ends { Ends self.old self.new block }
+        ensures ends { EndsSegment self.old self.new block }
         ensures only { OnlyGives self.old.blocks block.unit self.new.blocks }
         ensures segments { KeepsOtherSegments self.old block.unit self.new }
         ensures frames { KeepsFrames self.old self.new }
@@ -351,6 +352,15 @@ impl SegmentStore {
     {
         places::lay(&mut self.region, block, bits);
         slots::set_lines(&mut self.slots, block.unit, bits);
+    }
+
+    /// Composes a page of a frame, which is one of the store's, and scratch: each line of the set is that of scratch, any other
+    /// one that of the frame. Costs a copy for each line.
+    pub fn compose_scratch(&self, frame: u32, bits: Bits, out: &mut [[u8; 64]; 64])
+        requires { FRAME_UNITS * frame + FRAME_UNITS ≤ units_in self.now.blocks }
+        ensures { out.new ≡ composed (frame_page self.now frame) (scratch_page self.now) bits }
+    {
+        compose(self.region.page(64 * frame), self.region.scratch(), bits, out);
     }
 
     /// Composes a page of a frame, which is one of the store's, and scratch, in a frame that is taken, maybe the same: each line of the

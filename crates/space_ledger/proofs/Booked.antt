@@ -1,6 +1,6 @@
 use Rattle.space_ledger.proofs.Common.{◌≡◌, ℕ, ◌+◌, ◌<◌, ◌⊎◌, Bool, true, false, List, Some, refl, nat_cmp, sym, ap, subst, ◌∙◌, arith, inl, inr, nat_tests, none-some, option_map, same_Some, FinMap, empty, get, insert, remove}
 use Rattle.space_ledger.proofs.Pages.{by_key, get_other, get_same, removed_other, removed_same, Pages, PageEntry}
-use Rattle.space_ledger.proofs.Views.{map_from, Ledger, all_holdings, with_page, without_page, by_place, same_lines, same_sharers, same_units, books_added, books_awaiting, books_cut_page, books_lost, books_marked, books_put_page, books_put_shared, page_added, page_awaited, page_cut_beside, page_cut_here, page_lost, page_marked, page_of, page_put_beside, page_put_here, page_shared_beside, page_shared_here, space_absent, space_beside, space_left, space_put, bare_space, cut_page, cut_space, holds_space, of_pages, page_in, put_awaiting, put_mark, put_page, put_shared, put_space, space_in, LedgerView, PageView, SpaceView, holding_of, ledger_of, AreBooks, IsApart, IsBooked, NamesOnce}
+use Rattle.space_ledger.proofs.Views.{map_from, Ledger, all_holdings, with_page, without_page, by_place, same_lines, same_sharers, same_units, books_added, books_awaiting, books_cut_page, books_lost, books_marked, books_put_page, books_put_shared, page_added, page_awaited, page_cut_beside, page_cut_here, page_lost, page_marked, page_of, page_put_beside, page_put_here, page_shared_beside, page_shared_here, space_absent, space_beside, space_left, space_put, bare_space, cut_page, cut_space, holds_space, of_pages, page_in, put_awaiting, put_mark, put_page, put_shared, put_space, space_in, LedgerView, PageView, SpaceView, holding_of, ledger_of, AreBooks, HasFramesApart, IsBooked, NamesOnce}
 use Rattle.space_ledger.specs.Calls.{frame_named}
 use Rattle.space_ledger.proofs.Booking.{by_two}
 use Rattle.space_ledger.proofs.Keys.{gone_at, none_at}
@@ -10,8 +10,8 @@ use Rattle.space_ledger.proofs.Keys.{gone_at, none_at}
 -- Frames that are named once in a space.
 
 -- a page that another space names no frame at, or its frame at no other place, and whose other places are those of one
-by_places : (z p g : ℕ) (x y : SpaceView) → IsApart z x
-    → ((a : Bool) (q f : ℕ) → frame_named y a q ≡ Some f → (f ≡ z → ⊥) → ((a ≡ false) × (q ≡ p) × (f ≡ g)) ⊎ ((frame_named x a q ≡ Some f) × (f ≡ g → ⊥))) → IsApart z y
+by_places : (z p g : ℕ) (x y : SpaceView) → HasFramesApart z x
+    → ((a : Bool) (q f : ℕ) → frame_named y a q ≡ Some f → (f ≡ z → ⊥) → ((a ≡ false) × (q ≡ p) × (f ≡ g)) ⊎ ((frame_named x a q ≡ Some f) × (f ≡ g → ⊥))) → HasFramesApart z y
 by_places z p g x y apart from a b q r f at_q at_r isnt = by (from a q f at_q isnt) (from b r f at_r isnt)
   where
     by : ((a ≡ false) × (q ≡ p) × (f ≡ g)) ⊎ ((frame_named x a q ≡ Some f) × (f ≡ g → ⊥))
@@ -25,7 +25,7 @@ by_places z p g x y apart from a b q r f at_q at_r isnt = by (from a q f at_q is
 abbrev pub FitsIn : ℕ → SpaceView → ℕ → PageView → Type 0
 FitsIn z x p y = (y.entry.frame ≡ z) ⊎ ((a : Bool) (q : ℕ) → frame_named x a q ≡ Some y.entry.frame → (a ≡ false) × (q ≡ p))
 
-apart_put : (z : ℕ) (x : SpaceView) (p : ℕ) (y : PageView) → IsApart z x → FitsIn z x p y → IsApart z (of_pages x (insert x.pages p y))
+apart_put : (z : ℕ) (x : SpaceView) (p : ℕ) (y : PageView) → HasFramesApart z x → FitsIn z x p y → HasFramesApart z (of_pages x (insert x.pages p y))
 apart_put z x p y apart fits = by_places z p y.entry.frame x (of_pages x (insert x.pages p y)) apart from
   where
     other : (a : Bool) (q f : ℕ) → frame_named x a q ≡ Some f → (f ≡ z → ⊥) → ((a ≡ false) × (q ≡ p) → ⊥) → f ≡ y.entry.frame → ⊥
@@ -43,11 +43,11 @@ apart_put z x p y apart fits = by_places z p y.entry.frame x (of_pages x (insert
         (λ d. let was = sym (ap (option_map (λ (w : PageView). w.entry.frame)) (get_other x.pages p q y d)) ∙ at in inr (was, other false q f was isnt (λ one. d one.1)))
 
 -- another page of the same frame
-pub fits_same : (z : ℕ) (x : SpaceView) (p : ℕ) (a y : PageView) → IsApart z x → get x.pages p ≡ Some a → y.entry.frame ≡ a.entry.frame → FitsIn z x p y
+pub fits_same : (z : ℕ) (x : SpaceView) (p : ℕ) (a y : PageView) → HasFramesApart z x → get x.pages p ≡ Some a → y.entry.frame ≡ a.entry.frame → FitsIn z x p y
 fits_same z x p a y apart at same = by_two y.entry.frame z inl
     (λ isnt. inr (λ b q there. apart b false q p y.entry.frame there (ap (option_map (λ (w : PageView). w.entry.frame)) at ∙ ap Some (sym same)) isnt))
 
-apart_gone : (z : ℕ) (x : SpaceView) (p : ℕ) → IsApart z x → IsApart z (of_pages x (remove x.pages p))
+apart_gone : (z : ℕ) (x : SpaceView) (p : ℕ) → HasFramesApart z x → HasFramesApart z (of_pages x (remove x.pages p))
 apart_gone z x p apart a b q r f at_q at_r isnt = apart a b q r f (was a q at_q) (was b r at_r) isnt
   where
     was : (a : Bool) (q : ℕ) → frame_named (of_pages x (remove x.pages p)) a q ≡ Some f → frame_named x a q ≡ Some f
@@ -58,8 +58,8 @@ apart_gone z x p apart a b q r f at_q at_r isnt = apart a b q r f (was a q at_q)
 abbrev shared_in : SpaceView → ℕ → PageView → SpaceView
 shared_in x p y = record { pages = insert x.pages p y; awaiting = remove x.awaiting p; speculating = x.speculating }
 
-apart_shared : (z : ℕ) (x : SpaceView) (p : ℕ) (y : PageView) (e : PageEntry) → IsApart z x → get x.awaiting p ≡ Some e → y.entry.frame ≡ e.frame
-    → IsApart z (shared_in x p y)
+apart_shared : (z : ℕ) (x : SpaceView) (p : ℕ) (y : PageView) (e : PageEntry) → HasFramesApart z x → get x.awaiting p ≡ Some e → y.entry.frame ≡ e.frame
+    → HasFramesApart z (shared_in x p y)
 apart_shared z x p y e apart waiting same = by_places z p e.frame x (shared_in x p y) apart from
   where
     here : frame_named x true p ≡ Some e.frame
@@ -76,7 +76,7 @@ apart_shared z x p y e apart waiting same = by_places z p e.frame x (shared_in x
         (λ d. let was = sym (ap (option_map (λ (w : PageView). w.entry.frame)) (get_other x.pages p q y d)) ∙ at in
         inr (was, λ is. d (apart false true q p f was (here ∙ ap Some (sym is)) isnt).1))
 
-apart_adopted : (z : ℕ) (x : SpaceView) (table : Pages) → x.pages ≡ empty → NamesOnce z table → IsApart z (record { pages = x.pages; awaiting = table; speculating = x.speculating })
+apart_adopted : (z : ℕ) (x : SpaceView) (table : Pages) → x.pages ≡ empty → NamesOnce z table → HasFramesApart z (record { pages = x.pages; awaiting = table; speculating = x.speculating })
 apart_adopted z x table none once a b p q f at_p at_q isnt = by a b at_p at_q
   where
     no : (p : ℕ) → option_map (λ (w : PageView). w.entry.frame) (get x.pages p) ≡ Some f → ⊥
@@ -90,14 +90,14 @@ apart_adopted z x table none once a b p q f at_p at_q isnt = by a b at_p at_q
         map_from (λ (e : PageEntry). e.frame) (get table q) f at_q (λ k there_q is_q.
         (refl, once p q e k there_p there_q (is_p ∙ sym is_q) (λ zero_e. isnt (sym is_p ∙ zero_e)))))
 
-pub nothing_apart : (z : ℕ) → IsApart z bare_space
+pub nothing_apart : (z : ℕ) → HasFramesApart z bare_space
 nothing_apart z = apart_adopted z bare_space empty refl (λ p q e f at_p at_q same isnt. let none = none_at {X = PageEntry} p in cc)
 
 -- of all spaces, where one is put in
-apart_all : (v : LedgerView) (s : ℕ) (x : SpaceView) → ((q : ℕ) → IsApart v.zero_frame (space_in v q)) → IsApart v.zero_frame x → (q : ℕ) → IsApart v.zero_frame (space_in (put_space v s x) q)
+apart_all : (v : LedgerView) (s : ℕ) (x : SpaceView) → ((q : ℕ) → HasFramesApart v.zero_frame (space_in v q)) → HasFramesApart v.zero_frame x → (q : ℕ) → HasFramesApart v.zero_frame (space_in (put_space v s x) q)
 apart_all v s x apart here q = by_key q s
-    (λ same. subst (IsApart v.zero_frame) (sym (space_put v s x q same)) here)
-    (λ d. subst (IsApart v.zero_frame) (sym (space_beside v s x q d)) (apart q))
+    (λ same. subst (HasFramesApart v.zero_frame) (sym (space_put v s x q same)) here)
+    (λ d. subst (HasFramesApart v.zero_frame) (sym (space_beside v s x q d)) (apart q))
 
 -- The books of a view with other spaces, by its ledger.
 
@@ -105,7 +105,7 @@ abbrev with_spaces : LedgerView → FinMap nat_cmp SpaceView → LedgerView
 with_spaces v m = record { spaces = m; frames = v.frames; zero_frame = v.zero_frame }
 
 booked_by : {v : LedgerView} {counts : List ℕ} {u n : ℕ} → IsBooked v counts u n → (m : FinMap nat_cmp SpaceView) (l : Ledger) → ledger_of (with_spaces v m) ≡ l
-    → ((s p : ℕ) (x : PageView) → page_in (with_spaces v m) s p ≡ Some x → x.entry.frame < v.frames) → ((s : ℕ) → IsApart v.zero_frame (space_in (with_spaces v m) s))
+    → ((s p : ℕ) (x : PageView) → page_in (with_spaces v m) s p ≡ Some x → x.entry.frame < v.frames) → ((s : ℕ) → HasFramesApart v.zero_frame (space_in (with_spaces v m) s))
     → {new : List ℕ} {u' n' : ℕ} → AreBooks l v.zero_frame v.frames new u' n' → IsBooked (with_spaces v m) new u' n'
 booked_by {v = v} kept m l is inside apart {new = new} {u' = u'} {n' = n'} books = record {
   some = kept.some;
@@ -118,7 +118,7 @@ booked_by {v = v} kept m l is inside apart {new = new} {u' = u'} {n' = n'} books
 
 -- with the same pages
 booked_as : {v : LedgerView} {counts : List ℕ} {u n : ℕ} → IsBooked v counts u n → (m : FinMap nat_cmp SpaceView) → ((s p : ℕ) → page_in (with_spaces v m) s p ≡ page_in v s p)
-    → ((s : ℕ) → IsApart v.zero_frame (space_in (with_spaces v m) s)) → all_holdings (ledger_of (with_spaces v m)) ≡ all_holdings (ledger_of v) → IsBooked (with_spaces v m) counts u n
+    → ((s : ℕ) → HasFramesApart v.zero_frame (space_in (with_spaces v m) s)) → all_holdings (ledger_of (with_spaces v m)) ≡ all_holdings (ledger_of v) → IsBooked (with_spaces v m) counts u n
 booked_as {v = v} kept m pages apart same = booked_by kept m (ledger_of (with_spaces v m)) refl (λ s p x at. kept.inside s p x (sym (pages s p) ∙ at)) apart (record {
   room = kept.books.room;
   counted = λ f low isnt. kept.books.counted f low isnt ∙ sym (same_sharers (ledger_of (with_spaces v m)) (ledger_of v) (f + 1) same);
@@ -136,8 +136,8 @@ module _ {v : LedgerView} {counts : List ℕ} {u n : ℕ} (kept : IsBooked v cou
   pub booked_lost : holds_space v s ≡ true → (space_in v s).pages ≡ empty → IsBooked (cut_space v s) counts u n
   unfolding cut_space
   booked_lost there none = booked_as kept (cut_space v s).spaces (page_lost v s none) (λ q. by_key q s
-      (λ same. subst (IsApart v.zero_frame) (sym (space_absent (cut_space v s) q (removed_same v.spaces s q same))) (nothing_apart v.zero_frame))
-      (λ d. subst (IsApart v.zero_frame) (sym (space_left v s q d)) (kept.apart q))) (books_lost holding_of v s there none)
+      (λ same. subst (HasFramesApart v.zero_frame) (sym (space_absent (cut_space v s) q (removed_same v.spaces s q same))) (nothing_apart v.zero_frame))
+      (λ d. subst (HasFramesApart v.zero_frame) (sym (space_left v s q d)) (kept.apart q))) (books_lost holding_of v s there none)
 
   pub booked_mark : (on : Bool) → holds_space v s ≡ true → IsBooked (put_mark v s on) counts u n
   unfolding put_mark put_space

@@ -2,17 +2,17 @@ use Rattle.space_ledger.proofs.Common.{◌≡◌, ℕ, ◌^◌, ◌≤◌, ◌<�
 use Rattle.space_ledger.proofs.Pages.{alike, by_key, get_other, get_same, viewed_same, holds, is_within, IsName, overlay_page, space_of, is_name, page_back, same_page, same_space, space_back, Entry}
 use Rattle.space_ledger.proofs.Views.{by_test, map_alike, page_in, put_space, mapped, mapped_space, Inside, OverlaidSpace, LedgerView, IsLined, AreTables, IsShown, Overlays, plain, seen, seen_page}
 use Rattle.overlay_address.specs.Names.{page_of as page_named}
-use Rattle.overlay_mapping_table.specs.Table.{Table}
+use Rattle.overlay_mapping_table.specs.Table.{NamedEntries}
 use Rattle.space_ledger.proofs.Seen.{Shows, found, frames_is, plain_at, space_seen, zero_is}
 
 -- One space of the tables is changed, in a range of its pages, with their overlays: what is seen then, and that what is true is kept.
 
 -- the tables with a space put in, and with other overlays
-abbrev pub made : Inside → ℕ → OverlaidSpace → Table → Inside
+abbrev pub made : Inside → ℕ → OverlaidSpace → NamedEntries → Inside
 made t s y new = record t { spaces = insert t.spaces s y; overlays = new }
 
 -- the overlays beside those of the range are as they were
-pub record AreBeside (t : Inside) (s from n : ℕ) (new : Table) : Type 0 where
+pub record AreBeside (t : Inside) (s from n : ℕ) (new : NamedEntries) : Type 0 where
   pub others : (m : ℕ) → (get new.entries m ≡ get t.overlays.entries m) ⊎ ((q : ℕ) × (is_within from n q ≡ true) × (m ≡ overlay_page s q))
   pub lined : (m : ℕ) (e : Entry) → get new.entries m ≡ Some e → IsLined e
   pub room : new.room ≡ t.overlays.room
@@ -30,7 +30,7 @@ pub record WasAt (t : Inside) (s : ℕ) (x : OverlaidSpace) : Type 0 where
   pub pages : (q : ℕ) → page_in (plain t) s q ≡ get x.table.pages q
   pub shown : (q : ℕ) → IsSome (get x.table.pages q) → IsShown t.overlays.entries s x q
 
-module _ {t : Inside} {v : LedgerView} (show : Shows t v) {s from n : ℕ} {x y : OverlaidSpace} {new : Table} {w : LedgerView}
+module _ {t : Inside} {v : LedgerView} (show : Shows t v) {s from n : ℕ} {x y : OverlaidSpace} {new : NamedEntries} {w : LedgerView}
     (was : WasAt t s x) (over : AreBeside t s from n new) (change : IsChange v s from n x y new.entries w) where
   mine : s < 2 ^ 15
   mine = let low = was.number in omega (arith, low)

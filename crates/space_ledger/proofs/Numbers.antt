@@ -1,6 +1,6 @@
 use Rattle.space_ledger.proofs.Common.{◌≡◌, ℕ, zero, suc, ◌+◌, ◌*◌, ◌^◌, ◌==◌, ◌≤◌, ◌<◌, Bool, true, false, cond, not, ◌&&◌, nat_eq, nat_lt, List, [], length, Option, Some, None, is_some, Result, Ok, Err, OnOk, OnErr, refl, nat_cmp, sym, ap, subst, ◌∙◌, arith, inl, nat_tests, option_map, empty, get, get-empty, len, FRAME_UNITS, LAST_SPACE, MOST_FRAMES, PAGE_LINES}
 use Rattle.space_ledger.proofs.Pages.{is_within, PageEntry, Entry, none_shared, sharers_of, none_at}
-use Rattle.space_ledger.proofs.Views.{by_option, Holding, Ledger, all_holdings, holding_at, is_unused, with_page, without_page, class, own_lines, sharers, units, units_of, has_own, class_none, frame_for, origin_with, without_absent, no_holdings, tally_none, lines_tally, sharers_few, units_few, map_from, keeps_page_put, page_of, page_put_beside, space_absent, bare_space, holds_space, page_in, put_page, put_pages, put_space, space_in, books_absent, books_empty, books_len, books_page, books_spaces, LedgerView, PageView, SpaceView, holding_of, ledger_of, lines_of, origin_of, overlay_at, with_zero_pages, unused_is, AreBooks, AreFree, IsApart, IsBooked, IsNextOverlaid, IsNextOwn, IsSound}
+use Rattle.space_ledger.proofs.Views.{by_option, Holding, Ledger, all_holdings, holding_at, is_unused, with_page, without_page, class, own_lines, sharers, units, units_of, has_own, class_none, frame_for, origin_with, without_absent, no_holdings, tally_none, lines_tally, sharers_few, units_few, map_from, keeps_page_put, page_of, page_put_beside, space_absent, bare_space, holds_space, page_in, put_page, put_pages, put_space, space_in, books_absent, books_empty, books_len, books_page, books_spaces, LedgerView, PageView, SpaceView, holding_of, ledger_of, lines_of, origin_of, overlay_at, with_zero_pages, unused_is, AreBooks, ArePagesFree, HasFramesApart, IsBooked, IsNextOverlaid, IsNextOwn, IsSound}
 use Rattle.ledger.specs.UnitLaws.{no_units as no_page_units}
 use Rattle.space_ledger.proofs.Booking.{held_zero, no_units, page_come, same_books}
 use Rattle.space_ledger.proofs.Booked.{nothing_apart, booked_put, names}
@@ -88,7 +88,7 @@ zero_books v counts u n kept s p y has absent zero_y bare =
     (sym (held_zero v.zero_frame counts y.entry.frame zero_y)) refl)
     (omega (arith, free, nothing)) (omega (arith, none)))
 
-mapped_books : (k from : ℕ) (v : LedgerView) (counts : List ℕ) (u n s : ℕ) (y : PageView) → IsBooked v counts u n → holds_space v s ≡ true → AreFree v s from k → y.entry.frame ≡ v.zero_frame → y.overlay ≡ None
+mapped_books : (k from : ℕ) (v : LedgerView) (counts : List ℕ) (u n s : ℕ) (y : PageView) → IsBooked v counts u n → holds_space v s ≡ true → ArePagesFree v s from k → y.entry.frame ≡ v.zero_frame → y.overlay ≡ None
     → IsBooked (put_pages v s from k y) counts u n
 unfolding put_pages put_page put_space
 mapped_books zero from v counts u n s y kept has free zero_y bare = kept
@@ -107,7 +107,7 @@ on_either (Ok x) old new made counts u n kept then ok err = subst (λ v. IsBooke
 on_either (Err e) old new made counts u n kept then ok err = subst (λ v. IsBooked v counts u n) (sym err) kept
 
 -- pages mapped on the zero frame
-pub mapped_view : (v : LedgerView) (counts : List ℕ) (u n s from k : ℕ) (e : PageEntry) → IsBooked v counts u n → holds_space v s ≡ true → AreFree v s from k → e.frame ≡ v.zero_frame
+pub mapped_view : (v : LedgerView) (counts : List ℕ) (u n s from k : ℕ) (e : PageEntry) → IsBooked v counts u n → holds_space v s ≡ true → ArePagesFree v s from k → e.frame ≡ v.zero_frame
     → IsBooked (with_zero_pages v s from k e) counts u n
 unfolding with_zero_pages
 mapped_view v counts u n s from k e kept has free zero_e = mapped_books k from v counts u n s (record { entry = e; overlay = None }) kept has free zero_e refl
@@ -121,7 +121,7 @@ new_books v counts frames z none frames_is zero_is counts_is room some few insid
   frames = subst (λ k. k ≤ MOST_FRAMES) (sym frames_is) few;
   zero_in = subst (λ k. k < v.frames) (sym zero_is) (subst (λ k. z < k) (sym frames_is) inside);
   inside = λ s p x at. let no = ap is_some (sym at ∙ nowhere s p) in cc;
-  apart = λ s. subst (IsApart v.zero_frame) (sym (no_space s)) (nothing_apart v.zero_frame);
+  apart = λ s. subst (HasFramesApart v.zero_frame) (sym (no_space s)) (nothing_apart v.zero_frame);
   books = record {
     room = room ∙ sym frames_is;
     counted = λ f low isnt. ap (λ (c : List ℕ). sharers_of c f) counts_is ∙ none_at frames f (subst (λ k. f < k) frames_is low) ∙ sym (tally_none (λ x. cond (x.origin == f + 1) 1 0) (ledger_of v) nothing);

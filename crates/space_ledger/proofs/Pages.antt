@@ -9,7 +9,7 @@ pub use Rattle.overlay_address.specs.Names.{IsName, overlay_page, space_of}
 pub use Rattle.overlay_bits.specs.Lines.{AreLines, Rise, has_line}
 pub use Rattle.overlay_mapping_table.specs.Table.{HasRoomFor}
 pub use Rattle.overlay_mapping_table.specs.declared.entry.Entry.{Entry}
-pub use Rattle.page_set.specs.Sets.{AreCut, Chunks, IsNextMember, IsPut, holds}
+pub use Rattle.page_set.specs.Sets.{AreTakenOut, Chunks, IsNextMember, IsPut, holds}
 pub use Rattle.page_table.specs.Nodes.{OverlaidAreThere, Table}
 pub use Rattle.page_table.specs.Run.{IsNextRun, IsRunFrom, entry_at}
 pub use Rattle.page_table.specs.Table.{AreThere, IsFree, IsMapped, IsNext, IsUnmapped, Pages, is_within}

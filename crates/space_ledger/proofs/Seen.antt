@@ -1,6 +1,6 @@
 use Rattle.space_ledger.proofs.Common.{◌≡◌, ℕ, ◌+◌, ◌-◌, ◌^◌, ◌≤◌, ◌<◌, true, false, Option, Some, None, is_some, IsSome, refl, option_and_then, option_map, nat_cmp, sym, ap, subst, subst₂, ◌∙◌, arith, nat_tests, FinMap, empty, get, get-empty, len, LAST_SPACE, PAGE_END}
 use Rattle.space_ledger.proofs.Pages.{alike, len_low, get_viewed, len_viewed, holds, AreThere, IsFree, is_within, PageEntry, overlay_page, page_back, space_back}
-use Rattle.space_ledger.proofs.Views.{not_true, by_option, map_twice, map_still, none_by, map_some, bare_space, holds_space, page_in, space_in, page_of, space_absent, space_there, there_space, mapped, mapped_at, mapped_holds, mapped_page, mapped_space, Inside, IsLeastFrom, IsLeastOverlaid, OverlaidSpace, SpaceTable, LedgerView, PageView, SpaceView, overlay_at, AreBare, AreFree, IsNextOf, IsNextOverlaid, entries_of, AreTables, plain, seen, seen_page, tables_of}
+use Rattle.space_ledger.proofs.Views.{not_true, by_option, map_twice, map_still, none_by, map_some, bare_space, holds_space, page_in, space_in, page_of, space_absent, space_there, there_space, mapped, mapped_at, mapped_holds, mapped_page, mapped_space, Inside, IsFirstPageFrom, IsLeastOverlaid, OverlaidSpace, SpaceTable, LedgerView, PageView, SpaceView, overlay_at, AreBare, ArePagesFree, IsNextOf, IsNextOverlaid, entries_of, AreTables, plain, seen, seen_page, tables_of}
 
 -- What the spaces and the overlays show.
 
@@ -138,7 +138,7 @@ module _ {t : Inside} {v : LedgerView} (is : seen t ≡ v) (own : AreTables t) (
   pub empty_in : (space_in v s).pages ≡ empty → x.table.pages ≡ empty
   empty_in none = alike _ _ (λ p. none_by (get x.table.pages p) (some_at p ∙ ap is_some (page_of v s p ∙ ap (λ m. get m p) none ∙ get-empty nat_cmp p)) ∙ sym (get-empty nat_cmp p))
 
-  pub free_in : (from n : ℕ) → AreFree v s from n → IsFree x.table.pages from n
+  pub free_in : (from n : ℕ) → ArePagesFree v s from n → IsFree x.table.pages from n
   free_in from n free q within = none_by (get x.table.pages q) (some_at q ∙ ap is_some (free q within))
 
   pub bare_in : (from n : ℕ) → AreBare v s from n → AreThere x.table.pages from n
@@ -149,7 +149,7 @@ module _ {t : Inside} {v : LedgerView} (is : seen t ≡ v) (own : AreTables t) (
   room_in n most = let few = len_low PAGE_END x.table.pages (λ q some. (own.pages s q x (sym at) some).0) in omega (arith, few, most)
 
   -- the next page, the next one that is overlaid, the entries, and how many there are
-  pub next_is : (p : ℕ) (found : Option ℕ) → IsLeastFrom x.table.pages p found → IsNextOf v s p found
+  pub next_is : (p : ℕ) (found : Option ℕ) → IsFirstPageFrom x.table.pages p found → IsNextOf v s p found
   next_is p None n = λ q from. absent_is q (n q from)
   next_is p (Some k) n = (n.0, sym (some_at k) ∙ n.1, λ q from before. absent_is q (n.2 q from before))
 

@@ -1,8 +1,8 @@
 use Rattle.space_ledger.proofs.Common.{◌≡◌, ℕ, zero, suc, ◌+◌, ◌-◌, ◌*◌, ◌^◌, ◌≤◌, ◌<◌, ◌⊎◌, Bool, true, false, cond, Option, Some, None, is_some, IfSome, IsSome, Result, Ok, Err, OnOk, OnErr, refl, option_map, option_and_then, nat_cmp, sym, ap, subst, ◌∙◌, arith, inl, inr, nat_tests, nat_eq, nat_cmp_total, FinMap, empty, get, get-empty, insert, len, len-empty, len-insert, len-remove, remove, FRAME_UNITS, LAST_SPACE, PAGE_END, same_Some}
 use Rattle.space_ledger.proofs.Pages.{alike, by_key, get_other, get_same, insert_kept, removed_other, get_viewed, viewed, viewed_empty, viewed_gone, viewed_put, AreCut, IsPut, holds, Pages, is_within, entry_at, PageEntry, PageRun, overlay_page, space_of, same_page, Entry, HasRoomFor}
-use Rattle.space_ledger.proofs.Views.{are, arent, by_test, map_alike, none_by, Spaces, bare_space, cut_page, cut_pages, cut_space, holds_space, page_in, put_awaiting, put_mark, put_page, put_pages, put_shared, put_space, space_in, ArePut, are_put, beside_space, changed_there, in_space, keeps_put, page_absent, page_of, same_spaces, space_over, space_put, space_there, spaces_alike, mapped, mapped_bare, mapped_cut, mapped_cut_pages, mapped_none, mapped_put, mapped_space, Inside, AreNotOverlaid, HasMapped, OverlaidSpace, SpaceTable, adopted, awaited, marked, run_awaited, with_entry, without_pages, LedgerView, PageView, SpaceView, with_entry_at, with_overlay, with_run_shared, with_zero_pages, AreBare, AreFree, IsLined, AreTables, Overlays, plain, put_over, seen, seen_page, tables_of}
+use Rattle.space_ledger.proofs.Views.{are, arent, by_test, map_alike, none_by, Spaces, bare_space, cut_page, cut_pages, cut_space, holds_space, page_in, put_awaiting, put_mark, put_page, put_pages, put_shared, put_space, space_in, ArePut, are_put, beside_space, changed_there, in_space, keeps_put, page_absent, page_of, same_spaces, space_over, space_put, space_there, spaces_alike, mapped, mapped_bare, mapped_cut, mapped_cut_pages, mapped_none, mapped_put, mapped_space, Inside, AreNotOverlaid, HasMapped, OverlaidSpace, SpaceTable, adopted, awaited, marked, run_awaited, with_entry, without_pages, LedgerView, PageView, SpaceView, with_entry_at, with_overlay, with_run_shared, with_zero_pages, AreBare, ArePagesFree, IsLined, AreTables, Overlays, plain, put_over, seen, seen_page, tables_of}
 use Rattle.overlay_address.specs.Names.{page_of as page_named}
-use Rattle.overlay_mapping_table.specs.Table.{Table}
+use Rattle.overlay_mapping_table.specs.Table.{NamedEntries}
 use Rattle.space_ledger.specs.Space.{without_page}
 use Rattle.space_ledger.proofs.Seen.{Shows, absent_is, awaiting_is, bare_at, empty_in, entry_at as entry_is, entry_there, found, held_at, low_is, mark_is, none_placed, overlay_is, page_at, plain_at, plain_some, some_is, space_is, there_is}
 use Rattle.space_ledger.proofs.Keys.{gone_at, put_at}
@@ -196,7 +196,7 @@ module _ {t : Inside} {v : LedgerView} (show : Shows t v) (s : ℕ) (x y : Overl
       here = space_there (plain t) s x.table plain_there
 
   -- pages mapped, which weren't there
-  pub mapped_made : (from n : ℕ) (e : PageEntry) → HasMapped x.table from n e y.table → y.overlaid ≡ x.overlaid → AreNotOverlaid x.overlaid from n → AreFree v s from n → from + n ≤ PAGE_END
+  pub mapped_made : (from n : ℕ) (e : PageEntry) → HasMapped x.table from n e y.table → y.overlaid ≡ x.overlaid → AreNotOverlaid x.overlaid from n → ArePagesFree v s from n → from + n ≤ PAGE_END
       → Shows (made t s y t.overlays) (with_zero_pages v s from n e)
   unfolding with_zero_pages
   mapped_made from n e mapped same none free low = bare from n (put_pages v s from n page)
@@ -252,7 +252,7 @@ module _ {t : Inside} {v : LedgerView} (show : Shows t v) (s : ℕ) (x y : Overl
   -- One page, with another entry, or with its overlay.
 
   -- its overlay put in or taken away
-  module _ (p : ℕ) (o : Option Entry) (new : Table) (low : p < PAGE_END) (lined : IfSome o IsLined) (room : IfSome o (λ e. HasRoomFor t.overlays (overlay_page s p)))
+  module _ (p : ℕ) (o : Option Entry) (new : NamedEntries) (low : p < PAGE_END) (lined : IfSome o IsLined) (room : IfSome o (λ e. HasRoomFor t.overlays (overlay_page s p)))
       (entries : new.entries ≡ put_over t.overlays.entries (overlay_page s p) o) (same_room : new.room ≡ t.overlays.room) (put : IsPut x.overlaid p (is_some o) y.overlaid) where
     new_at : (m : ℕ) → get new.entries m ≡ cond (nat_eq m (overlay_page s p)) o (get t.overlays.entries m)
     new_at m = ap (λ k. get k m) entries ∙ over_at t.overlays.entries (overlay_page s p) o m

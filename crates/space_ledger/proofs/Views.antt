@@ -11,7 +11,7 @@ pub use Rattle.ledger.specs.UnitLaws.{alone_is, lines_at, lines_put, units_at, u
 unfoldable pub use Rattle.ledger.specs.UnitLaws.{frame_for}
 pub use Rattle.ledger.specs.Units.{class, tally, units_of}
 unfoldable pub use Rattle.ledger.specs.Units.{overlaid_pages, own_lines, sharers, units}
-pub use Rattle.space_ledger.specs.Calls.{AreBare, AreBareBelow, AreBareOnZero, AreBooks, AreFree, AreSharedBare, AreSharersCounted, GivesNothingUp, GivesUpAtLast, HasOverlayRoom, HasSpare, IsApart, IsBareFrom, IsBareRun, IsBooked, IsFreeFor, IsLined, IsNextOf, IsNextOverlaid, IsNextOwn, IsSound, NamesOnce, RisesBeside, given_up}
+pub use Rattle.space_ledger.specs.Calls.{AreBare, AreBareBelow, AreBareOnZero, AreBooks, ArePagesFree, AreSharedBare, AreSharersCounted, GivesNothingUp, GivesUpAtLast, HasOverlayRoom, HasSpare, HasFramesApart, IsBareFrom, IsBareRun, IsBooked, IsFreeFor, IsLined, IsNextOf, IsNextOverlaid, IsNextOwn, IsSound, NamesOnce, RisesBeside, given_up}
 unfoldable pub use Rattle.space_ledger.specs.Calls.{entries_of}
 pub use Rattle.space_ledger.specs.Calls.AreSharedBare.{Still, Then}
 pub use Rattle.space_ledger.specs.Frames.{held_run, released_run, run_freed, run_units}
@@ -19,7 +19,7 @@ unfoldable pub use Rattle.space_ledger.specs.Frames.{counted_run, counted_units,
 pub use Rattle.space_ledger.specs.Joined.{joined_same}
 pub use Rattle.space_ledger.specs.Kept.{AreTables, IsShown, Overlays, plain, put_over, seen_page}
 unfoldable pub use Rattle.space_ledger.specs.Kept.{seen, tables_of}
-pub use Rattle.space_ledger.specs.Space.{AreNotOverlaid, AwaitsRun, HasMapped, IsCounted, IsLeast, IsLeastFrom, IsLeastOverlaid, IsRunBelow, IsStartOf, OverlaidSpace, SpaceTable, adopted, awaited, first_of, marked, with_entry}
+pub use Rattle.space_ledger.specs.Space.{AreNotOverlaid, AwaitsRun, HasMapped, IsCounted, IsLeast, IsFirstPageFrom, IsLeastOverlaid, IsRunBelow, IsStartOf, OverlaidSpace, SpaceTable, adopted, awaited, first_of, marked, with_entry}
 unfoldable pub use Rattle.space_ledger.specs.Space.{pages_below, pages_from, run_awaited, without_pages}
 pub use Rattle.space_ledger.specs.View.{LedgerView, PageView, SpaceView, frame_at, frame_awaiting, holding_of, ledger_of, lines_of, origin_of, overlay_at}
 unfoldable pub use Rattle.space_ledger.specs.View.{with_block, with_entry_at, with_frame, with_overlay, with_page_shared, with_run_shared, with_zero_pages}

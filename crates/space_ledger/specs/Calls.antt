@@ -24,8 +24,8 @@ abbrev pub AreSharersCounted : Ledger → ℕ → ℕ → List ℕ → Type 0
 AreSharersCounted ledger zero_frame frames counts = (f : ℕ) → f < frames → (f ≡ zero_frame → ⊥) → sharers_of counts f ≡ sharers ledger (f + 1)
 
 -- none of the n pages from `from` on is there
-abbrev pub AreFree : LedgerView → ℕ → ℕ → ℕ → Type 0
-AreFree view space from n = (page : ℕ) → IsTrue (is_within from n page) → page_in view space page ≡ None
+abbrev pub ArePagesFree : LedgerView → ℕ → ℕ → ℕ → Type 0
+ArePagesFree view space from n = (page : ℕ) → IsTrue (is_within from n page) → page_in view space page ≡ None
 
 -- the n pages from `from` on are there without own lines; and they are on the zero frame
 abbrev pub AreBare : LedgerView → ℕ → ℕ → ℕ → Type 0
@@ -105,8 +105,8 @@ frame_named x awaits page =
     if awaits then option_map (λ (e : PageEntry). e.frame) (get x.awaiting page) else option_map (λ (y : PageView). y.entry.frame) (get x.pages page)
 
 -- nor by two of its pages, by two that await, or by one of either
-abbrev pub IsApart : ℕ → SpaceView → Type 0
-IsApart zero_frame x =
+abbrev pub HasFramesApart : ℕ → SpaceView → Type 0
+HasFramesApart zero_frame x =
     (a b : Bool) (p q f : ℕ) → frame_named x a p ≡ Some f → frame_named x b q ≡ Some f → (f ≡ zero_frame → ⊥) → (a ≡ b) × (p ≡ q)
 
 -- a frame is the zero frame, or no other page of the space names it
@@ -140,7 +140,7 @@ pub record IsBooked (view : LedgerView) (counts : List ℕ) (units_kept lines_ke
   pub frames : view.frames ≤ MOST_FRAMES
   pub zero_in : view.zero_frame < view.frames
   pub inside : (space page : ℕ) (x : PageView) → page_in view space page ≡ Some x → x.entry.frame < view.frames
-  pub apart : (space : ℕ) → IsApart view.zero_frame (space_in view space)
+  pub apart : (space : ℕ) → HasFramesApart view.zero_frame (space_in view space)
   pub books : AreBooks (ledger_of view) view.zero_frame view.frames counts units_kept lines_kept
 
 -- each page below one that awaits in a space does so with the frame that it has in another one, and has no overlay there
@@ -156,8 +156,8 @@ pub data AreSharedBare (from to until : ℕ) : LedgerView → LedgerView → Typ
       → AreSharedBare from to until (with_page_shared old from to page None) new → AreSharedBare from to until old new
 
 -- by how much the units rise by a store that touches lines of a page
-abbrev pub RisesBy : LedgerView → ℕ → ℕ → List ℕ → ℕ → Type 0
-RisesBy view space page lines rise =
+abbrev pub StoreRisesBy : LedgerView → ℕ → ℕ → List ℕ → ℕ → Type 0
+StoreRisesBy view space page lines rise =
     units (ledger_after (Store (space_in view space).speculating space ((page, lines) ∷ [])) (ledger_of view)) ≡ units (ledger_of view) + rise
 
 -- whatever lines of whatever other page of the space a store touches too, it rises by as much more

@@ -31,9 +31,9 @@ pub record IsCounted (table : Pages) (end count : ℕ) : Type 0 where
   pub reach : end < 2 ^ 64
 
 -- the least page not below one, or that there is none
-abbrev pub IsLeastFrom : Pages → ℕ → Option ℕ → Type 0
-IsLeastFrom pages page None = (q : ℕ) → page ≤ q → get pages q ≡ None
-IsLeastFrom pages page (Some found) = (page ≤ found) × IsSome (get pages found) × ((q : ℕ) → page ≤ q → q < found → get pages q ≡ None)
+abbrev pub IsFirstPageFrom : Pages → ℕ → Option ℕ → Type 0
+IsFirstPageFrom pages page None = (q : ℕ) → page ≤ q → get pages q ≡ None
+IsFirstPageFrom pages page (Some found) = (page ≤ found) × IsSome (get pages found) × ((q : ℕ) → page ≤ q → q < found → get pages q ≡ None)
 
 -- the least overlaid page not below one, or that there is none
 abbrev pub IsLeastOverlaid : OverlaidSpace → ℕ → Option ℕ → Type 0

@@ -2,10 +2,10 @@
 
 ghost use Rattle.std.specs.Prelude.{◌≡◌, ℕ, ◌+◌, ◌^◌, ◌<◌, ◌≤◌, IfOk, IsSome, OnOk, OnErr, None, Some, false};
 ghost use Rattle.std.specs.FinMap as map;
-ghost use Rattle.page_set.specs.Sets.{AreCut, IsPut, holds};
+ghost use Rattle.page_set.specs.Sets.{AreTakenOut, IsPut, holds};
 ghost use Rattle.page_table.specs.Run.{IsNextRun, IsRunFrom};
 ghost use Rattle.page_table.specs.Table.{AreThere, IsFree};
-ghost use Rattle.space_ledger.specs.Space.{AreNotOverlaid, HasMapped, IsLeast, IsLeastFrom, IsLeastOverlaid, AwaitsRun, adopted, awaited, marked, run_awaited, with_entry, without_pages};
+ghost use Rattle.space_ledger.specs.Space.{AreNotOverlaid, HasMapped, IsLeast, IsFirstPageFrom, IsLeastOverlaid, AwaitsRun, adopted, awaited, marked, run_awaited, with_entry, without_pages};
 
 use crate::runs::cut;
 use ovl_io::Perms;
@@ -74,7 +74,7 @@ impl Space {
 
     /// The least page not below one. None exactly where none is.
     pub(crate) fn next(&self, page: u64) -> Option<u64>
-        ensures { IsLeastFrom self.now.table.pages page result }
+        ensures { IsFirstPageFrom self.now.table.pages page result }
     {
         match self.table.next_from(page) {
             Some((found, _)) => { if found < self.end { Some(found) } else { None } }
@@ -139,7 +139,7 @@ impl Space {
     pub(crate) fn remove_pages(&mut self, from: u64, n: u32)
         requires { AreThere self.old.table.pages from n }
         ensures table { self.new.table ≡ without_pages self.old.table from n }
-        ensures overlaid { AreCut self.old.overlaid from n self.new.overlaid }
+        ensures overlaid { AreTakenOut self.old.overlaid from n self.new.overlaid }
     {
         self.table.unmap(from, n);
         self.count -= n;
@@ -200,7 +200,7 @@ impl Space {
         requires few { map.len self.old.table.pages + run.now.n < 2 ^ 32 }
         ensures apart { (i : ℕ) → i < run.now.n → map.get self.old.table.pages (run.now.page + i) ≡ None }
         ensures shared { self.new.table ≡ run_awaited self.old.table run.now run.now.n }
-        ensures overlaid { AreCut self.old.overlaid run.now.page run.now.n self.new.overlaid }
+        ensures overlaid { AreTakenOut self.old.overlaid run.now.page run.now.n self.new.overlaid }
     {
         self.table.clear_overlaid(run.page, run.n);
         self.end = run.page + u64::from(run.n);

@@ -15,7 +15,7 @@ ghost use Rattle.page_table.specs.Run.{IsRunFrom};
 ghost use Rattle.space_maps.specs.Spaces.{AreMapped, bare_space, cut_page, cut_pages, cut_space, holds_space, page_in, put_awaiting, put_mark, put_space, space_in};
 ghost use Rattle.space_ledger.specs.Space.{IsLeast};
 ghost use Rattle.space_ledger.specs.View.{frame_at, frame_awaiting, ledger_of, lines_of, origin_of, overlay_at, with_block, with_frame, with_overlay, with_page_shared, with_run_shared, with_zero_pages};
-ghost use Rattle.space_ledger.specs.Calls.{AreBareBelow, AreBareOnZero, AreFree, AreSharedBare, GivesNothingUp, GivesUpAtLast, HasOverlayRoom, HasSpare, IsBareFrom, IsBareRun, IsFreeFor, IsNextOf, IsNextOwn, NamesOnce, RisesBeside, RisesBy, entries_of, given_up, held_at};
+ghost use Rattle.space_ledger.specs.Calls.{AreBareBelow, AreBareOnZero, ArePagesFree, AreSharedBare, GivesNothingUp, GivesUpAtLast, HasOverlayRoom, HasSpare, IsBareFrom, IsBareRun, IsFreeFor, IsNextOf, IsNextOwn, NamesOnce, RisesBeside, StoreRisesBy, entries_of, given_up, held_at};
 
 use crate::frames::{class_of, hold, hold_run, is_only, release, release_run};
 use crate::runs::{start_of, zeros_in};
@@ -123,7 +123,7 @@ impl SpaceLedger {
     ) -> Result<(), AllocError>
         requires there { holds_space self.old space ≡ true }
         requires none_awaits { (space_in self.old space).awaiting ≡ map.empty }
-        requires free { AreFree self.old space page n }
+        requires free { ArePagesFree self.old space page n }
         requires low { page + n ≤ PAGE_END }
         requires few { map.len (space_in self.old space).pages + n ≤ MOST_SPACE_PAGES }
         ensures mapped { OnOk result (self.new ≡ with_zero_pages self.old space page n
@@ -530,7 +530,7 @@ impl SpaceLedger {
     /// rises by the sum of both answers. Costs a few look-ups.
     pub fn store_units(&self, space: u16, page: u64, lines: Bits) -> u32
         requires { IsSome (page_in self.now space page) }
-        ensures rise { RisesBy self.now space page lines result }
+        ensures rise { StoreRisesBy self.now space page lines result }
         ensures both { RisesBeside self.now space page lines result }
     {
         let is_alone = self.is_alone(space, page);

@@ -12,7 +12,7 @@ ghost use Rattle.space_maps.specs.Spaces.{bare_space, cut_page, cut_pages, cut_s
 ghost use Rattle.space_ledger.specs.Kept.{put_over};
 ghost use Rattle.space_ledger.specs.Space.{AwaitsRun, IsLeast};
 ghost use Rattle.space_ledger.specs.View.{ledger_of, with_entry_at, with_overlay, with_run_shared, with_zero_pages};
-ghost use Rattle.space_ledger.specs.Calls.{AreBare, AreFree, HasOverlayRoom, HasSpare, IsLined, IsNextOf, IsNextOverlaid, IsSound, entries_of};
+ghost use Rattle.space_ledger.specs.Calls.{AreBare, ArePagesFree, HasOverlayRoom, HasSpare, IsLined, IsNextOf, IsNextOverlaid, IsSound, entries_of};
 
 use crate::space::Space;
 use by_number::ByNumber;
@@ -252,7 +252,7 @@ impl Tables {
     ) -> Result<(), AllocError>
         requires there { holds_space self.old space ≡ true }
         requires none_awaits { (space_in self.old space).awaiting ≡ map.empty }
-        requires free { AreFree self.old space from n }
+        requires free { ArePagesFree self.old space from n }
         requires low { from + n ≤ PAGE_END }
         requires few { map.len (space_in self.old space).pages + n < 2 ^ 32 }
         ensures mapped { OnOk result (self.new ≡ with_zero_pages self.old space from n

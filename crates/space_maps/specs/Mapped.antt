@@ -126,22 +126,3 @@ unfolding put_pages
 mapped_put_pages f zero from v s x = refl
 mapped_put_pages f (suc n) from v s x =
     mapped_put_pages f n (from + 1) (put_page v s from x) s x ∙ ap (λ w. put_pages w s (from + 1) n (f x)) (mapped_put_page (λ _ _ y. f y) v s from x)
-
--- Seen in two ways, the same spaces are there.
-pub mapped_keeps : {P Q : Type 0} (f g : ℕ → ℕ → P → Q) (v : Spaces P) → KeepsSpaces (mapped f v) (mapped g v)
-unfolding mapped
-mapped_keeps f g v = record {
-  frames = refl;
-  zero_frame = refl;
-  there = λ q. mapped_holds g v q ∙ sym (mapped_holds f v q);
-  awaiting = λ q. mapped_awaiting g v q ∙ sym (mapped_awaiting f v q);
-  marks = λ q. mapped_mark g v q ∙ sym (mapped_mark f v q);
-}
-
--- Two ways to see the pages that agree at each page that is there.
-pub mapped_same : {P Q : Type 0} (f g : ℕ → ℕ → P → Q) (v : Spaces P) → ((s p : ℕ) (x : P) → page_in v s p ≡ Some x → f s p x ≡ g s p x) → mapped f v ≡ mapped g v
-unfolding mapped
-mapped_same {P = P} f g v same =
-    let all = viewed_same (λ s (x : SpaceOf P). mapped_space (f s) x) (λ s (x : SpaceOf P). mapped_space (g s) x) v.spaces (λ s x there. ap (of_pages (mapped_space (f s) x))
-    (viewed_same (f s) (g s) x.pages (λ p y at. same s p y (page_of v s p ∙ ap (λ (z : SpaceOf P). get z.pages p) (space_there v s x there) ∙ at)))) in
-    λ i. record { spaces = all i; frames = v.frames; zero_frame = v.zero_frame }

@@ -76,18 +76,6 @@ unfolding translated_pages
 two_pages space need page memory t =
     ap (λ x. cond (page_allows memory need page) x (translated space memory page t)) (one_page space need (page + 1) memory (translated space memory page t))
 
-over_pages : (space need address length : ℕ) (memory : Memory) (t : BareTranslations) → PAGE_BYTES < address % PAGE_BYTES + length → length ≤ PAGE_BYTES
-    → translated_pages space memory need (pages_under address length) t ≡ both_translated space memory need (address / PAGE_BYTES) t
-over_pages space need address zero memory t over few = absurd (omega arith)
-over_pages space need address (suc more) memory t over few =
-    let two : (address + more) / PAGE_BYTES - address / PAGE_BYTES + 1 ≡ 2 = omega arith in
-    ap (λ n. translated_pages space memory need (range_with_len (address / PAGE_BYTES) n) t) two ∙ two_pages space need (address / PAGE_BYTES) memory t
-
-pub access_in_two : (space : ℕ) (memory : Memory) (access : Access) (t : BareTranslations) → PAGE_BYTES < access.address % PAGE_BYTES + access.length
-    → access.length ≤ PAGE_BYTES → access_translated space memory access t ≡ both_translated space memory access.need (access.address / PAGE_BYTES) t
-unfolding access_translated
-access_in_two space memory access t over few = over_pages space access.need access.address access.length memory t over few
-
 -- Accesses.
 
 pub counted_none : (space : ℕ) (memory : Memory) (t : BareTranslations) → counted space memory [] t ≡ t
@@ -105,13 +93,6 @@ pub counted_next : (space : ℕ) (memory : Memory) (access : Access) (accesses :
 unfolding counted
 counted_next space memory access accesses t may =
     ap (λ (o : Option ℕ). cond (is_some o) (access_translated space memory access t) (counted space memory accesses (access_translated space memory access t))) may
-
--- one that fails ends them
-pub counted_last : (space : ℕ) (memory : Memory) (access : Access) (accesses : List Access) (at : ℕ) (t : BareTranslations) → denied_at memory access ≡ Some at
-    → counted space memory (access ∷ accesses) t ≡ access_translated space memory access t
-unfolding counted
-counted_last space memory access accesses at t denied =
-    ap (λ (o : Option ℕ). cond (is_some o) (access_translated space memory access t) (counted space memory accesses (access_translated space memory access t))) denied
 
 -- One page.
 
@@ -315,12 +296,3 @@ front_beside s space page q memory t other front = by_tests (is_some (found s q 
     by_tests true c = of (looked s q t) looked_too
     by_tests false false = of (looked s q t) looked_too
     by_tests false true = of (entered s q tt (looked s q t)) (beside_entered s page q tt (looked s q t) other ∙ looked_too)
-
--- and is there without what the entries hold too
-pub front_bare : {A : Type 0} (space page : ℕ) (t : Translations A) → IsFront space page t → IsFront space page (bare t)
-unfolding bare
-front_bare space page t front = record {
-  held = tt;
-  rest = bare_list front.rest;
-  first = math.get_or-map bare_list t.sets (page % SETS) [] ∙ ap bare_list front.first;
-}

@@ -10,4 +10,4 @@ pub mod Bare
 pub mod Counted
 pub mod CountedLaws
 pub mod Unseen
-pub mod Limits
+pub mod Examples

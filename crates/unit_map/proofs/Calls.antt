@@ -5,7 +5,7 @@ use Rattle.std.specs.Int.{bit_at}
 use Rattle.mark_levels.specs.Levels.{LackBits}
 use Rattle.unit_map.specs.Pieces.{Piece, IsPiece, IsApartFromTaken, free_at, free_units, taken_at, units_in}
 use Rattle.unit_map.specs.Changes.{Gives, KeepsOthers, KeepsTaken, OnlyGives, OnlyTakes, TakesBlock, TakesFrom}
-use Rattle.unit_map.specs.Cells.{code, pieces_in, pieces_of, behind, IsCleared, IsHeld, IsSplit, IsTable}
+use Rattle.unit_map.specs.Cells.{code, pieces_in, pieces_of, behind, IsCleared, IsBlockOrHalf, IsSplit, IsTable}
 use Rattle.unit_map.specs.Laws.{equal_or_apart}
 use Rattle.unit_map.proofs.Codes.{code_same}
 use Rattle.unit_map.proofs.Counts.{free_gives, free_takes, least_some}
@@ -95,7 +95,7 @@ taking cells new order from unit is le low bit lack split = record {
       least = least_some cells order from is lack;
     }
 
-pub taken_held : (cells : List ℕ) (order unit : ℕ) → IsTable cells → IsPiece (pieces_of cells) (taken_at unit order) → IsHeld cells unit order
+pub taken_held : (cells : List ℕ) (order unit : ℕ) → IsTable cells → IsPiece (pieces_of cells) (taken_at unit order) → IsBlockOrHalf cells unit order
 taken_held cells order unit is there =
     let byte = piece_there cells (taken_at unit order) is there in
     let at = piece_block cells (taken_at unit order) is there in

@@ -2,10 +2,10 @@ use Rattle.std.proofs.Common.{◌≡◌, ℕ, suc, ◌+◌, ◌^◌, ◌%◌, �
 use Rattle.std.proofs.lemmas.Bool.{cases_lt, cases_eq}
 use Rattle.std.proofs.lemmas.List.{length-set, get_or-set_same, get_or-set_other}
 use Rattle.std.proofs.lemmas.Nat.{pow_pos}
-use Rattle.unit_map.specs.Pieces.{Piece, AreBeside, free_at}
+use Rattle.unit_map.specs.Pieces.{Piece, AreTwoHalves, free_at}
 use Rattle.unit_map.specs.Changes.{Merges}
 use Rattle.unit_map.specs.Changes.Merges.{Done, Step}
-use Rattle.unit_map.specs.Cells.{code, pieces_in, pieces_of, behind, with_free, AreHalves, AreInside, AreNotFree, AreSameBut, CanClear, IsCleared, IsIn, IsMerged, IsKept, IsTiled, IsTwo, IsWiped}
+use Rattle.unit_map.specs.Cells.{code, pieces_in, pieces_of, behind, with_free, AreHalves, AreInside, AreNotFree, AreSameBut, CanClear, IsCleared, IsIn, IsMerged, IsByteKept, IsTiled, IsTwo, IsWiped}
 use Rattle.unit_map.proofs.Codes.{code_same, free_small}
 use Rattle.unit_map.proofs.Numbers.{less_aligned, next_aligned, twice}
 use Rattle.unit_map.proofs.Reading.{in_three, in_three_new, in_two, one_piece}
@@ -117,7 +117,7 @@ cleared_whole old new v j u n e can wiped = record {
     fits : v + 2 ^ j ≤ length old
     fits = omega (arith, can.fits, at, ap (λ i. 2 ^ i) e)
 
-    kept : (x : ℕ) → IsKept old v j new x
+    kept : (x : ℕ) → IsByteKept old v j new x
     kept x = elim (same_side v (2 ^ j) old new x wiped.same) [
       | inr same ↦ inr (same.0, inl same.1)
       | inl within ↦ inl (
@@ -169,7 +169,7 @@ merges_both old mid new (Done ps) m = m
 merges_both old mid new (Step a next b j rest) m = Step old next new j (merges_both next mid new rest m)
 
 -- two different halves of a block
-halves_beside : (u k v x : ℕ) → u % 2 ^ (k + 1) ≡ 0 → (v ≡ u) ⊎ (v ≡ u + 2 ^ k) → (x ≡ u) ⊎ (x ≡ u + 2 ^ k) → (x ≡ v → ⊥) → AreBeside v x k
+halves_beside : (u k v x : ℕ) → u % 2 ^ (k + 1) ≡ 0 → (v ≡ u) ⊎ (v ≡ u + 2 ^ k) → (x ≡ u) ⊎ (x ≡ u + 2 ^ k) → (x ≡ v → ⊥) → AreTwoHalves v x k
 halves_beside u k v x aligned (inl a) (inl b) differs = absurd (differs (b ∙ sym a))
 halves_beside u k v x aligned (inl a) (inr b) differs = inl (subst (λ y. y % 2 ^ (k + 1) ≡ 0) (sym a) aligned, omega (arith, a, b))
 halves_beside u k v x aligned (inr a) (inl b) differs = inr (subst (λ y. y % 2 ^ (k + 1) ≡ 0) (sym b) aligned, omega (arith, a, b))
@@ -197,15 +197,15 @@ cleared_more old mid new v j u n w k e place half can cleared joined = record {
     small x h = omega (arith, h, free_small k (omega (arith, e, can.place.high)))
 
     -- a block that was joined beside the cleared one is its other half
-    other : (x : ℕ) → (x < v) ⊎ (v + 2 ^ j ≤ x) → k ≡ j → (x ≡ u) ⊎ (x ≡ u + 2 ^ k) → AreBeside v x j
+    other : (x : ℕ) → (x < v) ⊎ (v + 2 ^ j ≤ x) → k ≡ j → (x ≡ u) ⊎ (x ≡ u + 2 ^ k) → AreTwoHalves v x j
     other x out order at =
         let own = whole_in v j w k place order in
-        subst (AreBeside v x) order
+        subst (AreTwoHalves v x) order
         (halves_beside u k v x (subst (λ i. u % 2 ^ i ≡ 0) (sym e) can.place.outer) (elim half [ inl h ↦ inl (own ∙ h) | inr h ↦ inr (own ∙ h) ]) at (λ h. elim out [ inl lt ↦ omega (arith, lt, h) | inr le ↦ omega (arith, le, h, pow_pos j) ]))
 
-    by : (x : ℕ) → IsKept old v j mid x
+    by : (x : ℕ) → IsByteKept old v j mid x
         → (get_or new x 0 ≡ get_or mid x 0) ⊎ ((get_or mid x 0 ≡ code true k) × (get_or new x 0 < 32) × ((x ≡ u) ⊎ (x ≡ u + 2 ^ k)))
-        → IsKept old v j new x
+        → IsByteKept old v j new x
     by x (inl h) (inl same) = inl (h.0, omega (arith, same, h.1))
     by x (inl h) (inr changed) = inl (h.0, changed.1)
     by x (inr (out, inl kept)) (inl same) = inr (out, inl (same ∙ kept))

@@ -1,9 +1,9 @@
 use Rattle.std.proofs.Common.{◌≡◌, ℕ, ◌+◌, ◌-◌, ◌*◌, ◌/◌, ◌^◌, ◌%◌, ◌<◌, ◌≤◌, true, false, inl, inr, List, ◌∷◌, ◌++◌, length, get_or, max, sym, ap, subst, ◌∙◌, arith}
 use Rattle.std.proofs.lemmas.Bool.{cases_lt}
 use Rattle.std.proofs.lemmas.Nat.{pow_pos}
-use Rattle.unit_map.specs.Pieces.{AreBeside, AreBlocksApart, Fills, free_at, moved, taken_at, units_in}
+use Rattle.unit_map.specs.Pieces.{AreTwoHalves, AreBlocksApart, Fills, free_at, moved, taken_at, units_in}
 use Rattle.unit_map.specs.Changes.{CanMove, KeepsOutside, MovesInside, OnlyMoves}
-use Rattle.unit_map.specs.Cells.{code, pieces_in, pieces_of, behind, AreSameBut, IsCleared, IsHeld, IsTable}
+use Rattle.unit_map.specs.Cells.{code, pieces_in, pieces_of, behind, AreSameBut, IsCleared, IsBlockOrHalf, IsTable}
 use Rattle.unit_map.specs.Moves.{IsCarried}
 use Rattle.unit_map.proofs.Numbers.{in_frame, less_aligned, nested, next_aligned, not_both, twice}
 use Rattle.unit_map.proofs.Reading.{in_three, in_three_new, moved_cells, one_piece, piece_here}
@@ -15,21 +15,21 @@ use Rattle.unit_map.proofs.Writes.{same_side, same_wider}
 
 pub record IsMove (cells : List ℕ) (from to k : ℕ) : Type 0 where
   pub low : k < 4
-  pub held : IsHeld cells from k
+  pub held : IsBlockOrHalf cells from k
   pub fits : from + 2 ^ k ≤ length cells
   pub taken : get_or cells from 0 ≡ code true k → ⊥
   pub there : get_or cells to 0 ≡ code true k
   pub apart : AreBlocksApart from k to k
-  pub beside : AreBeside from to k → ⊥
+  pub beside : AreTwoHalves from to k → ⊥
 
-beside_one : (u v w k : ℕ) → k < 4 → AreBeside u v k → AreBeside u w k → v ≡ w
+beside_one : (u v w k : ℕ) → k < 4 → AreTwoHalves u v k → AreTwoHalves u w k → v ≡ w
 beside_one u v w k low (inl a) (inl b) = a.1 ∙ sym b.1
 beside_one u v w k low (inl a) (inr b) = absurd (not_both w k low b.0 (subst (λ x. x % 2 ^ (k + 1) ≡ 0) b.1 a.0))
 beside_one u v w k low (inr a) (inl b) = absurd (not_both v k low a.0 (subst (λ x. x % 2 ^ (k + 1) ≡ 0) a.1 b.0))
 beside_one u v w k low (inr a) (inr b) = omega (arith, a.1, b.1)
 
 -- the other half is aligned, and in the same frame
-beside_place : (u v k : ℕ) → k < 4 → AreBeside u v k → (u % 2 ^ k ≡ 0) × (u / 16 ≡ v / 16)
+beside_place : (u v k : ℕ) → k < 4 → AreTwoHalves u v k → (u % 2 ^ k ≡ 0) × (u / 16 ≡ v / 16)
 beside_place u v k low (inl b) =
     (less_aligned k (k + 1) u (omega arith) b.0, sym (in_frame u (k + 1) v (omega (arith, low)) b.0 (omega (arith, b.1)) (omega (arith, b.1, twice k, pow_pos k))))
 beside_place u v k low (inr b) = (

@@ -2,7 +2,7 @@ use Rattle.std.proofs.Common.{◌≡◌, ℕ, zero, suc, ◌+◌, ◌-◌, ◌*�
 use Rattle.std.proofs.lemmas.Nat.{pow_pos}
 use Rattle.std.proofs.Math.Nat.{add-mod_right, zero-mod}
 use Rattle.std.proofs.Math.Pow.{mod-mod-pow}
-use Rattle.unit_map.specs.Pieces.{AreBeside}
+use Rattle.unit_map.specs.Pieces.{AreTwoHalves}
 pub use Rattle.std.proofs.Math.Pow.{pow_mono}
 pub use Rattle.unit_map.specs.Laws.{by_order, twice}
 
@@ -40,7 +40,7 @@ unfolding Lies
 nested a b x u y low le ex eu h i j k = between a (omega (arith, le, low)) x u (u + 2 ^ b) y ex (less_aligned a b u le eu) (less_aligned a b (u + 2 ^ b) le (next_aligned b u eu)) h i j k
 
 -- a block that is no lower half is the upper one
-pub upper_half : (u k : ℕ) → k < 4 → u % 2 ^ k ≡ 0 → (u % (2 * (1 * 2 ^ k % 4294967296)) ≡ 0 → ⊥) → AreBeside u (u - 1 * 2 ^ k % 4294967296) k
+pub upper_half : (u k : ℕ) → k < 4 → u % 2 ^ k ≡ 0 → (u % (2 * (1 * 2 ^ k % 4294967296)) ≡ 0 → ⊥) → AreTwoHalves u (u - 1 * 2 ^ k % 4294967296) k
 upper_half u zero lt at h = inr (omega (arith, h), omega (arith, h))
 upper_half u (suc zero) lt at h = inr (omega (arith, at, h), omega (arith, at, h))
 upper_half u (suc (suc zero)) lt at h = inr (omega (arith, at, h), omega (arith, at, h))

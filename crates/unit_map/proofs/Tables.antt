@@ -4,8 +4,8 @@ use Rattle.std.proofs.lemmas.List.{get_or_past}
 use Rattle.std.proofs.lemmas.Nat.{pow_pos}
 use Rattle.std.proofs.lemmas.Nat.Bits.{bit_at-zero}
 use Rattle.std.specs.Int.{bit_at}
-use Rattle.unit_map.specs.Pieces.{Piece, IsPiece, IsAligned, AreMerged, ArePieces, AreBeside, Fills, units_in}
-use Rattle.unit_map.specs.Cells.{code, piece_at, pieces_in, pieces_of, AreInside, AreSameBut, CanClear, IsHeld, IsIn, IsTable, IsTiled, IsTwo}
+use Rattle.unit_map.specs.Pieces.{Piece, IsPiece, IsAligned, AreMerged, ArePieces, AreTwoHalves, Fills, units_in}
+use Rattle.unit_map.specs.Cells.{code, piece_at, pieces_in, pieces_of, AreInside, AreSameBut, CanClear, IsBlockOrHalf, IsIn, IsTable, IsTiled, IsTwo}
 use Rattle.unit_map.proofs.Codes.{bit_code, code_same, code_some, piece_none, piece_code}
 use Rattle.unit_map.proofs.Lists.{fills_append, units_append}
 use Rattle.unit_map.proofs.Reading.{cell_there, from_cells, in_two}
@@ -90,7 +90,7 @@ table_merged cells v o is low halved a b =
     next : o + 1 ≡ suc o
     next = omega arith
 
-pub beside_merged : (cells : List ℕ) (u v k : ℕ) → IsTable cells → k < 4 → AreBeside u v k → get_or cells u 0 ≡ code true k → get_or cells v 0 ≡ code true k → ⊥
+pub beside_merged : (cells : List ℕ) (u v k : ℕ) → IsTable cells → k < 4 → AreTwoHalves u v k → get_or cells u 0 ≡ code true k → get_or cells v 0 ≡ code true k → ⊥
 beside_merged cells u v k is low (inl s) a b = table_merged cells u k is low s.0 a (ap (λ x. get_or cells x 0) (sym s.1) ∙ b)
 beside_merged cells u v k is low (inr s) a b = table_merged cells v k is low s.0 b (ap (λ x. get_or cells x 0) (sym s.1) ∙ a)
 
@@ -153,7 +153,7 @@ table_next old new frame is same tiled = record {
     ]
 
 -- What is held can be cleared in its frame.
-pub can_clear : (cells : List ℕ) (v j : ℕ) → IsTable cells → IsHeld cells v j → CanClear cells v j (16 * (v / 16)) 4
+pub can_clear : (cells : List ℕ) (v j : ℕ) → IsTable cells → IsBlockOrHalf cells v j → CanClear cells v j (16 * (v / 16)) 4
 can_clear cells v j is held = record {
   place = record { low = held.low; high = omega arith; aligned = held.aligned; outer = frame_start v; from = omega arith; below = omega arith };
   fits = frame_fits cells v is held.there;

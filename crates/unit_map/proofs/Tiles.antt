@@ -2,8 +2,8 @@ use Rattle.std.proofs.Common.{◌≡◌, ℕ, zero, suc, ◌+◌, ◌-◌, ◌^�
 use Rattle.std.proofs.lemmas.Bool.{cases_lt, cases_eq}
 use Rattle.std.proofs.lemmas.Nat.{pow_pos}
 use Rattle.std.proofs.Math.Nat.{two-pow-succ}
-use Rattle.unit_map.specs.Pieces.{AreBeside, Fills, units_in}
-use Rattle.unit_map.specs.Cells.{code, pieces_in, AreInside, AreSameBut, IsHeld, IsIn, IsTiled, IsTwo}
+use Rattle.unit_map.specs.Pieces.{AreTwoHalves, Fills, units_in}
+use Rattle.unit_map.specs.Cells.{code, pieces_in, AreInside, AreSameBut, IsBlockOrHalf, IsIn, IsTiled, IsTwo}
 use Rattle.unit_map.proofs.Codes.{code_some, code_same}
 use Rattle.unit_map.proofs.Lists.{fills_append, units_append}
 use Rattle.unit_map.proofs.Numbers.{less_aligned, next_aligned, nested, twice}
@@ -189,7 +189,7 @@ part_at (suc k) cells v j u i b is less e tiled = elim (cases_eq (suc k) j) [
 ]
 
 -- the block that holds one of a smaller order lies in the larger block
-held_in : (v j u k x : ℕ) → IsIn v j u k → j < k → (x ≡ v) ⊎ ((j < 4) × AreBeside v x j) → (u ≤ x) × (x < u + 2 ^ k)
+held_in : (v j u k x : ℕ) → IsIn v j u k → j < k → (x ≡ v) ⊎ ((j < 4) × AreTwoHalves v x j) → (u ≤ x) × (x < u + 2 ^ k)
 held_in v j u k x is lt (inl e) = (omega (arith, e, is.from), omega (arith, e, is.below))
 held_in v j u k x is lt (inr (less, inl b)) =
     let n = nested (j + 1) k v u v is.high (omega (arith, lt)) b.0 is.outer (omega arith) (omega (arith, pow_pos (j + 1))) is.from is.below in
@@ -198,7 +198,7 @@ held_in v j u k x is lt (inr (less, inr b)) =
     let n = nested (j + 1) k x u v is.high (omega (arith, lt)) b.0 is.outer (omega (arith, b.1)) (omega (arith, b.1, twice j, pow_pos j)) is.from is.below in
     (n.0, omega (arith, n.1, pow_pos (j + 1)))
 
-pub halves : (cells : List ℕ) (v j u k : ℕ) → IsIn v j u (suc k) → (suc k ≡ j → ⊥) → IsHeld cells v j → IsTiled (suc k) cells u → IsTiled k cells u × IsTiled k cells (u + 2 ^ k)
+pub halves : (cells : List ℕ) (v j u k : ℕ) → IsIn v j u (suc k) → (suc k ≡ j → ⊥) → IsBlockOrHalf cells v j → IsTiled (suc k) cells u → IsTiled k cells u × IsTiled k cells (u + 2 ^ k)
 unfolding IsTwo
 halves cells v j u k is smaller held tiled =
     let x = held_in v j u (suc k) held.at is (omega (arith, is.low, smaller)) held.place in

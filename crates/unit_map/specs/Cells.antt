@@ -1,5 +1,5 @@
 use Rattle.std.specs.Prelude.{◌≡◌, ℕ, zero, suc, ◌+◌, ◌-◌, ◌*◌, ◌/◌, ◌%◌, ◌^◌, ◌<◌, ◌≤◌, Bool, true, false, cond, nat_eq, nat_lt, ◌⊎◌, List, [], ◌∷◌, ◌++◌, length, get_or}
-use Rattle.unit_map.specs.Pieces.{Piece, AreBeside, free_at}
+use Rattle.unit_map.specs.Pieces.{Piece, AreTwoHalves, free_at}
 use Rattle.unit_map.specs.Changes.{Merges, split}
 
 -- The table: a byte for each unit, which says what starts there.
@@ -117,32 +117,32 @@ pub record IsIn (unit order within size : ℕ) : Type 0 where
   pub below : unit < within + 2 ^ size
 
 -- a block of an order stands at a unit, or is the other half of that there
-pub record IsHeld (cells : List ℕ) (unit order : ℕ) : Type 0 where
+pub record IsBlockOrHalf (cells : List ℕ) (unit order : ℕ) : Type 0 where
   pub low : order ≤ 4
   pub there : unit < length cells
   pub aligned : unit % 2 ^ order ≡ 0
   pub at : ℕ
   pub free : Bool
   pub is : get_or cells at 0 ≡ code free order
-  pub place : (at ≡ unit) ⊎ ((order < 4) × AreBeside unit at order)
+  pub place : (at ≡ unit) ⊎ ((order < 4) × AreTwoHalves unit at order)
 
 -- so its range within a larger one can be made a free block
 pub record CanClear (cells : List ℕ) (unit order within size : ℕ) : Type 0 where
   pub place : IsIn unit order within size
   pub fits : within + 2 ^ size ≤ length cells
   pub few : length cells ≤ 2 ^ 20
-  pub held : IsHeld cells unit order
+  pub held : IsBlockOrHalf cells unit order
   pub tiled : IsTiled size cells within
 
 -- a byte of the range is none of a taken block then, and one beside it stays, but for free blocks that were merged
-abbrev pub IsKept : List ℕ → ℕ → ℕ → List ℕ → ℕ → Type 0
-IsKept old unit order new x =
+abbrev pub IsByteKept : List ℕ → ℕ → ℕ → List ℕ → ℕ → Type 0
+IsByteKept old unit order new x =
     (((unit ≤ x) × (x < unit + 2 ^ order)) × (get_or new x 0 < 32))
-    ⊎ (((x < unit) ⊎ (unit + 2 ^ order ≤ x)) × ((get_or new x 0 ≡ get_or old x 0) ⊎ ((get_or old x 0 < 32) × (get_or new x 0 < 32) × (get_or old x 0 ≡ code true order → AreBeside unit x order))))
+    ⊎ (((x < unit) ⊎ (unit + 2 ^ order ≤ x)) × ((get_or new x 0 ≡ get_or old x 0) ⊎ ((get_or old x 0 < 32) × (get_or new x 0 < 32) × (get_or old x 0 ≡ code true order → AreTwoHalves unit x order))))
 
 pub record IsCleared (old : List ℕ) (unit order within size : ℕ) (new : List ℕ) : Type 0 where
   pub same : AreSameBut within (2 ^ size) old new
-  pub kept : (x : ℕ) → IsKept old unit order new x
+  pub kept : (x : ℕ) → IsByteKept old unit order new x
   pub part : IsTiled order old unit
   pub tiled : IsTiled size new within
   pub merges : Merges (with_free old unit order) (pieces_of new)

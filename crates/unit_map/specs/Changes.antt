@@ -1,5 +1,5 @@
 use Rattle.std.specs.Prelude.{◌≡◌, ℕ, zero, suc, ◌+◌, ◌-◌, ◌^◌, ◌<◌, ◌≤◌, true, ◌⊎◌, List, [], ◌∷◌, ◌++◌}
-use Rattle.unit_map.specs.Pieces.{moved, Piece, IsPiece, units_in, Fills, free_at, taken_at, AreFreeHalves, AreBeside, AreMerged}
+use Rattle.unit_map.specs.Pieces.{moved, Piece, IsPiece, units_in, Fills, free_at, taken_at, AreFreeHalves, AreTwoHalves, AreMerged}
 
 -- What a call does to the pieces.
 
@@ -72,7 +72,7 @@ pub record Puts (old : List Piece) (unit order : ℕ) (part new : List Piece) : 
 pub record CanMove (ps : List Piece) (from to order : ℕ) : Type 0 where
   pub low : order < 4
   pub other : ℕ
-  pub beside : AreBeside from other order
+  pub beside : AreTwoHalves from other order
   pub half : IsPiece ps (free_at other order)
   pub there : IsPiece ps (free_at to order)
   pub differ : to ≡ other → ⊥

@@ -2,7 +2,7 @@ use Rattle.std.proofs.Common.{◌≡◌, ℕ, zero, suc, ◌+◌, ◌*◌, ◌^�
 use Rattle.std.proofs.lemmas.Bool.Decides.{nat_tests}
 use Rattle.std.proofs.lemmas.Nat.{pow_pos}
 use Rattle.std.proofs.Math.Nat.{two-pow-succ}
-use Rattle.unit_map.specs.Pieces.{Piece, IsPiece, IsAligned, Fills, is_free_of, AreFreeHalves, AreBeside, AreMerged, units_in, free_units, free_by_order, free_blocks, free_at, moved, AreBlocksApart, ArePieces}
+use Rattle.unit_map.specs.Pieces.{Piece, IsPiece, IsAligned, Fills, is_free_of, AreFreeHalves, AreTwoHalves, AreMerged, units_in, free_units, free_by_order, free_blocks, free_at, moved, AreBlocksApart, ArePieces}
 use Rattle.unit_map.specs.Changes.{Joins, Merges, Relocates, CanMove}
 use Rattle.unit_map.specs.Changes.Merges.{Done, Step}
 
@@ -146,12 +146,12 @@ fewer_merges old new p q (Step a mid b j m) merged _ _ halves = omega (arith, bl
 
 -- Moves.
 
-beside_swap : (u v order : ℕ) → AreBeside u v order → AreBeside v u order
+beside_swap : (u v order : ℕ) → AreTwoHalves u v order → AreTwoHalves v u order
 beside_swap u v order (inl b) = inr b
 beside_swap u v order (inr b) = inl b
 
 -- the other half of one free block can go to another free block of the order
-pub can_move : (ps : List Piece) (u v from order : ℕ) → order < 4 → IsPiece ps (free_at u order) → IsPiece ps (free_at v order) → (v ≡ u → ⊥) → AreBeside u from order → CanMove ps from v order
+pub can_move : (ps : List Piece) (u v from order : ℕ) → order < 4 → IsPiece ps (free_at u order) → IsPiece ps (free_at v order) → (v ≡ u → ⊥) → AreTwoHalves u from order → CanMove ps from v order
 can_move ps u v from order low here there differ beside = record { low = low; other = u; beside = beside_swap u from order beside; half = here; there = there; differ = differ }
 
 pub free_moves : (old new : List Piece) (from to order : ℕ) → Relocates old from to order new → free_units new ≡ free_units old
@@ -174,7 +174,7 @@ free_moves old new from to order r =
     )
 
 -- the other half is none of the pieces that go
-pub stays : (u v order : ℕ) (front part back : List Piece) → Fills u part → units_in part ≡ 2 ^ order → AreBeside u v order → IsPiece (front ++ (part ++ back)) (free_at v order) → IsPiece (front ++ free_at u order ∷ back) (free_at v order)
+pub stays : (u v order : ℕ) (front part back : List Piece) → Fills u part → units_in part ≡ 2 ^ order → AreTwoHalves u v order → IsPiece (front ++ (part ++ back)) (free_at v order) → IsPiece (front ++ free_at u order ∷ back) (free_at v order)
 stays u v order front part back fills total beside h = elim (in_either front (part ++ back) (free_at v order) h) [
   | inl a ↦ in_lower front (free_at u order ∷ back) _ a
   | inr b ↦ elim (in_either part back (free_at v order) b) [
@@ -185,7 +185,7 @@ stays u v order front part back fills total beside h = elim (in_either front (pa
   ]
 ]
 
-pub fewer_beside : (old new : List Piece) (u v order : ℕ) → order < 4 → Merges old new → AreMerged new → AreBeside u v order → IsPiece old (free_at u order) → IsPiece old (free_at v order) → free_blocks new < free_blocks old
+pub fewer_beside : (old new : List Piece) (u v order : ℕ) → order < 4 → Merges old new → AreMerged new → AreTwoHalves u v order → IsPiece old (free_at u order) → IsPiece old (free_at v order) → free_blocks new < free_blocks old
 fewer_beside old new u v order low m merged (inl b) at other = fewer_merges old new (free_at u order) (free_at v order) m merged at other (record { lower = refl; upper = refl; order = low; same = refl; unit = b.0; beside = b.1 })
 fewer_beside old new u v order low m merged (inr b) at other = fewer_merges old new (free_at v order) (free_at u order) m merged other at (record { lower = refl; upper = refl; order = low; same = refl; unit = b.0; beside = b.1 })
 

@@ -82,8 +82,8 @@ pub record AreFreeHalves (p q : Piece) : Type 0 where
   pub beside : q.unit ≡ p.unit + 2 ^ p.order
 
 -- two blocks of an order are the halves of one block
-abbrev pub AreBeside : ℕ → ℕ → ℕ → Type 0
-AreBeside u v order = ((u % 2 ^ (order + 1) ≡ 0) × (v ≡ u + 2 ^ order)) ⊎ ((v % 2 ^ (order + 1) ≡ 0) × (u ≡ v + 2 ^ order))
+abbrev pub AreTwoHalves : ℕ → ℕ → ℕ → Type 0
+AreTwoHalves u v order = ((u % 2 ^ (order + 1) ≡ 0) × (v ≡ u + 2 ^ order)) ⊎ ((v % 2 ^ (order + 1) ≡ 0) × (u ≡ v + 2 ^ order))
 
 -- two blocks have no unit in common
 abbrev pub AreBlocksApart : ℕ → ℕ → ℕ → ℕ → Type 0

@@ -136,10 +136,6 @@ gives_settled old new unit order g settled =
 pub all_settled : (ps : List Piece) (from : ℕ) → 4 ≤ from → AreSettledBut ps from → AreSettled ps
 all_settled ps from frame is k low = is.others k low (λ e. omega (arith, e, low, is.high, frame))
 
--- and where none is aside, any may be
-pub any_settled : (ps : List Piece) (from : ℕ) → AreSettled ps → AreSettledBut ps from
-any_settled ps from is = record { aside = from; high = omega arith; two = λ low. omega (arith, is from low); others = λ k low other. is k low }
-
 -- from an order on is from any lower one on
 pub lower_settled : (ps : List Piece) (low from : ℕ) → low ≤ from → AreSettledBut ps from → AreSettledBut ps low
 lower_settled ps low from le is = record { aside = is.aside; high = omega (arith, is.high, le); two = is.two; others = is.others }
@@ -148,18 +144,6 @@ lower_settled ps low from le is = record { aside = is.aside; high = omega (arith
 pub frames_settled : (unit n : ℕ) → AreSettled (free_frames unit n)
 frames_settled unit zero k low = omega arith
 frames_settled unit (suc n) k low = omega (arith, is_none k (free_at unit 4) (λ e. omega (arith, e, low)), frames_settled (unit + 16) n k low)
-
--- where there are fewer than two of an order, the one aside is of a higher one
-pub next_settled : (ps : List Piece) (from : ℕ) → AreSettledBut ps from → count from ps < 2 → AreSettledBut ps (from + 1)
-next_settled ps from is few = at (cases_eq is.aside from)
-  where
-    at : (is.aside ≡ from) ⊎ (is.aside ≡ from → ⊥) → AreSettledBut ps (from + 1)
-    at (inl e) = any_settled ps (from + 1) (λ k low. each k low (cases_eq k from))
-      where
-        each : (k : ℕ) → k < 4 → (k ≡ from) ⊎ (k ≡ from → ⊥) → count k ps < 2
-        each k low (inl s) = omega (arith, few, ap (λ i. count i ps) s)
-        each k low (inr n) = is.others k low (λ s. n (omega (arith, s, e)))
-    at (inr n) = record { aside = is.aside; high = omega (arith, is.high, n); two = is.two; others = is.others }
 
 -- A block that was taken.
 

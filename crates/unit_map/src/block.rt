@@ -1,5 +1,5 @@
 ghost use Rattle.std.specs.Prelude.{◌≡◌, ◌^◌, ◌%◌, ◌<◌};
-ghost use Rattle.unit_map.specs.Pieces.{AreBeside};
+ghost use Rattle.unit_map.specs.Pieces.{AreTwoHalves};
 
 /// A block of memory: 2^order units of 256 bytes from `unit` on, a multiple of its size.
 #[derive(Clone, Copy, Debug, PartialEq, Eq)]
@@ -14,7 +14,7 @@ impl Block {
         requires low { self.order < 4 }
         requires aligned { self.unit % 2 ^ self.order ≡ 0 }
         ensures order { result.order ≡ self.order }
-        ensures beside { AreBeside self.unit result.unit self.order }
+        ensures beside { AreTwoHalves self.unit result.unit self.order }
     {
         let size = 1u32 << self.order;
         let unit = if self.unit % (2 * size) == 0 {

@@ -2,7 +2,7 @@
 ghost use Rattle.std.specs.Prelude.{◌≡◌, ◌+◌, ◌*◌, ◌/◌, ◌^◌, ◌<◌, ◌≤◌, ◌⊎◌, ℕ, true, false, length, get_or};
 ghost use Rattle.mark_levels.specs.Levels.{AreMarks};
 ghost use Rattle.unit_map.specs.Changes.{CanMove};
-ghost use Rattle.unit_map.specs.Cells.{code, pieces_of, with_free, CanClear, AreHalves, AreInside, AreSameBut, IsCleared, IsHeld, IsIn, IsMerged, IsRange, IsSplit, IsTable, IsWiped};
+ghost use Rattle.unit_map.specs.Cells.{code, pieces_of, with_free, CanClear, AreHalves, AreInside, AreSameBut, IsCleared, IsBlockOrHalf, IsIn, IsMerged, IsRange, IsSplit, IsTable, IsWiped};
 ghost use Rattle.unit_map.specs.Counted.{AreCounts, CanCount, GoAlong};
 ghost use Rattle.unit_map.specs.Moves.{IsCarried};
 
@@ -47,7 +47,7 @@ pub fn split(cells: &mut Bytes, unit: u32, from: u8, order: u8)
 /// free too.
 pub fn clear(cells: &mut Bytes, counts: &mut Counts, block: Block)
     requires table { IsTable cells.old }
-    requires held { IsHeld cells.old block.unit block.order }
+    requires held { IsBlockOrHalf cells.old block.unit block.order }
     requires counts { CanCount counts.old (with_free cells.old block.unit block.order) }
     ensures table { IsTable cells.new }
     ensures cleared { IsCleared cells.old block.unit block.order (16 * (block.unit / 16)) 4 cells.new }

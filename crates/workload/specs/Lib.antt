@@ -2,3 +2,4 @@
 pub mod Draws
 pub mod Script
 pub mod File
+pub mod Examples

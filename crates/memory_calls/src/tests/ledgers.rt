@@ -1,7 +1,7 @@
 ghost use Rattle.std.specs.Prelude.{◌≡◌, ℕ, ◌+◌, ◌≤◌, IsTrue, OnOk};
 ghost use Rattle.std.specs.FinMap as map;
 ghost use Rattle.sizes.specs.declared.TheConstants.{PAGE_END};
-ghost use Rattle.space_ledger.specs.Calls.{AreFree};
+ghost use Rattle.space_ledger.specs.Calls.{ArePagesFree};
 ghost use Rattle.space_maps.specs.Spaces.{space_in};
 
 use ovl_io::Perms;
@@ -12,7 +12,7 @@ use std::test::Fail;
 // Whether none of the n pages from `from` on is there.
 fn is_free(ledger: &SpaceLedger, space: u16, from: u64, n: u32) -> bool
     requires { from + n ≤ PAGE_END }
-    ensures { IsTrue result → AreFree ledger.now space from n }
+    ensures { IsTrue result → ArePagesFree ledger.now space from n }
 {
     match ledger.next_page(space, from) {
         Some(found) => from + u64::from(n) <= found,

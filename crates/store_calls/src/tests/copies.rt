@@ -84,7 +84,12 @@ fn compose(rt: &impl Abort, store: &mut SegmentStore, block: Block, from: u32, t
     assert!(rt; to < 65_536 && from != to);
     assert!(rt; from < store.frames());
     assert!(rt; store.is_taken(to));
+    let mut page = [[0; 64]; 64];
+    store.compose_scratch(from, segment.bits, &mut page);
     store.compose_frame(from, segment.bits, to);
+    for line in 0..64u8 {
+        assert_eq!(rt; page[line as usize], *store.frame_line(to, line));
+    }
 }
 
 // A line of a frame has this byte throughout.

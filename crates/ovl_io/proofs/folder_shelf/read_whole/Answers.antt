@@ -1,5 +1,5 @@
-use Rattle.std.proofs.Common.{◌≤◌, ◌∙◌, ap, sym, subst, length, arith}
-use Rattle.std.specs.Prelude.{IfSome, ◌≡◌, ◌++◌, take}
+use Rattle.std.proofs.Common.{◌≤◌, subst, length, arith}
+use Rattle.std.specs.Prelude.{IfSome, ◌≡◌}
 use Rattle.sizes.specs.declared.TheConstants.{MOST_FILE_BYTES}
 use Rattle.ovl_io.proofs.Whole.{within}
 use Rattle.ovl_io.proofs.folder_shelf.read_whole.Goals as goal

@@ -1,7 +1,7 @@
 use Rattle.std.proofs.Common.{ap, subst, sym, ◌∙◌, ◌≡◌}
 use Rattle.number_maps.specs.Rows.{map_of}
 use Rattle.page_set.specs.Sets.{AreChunks, Members}
-use Rattle.page_set.specs.Kept.{AreKept}
+use Rattle.page_set.specs.Kept.{AreSetRows}
 use Rattle.page_set.proofs.Kept.{rows_cloned}
 use Rattle.page_set.proofs.set.PageSet.copy.Goals as goal
 use Rattle.page_set.proofs.set.PageSet.copy.Goals.{In_ok-reserve}
@@ -16,7 +16,7 @@ pub returns-in_err-reserve-clause-are : goal.returns-in_err-reserve-clause-are
 returns-in_err-reserve-clause-are c = subst (λ (s : Members). AreChunks s.chunks) c.self.view_is c.self.invariant.are
 
 pub invariant_of-result : goal.invariant_of-result
-invariant_of-result c = subst AreKept (sym (same c)) c.self.invariant
+invariant_of-result c = subst AreSetRows (sym (same c)) c.self.invariant
 
 pub returns-clause-chunks : goal.returns-clause-chunks
 returns-clause-chunks c = ap map_of (same c) ∙ ap (λ (s : Members). s.chunks) c.self.view_is

@@ -2,7 +2,7 @@ use Rattle.std.proofs.Common.{◌≡◌, ◌*◌, ◌^◌, inl, inr, subst, sym,
 use Rattle.line_store.specs.Lines.{with_copied}
 use Rattle.segment_store.specs.Store.{Store, IsSegment, lines_at}
 use Rattle.segment_store.specs.contracts.store.SegmentStore.{the_view}
-use Rattle.segment_store.specs.Changes.{BeginsSegment, Copies}
+use Rattle.segment_store.specs.Changes.{BeginsSegment, CopiesSegment}
 use Rattle.segment_store.specs.Laws.{set_there}
 use Rattle.segment_store.proofs.Beginning.{began}
 use Rattle.segment_store.proofs.Copying.{copied_pointers, copies, copying, four_fits, now_segments}
@@ -34,7 +34,7 @@ module _ (c : goal.After-copy) where
       let k = copying (the_view c.self.inside) c.self.invariant c.args.from c.in-Some.to there e.some.0 e.within e.apart in
       c.copy_lines.ensures.copied ∙ ap (λ n. with_copied c.self.inside.region (4 * c.args.from.unit) (4 * c.in-Some.to.unit) n) (four_fits c.args.from.order k.low)
 
-  copied : Copies (the_view c.self.inside) (after c) c.args.from c.in-Some.to
+  copied : CopiesSegment (the_view c.self.inside) (after c) c.args.from c.in-Some.to
   copied =
       let e = c.in-Some.ensures in
       copies (the_view c.self.inside) (after c) c.args.from c.args.owner c.in-Some.to c.self.invariant there e.some.0 e.within e.apart lines c.copy_lines.ensures.count c.copy.ensures
