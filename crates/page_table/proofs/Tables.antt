@@ -1,5 +1,4 @@
 use Rattle.std.proofs.Common.{◌≡◌, ℕ, zero, suc, ◌+◌, ◌-◌, ◌^◌, ◌<◌, ◌≤◌, Bool, true, false, cond, List, [], ◌∷◌, Option, Some, None, length, slice_set, sym, ap, subst, ◌∙◌, refl, arith, Bor, ◌↔◌, get_or}
-use Rattle.std.proofs.lemmas.Bool.Decides.{nat_tests}
 use Rattle.std.proofs.lemmas.List.{map-id}
 use Rattle.std.proofs.lemmas.Slice.Zip.{AllZip-map}
 use Rattle.std.specs.List as list
@@ -12,7 +11,7 @@ use Rattle.page_table.specs.declared.run.PageRun.{PageRun}
 use Rattle.page_table.specs.Table.{Pages, is_within, IsFree, AreThere, IsUnmapped, IsNext}
 use Rattle.page_table.specs.Run.{IsRunFrom, entry_at}
 use Rattle.page_table.specs.Kept.{IsRest, HaveSamePages, HasFilled, HasRun, HasSet, HaveLost, IsRunBehind, IsRunPlace, IsRun, ComeInOrder, entry_for, plain_run, find_in, lies_in, run_pages, run_at, single, run_tail, total}
-use Rattle.page_table.proofs.Pages.{get_in, len_in, same_pages, within_at, within_behind, within_from, within_is, within_none, within_to}
+use Rattle.page_table.proofs.Pages.{get_in, len_in, same_pages, within_at, within_behind, within_from, within_is, within_to}
 use Rattle.page_table.proofs.Places.{found_at, found_none, ends_behind}
 use Rattle.page_table.proofs.Edits.{entry_tail, find_insert, item_at, find_put, is_tail, low_at, rise_insert, rise_put, tail_fits, total_insert, total_put}
 

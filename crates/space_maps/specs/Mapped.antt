@@ -3,11 +3,11 @@ use Rattle.std.proofs.Common.{sym, ap, ◌∙◌}
 use Rattle.std.specs.Option.{option_map, unwrap_or}
 use Rattle.std.specs.Ordering.{nat_cmp}
 use Rattle.std.specs.FinMap.{FinMap, empty, get, insert, len, remove}
-use Rattle.number_maps.specs.Views.{get_viewed, len_viewed, viewed, viewed_empty, viewed_gone, viewed_put, viewed_same}
+use Rattle.number_maps.specs.Views.{get_viewed, len_viewed, viewed, viewed_empty, viewed_gone, viewed_put}
 use Rattle.page_table.specs.Table.{Pages}
 use Rattle.space_maps.specs.Options.{map_some}
 use Rattle.space_maps.specs.Spaces.{SpaceOf, Spaces, bare_space, cut_page, cut_pages, cut_space, holds_space, of_pages, page_in, put_awaiting, put_mark, put_page, put_pages, put_shared, put_space, set_page, space_in}
-use Rattle.space_maps.specs.Laws.{KeepsSpaces, page_of, space_there}
+use Rattle.space_maps.specs.Laws.{page_of}
 
 -- The same spaces with their pages seen in another way, each by its space and its number.
 
