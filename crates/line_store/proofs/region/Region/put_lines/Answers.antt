@@ -1,4 +1,4 @@
-use Rattle.std.proofs.Common.{◌≡◌, ◌+◌, ◌≤◌, length, ap, sym, refl, ◌∙◌, arith}
+use Rattle.std.proofs.Common.{◌+◌, ◌≤◌, length, ap, sym, refl, ◌∙◌, arith}
 use Rattle.line_store.specs.Lines.{with_put}
 use Rattle.line_store.specs.Kept.{kept_lines}
 use Rattle.line_store.proofs.Kept.{length-kept_lines, far, put_kept, put_same, was_put}
