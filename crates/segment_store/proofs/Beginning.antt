@@ -10,7 +10,7 @@ use Rattle.unit_map.specs.declared.block.Block.{Block}
 use Rattle.overlay_bits.specs.Lines.{AreLines}
 use Rattle.segment_store.specs.Pointers.{ArePointers, capacity_of}
 use Rattle.segment_store.specs.Store.{Store, IsFrame, IsSegment, segment_at}
-use Rattle.segment_store.specs.Places.{BeginsLines, HasBlock}
+use Rattle.segment_store.specs.Places.{BeginsLines}
 use Rattle.segment_store.specs.Kept.{IsStore}
 use Rattle.segment_store.specs.Changes.{BeginsSegment, KeepsFrames, KeepsLinesOutside, KeepsOtherSegments, KeepsScratch}
 use Rattle.segment_store.specs.Laws.{Alters, IsGood, free_range, frame_stays, fresh_frame, fresh_unit, next_store, others_stay, scratch_stays, segments_stay, frames_stay, segment_range, some_none}

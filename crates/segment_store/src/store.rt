@@ -360,7 +360,12 @@ impl SegmentStore {
         requires { FRAME_UNITS * frame + FRAME_UNITS ≤ units_in self.now.blocks }
         ensures { out.new ≡ composed (frame_page self.now frame) (scratch_page self.now) bits }
     {
-        compose(self.region.page(64 * frame), self.region.scratch(), bits, out);
+        compose(
+            self.region.page(64 * frame),
+            self.region.scratch(),
+            bits,
+            out,
+        );
     }
 
     /// Composes a page of a frame, which is one of the store's, and scratch, in a frame that is taken, maybe the same: each line of the

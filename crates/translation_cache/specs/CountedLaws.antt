@@ -1,12 +1,11 @@
 use Rattle.std.proofs.Common.{◌≡◌, ℕ, zero, suc, ◌+◌, ◌-◌, ◌/◌, ◌%◌, ◌^◌, ◌<◌, ◌≤◌, Bool, true, false, cond, List, [], ◌∷◌, min, take, is_some, Option, Some, None, sym, ap, subst, ◌∙◌, refl, arith}
 use Rattle.std.specs.List.{range_with_len}
 use Rattle.std.specs.FinMap.{get}
-use Rattle.std.proofs.Math.ListN as math
 use Rattle.std.proofs.lemmas.List.{get_or-set_other, get_or-set_same, set-get_or}
 use Rattle.sizes.specs.declared.TheConstants.{PAGE_BYTES}
 use Rattle.ovl_io.specs.Memory.{Access, Memory, denied_at}
 use Rattle.ovl_io.specs.PageBytes.{page_allows}
-use Rattle.translation_cache.specs.Bare.{BareTranslations, bare, bare_list}
+use Rattle.translation_cache.specs.Bare.{BareTranslations}
 use Rattle.translation_cache.specs.Counted.{access_translated, counted, pages_under, translated, translated_pages}
 use Rattle.translation_cache.specs.Formed.{IsFormed}
 use Rattle.translation_cache.specs.Finding.{found_first, found_looked}

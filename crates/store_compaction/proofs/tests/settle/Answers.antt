@@ -1,4 +1,4 @@
-use Rattle.std.proofs.Common.{◌≤◌, arith}
+use Rattle.std.proofs.Common.{arith}
 use Rattle.unit_map.specs.Laws.{blocks_le, free_le}
 use Rattle.store_compaction.proofs.tests.settle.Goals as goal
 

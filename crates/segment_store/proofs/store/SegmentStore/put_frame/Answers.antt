@@ -1,5 +1,5 @@
-use Rattle.std.proofs.Common.{◌≡◌, ◌+◌, ◌*◌, ◌≤◌, length, refl, subst, sym, ap, ◌∙◌, arith}
-use Rattle.line_store.specs.Lines.{line_of, with_put}
+use Rattle.std.proofs.Common.{◌+◌, ◌*◌, ◌≤◌, refl, subst, sym, ap, ◌∙◌, arith}
+use Rattle.line_store.specs.Lines.{with_put}
 use Rattle.unit_map.specs.Pieces.{units_in}
 use Rattle.segment_store.specs.Store.{Store, IsFrame}
 use Rattle.segment_store.specs.contracts.store.SegmentStore.{the_view}
