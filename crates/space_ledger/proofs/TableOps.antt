@@ -1,5 +1,5 @@
 use Rattle.space_ledger.proofs.Common.{◌≡◌, ℕ, zero, suc, ◌+◌, ◌-◌, ◌*◌, ◌^◌, ◌≤◌, ◌<◌, ◌⊎◌, Bool, true, false, cond, Option, Some, None, is_some, IfSome, IsSome, Result, Ok, Err, OnOk, OnErr, refl, option_map, option_and_then, nat_cmp, sym, ap, subst, ◌∙◌, arith, inl, inr, nat_tests, nat_eq, nat_cmp_total, FinMap, empty, get, get-empty, insert, len, len-empty, len-insert, len-remove, remove, FRAME_UNITS, LAST_SPACE, PAGE_END, same_Some}
-use Rattle.space_ledger.proofs.Pages.{alike, by_key, get_other, get_same, insert_kept, removed_other, get_viewed, viewed, viewed_empty, viewed_gone, viewed_put, AreCut, IsPut, holds, Pages, is_within, entry_at, PageEntry, PageRun, overlay_page, space_of, same_page, Entry, HasRoomFor}
+use Rattle.space_ledger.proofs.Pages.{alike, by_key, get_other, get_same, insert_kept, removed_other, get_viewed, viewed, viewed_empty, viewed_gone, viewed_put, AreTakenOut, IsPut, holds, Pages, is_within, entry_at, PageEntry, PageRun, overlay_page, space_of, same_page, Entry, HasRoomFor}
 use Rattle.space_ledger.proofs.Views.{are, arent, by_test, map_alike, none_by, Spaces, bare_space, cut_page, cut_pages, cut_space, holds_space, page_in, put_awaiting, put_mark, put_page, put_pages, put_shared, put_space, space_in, ArePut, are_put, beside_space, changed_there, in_space, keeps_put, page_absent, page_of, same_spaces, space_over, space_put, space_there, spaces_alike, mapped, mapped_bare, mapped_cut, mapped_cut_pages, mapped_none, mapped_put, mapped_space, Inside, AreNotOverlaid, HasMapped, OverlaidSpace, SpaceTable, adopted, awaited, marked, run_awaited, with_entry, without_pages, LedgerView, PageView, SpaceView, with_entry_at, with_overlay, with_run_shared, with_zero_pages, AreBare, ArePagesFree, IsLined, AreTables, Overlays, plain, put_over, seen, seen_page, tables_of}
 use Rattle.overlay_address.specs.Names.{page_of as page_named}
 use Rattle.overlay_mapping_table.specs.Table.{NamedEntries}
@@ -143,7 +143,7 @@ module _ {t : Inside} {v : LedgerView} (show : Shows t v) (s : ℕ) (x y : Overl
   -- a change whose pages have no overlays
   bare : (from n : ℕ) (w : LedgerView) → w ≡ put_space v s (mapped_space (seen_page t.overlays.entries s) y.table)
       → ((q : ℕ) → is_within from n q ≡ true → (q < PAGE_END) × (get t.overlays.entries (overlay_page s q) ≡ None))
-      → ((q : ℕ) → is_within from n q ≡ false → get y.table.pages q ≡ get x.table.pages q) → AreCut x.overlaid from n y.overlaid → Shows (made t s y t.overlays) w
+      → ((q : ℕ) → is_within from n q ≡ false → get y.table.pages q ≡ get x.table.pages q) → AreTakenOut x.overlaid from n y.overlaid → Shows (made t s y t.overlays) w
   bare from n w is inside beside cut = changed show was (same_overlays show s from n) (record {
     is = is;
     inside = λ q within.
@@ -177,7 +177,7 @@ module _ {t : Inside} {v : LedgerView} (show : Shows t v) (s : ℕ) (x y : Overl
       ∙ ap (λ k. put_space v s (mapped_space (seen_page t.overlays.entries s) k)) (sym is))
 
   -- pages without overlays taken away
-  pub cut_made : (from n : ℕ) → y.table ≡ without_pages x.table from n → AreCut x.overlaid from n y.overlaid → AreBare v s from n → Shows (made t s y t.overlays) (cut_pages v s from n)
+  pub cut_made : (from n : ℕ) → y.table ≡ without_pages x.table from n → AreTakenOut x.overlaid from n y.overlaid → AreBare v s from n → Shows (made t s y t.overlays) (cut_pages v s from n)
   unfolding seen
   cut_made from n is cut none = bare from n (cut_pages v s from n)
       (ap (λ (w : LedgerView). cut_pages w s from n) (sym show.is) ∙ sym (mapped_cut_pages (seen_page t.overlays.entries) n from (plain t) s)
@@ -234,7 +234,7 @@ module _ {t : Inside} {v : LedgerView} (show : Shows t v) (s : ℕ) (x y : Overl
 
   -- the pages of a run shared
   pub run_made : (run : PageRun) → y.table ≡ run_awaited x.table run run.n → ((i : ℕ) → i < run.n → get x.table.pages (run.page + i) ≡ None) → run.page + run.n ≤ PAGE_END
-      → AreCut x.overlaid run.page run.n y.overlaid → Shows (made t s y t.overlays) (with_run_shared v s run run.n)
+      → AreTakenOut x.overlaid run.page run.n y.overlaid → Shows (made t s y t.overlays) (with_run_shared v s run run.n)
   run_made run is absent low cut = bare run.page run.n (with_run_shared v s run run.n)
       (shared_as seen_by v s x.table run has (space_is show.is show.own s x at) run.n (λ i few. nothing i few) (λ p e. refl) ∙ ap (λ k. put_space v s (mapped_space (seen_page t.overlays.entries s) k)) (sym is))
       (λ q within. let i = place q within in (i.2, ap (λ k. get t.overlays.entries (overlay_page s k)) (sym i.1) ∙ nothing (q - run.page) i.0))
