@@ -1,5 +1,5 @@
 use Rattle.overlay_pages.proofs.Common.{is_some, option_and_then, ◌≡◌, ℕ, ◌+◌, ◌*◌, ◌^◌, ◌<◌, ◌≤◌, ◌||◌, Bool, true, false, cond, nat_eq, List, [], Option, Some, None, IsSome, length, get_or, slice_index_or, slice_set, refl, true≢false, sym, ap, ap₂, subst, ◌∙◌, arith, inl, inr, pow_pos, nat_tests, none-some, same_Some, get_or-set_other, get_or-set_same, cases_eq}
-use Rattle.overlay_pages.proofs.Stores.{AreSettled, CanSettle, free_units, units_in, Block, AreLines, has_line, with_line, count_with, has_with, overlay_page, Entry, Segment, IsStore, capacity_of, Store, IsSegment, frame_line, line_in, lines_at, lines_with, scratch_line, segment_at, BeginsSegment, Copies, Ends, HasLinesNow, Inserts, KeepsFrame, KeepsFrames, KeepsOtherSegments, Lays, block_of, inside_of, lines_there, order_of, refilled, stays_twice}
+use Rattle.overlay_pages.proofs.Stores.{AreSettled, CanSettle, free_units, units_in, Block, AreLines, has_line, with_line, count_with, has_with, overlay_page, Entry, Segment, IsStore, capacity_of, Store, IsSegment, frame_line, line_in, lines_at, lines_with, scratch_line, segment_at, BeginsSegment, CopiesSegment, EndsSegment, HasLinesNow, Inserts, KeepsFrame, KeepsFrames, KeepsOtherSegments, Lays, block_of, inside_of, lines_there, order_of, refilled, stays_twice}
 use Rattle.overlay_pages.proofs.Books.{by_option, are, class, overlaid_pages, overlaid_few, class_none, changed_there, page_again, page_in, put_page, altered_page, LedgerView, PageView, ledger_of, lines_of, overlay_at, with_overlay}
 use Rattle.overlay_pages.proofs.Views.{page_lines, lines_same, set_line, state_page_there, discarded, joins, laid, laid_line, IsHeld, IsJoined, MemoryView, line_seen, page_state, segment_of, state_of, view_of, PageState, State}
 use Rattle.overlay_pages.proofs.Sizes.{still_fits}
@@ -33,7 +33,7 @@ unit_low store is u segment there = omega (arith, inside_of store is u segment t
 
 -- A page whose overlay ended.
 pub dropped : (old : MemoryView) (store : Store) (table : LedgerView) (s p : ℕ) (x : PageView) (e : Entry) → IsJoined old → page_in old.table s p ≡ Some x → x.overlay ≡ Some e
-    → Ends old.store store e.block → KeepsOtherSegments old.store e.block.unit store → KeepsFrames old.store store → free_units store.blocks ≡ free_units old.store.blocks + 2 ^ e.block.order
+    → EndsSegment old.store store e.block → KeepsOtherSegments old.store e.block.unit store → KeepsFrames old.store store → free_units store.blocks ≡ free_units old.store.blocks + 2 ^ e.block.order
     → units_in store.blocks ≡ units_in old.store.blocks → IsStore store → (AreSettled old.store.blocks → CanSettle store.blocks) → table ≡ with_overlay old.table s p None → Overlays CanSettle old (view_of store table) s p x None
 dropped old store table s p x e is there over ends kept frames free whole is_store settles table_is =
     let held = is.held s p x there in
@@ -213,7 +213,7 @@ laid_by old began new owner order named block bits owner_is b lays now kept laid
 
 -- or with those of another one, as they stand there
 pub copied_by : (old new : Store) (owner order named : ℕ) (from to : Block) (bits : List ℕ) → owner ≡ named → lines_at old from.unit ≡ bits → BeginsSegment old new owner order (lines_at old from.unit) to
-    → Copies old new from to → IsLaid old new named to bits (line_in old from)
+    → CopiesSegment old new from to → IsLaid old new named to bits (line_in old from)
 copied_by old new owner order named from to bits owner_is set b copies = record {
   fresh = b.fresh;
   there = b.there ∙ ap₂ (λ n l. Some (record { owner = n; order = to.order; bits = l })) owner_is set;

@@ -47,7 +47,7 @@ next_state v q r None is = λ p low. none_state v q p (is p low)
 next_state v q r (Some p) is = (is.0, state_page_some v q p ∙ is.1, λ n low below. none_state v q n (is.2 n low below))
 
 -- how a store rises
-pub rises_state : (v : MemoryView) (s p : ℕ) (lines : List ℕ) (rise : ℕ) → calls.RisesBy v.table s p lines rise → calls.RisesBeside v.table s p lines rise → RisesBy (state_of v) s p lines rise
+pub rises_state : (v : MemoryView) (s p : ℕ) (lines : List ℕ) (rise : ℕ) → calls.StoreRisesBy v.table s p lines rise → calls.RisesBeside v.table s p lines rise → RisesBy (state_of v) s p lines rise
 rises_state v s p lines rise one both = record {
   one = (λ i. units (ledger_after (Store (state_mark v s i) s ((p, lines) ∷ [])) (state_books v i))) ∙ one ∙ ap (λ (l : Ledger). units l + rise) (sym (state_books v));
   both = λ other more differs.
@@ -178,7 +178,7 @@ module _ (st : store.Store) (v new : LedgerView) (now : MemoryView) (s : ℕ) (s
   pub seen_there : (p : ℕ) → IsSome (page_in (state_of now) s p) → IsSome (page_in v s p)
   seen_there p there = sym (state_page_some (view_of st v) s p) ∙ ap (λ (m : MemoryView). is_some (page_in (state_of m) s p)) same ∙ there
 
-  pub seen_few : (p : ℕ) (lines : List ℕ) (rise : ℕ) → IsSome (page_in (state_of now) s p) → calls.RisesBy v s p lines rise → rise ≤ 16
+  pub seen_few : (p : ℕ) (lines : List ℕ) (rise : ℕ) → IsSome (page_in (state_of now) s p) → calls.StoreRisesBy v s p lines rise → rise ≤ 16
   seen_few p lines rise there one = by_test (not (space_in v s).speculating && is_alone (ledger_of v) s p)
       (λ frame. let nothing = ap units (store_nothing (space_in v s).speculating (ledger_of v) s p lines frame) in omega (arith, one, nothing))
       (λ frame. by_option (page_in v s p)
