@@ -238,15 +238,13 @@ def table(made, call):
 
 
 def as_csv(study, call):
-    with open(call.csv, "w", encoding="utf-8", newline="") if call.csv != "-" else sys.stdout as file:
+    with studies.output(call.csv) as file:
         out = csv.writer(file, lineterminator="\n")
         out.writerow(["line", "command", "units", "lines", "hits", "misses", "whole_page_units", "answer"])
         made = all_rows(study, call)
         for row in made:
             out.writerow([row.number, printable(row.text), row.units, row.lines, row.hits, row.misses,
                           "" if row.copied is None else row.copied, row.mark() or row.answer[-1]])
-        if call.csv == "-":
-            file.flush()
     if call.csv != "-":
         print(f"{call.csv}: {len(made)} rows")
 

@@ -5,6 +5,7 @@ A run is deterministic, so what there is behind a command is found by asking: th
 like. Each number that a tool shows is one that the program printed, or a difference of two.
 """
 import argparse
+import contextlib
 import os
 import re
 import signal
@@ -73,6 +74,17 @@ def read(path):
         return sys.stdin.buffer.read()
     with open(path, "rb") as file:
         return file.read()
+
+
+@contextlib.contextmanager
+def output(path):
+    """A file to be written, or standard output where the name is `-`."""
+    if path == "-":
+        yield sys.stdout
+        sys.stdout.flush()
+    else:
+        with open(path, "w", encoding="utf-8", newline="") as file:
+            yield file
 
 
 def printable(text):
