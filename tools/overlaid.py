@@ -274,34 +274,46 @@ class State:
             lines = now
         return frozenset(own)
 
-    def find_frames(self):
-        """Finds which pages name which frame. It needs the own lines. Each frame gets a number from 1, and the zero frame is 0."""
+    def find_frames(self, known=None):
+        """Finds which pages name which frame, by a run for each space that isn't in `known`, which has the frames of others by the name of
+        the space and the page. It needs the own lines. A frame has a number from 1, and the zero frame is 0."""
         self.as_processes = self.loads + [f"discard {space.process}" for space in self.spaces if space.speculating]
         for space in self.spaces:
             if space.is_checkpoint:
                 self.as_processes += [f"restore {space.asked_as} {self.undo(space)}", f"forget {self.undo(space)}"]
-        holders = {}
+        known = known or {}
+        numbers = [frame for pages in known.values() for frame in pages.values()]
+        self.last_frame = max(numbers, default=0)
+        asked = [k for k, space in enumerate(self.spaces) if space.name not in known]
         for k, space in enumerate(self.spaces):
-            for page in space.pages:
-                holders.setdefault(page, []).append(k)
-        # the last holder of each frame of a page is the one whose `unmap` gives the frame back, and leads those that name it
-        lasts = self.gives_back({page: list(those) for page, those in holders.items()})
-        leader = {page: {k: k for k in those} for page, those in lasts.items()}
-        open_ones = {page: [k for k in holders[page] if k not in leader[page] and any(last > k for last in lasts[page])] for page in holders}
-        orders = []
-        for place in range(max((len(those) for those in open_ones.values()), default=0)):
-            asked = {page: those[place] for page, those in open_ones.items() if place < len(those)}
-            orders.append((asked, {page: [k for k in holders[page] if k != one and k not in lasts[page]] + sorted(lasts[page]) + [one]
-                                   for page, one in asked.items()}))
-        for (asked, _), given in zip(orders, studies.in_parallel(lambda order: self.gives_back(order[1]), orders)):
-            for page, one in asked.items():
-                # the one frame that wasn't given back before the page that is asked about is that page's
-                kept = [last for last in lasts[page] if last not in given[page]]
-                if len(kept) == 1 and one in given[page]:
-                    leader[page][one] = kept[0]
-                elif kept or one in given[page]:
-                    raise Failed(f"the frame of page {page * PAGE:#x} of {self.spaces[one].name} isn't found")
-        self.number_frames(holders, leader)
+            for page, there in space.pages.items():
+                there.frame = known[space.name][page] if k not in asked else None
+        for k in asked:
+            self.find_frames_of(k)
+        self.check_units()
+
+    def find_frames_of(self, k):
+        """Finds the frames of a space among those of the others that are known. Of each frame that is known one page is given up behind
+        all others, and then the page that is asked about: where it names that frame, the frame is given back with it and not before."""
+        holders, orders = {}, {}
+        for other, space in enumerate(self.spaces):
+            if other != k:
+                for page, there in space.pages.items():
+                    if page in self.spaces[k].pages:
+                        holders.setdefault(page, {}).setdefault(there.frame, []).append(other)
+        for page in self.spaces[k].pages:
+            named = {frame: those for frame, those in holders.get(page, {}).items() if frame}
+            first = [other for frame, those in holders.get(page, {}).items() for other in (those[:-1] if frame else those)]
+            orders[page] = (first, {those[-1]: frame for frame, those in named.items()})
+        given = self.gives_back({page: first + list(last) + [k] for page, (first, last) in orders.items()})
+        for page, (_, last) in orders.items():
+            kept = [frame for other, frame in last.items() if other not in given[page]]
+            if k in given[page] and not kept:
+                self.last_frame += 1
+                kept = [self.last_frame]
+            if len(kept) > 1 or bool(kept) != (k in given[page]):
+                raise Failed(f"the frame of page {page * PAGE:#x} of {self.spaces[k].name} isn't found")
+            self.spaces[k].pages[page].frame = kept[0] if kept else 0
 
     def gives_back(self, orders):
         """For each page which spaces' `unmap` gives a frame back, where they give the page up in the order that is said."""
@@ -323,15 +335,22 @@ class State:
             found[page] = given
         return found
 
-    def number_frames(self, holders, leader):
-        numbers = {}
-        for page in sorted(holders):
-            for k in holders[page]:
-                key = (page, leader[page].get(k))
-                self.spaces[k].pages[page].frame = 0 if key[1] is None else numbers.setdefault(key, len(numbers) + 1)
-        found = FRAME_UNITS * (1 + len(numbers)) + sum(overlay_units(len(page.own)) for space in self.spaces for page in space.pages.values())
+    def check_units(self):
+        frames = {there.frame for space in self.spaces for there in space.pages.values()} - {0}
+        found = FRAME_UNITS * (1 + len(frames)) + sum(overlay_units(len(page.own)) for space in self.spaces for page in space.pages.values())
         if found != self.units:
             raise Failed(f"the frames and overlays that were found take {found} units, and `stats` has {self.units}")
+
+    def number_frames(self):
+        """Numbers the frames from 1 by the addresses of their pages."""
+        numbers = {0: 0}
+        for page in sorted({page for space in self.spaces for page in space.pages}):
+            for space in self.spaces:
+                if page in space.pages:
+                    numbers.setdefault(space.pages[page].frame, len(numbers))
+        for space in self.spaces:
+            for there in space.pages.values():
+                there.frame = numbers[there.frame]
 
 
 def frames_of(spaces):

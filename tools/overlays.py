@@ -41,6 +41,7 @@ def found_state(call):
     state = overlaid.State(study, len(study.commands))
     state.find_lines()
     state.find_frames()
+    state.number_frames()
     return study, state
 
 
