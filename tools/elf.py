@@ -84,8 +84,8 @@ def symbols(data):
         for at in range(section.offset, section.offset + section.size - 23, 24):
             name, info, _, home, address, size = struct.unpack_from("<IBBHQQ", data, at)
             text = text_at(data, names + name)
-            # a name of no section, a mapping symbol (`$x`) and a compiler's label (`.L1`) are nobody's names
-            if home == 0 or not text or text[0] in "$." or (info & 15) not in (NO_TYPE, OBJECT, FUNCTION):
+            # a name of no section or of no place in one, a mapping symbol (`$x`) and a compiler's label (`.L1`) are nobody's names
+            if not 0 < home < 0xff00 or not text or text[0] in "$." or (info & 15) not in (NO_TYPE, OBJECT, FUNCTION):
                 continue
             executable = home < len(rows) and bool(rows[home].flags & 4)
             found.append(Symbol(text, address, size, executable))

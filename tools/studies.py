@@ -87,6 +87,11 @@ def output(path):
             yield file
 
 
+def folder_of(path):
+    """The folder in which a script runs where no other is named."""
+    return "." if path == "-" else os.path.dirname(path) or "."
+
+
 def printable(text):
     return "".join(c if " " <= c <= "~" else " " if c == "\t" else "?" for c in text)
 
@@ -151,7 +156,7 @@ class Study:
     def of_call(cls, call, until=None):
         """The study of a call with the words of add_program_words and SCRIPT."""
         lines = scripts.lines_of(read(call.script))[:until]
-        folder = call.folder or ("." if call.script == "-" else os.path.dirname(call.script) or ".")
+        folder = call.folder or folder_of(call.script)
         return cls(lines, folder, call.program, program_words(call), call.script)
 
     def run(self, commands, words=None):
