@@ -176,7 +176,8 @@ class Study:
         if self.status == 0:
             return None
         line = self.commands[self.ended] if self.ended < len(self.commands) else None
-        where = f"before line {line.number}, `{printable(line.text.strip())[:60]}`" if line else "behind the last command"
+        text = f"`{printable(line.text.strip())[:60]}`" if line else ""
+        where = f"before line {line.number}, {text}" if line and line.number else f"before {text}" if line else "behind the last command"
         return f"the report ends {where}: status {self.status}, {STATUSES.get(self.status, 'which is none of the program')}"
 
     def whole(self):
