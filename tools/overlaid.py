@@ -1,7 +1,7 @@
 """Which lines of which pages are overlaid behind a command of a script, and which pages name which frame: found by asking the program.
 
-The commands up to there are run again over 65,536 frames, without those that were `full` and with as many turns as were taken, and then
-asked further. `promote` of a page takes its own lines away, so the fall of `lines` is how many it had. A `poke` of the byte that is there
+The commands up to there are run again over frames that suffice, without those that were `full` and with as many turns as were taken, and
+then asked further. `promote` of a page takes its own lines away, so the fall of `lines` is how many it had. A `poke` of the byte that is there
 adds a line exactly where it wasn't overlaid, if the page's frame is shared, as it is behind a `checkpoint`. A page that gets its 32nd line
 may be settled, by a program that does so: then `lines` falls, and `restore` brings the page back before the next is asked. A speculating
 process is never settled, and all that is stored into it goes into overlays. `unmap` of a page gives a frame's units back exactly where
@@ -19,7 +19,7 @@ STACK_PAGES, STACK_BOTTOM = 16, 2**38 - 16 * 4096
 FRAME_UNITS = 16
 # an overlay of so many lines becomes a page, where the program has it so and the process doesn't speculate
 SETTLED_AT = 32
-ROOMY = "--frames=65536"
+MOST_FRAMES = 65536
 # what a run may have beside the script's own commands, a little below what a script may have
 MOST_ASKED_BYTES = scripts.MOST_SCRIPT_BYTES - 4096
 
@@ -124,6 +124,11 @@ class Layouts:
         return found
 
 
+def listed_pages(listed):
+    """How many pages all processes and checkpoints of a `list` have."""
+    return sum(int(line.split()[-1]) for line in listed[1:])
+
+
 def without_full(commands, answers):
     """The same commands without those that were `full`, and with as many turns as were taken before an instruction was."""
     found = []
@@ -145,10 +150,9 @@ class State:
     """What there is behind the first so many commands of a study, ready to be asked."""
 
     def __init__(self, study, count):
-        self.study = study
+        self.study, self.count = study, count
         done, answers = study.commands[:count], study.answers[:count]
         self.commands = without_full(done, answers)
-        self.words = [word for word in study.words if not word.startswith("--frames")] + [ROOMY]
         self.size = sum(len(line.text) + 1 for line in self.commands)
         if count:
             stats, listed = study.told()[count - 1]
@@ -161,10 +165,20 @@ class State:
         self.spaces = layouts.spaces(listed)
         self.files = [line.words[1] for line, answer in zip(done, answers) if line.words[0] in ("load", "exec") and is_done(answer)]
         self.listed = listed
+        self.words = [word for word in study.words if not word.startswith("--frames")] + [f"--frames={self.frames()}"]
         names = {word for line in done for word in line.words}
         self.prefix = "asked-"
         while any(name.startswith(self.prefix) for name in names):
             self.prefix += "-"
+
+    def frames(self):
+        """Frames that suffice: one more than twice as many as there are pages. Beside those that there were at most there are those of the
+        processes that stand for checkpoints, and those of the checkpoints that processes are taken back to."""
+        most = max((listed_pages(listed) for _, listed in self.study.told()[:self.count]), default=0)
+        stand_ins = [space for space in self.spaces if space.is_checkpoint]
+        loaded = max((len(file_pages(os.path.join(self.study.folder, name))) for name in self.files[:1]), default=0)
+        there = sum(len(space.pages) for space in self.spaces)
+        return min(MOST_FRAMES, 1 + 2 * (most + there + len(stand_ins) * loaded))
 
     def ask(self, asked):
         """The answers to further commands."""
@@ -198,6 +212,8 @@ class State:
         """Gives each checkpoint a process to be asked in its place, and checks that the state is the one that is asked for."""
         kept = [space for space in self.spaces if space.is_checkpoint]
         loads = [f"load {self.files[0]}"] * len(kept) if kept else []
+        if not kept and len(self.commands) == self.count and self.spaces:
+            return loads
         answers = self.ask(["stats", "list"] + loads)
         if counts(answers[0][0]) != (self.units, self.lines) or answers[1] != self.listed:
             raise Failed("over more frames the script comes to another state")

@@ -10,7 +10,8 @@ from studies import Failed, printable
 ABOUT = """Which lines of which pages are overlaid behind a command of a script: for each process and each checkpoint its pages with own lines,
 as rows of 64 cells (`#` is a line in the overlay, `.` one that is read in the frame), how many overlays have how many lines, and
 which frames are named by more than one page."""
-MORE = """It finds them by asking the program: the commands up to there are run again, over 65,536 frames, with further ones behind them.
+MORE = """It finds them by asking the program: the commands up to there are run again, over frames that suffice, with further ones behind
+them.
 `promote` takes a page's own lines away, and a `poke` of the byte that is there adds a line exactly where it wasn't overlaid, if the
 frame is shared, as it is behind a `checkpoint`. `unmap` gives a frame back where no other page names it. The sum of the lines is that
 of `stats`, and so are the units of the frames and overlays that were found; else it ends with status 1. A frame is held to be shared by
