@@ -12,7 +12,8 @@
 # and `ran T break`, and without the hits and misses of `stats`; all else has to be the same. They are built in a folder of their own, at
 # -O0, -O1 and -O2. The program of `debugger` isn't: its script goes with the stored file.
 #
-# Where Python is there, the tools are tried too: each script is checked, and the table of one is compared with the stored one.
+# Where Python is there, the tools are tried too: each script is checked, and what the calls of tools/tried print is compared with what
+# is stored there. A page is clicked through where Chromium is there, and a chart drawn where gnuplot is.
 #
 # The last line counts the runs. Ends with 0 where every report is the expected one, 1 where some differ, 2 where the program
 # can't be run.
@@ -86,6 +87,20 @@ for words in "$here"/*/*.words; do
     count "${run#"$top"/}" "$run.report" "$given"
 done
 
+# Tries a tool: makes its calls, in a room of its own.
+try_tool() {
+    room=$rooms/$(basename "$1" .call)
+    mkdir "$room"
+    { (cd "$top" && room=$room program=$program sh "$1" 2>&1); echo x; } > "$room.given"
+}
+
+# Counts the tries of a tool: what its calls print, with the status of each that says it, has to be what is stored beside them.
+count_tool() {
+    name=$(basename "$1" .call)
+    count "tools/$name" "${1%.call}.said" "$(cat "$rooms/$name.given")"
+    [ ! -f "$rooms/$name/notes" ] || sort -u "$rooms/$name/notes"
+}
+
 if "$top/tools/with-python" -c '' 2>/dev/null; then
     set -- "$here"/*/script
     [ -d "$top/lab/answers" ] && set -- "$@" "$top"/lab/answers/*/script
@@ -95,10 +110,18 @@ if "$top/tools/with-python" -c '' 2>/dev/null; then
         failed=$((failed + 1))
         echo "tools/check-script: finds something wrong with the scripts"
     fi
-    given=$(cd "$top/tools/tried" && ../check-script faulty; echo "status $?"; echo x)
-    count tools/check-script "$top/tools/tried/faulty.said" "$given"
-    given=$("$top/tools/figures" --program "$program" --copies --table --held "$here/transfer/script" && echo x)
-    count tools/figures "$top/tools/tried/transfer.figures" "$given"
+    rooms=$(mktemp -d)
+    trap 'rm -rf "$rooms"' EXIT
+    set -- "$top"/tools/tried/*.call
+    for calls in "$@"; do
+        try_tool "$calls" &
+    done
+    wait
+    for calls in "$@"; do
+        if [ "$(basename "$calls")" != compare.call ] || [ -d "$top/lab/answers" ]; then
+            count_tool "$calls"
+        fi
+    done
 else
     echo "no Python 3.8 or later here: the tools aren't tried"
 fi
@@ -130,7 +153,7 @@ rebuild() {
 if [ -n "$rebuilt" ]; then
     number=0
     folders=$(mktemp -d)
-    trap 'rm -rf "$folders"' EXIT
+    trap 'rm -rf "$folders" "${rooms:-}"' EXIT
     for compiler in riscv64-linux-gnu-gcc riscv64-unknown-elf-gcc 'clang --target=riscv64-linux-gnu -fuse-ld=lld'; do
         if ! command -v make >/dev/null; then
             echo "no make here: nothing is built with $compiler"

@@ -20,3 +20,12 @@ PLACED = -ffunction-sections -fdata-sections -msmall-data-limit=0 -fno-delete-nu
 LDFLAGS = -Wl,--no-relax -Wl,--build-id=none -s
 
 BUILD = $(COMPILER) $(CFLAGS) $(LEVEL) $(PLACED) $(LDFLAGS) -Wl,-T,$(EXAMPLES)/guest.ld -I$(EXAMPLES)
+
+# Builds a program, unless it is stored and was built from the sources as they stand; `make -B` builds it all the same.
+, := ,
+FORCED = $(findstring B,$(firstword -$(MAKEFLAGS)))
+SAID = $(if $(findstring s,$(firstword -$(MAKEFLAGS))),:,echo)
+define UNLESS_STORED
+@if [ -z "$(FORCED)" ] && $(EXAMPLES)/stored check stored.sums $@ $^; then exit 0; fi; \
+$(SAID) '$(1)'; $(1) && $(EXAMPLES)/stored note stored.sums $@ $^
+endef

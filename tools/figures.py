@@ -1,140 +1,56 @@
-"""Figures of a script: what a run of it says and what its memory takes, command by command.
-
-usage: tools/figures [WHAT ..] [HOW ..] SCRIPT
-
-WHAT is one or more of these; without any, the first three are made.
-  --answers        the script and its report interleaved: each line of the script, and behind it its lines of the report
-  --table          units and lines after each command, as a table; commands that print and change nothing have no row
-  --held           how many units and lines each process and each checkpoint holds alone when the script has ended: those before its `drop`
-                   or `forget` without those after it, each in a run of its own
-  --chart FILE     the table as a chart in FILE, an SVG file. It needs gnuplot
-
-HOW
-  --copies         beside the units of the run those of a machine that copies a whole page at the first store to it: the same script over
-                   65,536 frames, with `promote P all` behind each command that may store, and with `checkpoint` and `restore` in the place
-                   of speculations. Nothing is shown where a line of the report is `full`, or where a process is made after a speculation
-  --only WORDS     the rows and points of commands that begin with these words alone, numbered from 1, or from 0 where the first of them
-                   is that of --since
-  --since LINE     units and lines without those that there were after the command in this line of the script
-  --until LINE     as if the script ended behind this line
-  --title TEXT     the title of the chart, in place of the name of the script
-  --axis TEXT      what the chart says below, in place of `command`
-  --in FOLDER      runs the script in this folder, in place of its own
-  --program FILE   runs this program, in place of bin/overlay-run
-  --frames N, --quantum Q   the words of the program
-
-The program is run on copies of the script with `stats`, `list` and such commands added behind its own, so each number is one that the
-program printed, or a difference of two. The lines that the script's own commands have are compared between the runs.
-
-Status: 0 where all was made, 1 where something couldn't be, 2 where the words of the call aren't these.
-"""
-import os
+"""Figures of a script: what a run of it says and what its memory takes, command by command. tools/figures --help says how."""
+import csv
 import re
 import shutil
-import signal
 import subprocess
 import sys
 
 import scripts
+import studies
+from studies import PRINTS, TURNS, Failed, checkpoints, command, counts, is_done, lookups, printable, processes, without_counts
 
-TURNS = ("run", "step", "exec")
+ABOUT = """Figures of a script: what a run of it says and what its memory takes, command by command. Without a word that says what to
+make, --answers, --table and --held are made."""
+MORE = """With --copies there stand beside the units of the run those of a machine that copies a whole page at the first store to it: the
+same script over 65,536 frames, with `promote P all` behind each command that may store, and with `checkpoint` and
+`restore` in the place of speculations. Nothing is shown where a line of the report is `full`, or where a process is made
+after a speculation.
+
+The program is run on copies of the script with `stats`, `list` and such commands added behind its own, so each number is one
+that the program printed, or a difference of two. The lines that the script's own commands have are compared between the runs.
+With --samples the report of the run in pieces is compared with that of the whole: where a `run` of several processes goes on
+elsewhere, since each `run` begins with the lowest process and a fresh quantum, it stays whole, and that is said.
+
+Status: 0 where all was made, 1 where something couldn't be, or where the report ends before the script, 2 where the words of
+the call aren't these."""
 MAKES = ("load", "exec", "fork")
-PRINTS = ("list", "stats", "regs", "dump", "disasm")
+# beyond so many commands a chart has numbers below, and the commands beside
+MOST_NAMED = 20
 
 
-class Failed(Exception):
-    """Why figures can't be made."""
-
-
-class Call:
-    """The words of the call."""
-
-    def __init__(self, words):
-        self.what, self.how, self.script = set(), {}, None
-        while words:
-            word = words.pop(0)
-            if word in ("--answers", "--table", "--held", "--copies"):
-                self.what.add(word)
-            elif word in ("--chart", "--only", "--since", "--until", "--title", "--axis", "--in", "--program", "--frames", "--quantum") and words:
-                self.how[word] = words.pop(0)
-            elif word.startswith("-") or self.script is not None:
-                raise ValueError(word)
-            else:
-                self.script = word
-        if self.script is None:
-            raise ValueError("SCRIPT is missing")
-        if not self.what - {"--copies"} and "--chart" not in self.how:
-            self.what |= {"--answers", "--table", "--held"}
-
-    def number(self, word):
-        if word not in self.how:
-            return None
-        number = scripts.number_in(self.how[word])
-        if number is None:
-            raise ValueError(f"{word} {self.how[word]}")
-        return number
-
-
-class Study:
-    """A script with its commands, and runs of it with commands of other kinds among them."""
-
-    def __init__(self, call):
-        with open(call.script, "rb") as file:
-            self.lines = scripts.lines_of(file.read())
-        until = call.number("--until")
-        self.lines = self.lines[:until]
-        self.commands = [line for line in self.lines if line.has_command]
-        for command in self.commands:
-            if command.form() is None:
-                raise Failed(f"line {command.number} of the script isn't a command: tools/check-script {call.script} says more")
-        self.folder = call.how.get("--in", os.path.dirname(call.script) or ".")
-        self.program = os.path.abspath(call.how.get("--program", scripts.PROGRAM))
-        self.words = [f"{word}={call.how[word]}" for word in ("--frames", "--quantum") if word in call.how]
-        self.answers, self.status = self.run(self.commands)
-        self.ended = next((k for k, lines in enumerate(self.answers) if not lines), len(self.commands))
-
-    def run(self, commands, words=None):
-        """The lines of the report for each of some commands, and the status."""
-        text = "".join(command.text + "\n" for command in commands).encode("latin-1")
-        if len(text) > scripts.MOST_SCRIPT_BYTES or len(commands) > scripts.MOST_SCRIPT_LINES:
-            raise Failed("with further commands the script is longer than a script may be; --until says where to end")
-        report, status = scripts.run(self.program, self.words if words is None else words, text, self.folder)
-        if status == 2:
-            raise Failed(f"the program doesn't take these words: {' '.join(self.words)}")
-        return scripts.split(commands, report), status
-
-    def with_each(self, added):
-        """A run with further commands behind each command, `added` of its place; for each command its own lines and those of the
-        further ones."""
-        done, commands = self.commands[:self.ended], []
-        for k, command in enumerate(done):
-            commands += [command] + added(k)
-        answers, _ = self.run(commands)
-        found, at = [], 0
-        for k in range(len(done)):
-            count = 1 + len(added(k))
-            found.append((answers[at], answers[at + 1:at + count]))
-            at += count
-        for k, (own, _) in enumerate(found):
-            if without_counts(own) != without_counts(self.answers[k]):
-                raise Failed(f"line {done[k].number} of the script is answered otherwise in a run with further commands")
-        return found
-
-    def measured(self):
-        """Behind each command: the units, the lines, and the processes and checkpoints as `list` has them."""
-        if not hasattr(self, "_measured"):
-            found = self.with_each(lambda k: [command("stats"), command("list")])
-            self._measured = [(*counts(stats[0]), listed) for _, (stats, listed) in found]
-        return self._measured
-
-
-def command(text):
-    return scripts.Line(0, text)
-
-
-def without_counts(lines):
-    """Lines of the report without hits and misses, which nothing else that is printed depends on."""
-    return [re.sub(r" hits \d+ misses \d+$", "", line) for line in lines]
+def words():
+    words = studies.parser("figures", ABOUT, MORE)
+    what = words.add_argument_group("what is made")
+    what.add_argument("--answers", action="store_true", help="the script and its report interleaved: each line, and behind it its lines of the report")
+    what.add_argument("--table", action="store_true", help="units and lines after each command, with what was refused or `full`; "
+                      "commands that print and change nothing have no row")
+    what.add_argument("--held", action="store_true", help="how many units and lines each process and each checkpoint holds alone when the "
+                      "script has ended: those before its `drop` or `forget` without those after it, each in a run of its own")
+    what.add_argument("--chart", metavar="FILE", help="the table as a chart, an SVG file. It needs gnuplot")
+    what.add_argument("--csv", metavar="FILE", help="every command uncut, a row each, with units, lines, hits, misses, units of whole pages "
+                      "(with --copies) and its last line of the report; `-` is standard output")
+    how = words.add_argument_group("how")
+    how.add_argument("--copies", action="store_true", help="beside the units those where whole pages are copied")
+    how.add_argument("--samples", metavar="N", type=studies.number_of(1, 10**7), help="`run`, `step` and `exec` in pieces of N turns, with a row each")
+    how.add_argument("--only", metavar="WORDS", help="the rows and points of commands that begin with these words alone, numbered from 1, or "
+                     "from 0 where the first of them is that of --since")
+    how.add_argument("--since", metavar="LINE", type=studies.number_of(1, 65536), help="units and lines without those after the command in this line")
+    how.add_argument("--until", metavar="LINE", type=studies.number_of(0, 65536), help="as if the script ended behind this line")
+    how.add_argument("--title", metavar="TEXT", help="the title of the chart, in place of the name of the script")
+    how.add_argument("--axis", metavar="TEXT", help="what the chart says below, in place of `command`")
+    studies.add_program_words(how)
+    words.add_argument("script", metavar="SCRIPT", help="a file, or `-` for standard input")
+    return words
 
 
 def without_saved(lines):
@@ -142,25 +58,76 @@ def without_saved(lines):
     return [re.sub(r"^(saved \d+ \S+) \d+$", r"\1", line) for line in lines]
 
 
-def counts(line):
-    """Units and lines of a line of `stats`."""
-    words = line.split()
-    return int(words[1]), int(words[5])
+def pieces(line, answer, turns):
+    """A command of turns as commands of fewer: of as many turns as were taken, and where an instruction was `full` one more."""
+    first, rest = line.words[0], line.words[1:]
+    if first not in TURNS or not is_done(answer) or not answer[-1].startswith("ran "):
+        return [line]
+    taken, full = int(answer[-1].split()[1]), answer[-1].endswith(" full")
+    if taken <= turns:
+        return [line]
+    counts_of = [turns] * (taken // turns) + ([taken % turns] if taken % turns else [])
+    if full:
+        counts_of = counts_of[:-1] + [counts_of[-1] + 1] if taken % turns else counts_of + [1]
+    if first == "exec":
+        return None
+    words = [first] + rest[:-1]
+    return [command(" ".join(words + [str(n)]), line.number) for n in counts_of]
 
 
-def processes(listed):
-    """The processes that a `list` has, and those of them that speculate."""
-    rows = [line.split() for line in listed if line.startswith("process ")]
-    return [row[1] for row in rows], {row[1] for row in rows if "speculating" in row}
+def split_exec(line, answer, turns, process):
+    """An `exec` in pieces: the load, and then steps of its process."""
+    load = command(f"load {line.words[1]}", line.number)
+    steps = command(f"step {process} {line.words[2]}", line.number)
+    return [load] + pieces(steps, answer[1:], turns)
 
 
-def checkpoints(listed):
-    return [line.split()[1] for line in listed if line.startswith("checkpoint ")]
+def joined(answers):
+    """The lines of the pieces of one command as those of the whole."""
+    lines, taken = [], 0
+    for answer in answers[:-1]:
+        if answer[-1].startswith("ran "):
+            taken += int(answer[-1].split()[1])
+            lines += answer[:-1]
+        else:
+            lines += answer
+    last = answers[-1]
+    if last and last[-1].startswith("ran "):
+        _, turns, why = last[-1].split()
+        return lines + last[:-1] + [f"ran {taken + int(turns)} {why}"]
+    return lines + last
 
 
-def is_done(answer):
-    """Whether a command wasn't refused."""
-    return bool(answer) and not answer[0].startswith("refused ")
+def sampled(study, turns):
+    """The study with its turns in pieces, and why some of its commands stay whole."""
+    parts, kept_whole = [], []
+    for line, answer in zip(study.commands[:study.ended], study.answers):
+        made = pieces(line, answer, turns)
+        parts.append(split_exec(line, answer, turns, answer[0].split()[1]) if made is None else made)
+    told = study.measured()
+    probes = [[command("stats"), command("list")] + [command(f"regs {p}") for p in processes(listed)[0]] for _, _, listed in told]
+    own = study.with_each(lambda k: probes[k])
+    # the first command whose pieces come to another state is kept whole, and then it is tried again
+    while True:
+        answers, _ = study.run([one for part, probe in zip(parts, probes) for one in part + probe])
+        at, differs = 0, None
+        for k, (part, probe) in enumerate(zip(parts, probes)):
+            said, state = answers[at:at + len(part)], answers[at + len(part):at + len(part) + len(probe)]
+            at += len(part) + len(probe)
+            if len(part) > 1 and (not all(said) or joined(said) != own[k][0] or state != own[k][1]):
+                differs = k
+                break
+        if differs is None:
+            break
+        line = study.commands[differs]
+        kept_whole.append(f"line {line.number}, `{printable(line.text.strip())}`, in samples of {turns} turns gives another report, so it stays whole"
+                          "; a `run` of several processes can be split where N is a multiple of the quantum times their number")
+        parts[differs] = [line]
+    lines = [one for part in parts for one in part]
+    made = studies.Study(lines, study.folder, study.program, study.words, study.name)
+    if made.status == 0 and study.status != 0:
+        made.status = study.status
+    return made, kept_whole
 
 
 def copies(study):
@@ -216,36 +183,42 @@ def interleaved(study):
                 print(f"          (the report ends before this command: status {study.status})")
 
 
-def printable(text):
-    return "".join(c if " " <= c <= "~" else " " if c == "\t" else "?" for c in text)
-
-
 class Row:
-    """A command with what there is behind it: units, lines, and the units where whole pages are copied, or None."""
+    """A command with what there is behind it: units, lines, hits and misses, the units where whole pages are copied, or None, and its lines
+    of the report."""
 
-    def __init__(self, number, text, units, lines, copied):
-        self.number, self.text, self.units, self.lines, self.copied = number, text, units, lines, copied
+    def __init__(self, line, told, copied, answer):
+        self.number, self.text, self.copied, self.answer = line.number, " ".join(line.words), copied, answer
+        (self.units, self.lines), (self.hits, self.misses) = counts(told), lookups(told)
+
+    def mark(self):
+        """What wasn't done of it, or nothing."""
+        return next((line for line in self.answer if line.startswith(("refused ", "full "))), "")
 
 
-def rows(study, call):
-    """The rows of the table, and the points of the chart."""
-    copied = copies(study) if "--copies" in call.what else [None] * study.ended
-    made = [Row(line.number, " ".join(line.words), units, lines, whole)
-            for line, (units, lines, _), whole in zip(study.commands, study.measured(), copied)]
-    since = call.number("--since")
-    if since is not None:
-        base = next((row for row in made if row.number == since), None)
+def all_rows(study, call):
+    """A row for each command that was done or refused."""
+    copied = copies(study) if call.copies else [None] * study.ended
+    made = [Row(line, told, whole, answer)
+            for line, (told, _), whole, answer in zip(study.commands, study.told(), copied, study.answers)]
+    if call.since is not None:
+        base = next((row for row in made if row.number == call.since), None)
         if base is None:
-            raise Failed(f"line {since} of the script has no command that is done")
+            raise Failed(f"line {call.since} of the script has no command that is done")
         units, lines, whole = base.units, base.lines, base.copied
         for row in made:
             row.units, row.lines = row.units - units, row.lines - lines
             row.copied = None if row.copied is None else row.copied - whole
-    made = [row for row in made if row.text.split()[0] not in PRINTS]
-    if "--only" in call.how:
-        words = call.how["--only"].split()
+    return made
+
+
+def rows(study, call):
+    """The rows of the table, and the points of the chart."""
+    made = [row for row in all_rows(study, call) if row.text.split()[0] not in PRINTS]
+    if call.only is not None:
+        words = call.only.split()
         made = [row for row in made if row.text.split()[:len(words)] == words]
-        first = 0 if made and made[0].number == since else 1
+        first = 0 if made and made[0].number == call.since else 1
         for number, row in enumerate(made, first):
             row.number = number
     if not made:
@@ -254,13 +227,26 @@ def rows(study, call):
 
 
 def table(made, call):
-    first = "no." if "--only" in call.how else "line"
+    first = "line" if call.only is None else "no."
     width = max(len(printable(row.text)) for row in made)
     width = max(len("command"), min(width, 40))
     copied = made[0].copied is not None
     print(f"{first:>5}  {'command':{width}}  {'units':>7}  {'lines':>7}" + ("  whole pages" if copied else ""))
     for row in made:
-        print(f"{row.number:5}  {printable(row.text)[:width]:{width}}  {row.units:7}  {row.lines:7}" + (f"  {row.copied:11}" if copied else ""))
+        text = f"{row.number:5}  {printable(row.text)[:width]:{width}}  {row.units:7}  {row.lines:7}" + (f"  {row.copied:11}" if copied else "")
+        print(f"{text}  {row.mark()}".rstrip())
+
+
+def as_csv(study, call):
+    with studies.output(call.csv) as file:
+        out = csv.writer(file, lineterminator="\n")
+        out.writerow(["line", "command", "units", "lines", "hits", "misses", "whole_page_units", "answer"])
+        made = all_rows(study, call)
+        for row in made:
+            out.writerow([row.number, printable(row.text), row.units, row.lines, row.hits, row.misses,
+                          "" if row.copied is None else row.copied, row.mark() or row.answer[-1]])
+    if call.csv != "-":
+        print(f"{call.csv}: {len(made)} rows")
 
 
 def held(study):
@@ -277,21 +263,50 @@ def held(study):
     print(f"{'all, with what is shared':32}  {units:7}  {lines:7}")
 
 
+def escaped(text):
+    return text.replace("&", "&amp;").replace("<", "&lt;").replace(">", "&gt;")
+
+
+def with_commands_beside(svg, made, first):
+    """A chart with the list of its commands at its right, in columns: each with the number that stands below the chart."""
+    width, height, row_height = 860, 460, 14
+    each = max((height - 40) // row_height, -(-len(made) // 4))
+    longest = max(len(row.text[:30]) for row in made)
+    column = 7 * (longest + 7)
+    whole, tall = width + column * -(-len(made) // each) + 10, max(height, 40 + each * row_height)
+    texts = []
+    for at, row in enumerate(made):
+        x, y = width + 10 + column * (at // each), 30 + row_height * (at % each)
+        texts.append(f'<text x="{x}" y="{y}" font-family="monospace" font-size="11" fill="#222222" xml:space="preserve">'
+                     f"{at + first:>4}  {escaped(printable(row.text)[:30])}</text>")
+    svg = re.sub(r'viewBox="0 0 \d+ \d+"', f'viewBox="0 0 {whole} {tall}"', svg, count=1)
+    svg = re.sub(r'(<svg[^>]*?)width="\d+" height="\d+"', rf'\1width="{whole}" height="{tall}"', svg, count=1, flags=re.S)
+    under = f'<rect x="0" y="0" width="{whole}" height="{tall}" fill="#ffffff"/>'
+    at = svg.index("</desc>") + len("</desc>")
+    return svg[:at] + under + svg[at:].replace("</svg>", "\n".join(texts) + "\n</svg>")
+
+
+def tics(made, call, first):
+    """What stands below the points: the commands where they are few, else their numbers."""
+    if call.only is not None or len(made) > MOST_NAMED:
+        return "set xtics autofreq"
+    named = ", ".join(f"{quoted(row.text[:30])} {at}" for at, row in enumerate(made, first))
+    return f"set xtics rotate by -40 noenhanced ({named})"
+
+
+def quoted(text):
+    return "'" + text.replace("'", "''") + "'"
+
+
 def chart(made, call):
     gnuplot = shutil.which("gnuplot")
     if not gnuplot:
         raise Failed("there is no gnuplot here, so the chart isn't drawn (on Debian: apt-get install gnuplot-nox)")
-    file = call.how["--chart"]
-    title = call.how.get("--title", f"Units and lines: {call.script}")
-    axis = call.how.get("--axis", "command" if "--only" not in call.how else f"command `{call.how['--only']}`")
-    first = made[0].number if "--only" in call.how else 1
+    title = call.title or f"Units and lines: {call.script}"
+    axis = call.axis or ("command" if call.only is None else f"command `{call.only}`")
+    first = made[0].number if call.only is not None else 1
     points = "".join(f"{at} {row.units} {row.lines} {row.copied if row.copied is not None else 'NaN'}\n" for at, row in enumerate(made, first))
-    quoted = lambda text: "'" + text.replace("'", "''") + "'"
     copied = made[0].copied is not None
-    tics = "set xtics autofreq"
-    if "--only" not in call.how and len(made) <= 40:
-        named = ", ".join(f"{quoted(row.text[:30])} {at}" for at, row in enumerate(made, first))
-        tics = f"set xtics rotate by -40 noenhanced ({named})"
     draws = ["$points using 1:2 with steps lw 3 lc rgb '#1b6ca8' title 'units'"]
     if copied:
         draws.append("$points using 1:4 with steps lw 3 dt 2 lc rgb '#c0392b' title 'units where whole pages are copied'")
@@ -304,63 +319,53 @@ def chart(made, call):
         f"set xlabel {quoted(axis)} noenhanced",
         "set ylabel 'units of 256 bytes'", "set y2label 'lines of 64 bytes'",
         "set yrange [0:*]", "set y2range [0:*]", "set ytics nomirror", "set y2tics", f"set xrange [{first - 0.5}:{first + len(made) - 0.5}]",
-        tics, "set grid ytics lc rgb '#dddddd'", "set key outside below center horizontal noenhanced",
+        tics(made, call, first), "set grid ytics lc rgb '#dddddd'", "set key outside below center horizontal noenhanced",
         "plot " + ", ".join(draws), ""])
     done = subprocess.run([gnuplot], input=text.encode(), stdout=subprocess.PIPE, stderr=subprocess.PIPE, check=False)
     if done.returncode or b"<svg" not in done.stdout:
         raise Failed(f"gnuplot drew nothing: {done.stderr.decode(errors='replace').strip()[:200]}")
     last = made[-1]
     said = f"From {made[0].units} units after `{made[0].text}` to {last.units} after `{last.text}`"
-    if "--only" in call.how:
+    if call.only is not None:
         said = f"{axis}: from {made[0].units} units at {made[0].number} to {last.units} at {last.number}"
     if copied:
         said += f"; where whole pages are copied, from {made[0].copied} to {last.copied}"
-    escape = lambda words: words.replace("&", "&amp;").replace("<", "&lt;").replace(">", "&gt;")
-    svg = re.sub(r"<title>.*?</title>\s*<desc>.*?</desc>", lambda _: f"<title>{escape(title)}</title>\n<desc>{escape(said)}.</desc>",
+    svg = re.sub(r"<title>.*?</title>\s*<desc>.*?</desc>", lambda _: f"<title>{escaped(title)}</title>\n<desc>{escaped(said)}.</desc>",
                  done.stdout.decode(), count=1, flags=re.S)
-    with open(file, "w", encoding="utf-8") as out:
+    if call.only is None and len(made) > MOST_NAMED:
+        svg = with_commands_beside(svg, made, first)
+    with open(call.chart, "w", encoding="utf-8") as out:
         out.write("\n".join(line.rstrip() for line in svg.split("\n")))
-    print(f"{file}: {len(made)} points")
+    print(f"{call.chart}: {len(made)} points")
 
 
 def main():
-    if any(word in ("--help", "-h") for word in sys.argv[1:]):
-        print(__doc__.strip())
-        return 0
-    try:
-        call = Call(sys.argv[1:])
-        for word in ("--since", "--until"):
-            call.number(word)
-    except ValueError as error:
-        print(f"figures: not a word of this call: {error}; see tools/figures --help", file=sys.stderr)
-        return 2
-    try:
-        study = Study(call)
-    except Failed as error:
-        print(f"figures: {error}", file=sys.stderr)
-        return 1
-    except OSError as error:
-        print(f"figures: {error.filename}: {error.strerror}", file=sys.stderr)
-        return 1
-    parts = {"--answers": lambda: interleaved(study), "--table": lambda: table(rows(study, call), call), "--held": lambda: held(study)}
-    wanted = [part for word, part in parts.items() if word in call.what]
-    if "--chart" in call.how:
-        wanted.append(lambda: chart(rows(study, call), call))
-    status = 0
+    call = words().parse_args()
+    if not (call.answers or call.table or call.held or call.chart or call.csv):
+        call.answers = call.table = call.held = True
+    study = studies.Study.of_call(call, call.until)
+    whole, said = study, []
+    if call.samples:
+        study, said = sampled(study, call.samples)
+    parts = [(call.answers, lambda: interleaved(whole)), (call.table, lambda: table(rows(study, call), call)), (call.held, lambda: held(study)),
+             (call.chart, lambda: chart(rows(study, call), call)), (call.csv, lambda: as_csv(study, call))]
+    wanted = [part for is_wanted, part in parts if is_wanted]
     for number, part in enumerate(wanted):
         if number:
             print(flush=True)
         try:
             part()
         except Failed as error:
-            print(f"figures: {error}", file=sys.stderr)
-            status = 1
+            said.append(str(error))
         except OSError as error:
-            print(f"figures: {error.filename}: {error.strerror}", file=sys.stderr)
-            status = 1
-    return status
+            said.append(f"{error.filename}: {error.strerror}")
+    sys.stdout.flush()
+    if whole.cut_short():
+        said.append(whole.cut_short())
+    for text in said:
+        print(f"figures: {text}", file=sys.stderr)
+    return 1 if said else 0
 
 
 if __name__ == "__main__":
-    signal.signal(signal.SIGPIPE, signal.SIG_DFL)
-    sys.exit(main())
+    studies.call("figures", main)
