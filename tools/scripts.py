@@ -13,7 +13,9 @@ PROGRAM = os.path.join(TOP, "bin", "overlay-run")
 
 
 def source(*path):
-    with open(os.path.join(TOP, "crates", *path), encoding="utf-8") as file:
+    """A source of the program that says what a script may say. An archive without sources has those few in tools/forms."""
+    places = [os.path.join(TOP, "crates", *path), os.path.join(TOP, "tools", "forms", *path)]
+    with open(next((place for place in places if os.path.exists(place)), places[0]), encoding="utf-8") as file:
         return file.read()
 
 
