@@ -357,8 +357,10 @@ def main():
             part()
         except Failed as error:
             said.append(str(error))
+        except BrokenPipeError:
+            raise
         except OSError as error:
-            said.append(f"{error.filename}: {error.strerror}")
+            said.append(f"{error.filename or 'standard output'}: {error.strerror}")
     sys.stdout.flush()
     if whole.cut_short():
         said.append(whole.cut_short())

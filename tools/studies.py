@@ -8,7 +8,6 @@ import argparse
 import contextlib
 import os
 import re
-import signal
 import sys
 from concurrent.futures import ThreadPoolExecutor
 
@@ -53,19 +52,24 @@ def program_words(call):
 
 def call(name, main):
     """Runs a tool's `main`, and ends with its status: a failure is one line on standard error, and never a traceback."""
-    signal.signal(signal.SIGPIPE, signal.SIG_DFL)
     try:
-        status = main()
+        try:
+            status, said = main(), None
+        except Failed as error:
+            status, said = 1, str(error)
+        except BrokenPipeError:
+            raise
+        except OSError as error:
+            status, said = 1, f"{error.filename or 'standard output'}: {error.strerror}"
         sys.stdout.flush()
-        sys.exit(status)
-    except Failed as error:
-        print(f"{name}: {error}", file=sys.stderr)
     except KeyboardInterrupt:
         os._exit(130)
-    except OSError as error:
-        print(f"{name}: {error.filename or 'standard output'}: {error.strerror}", file=sys.stderr)
-    sys.stdout.flush()
-    sys.exit(1)
+    except BrokenPipeError:
+        # whoever read standard output has enough, and what is left can't be written any more
+        os._exit(141)
+    if said:
+        print(f"{name}: {said}", file=sys.stderr)
+    sys.exit(status)
 
 
 def read(path):

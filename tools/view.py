@@ -155,8 +155,12 @@ def mask(lines):
     return f"{sum(1 << line for line in lines):x}" if lines else ""
 
 
+def shortened(text):
+    return text if len(text) <= MOST_REPORT_WIDTH else text[:MOST_REPORT_WIDTH] + " ..."
+
+
 def report_lines(answer):
-    lines = [line if len(line) <= MOST_REPORT_WIDTH else line[:MOST_REPORT_WIDTH] + " ..." for line in answer[:MOST_REPORT_LINES]]
+    lines = [shortened(line) for line in answer[:MOST_REPORT_LINES]]
     return lines + ([f"({len(answer) - MOST_REPORT_LINES} more lines)"] if len(answer) > MOST_REPORT_LINES else [])
 
 
@@ -175,7 +179,7 @@ def data_of(study, title):
     answers, at, rows = iter(study.answers), 0, []
     found = states(study)
     for line in study.lines:
-        row = {"n": line.number, "t": printable(line.text)}
+        row = {"n": line.number, "t": shortened(printable(line.text))}
         if line.has_command:
             answer = next(answers)
             row["a"] = report_lines(answer)

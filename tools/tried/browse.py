@@ -135,12 +135,12 @@ def click_through(browser):
     expect("a click on the last line of the script", count - 1)
     browser.click("document.getElementById('slider')")
     middle = browser.value("at")
-    if not 0 < middle < count - 1:
+    if count > 2 and not 0 < middle < count - 1:
         wrong.append(f"a click on the middle of the slider shows command {middle}")
     browser.key("ArrowRight")
-    expect("key right on the slider", middle + 1)
+    expect("key right on the slider", min(middle + 1, count - 1))
     browser.click("document.querySelector('#chart svg')")
-    if not 0 < browser.value("at") < count - 1:
+    if count > 2 and not 0 < browser.value("at") < count - 1:
         wrong.append("a click on the middle of the chart shows an end")
     few = browser.value("document.querySelectorAll('#memory g[data-frame]').length")
     browser.click("document.getElementById('all')")
