@@ -10,6 +10,7 @@ use crate::lines::{
 use crate::push::push_text;
 use crate::{Answer, Line, ROW_BYTES, Stop};
 use ovl_io::{Bytes, ProcessState, Turn};
+use rv_decode::Rv64i;
 
 /// The line of an answer. Want of memory has none, and a checkpoint's name has 1 to 32 bytes.
 pub fn answer_line(a: &Answer, out: &mut Line)
@@ -126,10 +127,10 @@ pub fn dump_line(address: u64, bytes: &[u8], out: &mut Line)
     put_dump(out, address, bytes);
 }
 
-/// A word of memory at an address, and what it means as an instruction.
+/// A word of memory at an address, and what it means as an instruction of RV64I.
 pub fn disasm_line(address: u64, word: u32, out: &mut Line)
     ensures { out.new.items ≡ disasm_line address word }
 {
     out.clear();
-    put_disasm(out, address, word);
+    put_disasm::<Rv64i>(out, address, word);
 }

@@ -13,4 +13,4 @@ returns-in_default c =
 pub returns-in_ok-system-in-115 : goal.returns-in_ok-system-in-115
 returns-in_ok-system-in-115 c =
     let named = c.in_ok-system-in-115.ensures in
-    means_instr (c.n_format.ensures c.args.word) named.0 named.1
+    means_instr (c.n_format.ensures c.args.word) named.0 named.1 named.2
