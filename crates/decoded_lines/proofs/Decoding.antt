@@ -1,4 +1,4 @@
-use Rattle.std.proofs.Common.{◌≡◌, ℕ, zero, suc, ◌+◌, ◌-◌, ◌*◌, ◌/◌, ◌%◌, ◌<◌, ◌≤◌, ◌⊎◌, Bool, inl, inr, List, [], length, get_or, take, drop, replicate, slice_set, Option, None, sym, ap, subst, ◌∙◌, refl, arith}
+use Rattle.std.proofs.Common.{◌≡◌, ℕ, zero, suc, ◌+◌, ◌-◌, ◌*◌, ◌/◌, ◌%◌, ◌<◌, ◌≤◌, ◌⊎◌, Bool, inl, inr, List, [], length, get_or, take, drop, replicate, slice_set, Option, None, sym, ap, subst, ◌∙◌, arith}
 use Rattle.std.specs.Prelude.{IfSome}
 use Rattle.std.proofs.lemmas.Bool.{cases_eq, cases_order}
 use Rattle.std.proofs.lemmas.List.{get_or-set_other, get_or-set_same, get_or-drop, get_or-replicate, get_or-take, length-replicate, length-set}
@@ -18,9 +18,6 @@ pub record IsDecoding (has : Name → Bool) (slot : ℕ) (line : List ℕ) (old 
   pub all : length now ≡ length old
   pub here : (place : ℕ) → place < done → IsOfWordBy has (get_or now (LINE_WORDS * slot + place) None) (line_word line place)
   pub beside : (at : ℕ) → (at < LINE_WORDS * slot) ⊎ (LINE_WORDS * slot + LINE_WORDS ≤ at) → get_or now at None ≡ get_or old at None
-
-pub decoding_none : (has : Name → Bool) (slot : ℕ) (line : List ℕ) (old : List (Option Instr)) → IsDecoding has slot line old old 0
-decoding_none has slot line old = record { within = omega arith; all = refl; here = λ place low. absurd (omega (arith, low)); beside = λ at out. refl }
 
 module _ (has : Name → Bool) (slot : ℕ) (line : List ℕ) (old now : List (Option Instr)) (done : ℕ) (so : IsDecoding has slot line old now done) (low : done < LINE_WORDS) (inside : slot < KEPT_LINES)
     (all : length old ≡ LINE_WORDS * KEPT_LINES) (i : Option Instr) (is : IsOfWordBy has i (line_word line done)) where
@@ -47,9 +44,6 @@ module _ (has : Name → Bool) (slot : ℕ) (line : List ℕ) (old now : List (O
 
   pub decoding_next : IsDecoding has slot line old next (done + 1)
   decoding_next = record { within = omega (arith, low); all = length-set now (LINE_WORDS * slot + done) i ∙ so.all; here = here_next; beside = beside_next }
-
-pub decoding_all : (has : Name → Bool) (slot : ℕ) (line : List ℕ) (old now : List (Option Instr)) (done : ℕ) → IsDecoding has slot line old now done → LINE_WORDS ≤ done → AreOfLine has now slot line
-decoding_all has slot line old now done so end place low = so.here place (omega (arith, low, end))
 
 -- A line was put in a slot.
 

@@ -7,7 +7,7 @@ use Rattle.std.proofs.lemmas.Bool.{false≢true, eqb-true, eqb-false, not-true, 
 use Rattle.std.proofs.lemmas.Nat.{and_assoc}
 use Rattle.rv_decode.specs.declared.names.Name.{Name}
 use Rattle.rv_decode.specs.declared.rows.CaseRow.{CaseRow}
-use Rattle.rv_decode.specs.Table.{row_of, all_names, is_base, is_multiplication}
+use Rattle.rv_decode.specs.Table.{row_of, all_names}
 use Rattle.rv_decode.specs.Fits.{FitsRow}
 use Rattle.rv_decode.specs.Meaning.{Means}
 use Rattle.rv_decode.specs.TableLaws.{each_name, known_bits}
@@ -38,17 +38,17 @@ none_of_at word row (p ∷ ps) none among fit =
       | inr later ↦ none_of_at word row ps none.1 later fit
     ]
 
--- the row isn't RV64I's, contradicts the known bits, or implies a pair that the word does not meet
-abbrev pub is_out : ℕ → ℕ → List (ℕ × ℕ) → Name → Bool
-is_out mask key ps name =
-    is_multiplication name || (not (bit_and (row_of name).value mask == bit_and key (row_of name).mask) || implies_some (row_of name) ps)
+-- the row isn't the table's, contradicts the known bits, or implies a pair that the word does not meet
+abbrev pub is_out : (Name → Bool) → ℕ → ℕ → List (ℕ × ℕ) → Name → Bool
+is_out among mask key ps name =
+    not (among name) || (not (bit_and (row_of name).value mask == bit_and key (row_of name).mask) || implies_some (row_of name) ps)
 
-pub none_fits : (word mask key : ℕ) (ps : List (ℕ × ℕ)) → list_all (is_out mask key ps) all_names ≡ true → bit_and word mask ≡ key → NoneOf word ps → Means is_base word None
-none_fits word mask key ps test known none name base fit =
-    elim (or_cases _ _ (each_name (is_out mask key ps) test name)) [
-      | inl other ↦ false≢true (sym (not-true _ base) ∙ other)
+pub none_fits : (among : Name → Bool) (word mask key : ℕ) (ps : List (ℕ × ℕ)) → list_all (is_out among mask key ps) all_names ≡ true → bit_and word mask ≡ key → NoneOf word ps → Means among word None
+none_fits among word mask key ps test known none name listed fit =
+    elim (or_cases _ _ (each_name (is_out among mask key ps) test name)) [
+      | inl other ↦ false≢true (sym (not-true _ other) ∙ listed)
       | inr out ↦ elim (or_cases _ _ out) [
         | inl differs ↦ eqb-false _ _ (not-true _ differs) (known_bits word mask key (row_of name) known fit)
-        | inr among ↦ none_of_at word (row_of name) ps none among fit
+        | inr some ↦ none_of_at word (row_of name) ps none some fit
       ]
     ]

@@ -27,7 +27,11 @@ meaning_by among word = option_map (λ name. instr_of name word) (find (λ name.
 abbrev pub meaning : ℕ → Option Instr
 meaning word = meaning_by is_base word
 
--- the name of a row of RV64I of this format that fits, or none where no row of RV64I fits: what each part of the decoder finds out
+-- the name of a row of a table of this format that fits, or none where no row of it fits: what each part of a decoder finds out
+abbrev pub NamesBy : (Name → Bool) → Format → ℕ → Option Name → Type 0
+NamesBy among format word None = Means among word None
+NamesBy among format word (Some name) = IsTrue (among name) × FitsRow (row_of name) word × ((row_of name).format ≡ format)
+
+-- by the table of RV64I
 abbrev pub Names : Format → ℕ → Option Name → Type 0
-Names format word None = Means is_base word None
-Names format word (Some name) = IsTrue (is_base name) × FitsRow (row_of name) word × ((row_of name).format ≡ format)
+Names format word o = NamesBy is_base format word o

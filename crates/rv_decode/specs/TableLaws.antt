@@ -102,19 +102,19 @@ at_place (r ∷ rs) word zero d fit = (omega arith, fit)
 at_place (r ∷ rs) word (suc k) d fit = let rest = at_place rs word k d fit in (omega (arith, rest.0), rest.1)
 
 -- the test of each two rows
-abbrev pub is_apart : CaseRow → CaseRow → Bool
-is_apart a b = not (bit_and a.value b.mask == bit_and b.value a.mask)
+abbrev pub are_apart : CaseRow → CaseRow → Bool
+are_apart a b = not (bit_and a.value b.mask == bit_and b.value a.mask)
 
 abbrev pub all_apart : List CaseRow → Bool
 all_apart [] = true
-all_apart (r ∷ rs) = list_all (is_apart r) rs && all_apart rs
+all_apart (r ∷ rs) = list_all (are_apart r) rs && all_apart rs
 
 pub AllPairs-from_test : (rows : List CaseRow) → all_apart rows ≡ true → AllPairs AreApart rows
 AllPairs-from_test [] test = λ i j d before within. absurd (omega (arith, within))
 AllPairs-from_test (r ∷ rs) test =
     let both = and_parts _ _ test in
     AllPairs-cons AreApart r rs
-    (All-weaker (λ b. is_apart r b ≡ true) (AreApart r) (λ b h. eqb-false _ _ (not-true _ h)) rs (AllPass-from_list_all (is_apart r) rs both.0))
+    (All-weaker (λ b. are_apart r b ≡ true) (AreApart r) (λ b h. eqb-false _ _ (not-true _ h)) rs (AllPass-from_list_all (are_apart r) rs both.0))
     (AllPairs-from_test rs both.1)
 
 -- no word fits two places of a list whose rows are apart

@@ -10,7 +10,7 @@ use Rattle.rv_execute.specs.declared.action.Extension.{Extension}
 use Rattle.rv_execute.specs.declared.action.Size.{Size}
 use Rattle.rv_execute.specs.Registers.{Registers, next_pc, with_pc, with_register}
 use Rattle.rv_execute.specs.Calls.{Call, Fetch, access_of, fetch_at, load_at, store_at, word_at}
-use Rattle.rv_execute.specs.Execution.{Asks, Execution, Table, action_by, after, completed, count_of, decoded_by, effect, execution, execution_by, fault, fetch_effect_by, load_effect, rv64i, store_effect, word_effect}
+use Rattle.rv_execute.specs.Execution.{Asks, Execution, InstructionTable, action_by, after, completed, count_of, decoded_by, effect, execution, execution_by, fault, fetch_effect_by, load_effect, rv64i, store_effect, word_effect}
 
 -- Laws: the calls that an execution makes. Only the last may fail, and a request has made the fetch alone.
 
@@ -51,7 +51,7 @@ one_effect action.Next rd regs memory = NoCall
 one_effect action.Ask rd regs memory = NoCall
 one_effect action.Stop rd regs memory = NoCall
 
-one_decoded : (table : Table) (o : Option Instr) (regs : Registers) (memory : Memory) → AtMostOne (decoded_by table o regs memory).calls
+one_decoded : (table : InstructionTable) (o : Option Instr) (regs : Registers) (memory : Memory) → AtMostOne (decoded_by table o regs memory).calls
 one_decoded table None regs memory = NoCall
 one_decoded table (Some i) regs memory = one_effect (action_by table i regs) i.rd regs memory
 
@@ -59,12 +59,12 @@ behind_fetch : (memory : Memory) (c : Call) (calls : List Call) → denied_at me
 behind_fetch memory c calls may NoCall = OneTried c
 behind_fetch memory c calls may (OneCall d) = TwoTried c d may
 
-tried_fetch : (table : Table) (o : Option ℕ) (regs : Registers) (memory : Memory) → denied_at memory (fetch_at regs.pc) ≡ o → AreTried memory (Fetch regs.pc ∷ (fetch_effect_by table o regs memory).calls)
+tried_fetch : (table : InstructionTable) (o : Option ℕ) (regs : Registers) (memory : Memory) → denied_at memory (fetch_at regs.pc) ≡ o → AreTried memory (Fetch regs.pc ∷ (fetch_effect_by table o regs memory).calls)
 tried_fetch table (Some at) regs memory is = OneTried (Fetch regs.pc)
 tried_fetch table None regs memory is =
     behind_fetch memory (Fetch regs.pc) (word_effect table (word_at memory regs.pc) regs memory).calls is (one_decoded table (meaning_by table.has (word_at memory regs.pc)) regs memory)
 
-pub are_tried_by : (table : Table) (regs : Registers) (memory : Memory) → AreTried memory (execution_by table regs memory).calls
+pub are_tried_by : (table : InstructionTable) (regs : Registers) (memory : Memory) → AreTried memory (execution_by table regs memory).calls
 are_tried_by table regs memory = by_test (regs.pc % 4 == 0)
   where
     by_test : (b : Bool)
@@ -111,18 +111,18 @@ asks_effect action.Next rd regs memory is = cc
 asks_effect action.Ask rd regs memory is = record { calls = refl; kept = refl }
 asks_effect action.Stop rd regs memory is = cc
 
-asks_decoded : (table : Table) (o : Option Instr) (regs : Registers) (memory : Memory) → (decoded_by table o regs memory).upshot ≡ Asks → AsksAlone memory (decoded_by table o regs memory)
+asks_decoded : (table : InstructionTable) (o : Option Instr) (regs : Registers) (memory : Memory) → (decoded_by table o regs memory).upshot ≡ Asks → AsksAlone memory (decoded_by table o regs memory)
 asks_decoded table None regs memory is = cc
 asks_decoded table (Some i) regs memory is = asks_effect (action_by table i regs) i.rd regs memory is
 
-asks_fetch : (table : Table) (o : Option ℕ) (regs : Registers) (memory : Memory) → denied_at memory (fetch_at regs.pc) ≡ o → (fetch_effect_by table o regs memory).upshot ≡ Asks
+asks_fetch : (table : InstructionTable) (o : Option ℕ) (regs : Registers) (memory : Memory) → denied_at memory (fetch_at regs.pc) ≡ o → (fetch_effect_by table o regs memory).upshot ≡ Asks
     → IsRequested memory (after (Fetch regs.pc) (fetch_effect_by table o regs memory))
 asks_fetch table (Some at) regs memory may is = cc
 asks_fetch table None regs memory may is =
     let alone = asks_decoded table (meaning_by table.has (word_at memory regs.pc)) regs memory is in
     record { at = regs.pc; calls = ap (λ calls. Fetch regs.pc ∷ calls) alone.calls; may = may; kept = alone.kept }
 
-pub is_requested_by : (table : Table) (regs : Registers) (memory : Memory) → (execution_by table regs memory).upshot ≡ Asks → IsRequested memory (execution_by table regs memory)
+pub is_requested_by : (table : InstructionTable) (regs : Registers) (memory : Memory) → (execution_by table regs memory).upshot ≡ Asks → IsRequested memory (execution_by table regs memory)
 is_requested_by table regs memory = by_test (regs.pc % 4 == 0)
   where
     by_test : (b : Bool)

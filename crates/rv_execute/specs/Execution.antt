@@ -103,29 +103,29 @@ effect action.Stop rd regs memory = fault regs memory kind.Break regs.pc []
 
 -- A table of instructions: which names have a row in it, and what each row does with the value of rs1, that of rs2, the immediate as
 -- a number of 64 bits and pc.
-pub record Table : Type 0 where
+pub record InstructionTable : Type 0 where
   pub has : Name → Bool
   pub action : Name → ℕ → ℕ → ℕ → ℕ → Action
 
 -- that of RV64I
-abbrev pub rv64i : Table
+abbrev pub rv64i : InstructionTable
 rv64i = record { has = is_base; action = action_of }
 
 -- the action of an instruction on these registers
-abbrev pub action_by : Table → Instr → Registers → Action
+abbrev pub action_by : InstructionTable → Instr → Registers → Action
 action_by table i regs = table.action i.name (register regs i.rs1) (register regs i.rs2) (cast_unsigned w64 i.imm) regs.pc
 
 -- what follows where the word means this
-abbrev pub decoded_by : Table → Option Instr → Registers → Memory → Execution
+abbrev pub decoded_by : InstructionTable → Option Instr → Registers → Memory → Execution
 decoded_by table None regs memory = fault regs memory kind.Illegal regs.pc []
 decoded_by table (Some i) regs memory = effect (action_by table i regs) i.rd regs memory
 
 -- what follows where the fetch gave this word
-abbrev pub word_effect : Table → ℕ → Registers → Memory → Execution
+abbrev pub word_effect : InstructionTable → ℕ → Registers → Memory → Execution
 word_effect table word regs memory = decoded_by table (meaning_by table.has word) regs memory
 
 -- what follows where the fetch fails there, or doesn't
-abbrev pub fetch_effect_by : Table → Option ℕ → Registers → Memory → Execution
+abbrev pub fetch_effect_by : InstructionTable → Option ℕ → Registers → Memory → Execution
 fetch_effect_by table (Some address) regs memory = fault regs memory kind.Fetch address []
 fetch_effect_by table None regs memory = word_effect table (word_at memory regs.pc) regs memory
 
@@ -134,7 +134,7 @@ abbrev pub after : Call → Execution → Execution
 after call e = record { registers = e.registers; memory = e.memory; upshot = e.upshot; calls = call ∷ e.calls }
 
 -- In order: a pc that isn't a multiple of 4, the fetch, a word that means nothing by the table, and then the row's effect.
-abbrev pub execution_by : Table → Registers → Memory → Execution
+abbrev pub execution_by : InstructionTable → Registers → Memory → Execution
 execution_by table regs memory =
     if regs.pc % 4 == 0
     then after (Fetch regs.pc) (fetch_effect_by table (denied_at memory (fetch_at regs.pc)) regs memory)
