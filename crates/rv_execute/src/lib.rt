@@ -33,6 +33,7 @@ mod rows;
 mod tests;
 
 pub use action::{Action, Extension, Size};
+pub use arithmetic::extended_word;
 pub use instruction::{action_on, execute, execute_word, perform};
 pub use memory::{Denied, GuestMemory, Refused};
 pub use outcome::Outcome;
