@@ -1,24 +1,25 @@
 //! The lines and their instructions.
 
 ghost use Rattle.std.specs.Prelude.{◌≡◌, ◌+◌, ◌*◌, ◌/◌, ◌%◌, ◌<◌, ◌≤◌, ◌⊎◌, ◌≢◌, ℕ, [], IfOk, length, replicate, slice_index_or, slice_set, None};
-ghost use Rattle.decoded_lines.specs.Decoded.{AreFrom, AreOfLine};
+ghost use Rattle.decoded_lines.specs.Decoded.{AreFromBy, AreOfLine};
 ghost use Rattle.decoded_lines.specs.declared.TheConstants.{KEPT_LINES, LINE_WORDS};
 
 use crate::{KEPT_LINES, LINE_WORDS};
 use byteorder::{ByteOrder, LittleEndian};
-use rv_decode::{Instr, decode};
+use rv_decode::{Decoder, Instr, Rv64i};
 use std::alloc::{AllocError, Global};
-use std::marker::Model;
+use std::marker::{Model, PhantomData};
 
-/// Lines of 64 bytes in 256 slots, each with what its 16 words mean.
+/// Lines of 64 bytes in 256 slots, each with what its 16 words mean by a table.
 #[derive(Drop)]
-pub struct DecodedLines {
+pub struct DecodedLines<D: Decoder = Rv64i> {
     lines: Vec<[u8; 64]>,
     // those of a line one after the other
     instructions: Vec<Option<Instr>>,
+    table: PhantomData<D>,
 }
 
-impl Model for DecodedLines {
+impl<D: Decoder> Model for DecodedLines<D> {
     ghost use Rattle.std.specs.Prelude.{List, ℕ};
     ghost use Rattle.decoded_lines.specs.Decoded.{AreDecoded};
 
@@ -26,22 +27,24 @@ impl Model for DecodedLines {
 
     ghost view = { λ d. d.lines.items };
 
-    ghost invariant = { λ d. AreDecoded d.lines.items d.instructions.items };
+    ghost invariant = { λ d. AreDecoded D.has d.lines.items d.instructions.items };
 }
 
 /// Decodes the words of a line.
-fn decode_line(instructions: &mut Vec<Option<Instr>>, slot: usize, line: &[u8; 64])
+fn decode_line<D: Decoder>(instructions: &mut Vec<Option<Instr>>, slot: usize, line: &[u8; 64])
     requires slot { slot < KEPT_LINES }
     requires all { length instructions.old.items ≡ LINE_WORDS * KEPT_LINES }
     ensures all { length instructions.new.items ≡ length instructions.old.items }
-    ensures here { AreOfLine instructions.new.items slot line.now }
+    ensures here { AreOfLine D.has instructions.new.items slot line.now }
     ensures beside { (at : ℕ) → (at < LINE_WORDS * slot) ⊎ (LINE_WORDS * slot + LINE_WORDS ≤ at)
         → slice_index_or instructions.new.items at None ≡ slice_index_or instructions.old.items at None }
 {
     let mut place = 0;
     'decoding: while place < LINE_WORDS {
         let at = 4 * place;
-        instructions[LINE_WORDS * slot + place] = decode(LittleEndian::read_u32(&line[at..at + 4]));
+        instructions[LINE_WORDS * slot + place] = D::decode(LittleEndian::read_u32(
+            &line[at..at + 4],
+        ));
         place += 1;
     }
 }
@@ -57,14 +60,15 @@ fn zero_lines(alloc: Global) -> Result<Vec<[u8; 64]>, AllocError>
     Ok(lines)
 }
 
-impl DecodedLines {
+impl<D: Decoder> DecodedLines<D> {
     /// All lines are zero. Takes all the memory that they ever need, or answers the want of it.
-    pub fn new(alloc: Global) -> Result<DecodedLines, AllocError> {
+    pub fn new(alloc: Global) -> Result<DecodedLines<D>, AllocError> {
         let lines = zero_lines(alloc)?;
-        let instructions = vec![in alloc; decode(0); LINE_WORDS * KEPT_LINES]?;
+        let instructions = vec![in alloc; D::decode(0); LINE_WORDS * KEPT_LINES]?;
         Ok(DecodedLines {
             lines,
             instructions,
+            table: PhantomData,
         })
     }
 
@@ -89,7 +93,7 @@ impl DecodedLines {
         ensures { self.new ≡ slice_set self.old slot line.now }
     {
         self.lines[slot] = *line;
-        decode_line(&mut self.instructions, slot, line);
+        decode_line::<D>(&mut self.instructions, slot, line);
     }
 
     /// What words mean from one on, of which the number is told, to the end of its line: of the line that is kept for the number of
@@ -97,7 +101,7 @@ impl DecodedLines {
     #[inline]
     pub fn words_from(&self, word: u64) -> &[Option<Instr>]
         ensures count { word % LINE_WORDS + length result.now ≡ LINE_WORDS }
-        ensures words { AreFrom result.now (word % LINE_WORDS)
+        ensures words { AreFromBy D.has result.now (word % LINE_WORDS)
             (slice_index_or self.now (word / LINE_WORDS % KEPT_LINES) []) }
     {
         let place = (word % LINE_WORDS as u64) as usize;

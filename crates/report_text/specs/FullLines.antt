@@ -9,11 +9,13 @@ use Rattle.report_text.specs.declared.answer.Answer.TheVariants as answer
 use Rattle.report_text.specs.declared.answer.Code.{Code}
 use Rattle.report_text.specs.declared.answer.Stop.{Stop}
 use Rattle.report_text.specs.declared.answer.Stop.TheVariants as stop
+use Rattle.rv_decode.specs.declared.names.Name.{Name}
+use Rattle.rv_decode.specs.Table.{is_base}
 use Rattle.report_text.specs.Digits.{in_decimal, address_text, hex_places, word_text}
 use Rattle.report_text.specs.Names.{kind_text, code_text, stop_word}
 use Rattle.report_text.specs.Texts.{bytes_text, port_text, state_text, pages_text, dumped_text}
 use Rattle.report_text.specs.Instructions.{instruction_text}
-use Rattle.report_text.specs.Lines.{loaded_line, forked_line, saved_line, refused_line, full_line, wrote_line, exited_line, faulted_line, full_turn_line, break_line, ran_line, list_line, process_line, checkpoint_line, stats_line, regs_line, register_name, register_line, dump_line, disasm_line}
+use Rattle.report_text.specs.Lines.{loaded_line, forked_line, saved_line, refused_line, full_line, wrote_line, exited_line, faulted_line, full_turn_line, break_line, ran_line, list_line, process_line, checkpoint_line, stats_line, regs_line, register_name, register_line, dump_line, disasm_line, disasm_line_by}
 use Rattle.report_text.specs.Answers.{answer_text, turn_text, stop_text}
 
 -- Whether a line of a report begins with the word `full`, as those do that say that there weren't units enough.
@@ -138,8 +140,11 @@ ends_register i value = line (register_name i ++ codes " " ++ word_text value)
 pub ends_dump : (at : ℕ) (bytes : List ℕ) → EndsLine (dump_line at bytes)
 ends_dump at bytes = line (word_text at ++ dumped_text bytes)
 
+pub ends_disasm_by : (has : Name → Bool) (at word : ℕ) → EndsLine (disasm_line_by has at word)
+ends_disasm_by has at word = line (word_text at ++ codes " " ++ hex_places 8 word ++ codes " " ++ instruction_text has word)
+
 pub ends_disasm : (at word : ℕ) → EndsLine (disasm_line at word)
-ends_disasm at word = line (word_text at ++ codes " " ++ hex_places 8 word ++ codes " " ++ instruction_text word)
+ends_disasm = ends_disasm_by is_base
 
 -- Texts of answers, turns and endings are whole lines, or none.
 

@@ -1,70 +1,14 @@
-use Rattle.std.specs.Prelude.{ℕ, ◌%◌, ◌^◌, ◌==◌, ◌||◌, ℤ, pos, int_div, List, [], ◌++◌, Option, Some, None, codes, if◌then◌else◌}
+use Rattle.std.specs.Prelude.{ℕ, Bool, ◌%◌, ◌^◌, ◌==◌, ◌||◌, ℤ, pos, int_div, List, [], ◌++◌, Option, Some, None, codes, if◌then◌else◌}
 use Rattle.rv_decode.specs.declared.instruction.Instr.{Instr}
 use Rattle.rv_decode.specs.declared.names.Format.{Format}
 use Rattle.rv_decode.specs.declared.names.Format.TheVariants as format
 use Rattle.rv_decode.specs.declared.names.Name.{Name}
-use Rattle.rv_decode.specs.declared.names.Name.TheVariants as name
 use Rattle.rv_decode.specs.declared.rows.CaseRow.{CaseRow}
-use Rattle.rv_decode.specs.Meaning.{meaning}
-use Rattle.rv_decode.specs.Table.{row_of}
+use Rattle.rv_decode.specs.Meaning.{meaning_by}
+use Rattle.rv_decode.specs.Table.{row_of, text_of}
 use Rattle.report_text.specs.Digits.{in_decimal, signed_text}
 
 -- The text of a word as an instruction: the name of its row, and its operands by the row's format.
-
--- the name of a row, in lower case
-abbrev pub name_text : Name → List ℕ
-name_text name.Lui = codes "lui"
-name_text name.Auipc = codes "auipc"
-name_text name.Jal = codes "jal"
-name_text name.Jalr = codes "jalr"
-name_text name.Beq = codes "beq"
-name_text name.Bne = codes "bne"
-name_text name.Blt = codes "blt"
-name_text name.Bge = codes "bge"
-name_text name.Bltu = codes "bltu"
-name_text name.Bgeu = codes "bgeu"
-name_text name.Lb = codes "lb"
-name_text name.Lh = codes "lh"
-name_text name.Lw = codes "lw"
-name_text name.Ld = codes "ld"
-name_text name.Lbu = codes "lbu"
-name_text name.Lhu = codes "lhu"
-name_text name.Lwu = codes "lwu"
-name_text name.Sb = codes "sb"
-name_text name.Sh = codes "sh"
-name_text name.Sw = codes "sw"
-name_text name.Sd = codes "sd"
-name_text name.Addi = codes "addi"
-name_text name.Slti = codes "slti"
-name_text name.Sltiu = codes "sltiu"
-name_text name.Xori = codes "xori"
-name_text name.Ori = codes "ori"
-name_text name.Andi = codes "andi"
-name_text name.Slli = codes "slli"
-name_text name.Srli = codes "srli"
-name_text name.Srai = codes "srai"
-name_text name.Add = codes "add"
-name_text name.Sub = codes "sub"
-name_text name.Sll = codes "sll"
-name_text name.Slt = codes "slt"
-name_text name.Sltu = codes "sltu"
-name_text name.Xor = codes "xor"
-name_text name.Srl = codes "srl"
-name_text name.Sra = codes "sra"
-name_text name.Or = codes "or"
-name_text name.And = codes "and"
-name_text name.Addiw = codes "addiw"
-name_text name.Slliw = codes "slliw"
-name_text name.Srliw = codes "srliw"
-name_text name.Sraiw = codes "sraiw"
-name_text name.Addw = codes "addw"
-name_text name.Subw = codes "subw"
-name_text name.Sllw = codes "sllw"
-name_text name.Srlw = codes "srlw"
-name_text name.Sraw = codes "sraw"
-name_text name.Fence = codes "fence"
-name_text name.Ecall = codes "ecall"
-name_text name.Ebreak = codes "ebreak"
 
 -- a register, by its number
 abbrev pub register_text : ℕ → List ℕ
@@ -116,7 +60,8 @@ operands_text row i = operands_by row.format row i
 -- what a word means
 abbrev pub meaning_text : Option Instr → List ℕ
 meaning_text None = codes "illegal"
-meaning_text (Some i) = name_text i.name ++ operands_text (row_of i.name) i
+meaning_text (Some i) = text_of i.name ++ operands_text (row_of i.name) i
 
-unfoldable pub instruction_text : ℕ → List ℕ
-instruction_text word = meaning_text (meaning word)
+-- by the table of these names
+unfoldable pub instruction_text : (Name → Bool) → ℕ → List ℕ
+instruction_text has word = meaning_text (meaning_by has word)

@@ -3,6 +3,8 @@ use Rattle.ovl_io.specs.declared.process_state.FaultKind.{FaultKind}
 use Rattle.ovl_io.specs.declared.process_state.ProcessState.{ProcessState}
 use Rattle.report_text.specs.declared.answer.Code.{Code}
 use Rattle.report_text.specs.declared.answer.Stop.{Stop}
+use Rattle.rv_decode.specs.declared.names.Name.{Name}
+use Rattle.rv_decode.specs.Table.{is_base}
 use Rattle.report_text.specs.Digits.{in_decimal, address_text, hex_places, word_text}
 use Rattle.report_text.specs.Names.{kind_text, code_text, stop_word}
 use Rattle.report_text.specs.Texts.{bytes_text, port_text, state_text, pages_text, dumped_text}
@@ -95,5 +97,9 @@ abbrev pub dump_line : ℕ → List ℕ → List ℕ
 dump_line at bytes = word_text at ++ dumped_text bytes ++ codes "\n"
 
 -- a word of memory as an instruction: its address, the word, and what it means
+abbrev pub disasm_line_by : (Name → Bool) → ℕ → ℕ → List ℕ
+disasm_line_by has at word = word_text at ++ codes " " ++ hex_places 8 word ++ codes " " ++ instruction_text has word ++ codes "\n"
+
+-- by the table of RV64I
 abbrev pub disasm_line : ℕ → ℕ → List ℕ
-disasm_line at word = word_text at ++ codes " " ++ hex_places 8 word ++ codes " " ++ instruction_text word ++ codes "\n"
+disasm_line at word = disasm_line_by is_base at word

@@ -1,75 +1,14 @@
 //! The text of a word of memory as an instruction. The opcode of a row is bits 0 to 6 of its word, as in the table
 //! "RISC-V base opcode map" of the RISC-V Unprivileged ISA manual.
 
-ghost use Rattle.std.specs.Prelude.{◌≡◌, ◌+◌, ◌≤◌, ◌++◌, length};
+ghost use Rattle.std.specs.Prelude.{◌≡◌, ◌+◌, ◌≤◌, ◌++◌};
 ghost use Rattle.arrayvec.specs.ArrayVec.{array_vec_len};
 ghost use Rattle.rv_decode.specs.Table.{row_of};
-ghost use Rattle.report_text.specs.Instructions.{name_text, register_text, three_registers_text, two_registers_text, offset_text, one_register_text, opcode, i_operands, operands_text, instruction_text};
+ghost use Rattle.report_text.specs.Instructions.{register_text, three_registers_text, two_registers_text, offset_text, one_register_text, opcode, i_operands, operands_text, instruction_text};
 
 use crate::push::{push_decimal, push_signed, push_text};
 use crate::{LINE_ROOM, Line};
-use rv_decode::{CaseRow, Format, Instr, Name, decode};
-
-/// The name of an instruction, in lower case.
-fn name_text(name: Name) -> &'static [u8]
-    ensures text { result.now ≡ name_text name }
-    ensures short { length result.now ≤ 8 }
-{
-    match name {
-        Name::Lui => b"lui",
-        Name::Auipc => b"auipc",
-        Name::Jal => b"jal",
-        Name::Jalr => b"jalr",
-        Name::Beq => b"beq",
-        Name::Bne => b"bne",
-        Name::Blt => b"blt",
-        Name::Bge => b"bge",
-        Name::Bltu => b"bltu",
-        Name::Bgeu => b"bgeu",
-        Name::Lb => b"lb",
-        Name::Lh => b"lh",
-        Name::Lw => b"lw",
-        Name::Ld => b"ld",
-        Name::Lbu => b"lbu",
-        Name::Lhu => b"lhu",
-        Name::Lwu => b"lwu",
-        Name::Sb => b"sb",
-        Name::Sh => b"sh",
-        Name::Sw => b"sw",
-        Name::Sd => b"sd",
-        Name::Addi => b"addi",
-        Name::Slti => b"slti",
-        Name::Sltiu => b"sltiu",
-        Name::Xori => b"xori",
-        Name::Ori => b"ori",
-        Name::Andi => b"andi",
-        Name::Slli => b"slli",
-        Name::Srli => b"srli",
-        Name::Srai => b"srai",
-        Name::Add => b"add",
-        Name::Sub => b"sub",
-        Name::Sll => b"sll",
-        Name::Slt => b"slt",
-        Name::Sltu => b"sltu",
-        Name::Xor => b"xor",
-        Name::Srl => b"srl",
-        Name::Sra => b"sra",
-        Name::Or => b"or",
-        Name::And => b"and",
-        Name::Addiw => b"addiw",
-        Name::Slliw => b"slliw",
-        Name::Srliw => b"srliw",
-        Name::Sraiw => b"sraiw",
-        Name::Addw => b"addw",
-        Name::Subw => b"subw",
-        Name::Sllw => b"sllw",
-        Name::Srlw => b"srlw",
-        Name::Sraw => b"sraw",
-        Name::Fence => b"fence",
-        Name::Ecall => b"ecall",
-        Name::Ebreak => b"ebreak",
-    }
-}
+use rv_decode::{CaseRow, Decoder, Format, Instr};
 
 /// A register, by its number.
 fn push_register(line: &mut Line, n: u8)
@@ -178,16 +117,16 @@ fn push_operands(line: &mut Line, row: CaseRow, i: Instr)
     }
 }
 
-/// A word as an instruction.
+/// A word as an instruction, by a table.
 #[tactic(auto, unfolding(crate::specs::Instructions::instruction_text))]
-pub(crate) fn push_instruction(line: &mut Line, word: u32)
+pub(crate) fn push_instruction<D: Decoder>(line: &mut Line, word: u32)
     requires { array_vec_len line.old + 128 ≤ LINE_ROOM }
-    ensures text { line.new.items ≡ line.old.items ++ instruction_text word }
+    ensures text { line.new.items ≡ line.old.items ++ instruction_text D.has word }
     ensures len { array_vec_len line.new ≤ array_vec_len line.old + 128 }
 {
-    match decode(word) {
+    match D::decode(word) {
         Some(i) => {
-            push_text(line, name_text(i.name));
+            push_text(line, i.name.text());
             push_operands(line, i.name.row(), i);
         }
         None => push_text(line, b"illegal"),

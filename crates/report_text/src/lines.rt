@@ -1,6 +1,6 @@
 ghost use Rattle.std.specs.Prelude.{◌≡◌, ◌+◌, ◌*◌, ◌==◌, ◌||◌, ◌≤◌, ◌++◌, length, IsTrue};
 ghost use Rattle.arrayvec.specs.ArrayVec.{array_vec_len};
-ghost use Rattle.report_text.specs.Lines.{loaded_line, forked_line, saved_line, refused_line, full_line, bad_line, wrote_line, exited_line, faulted_line, full_turn_line, break_line, ran_line, list_line, process_line, checkpoint_line, stats_line, regs_line, register_name, register_line, dump_line, disasm_line};
+ghost use Rattle.report_text.specs.Lines.{loaded_line, forked_line, saved_line, refused_line, full_line, bad_line, wrote_line, exited_line, faulted_line, full_turn_line, break_line, ran_line, list_line, process_line, checkpoint_line, stats_line, regs_line, register_name, register_line, dump_line, disasm_line_by};
 ghost use Rattle.report_text.specs.Answers.{IsCheckpointName, HasCodeLine};
 
 use crate::instructions::push_instruction;
@@ -10,6 +10,7 @@ use crate::push::{
 };
 use crate::{Code, LINE_ROOM, Line, ROW_BYTES, Stop};
 use ovl_io::{FaultKind, ProcessState};
+use rv_decode::Decoder;
 
 // One function a line, in the order of their definitions. Each puts its line at the end of `line`.
 
@@ -292,16 +293,16 @@ pub(crate) fn put_dump(line: &mut Line, address: u64, bytes: &[u8])
     push_text(line, b"\n");
 }
 
-/// A word of memory as an instruction.
-pub(crate) fn put_disasm(line: &mut Line, address: u64, word: u32)
+/// A word of memory as an instruction, by a table.
+pub(crate) fn put_disasm<D: Decoder>(line: &mut Line, address: u64, word: u32)
     requires { array_vec_len line.old + 256 ≤ LINE_ROOM }
-    ensures text { line.new.items ≡ line.old.items ++ disasm_line address word }
+    ensures text { line.new.items ≡ line.old.items ++ disasm_line_by D.has address word }
     ensures len { array_vec_len line.new ≤ array_vec_len line.old + 256 }
 {
     push_word(line, address);
     push_text(line, b" ");
     push_places(line, u64::from(word), 8);
     push_text(line, b" ");
-    push_instruction(line, word);
+    push_instruction::<D>(line, word);
     push_text(line, b"\n");
 }

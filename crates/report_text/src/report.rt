@@ -1,5 +1,6 @@
 ghost use Rattle.std.specs.Prelude.{◌≡◌, ◌<◌, ◌≤◌, length};
-ghost use Rattle.report_text.specs.Lines.{bad_line, list_line, process_line, checkpoint_line, stats_line, regs_line, register_line, dump_line, disasm_line};
+ghost use Rattle.report_text.specs.Lines.{bad_line, list_line, process_line, checkpoint_line, stats_line, regs_line, register_line, dump_line, disasm_line, disasm_line_by};
+ghost use Rattle.rv_mul.specs.Tables.{is_any};
 ghost use Rattle.report_text.specs.Answers.{HasAnswerLine, HasPort, IsCheckpointName, answer_text, turn_text, has_turn_line, stop_text};
 
 use crate::lines::{
@@ -10,6 +11,8 @@ use crate::lines::{
 use crate::push::push_text;
 use crate::{Answer, Line, ROW_BYTES, Stop};
 use ovl_io::{Bytes, ProcessState, Turn};
+use rv_decode::Rv64i;
+use rv_mul::Rv64im;
 
 /// The line of an answer. Want of memory has none, and a checkpoint's name has 1 to 32 bytes.
 pub fn answer_line(a: &Answer, out: &mut Line)
@@ -126,10 +129,18 @@ pub fn dump_line(address: u64, bytes: &[u8], out: &mut Line)
     put_dump(out, address, bytes);
 }
 
-/// A word of memory at an address, and what it means as an instruction.
+/// A word of memory at an address, and what it means as an instruction of RV64I.
 pub fn disasm_line(address: u64, word: u32, out: &mut Line)
     ensures { out.new.items ≡ disasm_line address word }
 {
     out.clear();
-    put_disasm(out, address, word);
+    put_disasm::<Rv64i>(out, address, word);
+}
+
+/// The same of RV64I and its extension M.
+pub fn disasm_m_line(address: u64, word: u32, out: &mut Line)
+    ensures { out.new.items ≡ disasm_line_by is_any address word }
+{
+    out.clear();
+    put_disasm::<Rv64im>(out, address, word);
 }

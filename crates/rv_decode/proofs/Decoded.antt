@@ -1,6 +1,6 @@
 -- What a word means has a word: its fields lie in the ranges of its format.
 use Rattle.std.proofs.Common.{ℕ, ◌+◌, ◌*◌, ◌<◌, ◌^◌, Option, Some, None, refl, sym, subst, arith}
-use Rattle.std.specs.Prelude.{IfSome}
+use Rattle.std.specs.Prelude.{Bool, IfSome, IsTrue}
 use Rattle.std.proofs.lemmas.Int.{ints}
 use Rattle.rv_decode.specs.declared.instruction.Instr.{Instr}
 use Rattle.rv_decode.specs.declared.names.Format.{Format}
@@ -8,7 +8,7 @@ use Rattle.rv_decode.specs.declared.names.Format.TheVariants.{R, I, S, B, U, J, 
 use Rattle.rv_decode.specs.declared.names.Name.{Name}
 use Rattle.rv_decode.specs.Table.{row_of}
 use Rattle.rv_decode.specs.Fields.{field, imm_of, instr_in, instr_of}
-use Rattle.rv_decode.specs.Encodable.{HasRegisters, HasImmediate, IsEncodable}
+use Rattle.rv_decode.specs.Encodable.{HasRegisters, HasImmediate, IsEncodableBy}
 use Rattle.rv_decode.specs.Meaning.{Means}
 use Rattle.rv_decode.proofs.Signed.{extended-range, extended-even, extended-multiple}
 
@@ -43,12 +43,14 @@ immediate_by H6 word = (omega (arith, ints), omega (arith, ints))
 immediate_by H5 word = (omega (arith, ints), omega (arith, ints))
 immediate_by N word = refl
 
-encodable_by : (name : Name) (word : ℕ) → IsEncodable (instr_of name word)
-encodable_by name word = record {
+encodable_by : (among : Name → Bool) (name : Name) (word : ℕ) → IsTrue (among name) → IsEncodableBy among (instr_of name word)
+encodable_by among name word listed = record {
+  listed = listed;
   registers = registers_by (row_of name).format name word;
   immediate = immediate_by (row_of name).format word;
 }
 
-pub decoded_encodable : (word : ℕ) (o : Option Instr) → Means word o → IfSome o IsEncodable
-decoded_encodable word None none = tt
-decoded_encodable word (Some i) m = subst IsEncodable (sym m.is) (encodable_by m.name word)
+pub means_encodable : (among : Name → Bool) (word : ℕ) (o : Option Instr) → Means among word o → IfSome o (IsEncodableBy among)
+means_encodable among word None none = tt
+means_encodable among word (Some i) (listed, m) =
+    subst (IsEncodableBy among) (sym m.is) (encodable_by among m.name word (subst (λ (x : Instr). IsTrue (among x.name)) m.is listed))

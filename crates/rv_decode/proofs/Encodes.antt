@@ -10,10 +10,10 @@ use Rattle.rv_decode.specs.declared.rows.CaseRow.{CaseRow}
 use Rattle.rv_decode.specs.Table.{row_of}
 use Rattle.rv_decode.specs.Fields.{field, sign_extended, imm_of, instr_in}
 use Rattle.rv_decode.specs.Meaning.{MeansInstr}
-use Rattle.rv_decode.specs.Encodable.{HasRegisters, HasImmediate, IsEncodable}
+use Rattle.rv_decode.specs.Encodable.{HasRegisters, HasImmediate}
 use Rattle.rv_decode.specs.Encoding.{bits_of, register_bits, immediate_of}
 use Rattle.rv_decode.proofs.Masks.{opcode_bits, funct3_bits, funct6_bits, funct7_bits, whole_word}
-use Rattle.rv_decode.proofs.NoneFits.{each_name}
+use Rattle.rv_decode.specs.TableLaws.{each_name}
 use Rattle.rv_decode.proofs.Words.{IsWordOf}
 use Rattle.rv_decode.proofs.WordsByFormat.{word_R, word_I, word_S, word_B, word_U, word_J, word_H6, word_H5, word_N}
 use Rattle.rv_decode.proofs.Signed.{complement-extended}
@@ -93,22 +93,23 @@ value_below name = ltb-true _ _ (and_parts _ _ (and_parts _ _ (each_name is_shap
 abbrev pub sum_of : Instr → ℕ
 sum_of i = (row_of i.name).value + register_bits i + immediate_of (row_of i.name).format i.imm
 
-is_word : (i : Instr) → IsEncodable i → IsWordOf (row_of i.name).format (mask_of (row_of i.name).format) (row_of i.name).value i (sum_of i)
-is_word i ok =
-    let row = row_of i.name in
-    word_by row.format row.value (sum_of i) i (value_below i.name)
-    (ap (bit_and row.value) (sym (mask-row_of i.name)) ∙ value-row_of i.name)
-    ok.registers ok.immediate refl
+module _ (i : Instr) (registers : HasRegisters (row_of i.name).format i) (imm : HasImmediate (row_of i.name).format i.imm) where
+  is_word : IsWordOf (row_of i.name).format (mask_of (row_of i.name).format) (row_of i.name).value i (sum_of i)
+  is_word =
+      let row = row_of i.name in
+      word_by row.format row.value (sum_of i) i (value_below i.name)
+      (ap (bit_and row.value) (sym (mask-row_of i.name)) ∙ value-row_of i.name)
+      registers imm refl
 
-pub sum_below : (i : Instr) → IsEncodable i → sum_of i < 2 ^ 32
-sum_below i ok = (is_word i ok).below
+  pub sum_below : sum_of i < 2 ^ 32
+  sum_below = is_word.below
 
-pub means-sum : (i : Instr) → IsEncodable i → MeansInstr (sum_of i) i
-means-sum i ok = record {
-  name = i.name;
-  fits = ap (bit_and (sum_of i)) (mask-row_of i.name) ∙ (is_word i ok).masked;
-  is = (is_word i ok).fields;
-}
+  pub means-sum : MeansInstr (sum_of i) i
+  means-sum = record {
+    name = i.name;
+    fits = ap (bit_and (sum_of i)) (mask-row_of i.name) ∙ is_word.masked;
+    is = is_word.fields;
+  }
 
 -- a word is the sum of what it means
 pub sum-means : (i : Instr) (word : ℕ) → word < 2 ^ 32 → MeansInstr word i → sum_of i ≡ word

@@ -1,9 +1,7 @@
-pub mod Listed
 pub mod Masks
 pub mod NoneFits
 pub mod MeansInstr
 pub mod Apart
-pub mod MeaningIs
 pub mod Words
 pub mod Signed
 pub mod WordsByFormat

@@ -1,31 +1,16 @@
 -- That no row fits a word, by a test over the table: some bits of the word are known, and they differ from the row's in
 -- bits that the row fixes, or the row is among a few that are known not to fit.
-use Rattle.std.proofs.Common.{◌≡◌, ℕ, ◌==◌, Bool, true, false, List, [], ◌∷◌, bit_and, sym, ◌∙◌, ap, inl, inr}
+use Rattle.std.proofs.Common.{◌≡◌, ℕ, ◌==◌, Bool, true, false, List, [], ◌∷◌, bit_and, sym, ◌∙◌, ap, inl, inr, None}
 use Rattle.std.specs.Prelude.{◌||◌, ◌&&◌, not}
 use Rattle.std.specs.List.{list_all}
 use Rattle.std.proofs.lemmas.Bool.{false≢true, eqb-true, eqb-false, not-true, and_parts, or_cases}
-use Rattle.std.proofs.lemmas.Nat.{and_assoc, and_comm}
-use Rattle.std.proofs.lemmas.List.Elements.{All-contains}
-use Rattle.std.proofs.lemmas.List.Sums.{AllPass-from_list_all}
+use Rattle.std.proofs.lemmas.Nat.{and_assoc}
 use Rattle.rv_decode.specs.declared.names.Name.{Name}
 use Rattle.rv_decode.specs.declared.rows.CaseRow.{CaseRow}
 use Rattle.rv_decode.specs.Table.{row_of, all_names}
 use Rattle.rv_decode.specs.Fits.{FitsRow}
-use Rattle.rv_decode.proofs.Listed.{all_names-contains}
-
--- a test that passes along the table passes at each name
-pub each_name : (test : Name → Bool) → list_all test all_names ≡ true → (name : Name) → test name ≡ true
-each_name test all name =
-    All-contains (λ n. test n ≡ true) all_names name (AllPass-from_list_all test all_names all) (all_names-contains name)
-
--- two masks of one word are taken in either order
-pub and_swap : (w a b : ℕ) → bit_and (bit_and w a) b ≡ bit_and (bit_and w b) a
-and_swap w a b = and_assoc b w a ∙ ap (bit_and w) (and_comm a b) ∙ sym (and_assoc a w b)
-
--- a row that fits agrees with the word's known bits wherever the row fixes them
-pub known_bits : (word mask key : ℕ) (row : CaseRow) → bit_and word mask ≡ key → FitsRow row word → bit_and row.value mask ≡ bit_and key row.mask
-known_bits word mask key row known fit =
-    ap (λ x. bit_and x mask) (sym fit) ∙ and_swap word row.mask mask ∙ ap (λ x. bit_and x row.mask) known
+use Rattle.rv_decode.specs.Meaning.{Means}
+use Rattle.rv_decode.specs.TableLaws.{each_name, known_bits}
 
 -- none of these pairs of a mask and a value is met by the word
 abbrev pub NoneOf : ℕ → List (ℕ × ℕ) → Type 0
@@ -53,14 +38,17 @@ none_of_at word row (p ∷ ps) none among fit =
       | inr later ↦ none_of_at word row ps none.1 later fit
     ]
 
--- the row contradicts the known bits, or implies a pair that the word does not meet
-abbrev pub is_out : ℕ → ℕ → List (ℕ × ℕ) → Name → Bool
-is_out mask key ps name =
-    not (bit_and (row_of name).value mask == bit_and key (row_of name).mask) || implies_some (row_of name) ps
+-- the row isn't the table's, contradicts the known bits, or implies a pair that the word does not meet
+abbrev pub is_out : (Name → Bool) → ℕ → ℕ → List (ℕ × ℕ) → Name → Bool
+is_out among mask key ps name =
+    not (among name) || (not (bit_and (row_of name).value mask == bit_and key (row_of name).mask) || implies_some (row_of name) ps)
 
-pub none_fits : (word mask key : ℕ) (ps : List (ℕ × ℕ)) → list_all (is_out mask key ps) all_names ≡ true → bit_and word mask ≡ key → NoneOf word ps → (name : Name) → FitsRow (row_of name) word → ⊥
-none_fits word mask key ps test known none name fit =
-    elim (or_cases _ _ (each_name (is_out mask key ps) test name)) [
-      | inl differs ↦ eqb-false _ _ (not-true _ differs) (known_bits word mask key (row_of name) known fit)
-      | inr among ↦ none_of_at word (row_of name) ps none among fit
+pub none_fits : (among : Name → Bool) (word mask key : ℕ) (ps : List (ℕ × ℕ)) → list_all (is_out among mask key ps) all_names ≡ true → bit_and word mask ≡ key → NoneOf word ps → Means among word None
+none_fits among word mask key ps test known none name listed fit =
+    elim (or_cases _ _ (each_name (is_out among mask key ps) test name)) [
+      | inl other ↦ false≢true (sym (not-true _ other) ∙ listed)
+      | inr out ↦ elim (or_cases _ _ out) [
+        | inl differs ↦ eqb-false _ _ (not-true _ differs) (known_bits word mask key (row_of name) known fit)
+        | inr some ↦ none_of_at word (row_of name) ps none some fit
+      ]
     ]

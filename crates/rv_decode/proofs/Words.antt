@@ -26,9 +26,6 @@ parts-word_of word op rd f3 rs1 rs2 f7 a b c d e f is = record {
   funct7_is = omega arith;
 }
 
-pub word_of-parts : (word : ℕ) → word < 2 ^ 32 → word ≡ word_of (word % 2 ^ 7) (field word 7 5) (field word 12 3) (field word 15 5) (field word 20 5) (field word 25 7)
-word_of-parts word fits = omega arith
-
 -- the word has the fixed bits `value`, and the fields of i
 pub record IsWordOf (format : Format) (mask value : ℕ) (i : Instr) (word : ℕ) : Type 0 where
   pub below : word < 2 ^ 32

@@ -1,10 +1,11 @@
 -- Which instructions have a word: the ranges of the fields and of the immediate, by format. RISC-V Unprivileged ISA
 -- manual, chapter "RV32I Base Integer Instruction Set", section "Immediate Encoding Variants".
-use Rattle.std.specs.Prelude.{◌≡◌, ℕ, ◌<◌, ◌^◌, ℤ, pos, neg_ℤ, ◌≤ℤ◌, ◌<ℤ◌, int_rem}
+use Rattle.std.specs.Prelude.{◌≡◌, ℕ, ◌<◌, ◌^◌, ℤ, pos, neg_ℤ, ◌≤ℤ◌, ◌<ℤ◌, int_rem, Bool, IsTrue}
 use Rattle.rv_decode.specs.declared.instruction.Instr.{Instr}
 use Rattle.rv_decode.specs.declared.names.Format.{Format}
 use Rattle.rv_decode.specs.declared.names.Format.TheVariants.{R, I, S, B, U, J, H6, H5, N}
-use Rattle.rv_decode.specs.Table.{row_of}
+use Rattle.rv_decode.specs.declared.names.Name.{Name}
+use Rattle.rv_decode.specs.Table.{row_of, is_base}
 
 -- registers that are there, below 32, and those that are not, 0
 abbrev pub HasRegisters : Format → Instr → Type 0
@@ -35,7 +36,12 @@ HasImmediate H5 imm = (pos 0 ≤ℤ imm) × (imm <ℤ pos 32)
 HasImmediate R imm = imm ≡ pos 0
 HasImmediate N imm = imm ≡ pos 0
 
--- an instruction that has a word
-pub record IsEncodable (i : Instr) : Type 0 where
+-- an instruction that has a word by a table
+pub record IsEncodableBy (among : Name → Bool) (i : Instr) : Type 0 where
+  pub listed : IsTrue (among i.name)
   pub registers : HasRegisters (row_of i.name).format i
   pub immediate : HasImmediate (row_of i.name).format i.imm
+
+-- by the table of RV64I
+abbrev pub IsEncodable : Instr → Type 0
+IsEncodable i = IsEncodableBy is_base i

@@ -4,3 +4,5 @@ pub mod Fields
 pub mod Meaning
 pub mod Encodable
 pub mod Encoding
+pub mod TableLaws
+pub mod MeaningLaws

@@ -2,6 +2,7 @@
 
 ghost use Rattle.std.specs.Prelude.{◌≡◌, IfSome};
 ghost use Rattle.rv_decode.specs.Encodable.{IsEncodable};
+ghost use Rattle.rv_decode.specs.Table.{is_base};
 ghost use Rattle.rv_decode.specs.Meaning.{Means, meaning};
 
 use crate::fields::{b_format, i_format, j_format, n_format, r_format, s_format, u_format};
@@ -12,11 +13,11 @@ use crate::groups::{
 use crate::instruction::Instr;
 use crate::names::Name;
 
-/// What the word means by the table.
+/// What the word means by the table of RV64I.
 #[inline(always)]
 #[tactic(auto, using(crate::proofs::MeansInstr::means_instr))]
 fn by_opcode(word: u32) -> Option<Instr>
-    ensures { Means word result }
+    ensures { Means is_base word result }
 {
     match word & 0x7F {
         0x37 => Some(u_format(Name::Lui, word)),
@@ -36,12 +37,12 @@ fn by_opcode(word: u32) -> Option<Instr>
     }
 }
 
-/// What the word is: no instruction exactly where no row of the table fits it, and else the one instruction whose row
+/// What the word is: no instruction exactly where no row of RV64I fits it, and else the one instruction whose row
 /// fits, with the fields of its format.
 #[inline(always)]
-#[tactic(auto, using(crate::proofs::MeaningIs::meaning_is, crate::proofs::Decoded::decoded_encodable))]
+#[tactic(auto, using(crate::specs::MeaningLaws::meaning_is, crate::proofs::Decoded::means_encodable))]
 pub fn decode(word: u32) -> Option<Instr>
-    ensures exact { Means word result }
+    ensures exact { Means is_base word result }
     ensures looked_up { result ≡ meaning word }
     ensures encodable { IfSome result IsEncodable }
 {

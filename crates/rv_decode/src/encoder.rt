@@ -1,20 +1,31 @@
 //! The encoder: the word of an instruction.
 
 ghost use Rattle.std.specs.Prelude.{◌≡◌, ℕ, ◌-◌, ◌^◌, ◌<◌, ◌≤◌, Some};
-ghost use Rattle.rv_decode.specs.Meaning.{Means, meaning};
-ghost use Rattle.rv_decode.specs.Encodable.{IsEncodable, IsSignedBelow, HasImmediate};
+ghost use Rattle.rv_decode.specs.Table.{is_base, row_of};
+ghost use Rattle.rv_decode.specs.Meaning.{Means, MeansInstr, meaning};
+ghost use Rattle.rv_decode.specs.Encodable.{IsEncodable, IsSignedBelow, HasImmediate, HasRegisters};
 ghost use Rattle.rv_decode.specs.Encoding.{bits_of, register_bits, immediate_of, store_bits, branch_bits, jump_bits};
 
 use crate::instruction::Instr;
 use crate::names::Format;
 
-/// The word of an instruction whose fields have a place in its format: the one word that means it, which `decode` makes the
+/// The word of an instruction of RV64I whose fields have a place in its format: the one word that means it, which `decode` makes the
 /// instruction of again.
 pub fn encode(i: &Instr) -> u32
     requires { IsEncodable i.now }
-    ensures meaning { Means result (Some i.now) }
+    ensures meaning { Means is_base result (Some i.now) }
     ensures decoded { meaning result ≡ Some i.now }
-    ensures only { (word : ℕ) → word < 2 ^ 32 → Means word (Some i.now) → result ≡ word }
+    ensures only { (word : ℕ) → word < 2 ^ 32 → Means is_base word (Some i.now) → result ≡ word }
+{
+    word_of(i)
+}
+
+/// The one word that fits the row of an instruction's name, in whatever table that is, and has the instruction's fields.
+pub fn word_of(i: &Instr) -> u32
+    requires registers { HasRegisters (row_of i.now.name).format i.now }
+    requires immediate { HasImmediate (row_of i.now.name).format i.now.imm }
+    ensures meaning { MeansInstr result i.now }
+    ensures only { (word : ℕ) → word < 2 ^ 32 → MeansInstr word i.now → result ≡ word }
 {
     let row = i.name.row();
     row.value + registers(i) + immediate(row.format, i.imm)

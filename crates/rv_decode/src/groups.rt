@@ -3,6 +3,7 @@
 
 ghost use Rattle.std.specs.Prelude.{◌≡◌, bit_and};
 ghost use Rattle.rv_decode.specs.declared.names.Format.TheVariants.{R, I, S, B, H6, H5, N};
+ghost use Rattle.rv_decode.specs.Table.{is_base};
 ghost use Rattle.rv_decode.specs.Meaning.{Names, Means};
 
 use crate::fields::{h5_format, h6_format, i_format};
@@ -188,7 +189,7 @@ fn right_shift_word(word: u32) -> Option<Name>
 #[tactic(auto, using(crate::proofs::MeansInstr::means_instr))]
 pub fn immediate(word: u32) -> Option<Instr>
     requires { bit_and word 0x7F ≡ 0x13 }
-    ensures { Means word result }
+    ensures { Means is_base word result }
 {
     match word & 0x707F {
         0x0013 => Some(i_format(Name::Addi, word)),
@@ -208,7 +209,7 @@ pub fn immediate(word: u32) -> Option<Instr>
 #[tactic(auto, using(crate::proofs::MeansInstr::means_instr))]
 pub fn immediate_word(word: u32) -> Option<Instr>
     requires { bit_and word 0x7F ≡ 0x1B }
-    ensures { Means word result }
+    ensures { Means is_base word result }
 {
     match word & 0x707F {
         0x001B => Some(i_format(Name::Addiw, word)),

@@ -1,6 +1,7 @@
 //! The names of the instructions, and the formats of their words.
 
-/// The 52 instructions of RV64I, in the order of the instruction table.
+/// The 52 instructions of RV64I, in the order of the instruction table, and the 13 of its extension M, which have a table of their
+/// own.
 #[derive(Clone, Copy, Debug, PartialEq, Eq)]
 pub enum Name {
     Lui,
@@ -55,6 +56,19 @@ pub enum Name {
     Fence,
     Ecall,
     Ebreak,
+    Mul,
+    Mulh,
+    Mulhsu,
+    Mulhu,
+    Div,
+    Divu,
+    Rem,
+    Remu,
+    Mulw,
+    Divw,
+    Divuw,
+    Remw,
+    Remuw,
 }
 
 /// Which fields a word has, and where its immediate stands.

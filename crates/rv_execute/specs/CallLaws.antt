@@ -3,14 +3,14 @@ use Rattle.std.proofs.Common.{ap}
 use Rattle.ovl_io.specs.Memory.{Memory, denied_at}
 use Rattle.ovl_io.specs.declared.process_state.FaultKind.TheVariants as kind
 use Rattle.rv_decode.specs.declared.instruction.Instr.{Instr}
-use Rattle.rv_decode.specs.Meaning.{meaning}
+use Rattle.rv_decode.specs.Meaning.{meaning_by}
 use Rattle.rv_execute.specs.declared.action.Action.{Action}
 use Rattle.rv_execute.specs.declared.action.Action.TheVariants as action
 use Rattle.rv_execute.specs.declared.action.Extension.{Extension}
 use Rattle.rv_execute.specs.declared.action.Size.{Size}
 use Rattle.rv_execute.specs.Registers.{Registers, next_pc, with_pc, with_register}
 use Rattle.rv_execute.specs.Calls.{Call, Fetch, access_of, fetch_at, load_at, store_at, word_at}
-use Rattle.rv_execute.specs.Execution.{Asks, Execution, action_on, after, completed, count_of, decoded, effect, execution, fault, fetch_effect, load_effect, store_effect}
+use Rattle.rv_execute.specs.Execution.{Asks, Execution, InstructionTable, action_by, after, completed, count_of, decoded_by, effect, execution, execution_by, fault, fetch_effect_by, load_effect, rv64i, store_effect, word_effect}
 
 -- Laws: the calls that an execution makes. Only the last may fail, and a request has made the fetch alone.
 
@@ -51,25 +51,25 @@ one_effect action.Next rd regs memory = NoCall
 one_effect action.Ask rd regs memory = NoCall
 one_effect action.Stop rd regs memory = NoCall
 
-one_decoded : (o : Option Instr) (regs : Registers) (memory : Memory) → AtMostOne (decoded o regs memory).calls
-one_decoded None regs memory = NoCall
-one_decoded (Some i) regs memory = one_effect (action_on i regs) i.rd regs memory
+one_decoded : (table : InstructionTable) (o : Option Instr) (regs : Registers) (memory : Memory) → AtMostOne (decoded_by table o regs memory).calls
+one_decoded table None regs memory = NoCall
+one_decoded table (Some i) regs memory = one_effect (action_by table i regs) i.rd regs memory
 
 behind_fetch : (memory : Memory) (c : Call) (calls : List Call) → denied_at memory (access_of c) ≡ None → AtMostOne calls → AreTried memory (c ∷ calls)
 behind_fetch memory c calls may NoCall = OneTried c
 behind_fetch memory c calls may (OneCall d) = TwoTried c d may
 
-tried_fetch : (o : Option ℕ) (regs : Registers) (memory : Memory) → denied_at memory (fetch_at regs.pc) ≡ o → AreTried memory (Fetch regs.pc ∷ (fetch_effect o regs memory).calls)
-tried_fetch (Some at) regs memory is = OneTried (Fetch regs.pc)
-tried_fetch None regs memory is =
-    behind_fetch memory (Fetch regs.pc) (decoded (meaning (word_at memory regs.pc)) regs memory).calls is (one_decoded (meaning (word_at memory regs.pc)) regs memory)
+tried_fetch : (table : InstructionTable) (o : Option ℕ) (regs : Registers) (memory : Memory) → denied_at memory (fetch_at regs.pc) ≡ o → AreTried memory (Fetch regs.pc ∷ (fetch_effect_by table o regs memory).calls)
+tried_fetch table (Some at) regs memory is = OneTried (Fetch regs.pc)
+tried_fetch table None regs memory is =
+    behind_fetch memory (Fetch regs.pc) (word_effect table (word_at memory regs.pc) regs memory).calls is (one_decoded table (meaning_by table.has (word_at memory regs.pc)) regs memory)
 
-pub are_tried : (regs : Registers) (memory : Memory) → AreTried memory (execution regs memory).calls
-are_tried regs memory = by_test (regs.pc % 4 == 0)
+pub are_tried_by : (table : InstructionTable) (regs : Registers) (memory : Memory) → AreTried memory (execution_by table regs memory).calls
+are_tried_by table regs memory = by_test (regs.pc % 4 == 0)
   where
     by_test : (b : Bool)
-        → AreTried memory (cond b (after (Fetch regs.pc) (fetch_effect (denied_at memory (fetch_at regs.pc)) regs memory)) (fault regs memory kind.Align regs.pc [])).calls
-    by_test true = tried_fetch (denied_at memory (fetch_at regs.pc)) regs memory refl
+        → AreTried memory (cond b (after (Fetch regs.pc) (fetch_effect_by table (denied_at memory (fetch_at regs.pc)) regs memory)) (fault regs memory kind.Align regs.pc [])).calls
+    by_test true = tried_fetch table (denied_at memory (fetch_at regs.pc)) regs memory refl
     by_test false = NoneTried
 
 -- An execution that is a request has fetched its word, and left the memory as it was.
@@ -111,22 +111,29 @@ asks_effect action.Next rd regs memory is = cc
 asks_effect action.Ask rd regs memory is = record { calls = refl; kept = refl }
 asks_effect action.Stop rd regs memory is = cc
 
-asks_decoded : (o : Option Instr) (regs : Registers) (memory : Memory) → (decoded o regs memory).upshot ≡ Asks → AsksAlone memory (decoded o regs memory)
-asks_decoded None regs memory is = cc
-asks_decoded (Some i) regs memory is = asks_effect (action_on i regs) i.rd regs memory is
+asks_decoded : (table : InstructionTable) (o : Option Instr) (regs : Registers) (memory : Memory) → (decoded_by table o regs memory).upshot ≡ Asks → AsksAlone memory (decoded_by table o regs memory)
+asks_decoded table None regs memory is = cc
+asks_decoded table (Some i) regs memory is = asks_effect (action_by table i regs) i.rd regs memory is
 
-asks_fetch : (o : Option ℕ) (regs : Registers) (memory : Memory) → denied_at memory (fetch_at regs.pc) ≡ o → (fetch_effect o regs memory).upshot ≡ Asks
-    → IsRequested memory (after (Fetch regs.pc) (fetch_effect o regs memory))
-asks_fetch (Some at) regs memory may is = cc
-asks_fetch None regs memory may is =
-    let alone = asks_decoded (meaning (word_at memory regs.pc)) regs memory is in
+asks_fetch : (table : InstructionTable) (o : Option ℕ) (regs : Registers) (memory : Memory) → denied_at memory (fetch_at regs.pc) ≡ o → (fetch_effect_by table o regs memory).upshot ≡ Asks
+    → IsRequested memory (after (Fetch regs.pc) (fetch_effect_by table o regs memory))
+asks_fetch table (Some at) regs memory may is = cc
+asks_fetch table None regs memory may is =
+    let alone = asks_decoded table (meaning_by table.has (word_at memory regs.pc)) regs memory is in
     record { at = regs.pc; calls = ap (λ calls. Fetch regs.pc ∷ calls) alone.calls; may = may; kept = alone.kept }
 
-pub is_requested : (regs : Registers) (memory : Memory) → (execution regs memory).upshot ≡ Asks → IsRequested memory (execution regs memory)
-is_requested regs memory = by_test (regs.pc % 4 == 0)
+pub is_requested_by : (table : InstructionTable) (regs : Registers) (memory : Memory) → (execution_by table regs memory).upshot ≡ Asks → IsRequested memory (execution_by table regs memory)
+is_requested_by table regs memory = by_test (regs.pc % 4 == 0)
   where
     by_test : (b : Bool)
-        → (cond b (after (Fetch regs.pc) (fetch_effect (denied_at memory (fetch_at regs.pc)) regs memory)) (fault regs memory kind.Align regs.pc [])).upshot ≡ Asks
-        → IsRequested memory (cond b (after (Fetch regs.pc) (fetch_effect (denied_at memory (fetch_at regs.pc)) regs memory)) (fault regs memory kind.Align regs.pc []))
-    by_test true is = asks_fetch (denied_at memory (fetch_at regs.pc)) regs memory refl is
+        → (cond b (after (Fetch regs.pc) (fetch_effect_by table (denied_at memory (fetch_at regs.pc)) regs memory)) (fault regs memory kind.Align regs.pc [])).upshot ≡ Asks
+        → IsRequested memory (cond b (after (Fetch regs.pc) (fetch_effect_by table (denied_at memory (fetch_at regs.pc)) regs memory)) (fault regs memory kind.Align regs.pc []))
+    by_test true is = asks_fetch table (denied_at memory (fetch_at regs.pc)) regs memory refl is
     by_test false is = cc
+
+-- by the table of RV64I
+pub are_tried : (regs : Registers) (memory : Memory) → AreTried memory (execution regs memory).calls
+are_tried = are_tried_by rv64i
+
+pub is_requested : (regs : Registers) (memory : Memory) → (execution regs memory).upshot ≡ Asks → IsRequested memory (execution regs memory)
+is_requested = is_requested_by rv64i

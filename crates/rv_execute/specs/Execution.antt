@@ -1,11 +1,13 @@
-use Rattle.std.specs.Prelude.{◌≡◌, ℕ, ◌%◌, ◌^◌, ◌==◌, List, [], ◌∷◌, Option, Some, None, Result, Ok, Err, if◌then◌else◌}
+use Rattle.std.specs.Prelude.{◌≡◌, ℕ, Bool, ◌%◌, ◌^◌, ◌==◌, List, [], ◌∷◌, Option, Some, None, Result, Ok, Err, if◌then◌else◌}
 use Rattle.std.specs.Int.{w8, w16, w32, w64, cast_signed, cast_unsigned}
 use Rattle.byteorder.specs.Endian.{little_number, little_bytes}
 use Rattle.ovl_io.specs.Memory.{Memory, bytes_at, denied_at, with_bytes}
 use Rattle.ovl_io.specs.declared.process_state.FaultKind.{FaultKind}
 use Rattle.ovl_io.specs.declared.process_state.FaultKind.TheVariants as kind
 use Rattle.rv_decode.specs.declared.instruction.Instr.{Instr}
-use Rattle.rv_decode.specs.Meaning.{meaning}
+use Rattle.rv_decode.specs.declared.names.Name.{Name}
+use Rattle.rv_decode.specs.Meaning.{meaning_by}
+use Rattle.rv_decode.specs.Table.{is_base}
 use Rattle.rv_execute.specs.declared.action.Action.{Action}
 use Rattle.rv_execute.specs.declared.action.Action.TheVariants as action
 use Rattle.rv_execute.specs.declared.action.Size.{Size}
@@ -99,30 +101,57 @@ effect action.Next rd regs memory = completed (next regs) memory []
 effect action.Ask rd regs memory = record { registers = next regs; memory = memory; upshot = Asks; calls = [] }
 effect action.Stop rd regs memory = fault regs memory kind.Break regs.pc []
 
+-- A table of instructions: which names have a row in it, and what each row does with the value of rs1, that of rs2, the immediate as
+-- a number of 64 bits and pc.
+pub record InstructionTable : Type 0 where
+  pub has : Name → Bool
+  pub action : Name → ℕ → ℕ → ℕ → ℕ → Action
+
+-- that of RV64I
+abbrev pub rv64i : InstructionTable
+rv64i = record { has = is_base; action = action_of }
+
 -- the action of an instruction on these registers
-abbrev pub action_on : Instr → Registers → Action
-action_on i regs = action_of i.name (register regs i.rs1) (register regs i.rs2) (cast_unsigned w64 i.imm) regs.pc
+abbrev pub action_by : InstructionTable → Instr → Registers → Action
+action_by table i regs = table.action i.name (register regs i.rs1) (register regs i.rs2) (cast_unsigned w64 i.imm) regs.pc
 
 -- what follows where the word means this
-abbrev pub decoded : Option Instr → Registers → Memory → Execution
-decoded None regs memory = fault regs memory kind.Illegal regs.pc []
-decoded (Some i) regs memory = effect (action_on i regs) i.rd regs memory
+abbrev pub decoded_by : InstructionTable → Option Instr → Registers → Memory → Execution
+decoded_by table None regs memory = fault regs memory kind.Illegal regs.pc []
+decoded_by table (Some i) regs memory = effect (action_by table i regs) i.rd regs memory
 
--- what follows where the fetch fails there
-abbrev pub fetch_effect : Option ℕ → Registers → Memory → Execution
-fetch_effect (Some address) regs memory = fault regs memory kind.Fetch address []
-fetch_effect None regs memory = decoded (meaning (word_at memory regs.pc)) regs memory
+-- what follows where the fetch gave this word
+abbrev pub word_effect : InstructionTable → ℕ → Registers → Memory → Execution
+word_effect table word regs memory = decoded_by table (meaning_by table.has word) regs memory
+
+-- what follows where the fetch fails there, or doesn't
+abbrev pub fetch_effect_by : InstructionTable → Option ℕ → Registers → Memory → Execution
+fetch_effect_by table (Some address) regs memory = fault regs memory kind.Fetch address []
+fetch_effect_by table None regs memory = word_effect table (word_at memory regs.pc) regs memory
 
 -- with a call before the others
 abbrev pub after : Call → Execution → Execution
 after call e = record { registers = e.registers; memory = e.memory; upshot = e.upshot; calls = call ∷ e.calls }
 
--- In order: a pc that isn't a multiple of 4, the fetch, a word that means nothing, and then the row's effect.
-abbrev pub execution : Registers → Memory → Execution
-execution regs memory =
+-- In order: a pc that isn't a multiple of 4, the fetch, a word that means nothing by the table, and then the row's effect.
+abbrev pub execution_by : InstructionTable → Registers → Memory → Execution
+execution_by table regs memory =
     if regs.pc % 4 == 0
-    then after (Fetch regs.pc) (fetch_effect (denied_at memory (fetch_at regs.pc)) regs memory)
+    then after (Fetch regs.pc) (fetch_effect_by table (denied_at memory (fetch_at regs.pc)) regs memory)
     else fault regs memory kind.Align regs.pc []
+
+-- all these of RV64I
+abbrev pub action_on : Instr → Registers → Action
+action_on i regs = action_by rv64i i regs
+
+abbrev pub decoded : Option Instr → Registers → Memory → Execution
+decoded o regs memory = decoded_by rv64i o regs memory
+
+abbrev pub fetch_effect : Option ℕ → Registers → Memory → Execution
+fetch_effect o regs memory = fetch_effect_by rv64i o regs memory
+
+abbrev pub execution : Registers → Memory → Execution
+execution regs memory = execution_by rv64i regs memory
 
 -- what an outcome names where it is for want of units
 abbrev pub full_in : Outcome → Option (ℕ × ℕ)

@@ -68,3 +68,5 @@ action_of Sraw a b i pc = Write (shifted_right_signed (extended_word a) (word_am
 action_of Fence a b i pc = Next
 action_of Ecall a b i pc = Ask
 action_of Ebreak a b i pc = Stop
+-- a name of extension M has no row in this table
+action_of _ a b i pc = Next

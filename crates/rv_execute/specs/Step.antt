@@ -5,7 +5,7 @@ use Rattle.ovl_io.specs.declared.turn.Turn.{Turn}
 use Rattle.ovl_io.specs.declared.turn.Turn.TheVariants.{Stepped, Wrote, Exited, Faulted}
 use Rattle.rv_execute.specs.Registers.{Registers, register, with_register}
 use Rattle.rv_execute.specs.Calls.{access_of, load_at}
-use Rattle.rv_execute.specs.Execution.{Execution, Upshot, Steps, Asks, Faults, execution}
+use Rattle.rv_execute.specs.Execution.{Execution, Upshot, Steps, Asks, Faults, InstructionTable, execution_by, rv64i}
 
 -- The step: a function of the process's number, its registers and its whole memory. It gives those that stand
 -- afterwards, what came of the instruction, and the accesses that it tried, in order.
@@ -87,5 +87,9 @@ altered number (Faults kind address) regs memory accesses =
 abbrev pub step_from : ℕ → Execution → Step
 step_from number e = altered number e.upshot e.registers e.memory (map access_of e.calls)
 
+abbrev pub step_by : InstructionTable → ℕ → Registers → Memory → Step
+step_by table number regs memory = step_from number (execution_by table regs memory)
+
+-- by the table of RV64I
 abbrev pub step : ℕ → Registers → Memory → Step
-step number regs memory = step_from number (execution regs memory)
+step number regs memory = step_by rv64i number regs memory

@@ -13,7 +13,7 @@ pub(crate) fn is_less_signed(a: u64, b: u64) -> bool
 
 /// The low 32 bits with their sign extended.
 #[inline(always)]
-pub(crate) fn extended_word(a: u64) -> u64
+pub fn extended_word(a: u64) -> u64
     ensures { result ≡ extended_word a }
 {
     let low = (a % 4_294_967_296) as u32;

@@ -1,10 +1,11 @@
 //! One instruction over registers and a memory.
 
-ghost use Rattle.std.specs.Prelude.{◌≡◌, ◌<◌, ◌≤◌, ℕ, IsTrue, None};
+ghost use Rattle.std.specs.Prelude.{◌≡◌, ◌<◌, ◌≤◌, ◌%◌, ℕ, IsTrue, None};
 ghost use Rattle.ovl_io.specs.Memory.{Memory};
+ghost use Rattle.rv_decode.specs.Table.{is_base};
 ghost use Rattle.rv_execute.specs.Registers.{next, with_register};
 ghost use Rattle.rv_execute.specs.Calls.{is_count, Performs};
-ghost use Rattle.rv_execute.specs.Execution.{action_on, count_of, effect, execution, Executed, extended, full_in, ReadsNumber};
+ghost use Rattle.rv_execute.specs.Execution.{action_on, count_of, effect, execution, Executed, extended, full_in, ReadsNumber, rv64i, word_effect};
 
 use crate::action::{Action, Extension, Size};
 use crate::arithmetic::extended_word;
@@ -186,9 +187,10 @@ fn go_to(regs: &mut Regs, target: u64) -> Outcome
     Outcome::Stepped
 }
 
-/// What an instruction does on these registers. `rs1` and `rs2` are below 32.
+/// What an instruction of RV64I does on these registers. `rs1` and `rs2` are below 32.
 #[inline(always)]
 pub fn action_on(i: &Instr, regs: &Regs) -> Action
+    requires base { IsTrue (is_base i.now.name) }
     requires rs1 { i.now.rs1 < 32 }
     requires rs2 { i.now.rs2 < 32 }
     ensures { result ≡ action_on i.now regs.now }
@@ -261,11 +263,25 @@ pub fn execute<M: GuestMemory>(regs: &mut Regs, mem: &mut M) -> Outcome
         Ok(word) => word,
         Err(denied) => return Outcome::Fault(FaultKind::Fetch, denied.address),
     };
+    execute_word(regs, mem, word)
+}
+
+/// What `execute` does once its fetch has given this word. pc is a multiple of 4. The memory is asked for no fetch. Takes no memory.
+#[inline(always)]
+pub fn execute_word<M: GuestMemory>(regs: &mut Regs, mem: &mut M, word: u32) -> Outcome
+    requires aligned { regs.old.pc % 4 ≡ 0 }
+    requires ready { M.ready mem.old }
+    ensures ready { M.ready mem.new }
+    ensures done { Executed (word_effect rv64i word)
+        regs.old (M.memory mem.old) regs.new (M.memory mem.new) result }
+    ensures made { Performs M.fetched M.loaded M.stored
+        (word_effect rv64i word regs.old (M.memory mem.old)).calls mem.old (full_in result) mem.new }
+{
     match decode(word) {
         Some(i) => {
             let action = action_on(&i, regs);
             perform(action, i.rd, regs, mem)
         }
-        None => Outcome::Fault(FaultKind::Illegal, pc),
+        None => Outcome::Fault(FaultKind::Illegal, regs.pc()),
     }
 }

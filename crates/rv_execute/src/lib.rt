@@ -16,10 +16,10 @@
 //! | `regs` | `Regs`: pc and the registers x0 to x31 |
 //! | `arithmetic` | signed comparison, sign extension and shifts of 64 bits |
 //! | `action` | `Action`: what an instruction does once its operands are known |
-//! | `rows` | the action of each of the 52 names |
+//! | `rows` | the action of each of the 52 names of RV64I |
 //! | `memory` | `GuestMemory`, the trait of a memory, and how it refuses: `Denied` and `Refused` |
 //! | `outcome` | `Outcome`: what came of an instruction |
-//! | `instruction` | `execute`: fetch, decode, and the action done; and `action_on` and `perform`, its last two parts, for a word that is decoded already |
+//! | `instruction` | `execute`: fetch, decode, and the action done; `execute_word`, what is behind the fetch; and `action_on` and `perform`, its last two parts, for a word that is decoded already |
 #![tactic(auto)]
 
 mod action;
@@ -33,7 +33,8 @@ mod rows;
 mod tests;
 
 pub use action::{Action, Extension, Size};
-pub use instruction::{action_on, execute, perform};
+pub use arithmetic::extended_word;
+pub use instruction::{action_on, execute, execute_word, perform};
 pub use memory::{Denied, GuestMemory, Refused};
 pub use outcome::Outcome;
 pub use regs::Regs;

@@ -1,6 +1,7 @@
 //! What each row of the instruction table does, a line a row.
 
-ghost use Rattle.std.specs.Prelude.{◌≡◌};
+ghost use Rattle.std.specs.Prelude.{◌≡◌, IsTrue};
+ghost use Rattle.rv_decode.specs.Table.{is_base};
 ghost use Rattle.rv_execute.specs.Rows.{action_of, branch};
 
 use crate::action::{Action, Extension, Size};
@@ -21,10 +22,11 @@ fn branch(holds: bool, target: u64) -> Action
     }
 }
 
-/// What the row of a name does: `a` is the value of rs1, `b` that of rs2, `i` the immediate as 64 bits, and `pc` the
+/// What the row of a name of RV64I does: `a` is the value of rs1, `b` that of rs2, `i` the immediate as 64 bits, and `pc` the
 /// address of the instruction.
 #[inline(always)]
 pub(crate) fn action_of(name: Name, a: u64, b: u64, i: u64, pc: u64) -> Action
+    requires { IsTrue (is_base name) }
     ensures { result ≡ action_of name a b i pc }
 {
     match name {
@@ -80,5 +82,6 @@ pub(crate) fn action_of(name: Name, a: u64, b: u64, i: u64, pc: u64) -> Action
         Name::Fence => Action::Next,
         Name::Ecall => Action::Ask,
         Name::Ebreak => Action::Stop,
+        _ => unreachable!(),
     }
 }

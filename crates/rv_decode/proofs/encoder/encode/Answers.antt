@@ -1,43 +1,10 @@
-use Rattle.std.proofs.Common.{Some, ap, sym, subst, rules, arith, ◌∙◌, w64, FitsSigned}
-use Rattle.std.proofs.lemmas.Int.{to_z-of_z}
-use Rattle.rv_decode.specs.Encoding.{immediate_of}
-use Rattle.rv_decode.specs.Meaning.{MeansInstr}
-use Rattle.rv_decode.proofs.MeaningIs.{meaning_is}
-use Rattle.rv_decode.proofs.Encodes.{sum_below, means-sum, sum-means, sum-parts}
+use Rattle.std.proofs.Common.{Some, sym}
+use Rattle.rv_decode.specs.MeaningLaws.{meaning_is}
+use Rattle.rv_decode.specs.Table.{is_base}
 use Rattle.rv_decode.proofs.encoder.encode.Goals as goal
 
-pub overflow_add-result : goal.overflow_add-result
-overflow_add-result c =
-    let value = ap (λ x. x.value) c.row-row.ensures in
-    omega (arith, sum_below c.args.i.now c.requires, value, c.registers.ensures)
-
-pub overflow_add-result-2 : goal.overflow_add-result-2
-overflow_add-result-2 c =
-    let i = c.args.i.now in
-    let fits : FitsSigned w64 i.imm = search rules in
-    let placed = c.immediate.ensures ∙ ap (immediate_of c.row-row.result.format) (to_z-of_z w64 i.imm fits) in
-    let sum = sum-parts i _ _ _ c.row-row.ensures c.registers.ensures placed in
-    omega (arith, sum_below i c.requires, sum)
-
-pub returns-clause-meaning : goal.returns-clause-meaning
-returns-clause-meaning c =
-    let i = c.args.i.now in
-    let fits : FitsSigned w64 i.imm = search rules in
-    let placed = c.immediate.ensures ∙ ap (immediate_of c.row-row.result.format) (to_z-of_z w64 i.imm fits) in
-    let sum = sum-parts i _ _ _ c.row-row.ensures c.registers.ensures placed in
-    subst (λ word. MeansInstr word i) (sym sum) (means-sum i c.requires)
-
 pub returns-clause-decoded : goal.returns-clause-decoded
-returns-clause-decoded c =
-    let i = c.args.i.now in
-    let fits : FitsSigned w64 i.imm = search rules in
-    let placed = c.immediate.ensures ∙ ap (immediate_of c.row-row.result.format) (to_z-of_z w64 i.imm fits) in
-    let sum = sum-parts i _ _ _ c.row-row.ensures c.registers.ensures placed in
-    sym (meaning_is _ (Some i) (subst (λ word. MeansInstr word i) (sym sum) (means-sum i c.requires)))
+returns-clause-decoded c = sym (meaning_is is_base c.word_of.result (Some c.args.i.now) (c.requires.listed, c.word_of.ensures.meaning))
 
 pub returns-clause-only : goal.returns-clause-only
-returns-clause-only c = λ word below means.
-    let i = c.args.i.now in
-    let fits : FitsSigned w64 i.imm = search rules in
-    let placed = c.immediate.ensures ∙ ap (immediate_of c.row-row.result.format) (to_z-of_z w64 i.imm fits) in
-    sum-parts i _ _ _ c.row-row.ensures c.registers.ensures placed ∙ sum-means i word below means
+returns-clause-only c = λ word below means. c.word_of.ensures.only word below means.1

@@ -1,9 +1,10 @@
 use Rattle.std.proofs.Common.{refl, rules, [], ◌∷◌}
+use Rattle.rv_decode.specs.Table.{is_base}
 use Rattle.rv_decode.proofs.NoneFits.{none_fits}
 use Rattle.rv_decode.proofs.groups.jump_to_register.Goals as goal
 
 pub returns-in_default : goal.returns-in_default
 returns-in_default c =
-    none_fits c.args.word 0x7F 0x67
+    none_fits is_base c.args.word 0x7F 0x67
     ((0x707F, 0x0067) ∷ [])
     refl c.requires (search rules)

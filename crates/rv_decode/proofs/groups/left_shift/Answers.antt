@@ -1,9 +1,10 @@
 use Rattle.std.proofs.Common.{refl, rules, [], ◌∷◌}
+use Rattle.rv_decode.specs.Table.{is_base}
 use Rattle.rv_decode.proofs.NoneFits.{none_fits}
 use Rattle.rv_decode.proofs.groups.left_shift.Goals as goal
 
 pub returns-in_default : goal.returns-in_default
 returns-in_default c =
-    none_fits c.args.word 0x707F 0x1013
+    none_fits is_base c.args.word 0x707F 0x1013
     ((0xFC00707F, 0x1013) ∷ [])
     refl c.requires (search rules)

@@ -1,0 +1,3 @@
+pub mod Divided
+pub mod Meanings
+mod Examples
