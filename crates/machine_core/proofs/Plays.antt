@@ -102,6 +102,14 @@ run_all turns i state past = ap (λ rest. run_over rest state) (drop_past turns 
 
 -- where one still runs, its space is still there
 pub spaces_kept : (p : ℕ) (old new : Machine) → HaveSpaces old → is_running (wholes old) p ≡ true → StaysBut p old new → KeepsPlaces old new → HaveSpaces new
-spaces_kept p old new have running stay places q runs_now = by_key q p
-    (λ same. ap (has_space new) same ∙ places.spaces p ∙ have p running)
-    (λ other. places.spaces q ∙ have q (runs_shown old q ∙ ap (λ (o : Option declared.Process). option_map_or (λ (process : declared.Process). runs process.state) o false) (sym (stay.processes q other)) ∙ sym (runs_shown new q) ∙ runs_now))
+spaces_kept p old new have running stay places = record {
+  there = λ q runs_now. places.spaces q ∙ have.there q (ran q runs_now);
+  none_awaits = λ q runs_now. places.awaiting q ∙ have.none_awaits q (ran q runs_now);
+}
+  where
+    ran : (q : ℕ) → is_running (wholes new) q ≡ true → is_running (wholes old) q ≡ true
+    ran q runs_now = by_key q p
+        (λ same. ap (is_running (wholes old)) same ∙ running)
+        (λ other.
+        runs_shown old q ∙ ap (λ (o : Option declared.Process). option_map_or (λ (process : declared.Process). runs process.state) o false) (sym (stay.processes q other))
+        ∙ sym (runs_shown new q) ∙ runs_now)

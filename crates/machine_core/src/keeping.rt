@@ -7,6 +7,7 @@ ghost use Rattle.machine_core.specs.Machine.{has_space, is_running, wholes};
 ghost use Rattle.machine_core.specs.Turns.{after_asked, turn_asked};
 ghost use Rattle.machine_core.specs.Executions.{after_executions, came_to_last, steps_to, stops_in};
 ghost use Rattle.machine_core.specs.Kept.{IsChanged, IsListBut, IsRunningList, machine_of, runs_at};
+ghost use Rattle.overlay_memory.specs.View.{NoneAwaits, state_of};
 
 use crate::guest::answer_request;
 use crate::process::{Process, is_running};
@@ -52,6 +53,7 @@ fn execute_in(
 ) -> ((u32, Outcome), bool)
     requires runs { is_running (wholes (machine_of memory.old processes.old)) p ≡ true }
     requires there { has_space (machine_of memory.old processes.old) p ≡ true }
+    requires none_awaits { NoneAwaits (state_of memory.old) p }
     ensures steps { result.0.0 ≡ steps_to (stops_in stops.entry) most (wholes (machine_of memory.old processes.old)) p }
     ensures outcome { result.0.1
         ≡ came_to_last (stops_in stops.entry) most (wholes (machine_of memory.old processes.old)) p }
@@ -84,6 +86,7 @@ pub(crate) fn execute_turns(
     requires kept { IsRunningList processes.old running.old }
     requires runs { is_running (wholes (machine_of memory.old processes.old)) p ≡ true }
     requires there { has_space (machine_of memory.old processes.old) p ≡ true }
+    requires none_awaits { NoneAwaits (state_of memory.old) p }
     ensures steps { result.0 ≡ steps_to (stops_in stops.entry) most (wholes (machine_of memory.old processes.old)) p }
     ensures outcome { result.1
         ≡ came_to_last (stops_in stops.entry) most (wholes (machine_of memory.old processes.old)) p }

@@ -5,7 +5,7 @@ ghost use Rattle.std.specs.FinSet.{contains};
 ghost use Rattle.rv_decode.specs.declared.instruction.Instr.{Instr};
 ghost use Rattle.rv_execute.specs.Execution.{Executed, execution, full_in};
 ghost use Rattle.overlay_pages.specs.State.{memory_of};
-ghost use Rattle.overlay_memory.specs.View.{state_of};
+ghost use Rattle.overlay_memory.specs.View.{NoneAwaits, state_of};
 ghost use Rattle.space_maps.specs.Spaces.{holds_space};
 ghost use Rattle.breakpoints.specs.Breakpoints.{Addresses};
 ghost use Rattle.machine_core.specs.Access.{IsReadyView, spaces_lent};
@@ -340,6 +340,7 @@ pub(crate) fn execute_up_to(
 ) -> (u32, Outcome)
     requires runs { process.old.state ≡ ProcessState.Running }
     requires there { holds_space (state_of memory.old) p ≡ true }
+    requires none_awaits { NoneAwaits (state_of memory.old) p }
     ensures steps { result.0
         ≡ (executions (stops_in stops.entry) p most (guest_in p memory.old process.old)).steps }
     ensures outcome { result.1
