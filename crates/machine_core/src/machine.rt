@@ -229,9 +229,6 @@ impl Machine {
         requires runs { is_running (wholes self.old) p ≡ true }
         requires there { has_space self.old p ≡ true }
         requires none_awaits { NoneAwaits (spaces_of self.old) p }
-        ensures steps { result.0 ≡ steps_to (stops_in stops.entry) most (wholes self.old) p }
-        ensures outcome { result.1 ≡ came_to_last (stops_in stops.entry) most (wholes self.old) p }
-        ensures after { wholes self.new ≡ after_executions (stops_in stops.entry) most (wholes self.old) p }
         ensures counts { AnswersAs (λ state. steps_to (stops_in stops.entry) most state p) self.old result.0 }
         ensures answers { AnswersAs (λ state. came_to_last (stops_in stops.entry) most state p)
             self.old result.1 }
@@ -256,8 +253,8 @@ impl Machine {
         requires runs { is_running (wholes self.old) p ≡ true }
         requires there { has_space self.old p ≡ true }
         requires none_awaits { NoneAwaits (spaces_of self.old) p }
-        ensures outcome { result ≡ came_to (wholes self.old) p }
-        ensures after { wholes self.new ≡ after_execution (wholes self.old) p }
+        ensures answers { AnswersAs (λ state. came_to state p) self.old result }
+        ensures stands { LeadsTo (λ state. after_execution state p) self.old self.new }
         ensures others { StaysBut p self.old self.new }
         ensures places { KeepsPlaces self.old self.new }
     {
@@ -269,8 +266,6 @@ impl Machine {
         requires runs { is_running (wholes self.old) p ≡ true }
         requires there { has_space self.old p ≡ true }
         requires none_awaits { NoneAwaits (spaces_of self.old) p }
-        ensures turn { result ≡ turn_asked (wholes self.old) p }
-        ensures after { wholes self.new ≡ after_asked (wholes self.old) p }
         ensures answers { AnswersAs (λ state. turn_asked state p) self.old result }
         ensures stands { LeadsTo (λ state. after_asked state p) self.old self.new }
         ensures others { StaysBut p self.old self.new }
@@ -286,8 +281,6 @@ impl Machine {
         requires runs { is_running (wholes self.old) p ≡ true }
         requires there { has_space self.old p ≡ true }
         requires none_awaits { NoneAwaits (spaces_of self.old) p }
-        ensures turn { result ≡ turn_of (wholes self.old) p }
-        ensures after { wholes self.new ≡ after_turn (wholes self.old) p }
         ensures answers { AnswersAs (λ state. turn_of state p) self.old result }
         ensures stands { LeadsTo (λ state. after_turn state p) self.old self.new }
         ensures ample { IsAmplyTaken p self.old result }
@@ -305,7 +298,7 @@ impl Machine {
     /// A turn of a number: one instruction where its process is running, and else nothing.
     fn turn(&mut self, p: u16)
         requires spaces { HaveSpaces self.old }
-        ensures after { wholes self.new ≡ after_number p (wholes self.old) }
+        ensures stands { LeadsTo (after_number p) self.old self.new }
         ensures spaces { HaveSpaces self.new }
     {
         if self.is_running(p) {
@@ -318,7 +311,6 @@ impl Machine {
     /// whatever others did between. Takes no memory.
     pub fn play(&mut self, turns: &[u16])
         requires spaces { HaveSpaces self.old }
-        ensures after { wholes self.new ≡ run_over turns.now (wholes self.old) }
         ensures stands { LeadsTo (run_over turns.now) self.old self.new }
         ensures own { AreOwnTurns turns.now (wholes self.old) (wholes self.new) }
     {

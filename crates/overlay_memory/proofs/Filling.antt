@@ -130,6 +130,7 @@ filled_more a b c s address next front rest is one two = record {
   bases = λ page far.
       two.bases page (λ k low same. far (length front + k) (omega (arith, both, low)) (ap (λ a. a / 4096) (further k) ∙ same))
       ∙ one.bases page (λ k low same. far k (omega (arith, both, low)) same);
+  entries = two.entries ∙ one.entries;
   writable = λ page line. two.writable page line ∙ one.writable page line;
   beside = beside_both a b c s one.beside two.beside;
 }

@@ -6,6 +6,7 @@ use Rattle.sizes.specs.declared.TheConstants.{FRAME_UNITS, LINE_BYTES, PAGE_BYTE
 use Rattle.ovl_io.specs.Memory.{first_denied, with_bytes}
 use Rattle.ovl_io.specs.Permissions.{writable}
 use Rattle.ovl_io.specs.declared.perms.Perms.{Perms}
+use Rattle.ledger.specs.Alike.{AreAlike}
 use Rattle.ledger.specs.Ledger.{Ledger}
 use Rattle.ledger.specs.Events.{Store, ledger_after}
 use Rattle.ledger.specs.Touched.{touched}
@@ -65,11 +66,12 @@ permissions_in state space = viewed (λ _ (x : PageState). x.entry.perms) (space
 abbrev pub IsUntouched : ℕ → ℕ → ℕ → Type 0
 IsUntouched address count page = (k : ℕ) → k < count → (address + k) / PAGE_BYTES ≡ page → ⊥
 
--- Bytes were stored: they stand in the memory of the space, the ledger is that after the store, and nothing else changed. The
--- base of a space that is speculating stays, and of any space that of each page in which no byte lies.
+-- Bytes were stored: they stand in the memory of the space, the ledger is that after the store up to the numbers of origins, and
+-- which pages there are and their permissions are as before, as is all else. The base of a space that is speculating stays, and
+-- of any space that of each page in which no byte lies.
 pub record IsStored (old new : State) (space address : ℕ) (bytes : List ℕ) : Type 0 where
   pub memory : memory_of new space ≡ with_bytes (memory_of old space) address bytes
-  pub ledger : books new ≡ stored_books old space address (length bytes)
+  pub ledger : AreAlike (books new) (stored_books old space address (length bytes))
   pub base : (space_in old space).speculating ≡ true → base_of new space ≡ base_of old space
   pub bases : (page : ℕ) → IsUntouched address (length bytes) page → get (base_of new space) page ≡ get (base_of old space) page
   pub permissions : permissions_in new space ≡ permissions_in old space
